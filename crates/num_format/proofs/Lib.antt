@@ -1,0 +1,3 @@
+mod BuildingLemmas
+mod TextLemmas
+mod WorkedRows

@@ -1,0 +1,77 @@
+-- Worked examples of the definitions, each shown by computing it.
+use Rattle.std.proofs.Common.{◌≡◌, ℕ, List, [], ◌∷◌, refl, pos, negsuc}
+use Rattle.std.specs.Prelude.{codes, Result, Ok, Err, encode_utf8_all}
+use lib.Utf8.{encode}
+use Rattle.num_format_text.specs.declared.grouping.Grouping.{Grouping}
+use Rattle.num_format_text.specs.declared.grouping.Grouping.TheVariants.{Standard, Indian, Posix}
+use Rattle.num_format_text.specs.declared.error.Error.{Error}
+use Rattle.num_format_text.specs.declared.error_kind.ErrorKind.TheVariants.{Capacity}
+use Rattle.num_format_text.specs.Format.{FormatData}
+use Rattle.num_format_int.specs.Digits.{digits}
+use Rattle.num_format_int.specs.Kind.{unsigned, signed}
+use Rattle.num_format_int.specs.Text.{text_of}
+use Rattle.num_format.specs.Building.{Call, built, choices_after, choices_of, Decimal, Groups, MinusSign, Separator}
+use Rattle.num_format.specs.English.{english}
+
+-- what calls on a builder that starts at English build
+abbrev built_by : List Call → Result FormatData Error
+built_by calls = built (choices_after (choices_of english) calls)
+
+-- English with another grouping, separator and minus sign
+abbrev english_with : Grouping → List ℕ → List ℕ → FormatData
+english_with grouping separator minus_sign = record english { grouping = grouping; separator = separator; minus_sign = minus_sign }
+
+zero : text_of english (pos 0) ≡ codes "0"
+unfolding digits
+zero = refl
+
+three_digits : text_of english (pos 999) ≡ codes "999"
+unfolding digits
+three_digits = refl
+
+four_digits : text_of english (pos 1000) ≡ codes "1,000"
+unfolding digits
+four_digits = refl
+
+million : text_of english (pos 1000000) ≡ codes "1,000,000"
+unfolding digits
+million = refl
+
+minus_million : text_of english (negsuc 999999) ≡ codes "-1,000,000"
+unfolding digits
+minus_million = refl
+
+-- 😀 separates and 🙌 negates: `10 00 000` in groups of two and three, of 19 bytes
+many_bytes : text_of (english_with Indian (encode_utf8_all (0x1F600 ∷ [])) (encode_utf8_all (0x1F64C ∷ []))) (negsuc 999999)
+    ≡ encode_utf8_all (0x1F64C ∷ 49 ∷ 48 ∷ 0x1F600 ∷ 48 ∷ 48 ∷ 0x1F600 ∷ 48 ∷ 48 ∷ 48 ∷ [])
+unfolding digits encode
+many_bytes = refl
+
+-- the longest text of all
+lowest_i128 : text_of (english_with Indian (codes "12345678") (codes "abcdefgh")) (signed 127 40).low
+    ≡ codes "abcdefgh171234567801123456784112345678181234567834123456786012345678461234567892123456783112345678731234567816123456788712345678301234567837123456781512345678881234567841123456780512345678728"
+unfolding digits
+lowest_i128 = refl
+
+highest_u128 : text_of (english_with Indian (codes ",") (codes "-")) (unsigned 128 39).high
+    ≡ codes "34,02,82,36,69,20,93,84,63,46,33,74,60,74,31,76,82,11,455"
+unfolding digits
+highest_u128 = refl
+
+lowest_i8 : text_of english (signed 7 4).low ≡ codes "-128"
+unfolding digits
+lowest_i8 = refl
+
+posix_has_no_groups : text_of (english_with Posix (codes ",") (codes "-")) (pos 100000) ≡ codes "100000"
+unfolding digits
+posix_has_no_groups = refl
+
+-- the separator was refused first, and the decimal mark is first in order
+first_refused_field : built_by (Separator (codes "123456789") ∷ Decimal (codes "1234567890") ∷ []) ≡ Err (Capacity 10 8)
+first_refused_field = refl
+
+good_values_replace_refusals : built_by (Separator (codes "123456789") ∷ Decimal (codes "1234567890") ∷ Decimal (codes ".") ∷ Separator (codes ",") ∷ []) ≡ Ok english
+good_values_replace_refusals = refl
+
+minus_sign_before_separator : built_by (Separator (codes "123456789") ∷ Groups Standard ∷ MinusSign (codes "1234567890") ∷ []) ≡ Err (Capacity 10 8)
+minus_sign_before_separator = refl

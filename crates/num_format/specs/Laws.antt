@@ -1,0 +1,46 @@
+-- Laws over the definitions alone.
+use Rattle.std.specs.Prelude.{◌≡◌, ℕ, ◌+◌, ◌-◌, ◌*◌, ◌/◌, ◌%◌, ◌^◌, ◌<◌, ◌≤◌, ℤ, pos, negsuc, ◌≤ℤ◌, unsigned_abs, List, [], ◌∷◌, ◌++◌, length, if◌then◌else◌}
+use Rattle.std.specs.Int.{is_negative}
+use Rattle.std.specs.Int.Digits.{number_from_digits}
+use Rattle.num_format_text.specs.declared.grouping.Grouping.{Grouping}
+use Rattle.num_format_text.specs.declared.grouping.Grouping.TheVariants.{Indian}
+use Rattle.num_format_text.specs.Format.{FormatData, IsWithinCapacity}
+use Rattle.num_format_int.specs.Digits.{digits}
+use Rattle.num_format_int.specs.Grouped.{separators}
+use Rattle.num_format_int.specs.Text.{body_of, text_of}
+use Rattle.num_format.specs.Building.{Call, Choices, choices_after, chosen}
+use Rattle.num_format.specs.Building as call
+
+-- what the digits of a number are, and that they write it
+pub record DigitsLaw : Type 0 where
+  pub one : (n : ℕ) → n < 10 → digits n ≡ n ∷ []
+  pub more : (n : ℕ) → 10 ≤ n → digits n ≡ digits (n / 10) ++ (n % 10 ∷ [])
+  pub written : (n : ℕ) → number_from_digits 10 (digits n) ≡ n
+  pub leading_zero : (ds : List ℕ) → number_from_digits 10 (0 ∷ ds) ≡ number_from_digits 10 ds
+
+-- the length of a text: the minus sign, the digits, and the separators times their length
+abbrev pub LengthLaw : Type 0
+LengthLaw = (f : FormatData) (z : ℤ) →
+    let count : ℕ = length (digits (unsigned_abs z)) in
+    length (text_of f z) ≡ length (if is_negative z then f.minus_sign else []) + count + separators f.grouping count * length f.separator
+
+-- no text of a number from -2 ^ 127 to 2 ^ 128 - 1 is longer than 191 bytes, and that of -2 ^ 127 can be as long
+pub record BoundLaw : Type 0 where
+  pub bound : (f : FormatData) (z : ℤ) → IsWithinCapacity f → negsuc (2 ^ 127 - 1) ≤ℤ z → z ≤ℤ pos (2 ^ 128 - 1) → length (text_of f z) ≤ 191
+  pub reached : (f : FormatData) → f.grouping ≡ Indian → length f.separator ≡ 8 → length f.minus_sign ≡ 8 → length (text_of f (negsuc (2 ^ 127 - 1))) ≡ 191
+
+-- a body begins with the first digit of its number and ends with the last, so no separator leads or trails
+pub record EndsLaw : Type 0 where
+  pub begins : (f : FormatData) (n first : ℕ) (others : List ℕ) → digits n ≡ first ∷ others → (rest : List ℕ) × (body_of f n ≡ (48 + first) ∷ rest)
+  pub ends : (f : FormatData) (n last : ℕ) (others : List ℕ) → digits n ≡ others ++ (last ∷ []) → (front : List ℕ) × (body_of f n ≡ front ++ ((48 + last) ∷ []))
+
+-- a setter's clause says what one more call does to what stands after the calls before it
+pub record BuildingLaw : Type 0 where
+  pub none : (c : Choices) → choices_after c [] ≡ c
+  pub decimal : (c : Choices) (calls : List Call) (text : List ℕ) → choices_after c (calls ++ (call.Decimal text ∷ [])) ≡ record (choices_after c calls) { decimal = chosen 8 text }
+  pub grouping : (c : Choices) (calls : List Call) (g : Grouping) → choices_after c (calls ++ (call.Groups g ∷ [])) ≡ record (choices_after c calls) { grouping = g }
+  pub infinity : (c : Choices) (calls : List Call) (text : List ℕ) → choices_after c (calls ++ (call.Infinity text ∷ [])) ≡ record (choices_after c calls) { infinity = chosen 128 text }
+  pub minus_sign : (c : Choices) (calls : List Call) (text : List ℕ) → choices_after c (calls ++ (call.MinusSign text ∷ [])) ≡ record (choices_after c calls) { minus_sign = chosen 8 text }
+  pub nan : (c : Choices) (calls : List Call) (text : List ℕ) → choices_after c (calls ++ (call.Nan text ∷ [])) ≡ record (choices_after c calls) { nan = chosen 64 text }
+  pub plus_sign : (c : Choices) (calls : List Call) (text : List ℕ) → choices_after c (calls ++ (call.PlusSign text ∷ [])) ≡ record (choices_after c calls) { plus_sign = chosen 8 text }
+  pub separator : (c : Choices) (calls : List Call) (text : List ℕ) → choices_after c (calls ++ (call.Separator text ∷ [])) ≡ record (choices_after c calls) { separator = chosen 8 text }

@@ -1,0 +1,6 @@
+pub mod Building
+pub mod English
+pub mod Laws
+pub use Rattle.num_format_text.specs.Format
+pub use Rattle.num_format_text.specs.Refusal
+pub use Rattle.num_format_int.specs.Text

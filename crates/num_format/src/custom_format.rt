@@ -1,0 +1,151 @@
+//! A format that a user fills.
+ghost use Rattle.std.specs.Prelude.{◌≡◌, ◌≤◌, length};
+ghost use Rattle.num_format.specs.Building.{choices_of};
+ghost use Rattle.num_format.specs.English.{english};
+
+use crate::bounded_string::BoundedString;
+use crate::custom_format_builder::CustomFormatBuilder;
+use crate::utils::{DecimalStr, InfinityStr, MinusSignStr, NanStr, PlusSignStr, SeparatorStr};
+use crate::{Format, Grouping};
+use std::marker::Model;
+
+/// A format that keeps its seven answers. A contract sees them.
+///
+/// It is made by a [`CustomFormatBuilder`]:
+///
+/// ```text
+/// let format = CustomFormat::builder()
+///     .grouping(Grouping::Indian)
+///     .separator("'")
+///     .build()?;
+/// ```
+#[derive(Drop)]
+pub struct CustomFormat {
+    pub(crate) decimal: BoundedString<8>,
+    pub(crate) grouping: Grouping,
+    pub(crate) infinity: BoundedString<128>,
+    pub(crate) minus_sign: BoundedString<8>,
+    pub(crate) nan: BoundedString<64>,
+    pub(crate) plus_sign: BoundedString<8>,
+    pub(crate) separator: BoundedString<8>,
+}
+
+impl Model for CustomFormat {
+    ghost use Rattle.num_format_text.specs.Format.{FormatData};
+
+    ghost Value = { FormatData };
+
+    ghost view = { λ f. record {
+      decimal = f.decimal;
+      grouping = f.grouping;
+      infinity = f.infinity;
+      minus_sign = f.minus_sign;
+      nan = f.nan;
+      plus_sign = f.plus_sign;
+      separator = f.separator;
+    } };
+}
+
+impl CustomFormat {
+    /// A builder that starts at the data of the locale `en`.
+    pub fn builder() -> CustomFormatBuilder
+        ensures { result ≡ choices_of english }
+    {
+        CustomFormatBuilder::new()
+    }
+
+    /// The decimal mark.
+    pub fn decimal(&self) -> &str
+        ensures same { result.now ≡ self.now.decimal }
+        ensures fits { length result.now ≤ 8 }
+    {
+        self.decimal.as_str()
+    }
+
+    /// How the digits of a whole number are grouped.
+    pub fn grouping(&self) -> Grouping
+        ensures { result ≡ self.now.grouping }
+    {
+        self.grouping
+    }
+
+    /// The text for infinity.
+    pub fn infinity(&self) -> &str
+        ensures same { result.now ≡ self.now.infinity }
+        ensures fits { length result.now ≤ 128 }
+    {
+        self.infinity.as_str()
+    }
+
+    /// The minus sign.
+    pub fn minus_sign(&self) -> &str
+        ensures same { result.now ≡ self.now.minus_sign }
+        ensures fits { length result.now ≤ 8 }
+    {
+        self.minus_sign.as_str()
+    }
+
+    /// The text for NaN.
+    pub fn nan(&self) -> &str
+        ensures same { result.now ≡ self.now.nan }
+        ensures fits { length result.now ≤ 64 }
+    {
+        self.nan.as_str()
+    }
+
+    /// The plus sign.
+    pub fn plus_sign(&self) -> &str
+        ensures same { result.now ≡ self.now.plus_sign }
+        ensures fits { length result.now ≤ 8 }
+    {
+        self.plus_sign.as_str()
+    }
+
+    /// The separator between groups of digits.
+    pub fn separator(&self) -> &str
+        ensures same { result.now ≡ self.now.separator }
+        ensures fits { length result.now ≤ 8 }
+    {
+        self.separator.as_str()
+    }
+}
+
+impl Default for CustomFormat {
+    ghost is_default = { λ f. f ≡ english };
+
+    fn default() -> CustomFormat {
+        CustomFormat::builder().build().unwrap()
+    }
+}
+
+impl Format for CustomFormat {
+    ghost answers = { λ f. f };
+
+    fn decimal(&self) -> DecimalStr<'_> {
+        DecimalStr::new(self.decimal()).unwrap()
+    }
+
+    fn grouping(&self) -> Grouping {
+        CustomFormat::grouping(self)
+    }
+
+    fn infinity(&self) -> InfinityStr<'_> {
+        InfinityStr::new(self.infinity()).unwrap()
+    }
+
+    fn minus_sign(&self) -> MinusSignStr<'_> {
+        MinusSignStr::new(self.minus_sign()).unwrap()
+    }
+
+    fn nan(&self) -> NanStr<'_> {
+        NanStr::new(self.nan()).unwrap()
+    }
+
+    fn plus_sign(&self) -> PlusSignStr<'_> {
+        PlusSignStr::new(self.plus_sign()).unwrap()
+    }
+
+    fn separator(&self) -> SeparatorStr<'_> {
+        SeparatorStr::new(self.separator()).unwrap()
+    }
+}

@@ -1,0 +1,162 @@
+//! What fills a format.
+ghost use Rattle.std.specs.Prelude.{◌≡◌};
+ghost use Rattle.num_format.specs.Building.{built, choices_of, chosen};
+ghost use Rattle.num_format.specs.English.{english};
+
+use crate::bounded_string::BoundedString;
+use crate::custom_format::CustomFormat;
+use crate::{Error, Grouping};
+use std::marker::Model;
+
+/// The decimal mark of the locale `en`.
+const DECIMAL: &str = ".";
+
+/// The grouping of the locale `en`.
+const GROUPING: Grouping = Grouping::Standard;
+
+/// The text for infinity of the locale `en`.
+const INFINITY: &str = "∞";
+
+/// The minus sign of the locale `en`.
+const MINUS_SIGN: &str = "-";
+
+/// The text for NaN of the locale `en`.
+const NAN: &str = "NaN";
+
+/// The plus sign of the locale `en`.
+const PLUS_SIGN: &str = "+";
+
+/// The separator of the locale `en`.
+const SEPARATOR: &str = ",";
+
+/// A format in the making. A contract sees what stands in each field: a value, or the refusal of
+/// one.
+///
+/// A setter never refuses. It replaces what stood in its field, a refusal too, and
+/// [`build`](CustomFormatBuilder::build) answers the last value of each field, or a refusal.
+#[derive(Drop)]
+pub struct CustomFormatBuilder {
+    decimal: Result<BoundedString<8>, Error>,
+    grouping: Grouping,
+    infinity: Result<BoundedString<128>, Error>,
+    minus_sign: Result<BoundedString<8>, Error>,
+    nan: Result<BoundedString<64>, Error>,
+    plus_sign: Result<BoundedString<8>, Error>,
+    separator: Result<BoundedString<8>, Error>,
+}
+
+impl Model for CustomFormatBuilder {
+    ghost use Rattle.num_format.specs.Building.{Choices};
+
+    ghost Value = { Choices };
+
+    ghost view = { λ b. record {
+      decimal = b.decimal;
+      grouping = b.grouping;
+      infinity = b.infinity;
+      minus_sign = b.minus_sign;
+      nan = b.nan;
+      plus_sign = b.plus_sign;
+      separator = b.separator;
+    } };
+}
+
+impl CustomFormatBuilder {
+    /// A builder that starts at the data of the locale `en`.
+    pub(crate) fn new() -> CustomFormatBuilder
+        ensures { result ≡ choices_of english }
+    {
+        CustomFormatBuilder {
+            decimal: BoundedString::new(DECIMAL),
+            grouping: GROUPING,
+            infinity: BoundedString::new(INFINITY),
+            minus_sign: BoundedString::new(MINUS_SIGN),
+            nan: BoundedString::new(NAN),
+            plus_sign: BoundedString::new(PLUS_SIGN),
+            separator: BoundedString::new(SEPARATOR),
+        }
+    }
+
+    /// Sets the decimal mark, of at most 8 bytes.
+    pub fn decimal(self, text: &str) -> CustomFormatBuilder
+        ensures { result ≡ record self { decimal = chosen 8 text.now } }
+    {
+        CustomFormatBuilder {
+            decimal: BoundedString::new(text),
+            ..self
+        }
+    }
+
+    /// Sets how the digits of a whole number are grouped.
+    pub fn grouping(self, grouping: Grouping) -> CustomFormatBuilder
+        ensures { result ≡ record self { grouping = grouping } }
+    {
+        CustomFormatBuilder { grouping, ..self }
+    }
+
+    /// Sets the text for infinity, of at most 128 bytes.
+    pub fn infinity(self, text: &str) -> CustomFormatBuilder
+        ensures { result ≡ record self { infinity = chosen 128 text.now } }
+    {
+        CustomFormatBuilder {
+            infinity: BoundedString::new(text),
+            ..self
+        }
+    }
+
+    /// Sets the minus sign, of at most 8 bytes.
+    pub fn minus_sign(self, text: &str) -> CustomFormatBuilder
+        ensures { result ≡ record self { minus_sign = chosen 8 text.now } }
+    {
+        CustomFormatBuilder {
+            minus_sign: BoundedString::new(text),
+            ..self
+        }
+    }
+
+    /// Sets the text for NaN, of at most 64 bytes.
+    pub fn nan(self, text: &str) -> CustomFormatBuilder
+        ensures { result ≡ record self { nan = chosen 64 text.now } }
+    {
+        CustomFormatBuilder {
+            nan: BoundedString::new(text),
+            ..self
+        }
+    }
+
+    /// Sets the plus sign, of at most 8 bytes.
+    pub fn plus_sign(self, text: &str) -> CustomFormatBuilder
+        ensures { result ≡ record self { plus_sign = chosen 8 text.now } }
+    {
+        CustomFormatBuilder {
+            plus_sign: BoundedString::new(text),
+            ..self
+        }
+    }
+
+    /// Sets the separator between groups of digits, of at most 8 bytes.
+    pub fn separator(self, text: &str) -> CustomFormatBuilder
+        ensures { result ≡ record self { separator = chosen 8 text.now } }
+    {
+        CustomFormatBuilder {
+            separator: BoundedString::new(text),
+            ..self
+        }
+    }
+
+    /// The format with the last value of each field, or the refusal of the first refused field in
+    /// the order decimal mark, infinity, minus sign, NaN, plus sign, separator.
+    pub fn build(self) -> Result<CustomFormat, Error>
+        ensures { result ≡ built self }
+    {
+        Ok(CustomFormat {
+            decimal: self.decimal?,
+            grouping: self.grouping,
+            infinity: self.infinity?,
+            minus_sign: self.minus_sign?,
+            nan: self.nan?,
+            plus_sign: self.plus_sign?,
+            separator: self.separator?,
+        })
+    }
+}

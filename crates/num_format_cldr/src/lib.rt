@@ -1,0 +1,74 @@
+//! The table of the 542 locales that num-format knows.
+//!
+//! A row says how a locale writes numbers: its decimal mark, its separator and its signs, how it
+//! groups digits, and its texts for infinity and for a value that is not a number. The data are
+//! those of the Unicode CLDR as the Rust crate num-format 0.4.4 has them.
+//!
+//! Rows are in rising byte order of their names, which is that of `&str`: `af` is at place 0, `en`
+//! at place 90 and `zu` at place 541. [`row`] answers a row by its place, and [`names`] lists the
+//! names, so that a caller can find a place by halving.
+//!
+//! `specs/` defines the same table in another form, by families of names that share a class and by
+//! lists of the names with unusual texts. The contracts say that the rows are those of that
+//! definition. The rows themselves are written by `tools/locales.py`, one a line.
+#![tactic(auto)]
+
+ghost use Rattle.std.specs.Prelude.{◌≡◌, ◌<◌, [], map, length, All, Contains, encode_utf8_all, slice_index_or};
+ghost use Rattle.num_format_cldr.specs.Entry.{Shows, IsWellFormed, Rises};
+ghost use Rattle.num_format_cldr.specs.Table.{entry, table_names};
+
+mod name_list;
+mod record;
+mod rows;
+
+pub use record::Row;
+
+/// The number of rows. Places run from 0 to `LEN - 1`.
+pub const LEN: usize = 542;
+
+/// The row at `place`, counted from 0 in rising byte order of the names.
+pub fn row(place: usize) -> &'static Row
+    requires { place < LEN }
+    ensures shown { Shows result.now (entry place) }
+    ensures well_formed { IsWellFormed (entry place) }
+    ensures named { slice_index_or table_names place [] ≡ encode_utf8_all (entry place).name }
+{
+    &rows::rows_of_piece(place / 64)[place % 64]
+}
+
+/// The names of all rows, in order: the name at a place is that of the row at that place.
+pub fn names() -> &'static [&'static str]
+    ensures listed { map (λ name. name.now) result.now ≡ table_names }
+    ensures count { length result.now ≡ LEN }
+    ensures rising { Rises table_names }
+    // 95 is the underscore.
+    ensures no_underscore { All (λ name. Contains name 95 → ⊥) table_names }
+{
+    &name_list::NAMES
+}
+
+#[cfg(test)]
+mod tests {
+    use super::*;
+
+    #[test]
+    fn places_and_names_agree(rt: HostRuntime) {
+        assert_eq!(rt; names().len(), 542);
+        for (place, name) in [(0, "af"), (63, "cgg"), (64, "chr"), (90, "en"), (541, "zu")] {
+            assert_eq!(rt; row(place).name, name);
+            assert_eq!(rt; names()[place], name);
+        }
+    }
+
+    #[test]
+    fn row_of_english(rt: HostRuntime) {
+        let english = row(90);
+        assert_eq!(rt; english.dec, ".");
+        assert_eq!(rt; english.group, 0);
+        assert_eq!(rt; english.inf, "\u{221e}");
+        assert_eq!(rt; english.min, "-");
+        assert_eq!(rt; english.nan, "NaN");
+        assert_eq!(rt; english.plus, "+");
+        assert_eq!(rt; english.sep, ",");
+    }
+}

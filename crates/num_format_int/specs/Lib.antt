@@ -1,0 +1,6 @@
+pub mod Digits
+pub mod Grouped
+pub mod Kind
+pub mod Text
+pub mod TextAndZeros
+pub use Rattle.num_format_text.specs.Format

@@ -1,0 +1,232 @@
+#!/usr/bin/env python3
+"""Writes what the crates have of the table of locales, from locales.txt beside this file.
+
+    python3 tools/locales.py rows        rewrites the generated files of crates/num_format_cldr
+    python3 tools/locales.py constants   rewrites the constants of `Locale` in crates/num_format_locale
+"""
+import re
+import sys
+import unicodedata
+from pathlib import Path
+
+HERE = Path(__file__).resolve().parent
+CRATE = HERE.parent / "crates" / "num_format_cldr"
+CONSTANTS = HERE.parent / "crates" / "num_format_locale" / "src" / "locale" / "constants.rt"
+DATA = HERE / "locales.txt"
+MARK = "Written by tools/locales.py from tools/locales.txt; do not edit."
+PIECE = 64  # rows in one module at most
+GROUPINGS = {"Standard": 0, "Indian": 1, "Posix": 2}
+
+
+def unescaped(text):
+    return re.sub(r"\\u\{([0-9a-f]+)\}", lambda m: chr(int(m[1], 16)), text)
+
+
+def is_plain(character):
+    """Whether it stands in a literal as it is: visible ASCII, and letters from left to right."""
+    category = unicodedata.category(character)
+    is_letter = category.startswith("L") or category == "Po"
+    return " " < character <= "~" and character not in '"\\' or is_letter and unicodedata.bidirectional(character) == "L"
+
+
+def literal(text):
+    """A string of Rust, with an escape for each character that is not plain."""
+    return '"' + "".join(c if is_plain(c) else f"\\u{{{ord(c):x}}}" for c in text) + '"'
+
+
+def sections():
+    """The lines of the data under each heading."""
+    found = {}
+    for line in DATA.read_text(encoding="utf-8").splitlines():
+        if line.startswith("["):
+            lines = found.setdefault(line.strip("[]"), [])
+        elif line.strip() and not line.startswith("#"):
+            lines.append(line)
+    return found
+
+
+def members(lines):
+    """Each name with its class."""
+    for line in lines:
+        stem, stem_class, words = re.fullmatch(r"(\w+):(\w)(?: \((.*)\))?", line).groups()
+        yield stem, stem_class
+        for word in (words or "").split():
+            word, _, own_class = word.partition(":")
+            yield stem + "-" + word, own_class or stem_class
+
+
+def is_of(name, names):
+    """Whether a line that ends in `names` is of this name."""
+    words = names.split()
+    if words[0] != "all":
+        return name in words
+    return (name == words[1] or name.startswith(words[1] + "-")) and name not in words[3:]
+
+
+def value_for(name, lines, usual):
+    """What the first line that is of the name says, or else the usual value."""
+    for line in lines:
+        value, names = line.rsplit(": ", 1)
+        if is_of(name, names):
+            return unescaped(value)
+    return usual
+
+
+def rows():
+    """The rows in order, as `Row` has them."""
+    data = sections()
+    classes = {line.split()[0]: [unescaped(text) for text in line.split()[1:]] for line in data["classes"]}
+    for name, its_class in members(data["families"]):
+        decimal_mark, separator = classes[its_class]
+        minus, plus = value_for(name, data["signs"], "- +").split(" ")
+        yield {
+            "name": name,
+            "dec": decimal_mark,
+            "group": GROUPINGS[value_for(name, data["groupings"], "Standard")],
+            "inf": value_for(name, data["infinities"], "\u221e"),
+            "min": minus,
+            "nan": value_for(name, data["nans"], "NaN"),
+            "plus": plus,
+            "sep": separator,
+        }
+
+
+def row_line(row):
+    fields = (f"{field}: {value if field == 'group' else literal(value)}" for field, value in row.items())
+    return "    Row { " + ", ".join(fields) + " },\n"
+
+
+def module_name(piece):
+    return "from_" + piece[0]["name"].lower().replace("-", "_")
+
+
+def piece_source(number, piece):
+    first, last = piece[0]["name"], piece[-1]["name"]
+    start = number * PIECE
+    lines = "".join(row_line(row) for row in piece)
+    return f"""//! The rows from `{first}` to `{last}`. {MARK}
+ghost use Rattle.std.specs.Prelude.{{◌≡◌, map}};
+ghost use Rattle.num_format_cldr.specs.Entry.{{bytes_of, encoded}};
+ghost use Rattle.num_format_cldr.specs.Table.{{piece}};
+
+use crate::record::Row;
+
+#[rattlefmt::skip]
+static ROWS: [Row; {len(piece)}] = [
+{lines}];
+
+/// The rows from place {start} to place {start + len(piece) - 1}.
+pub fn rows() -> &'static [Row]
+    ensures {{ map bytes_of result.now ≡ map encoded (piece {number}) }}
+{{
+    &ROWS
+}}
+"""
+
+
+def piece_answers(module):
+    return f"""-- {MARK}
+use Rattle.std.proofs.Common.{{refl}}
+use lib.Utf8.{{encode}}
+use Rattle.num_format_cldr.specs.Entry.{{bytes_of, encoded}}
+use Rattle.num_format_cldr.specs.Families.{{families}}
+use Rattle.num_format_cldr.specs.Table.{{members, piece}}
+use Rattle.num_format_cldr.proofs.rows.{module}.rows.Goals as goal
+
+pub returns : goal.returns
+unfolding encode bytes_of encoded families members piece
+returns c = refl
+"""
+
+
+def dispatch_source(modules):
+    declarations = "".join(f"mod {module};\n" for module in modules)
+    arms = "".join(f"        {number} => {module}::rows(),\n" for number, module in enumerate(modules[:-1]))
+    return f"""//! The rows, in modules of at most {PIECE} each. {MARK}
+ghost use Rattle.std.specs.Prelude.{{◌≡◌, ◌<◌, map}};
+ghost use Rattle.num_format_cldr.specs.Entry.{{bytes_of, encoded}};
+ghost use Rattle.num_format_cldr.specs.Table.{{piece}};
+
+use crate::record::Row;
+
+{declarations}
+/// The rows from place `{PIECE} * number` on, at most {PIECE} of them.
+pub fn rows_of_piece(number: usize) -> &'static [Row]
+    requires {{ number < {len(modules)} }}
+    ensures {{ map bytes_of result.now ≡ map encoded (piece number) }}
+{{
+    match number {{
+{arms}        _ => {modules[-1]}::rows(),
+    }}
+}}
+"""
+
+
+def names_source(names):
+    lines = "".join(f"    {literal(name)},\n" for name in names)
+    return f"""//! The names of all rows. {MARK}
+
+#[rattlefmt::skip]
+pub static NAMES: [&str; {len(names)}] = [
+{lines}];
+"""
+
+
+def generated_files():
+    """Each file that this script writes in the crate, with its text."""
+    table = list(rows())
+    pieces = [table[start:start + PIECE] for start in range(0, len(table), PIECE)]
+    modules = [module_name(piece) for piece in pieces]
+    files = {
+        "src/rows.rt": dispatch_source(modules),
+        "src/name_list.rt": names_source([row["name"] for row in table]),
+    }
+    for number, (module, piece) in enumerate(zip(modules, pieces)):
+        files[f"src/rows/{module}.rt"] = piece_source(number, piece)
+        files[f"proofs/rows/{module}/rows/Answers.antt"] = piece_answers(module)
+    return files
+
+
+def write_rows():
+    files = generated_files()
+    old = [*CRATE.glob("src/rows/*.rt"), *CRATE.glob("proofs/rows/*/rows/Answers.antt")]
+    for path in old:
+        if path.relative_to(CRATE).as_posix() not in files:
+            path.unlink()
+    for name, text in files.items():
+        path = CRATE / name
+        path.parent.mkdir(parents=True, exist_ok=True)
+        path.write_text(text, encoding="utf-8")
+
+
+def constant_name(name):
+    """The name with underscores for hyphens; `as` is a word of the language."""
+    return "as_" if name == "as" else name.replace("-", "_")
+
+
+def constants_source(names):
+    lines = "".join(
+        f"    pub const {constant_name(name)}: Locale = Locale {{ place: {place} }};\n" for place, name in enumerate(names)
+    )
+    return f"""//! The locales as constants. {MARK}
+use crate::Locale;
+
+/// Each constant has the name of its locale with `_` for `-`, and that of `as` is `as_`.
+#[allow(non_upper_case_globals)]
+#[rattlefmt::skip]
+impl Locale {{
+{lines}}}
+"""
+
+
+def write_constants():
+    CONSTANTS.parent.mkdir(parents=True, exist_ok=True)
+    CONSTANTS.write_text(constants_source([row["name"] for row in rows()]), encoding="utf-8")
+
+
+COMMANDS = {"rows": write_rows, "constants": write_constants}
+
+if __name__ == "__main__":
+    if len(sys.argv) != 2 or sys.argv[1] not in COMMANDS:
+        sys.exit(__doc__.strip())
+    COMMANDS[sys.argv[1]]()
