@@ -1,3 +1,4 @@
 mod BuildingLemmas
-mod TextLemmas
+pub mod TakingLemmas
+pub mod TextLemmas
 mod WorkedRows

@@ -9,13 +9,17 @@ use Rattle.num_format_text.specs.Format.{FormatData, IsWithinCapacity}
 use Rattle.num_format_int.specs.Digits.{digits}
 use Rattle.num_format_int.specs.Grouped.{grouped, separators, stands}
 use Rattle.num_format_int.specs.Text.{body_of, text_of}
-use Rattle.num_format_int.proofs.DigitLemmas.{length-digits-le39}
+use Rattle.num_format_int.proofs.DigitLemmas.{digits_given, length-digits-le39}
 use Rattle.num_format_int.proofs.GroupedLemmas.{length-grouped, length-grouped-le183}
 
 pub length-text_of : (f : FormatData) (z : ℤ) →
     length (text_of f z) ≡ length (if is_negative z then f.minus_sign else []) + length (digits (unsigned_abs z))
     + separators f.grouping (length (digits (unsigned_abs z))) * length f.separator
 length-text_of f z = simp (length-append, length-grouped f.grouping f.separator (digits (unsigned_abs z))) (omega arith)
+
+-- a text is not empty
+pub text_of-given : (f : FormatData) (z : ℤ) → 0 < length (text_of f z)
+text_of-given f z = omega (arith, length-text_of f z, digits_given (unsigned_abs z))
 
 short_sign : (b : Bool) (sign : List ℕ) → length sign ≤ 8 → length (if b then sign else []) ≤ 8
 short_sign true sign short = short
