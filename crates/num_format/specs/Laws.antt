@@ -1,5 +1,5 @@
 -- Laws over the definitions alone.
-use Rattle.std.specs.Prelude.{◌≡◌, ℕ, ◌+◌, ◌-◌, ◌*◌, ◌/◌, ◌%◌, ◌^◌, ◌<◌, ◌≤◌, ℤ, pos, negsuc, ◌≤ℤ◌, unsigned_abs, List, [], ◌∷◌, ◌++◌, length, if◌then◌else◌}
+use Rattle.std.specs.Prelude.{◌≡◌, ℕ, ◌+◌, ◌-◌, ◌*◌, ◌/◌, ◌%◌, ◌^◌, ◌<◌, ◌≤◌, ℤ, pos, negsuc, ◌≤ℤ◌, unsigned_abs, codes, List, [], ◌∷◌, ◌++◌, length, if◌then◌else◌}
 use Rattle.std.specs.Int.{is_negative}
 use Rattle.std.specs.Int.Digits.{number_from_digits}
 use Rattle.num_format_text.specs.declared.grouping.Grouping.{Grouping}
@@ -8,6 +8,9 @@ use Rattle.num_format_text.specs.Format.{FormatData, IsWithinCapacity}
 use Rattle.num_format_int.specs.Digits.{digits}
 use Rattle.num_format_int.specs.Grouped.{separators}
 use Rattle.num_format_int.specs.Text.{body_of, text_of}
+use Rattle.num_format_locale.specs.Data.{locale_data}
+use Rattle.num_format_locale.specs.Names.{name_of}
+use Rattle.num_format.specs.English.{english}
 use Rattle.num_format.specs.Building.{Call, Choices, choices_after, chosen}
 use Rattle.num_format.specs.Building as call
 
@@ -33,6 +36,11 @@ pub record BoundLaw : Type 0 where
 pub record EndsLaw : Type 0 where
   pub begins : (f : FormatData) (n first : ℕ) (others : List ℕ) → digits n ≡ first ∷ others → (rest : List ℕ) × (body_of f n ≡ (48 + first) ∷ rest)
   pub ends : (f : FormatData) (n last : ℕ) (others : List ℕ) → digits n ≡ others ++ (last ∷ []) → (front : List ℕ) × (body_of f n ≡ front ++ ((48 + last) ∷ []))
+
+-- the format that a builder starts at is that of the locale `en`, at place 90
+pub record EnglishLaw : Type 0 where
+  pub named : name_of 90 ≡ codes "en"
+  pub same : locale_data 90 ≡ english
 
 -- a setter's clause says what one more call does to what stands after the calls before it
 pub record BuildingLaw : Type 0 where

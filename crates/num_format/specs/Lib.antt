@@ -5,3 +5,5 @@ pub mod Taking
 pub use Rattle.num_format_text.specs.Format
 pub use Rattle.num_format_text.specs.Refusal
 pub use Rattle.num_format_int.specs.Text
+pub use Rattle.num_format_locale.specs.Data
+pub use Rattle.num_format_locale.specs.Names

@@ -2,11 +2,12 @@
 ghost use Rattle.std.specs.Prelude.{◌≡◌, ◌≤◌, length};
 ghost use Rattle.num_format.specs.Building.{choices_of};
 ghost use Rattle.num_format.specs.English.{english};
+ghost use Rattle.num_format_locale.specs.Data.{locale_data};
 
 use crate::bounded_string::BoundedString;
 use crate::custom_format_builder::CustomFormatBuilder;
 use crate::utils::{DecimalStr, InfinityStr, MinusSignStr, NanStr, PlusSignStr, SeparatorStr};
-use crate::{Format, Grouping};
+use crate::{Format, Grouping, Locale};
 use std::marker::Model;
 
 /// A format that keeps its seven answers. A contract sees them.
@@ -115,6 +116,23 @@ impl Default for CustomFormat {
 
     fn default() -> CustomFormat {
         CustomFormat::builder().build().unwrap()
+    }
+}
+
+impl From<Locale> for CustomFormat {
+    ghost from_gives = { λ locale format. format ≡ locale_data locale };
+
+    /// The format that answers what the locale does.
+    fn from(locale: Locale) -> CustomFormat {
+        CustomFormat {
+            decimal: BoundedString::new(locale.decimal()).unwrap(),
+            grouping: locale.grouping(),
+            infinity: BoundedString::new(locale.infinity()).unwrap(),
+            minus_sign: BoundedString::new(locale.minus_sign()).unwrap(),
+            nan: BoundedString::new(locale.nan()).unwrap(),
+            plus_sign: BoundedString::new(locale.plus_sign()).unwrap(),
+            separator: BoundedString::new(locale.separator()).unwrap(),
+        }
     }
 }
 

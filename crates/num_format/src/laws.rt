@@ -3,7 +3,10 @@
 //! Each function's contract is a law: a fact about all formats and all numbers, over the
 //! definitions alone. The bodies are empty, since there is nothing to compute. A caller that
 //! needs a law in a proof calls its function.
-ghost use Rattle.num_format.specs.Laws.{BoundLaw, BuildingLaw, DigitsLaw, EndsLaw, LengthLaw};
+ghost use Rattle.num_format.specs.Laws.{BoundLaw, BuildingLaw, DigitsLaw, EndsLaw, EnglishLaw, LengthLaw};
+
+use crate::Locale;
+pub use num_format_locale::laws::{found_by_name, name_order, spelled_once};
 
 /// The digits of a number: their two equations, that they write the number, and that a leading
 /// zero does not change what digits write.
@@ -26,6 +29,11 @@ pub fn text_bound()
 /// A digit begins the digits and separators of a number, and a digit ends them.
 pub fn text_ends()
     ensures { EndsLaw }
+{}
+
+/// The format that a builder starts at is that of the locale `en`.
+pub fn english()
+    ensures { EnglishLaw }
 {}
 
 /// What stands in a builder after any calls of its setters: in each field the last value that was

@@ -12,6 +12,7 @@ pub use custom_format::CustomFormat;
 pub use custom_format_builder::CustomFormatBuilder;
 pub use num_format_int::buffer::Buffer;
 pub use num_format_int::to_formatted_str::ToFormattedStr;
+pub use num_format_locale::locale::Locale;
 pub use num_format_text::error;
 pub use num_format_text::error::Error;
 pub use num_format_text::error_kind::ErrorKind;

@@ -1,0 +1,3 @@
+pub mod EqualItems
+pub mod NameLemmas
+pub mod TextLemmas

@@ -1,0 +1,94 @@
+-- Names and places.
+use Rattle.std.proofs.Common.{◌≡◌, ◌≢◌, ℕ, suc, ◌<◌, ◌==◌, inl, inr, List, [], ◌∷◌, length, map, Contains, slice_index_or, if◌then◌else◌, arith, refl, sym, ap, ◌∙◌}
+use Rattle.std.specs.Borrow.{Bor}
+use Rattle.std.specs.Cmp.{nat_cmp_is}
+use Rattle.std.specs.Cmp.Lexicographic.{slice_cmp}
+use Rattle.std.specs.FinMap.{nat_cmp-IsAntisymmetric}
+use Rattle.std.specs.Ordering.{nat_cmp, ordering_reverse}
+use Rattle.std.specs.declared.cmp.Ordering.{Ordering}
+use Rattle.std.specs.declared.cmp.Ordering.TheVariants.{Less, Equal, Greater}
+use Rattle.std.proofs.Math.Nat.{eq-or-lt_of_le}
+use Rattle.std.proofs.lemmas.Bool.{cases_lt}
+use Rattle.std.proofs.lemmas.Bool.Decides.{nat_tests}
+use Rattle.std.proofs.lemmas.Cmp.{nat_list_cmp_total}
+use Rattle.std.proofs.lemmas.List.{get_or-map, length-map}
+use Rattle.num_format_cldr.specs.declared.TheConstants.{LEN}
+use Rattle.num_format_cldr.specs.Table.{members, table_names}
+use Rattle.num_format_cldr.proofs.Places.{length-members}
+use Rattle.num_format_cldr.proofs.Rising.{names_rise, names_have_no_underscore}
+use Rattle.num_format_locale.specs.Laws.{OrderLaw, UniqueLaw}
+use Rattle.num_format_locale.specs.Names.{Spells, name_of, underscore_for_hyphen}
+
+-- a hyphen in place of an underscore
+hyphen_for_underscore : ℕ → ℕ
+hyphen_for_underscore byte = if byte == 95 then 45 else byte
+
+-- it is undone where no underscore stood
+same_byte : (x : ℕ) → x ≢ 95 → hyphen_for_underscore x ≡ x
+unfolding hyphen_for_underscore
+same_byte x other = grind (arith, nat_tests)
+
+byte_back : (x : ℕ) → x ≢ 95 → hyphen_for_underscore (underscore_for_hyphen x) ≡ x
+unfolding hyphen_for_underscore
+byte_back x other = grind (arith, nat_tests)
+
+-- of a text without underscores, the first byte is none, and the rest has none
+other_first : (x : ℕ) (xs : List ℕ) → ¬ Contains (x ∷ xs) 95 → x ≢ 95
+other_first x xs none same = none (0, omega arith, same)
+
+other_rest : (x : ℕ) (xs : List ℕ) → ¬ Contains (x ∷ xs) 95 → ¬ Contains xs 95
+other_rest x xs none at = none (suc at.0, (let within = at.1 in omega arith), at.2)
+
+-- such a text is what it and its form with underscores are with hyphens for underscores
+same_name : (xs : List ℕ) → ¬ Contains xs 95 → map hyphen_for_underscore xs ≡ xs
+same_name [] none = refl
+same_name (x ∷ xs) none = λ i. same_byte x (other_first x xs none) i ∷ same_name xs (other_rest x xs none) i
+
+name_back : (xs : List ℕ) → ¬ Contains xs 95 → map hyphen_for_underscore (map underscore_for_hyphen xs) ≡ xs
+name_back [] none = refl
+name_back (x ∷ xs) none = λ i. byte_back x (other_first x xs none) i ∷ name_back xs (other_rest x xs none) i
+
+-- the name that a text spells is the text with hyphens for underscores
+spelled_name : (text name : List ℕ) → ¬ Contains name 95 → Spells text name → map hyphen_for_underscore text ≡ name
+spelled_name text name none (inl same) = ap (map hyphen_for_underscore) same ∙ same_name name none
+spelled_name text name none (inr same) = ap (map hyphen_for_underscore) same ∙ name_back name none
+
+-- there are as many names as places
+pub length-table_names : length table_names ≡ LEN
+unfolding table_names
+length-table_names = length-map members _ ∙ length-members
+
+-- only Equal is its own reverse
+unmoved : (o : Ordering) → o ≡ ordering_reverse o → o ≡ Equal
+unmoved Less same = cc
+unmoved Equal same = refl
+unmoved Greater same = cc
+
+-- a text compares to itself as equal
+cmp_same : (x : List ℕ) → slice_cmp nat_cmp x x ≡ Equal
+cmp_same x = unmoved _ (nat_list_cmp_total.antisymm x x)
+
+-- places compare as their names do
+pub order : OrderLaw
+order p q within_p within_q =
+    elim (cases_lt p q) [
+      | inl less ↦ names_rise p q less (omega (arith, length-table_names)) ∙ nat_cmp_is p q Less less
+      | inr not_less ↦ elim (eq-or-lt_of_le not_less) [
+        | inl same ↦ ap (λ place. slice_cmp nat_cmp (name_of p) (name_of place)) same ∙ cmp_same (name_of p) ∙ nat_cmp_is p q Equal (sym same)
+        | inr more ↦
+            nat_list_cmp_total.antisymm (name_of p) (name_of q)
+            ∙ ap ordering_reverse (names_rise q p more (omega (arith, length-table_names))) ∙ nat_cmp_is p q Greater more
+      ]
+    ]
+
+-- a text spells one name at most
+pub unique : UniqueLaw
+unique text p q within_p within_q spells_p spells_q =
+    let none : (place : ℕ) → place < LEN → ¬ Contains (name_of place) 95 = λ place within. names_have_no_underscore place [] (omega (arith, length-table_names)) in
+    let same : name_of p ≡ name_of q = sym (spelled_name text _ (none p within_p) spells_p) ∙ spelled_name text _ (none q within_q) spells_q in
+    nat_cmp-IsAntisymmetric p q (sym (order p q within_p within_q) ∙ ap (λ name. slice_cmp nat_cmp name (name_of q)) same ∙ cmp_same (name_of q))
+
+-- what a reference to a name points to
+pub name_at : (names : List (Bor (List ℕ))) (place : ℕ) (d : Bor (List ℕ)) → map (λ name. name.now) names ≡ table_names → place < length names → (slice_index_or names place d).now ≡ name_of place
+name_at names place d listed within =
+    sym (get_or-map (λ name. name.now) names place d [] within) ∙ ap (λ all. slice_index_or all place []) listed

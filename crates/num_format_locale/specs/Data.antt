@@ -1,0 +1,28 @@
+-- How a locale writes numbers.
+use Rattle.std.specs.Prelude.{ℕ, ◌==◌, encode_utf8_all, if◌then◌else◌}
+use Rattle.num_format_cldr.specs.Entry.{Entry}
+use Rattle.num_format_cldr.specs.Groupings.{standard, indian}
+use Rattle.num_format_cldr.specs.Table.{entry}
+use Rattle.num_format_text.specs.declared.grouping.Grouping.{Grouping}
+use Rattle.num_format_text.specs.declared.grouping.Grouping.TheVariants.{Standard, Indian, Posix}
+use Rattle.num_format_text.specs.Format.{FormatData}
+
+-- the `Grouping` that a group of the table stands for
+abbrev pub grouping_for : ℕ → Grouping
+grouping_for group = if group == standard then Standard else (if group == indian then Indian else Posix)
+
+-- the seven data of an entry of the table; each text is the list of its bytes
+abbrev pub data_of : Entry → FormatData
+data_of e = record {
+  decimal = encode_utf8_all e.dec;
+  grouping = grouping_for e.group;
+  infinity = encode_utf8_all e.inf;
+  minus_sign = encode_utf8_all e.min;
+  nan = encode_utf8_all e.nan;
+  plus_sign = encode_utf8_all e.plus;
+  separator = encode_utf8_all e.sep;
+}
+
+-- the seven data of the locale at a place
+abbrev pub locale_data : ℕ → FormatData
+locale_data place = data_of (entry place)

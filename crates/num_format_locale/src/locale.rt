@@ -1,0 +1,221 @@
+//! A locale: how it is found by its name, and what it answers.
+//!
+//! The data are those of a row of `num_format_cldr`. A text is looked up by a walk over all names.
+ghost use Rattle.std.specs.Prelude.{◌≡◌, ◌≢◌, ◌<◌, ◌≤◌, ◌↔◌, [], length, map, All, Contains, IsTrue};
+ghost use Rattle.num_format_cldr.specs.Entry.{IsWellFormed, Rises, Shows};
+ghost use Rattle.num_format_cldr.specs.Table.{entry, table_names};
+ghost use Rattle.num_format_locale.specs.Data.{locale_data};
+ghost use Rattle.num_format_locale.specs.Names.{LooksUp, Spells, name_of, underscore_for_hyphen};
+
+use num_format_cldr::{LEN, Row};
+use num_format_text::error::cut;
+use num_format_text::strings::{
+    DecimalStr, InfinityStr, MinusSignStr, NanStr, PlusSignStr, SeparatorStr,
+};
+use num_format_text::{Error, ErrorKind, Format, Grouping};
+use std::fmt;
+use std::marker::Model;
+use std::str::FromStr;
+
+mod constants;
+
+/// A locale: a place in the table of locales. A contract sees that place, from 0 to 541.
+///
+/// Locales compare as their names do in byte order. Each has a constant of its name, with `_` for
+/// `-`, such as `Locale::en` and `Locale::zh_Hans_HK`; that of `as` is `Locale::as_`.
+#[derive(Clone, Copy, PartialEq, Eq, PartialOrd, Ord, Hash)]
+pub struct Locale {
+    place: u16,
+}
+
+impl Model for Locale {
+    ghost use Rattle.std.specs.Prelude.{ℕ, ◌<◌};
+    ghost use Rattle.num_format_cldr.specs.declared.TheConstants.{LEN};
+
+    ghost Value = { ℕ };
+
+    ghost view = { λ locale. locale.place };
+
+    ghost invariant = { λ locale. locale.place < LEN };
+
+    ghost inverse = { λ place. record { place = place } };
+}
+
+impl Locale {
+    /// The locale of a name, which may stand with hyphens, as in the table, or with an underscore
+    /// for every hyphen.
+    ///
+    /// Any other text is refused with [`ErrorKind::ParseLocale`], which keeps the text, cut:
+    ///
+    /// ```text
+    /// Locale::from_name("ca-ES-VALENCIA")  is Ok
+    /// Locale::from_name("ca_ES_VALENCIA")  is Ok
+    /// Locale::from_name("ca-ES_VALENCIA")  is Err
+    /// ```
+    pub fn from_name(name: &str) -> Result<Locale, Error>
+        ensures { LooksUp name.now result }
+    {
+        for (place, each) in Locale::available_names().iter().enumerate() {
+            if spells(name, each) {
+                let place = place as u16;
+                return Ok(Locale { place });
+            }
+        }
+        Err(Error::from(ErrorKind::ParseLocale(cut(name))))
+    }
+
+    /// The names of all locales, in rising byte order.
+    pub fn available_names() -> &'static [&'static str]
+        ensures listed { map (λ name. name.now) result.now ≡ table_names }
+        ensures count { length result.now ≡ LEN }
+        ensures rising { Rises table_names }
+        // 95 is the underscore.
+        ensures no_underscore { All (λ name. Contains name 95 → ⊥) table_names }
+    {
+        num_format_cldr::names()
+    }
+
+    /// The name, with hyphens. [`from_name`](Locale::from_name) of it is the locale.
+    pub fn name(&self) -> &'static str
+        ensures same { result.now ≡ name_of self.now }
+        ensures within { self.now < LEN }
+    {
+        self.row().name
+    }
+
+    /// The decimal mark, of at most 8 bytes.
+    pub fn decimal(&self) -> &'static str
+        ensures same { result.now ≡ (locale_data self.now).decimal }
+        ensures fits { length result.now ≤ 8 }
+    {
+        self.row().dec
+    }
+
+    /// How the digits of a whole number are grouped.
+    pub fn grouping(&self) -> Grouping
+        ensures { result ≡ (locale_data self.now).grouping }
+    {
+        match self.row().group {
+            0 => Grouping::Standard,
+            1 => Grouping::Indian,
+            _ => Grouping::Posix,
+        }
+    }
+
+    /// The text for infinity, of at most 128 bytes.
+    pub fn infinity(&self) -> &'static str
+        ensures same { result.now ≡ (locale_data self.now).infinity }
+        ensures fits { length result.now ≤ 128 }
+    {
+        self.row().inf
+    }
+
+    /// The minus sign, which stands before a negative number, of 1 to 8 bytes.
+    pub fn minus_sign(&self) -> &'static str
+        ensures same { result.now ≡ (locale_data self.now).minus_sign }
+        ensures fits { length result.now ≤ 8 }
+        ensures given { result.now ≢ [] }
+    {
+        self.row().min
+    }
+
+    /// The text for NaN, of at most 64 bytes.
+    pub fn nan(&self) -> &'static str
+        ensures same { result.now ≡ (locale_data self.now).nan }
+        ensures fits { length result.now ≤ 64 }
+    {
+        self.row().nan
+    }
+
+    /// The plus sign, of at most 8 bytes.
+    pub fn plus_sign(&self) -> &'static str
+        ensures same { result.now ≡ (locale_data self.now).plus_sign }
+        ensures fits { length result.now ≤ 8 }
+    {
+        self.row().plus
+    }
+
+    /// The separator between groups of digits, of 1 to 8 bytes.
+    pub fn separator(&self) -> &'static str
+        ensures same { result.now ≡ (locale_data self.now).separator }
+        ensures fits { length result.now ≤ 8 }
+        ensures given { result.now ≢ [] }
+    {
+        self.row().sep
+    }
+
+    /// The row of the table.
+    fn row(&self) -> &'static Row
+        ensures shown { Shows result.now (entry self.now) }
+        ensures well_formed { IsWellFormed (entry self.now) }
+        ensures named { result.now.name.now ≡ name_of self.now }
+        ensures within { self.now < LEN }
+    {
+        num_format_cldr::row(self.place as usize)
+    }
+}
+
+/// Whether the text is the name, or the name with every hyphen an underscore.
+fn spells(text: &str, name: &str) -> bool
+    ensures { IsTrue result ↔ Spells text.now name.now }
+{
+    text == name || has_underscores(text.as_bytes(), name.as_bytes())
+}
+
+/// Whether the text is the name with every hyphen an underscore.
+fn has_underscores(text: &[u8], name: &[u8]) -> bool
+    ensures { IsTrue result ↔ (map underscore_for_hyphen name.now ≡ text.now) }
+{
+    name.iter()
+        .map(|byte| if *byte == b'-' { b'_' } else { *byte })
+        .eq(text.iter().copied())
+}
+
+impl FromStr for Locale {
+    type Err = Error;
+
+    ghost from_str_gives = { LooksUp };
+
+    fn from_str(text: &str) -> Result<Locale, Error> {
+        Locale::from_name(text)
+    }
+}
+
+/// Shows the name, with hyphens.
+impl fmt::Debug for Locale {
+    fn fmt<W: fmt::Write>(&self, f: &mut fmt::Formatter<W>) -> fmt::Result {
+        f.write_str(self.name())
+    }
+}
+
+impl Format for Locale {
+    ghost answers = { locale_data };
+
+    fn decimal(&self) -> DecimalStr<'_> {
+        DecimalStr::new(self.decimal()).unwrap()
+    }
+
+    fn grouping(&self) -> Grouping {
+        self.grouping()
+    }
+
+    fn infinity(&self) -> InfinityStr<'_> {
+        InfinityStr::new(self.infinity()).unwrap()
+    }
+
+    fn minus_sign(&self) -> MinusSignStr<'_> {
+        MinusSignStr::new(self.minus_sign()).unwrap()
+    }
+
+    fn nan(&self) -> NanStr<'_> {
+        NanStr::new(self.nan()).unwrap()
+    }
+
+    fn plus_sign(&self) -> PlusSignStr<'_> {
+        PlusSignStr::new(self.plus_sign()).unwrap()
+    }
+
+    fn separator(&self) -> SeparatorStr<'_> {
+        SeparatorStr::new(self.separator()).unwrap()
+    }
+}
