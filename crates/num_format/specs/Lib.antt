@@ -4,6 +4,7 @@ pub mod Laws
 pub mod Taking
 pub use Rattle.num_format_text.specs.Format
 pub use Rattle.num_format_text.specs.Refusal
+pub use Rattle.num_format_int.specs.Reading
 pub use Rattle.num_format_int.specs.Text
 pub use Rattle.num_format_locale.specs.Data
 pub use Rattle.num_format_locale.specs.Names

@@ -1,2 +1,4 @@
 pub mod DigitLemmas
 pub mod GroupedLemmas
+pub mod ReadingLemmas
+pub mod ReadingRows
