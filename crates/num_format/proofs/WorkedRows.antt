@@ -25,6 +25,10 @@ zero : text_of english (pos 0) ≡ codes "0"
 unfolding digits
 zero = refl
 
+one_digit : text_of english (pos 5) ≡ codes "5"
+unfolding digits
+one_digit = refl
+
 three_digits : text_of english (pos 999) ≡ codes "999"
 unfolding digits
 three_digits = refl

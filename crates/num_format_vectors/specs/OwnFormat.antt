@@ -1,0 +1,9 @@
+-- A format of a user's own.
+use Rattle.std.specs.Prelude.{codes}
+use Rattle.num_format_text.specs.declared.grouping.Grouping.{Grouping}
+use Rattle.num_format.specs.English.{english}
+use Rattle.num_format.specs.Format.{FormatData}
+
+-- the data of the locale en, but for the grouping, the separator 7 and the minus sign 17
+abbrev pub sevens : Grouping → FormatData
+sevens g = record english { grouping = g; minus_sign = codes "17"; separator = codes "7" }

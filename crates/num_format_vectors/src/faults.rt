@@ -1,0 +1,128 @@
+//! A thousand into writers of bytes that take little, and into writers that fail.
+
+use crate::texts::built;
+use crate::thousand::write_thousand;
+use num_format::{CustomFormat, Grouping, ToFormattedString};
+use std::alloc::Global;
+use std::io;
+use std::process::Abort;
+use std::test::Fail;
+
+/// What a write that goes wrong does.
+#[derive(Clone, Copy)]
+enum Fault {
+    Fails(io::ErrorKind),
+    TakesNothing,
+}
+
+/// A writer that takes a few bytes a call. At most one call goes wrong, and the next takes bytes
+/// again.
+#[derive(Drop)]
+struct Choppy {
+    held: Vec<u8>,
+    most: usize,
+    fault: Option<(usize, Fault)>,
+    calls: usize,
+}
+
+impl Choppy {
+    fn new(alloc: Global, most: usize, fault: Option<(usize, Fault)>) -> Choppy {
+        Choppy {
+            held: Vec::new(alloc),
+            most,
+            fault,
+            calls: 0,
+        }
+    }
+}
+
+impl io::Write for Choppy {
+    fn write(&mut self, bytes: &[u8]) -> io::Result<usize> {
+        self.calls = self.calls.saturating_add(1);
+        match self.fault {
+            Some((call, Fault::Fails(kind))) if call == self.calls => Err(io::Error::from(kind)),
+            Some((call, Fault::TakesNothing)) if call == self.calls => Ok(0),
+            _ => {
+                let count = bytes.len().min(self.most);
+                self.held.extend_from_slice(&bytes[..count])?;
+                Ok(count)
+            }
+        }
+    }
+
+    fn flush(&mut self) -> io::Result<()> {
+        Ok(())
+    }
+}
+
+/// The whole text is taken, in as many writes as it needs.
+#[test]
+fn a_few_bytes_a_call(rt: HostRuntime) -> Result<(), Fail> {
+    let rows = [(1, 5), (2, 3), (3, 2), (4, 2), (5, 1), (6, 1)];
+    let format = CustomFormat::default();
+    for (most, calls) in rows {
+        let mut choppy = Choppy::new(rt.alloc(), most, None);
+        assert_eq!(rt; 1000.read_to_io_writer(&mut choppy, &format)?, 5);
+        assert_eq!(rt; choppy.held.as_slice(), b"1,000".as_slice());
+        assert_eq!(rt; choppy.calls, calls);
+        let mut boxed = Box::new(rt.alloc(), Choppy::new(rt.alloc(), most, None))?;
+        assert_eq!(rt; write_thousand(&mut boxed)?, 5);
+        assert_eq!(rt; boxed.held.as_slice(), b"1,000".as_slice());
+        assert_eq!(rt; boxed.calls, calls);
+    }
+    Ok(())
+}
+
+/// Asserts that a write gone wrong is the last one and that its fault is the answer. A writer of
+/// one byte a call then holds a byte for each write before it.
+fn stops_at(rt: &impl Abort, alloc: Global, fault: Fault, kind: io::ErrorKind) -> Result<(), Fail> {
+    let rows = [(1, ""), (2, "1"), (3, "1,"), (4, "1,0"), (5, "1,00")];
+    let format = CustomFormat::default();
+    for (call, held) in rows {
+        let mut choppy = Choppy::new(alloc, 1, Some((call, fault)));
+        let answer = 1000.read_to_io_writer(&mut choppy, &format);
+        assert_eq!(rt; answer.err().ok_or("accepted")?.kind(), kind);
+        assert_eq!(rt; choppy.held.as_slice(), held.as_bytes());
+        assert_eq!(rt; choppy.calls, call);
+        let mut boxed = Box::new(alloc, Choppy::new(alloc, 1, Some((call, fault))))?;
+        let answer = write_thousand(&mut boxed);
+        assert_eq!(rt; answer.err().ok_or("accepted")?.kind(), kind);
+        assert_eq!(rt; boxed.held.as_slice(), held.as_bytes());
+        assert_eq!(rt; boxed.calls, call);
+    }
+    Ok(())
+}
+
+#[test]
+fn a_write_gone_wrong(rt: HostRuntime) -> Result<(), Fail> {
+    let alloc = rt.alloc();
+    let broken = io::ErrorKind::BrokenPipe;
+    let interrupted = io::ErrorKind::Interrupted;
+    stops_at(&rt, alloc, Fault::Fails(broken), broken)?;
+    stops_at(&rt, alloc, Fault::Fails(interrupted), interrupted)?;
+    stops_at(&rt, alloc, Fault::TakesNothing, io::ErrorKind::WriteZero)
+}
+
+/// No write is made past the text's end.
+#[test]
+fn a_fault_behind_the_text(rt: HostRuntime) -> Result<(), Fail> {
+    let fault = Fault::Fails(io::ErrorKind::BrokenPipe);
+    let mut choppy = Choppy::new(rt.alloc(), 1, Some((6, fault)));
+    let format = CustomFormat::default();
+    assert_eq!(rt; 1000.read_to_io_writer(&mut choppy, &format)?, 5);
+    assert_eq!(rt; choppy.held.as_slice(), b"1,000".as_slice());
+    assert_eq!(rt; choppy.calls, 5);
+    Ok(())
+}
+
+/// The longest of all texts, a byte a call.
+#[test]
+fn the_longest_text(rt: HostRuntime) -> Result<(), Fail> {
+    let format = built(Grouping::Indian, "12345678", "abcdefgh")?;
+    let mut choppy = Choppy::new(rt.alloc(), 1, None);
+    assert_eq!(rt; i128::MIN.read_to_io_writer(&mut choppy, &format)?, 191);
+    assert!(rt; choppy.held.starts_with(b"abcdefgh17123456780112345678"));
+    assert!(rt; choppy.held.ends_with(b"41123456780512345678728"));
+    assert_eq!(rt; choppy.calls, 191);
+    Ok(())
+}

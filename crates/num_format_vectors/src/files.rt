@@ -1,0 +1,23 @@
+//! A thousand into a file of the system.
+
+use crate::thousand::write_thousand;
+use std::fs;
+use std::fs::File;
+use std::test::Fail;
+
+const PATH: &str = "num_format_vectors_files.txt";
+
+/// What was written stands in the file, and a file that is open for reading alone takes nothing.
+#[test]
+fn written_and_read_back(rt: HostRuntime) -> Result<(), Fail> {
+    let mut file = File::create(&rt, PATH)?;
+    assert_eq!(rt; write_thousand(&mut file)?, 5);
+    assert_eq!(rt; write_thousand(&mut &file)?, 5);
+    assert_eq!(rt; write_thousand(&mut &mut file)?, 5);
+    let mut reading = File::open(&rt, PATH)?;
+    assert!(rt; write_thousand(&mut reading).is_err());
+    let text = fs::read_to_string(&rt, PATH)?;
+    fs::remove_file(&rt, PATH)?;
+    assert_eq!(rt; text.as_str(), "1,0001,0001,000");
+    Ok(())
+}

@@ -1,0 +1,59 @@
+//! Tests of the crates of the workspace against values from outside.
+//!
+//! What is proved is proved against definitions; these tests show that the definitions mean what
+//! the Rust crate num-format 0.4.4 does. Each expected text is a literal. Those of the module
+//! `five_formats` are the texts of the Rust crate's own tests: the ends of every integer type
+//! under five formats, with `_` in place of the separator. The others were worked out by hand from
+//! the rules of grouping.
+//!
+//! | Module | What is tested |
+//! |---|---|
+//! | `five_formats` | zero, the lowest and the highest value of each of the eighteen types |
+//! | `printing` | worked texts under many groupings, separators and minus signs |
+//! | `refusals` | the capacities of the six texts, and what a refusal prints |
+//! | `buffers` | a new buffer, one that is written twice, a copy, and a printed one |
+//! | `constants` | the name of each constant of `Locale` |
+//! | `locales` | names that are found and refused, and worked texts under locales |
+//! | `own_formats` | a format of a user's own, [`OwnFormat`] |
+//! | `every_way` | one text by every way of printing: the check that `five_formats` makes too |
+//! | `strings` | numbers into strings and formatters, and into a writer of text that fails |
+//! | `writers` | std's writers of bytes: vectors, cursors, buffers, the sink, standard output |
+//! | `slices` | slices of bytes, too short and long enough |
+//! | `faults` | writers of bytes that take a few bytes a call, that fail, and that take nothing |
+//! | `files` | a file of the system, written and read back |
+#![tactic(auto)]
+
+pub mod own_format;
+
+pub use own_format::OwnFormat;
+
+#[cfg(test)]
+mod buffers;
+#[cfg(test)]
+mod constants;
+#[cfg(test)]
+mod every_way;
+#[cfg(test)]
+mod faults;
+#[cfg(test)]
+mod files;
+#[cfg(test)]
+mod five_formats;
+#[cfg(test)]
+mod locales;
+#[cfg(test)]
+mod own_formats;
+#[cfg(test)]
+mod printing;
+#[cfg(test)]
+mod refusals;
+#[cfg(test)]
+mod slices;
+#[cfg(test)]
+mod strings;
+#[cfg(test)]
+mod texts;
+#[cfg(test)]
+mod thousand;
+#[cfg(test)]
+mod writers;

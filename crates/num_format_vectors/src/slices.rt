@@ -1,0 +1,47 @@
+//! A thousand into slices of bytes.
+
+use crate::thousand::write_thousand;
+use num_format::{CustomFormat, WriteFormatted};
+use std::io;
+use std::test::Fail;
+
+/// A slice too short is full, and what stands behind it in memory stays.
+#[test]
+fn too_short(rt: HostRuntime) -> Result<(), Fail> {
+    let rows = [
+        (0, b"xxxxx"),
+        (1, b"1xxxx"),
+        (2, b"1,xxx"),
+        (3, b"1,0xx"),
+        (4, b"1,00x"),
+    ];
+    for (len, wanted) in rows {
+        let mut bytes = [b'x'; 5];
+        let mut slice = bytes.get_mut(..len).ok_or("past the end")?;
+        let answer = write_thousand(&mut slice);
+        assert!(rt; slice.is_empty());
+        let kind = answer.err().ok_or("accepted")?.kind();
+        assert_eq!(rt; kind, io::ErrorKind::WriteZero);
+        assert_eq!(rt; bytes.as_slice(), wanted.as_slice());
+    }
+    Ok(())
+}
+
+/// A slice then names the room behind the text, which the next number takes.
+#[test]
+fn long_enough(rt: HostRuntime) -> Result<(), Fail> {
+    let format = CustomFormat::default();
+    let mut five = [b'x'; 5];
+    let mut slice = five.as_mut_slice();
+    assert_eq!(rt; write_thousand(&mut slice)?, 5);
+    assert!(rt; slice.is_empty());
+    assert_eq!(rt; five.as_slice(), b"1,000".as_slice());
+    let mut eight = [b'x'; 8];
+    let mut slice = eight.as_mut_slice();
+    assert_eq!(rt; write_thousand(&mut slice)?, 5);
+    assert_eq!(rt; slice.len(), 3);
+    assert_eq!(rt; slice.write_formatted(&-7, &format)?, 2);
+    assert_eq!(rt; slice.len(), 1);
+    assert_eq!(rt; eight.as_slice(), b"1,000-7x".as_slice());
+    Ok(())
+}

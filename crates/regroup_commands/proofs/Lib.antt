@@ -1,0 +1,6 @@
+mod LocaleLemmas
+mod MessageLemmas
+mod ReadingLemmas
+mod RequestLemmas
+mod TakingLemmas
+mod WorkedRows

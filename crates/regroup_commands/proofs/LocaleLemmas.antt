@@ -1,0 +1,42 @@
+-- Which locale a text names.
+use Rattle.std.proofs.Common.{◌≡◌, ℕ, ◌<◌, false, refl, List, [], Some, None, Result, Ok, Err, Decides, ap, arith}
+use Rattle.std.specs.Prelude.{IfOk}
+use Rattle.std.specs.List.{position_or_len}
+use Rattle.std.specs.Option.{ok_or, option_map}
+use Rattle.std.specs.Result.{result_map_both}
+use Rattle.std.proofs.lemmas.Bool.{cond_below, false_from_ne_true}
+use Rattle.std.proofs.lemmas.Bool.Decides.{Decides-or}
+use Rattle.std.proofs.lemmas.List.Sums.{position_or_len_is}
+use Rattle.std.proofs.lemmas.Slice.Eq.{bytes_eq-Decides}
+use Rattle.num_format_cldr.specs.declared.TheConstants.{LEN}
+use Rattle.num_format_cldr.specs.Table.{table_names}
+use Rattle.num_format_text.specs.declared.error.Error.{Error}
+use Rattle.num_format_text.specs.Cut.{cut_text}
+use Rattle.num_format_text.specs.Refusal.{ParseLocale, refusal_of}
+use Rattle.num_format_locale.specs.Data.{locale_data}
+use Rattle.num_format_locale.specs.Names.{LooksUp, Spells, name_of}
+use Rattle.num_format_locale.proofs.NameLemmas.{length-table_names}
+use Rattle.regroup_commands.specs.Reply.{is_spelling, locale_named}
+
+is_spelling-Decides : (text name : List ℕ) → Decides (is_spelling text name) (Spells text name)
+is_spelling-Decides text name = Decides-or _ _ (bytes_eq-Decides text name) (bytes_eq-Decides text _)
+
+same_place : (p q : ℕ) (r : Result ℕ Error) → r ≡ Ok p → r ≡ Ok q → p ≡ q
+same_place p q r first second = cc
+
+-- the definition is what `from_name` answers
+pub locale_named-from_LooksUp : (text : List ℕ) (r : Result ℕ Error) → LooksUp text r → IfOk r (λ place. place < LEN) →
+    result_map_both locale_data refusal_of r ≡ locale_named text
+locale_named-from_LooksUp text (Ok place) answered within =
+    let others : (k : ℕ) → k < place → is_spelling text (name_of k) ≡ false = λ k below. false_from_ne_true _
+    (λ passes. let same = same_place place k (Ok place) refl (answered.found k (omega arith) ((is_spelling-Decides text (name_of k)).0 passes)) in omega arith) in
+    let first : position_or_len (is_spelling text) table_names ≡ place =
+    position_or_len_is _ table_names place [] (omega (arith, length-table_names)) others
+    (λ _. (is_spelling-Decides text (name_of place)).1 answered.spelled) in
+    rw (first, length-table_names) (ap (λ o. ok_or (option_map locale_data o) (ParseLocale (cut_text text))) (cond_below place LEN (Some place) None within))
+locale_named-from_LooksUp text (Err error) answered within =
+    let first : position_or_len (is_spelling text) table_names ≡ LEN =
+    position_or_len_is _ table_names LEN [] (omega (arith, length-table_names))
+    (λ k below. false_from_ne_true _ (λ passes. answered.unspelled k below ((is_spelling-Decides text (name_of k)).0 passes)))
+    (λ below. absurd (omega (arith, length-table_names))) in
+    rw (first, length-table_names) (ap Err answered.refused)

@@ -1,0 +1,18 @@
+-- The request that a `Command` is.
+use Rattle.std.specs.Prelude.{ℕ, List, map}
+use Rattle.std.specs.Borrow.{Bor}
+use Rattle.regroup_commands.specs.Reply.{Request}
+use Rattle.regroup_commands.specs.Reply.Request.{Custom, Names, Print, Read}
+use Rattle.regroup_commands.specs.declared.command.Command.{Command}
+use Rattle.regroup_commands.specs.declared.command.Command.TheVariants as command
+
+-- the bytes of each word
+abbrev pub texts : List (Bor (List ℕ)) → List (List ℕ)
+texts words = map (λ word. word.now) words
+
+-- the same command, with the bytes of its texts
+abbrev pub request_of : Command → Request
+request_of (command.Custom separator grouping minus_sign number) = Custom separator.now grouping minus_sign.now number
+request_of (command.Print locale number) = Print locale.now number
+request_of command.Names = Names
+request_of (command.Read locale text) = Read locale.now text.now
