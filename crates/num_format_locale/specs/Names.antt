@@ -23,6 +23,7 @@ Spells text name = (text ≡ name) ⊎ (text ≡ map underscore_for_hyphen name)
 pub record LooksUp (text : List ℕ) (answer : Result ℕ Error) : Type 0 where
   -- whichever place has a name that the text spells is the answer
   pub found : (place : ℕ) → place < LEN → Spells text (name_of place) → answer ≡ Ok place
+  pub within : IfOk answer (λ place. place < LEN)
   pub spelled : IfOk answer (λ place. Spells text (name_of place))
   pub unspelled : OnErr answer ((place : ℕ) → place < LEN → ¬ Spells text (name_of place))
   -- a refusal keeps the text, cut

@@ -3,8 +3,8 @@
 //! What is proved is proved against definitions; these tests show that the definitions mean what
 //! the Rust crate num-format 0.4.4 does. Each expected text is a literal. Those of the module
 //! `five_formats` are the texts of the Rust crate's own tests: the ends of every integer type
-//! under five formats, with `_` in place of the separator. The others were worked out by hand from
-//! the rules of grouping.
+//! under five formats, with `_` in place of the separator. The names of `constants` are those of
+//! the crate's table. The others were worked out by hand from the rules of grouping and reading.
 //!
 //! | Module | What is tested |
 //! |---|---|
@@ -14,6 +14,7 @@
 //! | `buffers` | a new buffer, one that is written twice, a copy, and a printed one |
 //! | `constants` | the name of each constant of `Locale` |
 //! | `locales` | names that are found and refused, and worked texts under locales |
+//! | `reading` | texts that read as numbers, and texts that are refused |
 //! | `own_formats` | a format of a user's own, [`OwnFormat`] |
 //! | `every_way` | one text by every way of printing: the check that `five_formats` makes too |
 //! | `strings` | numbers into strings and formatters, and into a writer of text that fails |
@@ -45,6 +46,8 @@ mod locales;
 mod own_formats;
 #[cfg(test)]
 mod printing;
+#[cfg(test)]
+mod reading;
 #[cfg(test)]
 mod refusals;
 #[cfg(test)]

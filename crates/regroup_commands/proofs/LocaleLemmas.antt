@@ -1,6 +1,5 @@
 -- Which locale a text names.
 use Rattle.std.proofs.Common.{◌≡◌, ℕ, ◌<◌, false, refl, List, [], Some, None, Result, Ok, Err, Decides, ap, arith}
-use Rattle.std.specs.Prelude.{IfOk}
 use Rattle.std.specs.List.{position_or_len}
 use Rattle.std.specs.Option.{ok_or, option_map}
 use Rattle.std.specs.Result.{result_map_both}
@@ -25,16 +24,17 @@ same_place : (p q : ℕ) (r : Result ℕ Error) → r ≡ Ok p → r ≡ Ok q �
 same_place p q r first second = cc
 
 -- the definition is what `from_name` answers
-pub locale_named-from_LooksUp : (text : List ℕ) (r : Result ℕ Error) → LooksUp text r → IfOk r (λ place. place < LEN) →
+pub locale_named-from_LooksUp : (text : List ℕ) (r : Result ℕ Error) → LooksUp text r →
     result_map_both locale_data refusal_of r ≡ locale_named text
-locale_named-from_LooksUp text (Ok place) answered within =
+locale_named-from_LooksUp text (Ok place) answered =
+    let within : place < LEN = answered.within in
     let others : (k : ℕ) → k < place → is_spelling text (name_of k) ≡ false = λ k below. false_from_ne_true _
     (λ passes. let same = same_place place k (Ok place) refl (answered.found k (omega arith) ((is_spelling-Decides text (name_of k)).0 passes)) in omega arith) in
     let first : position_or_len (is_spelling text) table_names ≡ place =
     position_or_len_is _ table_names place [] (omega (arith, length-table_names)) others
     (λ _. (is_spelling-Decides text (name_of place)).1 answered.spelled) in
-    rw (first, length-table_names) (ap (λ o. ok_or (option_map locale_data o) (ParseLocale (cut_text text))) (cond_below place LEN (Some place) None within))
-locale_named-from_LooksUp text (Err error) answered within =
+    rw (first, length-table_names) (ap (λ o. ok_or (option_map locale_data o) (ParseLocale (cut_text text))) (cond_below place LEN (Some place) None answered.within))
+locale_named-from_LooksUp text (Err error) answered =
     let first : position_or_len (is_spelling text) table_names ≡ LEN =
     position_or_len_is _ table_names LEN [] (omega (arith, length-table_names))
     (λ k below. false_from_ne_true _ (λ passes. answered.unspelled k below ((is_spelling-Decides text (name_of k)).0 passes)))

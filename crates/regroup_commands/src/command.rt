@@ -189,10 +189,7 @@ fn custom_format(
 fn locale_named(name: &str) -> Result<Locale, Error>
     ensures { result_map_both locale_data refusal_of result ≡ locale_named name.now }
 {
-    let locale = Locale::from_name(name)?;
-    // What `name` ensures says that the locale's place is one of the table.
-    let _ = locale.name();
-    Ok(locale)
+    Locale::from_name(name)
 }
 
 /// The number that the text reads as under the locale, or the refusal of a text that is none.

@@ -18,6 +18,7 @@ returns-then-spells c =
     let spelled : Spells c.args.name.now (name_of c.loop-place.place) = subst (Spells c.args.name.now) here (c.spells.ensures.0 c.if-spells.true) in
     record {
       found = λ place within also. ap Ok (unique _ _ _ (omega (arith, c.available_names-each-items.ensures.count)) within spelled also);
+      within = omega (arith, c.available_names-each-items.ensures.count);
       spelled = spelled;
       unspelled = tt;
       refused = tt;
@@ -28,6 +29,7 @@ returns c =
     let none : (place : ℕ) → place < LEN → ¬ Spells c.args.name.now (name_of place) = λ place within. c.loop-place.invariant place (omega (arith, c.available_names-each-items.ensures.count)) in
     record {
       found = λ place within spelled. absurd (none place within spelled);
+      within = tt;
       spelled = tt;
       unspelled = none;
       refused = ap refusal_of c.from.ensures ∙ ap ParseLocale c.cut.ensures;
