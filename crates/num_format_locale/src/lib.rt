@@ -23,6 +23,3 @@ pub mod laws;
 pub mod locale;
 
 pub use locale::Locale;
-
-#[cfg(test)]
-mod tests;

@@ -1,123 +1,108 @@
 //! What `num_format` answers to a question, in the words of the data.
-ghost use Rattle.std.specs.Prelude.{◌≡◌, ◌≢◌, ◌++◌, IfOk, codes, string_bytes};
 
-use crate::row::{Question, RowError, RowFormat};
+use crate::row::{Question, RowFormat};
 use num_format::parsing::{FromFormattedStr, ParseFormatted};
-use num_format::{CustomFormat, Error, ErrorKind, Format, Locale};
-use std::alloc::{AllocError, Global};
+use num_format::{Buffer, CustomFormat, Error, ErrorKind, Format, Locale, ToFormattedStr};
+use std::alloc::Global;
 use std::fmt::Display;
 use std::num::{NonZeroU8, NonZeroU16, NonZeroU32, NonZeroU64, NonZeroU128, NonZeroUsize};
+use std::str::FromStr;
 
-/// The columns of the data of a locale.
-const LOCALE_COLUMNS: [&str; 9] = [
-    "place",
-    "name",
-    "decimal",
-    "grouping",
-    "infinity",
-    "minus sign",
-    "NaN",
-    "plus sign",
-    "separator",
-];
+/// What is asked of an integer type.
+#[derive(Clone, Copy)]
+enum Asked<'a> {
+    Print(&'a str),
+    Read(&'a str),
+}
 
 impl Question<'_> {
-    /// The columns of the answer, none where it is but one.
-    pub fn columns(&self) -> &'static [&'static str] {
+    /// What `num_format` answers. None where the question is none, or memory was refused.
+    pub fn answer(&self, alloc: Global) -> Option<String> {
         match self {
-            Question::Locale { .. } => &LOCALE_COLUMNS,
-            _ => &[],
-        }
-    }
-
-    /// What `num_format` answers, in the words of the data.
-    pub fn answer(&self, alloc: Global) -> Result<String, RowError> {
-        let answer = match self {
-            Question::Print { number, format } => {
-                let text = match format {
-                    RowFormat::Built(format) => number.printed(format),
-                    RowFormat::Named(locale) => number.printed(locale),
-                };
-                hex::encode(alloc, text.as_bytes())?
-            }
+            Question::Print {
+                type_name,
+                format,
+                decimal,
+            } => under(alloc, type_name, Asked::Print(decimal), format),
             Question::Read {
                 type_name,
                 format,
                 text,
-            } => match format {
-                RowFormat::Built(format) => read(alloc, type_name, text, format)?,
-                RowFormat::Named(locale) => read(alloc, type_name, text, locale)?,
-            },
+            } => under(alloc, type_name, Asked::Read(text), format),
             Question::Name { text } => agreed(
                 found(alloc, text, Locale::from_name(text))?,
-                &found(alloc, text, text.parse())?,
-            )?,
-            Question::Locale { name } => match Locale::from_name(name) {
-                Ok(locale) => data_of(alloc, locale)?,
-                Err(error) => refused(alloc, name, &error)?,
-            },
-        };
-        Ok(answer)
+                found(alloc, text, text.parse())?,
+            ),
+            Question::Locale { name } => data_of(alloc, Locale::from_name(name).ok()?),
+        }
     }
 }
 
 /// The answer of two ways to ask, or both answers where they differ.
-fn agreed(first: String, second: &str) -> Result<String, AllocError>
-    ensures same { string_bytes first ≡ second.now
-        → IfOk result (λ answer. string_bytes answer ≡ string_bytes first) }
-    ensures differ { string_bytes first ≢ second.now
-        → IfOk result (λ answer. string_bytes answer
-        ≡ string_bytes first ++ codes " and " ++ second.now) }
-{
+fn agreed(first: String, second: String) -> Option<String> {
     let mut answer = first;
-    if answer.as_str() != second {
-        answer.push_str(" and ")?;
-        answer.push_str(second)?;
+    if answer != second {
+        answer.push_str(" and ").ok()?;
+        answer.push_str(&second).ok()?;
     }
-    Ok(answer)
+    Some(answer)
 }
 
-/// The text read as a number of the type of that name.
-fn read<F: Format>(
+/// What the integer type of that name answers under the format.
+fn under(alloc: Global, type_name: &str, asked: Asked<'_>, format: &RowFormat) -> Option<String> {
+    match format {
+        RowFormat::Built(format) => of_type(alloc, type_name, asked, format),
+        RowFormat::Named(locale) => of_type(alloc, type_name, asked, locale),
+    }
+}
+
+fn of_type<F: Format>(
     alloc: Global,
     type_name: &str,
-    text: &str,
+    asked: Asked<'_>,
     format: &F,
-) -> Result<String, RowError> {
-    let answer = match type_name {
-        "u8" => read_as::<u8, F>(alloc, text, format),
-        "u16" => read_as::<u16, F>(alloc, text, format),
-        "u32" => read_as::<u32, F>(alloc, text, format),
-        "u64" => read_as::<u64, F>(alloc, text, format),
-        "u128" => read_as::<u128, F>(alloc, text, format),
-        "usize" => read_as::<usize, F>(alloc, text, format),
-        "i8" => read_as::<i8, F>(alloc, text, format),
-        "i16" => read_as::<i16, F>(alloc, text, format),
-        "i32" => read_as::<i32, F>(alloc, text, format),
-        "i64" => read_as::<i64, F>(alloc, text, format),
-        "i128" => read_as::<i128, F>(alloc, text, format),
-        "isize" => read_as::<isize, F>(alloc, text, format),
-        "NonZeroU8" => read_as::<NonZeroU8, F>(alloc, text, format),
-        "NonZeroU16" => read_as::<NonZeroU16, F>(alloc, text, format),
-        "NonZeroU32" => read_as::<NonZeroU32, F>(alloc, text, format),
-        "NonZeroU64" => read_as::<NonZeroU64, F>(alloc, text, format),
-        "NonZeroU128" => read_as::<NonZeroU128, F>(alloc, text, format),
-        "NonZeroUsize" => read_as::<NonZeroUsize, F>(alloc, text, format),
-        _ => return Err(RowError::UnknownType),
-    };
-    Ok(answer?)
+) -> Option<String> {
+    match type_name {
+        "u8" => answer_as::<u8, F>(alloc, asked, format),
+        "u16" => answer_as::<u16, F>(alloc, asked, format),
+        "u32" => answer_as::<u32, F>(alloc, asked, format),
+        "u64" => answer_as::<u64, F>(alloc, asked, format),
+        "u128" => answer_as::<u128, F>(alloc, asked, format),
+        "usize" => answer_as::<usize, F>(alloc, asked, format),
+        "i8" => answer_as::<i8, F>(alloc, asked, format),
+        "i16" => answer_as::<i16, F>(alloc, asked, format),
+        "i32" => answer_as::<i32, F>(alloc, asked, format),
+        "i64" => answer_as::<i64, F>(alloc, asked, format),
+        "i128" => answer_as::<i128, F>(alloc, asked, format),
+        "isize" => answer_as::<isize, F>(alloc, asked, format),
+        "NonZeroU8" => answer_as::<NonZeroU8, F>(alloc, asked, format),
+        "NonZeroU16" => answer_as::<NonZeroU16, F>(alloc, asked, format),
+        "NonZeroU32" => answer_as::<NonZeroU32, F>(alloc, asked, format),
+        "NonZeroU64" => answer_as::<NonZeroU64, F>(alloc, asked, format),
+        "NonZeroU128" => answer_as::<NonZeroU128, F>(alloc, asked, format),
+        "NonZeroUsize" => answer_as::<NonZeroUsize, F>(alloc, asked, format),
+        _ => None,
+    }
 }
 
-/// The text read as a number of the type.
-fn read_as<N: FromFormattedStr + Display + Drop, F: Format>(
-    alloc: Global,
-    text: &str,
-    format: &F,
-) -> Result<String, AllocError> {
-    agreed(
-        denoted::<N>(alloc, text, N::from_formatted_str(text, format))?,
-        &denoted::<N>(alloc, text, text.parse_formatted(format))?,
-    )
+fn answer_as<N, F>(alloc: Global, asked: Asked<'_>, format: &F) -> Option<String>
+where
+    N: ToFormattedStr + FromFormattedStr + FromStr + Display + Drop,
+    N::Err: Drop,
+    F: Format,
+{
+    match asked {
+        Asked::Print(decimal) => {
+            let number: N = decimal.parse().ok()?;
+            let mut buffer = Buffer::new();
+            buffer.write_formatted(&number, format);
+            hex::encode(alloc, buffer.as_bytes()).ok()
+        }
+        Asked::Read(text) => agreed(
+            denoted::<N>(alloc, text, N::from_formatted_str(text, format))?,
+            denoted::<N>(alloc, text, text.parse_formatted(format))?,
+        ),
+    }
 }
 
 /// What reading a text answered.
@@ -125,65 +110,67 @@ fn denoted<N: Display + Drop>(
     alloc: Global,
     text: &str,
     answer: Result<N, Error>,
-) -> Result<String, AllocError> {
+) -> Option<String> {
     match answer {
-        Ok(number) => format!(in alloc; "ok {number}"),
+        Ok(number) => format!(in alloc; "ok {number}").ok(),
         Err(error) => refused(alloc, text, &error),
     }
 }
 
 /// What looking up a text answered.
-fn found(alloc: Global, text: &str, answer: Result<Locale, Error>) -> Result<String, AllocError> {
+fn found(alloc: Global, text: &str, answer: Result<Locale, Error>) -> Option<String> {
     match answer {
-        Ok(locale) => format!(in alloc; "ok {}", place_of(locale)),
+        Ok(locale) => format!(in alloc; "ok {}", place_of(locale)?).ok(),
         Err(error) => refused(alloc, text, &error),
     }
 }
 
 /// The refusal of a text.
-fn refused(alloc: Global, text: &str, error: &Error) -> Result<String, AllocError> {
+fn refused(alloc: Global, text: &str, error: &Error) -> Option<String> {
     let (kind, kept) = match error.kind() {
         ErrorKind::ParseLocale(kept) => ("ParseLocale", kept),
         ErrorKind::ParseNumber(kept) => ("ParseNumber", kept),
-        _ => return format!(in alloc; "err {error}"),
+        _ => return None,
     };
     if kept.as_str() == text {
-        format!(in alloc; "err {kind} =")
-    } else {
-        format!(in alloc; "err {kind} {}", hex::encode(alloc, kept.as_str())?)
+        return format!(in alloc; "err {kind} =").ok();
     }
+    let kept = hex::encode(alloc, kept.as_str()).ok()?;
+    format!(in alloc; "err {kind} {kept}").ok()
 }
 
 /// How many names stand before that of the locale.
-fn place_of(locale: Locale) -> usize {
-    Locale::available_names()
-        .iter()
-        .take_while(|name| **name != locale.name())
-        .count()
+fn place_of(locale: Locale) -> Option<usize> {
+    let mut names = Locale::available_names().iter();
+    names.position(|name| *name == locale.name())
 }
 
 /// All that a locale answers, itself and as a [`CustomFormat`].
-fn data_of(alloc: Global, locale: Locale) -> Result<String, AllocError> {
+fn data_of(alloc: Global, locale: Locale) -> Option<String> {
     let format = CustomFormat::from(locale);
-    let texts = |of_locale: &str, of_format: &str| {
-        agreed(
-            hex::encode(alloc, of_locale)?,
-            &hex::encode(alloc, of_format)?,
-        )
-    };
+    let grouping = agreed(
+        format!(in alloc; "{:?}", locale.grouping()).ok()?,
+        format!(in alloc; "{:?}", format.grouping()).ok()?,
+    )?;
     format!(in alloc;
         "{}\t{}\t{}\t{}\t{}\t{}\t{}\t{}\t{}",
-        place_of(locale),
+        place_of(locale)?,
         locale.name(),
-        texts(locale.decimal(), format.decimal())?,
-        agreed(
-            format!(in alloc; "{:?}", locale.grouping())?,
-            &format!(in alloc; "{:?}", format.grouping())?,
-        )?,
-        texts(locale.infinity(), format.infinity())?,
-        texts(locale.minus_sign(), format.minus_sign())?,
-        texts(locale.nan(), format.nan())?,
-        texts(locale.plus_sign(), format.plus_sign())?,
-        texts(locale.separator(), format.separator())?,
+        both(alloc, locale.decimal(), format.decimal())?,
+        grouping,
+        both(alloc, locale.infinity(), format.infinity())?,
+        both(alloc, locale.minus_sign(), format.minus_sign())?,
+        both(alloc, locale.nan(), format.nan())?,
+        both(alloc, locale.plus_sign(), format.plus_sign())?,
+        both(alloc, locale.separator(), format.separator())?,
+    )
+    .ok()
+}
+
+/// The hexadecimal of a text that a locale answers and a [`CustomFormat`] has of it.
+fn both(alloc: Global, of_locale: &str, of_format: &str) -> Option<String> {
+    agreed(
+        hex::encode(alloc, of_locale).ok()?,
+        hex::encode(alloc, of_format).ok()?,
     )
 }

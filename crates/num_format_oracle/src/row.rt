@@ -12,7 +12,6 @@
 //!
 //! ```text
 //! custom:SEPARATOR:GROUPING:MINUS
-//! full:DECIMAL:GROUPING:INFINITY:MINUS:NAN:PLUS:SEPARATOR
 //! locale:NAME
 //! ```
 //!
@@ -42,37 +41,15 @@
 //!
 //! Where a question is asked in two ways whose answers differ, the answer is both, and so none that
 //! a row wants.
+//!
+//! ```text
+//! changed ROW
+//! ```
+//!
+//! is a row whose wanted answer was changed, so that it has to differ.
 
-use crate::number::Number;
-use hex::FromHexError;
 use num_format::{CustomFormat, Grouping, Locale};
-use std::alloc::{AllocError, Global};
-use std::num::ParseIntError;
-use std::string::FromUtf8Error;
-use thiserror::Error;
-
-/// Why a line is no row.
-#[derive(Debug, Drop, Error)]
-pub enum RowError {
-    #[error("no row of a known kind with its fields")]
-    UnknownRow,
-    #[error("no known integer type")]
-    UnknownType,
-    #[error("no known grouping")]
-    UnknownGrouping,
-    #[error("no format of a known kind with its fields")]
-    UnknownFormat,
-    #[error("no number of the type: {0}")]
-    Number(#[from] ParseIntError),
-    #[error("a text that is not in hexadecimal: {0}")]
-    Hexadecimal(#[from] FromHexError),
-    #[error("a text that is not UTF-8")]
-    Utf8,
-    #[error("a refused format: {0}")]
-    Refused(#[from] num_format::Error),
-    #[error(transparent)]
-    Memory(#[from] AllocError),
-}
+use std::alloc::Global;
 
 /// A format that a row names.
 #[derive(Drop)]
@@ -85,8 +62,9 @@ pub enum RowFormat {
 #[derive(Drop)]
 pub enum Question<'a> {
     Print {
-        number: Number,
+        type_name: &'a str,
         format: RowFormat,
+        decimal: &'a str,
     },
     Read {
         type_name: &'a str,
@@ -106,102 +84,87 @@ pub enum Question<'a> {
 pub struct Row<'a> {
     pub question: Question<'a>,
     pub wanted: &'a str,
+    pub is_changed: bool,
 }
 
 impl<'a> Row<'a> {
     /// The row that a line is.
-    pub fn parse(alloc: Global, line: &'a str) -> Result<Row<'a>, RowError> {
-        let fields: Vec<&str> = line.split('\t').collect(alloc)?;
-        match fields.as_slice() {
-            ["print", type_name, format, number, wanted] => {
-                hex::decode(alloc, *wanted)?;
-                let number = Number::parse(type_name, number)?;
+    pub fn parse(alloc: Global, line: &'a str) -> Option<Row<'a>> {
+        let (line, is_changed) = match line.strip_prefix("changed\t") {
+            Some(row) => (row, true),
+            None => (line, false),
+        };
+        let fields: Vec<&str> = line.split('\t').collect(alloc).ok()?;
+        let (question, wanted) = match fields.as_slice() {
+            ["print", type_name, format, decimal, wanted] => {
                 let format = RowFormat::parse(alloc, format)?;
-                Ok(Row {
-                    question: Question::Print { number, format },
-                    wanted,
-                })
+                (
+                    Question::Print {
+                        type_name,
+                        format,
+                        decimal,
+                    },
+                    *wanted,
+                )
             }
             ["read", type_name, format, read, wanted] => {
                 let format = RowFormat::parse(alloc, format)?;
                 let text = text(alloc, read)?;
-                Ok(Row {
-                    question: Question::Read {
+                (
+                    Question::Read {
                         type_name,
                         format,
                         text,
                     },
-                    wanted,
-                })
+                    *wanted,
+                )
             }
             ["names", name, wanted] => {
                 let text = text(alloc, name)?;
-                Ok(Row {
-                    question: Question::Name { text },
-                    wanted,
-                })
+                (Question::Name { text }, *wanted)
             }
-            ["locale", _, name, _, _, _, _, _, _, _] => Ok(Row {
-                question: Question::Locale { name },
-                wanted: line.strip_prefix("locale\t").ok_or(RowError::UnknownRow)?,
-            }),
-            _ => Err(RowError::UnknownRow),
-        }
+            ["locale", _, name, _, _, _, _, _, _, _] => {
+                (Question::Locale { name }, line.strip_prefix("locale\t")?)
+            }
+            _ => return None,
+        };
+        Some(Row {
+            question,
+            wanted,
+            is_changed,
+        })
     }
 }
 
 impl RowFormat {
     /// The format that the words say.
-    fn parse(alloc: Global, words: &str) -> Result<RowFormat, RowError> {
-        let words: Vec<&str> = words.split(':').collect(alloc)?;
+    fn parse(alloc: Global, words: &str) -> Option<RowFormat> {
+        let words: Vec<&str> = words.split(':').collect(alloc).ok()?;
         match words.as_slice() {
-            ["locale", name] => Ok(RowFormat::Named(Locale::from_name(name)?)),
+            ["locale", name] => Some(RowFormat::Named(Locale::from_name(name).ok()?)),
             ["custom", separator, grouping, minus_sign] => {
-                let format = CustomFormat::builder()
+                let builder = CustomFormat::builder()
                     .grouping(grouping_of(grouping)?)
                     .minus_sign(&text(alloc, minus_sign)?)
-                    .separator(&text(alloc, separator)?)
-                    .build()?;
-                Ok(RowFormat::Built(format))
+                    .separator(&text(alloc, separator)?);
+                Some(RowFormat::Built(builder.build().ok()?))
             }
-            [
-                "full",
-                decimal,
-                grouping,
-                infinity,
-                minus_sign,
-                nan,
-                plus_sign,
-                separator,
-            ] => {
-                let format = CustomFormat::builder()
-                    .decimal(&text(alloc, decimal)?)
-                    .grouping(grouping_of(grouping)?)
-                    .infinity(&text(alloc, infinity)?)
-                    .minus_sign(&text(alloc, minus_sign)?)
-                    .nan(&text(alloc, nan)?)
-                    .plus_sign(&text(alloc, plus_sign)?)
-                    .separator(&text(alloc, separator)?)
-                    .build()?;
-                Ok(RowFormat::Built(format))
-            }
-            _ => Err(RowError::UnknownFormat),
+            _ => None,
         }
     }
 }
 
 /// The grouping of that name.
-fn grouping_of(name: &str) -> Result<Grouping, RowError> {
+fn grouping_of(name: &str) -> Option<Grouping> {
     match name {
-        "Standard" => Ok(Grouping::Standard),
-        "Indian" => Ok(Grouping::Indian),
-        "Posix" => Ok(Grouping::Posix),
-        _ => Err(RowError::UnknownGrouping),
+        "Standard" => Some(Grouping::Standard),
+        "Indian" => Some(Grouping::Indian),
+        "Posix" => Some(Grouping::Posix),
+        _ => None,
     }
 }
 
 /// The text whose UTF-8 is given in hexadecimal.
-fn text(alloc: Global, hexadecimal: &str) -> Result<String, RowError> {
-    let bytes = hex::decode(alloc, hexadecimal)?;
-    String::from_utf8(bytes).map_err(|_| RowError::Utf8)
+fn text(alloc: Global, hexadecimal: &str) -> Option<String> {
+    String::from_utf8(hex::decode(alloc, hexadecimal).ok()?).ok()
 }

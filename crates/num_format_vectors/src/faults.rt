@@ -1,5 +1,6 @@
 //! A thousand into writers of bytes that take little, and into writers that fail.
 
+use crate::choppy::{Choppy, Fault};
 use crate::texts::built;
 use crate::thousand::write_thousand;
 use num_format::{CustomFormat, Grouping, ToFormattedString};
@@ -7,53 +8,6 @@ use std::alloc::Global;
 use std::io;
 use std::process::Abort;
 use std::test::Fail;
-
-/// What a write that goes wrong does.
-#[derive(Clone, Copy)]
-enum Fault {
-    Fails(io::ErrorKind),
-    TakesNothing,
-}
-
-/// A writer that takes a few bytes a call. At most one call goes wrong, and the next takes bytes
-/// again.
-#[derive(Drop)]
-struct Choppy {
-    held: Vec<u8>,
-    most: usize,
-    fault: Option<(usize, Fault)>,
-    calls: usize,
-}
-
-impl Choppy {
-    fn new(alloc: Global, most: usize, fault: Option<(usize, Fault)>) -> Choppy {
-        Choppy {
-            held: Vec::new(alloc),
-            most,
-            fault,
-            calls: 0,
-        }
-    }
-}
-
-impl io::Write for Choppy {
-    fn write(&mut self, bytes: &[u8]) -> io::Result<usize> {
-        self.calls = self.calls.saturating_add(1);
-        match self.fault {
-            Some((call, Fault::Fails(kind))) if call == self.calls => Err(io::Error::from(kind)),
-            Some((call, Fault::TakesNothing)) if call == self.calls => Ok(0),
-            _ => {
-                let count = bytes.len().min(self.most);
-                self.held.extend_from_slice(&bytes[..count])?;
-                Ok(count)
-            }
-        }
-    }
-
-    fn flush(&mut self) -> io::Result<()> {
-        Ok(())
-    }
-}
 
 /// The whole text is taken, in as many writes as it needs.
 #[test]

@@ -22,6 +22,7 @@
 //! | `slices` | slices of bytes, too short and long enough |
 //! | `faults` | writers of bytes that take a few bytes a call, that fail, and that take nothing |
 //! | `files` | a file of the system, written and read back |
+//! | `program` | command lines of the program `regroup`, and writers that fail in mid-reply |
 #![tactic(auto)]
 
 pub mod own_format;
@@ -30,6 +31,8 @@ pub use own_format::OwnFormat;
 
 #[cfg(test)]
 mod buffers;
+#[cfg(test)]
+mod choppy;
 #[cfg(test)]
 mod constants;
 #[cfg(test)]
@@ -46,6 +49,8 @@ mod locales;
 mod own_formats;
 #[cfg(test)]
 mod printing;
+#[cfg(test)]
+mod program;
 #[cfg(test)]
 mod reading;
 #[cfg(test)]

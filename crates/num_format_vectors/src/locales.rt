@@ -1,4 +1,5 @@
 //! Locales: what finds them, what is refused, and worked texts of numbers under them.
+ghost use Rattle.std.specs.Prelude.{◌≡◌};
 
 use crate::texts::printed;
 use num_format::utils::SeparatorStr;
@@ -42,6 +43,34 @@ fn names(rt: HostRuntime) {
     assert_eq!(rt; names.len(), 542);
     assert_eq!(rt; names.first(), Some(&"af"));
     assert_eq!(rt; names.last(), Some(&"zu"));
+}
+
+/// The name of a locale leads back to it: proved, as for any caller, from the contracts alone.
+fn found_by_its_name(locale: Locale) -> Result<Locale, Error>
+    ensures { result ≡ Ok locale }
+{
+    Locale::from_name(locale.name())
+}
+
+#[test]
+fn a_name_leads_back(rt: HostRuntime) {
+    assert_eq!(rt; found_by_its_name(Locale::as_), Ok(Locale::as_));
+}
+
+#[test]
+fn constants_are_patterns(rt: HostRuntime) {
+    let is_german = match Locale::de_AT {
+        Locale::de | Locale::de_AT => true,
+        _ => false,
+    };
+    assert!(rt; is_german);
+}
+
+#[test]
+fn debug_shows_the_name(rt: HostRuntime) -> Result<(), Fail> {
+    let shown = format!(in rt.alloc(); "{:?}", Locale::en_IN)?;
+    assert_eq!(rt; shown.as_str(), "en-IN");
+    Ok(())
 }
 
 #[test]

@@ -22,11 +22,11 @@ fn first(text: &str, len: usize) -> &str {
     text.get(..len).unwrap_or(text)
 }
 
-/// What a refusal prints, or `accepted` where there is none.
+/// What a refusal prints, whatever width is asked, or `accepted` where there is none.
 fn told(alloc: Global, refusal: Option<Error>) -> Result<String, AllocError> {
     match refusal {
         None => String::from_str(alloc, "accepted"),
-        Some(error) => error.to_string(alloc),
+        Some(error) => format!(in alloc; "{error:>100}"),
     }
 }
 

@@ -86,6 +86,3 @@ fn reply<O: Write, E: Write>(args: &[&str], out: &mut O, err: &mut E) -> io::Res
         }
     }
 }
-
-#[cfg(test)]
-mod tests;
