@@ -78,9 +78,13 @@ impl_number! {
     u32 |n| n;
     u64 |n| n;
     u128 |n| n;
+    usize |n| n;
+    i8 |n| -n;
+    i16 |n| -n;
     i32 |n| -n;
     i64 |n| -n;
     i128 |n| -n;
+    isize |n| -n;
 }
 
 /// The text of a number as people write it, from its definition: a separator after each digit
@@ -196,11 +200,15 @@ fn measure<N: Number>(lengths: &[u32]) {
 fn main() {
     println!("job    format  type   digits   Rattle  original  ratio   (ns a number)");
     measure::<u8>(&[1, 2, 3]);
-    measure::<u16>(&[1, 3, 5]);
-    measure::<u32>(&[1, 4, 7, 10]);
-    measure::<u64>(&[1, 13, 20]);
-    measure::<u128>(&[1, 20, 39]);
-    measure::<i32>(&[1, 4, 7, 10]);
-    measure::<i64>(&[1, 7, 19]);
-    measure::<i128>(&[20, 38, 39]);
+    measure::<u16>(&[1, 2, 3, 4, 5]);
+    measure::<u32>(&[1, 2, 3, 4, 5, 6, 7, 8, 9, 10]);
+    measure::<u64>(&[1, 4, 7, 10, 13, 16, 19, 20]);
+    measure::<u128>(&[1, 7, 13, 19, 20, 25, 31, 38, 39]);
+    measure::<usize>(&[1, 7, 13, 19, 20]);
+    measure::<i8>(&[1, 2, 3]);
+    measure::<i16>(&[1, 2, 3, 4, 5]);
+    measure::<i32>(&[1, 2, 3, 4, 5, 6, 7, 8, 9, 10]);
+    measure::<i64>(&[1, 4, 7, 10, 13, 16, 19]);
+    measure::<i128>(&[1, 7, 13, 19, 20, 25, 31, 38, 39]);
+    measure::<isize>(&[1, 7, 13, 19]);
 }

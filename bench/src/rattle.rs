@@ -38,9 +38,13 @@ impl_number! {
     u32 rattle_read_u32 rattle_print_u32;
     u64 rattle_read_u64 rattle_print_u64;
     u128 rattle_read_u128 rattle_print_u128;
+    usize rattle_read_usize rattle_print_usize;
+    i8 rattle_read_i8 rattle_print_i8;
+    i16 rattle_read_i16 rattle_print_i16;
     i32 rattle_read_i32 rattle_print_i32;
     i64 rattle_read_i64 rattle_print_i64;
     i128 rattle_read_i128 rattle_print_i128;
+    isize rattle_read_isize rattle_print_isize;
 }
 
 /// Reads texts of one length, which stand one behind another, and answers whether each was read.

@@ -208,6 +208,57 @@ pub extern "C" fn rattle_print_u128(numbers: &[Halves], is_built: bool) -> u64 {
     print::<u128, Halves>(numbers, is_built)
 }
 
+/// Reads texts as `usize`.
+#[unsafe(no_mangle)]
+pub extern "C" fn rattle_read_usize(
+    bytes: &[u8],
+    length: usize,
+    is_built: bool,
+    numbers: &mut [usize],
+) -> bool {
+    read::<usize, usize>(bytes, length, is_built, numbers)
+}
+
+/// Prints numbers of `usize`.
+#[unsafe(no_mangle)]
+pub extern "C" fn rattle_print_usize(numbers: &[usize], is_built: bool) -> u64 {
+    print::<usize, usize>(numbers, is_built)
+}
+
+/// Reads texts as `i8`.
+#[unsafe(no_mangle)]
+pub extern "C" fn rattle_read_i8(
+    bytes: &[u8],
+    length: usize,
+    is_built: bool,
+    numbers: &mut [i8],
+) -> bool {
+    read::<i8, i8>(bytes, length, is_built, numbers)
+}
+
+/// Prints numbers of `i8`.
+#[unsafe(no_mangle)]
+pub extern "C" fn rattle_print_i8(numbers: &[i8], is_built: bool) -> u64 {
+    print::<i8, i8>(numbers, is_built)
+}
+
+/// Reads texts as `i16`.
+#[unsafe(no_mangle)]
+pub extern "C" fn rattle_read_i16(
+    bytes: &[u8],
+    length: usize,
+    is_built: bool,
+    numbers: &mut [i16],
+) -> bool {
+    read::<i16, i16>(bytes, length, is_built, numbers)
+}
+
+/// Prints numbers of `i16`.
+#[unsafe(no_mangle)]
+pub extern "C" fn rattle_print_i16(numbers: &[i16], is_built: bool) -> u64 {
+    print::<i16, i16>(numbers, is_built)
+}
+
 /// Reads texts as `i32`.
 #[unsafe(no_mangle)]
 pub extern "C" fn rattle_read_i32(
@@ -257,4 +308,21 @@ pub extern "C" fn rattle_read_i128(
 #[unsafe(no_mangle)]
 pub extern "C" fn rattle_print_i128(numbers: &[Halves], is_built: bool) -> u64 {
     print::<i128, Halves>(numbers, is_built)
+}
+
+/// Reads texts as `isize`.
+#[unsafe(no_mangle)]
+pub extern "C" fn rattle_read_isize(
+    bytes: &[u8],
+    length: usize,
+    is_built: bool,
+    numbers: &mut [isize],
+) -> bool {
+    read::<isize, isize>(bytes, length, is_built, numbers)
+}
+
+/// Prints numbers of `isize`.
+#[unsafe(no_mangle)]
+pub extern "C" fn rattle_print_isize(numbers: &[isize], is_built: bool) -> u64 {
+    print::<isize, isize>(numbers, is_built)
 }

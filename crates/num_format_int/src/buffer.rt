@@ -102,8 +102,21 @@ impl Buffer {
         ensures { self.new ≡ self.old ++ text.now }
     {
         let end = self.end + text.len();
-        self.inner[self.end..end].copy_from_slice(text.as_bytes());
+        copy_bytes(text.as_bytes(), &mut self.inner[self.end..end]);
         self.end = end;
+    }
+}
+
+/// Writes the bytes over as many others.
+fn copy_bytes(bytes: &[u8], target: &mut [u8])
+    requires { length target.old ≡ length bytes.now }
+    ensures { target.new ≡ bytes.now }
+{
+    // A digit is one byte, and a copy of any length would be a call for each.
+    if let [byte] = bytes {
+        target[0] = *byte;
+    } else {
+        target.copy_from_slice(bytes);
     }
 }
 

@@ -9,11 +9,11 @@ invariant_of-self c =
     let end = c.self.inside.end in
     let inner = c.self.inside.inner in
     let long : length inner ≡ 191 = c.self.told in
-    let written : c.copy_from_slice.new.self ≡ c.args.text.now = c.copy_from_slice.ensures.after ∙ c.as_bytes.ensures.value in
-    let same_length : length c.copy_from_slice.new.self ≡ length c.args.text.now = ap length written in
+    let written : c.copy_bytes.new.target ≡ c.args.text.now = c.copy_bytes.ensures ∙ c.as_bytes.ensures.value in
+    let same_length : length c.copy_bytes.new.target ≡ length c.args.text.now = ap length written in
     let room : end + length c.args.text.now ≤ 191 = search rules in (
       room,
       search (rules, overwrites),
-      zeros_after inner c.copy_from_slice.new.self end _ long same_length room c.self.invariant.2,
-      ∣ rw (text_after inner c.copy_from_slice.new.self end _ long same_length room, written) (IsUtf8-append _ _ (IsUtf8-had _ c.self.invariant.3) c.utf8.text) ∣₁,
+      zeros_after inner c.copy_bytes.new.target end _ long same_length room c.self.invariant.2,
+      ∣ rw (text_after inner c.copy_bytes.new.target end _ long same_length room, written) (IsUtf8-append _ _ (IsUtf8-had _ c.self.invariant.3) c.utf8.text) ∣₁,
     )
