@@ -1,5 +1,5 @@
 #!/usr/bin/env python3
-"""Writes the test of the constants of `Locale`, crates/num_format_vectors/src/constants.rt.
+"""Writes the tests of the constants of `Locale`, crates/num_format_vectors/src/constants.rt.
 
     python3 tools/expected_locales.py TABLE
 
@@ -16,7 +16,7 @@ CRATE = Path(__file__).resolve().parent.parent / "crates" / "num_format_vectors"
 TESTS = CRATE / "src" / "constants.rt"
 
 # More constants in one function take longer to check.
-CONSTANTS_IN_A_FUNCTION = 16
+CONSTANTS_IN_A_TEST = 16
 
 
 @dataclass
@@ -98,51 +98,38 @@ def constant(name):
     return "as_" if name == "as" else name.replace("-", "_")
 
 
-def piece_name(names):
-    """The function of some constants."""
+def test_source(names):
+    """The test of some constants."""
     first, last = (constant(name).lower().strip("_") for name in (names[0], names[-1]))
-    return f"from_{first}_to_{last}"
-
-
-def piece_source(names):
-    """The function of some constants: the name of the one that a locale is."""
-    arms = "".join(f'        Locale::{constant(name)} => "{name}",\n' for name in names)
+    lines = "".join(f'        (Locale::{constant(name)}, "{name}"),\n' for name in names)
     return f"""
+#[test]
 #[rattlefmt::skip]
-fn {piece_name(names)}(locale: Locale) -> Option<&'static str> {{
-    Some(match locale {{
-{arms}        _ => return None,
-    }})
+fn from_{first}_to_{last}(rt: HostRuntime) {{
+    assert_names(&rt, &[
+{lines}    ]);
 }}
 """
 
 
 def tests_source(names):
-    """The module of the test of all constants."""
-    count = CONSTANTS_IN_A_FUNCTION
-    pieces = [names[start : start + count] for start in range(0, len(names), count)]
-    alternatives = "".join(f"\n        .or({piece_name(piece)}(locale))" for piece in pieces[1:])
+    """The module of the tests of all constants."""
+    count = CONSTANTS_IN_A_TEST
+    tests = (test_source(names[start : start + count]) for start in range(0, len(names), count))
     return f"""\
 //! Each constant of `Locale` and its name. Written by tools/expected_locales.py; do not edit.
 //!
 //! The names are those of the table of locales as written down from the Rust crate's CLDR data.
 
-use num_format::{{Error, Locale}};
+use num_format::Locale;
+use std::process::Abort;
 
-/// The name of the constant that the locale is, as the table has it.
-fn constant_name(locale: Locale) -> Option<&'static str> {{
-    {piece_name(pieces[0])}(locale){alternatives}
-}}
-
-#[test]
-fn constants_have_their_names(rt: HostRuntime) -> Result<(), Error> {{
-    for name in Locale::available_names() {{
-        let locale = Locale::from_name(name)?;
-        assert_eq!(rt; constant_name(locale), Some(*name));
+fn assert_names(rt: &impl Abort, constants: &[(Locale, &str)]) {{
+    for (locale, name) in constants.iter() {{
+        assert_eq!(rt; locale.name(), *name);
     }}
-    Ok(())
 }}
-{"".join(map(piece_source, pieces))}"""
+{"".join(tests)}"""
 
 
 if __name__ == "__main__":
