@@ -3,11 +3,6 @@
 use num_format::parsing::FromFormattedStr;
 use num_format::{Buffer, CustomFormat, Error, Format, Grouping, Locale, ToFormattedStr};
 
-/// A number that the original reads and prints.
-pub trait Number: FromFormattedStr + ToFormattedStr + Copy {}
-
-impl<N: FromFormattedStr + ToFormattedStr + Copy> Number for N {}
-
 /// Groups of Indian length between narrow no-break spaces.
 fn narrow_spaces() -> Result<CustomFormat, Error> {
     CustomFormat::builder()
@@ -16,11 +11,11 @@ fn narrow_spaces() -> Result<CustomFormat, Error> {
         .build()
 }
 
-fn read_each<N: Number, F: Format>(
+fn read_each<N: FromFormattedStr, F: Format, S: From<N>>(
     bytes: &[u8],
     length: usize,
     format: &F,
-    numbers: &mut [N],
+    numbers: &mut [S],
 ) -> bool {
     let Ok(mut left) = str::from_utf8(bytes) else {
         return false;
@@ -32,7 +27,7 @@ fn read_each<N: Number, F: Format>(
         let Ok(read) = N::from_formatted_str(text, format) else {
             return false;
         };
-        *number = read;
+        *number = S::from(read);
         left = rest;
     }
     true
@@ -40,17 +35,22 @@ fn read_each<N: Number, F: Format>(
 
 /// Reads texts of one length, which stand one behind another, and answers whether each was read.
 #[inline(never)]
-pub fn read<N: Number>(bytes: &[u8], length: usize, is_built: bool, numbers: &mut [N]) -> bool {
+pub fn read<N: FromFormattedStr, S: From<N>>(
+    bytes: &[u8],
+    length: usize,
+    is_built: bool,
+    numbers: &mut [S],
+) -> bool {
     if !is_built {
-        return read_each(bytes, length, &Locale::en, numbers);
+        return read_each::<N, Locale, S>(bytes, length, &Locale::en, numbers);
     }
     match narrow_spaces() {
-        Ok(format) => read_each(bytes, length, &format, numbers),
+        Ok(format) => read_each::<N, CustomFormat, S>(bytes, length, &format, numbers),
         Err(_) => false,
     }
 }
 
-fn print_each<N: Number, F: Format>(numbers: &[N], format: &F) -> u64 {
+fn print_each<N: ToFormattedStr, F: Format>(numbers: &[N], format: &F) -> u64 {
     let mut buffer = Buffer::new();
     let mut sum = 0u64;
     for number in numbers {
@@ -66,7 +66,7 @@ fn print_each<N: Number, F: Format>(numbers: &[N], format: &F) -> u64 {
 
 /// Prints numbers, and answers a sum over the length and the first byte of each text.
 #[inline(never)]
-pub fn print<N: Number>(numbers: &[N], is_built: bool) -> u64 {
+pub fn print<N: ToFormattedStr>(numbers: &[N], is_built: bool) -> u64 {
     if !is_built {
         return print_each(numbers, &Locale::en);
     }

@@ -8,6 +8,7 @@
 
 use num_format::parsing::FromFormattedStr;
 use num_format::{Buffer, CustomFormat, Error, Format, Grouping, Locale, ToFormattedStr};
+use std::num::{NonZeroU8, NonZeroU16, NonZeroU32, NonZeroU64, NonZeroU128, NonZeroUsize};
 
 /// A number of 128 bits, as it lies in memory where the low half comes first.
 #[repr(C)]
@@ -44,6 +45,12 @@ impl From<i128> for Halves {
 impl From<Halves> for i128 {
     fn from(halves: Halves) -> i128 {
         u128::from(halves).cast_signed()
+    }
+}
+
+impl From<NonZeroU128> for Halves {
+    fn from(n: NonZeroU128) -> Halves {
+        Halves::from(n.get())
     }
 }
 
@@ -325,4 +332,70 @@ pub extern "C" fn rattle_read_isize(
 #[unsafe(no_mangle)]
 pub extern "C" fn rattle_print_isize(numbers: &[isize], is_built: bool) -> u64 {
     print::<isize, isize>(numbers, is_built)
+}
+
+/// Reads texts as `NonZeroU8`.
+#[unsafe(no_mangle)]
+pub extern "C" fn rattle_read_nonzero_u8(
+    bytes: &[u8],
+    length: usize,
+    is_built: bool,
+    numbers: &mut [u8],
+) -> bool {
+    read::<NonZeroU8, u8>(bytes, length, is_built, numbers)
+}
+
+/// Reads texts as `NonZeroU16`.
+#[unsafe(no_mangle)]
+pub extern "C" fn rattle_read_nonzero_u16(
+    bytes: &[u8],
+    length: usize,
+    is_built: bool,
+    numbers: &mut [u16],
+) -> bool {
+    read::<NonZeroU16, u16>(bytes, length, is_built, numbers)
+}
+
+/// Reads texts as `NonZeroU32`.
+#[unsafe(no_mangle)]
+pub extern "C" fn rattle_read_nonzero_u32(
+    bytes: &[u8],
+    length: usize,
+    is_built: bool,
+    numbers: &mut [u32],
+) -> bool {
+    read::<NonZeroU32, u32>(bytes, length, is_built, numbers)
+}
+
+/// Reads texts as `NonZeroU64`.
+#[unsafe(no_mangle)]
+pub extern "C" fn rattle_read_nonzero_u64(
+    bytes: &[u8],
+    length: usize,
+    is_built: bool,
+    numbers: &mut [u64],
+) -> bool {
+    read::<NonZeroU64, u64>(bytes, length, is_built, numbers)
+}
+
+/// Reads texts as `NonZeroU128`.
+#[unsafe(no_mangle)]
+pub extern "C" fn rattle_read_nonzero_u128(
+    bytes: &[u8],
+    length: usize,
+    is_built: bool,
+    numbers: &mut [Halves],
+) -> bool {
+    read::<NonZeroU128, Halves>(bytes, length, is_built, numbers)
+}
+
+/// Reads texts as `NonZeroUsize`.
+#[unsafe(no_mangle)]
+pub extern "C" fn rattle_read_nonzero_usize(
+    bytes: &[u8],
+    length: usize,
+    is_built: bool,
+    numbers: &mut [usize],
+) -> bool {
+    read::<NonZeroUsize, usize>(bytes, length, is_built, numbers)
 }
