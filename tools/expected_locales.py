@@ -1,5 +1,5 @@
 #!/usr/bin/env python3
-"""Writes the tests of the constants of `Locale`, crates/num_format_vectors/src/constants.rt.
+"""Writes the test of the constants of `Locale`, crates/num_format_vectors/src/constants.rt.
 
     python3 tools/expected_locales.py TABLE
 
@@ -16,7 +16,7 @@ CRATE = Path(__file__).resolve().parent.parent / "crates" / "num_format_vectors"
 TESTS = CRATE / "src" / "constants.rt"
 
 # More constants in one function take longer to check.
-CONSTANTS_IN_A_TEST = 16
+CONSTANTS_IN_A_FUNCTION = 64
 
 
 @dataclass
@@ -98,38 +98,53 @@ def constant(name):
     return "as_" if name == "as" else name.replace("-", "_")
 
 
-def test_source(names):
-    """The test of some constants."""
+def function_name(names):
+    """The name of the function that knows these constants."""
     first, last = (constant(name).lower().strip("_") for name in (names[0], names[-1]))
-    lines = "".join(f'        (Locale::{constant(name)}, "{name}"),\n' for name in names)
+    return f"from_{first}_to_{last}"
+
+
+def function_source(names):
+    """The function that knows the names of some constants."""
+    arms = "".join(f'        Locale::{constant(name)} => "{name}",\n' for name in names)
     return f"""
-#[test]
 #[rattlefmt::skip]
-fn from_{first}_to_{last}(rt: HostRuntime) {{
-    assert_names(&rt, &[
-{lines}    ]);
+fn {function_name(names)}(locale: Locale) -> Option<&'static str> {{
+    Some(match locale {{
+{arms}        _ => return None,
+    }})
 }}
 """
 
 
 def tests_source(names):
-    """The module of the tests of all constants."""
-    count = CONSTANTS_IN_A_TEST
-    tests = (test_source(names[start : start + count]) for start in range(0, len(names), count))
+    """The module of the test of all constants."""
+    count = CONSTANTS_IN_A_FUNCTION
+    parts = [names[start : start + count] for start in range(0, len(names), count)]
+    first, *others = map(function_name, parts)
+    calls = "".join(f"        .or({name}(locale))\n" for name in others)
     return f"""\
 //! Each constant of `Locale` and its name. Written by tools/expected_locales.py; do not edit.
 //!
 //! The names are those of the table of locales as written down from the Rust crate's CLDR data.
 
 use num_format::Locale;
-use std::process::Abort;
+use std::test::Fail;
 
-fn assert_names(rt: &impl Abort, constants: &[(Locale, &str)]) {{
-    for (locale, name) in constants.iter() {{
-        assert_eq!(rt; locale.name(), *name);
+/// The locale that a name finds is the constant of that name.
+#[test]
+fn each_name_has_its_constant(rt: HostRuntime) -> Result<(), Fail> {{
+    for name in Locale::available_names().iter() {{
+        assert_eq!(rt; name_of(Locale::from_name(name)?), Some(*name));
     }}
+    Ok(())
 }}
-{"".join(tests)}"""
+
+/// The name of the constant that the locale is.
+fn name_of(locale: Locale) -> Option<&'static str> {{
+    {first}(locale)
+{calls}}}
+{"".join(map(function_source, parts))}"""
 
 
 if __name__ == "__main__":

@@ -98,10 +98,17 @@ where
             buffer.write_formatted(&number, format);
             hex::encode(alloc, buffer.as_bytes()).ok()
         }
-        Asked::Read(text) => agreed(
-            denoted::<N>(alloc, text, N::from_formatted_str(text, format))?,
-            denoted::<N>(alloc, text, text.parse_formatted(format))?,
-        ),
+        Asked::Read(text) => {
+            let string = String::from_str(alloc, text).ok()?;
+            let of_str = agreed(
+                denoted::<N>(alloc, text, N::from_formatted_str(text, format))?,
+                denoted::<N>(alloc, text, text.parse_formatted(format))?,
+            )?;
+            agreed(
+                of_str,
+                denoted::<N>(alloc, text, string.parse_formatted(format))?,
+            )
+        }
     }
 }
 
@@ -141,36 +148,39 @@ fn refused(alloc: Global, text: &str, error: &Error) -> Option<String> {
 
 /// How many names stand before that of the locale.
 fn place_of(locale: Locale) -> Option<usize> {
-    let mut names = Locale::available_names().iter();
-    names.position(|name| *name == locale.name())
+    Locale::available_names().binary_search(&locale.name()).ok()
 }
 
-/// All that a locale answers, itself and as a [`CustomFormat`].
+/// All that a locale answers, itself and as a format, and that a [`CustomFormat`] has of it.
 fn data_of(alloc: Global, locale: Locale) -> Option<String> {
-    let format = CustomFormat::from(locale);
-    let grouping = agreed(
-        format!(in alloc; "{:?}", locale.grouping()).ok()?,
-        format!(in alloc; "{:?}", format.grouping()).ok()?,
-    )?;
+    let answers = answers_of(alloc, &CustomFormat::from(locale))?;
+    let answers = agreed(answers_of(alloc, &locale)?, answers)?;
+    let getters = format!(in alloc;
+        "{}\t{:?}\t{}\t{}\t{}\t{}\t{}",
+        hex::encode(alloc, locale.decimal()).ok()?,
+        locale.grouping(),
+        hex::encode(alloc, locale.infinity()).ok()?,
+        hex::encode(alloc, locale.minus_sign()).ok()?,
+        hex::encode(alloc, locale.nan()).ok()?,
+        hex::encode(alloc, locale.plus_sign()).ok()?,
+        hex::encode(alloc, locale.separator()).ok()?,
+    )
+    .ok()?;
+    let answers = agreed(getters, answers)?;
+    format!(in alloc; "{}\t{}\t{answers}", place_of(locale)?, locale.name()).ok()
+}
+
+/// What a format answers. Texts are in hexadecimal.
+fn answers_of<F: Format>(alloc: Global, format: &F) -> Option<String> {
     format!(in alloc;
-        "{}\t{}\t{}\t{}\t{}\t{}\t{}\t{}\t{}",
-        place_of(locale)?,
-        locale.name(),
-        both(alloc, locale.decimal(), format.decimal())?,
-        grouping,
-        both(alloc, locale.infinity(), format.infinity())?,
-        both(alloc, locale.minus_sign(), format.minus_sign())?,
-        both(alloc, locale.nan(), format.nan())?,
-        both(alloc, locale.plus_sign(), format.plus_sign())?,
-        both(alloc, locale.separator(), format.separator())?,
+        "{}\t{:?}\t{}\t{}\t{}\t{}\t{}",
+        hex::encode(alloc, format.decimal().into_str()).ok()?,
+        format.grouping(),
+        hex::encode(alloc, format.infinity().into_str()).ok()?,
+        hex::encode(alloc, format.minus_sign().into_str()).ok()?,
+        hex::encode(alloc, format.nan().into_str()).ok()?,
+        hex::encode(alloc, format.plus_sign().into_str()).ok()?,
+        hex::encode(alloc, format.separator().into_str()).ok()?,
     )
     .ok()
-}
-
-/// The hexadecimal of a text that a locale answers and a [`CustomFormat`] has of it.
-fn both(alloc: Global, of_locale: &str, of_format: &str) -> Option<String> {
-    agreed(
-        hex::encode(alloc, of_locale).ok()?,
-        hex::encode(alloc, of_format).ok()?,
-    )
 }

@@ -36,8 +36,8 @@
 //! locale PLACE NAME DECIMAL GROUPING INFINITY MINUS NAN PLUS SEPARATOR
 //! ```
 //!
-//! has all that the locale of the name answers, itself and as a [`CustomFormat`]. The name is no
-//! hexadecimal.
+//! has all that the locale of the name answers, by its getters, as a format and as a
+//! [`CustomFormat`]. The name is no hexadecimal.
 //!
 //! Where a question is asked in two ways whose answers differ, the answer is both, and so none that
 //! a row wants.
@@ -166,5 +166,6 @@ fn grouping_of(name: &str) -> Option<Grouping> {
 
 /// The text whose UTF-8 is given in hexadecimal.
 fn text(alloc: Global, hexadecimal: &str) -> Option<String> {
-    String::from_utf8(hex::decode(alloc, hexadecimal).ok()?).ok()
+    let bytes = hex::decode(alloc, hexadecimal).ok()?;
+    String::from_str(alloc, str::from_utf8(&bytes).ok()?).ok()
 }

@@ -9,6 +9,12 @@ use std::io;
 use std::process::Abort;
 use std::test::Fail;
 
+/// Asserts what a writer holds, and how many calls it took.
+fn assert_held(rt: &impl Abort, choppy: &Choppy, held: &str, calls: usize) {
+    assert_eq!(rt; choppy.held.as_slice(), held.as_bytes());
+    assert_eq!(rt; choppy.calls, calls);
+}
+
 /// The whole text is taken, in as many writes as it needs.
 #[test]
 fn a_few_bytes_a_call(rt: HostRuntime) -> Result<(), Fail> {
@@ -17,12 +23,10 @@ fn a_few_bytes_a_call(rt: HostRuntime) -> Result<(), Fail> {
     for (most, calls) in rows {
         let mut choppy = Choppy::new(rt.alloc(), most, None);
         assert_eq!(rt; 1000.read_to_io_writer(&mut choppy, &format)?, 5);
-        assert_eq!(rt; choppy.held.as_slice(), b"1,000".as_slice());
-        assert_eq!(rt; choppy.calls, calls);
+        assert_held(&rt, &choppy, "1,000", calls);
         let mut boxed = Box::new(rt.alloc(), Choppy::new(rt.alloc(), most, None))?;
         assert_eq!(rt; write_thousand(&mut boxed)?, 5);
-        assert_eq!(rt; boxed.held.as_slice(), b"1,000".as_slice());
-        assert_eq!(rt; boxed.calls, calls);
+        assert_held(&rt, &boxed, "1,000", calls);
     }
     Ok(())
 }
@@ -36,13 +40,11 @@ fn stops_at(rt: &impl Abort, alloc: Global, fault: Fault, kind: io::ErrorKind) -
         let mut choppy = Choppy::new(alloc, 1, Some((call, fault)));
         let answer = 1000.read_to_io_writer(&mut choppy, &format);
         assert_eq!(rt; answer.err().ok_or("accepted")?.kind(), kind);
-        assert_eq!(rt; choppy.held.as_slice(), held.as_bytes());
-        assert_eq!(rt; choppy.calls, call);
+        assert_held(rt, &choppy, held, call);
         let mut boxed = Box::new(alloc, Choppy::new(alloc, 1, Some((call, fault))))?;
         let answer = write_thousand(&mut boxed);
         assert_eq!(rt; answer.err().ok_or("accepted")?.kind(), kind);
-        assert_eq!(rt; boxed.held.as_slice(), held.as_bytes());
-        assert_eq!(rt; boxed.calls, call);
+        assert_held(rt, &boxed, held, call);
     }
     Ok(())
 }
@@ -64,8 +66,7 @@ fn a_fault_behind_the_text(rt: HostRuntime) -> Result<(), Fail> {
     let mut choppy = Choppy::new(rt.alloc(), 1, Some((6, fault)));
     let format = CustomFormat::default();
     assert_eq!(rt; 1000.read_to_io_writer(&mut choppy, &format)?, 5);
-    assert_eq!(rt; choppy.held.as_slice(), b"1,000".as_slice());
-    assert_eq!(rt; choppy.calls, 5);
+    assert_held(&rt, &choppy, "1,000", 5);
     Ok(())
 }
 

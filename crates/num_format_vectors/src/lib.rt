@@ -6,17 +6,20 @@
 //! under five formats, with `_` in place of the separator. The names of `constants` are those of
 //! the crate's table. The others were worked out by hand from the rules of grouping and reading.
 //!
+//! A text, a name or a number that needs no test of its own is a row that `num_format_oracle`
+//! replays: worked texts under locales and built formats, texts that are read and refused, and
+//! names that are found and refused.
+//!
 //! | Module | What is tested |
 //! |---|---|
 //! | `five_formats` | zero, the lowest and the highest value of each of the eighteen types |
-//! | `printing` | worked texts under many groupings, separators and minus signs |
-//! | `refusals` | the capacities of the six texts, and what a refusal prints |
+//! | `every_way` | one text by every way of printing: the check that `five_formats` makes too |
+//! | `own_formats` | a format of a user's own, [`OwnFormat`] |
+//! | `refusals` | the capacities of the six texts, what a builder takes, and what a refusal prints |
 //! | `buffers` | a new buffer, one that is written twice, a copy, and a printed one |
 //! | `constants` | the name of each constant of `Locale` |
-//! | `locales` | names that are found and refused, and worked texts under locales |
-//! | `reading` | texts that read as numbers, and texts that are refused |
-//! | `own_formats` | a format of a user's own, [`OwnFormat`] |
-//! | `every_way` | one text by every way of printing: the check that `five_formats` makes too |
+//! | `locales` | the list of names, and a locale found by its name and shown |
+//! | `reading` | texts of any sort as numbers of any type |
 //! | `strings` | numbers into strings and formatters, and into a writer of text that fails |
 //! | `writers` | std's writers of bytes: vectors, cursors, buffers, the sink, standard output |
 //! | `slices` | slices of bytes, too short and long enough |
@@ -47,8 +50,6 @@ mod five_formats;
 mod locales;
 #[cfg(test)]
 mod own_formats;
-#[cfg(test)]
-mod printing;
 #[cfg(test)]
 mod program;
 #[cfg(test)]

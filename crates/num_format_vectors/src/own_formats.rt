@@ -35,10 +35,13 @@ fn answers(rt: HostRuntime) {
         grouping: Grouping::Indian,
     };
     assert_eq!(rt; format.grouping(), Grouping::Indian);
-    assert_eq!(rt; format.decimal().into_str(), ".");
-    assert_eq!(rt; format.infinity().into_str(), "∞");
-    assert_eq!(rt; format.minus_sign().into_str(), "17");
-    assert_eq!(rt; format.nan().into_str(), "NaN");
-    assert_eq!(rt; format.plus_sign().into_str(), "+");
-    assert_eq!(rt; format.separator().into_str(), "7");
+    let answers = [
+        format.decimal().into_str(),
+        format.infinity().into_str(),
+        format.minus_sign().into_str(),
+        format.nan().into_str(),
+        format.plus_sign().into_str(),
+        format.separator().into_str(),
+    ];
+    assert_eq!(rt; answers, [".", "∞", "17", "NaN", "+", "7"]);
 }

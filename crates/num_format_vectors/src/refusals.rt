@@ -1,8 +1,12 @@
 //! What is too long, and what a refusal prints.
 
-use num_format::utils::{DecimalStr, InfinityStr, MinusSignStr, NanStr, PlusSignStr, SeparatorStr};
-use num_format::{CustomFormat, Error, ErrorKind, Grouping};
+use num_format::parsing::FromFormattedStr;
+use num_format::utils::SeparatorStr;
+use num_format::{CustomFormat, Error, ErrorKind, Grouping, Locale};
+use num_format_text::strings::BoundedStr;
+use num_format_text::symbol::{Decimal, Infinity, MinusSign, Nan, PlusSign, Separator, Symbol};
 use std::alloc::{AllocError, Global};
+use std::process::Abort;
 use std::test::Fail;
 
 const OF_9_INTO_8: &str =
@@ -11,11 +15,17 @@ const OF_9_INTO_8: &str =
 const OF_10_INTO_8: &str =
     "Attempted to write input of length 10 bytes into a buffer with capacity 8 bytes.";
 
+const OF_12_INTO_8: &str =
+    "Attempted to write input of length 12 bytes into a buffer with capacity 8 bytes.";
+
 const OF_65_INTO_64: &str =
     "Attempted to write input of length 65 bytes into a buffer with capacity 64 bytes.";
 
 const OF_129_INTO_128: &str =
     "Attempted to write input of length 129 bytes into a buffer with capacity 128 bytes.";
+
+/// The texts of `en`, in the order of their names.
+const ENGLISH: [&str; 6] = [".", "\u{221e}", "-", "NaN", "+", ","];
 
 /// The first `len` bytes of an ASCII text, or all of it where it is shorter.
 fn first(text: &str, len: usize) -> &str {
@@ -30,107 +40,103 @@ fn told(alloc: Global, refusal: Option<Error>) -> Result<String, AllocError> {
     }
 }
 
-#[test]
-fn a_separator(rt: HostRuntime) -> Result<(), Fail> {
-    let alloc = rt.alloc();
-    assert_eq!(rt; SeparatorStr::new(",")?.into_str(), ",");
-    assert_eq!(rt; SeparatorStr::new("")?.into_str(), "");
-    assert_eq!(rt; SeparatorStr::new("12345678")?.into_str(), "12345678");
-    assert_eq!(rt;
-        told(alloc, SeparatorStr::new("123456789").err())?.as_str(),
-        OF_9_INTO_8
-    );
-    // Six characters of two bytes each.
-    assert_eq!(rt;
-        told(alloc, SeparatorStr::new("éééééé").err())?.as_str(),
-        "Attempted to write input of length 12 bytes into a buffer with capacity 8 bytes."
-    );
+/// Asserts that a text of the capacity is kept, and that one byte more is refused in these words.
+fn keeps_to<S: Symbol>(
+    rt: &impl Abort,
+    alloc: Global,
+    capacity: usize,
+    refusal: &str,
+) -> Result<(), Fail> {
+    let too_long = "x".repeat(alloc, capacity.saturating_add(1))?;
+    let longest = first(&too_long, capacity);
+    assert_eq!(rt; BoundedStr::<S>::new(longest)?.into_str(), longest);
+    let refused = told(alloc, BoundedStr::<S>::new(&too_long).err())?;
+    assert_eq!(rt; refused.as_str(), refusal);
     Ok(())
 }
 
-/// Each of the six texts at its capacity, and one byte past it.
 #[test]
 fn capacities(rt: HostRuntime) -> Result<(), Fail> {
     let alloc = rt.alloc();
-    let longest = "x".repeat(alloc, 129)?;
-    let longest = longest.as_str();
-    let accepted = [
-        (DecimalStr::new(first(longest, 8))?.into_str(), 8),
-        (InfinityStr::new(first(longest, 128))?.into_str(), 128),
-        (MinusSignStr::new(first(longest, 8))?.into_str(), 8),
-        (NanStr::new(first(longest, 64))?.into_str(), 64),
-        (PlusSignStr::new(first(longest, 8))?.into_str(), 8),
-        (SeparatorStr::new(first(longest, 8))?.into_str(), 8),
-    ];
-    for (text, wanted) in accepted {
-        assert_eq!(rt; text.len(), wanted);
-    }
-    let refused = [
-        (
-            told(alloc, DecimalStr::new(first(longest, 9)).err())?,
-            OF_9_INTO_8,
-        ),
-        (
-            told(alloc, InfinityStr::new(longest).err())?,
-            OF_129_INTO_128,
-        ),
-        (
-            told(alloc, MinusSignStr::new(first(longest, 9)).err())?,
-            OF_9_INTO_8,
-        ),
-        (
-            told(alloc, NanStr::new(first(longest, 65)).err())?,
-            OF_65_INTO_64,
-        ),
-        (
-            told(alloc, PlusSignStr::new(first(longest, 9)).err())?,
-            OF_9_INTO_8,
-        ),
-        (
-            told(alloc, SeparatorStr::new(first(longest, 9)).err())?,
-            OF_9_INTO_8,
-        ),
-    ];
-    for (told, wanted) in refused.iter() {
-        assert_eq!(rt; told.as_str(), *wanted);
-    }
+    keeps_to::<Decimal>(&rt, alloc, 8, OF_9_INTO_8)?;
+    keeps_to::<Infinity>(&rt, alloc, 128, OF_129_INTO_128)?;
+    keeps_to::<MinusSign>(&rt, alloc, 8, OF_9_INTO_8)?;
+    keeps_to::<Nan>(&rt, alloc, 64, OF_65_INTO_64)?;
+    keeps_to::<PlusSign>(&rt, alloc, 8, OF_9_INTO_8)?;
+    keeps_to::<Separator>(&rt, alloc, 8, OF_9_INTO_8)
+}
+
+/// A capacity counts bytes, here of six characters of two bytes each.
+#[test]
+fn bytes_and_not_characters(rt: HostRuntime) -> Result<(), Fail> {
+    assert_eq!(rt; SeparatorStr::new("éééé")?.into_str(), "éééé");
+    let refused = told(rt.alloc(), SeparatorStr::new("éééééé").err())?;
+    assert_eq!(rt; refused.as_str(), OF_12_INTO_8);
     Ok(())
 }
 
-/// The first refused field is told, and a later good value takes the place of a refused one.
+#[test]
+fn a_name_and_a_number(rt: HostRuntime) -> Result<(), Fail> {
+    let name = told(rt.alloc(), Locale::from_name("123456789").err())?;
+    assert_eq!(rt;
+        name.as_str(),
+        "Failed to parse 123456789 into a valid locale."
+    );
+    let number = told(rt.alloc(), u8::from_formatted_str("one", &Locale::en).err())?;
+    assert_eq!(rt; number.as_str(), "Failed to parse one into a number.");
+    Ok(())
+}
+
+/// The first refused field in the order of their names is told, whatever was set first.
 #[test]
 fn a_builder(rt: HostRuntime) -> Result<(), Fail> {
-    let alloc = rt.alloc();
     let refused = CustomFormat::builder()
         .separator("123456789")
-        .decimal("1234567890");
-    let answer = refused.build();
+        .decimal("1234567890")
+        .build();
     assert!(rt;
-        matches!(&answer, Err(error) if *error.kind() == ErrorKind::Capacity { len: 10, cap: 8 })
+        matches!(&refused, Err(error) if *error.kind() == ErrorKind::Capacity { len: 10, cap: 8 })
     );
-    assert_eq!(rt; told(alloc, answer.err())?.as_str(), OF_10_INTO_8);
-    let signs_first = CustomFormat::builder()
+    let refused = CustomFormat::builder()
         .separator("123456789")
         .minus_sign("1234567890")
         .build();
-    assert_eq!(rt; told(alloc, signs_first.err())?.as_str(), OF_10_INTO_8);
+    assert_eq!(rt; told(rt.alloc(), refused.err())?.as_str(), OF_10_INTO_8);
+    Ok(())
+}
+
+/// A later good value takes the place of a refused one.
+#[test]
+fn a_mended_builder(rt: HostRuntime) -> Result<(), Fail> {
     let mended = CustomFormat::builder()
         .separator("123456789")
         .decimal("1234567890")
         .decimal(".")
         .separator(",")
         .build()?;
-    assert_eq!(rt; mended.decimal(), ".");
-    assert_eq!(rt; mended.separator(), ",");
+    assert_answers(&rt, &mended, Grouping::Standard, ENGLISH);
     Ok(())
 }
 
-/// A builder keeps each text of exactly the capacity, and what is not set is that of `en`.
+/// Asserts what a format answers: its grouping, and its texts in the order of their names.
+fn assert_answers(rt: &impl Abort, format: &CustomFormat, grouping: Grouping, texts: [&str; 6]) {
+    assert_eq!(rt; format.grouping(), grouping);
+    let answers = [
+        format.decimal(),
+        format.infinity(),
+        format.minus_sign(),
+        format.nan(),
+        format.plus_sign(),
+        format.separator(),
+    ];
+    assert_eq!(rt; answers, texts);
+}
+
+/// A builder keeps each text of exactly the capacity.
 #[test]
 fn a_built_format(rt: HostRuntime) -> Result<(), Fail> {
-    let alloc = rt.alloc();
-    let infinity = "i".repeat(alloc, 128)?;
-    let nan = "n".repeat(alloc, 64)?;
+    let infinity = "i".repeat(rt.alloc(), 128)?;
+    let nan = "n".repeat(rt.alloc(), 64)?;
     let format = CustomFormat::builder()
         .decimal("12345678")
         .grouping(Grouping::Indian)
@@ -140,20 +146,15 @@ fn a_built_format(rt: HostRuntime) -> Result<(), Fail> {
         .plus_sign("ABCDEFGH")
         .separator("")
         .build()?;
-    assert_eq!(rt; format.decimal(), "12345678");
-    assert_eq!(rt; format.grouping(), Grouping::Indian);
-    assert_eq!(rt; format.infinity(), infinity.as_str());
-    assert_eq!(rt; format.minus_sign(), "abcdefgh");
-    assert_eq!(rt; format.nan(), nan.as_str());
-    assert_eq!(rt; format.plus_sign(), "ABCDEFGH");
-    assert_eq!(rt; format.separator(), "");
+    let texts = ["12345678", &infinity, "abcdefgh", &nan, "ABCDEFGH", ""];
+    assert_answers(&rt, &format, Grouping::Indian, texts);
+    Ok(())
+}
+
+/// What is not set is that of `en`.
+#[test]
+fn a_builder_begins_with_english(rt: HostRuntime) -> Result<(), Fail> {
     let english = CustomFormat::builder().build()?;
-    assert_eq!(rt; english.decimal(), ".");
-    assert_eq!(rt; english.grouping(), Grouping::Standard);
-    assert_eq!(rt; english.infinity(), "\u{221e}");
-    assert_eq!(rt; english.minus_sign(), "-");
-    assert_eq!(rt; english.nan(), "NaN");
-    assert_eq!(rt; english.plus_sign(), "+");
-    assert_eq!(rt; english.separator(), ",");
+    assert_answers(&rt, &english, Grouping::Standard, ENGLISH);
     Ok(())
 }

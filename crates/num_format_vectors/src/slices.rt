@@ -1,7 +1,6 @@
 //! A thousand into slices of bytes.
 
-use crate::thousand::write_thousand;
-use num_format::{CustomFormat, WriteFormatted};
+use crate::thousand::{write_thousand, write_two_thousands};
 use std::io;
 use std::test::Fail;
 
@@ -30,18 +29,14 @@ fn too_short(rt: HostRuntime) -> Result<(), Fail> {
 /// A slice then names the room behind the text, which the next number takes.
 #[test]
 fn long_enough(rt: HostRuntime) -> Result<(), Fail> {
-    let format = CustomFormat::default();
-    let mut five = [b'x'; 5];
-    let mut slice = five.as_mut_slice();
-    assert_eq!(rt; write_thousand(&mut slice)?, 5);
-    assert!(rt; slice.is_empty());
-    assert_eq!(rt; five.as_slice(), b"1,000".as_slice());
-    let mut eight = [b'x'; 8];
-    let mut slice = eight.as_mut_slice();
-    assert_eq!(rt; write_thousand(&mut slice)?, 5);
-    assert_eq!(rt; slice.len(), 3);
-    assert_eq!(rt; slice.write_formatted(&-7, &format)?, 2);
+    let mut bytes = [b'x'; 11];
+    let mut slice = bytes.as_mut_slice();
+    write_two_thousands(&rt, &mut slice)?;
     assert_eq!(rt; slice.len(), 1);
-    assert_eq!(rt; eight.as_slice(), b"1,000-7x".as_slice());
+    assert_eq!(rt; bytes.as_slice(), b"1,0001,000x".as_slice());
+    let mut bytes = [b'x'; 5];
+    let mut slice = bytes.as_mut_slice();
+    assert_eq!(rt; write_thousand(&mut slice)?, 5);
+    assert_eq!(rt; bytes.as_slice(), b"1,000".as_slice());
     Ok(())
 }

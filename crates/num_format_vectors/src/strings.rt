@@ -1,7 +1,7 @@
 //! Numbers into strings and into other writers of text.
 
 use crate::texts::built;
-use crate::thousand::write_thousand;
+use crate::thousand::{write_thousand, write_two_thousands};
 use num_format::{CustomFormat, Grouping, ToFormattedStr, ToFormattedString, WriteFormatted};
 use std::alloc::Global;
 use std::fmt::Write;
@@ -49,10 +49,7 @@ fn a_thousand_of_every_type(rt: HostRuntime) -> Result<(), Fail> {
 #[test]
 fn behind_a_text(rt: HostRuntime) -> Result<(), Fail> {
     let mut text = String::from_str(rt.alloc(), "x")?;
-    assert_eq!(rt; write_thousand(&mut text)?, 5);
-    assert_eq!(rt; text.as_str(), "x1,000");
-    assert_eq!(rt; write_thousand(&mut &mut text)?, 5);
-    assert_eq!(rt; text.as_str(), "x1,0001,000");
+    write_two_thousands(&rt, &mut text)?;
     assert_eq!(rt;
         7u8.read_to_fmt_writer(&mut text, &CustomFormat::default())?,
         1
@@ -102,11 +99,9 @@ impl fmt::Display for English {
 
 #[test]
 fn by_a_formatter(rt: HostRuntime) -> Result<(), Fail> {
-    let alloc = rt.alloc();
     let number = English(1000);
-    assert_eq!(rt; number.to_string(alloc)?.as_str(), "1,000");
-    assert_eq!(rt; format!(in alloc; "{number} m")?.as_str(), "1,000 m");
-    assert_eq!(rt; format!(in alloc; "{number:>9}")?.as_str(), "1,000");
+    let shown = format!(in rt.alloc(); "{number} m {number:>9}")?;
+    assert_eq!(rt; shown.as_str(), "1,000 m 1,000");
     Ok(())
 }
 
@@ -140,6 +135,12 @@ impl fmt::Write for Narrow {
     }
 }
 
+/// Asserts that a writer was called once, and what it holds.
+fn assert_held(rt: &impl Abort, narrow: &Narrow, held: &str) {
+    assert_eq!(rt; narrow.held.as_str(), held);
+    assert_eq!(rt; narrow.calls, 1);
+}
+
 /// The whole text is one call, and its fault is the answer.
 #[test]
 fn into_a_writer_that_fails(rt: HostRuntime) -> Result<(), Fail> {
@@ -154,13 +155,11 @@ fn into_a_writer_that_fails(rt: HostRuntime) -> Result<(), Fail> {
     for (room, answer, held) in rows {
         let mut narrow = Narrow::new(rt.alloc(), room);
         assert_eq!(rt; 1000.read_to_fmt_writer(&mut narrow, &format), answer);
-        assert_eq!(rt; narrow.held.as_str(), held);
-        assert_eq!(rt; narrow.calls, 1);
+        assert_held(&rt, &narrow, held);
         let mut narrow = Narrow::new(rt.alloc(), room);
         let number = English(1000);
         assert_eq!(rt; write!(narrow, "{number}").is_ok(), answer.is_ok());
-        assert_eq!(rt; narrow.held.as_str(), held);
-        assert_eq!(rt; narrow.calls, 1);
+        assert_held(&rt, &narrow, held);
     }
     Ok(())
 }

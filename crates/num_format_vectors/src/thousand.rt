@@ -2,8 +2,18 @@
 
 use num_format::{CustomFormat, WriteFormatted};
 use std::io;
+use std::process::Abort;
+use std::test::Fail;
 
 /// Writes 1000 under the format of `en`, and answers its length in bytes.
 pub fn write_thousand<W: WriteFormatted>(writer: &mut W) -> Result<usize, io::Error> {
     writer.write_formatted(&1000, &CustomFormat::default())
+}
+
+/// Writes 1000 to the writer, and then to a reference to it, and asserts what each answers.
+pub fn write_two_thousands<W: WriteFormatted>(rt: &impl Abort, writer: &mut W) -> Result<(), Fail> {
+    assert_eq!(rt; write_thousand(writer)?, 5);
+    let mut lent = writer;
+    assert_eq!(rt; write_thousand(&mut lent)?, 5);
+    Ok(())
 }

@@ -1,6 +1,6 @@
-//! A thousand into std's writers of bytes.
+//! Thousands into std's writers of bytes.
 
-use crate::thousand::write_thousand;
+use crate::thousand::{write_thousand, write_two_thousands};
 use num_format::{CustomFormat, WriteFormatted};
 use std::io;
 use std::io::{BufWriter, Cursor, LineWriter, Lock, Write};
@@ -10,14 +10,10 @@ use std::test::Fail;
 fn vectors(rt: HostRuntime) -> Result<(), Fail> {
     let alloc = rt.alloc();
     let mut bytes = b"x".to_vec(alloc)?;
-    assert_eq!(rt; write_thousand(&mut bytes)?, 5);
-    assert_eq!(rt; bytes.as_slice(), b"x1,000".as_slice());
-    assert_eq!(rt; write_thousand(&mut &mut bytes)?, 5);
+    write_two_thousands(&rt, &mut bytes)?;
     assert_eq!(rt; bytes.as_slice(), b"x1,0001,000".as_slice());
     let mut boxed = Box::new(alloc, b"x".to_vec(alloc)?)?;
-    assert_eq!(rt; write_thousand(&mut boxed)?, 5);
-    assert_eq!(rt; boxed.as_slice(), b"x1,000".as_slice());
-    assert_eq!(rt; write_thousand(&mut &mut boxed)?, 5);
+    write_two_thousands(&rt, &mut boxed)?;
     assert_eq!(rt; boxed.as_slice(), b"x1,0001,000".as_slice());
     Ok(())
 }
@@ -30,39 +26,41 @@ fn cursors_over_vectors(rt: HostRuntime) -> Result<(), Fail> {
     cursor.set_position(2);
     assert_eq!(rt; write_thousand(&mut cursor)?, 5);
     assert_eq!(rt; cursor.get_ref().as_slice(), b"ab1,000h".as_slice());
-    assert_eq!(rt; cursor.position(), 7);
-    assert_eq!(rt; write_thousand(&mut &mut cursor)?, 5);
-    assert_eq!(rt; cursor.get_ref().as_slice(), b"ab1,0001,000".as_slice());
-    assert_eq!(rt; cursor.position(), 12);
+    write_two_thousands(&rt, &mut cursor)?;
+    assert_eq!(rt;
+        cursor.get_ref().as_slice(),
+        b"ab1,0001,0001,000".as_slice()
+    );
+    assert_eq!(rt; cursor.position(), 17);
     let mut bytes = Vec::new(alloc);
-    let mut lent = Cursor::new(&mut bytes);
-    assert_eq!(rt; write_thousand(&mut lent)?, 5);
-    assert_eq!(rt; lent.position(), 5);
-    assert_eq!(rt; bytes.as_slice(), b"1,000".as_slice());
+    write_two_thousands(&rt, &mut Cursor::new(&mut bytes))?;
+    assert_eq!(rt; bytes.as_slice(), b"1,0001,000".as_slice());
     Ok(())
 }
 
 /// Over a slice, which does not grow.
 #[test]
 fn cursors_over_slices(rt: HostRuntime) -> Result<(), Fail> {
-    let alloc = rt.alloc();
-    let mut three = [b'x'; 3];
-    let mut cursor = Cursor::new(&mut three[..]);
-    assert!(rt; write_thousand(&mut cursor).is_err());
-    assert_eq!(rt; cursor.position(), 3);
-    assert_eq!(rt; three.as_slice(), b"1,0".as_slice());
-    let mut eight = [b'x'; 8];
-    let mut cursor = Cursor::new(&mut eight[..]);
+    let mut bytes = [b'x'; 8];
+    let mut cursor = Cursor::new(bytes.as_mut_slice());
     cursor.set_position(2);
     assert_eq!(rt; write_thousand(&mut &mut cursor)?, 5);
     assert_eq!(rt; cursor.position(), 7);
-    assert_eq!(rt; eight.as_slice(), b"xx1,000x".as_slice());
-    let mut cursor = Cursor::new(b"xxxx".to_vec(alloc)?.into_boxed_slice());
-    assert!(rt; write_thousand(&mut cursor).is_err());
-    assert_eq!(rt; &cursor.get_ref()[..], b"1,00".as_slice());
-    let mut cursor = Cursor::new(b"xxxxxx".to_vec(alloc)?.into_boxed_slice());
+    assert_eq!(rt; bytes.as_slice(), b"xx1,000x".as_slice());
+    let mut short = [b'x'; 3];
+    assert!(rt; write_thousand(&mut Cursor::new(short.as_mut_slice())).is_err());
+    assert_eq!(rt; short.as_slice(), b"1,0".as_slice());
+    Ok(())
+}
+
+#[test]
+fn cursors_over_boxed_slices(rt: HostRuntime) -> Result<(), Fail> {
+    let mut cursor = Cursor::new(b"xxxxxx".to_vec(rt.alloc())?.into_boxed_slice());
     assert_eq!(rt; write_thousand(&mut cursor)?, 5);
     assert_eq!(rt; &cursor.get_ref()[..], b"1,000x".as_slice());
+    let mut cursor = Cursor::new(b"xxxx".to_vec(rt.alloc())?.into_boxed_slice());
+    assert!(rt; write_thousand(&mut cursor).is_err());
+    assert_eq!(rt; &cursor.get_ref()[..], b"1,00".as_slice());
     Ok(())
 }
 
@@ -71,20 +69,21 @@ fn cursors_over_slices(rt: HostRuntime) -> Result<(), Fail> {
 fn buffered_writers(rt: HostRuntime) -> Result<(), Fail> {
     let alloc = rt.alloc();
     let mut buffered = BufWriter::new(alloc, Vec::new(alloc))?;
-    assert_eq!(rt; write_thousand(&mut buffered)?, 5);
+    write_two_thousands(&rt, &mut buffered)?;
     assert!(rt; buffered.get_ref().is_empty());
     buffered.flush()?;
-    assert_eq!(rt; buffered.get_ref().as_slice(), b"1,000".as_slice());
-    assert_eq!(rt; write_thousand(&mut &mut buffered)?, 5);
-    buffered.flush()?;
     assert_eq!(rt; buffered.get_ref().as_slice(), b"1,0001,000".as_slice());
+    Ok(())
+}
+
+/// A line reaches the vector at its end.
+#[test]
+fn line_writers(rt: HostRuntime) -> Result<(), Fail> {
+    let alloc = rt.alloc();
     let mut lines = LineWriter::new(alloc, Vec::new(alloc))?;
-    assert_eq!(rt; write_thousand(&mut lines)?, 5);
+    write_two_thousands(&rt, &mut lines)?;
     lines.write_all(b"\n")?;
-    assert_eq!(rt; lines.get_ref().as_slice(), b"1,000\n".as_slice());
-    assert_eq!(rt; write_thousand(&mut &mut lines)?, 5);
-    lines.flush()?;
-    assert_eq!(rt; lines.get_ref().as_slice(), b"1,000\n1,000".as_slice());
+    assert_eq!(rt; lines.get_ref().as_slice(), b"1,0001,000\n".as_slice());
     Ok(())
 }
 
@@ -93,8 +92,7 @@ fn buffered_writers(rt: HostRuntime) -> Result<(), Fail> {
 fn small_buffers(rt: HostRuntime) -> Result<(), Fail> {
     let alloc = rt.alloc();
     let mut buffered = BufWriter::with_capacity(alloc, 3, Vec::new(alloc))?;
-    assert_eq!(rt; write_thousand(&mut buffered)?, 5);
-    assert_eq!(rt; write_thousand(&mut buffered)?, 5);
+    write_two_thousands(&rt, &mut buffered)?;
     buffered.flush()?;
     assert_eq!(rt; buffered.get_ref().as_slice(), b"1,0001,000".as_slice());
     Ok(())
@@ -102,9 +100,8 @@ fn small_buffers(rt: HostRuntime) -> Result<(), Fail> {
 
 #[test]
 fn sinks_and_streams(rt: HostRuntime) -> Result<(), Fail> {
+    write_two_thousands(&rt, &mut io::sink())?;
     let format = CustomFormat::default();
-    assert_eq!(rt; write_thousand(&mut io::sink())?, 5);
-    assert_eq!(rt; write_thousand(&mut &mut io::sink())?, 5);
     assert_eq!(rt; rt.stdout().write_formatted(&0, &format)?, 1);
     assert_eq!(rt; rt.stdout().lock().write_formatted(&0, &format)?, 1);
     assert_eq!(rt; rt.stderr().write_formatted(&0, &format)?, 1);
