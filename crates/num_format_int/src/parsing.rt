@@ -9,7 +9,7 @@
 //! character that is none of the digits `0` to `9`, such as a superscript, a Roman numeral or a
 //! digit of another script; it has more figures, a minus sign counted as one, than the longest
 //! value of the type, zeros in front included; or it denotes no value of the type.
-ghost use Rattle.std.specs.Prelude.{◌≡◌, ℕ, List, string_bytes, ◌+◌, ◌*◌, ◌^◌, ◌<◌, ◌≤◌, IfOk, IfErr, IfSome, MatchOption, MatchResult};
+ghost use Rattle.std.specs.Prelude.{◌≡◌, ℕ, List, string_bytes, ◌+◌, ◌*◌, ◌^◌, ◌<◌, ◌≤◌, ◌⊎◌, IfOk, IfErr, IfSome, MatchOption, MatchResult};
 ghost use Rattle.num_format_text.specs.Cut.{cut_text};
 ghost use Rattle.num_format_text.specs.Refusal.{refusal_of, ParseNumber};
 ghost use Rattle.num_format_int.specs.Figures.{HasFigures, HasNoNumber};
@@ -107,6 +107,9 @@ fn not_a_number(text: &str) -> Error
 /// The most figures that fit 64 bits whatever they are.
 const SAFE_FIGURES: usize = 19;
 
+/// The most figures that fit 128 bits whatever they are.
+const SAFE_WIDE_FIGURES: usize = 38;
+
 /// An unsigned integer that digits are put behind, one at a time, while it stays below its bound.
 trait Accumulator: Copy {
     ghost bound: { ℕ };
@@ -122,9 +125,10 @@ trait Accumulator: Copy {
         requires { number self * 10 + digit < 2 ^ 64 }
         ensures { number result ≡ number self * 10 + digit };
 
-    /// The number with one more digit behind it, if that is below the bound.
-    fn push_digit(self, digit: u8) -> Option<Self>
-        requires { digit < 10 }
+    /// The number of so many figures with one more digit behind it, if that is below the bound.
+    fn push_digit(self, figures: usize, digit: u8) -> Option<Self>
+        requires figures { number self < 10 ^ figures }
+        requires digit { digit < 10 }
         ensures { MatchOption result (bound ≤ number self * 10 + digit)
             (λ longer. number longer ≡ number self * 10 + digit) };
 
@@ -149,7 +153,7 @@ impl Accumulator for u64 {
     // Only a twentieth figure comes here, so that it stays out of the loops.
     #[cold]
     #[inline(never)]
-    fn push_digit(self, digit: u8) -> Option<u64> {
+    fn push_digit(self, _figures: usize, digit: u8) -> Option<u64> {
         self.checked_mul(10)?.checked_add(digit as u64)
     }
 
@@ -171,8 +175,8 @@ impl Accumulator for u128 {
         (self as u64 * 10 + digit as u64) as u128
     }
 
-    fn push_digit(self, digit: u8) -> Option<u128> {
-        if self < u128::MAX / 10 {
+    fn push_digit(self, figures: usize, digit: u8) -> Option<u128> {
+        if figures < SAFE_WIDE_FIGURES {
             return Some(self * 10 + digit as u128);
         }
         self.checked_mul(10)?.checked_add(digit as u128)
@@ -183,18 +187,21 @@ impl Accumulator for u128 {
     }
 }
 
-/// The number with one more digit behind it, if that is below the bound. Where so few figures stand
-/// that it fits 64 bits, nothing else is tested.
-fn push_figure<A: Accumulator>(front: A, figures: usize, digit: u8) -> Option<A>
+/// The number of so many figures with one more digit behind it, if there are to be more figures and
+/// it is below the bound. While so few figures stand that it fits 64 bits, one test is enough.
+fn push_figure<A: Accumulator>(front: A, figures: usize, most: usize, digit: u8) -> Option<A>
     requires figures { A.number front < 10 ^ figures }
     requires digit { digit < 10 }
-    ensures { MatchOption result (A.bound ≤ A.number front * 10 + digit)
-        (λ longer. A.number longer ≡ A.number front * 10 + digit) }
+    ensures { MatchOption result
+        ((most ≤ figures) ⊎ (A.bound ≤ A.number front * 10 + digit))
+        (λ longer. (figures < most) × (A.number longer ≡ A.number front * 10 + digit)) }
 {
-    if figures < SAFE_FIGURES {
+    if figures < most.min(SAFE_FIGURES) {
         Some(front.push_safe_digit(digit))
+    } else if figures < most {
+        front.push_digit(figures, digit)
     } else {
-        front.push_digit(digit)
+        None
     }
 }
 
@@ -241,10 +248,7 @@ fn ascii_magnitude<A: Accumulator>(text: &str, most: usize) -> Option<Option<A>>
     let mut figures = 0;
     for byte in text.as_bytes() {
         if byte.is_ascii_digit() {
-            if figures >= most {
-                return Some(None);
-            }
-            let Some(longer) = push_figure(magnitude, figures, *byte - b'0') else {
+            let Some(longer) = push_figure(magnitude, figures, most, *byte - b'0') else {
                 return Some(None);
             };
             magnitude = longer;
@@ -269,10 +273,7 @@ fn magnitude<A: Accumulator>(text: &str, most: usize) -> Option<A>
     let mut figures = 0;
     for character in text.chars() {
         if character.is_ascii_digit() {
-            if figures >= most {
-                return None;
-            }
-            magnitude = push_figure(magnitude, figures, character as u8 - b'0')?;
+            magnitude = push_figure(magnitude, figures, most, character as u8 - b'0')?;
             figures += 1;
         } else if is_other_numeral(character) {
             return None;
