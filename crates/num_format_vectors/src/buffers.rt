@@ -1,5 +1,6 @@
 //! What a buffer holds.
 
+use crate::every_way::is_whole;
 use num_format::{Buffer, CustomFormat};
 use std::test::Fail;
 
@@ -7,8 +8,7 @@ use std::test::Fail;
 fn a_new_one_is_empty(rt: HostRuntime) {
     for buffer in [Buffer::new(), Buffer::default()] {
         assert!(rt; buffer.is_empty());
-        assert_eq!(rt; buffer.len(), 0);
-        assert_eq!(rt; buffer.as_bytes().len(), 0);
+        is_whole(&rt, buffer.len(), buffer.as_bytes(), "");
     }
 }
 
@@ -16,12 +16,13 @@ fn a_new_one_is_empty(rt: HostRuntime) {
 fn a_second_text_replaces_the_first(rt: HostRuntime) {
     let format = CustomFormat::default();
     let mut buffer = Buffer::new();
-    assert_eq!(rt; buffer.write_formatted(&1000000, &format), 9);
-    let first = buffer;
-    assert_eq!(rt; buffer.write_formatted(&5, &format), 1);
-    assert_eq!(rt; buffer.as_bytes(), b"5".as_slice());
+    let count = buffer.write_formatted(&1000000, &format);
+    let copy = buffer;
+    is_whole(&rt, count, buffer.as_bytes(), "1,000,000");
+    let count = buffer.write_formatted(&5, &format);
+    is_whole(&rt, count, buffer.as_bytes(), "5");
     assert!(rt; !buffer.is_empty());
-    assert_eq!(rt; first.as_str(), "1,000,000", "the copy");
+    assert_eq!(rt; copy.as_str(), "1,000,000");
 }
 
 #[test]

@@ -1,6 +1,5 @@
 //! One text by every way of printing.
 
-use crate::texts::printed;
 use num_format::{Buffer, CustomFormat, Format, ToFormattedStr, ToFormattedString, WriteFormatted};
 use std::alloc::Global;
 use std::process::Abort;
@@ -20,13 +19,19 @@ pub fn prints<N: ToFormattedStr, F: Format>(
     into_vectors(rt, alloc, n, format, text)
 }
 
+/// Asserts that what holds a text has the whole of it, and that the count is its length in bytes.
+pub fn is_whole(rt: &impl Abort, count: usize, held: &[u8], text: &str) {
+    assert_eq!(rt; held, text.as_bytes());
+    assert_eq!(rt; count, text.len());
+}
+
 fn into_buffers<N: ToFormattedStr, F: Format>(rt: &impl Abort, n: &N, format: &F, text: &str) {
-    let written = printed(n, format);
-    assert_eq!(rt; written.as_str(), text);
-    assert_eq!(rt; written.len(), text.len());
+    let mut written = Buffer::new();
+    let count = written.write_formatted(n, format);
+    is_whole(rt, count, written.as_bytes(), text);
     let mut read = Buffer::new();
-    assert_eq!(rt; n.read_to_buffer(&mut read, format), text.len());
-    assert_eq!(rt; read.as_str(), text);
+    let count = n.read_to_buffer(&mut read, format);
+    is_whole(rt, count, read.as_bytes(), text);
 }
 
 fn into_strings<N: ToFormattedStr, F: Format>(
@@ -36,13 +41,14 @@ fn into_strings<N: ToFormattedStr, F: Format>(
     format: &F,
     text: &str,
 ) -> Result<(), Fail> {
-    assert_eq!(rt; n.to_formatted_string(alloc, format)?.as_str(), text);
+    let string = n.to_formatted_string(alloc, format)?;
+    is_whole(rt, string.len(), string.as_bytes(), text);
     let mut read = String::new(alloc);
-    assert_eq!(rt; n.read_to_fmt_writer(&mut read, format)?, text.len());
-    assert_eq!(rt; read.as_str(), text);
+    let count = n.read_to_fmt_writer(&mut read, format)?;
+    is_whole(rt, count, read.as_bytes(), text);
     let mut written = String::new(alloc);
-    assert_eq!(rt; written.write_formatted(n, format)?, text.len());
-    assert_eq!(rt; written.as_str(), text);
+    let count = written.write_formatted(n, format)?;
+    is_whole(rt, count, written.as_bytes(), text);
     Ok(())
 }
 
@@ -54,11 +60,11 @@ fn into_vectors<N: ToFormattedStr, F: Format>(
     text: &str,
 ) -> Result<(), Fail> {
     let mut read = Vec::new(alloc);
-    assert_eq!(rt; n.read_to_io_writer(&mut read, format)?, text.len());
-    assert_eq!(rt; read.as_slice(), text.as_bytes());
+    let count = n.read_to_io_writer(&mut read, format)?;
+    is_whole(rt, count, &read, text);
     let mut written = Vec::new(alloc);
-    assert_eq!(rt; written.write_formatted(n, format)?, text.len());
-    assert_eq!(rt; written.as_slice(), text.as_bytes());
+    let count = written.write_formatted(n, format)?;
+    is_whole(rt, count, &written, text);
     Ok(())
 }
 

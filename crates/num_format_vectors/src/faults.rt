@@ -2,7 +2,7 @@
 
 use crate::choppy::{Choppy, Fault};
 use crate::texts::built;
-use crate::thousand::write_thousand;
+use crate::thousand::{append_thousand, write_thousand};
 use num_format::{CustomFormat, Grouping, ToFormattedString};
 use std::alloc::Global;
 use std::io;
@@ -15,6 +15,14 @@ fn assert_held(rt: &impl Abort, choppy: &Choppy, held: &str, calls: usize) {
     assert_eq!(rt; choppy.calls, calls);
 }
 
+/// Asserts that an answer is an error of this kind.
+fn assert_fails(rt: &impl Abort, answer: io::Result<usize>, kind: io::ErrorKind) {
+    match answer {
+        Ok(count) => panic!(rt; "{count} bytes were taken"),
+        Err(error) => assert_eq!(rt; error.kind(), kind),
+    }
+}
+
 /// The whole text is taken, in as many writes as it needs.
 #[test]
 fn a_few_bytes_a_call(rt: HostRuntime) -> Result<(), Fail> {
@@ -25,7 +33,7 @@ fn a_few_bytes_a_call(rt: HostRuntime) -> Result<(), Fail> {
         assert_eq!(rt; 1000.read_to_io_writer(&mut choppy, &format)?, 5);
         assert_held(&rt, &choppy, "1,000", calls);
         let mut boxed = Box::new(rt.alloc(), Choppy::new(rt.alloc(), most, None))?;
-        assert_eq!(rt; write_thousand(&mut boxed)?, 5);
+        append_thousand(&rt, &mut boxed)?;
         assert_held(&rt, &boxed, "1,000", calls);
     }
     Ok(())
@@ -38,12 +46,10 @@ fn stops_at(rt: &impl Abort, alloc: Global, fault: Fault, kind: io::ErrorKind) -
     let format = CustomFormat::default();
     for (call, held) in rows {
         let mut choppy = Choppy::new(alloc, 1, Some((call, fault)));
-        let answer = 1000.read_to_io_writer(&mut choppy, &format);
-        assert_eq!(rt; answer.err().ok_or("accepted")?.kind(), kind);
+        assert_fails(rt, 1000.read_to_io_writer(&mut choppy, &format), kind);
         assert_held(rt, &choppy, held, call);
         let mut boxed = Box::new(alloc, Choppy::new(alloc, 1, Some((call, fault))))?;
-        let answer = write_thousand(&mut boxed);
-        assert_eq!(rt; answer.err().ok_or("accepted")?.kind(), kind);
+        assert_fails(rt, write_thousand(&mut boxed), kind);
         assert_held(rt, &boxed, held, call);
     }
     Ok(())

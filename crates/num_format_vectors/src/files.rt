@@ -1,6 +1,6 @@
 //! A thousand into a file of the system.
 
-use crate::thousand::write_thousand;
+use crate::thousand::{append_thousand, append_two_thousands, write_thousand};
 use std::fs;
 use std::fs::File;
 use std::test::Fail;
@@ -11,9 +11,8 @@ const PATH: &str = "num_format_vectors_files.txt";
 #[test]
 fn written_and_read_back(rt: HostRuntime) -> Result<(), Fail> {
     let mut file = File::create(&rt, PATH)?;
-    assert_eq!(rt; write_thousand(&mut file)?, 5);
-    assert_eq!(rt; write_thousand(&mut &file)?, 5);
-    assert_eq!(rt; write_thousand(&mut &mut file)?, 5);
+    append_two_thousands(&rt, &mut file)?;
+    append_thousand(&rt, &mut &file)?;
     let mut reading = File::open(&rt, PATH)?;
     assert!(rt; write_thousand(&mut reading).is_err());
     let text = fs::read_to_string(&rt, PATH)?;

@@ -3,6 +3,7 @@
 use crate::choppy::{Choppy, Fault};
 use regroup_commands::{ANSWERED, FAILED, MISUSED, REFUSED, run};
 use std::io;
+use std::process::Abort;
 
 const ANSWER: &[&str] = &["custom", ",", "Standard", "-", "-1000000"];
 
@@ -61,14 +62,19 @@ const LOCALE_ROWS: [Row<'static>; 12] = [
     (&["read", "en"], MISUSED, "", USAGE),
 ];
 
+/// Asserts what an output was sent.
+fn assert_sent(rt: &impl Abort, output: &[u8], text: &str) {
+    assert_eq!(rt; output, text.as_bytes());
+}
+
 #[test]
 fn replies(rt: HostRuntime) {
     for (words, status, answer, fault) in CUSTOM_ROWS.iter().chain(&LOCALE_ROWS).copied() {
         let mut out: Vec<u8> = Vec::new(rt.alloc());
         let mut err: Vec<u8> = Vec::new(rt.alloc());
         assert_eq!(rt; run(words, &mut out, &mut err), status, "{answer}{fault}");
-        assert_eq!(rt; out.as_slice(), answer.as_bytes());
-        assert_eq!(rt; err.as_slice(), fault.as_bytes());
+        assert_sent(&rt, &out, answer);
+        assert_sent(&rt, &err, fault);
     }
 }
 
@@ -104,8 +110,8 @@ fn each_write_fails_in_turn(rt: HostRuntime) {
             };
             let wanted = if calls == text.len() { status } else { FAILED };
             assert_eq!(rt; answered, wanted, "{calls} of {text}");
-            assert_eq!(rt; faulty.held.as_slice(), &text.as_bytes()[..calls]);
-            assert!(rt; other.is_empty());
+            assert_sent(&rt, &faulty.held, text.get(..calls).unwrap_or(text));
+            assert_sent(&rt, &other, "");
         }
     }
 }

@@ -1,6 +1,6 @@
 //! A thousand into slices of bytes.
 
-use crate::thousand::{write_thousand, write_two_thousands};
+use crate::thousand::{append_thousand, append_two_thousands, write_thousand};
 use std::io;
 use std::test::Fail;
 
@@ -31,12 +31,12 @@ fn too_short(rt: HostRuntime) -> Result<(), Fail> {
 fn long_enough(rt: HostRuntime) -> Result<(), Fail> {
     let mut bytes = [b'x'; 11];
     let mut slice = bytes.as_mut_slice();
-    write_two_thousands(&rt, &mut slice)?;
+    append_two_thousands(&rt, &mut slice)?;
     assert_eq!(rt; slice.len(), 1);
     assert_eq!(rt; bytes.as_slice(), b"1,0001,000x".as_slice());
     let mut bytes = [b'x'; 5];
     let mut slice = bytes.as_mut_slice();
-    assert_eq!(rt; write_thousand(&mut slice)?, 5);
+    append_thousand(&rt, &mut slice)?;
     assert_eq!(rt; bytes.as_slice(), b"1,000".as_slice());
     Ok(())
 }

@@ -1,6 +1,6 @@
 //! Thousands into std's writers of bytes.
 
-use crate::thousand::{write_thousand, write_two_thousands};
+use crate::thousand::{append_thousand, append_two_thousands, write_thousand};
 use num_format::{CustomFormat, WriteFormatted};
 use std::io;
 use std::io::{BufWriter, Cursor, LineWriter, Lock, Write};
@@ -10,10 +10,10 @@ use std::test::Fail;
 fn vectors(rt: HostRuntime) -> Result<(), Fail> {
     let alloc = rt.alloc();
     let mut bytes = b"x".to_vec(alloc)?;
-    write_two_thousands(&rt, &mut bytes)?;
+    append_two_thousands(&rt, &mut bytes)?;
     assert_eq!(rt; bytes.as_slice(), b"x1,0001,000".as_slice());
     let mut boxed = Box::new(alloc, b"x".to_vec(alloc)?)?;
-    write_two_thousands(&rt, &mut boxed)?;
+    append_two_thousands(&rt, &mut boxed)?;
     assert_eq!(rt; boxed.as_slice(), b"x1,0001,000".as_slice());
     Ok(())
 }
@@ -24,16 +24,16 @@ fn cursors_over_vectors(rt: HostRuntime) -> Result<(), Fail> {
     let alloc = rt.alloc();
     let mut cursor = Cursor::new(b"abcdefgh".to_vec(alloc)?);
     cursor.set_position(2);
-    assert_eq!(rt; write_thousand(&mut cursor)?, 5);
+    append_thousand(&rt, &mut cursor)?;
     assert_eq!(rt; cursor.get_ref().as_slice(), b"ab1,000h".as_slice());
-    write_two_thousands(&rt, &mut cursor)?;
+    append_two_thousands(&rt, &mut cursor)?;
     assert_eq!(rt;
         cursor.get_ref().as_slice(),
         b"ab1,0001,0001,000".as_slice()
     );
     assert_eq!(rt; cursor.position(), 17);
     let mut bytes = Vec::new(alloc);
-    write_two_thousands(&rt, &mut Cursor::new(&mut bytes))?;
+    append_two_thousands(&rt, &mut Cursor::new(&mut bytes))?;
     assert_eq!(rt; bytes.as_slice(), b"1,0001,000".as_slice());
     Ok(())
 }
@@ -44,7 +44,7 @@ fn cursors_over_slices(rt: HostRuntime) -> Result<(), Fail> {
     let mut bytes = [b'x'; 8];
     let mut cursor = Cursor::new(bytes.as_mut_slice());
     cursor.set_position(2);
-    assert_eq!(rt; write_thousand(&mut &mut cursor)?, 5);
+    append_thousand(&rt, &mut &mut cursor)?;
     assert_eq!(rt; cursor.position(), 7);
     assert_eq!(rt; bytes.as_slice(), b"xx1,000x".as_slice());
     let mut short = [b'x'; 3];
@@ -56,7 +56,7 @@ fn cursors_over_slices(rt: HostRuntime) -> Result<(), Fail> {
 #[test]
 fn cursors_over_boxed_slices(rt: HostRuntime) -> Result<(), Fail> {
     let mut cursor = Cursor::new(b"xxxxxx".to_vec(rt.alloc())?.into_boxed_slice());
-    assert_eq!(rt; write_thousand(&mut cursor)?, 5);
+    append_thousand(&rt, &mut cursor)?;
     assert_eq!(rt; &cursor.get_ref()[..], b"1,000x".as_slice());
     let mut cursor = Cursor::new(b"xxxx".to_vec(rt.alloc())?.into_boxed_slice());
     assert!(rt; write_thousand(&mut cursor).is_err());
@@ -69,7 +69,7 @@ fn cursors_over_boxed_slices(rt: HostRuntime) -> Result<(), Fail> {
 fn buffered_writers(rt: HostRuntime) -> Result<(), Fail> {
     let alloc = rt.alloc();
     let mut buffered = BufWriter::new(alloc, Vec::new(alloc))?;
-    write_two_thousands(&rt, &mut buffered)?;
+    append_two_thousands(&rt, &mut buffered)?;
     assert!(rt; buffered.get_ref().is_empty());
     buffered.flush()?;
     assert_eq!(rt; buffered.get_ref().as_slice(), b"1,0001,000".as_slice());
@@ -81,7 +81,7 @@ fn buffered_writers(rt: HostRuntime) -> Result<(), Fail> {
 fn line_writers(rt: HostRuntime) -> Result<(), Fail> {
     let alloc = rt.alloc();
     let mut lines = LineWriter::new(alloc, Vec::new(alloc))?;
-    write_two_thousands(&rt, &mut lines)?;
+    append_two_thousands(&rt, &mut lines)?;
     lines.write_all(b"\n")?;
     assert_eq!(rt; lines.get_ref().as_slice(), b"1,0001,000\n".as_slice());
     Ok(())
@@ -92,7 +92,7 @@ fn line_writers(rt: HostRuntime) -> Result<(), Fail> {
 fn small_buffers(rt: HostRuntime) -> Result<(), Fail> {
     let alloc = rt.alloc();
     let mut buffered = BufWriter::with_capacity(alloc, 3, Vec::new(alloc))?;
-    write_two_thousands(&rt, &mut buffered)?;
+    append_two_thousands(&rt, &mut buffered)?;
     buffered.flush()?;
     assert_eq!(rt; buffered.get_ref().as_slice(), b"1,0001,000".as_slice());
     Ok(())
@@ -100,7 +100,7 @@ fn small_buffers(rt: HostRuntime) -> Result<(), Fail> {
 
 #[test]
 fn sinks_and_streams(rt: HostRuntime) -> Result<(), Fail> {
-    write_two_thousands(&rt, &mut io::sink())?;
+    append_two_thousands(&rt, &mut io::sink())?;
     let format = CustomFormat::default();
     assert_eq!(rt; rt.stdout().write_formatted(&0, &format)?, 1);
     assert_eq!(rt; rt.stdout().lock().write_formatted(&0, &format)?, 1);
