@@ -16,10 +16,10 @@ use std::num::{NonZeroU8, NonZeroU16, NonZeroU32, NonZeroU64, NonZeroU128, NonZe
 use std::time::{Duration, Instant};
 
 /// The numbers of a batch.
-const BATCH: usize = 64;
+const BATCH: usize = 256;
 
 /// The rounds of a case.
-const ROUNDS: usize = 2000;
+const ROUNDS: usize = 1000;
 
 /// An integer type that numbers are kept in.
 trait Integer: Copy + PartialEq + Default + Display {
