@@ -104,12 +104,13 @@ def function_name(names):
     return f"from_{first}_to_{last}"
 
 
-def function_source(names):
-    """The function that knows the names of some constants."""
-    arms = "".join(f'        Locale::{constant(name)} => "{name}",\n' for name in names)
+def function_source(names, start):
+    """The function that knows the places of some constants, of which the first one is given."""
+    places = enumerate(names, start)
+    arms = "".join(f"        Locale::{constant(name)} => {place},\n" for place, name in places)
     return f"""
 #[rattlefmt::skip]
-fn {function_name(names)}(locale: Locale) -> Option<&'static str> {{
+fn {function_name(names)}(locale: Locale) -> Option<usize> {{
     Some(match locale {{
 {arms}        _ => return None,
     }})
@@ -120,31 +121,34 @@ fn {function_name(names)}(locale: Locale) -> Option<&'static str> {{
 def tests_source(names):
     """The module of the test of all constants."""
     count = CONSTANTS_IN_A_FUNCTION
-    parts = [names[start : start + count] for start in range(0, len(names), count)]
-    first, *others = map(function_name, parts)
+    parts = {start: names[start : start + count] for start in range(0, len(names), count)}
+    first, *others = map(function_name, parts.values())
     calls = "".join(f"        .or({name}(locale))\n" for name in others)
+    functions = "".join(function_source(part, start) for start, part in parts.items())
     return f"""\
-//! Each constant of `Locale` and its name. Written by tools/expected_locales.py; do not edit.
+//! Each constant of `Locale`. Written by tools/expected_locales.py; do not edit.
 //!
-//! The names are those of the table of locales as written down from the Rust crate's CLDR data.
+//! The constants are named as in the table of locales that was written down from the Rust crate's
+//! CLDR data, and stand in its order.
 
+use crate::asserting::assert_equal;
 use num_format::Locale;
 use std::test::Fail;
 
-/// The locale that a name finds is the constant of that name.
+/// The locale that a name finds is the constant of that place of the table.
 #[test]
 fn each_name_has_its_constant(rt: HostRuntime) -> Result<(), Fail> {{
-    for name in Locale::available_names().iter() {{
-        assert_eq!(rt; name_of(Locale::from_name(name)?), Some(*name));
+    for (place, name) in Locale::available_names().iter().enumerate() {{
+        assert_equal(&rt, place_of(Locale::from_name(name)?), Some(place));
     }}
     Ok(())
 }}
 
-/// The name of the constant that the locale is.
-fn name_of(locale: Locale) -> Option<&'static str> {{
+/// The place in the table of the constant that the locale is.
+fn place_of(locale: Locale) -> Option<usize> {{
     {first}(locale)
 {calls}}}
-{"".join(map(function_source, parts))}"""
+{functions}"""
 
 
 if __name__ == "__main__":

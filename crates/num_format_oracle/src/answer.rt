@@ -2,7 +2,9 @@
 
 use crate::row::{Question, RowFormat};
 use num_format::parsing::{FromFormattedStr, ParseFormatted};
-use num_format::{Buffer, CustomFormat, Error, ErrorKind, Format, Locale, ToFormattedStr};
+use num_format::{
+    Buffer, CustomFormat, Error, ErrorKind, Format, Grouping, Locale, ToFormattedStr,
+};
 use std::alloc::Global;
 use std::fmt::Display;
 use std::num::{NonZeroU8, NonZeroU16, NonZeroU32, NonZeroU64, NonZeroU128, NonZeroUsize};
@@ -127,7 +129,7 @@ fn denoted<N: Display + Drop>(
 /// What looking up a text answered.
 fn found(alloc: Global, text: &str, answer: Result<Locale, Error>) -> Option<String> {
     match answer {
-        Ok(locale) => format!(in alloc; "ok {}", place_of(locale)?).ok(),
+        Ok(locale) => format!(in alloc; "ok {}", locale.name()).ok(),
         Err(error) => refused(alloc, text, &error),
     }
 }
@@ -135,52 +137,52 @@ fn found(alloc: Global, text: &str, answer: Result<Locale, Error>) -> Option<Str
 /// The refusal of a text.
 fn refused(alloc: Global, text: &str, error: &Error) -> Option<String> {
     let (kind, kept) = match error.kind() {
-        ErrorKind::ParseLocale(kept) => ("ParseLocale", kept),
-        ErrorKind::ParseNumber(kept) => ("ParseNumber", kept),
+        ErrorKind::ParseLocale(kept) => ("ParseLocale", kept.as_str()),
+        ErrorKind::ParseNumber(kept) => ("ParseNumber", kept.as_str()),
         _ => return None,
     };
-    if kept.as_str() == text {
-        return format!(in alloc; "err {kind} =").ok();
+    if text.starts_with(kept) {
+        format!(in alloc; "err {kind} {}", kept.len()).ok()
+    } else {
+        format!(in alloc; "err {kind} of {kept}").ok()
     }
-    let kept = hex::encode(alloc, kept.as_str()).ok()?;
-    format!(in alloc; "err {kind} {kept}").ok()
 }
 
-/// How many names stand before that of the locale.
-fn place_of(locale: Locale) -> Option<usize> {
-    Locale::available_names().binary_search(&locale.name()).ok()
-}
-
-/// All that a locale answers, itself and as a format, and that a [`CustomFormat`] has of it.
+/// All that a locale answers, by its getters and as a format, and that a [`CustomFormat`] has of it.
 fn data_of(alloc: Global, locale: Locale) -> Option<String> {
-    let answers = answers_of(alloc, &CustomFormat::from(locale))?;
-    let answers = agreed(answers_of(alloc, &locale)?, answers)?;
-    let getters = format!(in alloc;
-        "{}\t{:?}\t{}\t{}\t{}\t{}\t{}",
-        hex::encode(alloc, locale.decimal()).ok()?,
-        locale.grouping(),
-        hex::encode(alloc, locale.infinity()).ok()?,
-        hex::encode(alloc, locale.minus_sign()).ok()?,
-        hex::encode(alloc, locale.nan()).ok()?,
-        hex::encode(alloc, locale.plus_sign()).ok()?,
-        hex::encode(alloc, locale.separator()).ok()?,
-    )
-    .ok()?;
-    let answers = agreed(getters, answers)?;
-    format!(in alloc; "{}\t{}\t{answers}", place_of(locale)?, locale.name()).ok()
+    let getters = [
+        locale.decimal(),
+        locale.infinity(),
+        locale.minus_sign(),
+        locale.nan(),
+        locale.plus_sign(),
+        locale.separator(),
+    ];
+    let data = told(alloc, locale.name(), locale.grouping(), getters)?;
+    let data = agreed(data, answers_of(alloc, locale.name(), &locale)?)?;
+    let built = CustomFormat::from(locale);
+    agreed(data, answers_of(alloc, locale.name(), &built)?)
 }
 
-/// What a format answers. Texts are in hexadecimal.
-fn answers_of<F: Format>(alloc: Global, format: &F) -> Option<String> {
-    format!(in alloc;
-        "{}\t{:?}\t{}\t{}\t{}\t{}\t{}",
-        hex::encode(alloc, format.decimal().into_str()).ok()?,
-        format.grouping(),
-        hex::encode(alloc, format.infinity().into_str()).ok()?,
-        hex::encode(alloc, format.minus_sign().into_str()).ok()?,
-        hex::encode(alloc, format.nan().into_str()).ok()?,
-        hex::encode(alloc, format.plus_sign().into_str()).ok()?,
-        hex::encode(alloc, format.separator().into_str()).ok()?,
-    )
-    .ok()
+/// What a format answers.
+fn answers_of<F: Format>(alloc: Global, name: &str, format: &F) -> Option<String> {
+    let texts = [
+        format.decimal().into_str(),
+        format.infinity().into_str(),
+        format.minus_sign().into_str(),
+        format.nan().into_str(),
+        format.plus_sign().into_str(),
+        format.separator().into_str(),
+    ];
+    told(alloc, name, format.grouping(), texts)
+}
+
+/// A name, a grouping and texts, as a row has them.
+fn told(alloc: Global, name: &str, grouping: Grouping, texts: [&str; 6]) -> Option<String> {
+    let mut told = format!(in alloc; "{name}\t{grouping:?}").ok()?;
+    for text in texts {
+        told.push('\t').ok()?;
+        told.push_str(&hex::encode(alloc, text).ok()?).ok()?;
+    }
+    Some(told)
 }

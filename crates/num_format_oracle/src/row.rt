@@ -23,17 +23,17 @@
 //! ```
 //!
 //! reads a text as a value of an integer type. The answer is `ok` and the number in plain decimal,
-//! or `err ParseNumber` and the text that the error keeps, `=` for the whole one.
+//! or `err ParseNumber` and how many bytes of the text the error keeps.
 //!
 //! ```text
 //! names TEXT ANSWER
 //! ```
 //!
-//! looks a text up among the names of locales. The answer is `ok` and the locale's place, counted
-//! from 0, or `err ParseLocale` and the text that the error keeps.
+//! looks a text up among the names of locales. The answer is `ok` and the locale's name, or
+//! `err ParseLocale` and how many bytes of the text the error keeps.
 //!
 //! ```text
-//! locale PLACE NAME DECIMAL GROUPING INFINITY MINUS NAN PLUS SEPARATOR
+//! locale NAME GROUPING DECIMAL INFINITY MINUS NAN PLUS SEPARATOR
 //! ```
 //!
 //! has all that the locale of the name answers, by its getters, as a format and as a
@@ -90,43 +90,16 @@ pub struct Row<'a> {
 impl<'a> Row<'a> {
     /// The row that a line is.
     pub fn parse(alloc: Global, line: &'a str) -> Option<Row<'a>> {
-        let (line, is_changed) = match line.strip_prefix("changed\t") {
+        let (row, is_changed) = match line.strip_prefix("changed\t") {
             Some(row) => (row, true),
             None => (line, false),
         };
-        let fields: Vec<&str> = line.split('\t').collect(alloc).ok()?;
-        let (question, wanted) = match fields.as_slice() {
-            ["print", type_name, format, decimal, wanted] => {
-                let format = RowFormat::parse(alloc, format)?;
-                (
-                    Question::Print {
-                        type_name,
-                        format,
-                        decimal,
-                    },
-                    *wanted,
-                )
-            }
-            ["read", type_name, format, read, wanted] => {
-                let format = RowFormat::parse(alloc, format)?;
-                let text = text(alloc, read)?;
-                (
-                    Question::Read {
-                        type_name,
-                        format,
-                        text,
-                    },
-                    *wanted,
-                )
-            }
-            ["names", name, wanted] => {
-                let text = text(alloc, name)?;
-                (Question::Name { text }, *wanted)
-            }
-            ["locale", _, name, _, _, _, _, _, _, _] => {
-                (Question::Locale { name }, line.strip_prefix("locale\t")?)
-            }
-            _ => return None,
+        let (kind, fields) = row.split_once('\t')?;
+        let (asked, answer) = fields.rsplit_once('\t')?;
+        let question = Question::parse(alloc, kind, asked)?;
+        let wanted = match question {
+            Question::Locale { .. } => fields,
+            _ => answer,
         };
         Some(Row {
             question,
@@ -136,21 +109,62 @@ impl<'a> Row<'a> {
     }
 }
 
+impl<'a> Question<'a> {
+    /// The question of a kind that the fields are.
+    fn parse(alloc: Global, kind: &str, fields: &'a str) -> Option<Question<'a>> {
+        match kind {
+            "print" => Question::parse_print(alloc, fields),
+            "read" => Question::parse_read(alloc, fields),
+            "names" => Some(Question::Name {
+                text: text(alloc, fields)?,
+            }),
+            "locale" => Some(Question::Locale {
+                name: fields.split_once('\t')?.0,
+            }),
+            _ => None,
+        }
+    }
+
+    fn parse_print(alloc: Global, fields: &'a str) -> Option<Question<'a>> {
+        let (type_name, fields) = fields.split_once('\t')?;
+        let (format, decimal) = fields.split_once('\t')?;
+        Some(Question::Print {
+            type_name,
+            format: RowFormat::parse(alloc, format)?,
+            decimal,
+        })
+    }
+
+    fn parse_read(alloc: Global, fields: &'a str) -> Option<Question<'a>> {
+        let (type_name, fields) = fields.split_once('\t')?;
+        let (format, read) = fields.split_once('\t')?;
+        Some(Question::Read {
+            type_name,
+            format: RowFormat::parse(alloc, format)?,
+            text: text(alloc, read)?,
+        })
+    }
+}
+
 impl RowFormat {
     /// The format that the words say.
     fn parse(alloc: Global, words: &str) -> Option<RowFormat> {
-        let words: Vec<&str> = words.split(':').collect(alloc).ok()?;
-        match words.as_slice() {
-            ["locale", name] => Some(RowFormat::Named(Locale::from_name(name).ok()?)),
-            ["custom", separator, grouping, minus_sign] => {
-                let builder = CustomFormat::builder()
-                    .grouping(grouping_of(grouping)?)
-                    .minus_sign(&text(alloc, minus_sign)?)
-                    .separator(&text(alloc, separator)?);
-                Some(RowFormat::Built(builder.build().ok()?))
-            }
+        let (kind, words) = words.split_once(':')?;
+        match kind {
+            "locale" => Some(RowFormat::Named(Locale::from_name(words).ok()?)),
+            "custom" => RowFormat::parse_built(alloc, words),
             _ => None,
         }
+    }
+
+    fn parse_built(alloc: Global, words: &str) -> Option<RowFormat> {
+        let (separator, words) = words.split_once(':')?;
+        let (grouping, minus_sign) = words.split_once(':')?;
+        let builder = CustomFormat::builder()
+            .grouping(grouping_of(grouping)?)
+            .minus_sign(&text(alloc, minus_sign)?)
+            .separator(&text(alloc, separator)?);
+        Some(RowFormat::Built(builder.build().ok()?))
     }
 }
 
@@ -166,6 +180,5 @@ fn grouping_of(name: &str) -> Option<Grouping> {
 
 /// The text whose UTF-8 is given in hexadecimal.
 fn text(alloc: Global, hexadecimal: &str) -> Option<String> {
-    let bytes = hex::decode(alloc, hexadecimal).ok()?;
-    String::from_str(alloc, str::from_utf8(&bytes).ok()?).ok()
+    String::from_utf8(hex::decode(alloc, hexadecimal).ok()?).ok()
 }

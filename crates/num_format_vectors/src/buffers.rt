@@ -1,5 +1,6 @@
 //! What a buffer holds.
 
+use crate::asserting::assert_equal;
 use crate::every_way::is_whole;
 use num_format::{Buffer, CustomFormat};
 use std::test::Fail;
@@ -22,7 +23,7 @@ fn a_second_text_replaces_the_first(rt: HostRuntime) {
     let count = buffer.write_formatted(&5, &format);
     is_whole(&rt, count, buffer.as_bytes(), "5");
     assert!(rt; !buffer.is_empty());
-    assert_eq!(rt; copy.as_str(), "1,000,000");
+    assert_equal(&rt, copy.as_str(), "1,000,000");
 }
 
 #[test]
@@ -30,6 +31,6 @@ fn prints_the_bare_text(rt: HostRuntime) -> Result<(), Fail> {
     let mut buffer = Buffer::new();
     buffer.write_formatted(&1000, &CustomFormat::default());
     let shown = format!(in rt.alloc(); "{buffer} {buffer:>9} {buffer:.2}")?;
-    assert_eq!(rt; shown.as_str(), "1,000 1,000 1,000");
+    assert_equal(&rt, shown.as_str(), "1,000 1,000 1,000");
     Ok(())
 }

@@ -1,5 +1,6 @@
 //! One text by every way of printing.
 
+use crate::asserting::assert_equal;
 use num_format::{Buffer, CustomFormat, Format, ToFormattedStr, ToFormattedString, WriteFormatted};
 use std::alloc::Global;
 use std::process::Abort;
@@ -21,8 +22,8 @@ pub fn prints<N: ToFormattedStr, F: Format>(
 
 /// Asserts that what holds a text has the whole of it, and that the count is its length in bytes.
 pub fn is_whole(rt: &impl Abort, count: usize, held: &[u8], text: &str) {
-    assert_eq!(rt; held, text.as_bytes());
-    assert_eq!(rt; count, text.len());
+    assert_equal(rt, held, text.as_bytes());
+    assert_equal(rt, count, text.len());
 }
 
 fn into_buffers<N: ToFormattedStr, F: Format>(rt: &impl Abort, n: &N, format: &F, text: &str) {

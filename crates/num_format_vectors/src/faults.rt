@@ -1,5 +1,6 @@
 //! A thousand into writers of bytes that take little, and into writers that fail.
 
+use crate::asserting::assert_equal;
 use crate::choppy::{Choppy, Fault};
 use crate::texts::built;
 use crate::thousand::{append_thousand, write_thousand};
@@ -11,15 +12,15 @@ use std::test::Fail;
 
 /// Asserts what a writer holds, and how many calls it took.
 fn assert_held(rt: &impl Abort, choppy: &Choppy, held: &str, calls: usize) {
-    assert_eq!(rt; choppy.held.as_slice(), held.as_bytes());
-    assert_eq!(rt; choppy.calls, calls);
+    assert_equal(rt, choppy.held.as_slice(), held.as_bytes());
+    assert_equal(rt, choppy.calls, calls);
 }
 
 /// Asserts that an answer is an error of this kind.
 fn assert_fails(rt: &impl Abort, answer: io::Result<usize>, kind: io::ErrorKind) {
     match answer {
         Ok(count) => panic!(rt; "{count} bytes were taken"),
-        Err(error) => assert_eq!(rt; error.kind(), kind),
+        Err(error) => assert_equal(rt, error.kind(), kind),
     }
 }
 
@@ -30,7 +31,7 @@ fn a_few_bytes_a_call(rt: HostRuntime) -> Result<(), Fail> {
     let format = CustomFormat::default();
     for (most, calls) in rows {
         let mut choppy = Choppy::new(rt.alloc(), most, None);
-        assert_eq!(rt; 1000.read_to_io_writer(&mut choppy, &format)?, 5);
+        assert_equal(&rt, 1000.read_to_io_writer(&mut choppy, &format)?, 5);
         assert_held(&rt, &choppy, "1,000", calls);
         let mut boxed = Box::new(rt.alloc(), Choppy::new(rt.alloc(), most, None))?;
         append_thousand(&rt, &mut boxed)?;
@@ -71,7 +72,7 @@ fn a_fault_behind_the_text(rt: HostRuntime) -> Result<(), Fail> {
     let fault = Fault::Fails(io::ErrorKind::BrokenPipe);
     let mut choppy = Choppy::new(rt.alloc(), 1, Some((6, fault)));
     let format = CustomFormat::default();
-    assert_eq!(rt; 1000.read_to_io_writer(&mut choppy, &format)?, 5);
+    assert_equal(&rt, 1000.read_to_io_writer(&mut choppy, &format)?, 5);
     assert_held(&rt, &choppy, "1,000", 5);
     Ok(())
 }
@@ -81,9 +82,9 @@ fn a_fault_behind_the_text(rt: HostRuntime) -> Result<(), Fail> {
 fn the_longest_text(rt: HostRuntime) -> Result<(), Fail> {
     let format = built(Grouping::Indian, "12345678", "abcdefgh")?;
     let mut choppy = Choppy::new(rt.alloc(), 1, None);
-    assert_eq!(rt; i128::MIN.read_to_io_writer(&mut choppy, &format)?, 191);
+    assert_equal(&rt, i128::MIN.read_to_io_writer(&mut choppy, &format)?, 191);
     assert!(rt; choppy.held.starts_with(b"abcdefgh17123456780112345678"));
     assert!(rt; choppy.held.ends_with(b"41123456780512345678728"));
-    assert_eq!(rt; choppy.calls, 191);
+    assert_equal(&rt, choppy.calls, 191);
     Ok(())
 }

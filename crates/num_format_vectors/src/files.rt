@@ -1,5 +1,6 @@
 //! A thousand into a file of the system.
 
+use crate::asserting::assert_equal;
 use crate::thousand::{append_thousand, append_two_thousands, write_thousand};
 use std::fs;
 use std::fs::File;
@@ -17,6 +18,6 @@ fn written_and_read_back(rt: HostRuntime) -> Result<(), Fail> {
     assert!(rt; write_thousand(&mut reading).is_err());
     let text = fs::read_to_string(&rt, PATH)?;
     fs::remove_file(&rt, PATH)?;
-    assert_eq!(rt; text.as_str(), "1,0001,0001,000");
+    assert_equal(&rt, text.as_str(), "1,0001,0001,000");
     Ok(())
 }

@@ -33,6 +33,8 @@ pub mod own_format;
 pub use own_format::OwnFormat;
 
 #[cfg(test)]
+mod asserting;
+#[cfg(test)]
 mod buffers;
 #[cfg(test)]
 mod choppy;

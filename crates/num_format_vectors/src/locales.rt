@@ -1,15 +1,16 @@
 //! What `num_format_oracle` does not ask of locales.
 ghost use Rattle.std.specs.Prelude.{◌≡◌};
 
+use crate::asserting::assert_equal;
 use num_format::{Error, Locale};
 use std::test::Fail;
 
 #[test]
 fn names(rt: HostRuntime) {
     let names = Locale::available_names();
-    assert_eq!(rt; names.len(), 542);
-    assert_eq!(rt; names.first(), Some(&"af"));
-    assert_eq!(rt; names.last(), Some(&"zu"));
+    assert_equal(&rt, names.len(), 542);
+    assert_equal(&rt, names.first(), Some(&"af"));
+    assert_equal(&rt, names.last(), Some(&"zu"));
 }
 
 /// The name of a locale leads back to it: proved, as for any caller, from the contracts alone.
@@ -21,12 +22,12 @@ fn found_by_its_name(locale: Locale) -> Result<Locale, Error>
 
 #[test]
 fn a_name_leads_back(rt: HostRuntime) {
-    assert_eq!(rt; found_by_its_name(Locale::as_), Ok(Locale::as_));
+    assert_equal(&rt, found_by_its_name(Locale::as_).ok(), Some(Locale::as_));
 }
 
 #[test]
 fn debug_shows_the_name(rt: HostRuntime) -> Result<(), Fail> {
     let shown = format!(in rt.alloc(); "{:?}", Locale::en_IN)?;
-    assert_eq!(rt; shown.as_str(), "en-IN");
+    assert_equal(&rt, shown.as_str(), "en-IN");
     Ok(())
 }

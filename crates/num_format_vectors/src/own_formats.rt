@@ -1,6 +1,7 @@
 //! Numbers under a format of a user's own, whose separator is `7` and whose minus sign is `17`.
 
 use crate::OwnFormat;
+use crate::asserting::assert_equal;
 use crate::texts::printed;
 use num_format::{Format, Grouping};
 
@@ -25,7 +26,7 @@ fn prints(rt: HostRuntime) {
     ];
     for (grouping, n, wanted) in rows {
         let format = OwnFormat { grouping };
-        assert_eq!(rt; printed(&n, &format).as_str(), wanted);
+        assert_equal(&rt, printed(&n, &format).as_str(), wanted);
     }
 }
 
@@ -34,7 +35,7 @@ fn answers(rt: HostRuntime) {
     let format = OwnFormat {
         grouping: Grouping::Indian,
     };
-    assert_eq!(rt; format.grouping(), Grouping::Indian);
+    assert_equal(&rt, format.grouping(), Grouping::Indian);
     let answers = [
         format.decimal().into_str(),
         format.infinity().into_str(),
@@ -43,5 +44,5 @@ fn answers(rt: HostRuntime) {
         format.plus_sign().into_str(),
         format.separator().into_str(),
     ];
-    assert_eq!(rt; answers, [".", "∞", "17", "NaN", "+", "7"]);
+    assert_equal(&rt, answers, [".", "∞", "17", "NaN", "+", "7"]);
 }

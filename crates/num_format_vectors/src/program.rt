@@ -1,7 +1,9 @@
 //! The program's command lines: the replies where nothing fails, and what ends one.
 
+use crate::asserting::assert_equal;
 use crate::choppy::{Choppy, Fault};
 use regroup_commands::{ANSWERED, FAILED, MISUSED, REFUSED, run};
+use std::alloc::Global;
 use std::io;
 use std::process::Abort;
 
@@ -62,19 +64,36 @@ const LOCALE_ROWS: [Row<'static>; 12] = [
     (&["read", "en"], MISUSED, "", USAGE),
 ];
 
+/// Asserts the status that a command line ends with.
+fn assert_status(rt: &impl Abort, words: &[&str], status: u8, wanted: u8) {
+    assert_eq!(rt; status, wanted, "{words:?}");
+}
+
 /// Asserts what an output was sent.
 fn assert_sent(rt: &impl Abort, output: &[u8], text: &str) {
-    assert_eq!(rt; output, text.as_bytes());
+    assert_equal(rt, output, text.as_bytes());
+}
+
+/// Asserts what a command line is answered.
+fn assert_reply(rt: &impl Abort, alloc: Global, (words, status, answer, fault): Row<'_>) {
+    let mut out: Vec<u8> = Vec::new(alloc);
+    let mut err: Vec<u8> = Vec::new(alloc);
+    assert_status(rt, words, run(words, &mut out, &mut err), status);
+    assert_sent(rt, &out, answer);
+    assert_sent(rt, &err, fault);
 }
 
 #[test]
 fn replies(rt: HostRuntime) {
-    for (words, status, answer, fault) in CUSTOM_ROWS.iter().chain(&LOCALE_ROWS).copied() {
-        let mut out: Vec<u8> = Vec::new(rt.alloc());
-        let mut err: Vec<u8> = Vec::new(rt.alloc());
-        assert_eq!(rt; run(words, &mut out, &mut err), status, "{answer}{fault}");
-        assert_sent(&rt, &out, answer);
-        assert_sent(&rt, &err, fault);
+    for row in CUSTOM_ROWS {
+        assert_reply(&rt, rt.alloc(), row);
+    }
+}
+
+#[test]
+fn replies_of_locales(rt: HostRuntime) {
+    for row in LOCALE_ROWS {
+        assert_reply(&rt, rt.alloc(), row);
     }
 }
 
@@ -82,8 +101,13 @@ fn replies(rt: HostRuntime) {
 fn names_stand_one_per_line(rt: HostRuntime) {
     let mut out: Vec<u8> = Vec::new(rt.alloc());
     let mut err: Vec<u8> = Vec::new(rt.alloc());
-    assert_eq!(rt; run(&["names"], &mut out, &mut err), ANSWERED);
-    assert_eq!(rt; out.iter().filter(|byte| **byte == b'\n').count(), 542);
+    assert_status(
+        &rt,
+        &["names"],
+        run(&["names"], &mut out, &mut err),
+        ANSWERED,
+    );
+    assert_equal(&rt, out.iter().filter(|byte| **byte == b'\n').count(), 542);
     assert!(rt; out.starts_with(b"af\naf-NA\nagq\n"));
     assert!(rt; out.ends_with(b"\nzu\n"));
     assert!(rt; err.is_empty());
@@ -91,7 +115,6 @@ fn names_stand_one_per_line(rt: HostRuntime) {
 
 #[test]
 fn each_write_fails_in_turn(rt: HostRuntime) {
-    // By one byte a call, each reply takes as many writes as it has bytes.
     for (words, status, text) in [
         (ANSWER, ANSWERED, "-1,000,000\n"),
         (REFUSAL, REFUSED, REFUSAL_TEXT),
@@ -99,20 +122,26 @@ fn each_write_fails_in_turn(rt: HostRuntime) {
         (&["read", "as", "-12,34,567"], ANSWERED, "-1234567\n"),
         (&["custom"], MISUSED, USAGE),
     ] {
-        for calls in 0..=text.len() {
-            let fault = Fault::Fails(io::ErrorKind::Interrupted);
-            let mut faulty = Choppy::new(rt.alloc(), 1, Some((calls.saturating_add(1), fault)));
-            let mut other: Vec<u8> = Vec::new(rt.alloc());
-            let answered = if status == ANSWERED {
-                run(words, &mut faulty, &mut other)
-            } else {
-                run(words, &mut other, &mut faulty)
-            };
-            let wanted = if calls == text.len() { status } else { FAILED };
-            assert_eq!(rt; answered, wanted, "{calls} of {text}");
-            assert_sent(&rt, &faulty.held, text.get(..calls).unwrap_or(text));
-            assert_sent(&rt, &other, "");
-        }
+        fails_at_each_write(&rt, rt.alloc(), words, status, text);
+    }
+}
+
+/// Asserts that a reply ends with 3 where a write fails, and has sent what was written before it.
+/// By one byte a call it takes as many writes as it has bytes.
+fn fails_at_each_write(rt: &impl Abort, alloc: Global, words: &[&str], status: u8, text: &str) {
+    for calls in 0..=text.len() {
+        let fault = Fault::Fails(io::ErrorKind::Interrupted);
+        let mut faulty = Choppy::new(alloc, 1, Some((calls.saturating_add(1), fault)));
+        let mut other: Vec<u8> = Vec::new(alloc);
+        let answered = if status == ANSWERED {
+            run(words, &mut faulty, &mut other)
+        } else {
+            run(words, &mut other, &mut faulty)
+        };
+        let wanted = if calls == text.len() { status } else { FAILED };
+        assert_status(rt, words, answered, wanted);
+        assert_sent(rt, &faulty.held, text.get(..calls).unwrap_or(text));
+        assert_sent(rt, &other, "");
     }
 }
 
@@ -120,6 +149,6 @@ fn each_write_fails_in_turn(rt: HostRuntime) {
 fn a_write_that_takes_nothing_ends_the_reply(rt: HostRuntime) {
     for words in [ANSWER, REFUSAL, &["names"], &["custom"]] {
         let (mut out, mut err): (&mut [u8], &mut [u8]) = (&mut [], &mut []);
-        assert_eq!(rt; run(words, &mut out, &mut err), FAILED);
+        assert_status(&rt, words, run(words, &mut out, &mut err), FAILED);
     }
 }

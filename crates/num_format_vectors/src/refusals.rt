@@ -1,5 +1,6 @@
 //! What is too long, and what a refusal prints.
 
+use crate::asserting::assert_equal;
 use num_format::parsing::FromFormattedStr;
 use num_format::utils::SeparatorStr;
 use num_format::{CustomFormat, Error, ErrorKind, Grouping, Locale};
@@ -49,9 +50,9 @@ fn keeps_to<S: Symbol>(
 ) -> Result<(), Fail> {
     let too_long = "x".repeat(alloc, capacity.saturating_add(1))?;
     let longest = first(&too_long, capacity);
-    assert_eq!(rt; BoundedStr::<S>::new(longest)?.into_str(), longest);
+    assert_equal(rt, BoundedStr::<S>::new(longest)?.into_str(), longest);
     let refused = told(alloc, BoundedStr::<S>::new(&too_long).err())?;
-    assert_eq!(rt; refused.as_str(), refusal);
+    assert_equal(rt, refused.as_str(), refusal);
     Ok(())
 }
 
@@ -69,21 +70,22 @@ fn capacities(rt: HostRuntime) -> Result<(), Fail> {
 /// A capacity counts bytes, here of six characters of two bytes each.
 #[test]
 fn bytes_and_not_characters(rt: HostRuntime) -> Result<(), Fail> {
-    assert_eq!(rt; SeparatorStr::new("éééé")?.into_str(), "éééé");
+    assert_equal(&rt, SeparatorStr::new("éééé")?.into_str(), "éééé");
     let refused = told(rt.alloc(), SeparatorStr::new("éééééé").err())?;
-    assert_eq!(rt; refused.as_str(), OF_12_INTO_8);
+    assert_equal(&rt, refused.as_str(), OF_12_INTO_8);
     Ok(())
 }
 
 #[test]
 fn a_name_and_a_number(rt: HostRuntime) -> Result<(), Fail> {
     let name = told(rt.alloc(), Locale::from_name("123456789").err())?;
-    assert_eq!(rt;
+    assert_equal(
+        &rt,
         name.as_str(),
-        "Failed to parse 123456789 into a valid locale."
+        "Failed to parse 123456789 into a valid locale.",
     );
     let number = told(rt.alloc(), u8::from_formatted_str("one", &Locale::en).err())?;
-    assert_eq!(rt; number.as_str(), "Failed to parse one into a number.");
+    assert_equal(&rt, number.as_str(), "Failed to parse one into a number.");
     Ok(())
 }
 
@@ -101,7 +103,7 @@ fn a_builder(rt: HostRuntime) -> Result<(), Fail> {
         .separator("123456789")
         .minus_sign("1234567890")
         .build();
-    assert_eq!(rt; told(rt.alloc(), refused.err())?.as_str(), OF_10_INTO_8);
+    assert_equal(&rt, told(rt.alloc(), refused.err())?.as_str(), OF_10_INTO_8);
     Ok(())
 }
 
@@ -120,7 +122,7 @@ fn a_mended_builder(rt: HostRuntime) -> Result<(), Fail> {
 
 /// Asserts what a format answers: its grouping, and its texts in the order of their names.
 fn assert_answers(rt: &impl Abort, format: &CustomFormat, grouping: Grouping, texts: [&str; 6]) {
-    assert_eq!(rt; format.grouping(), grouping);
+    assert_equal(rt, format.grouping(), grouping);
     let answers = [
         format.decimal(),
         format.infinity(),
@@ -129,7 +131,7 @@ fn assert_answers(rt: &impl Abort, format: &CustomFormat, grouping: Grouping, te
         format.plus_sign(),
         format.separator(),
     ];
-    assert_eq!(rt; answers, texts);
+    assert_equal(rt, answers, texts);
 }
 
 /// A builder keeps each text of exactly the capacity.

@@ -1,5 +1,6 @@
 //! A thousand into slices of bytes.
 
+use crate::asserting::assert_equal;
 use crate::thousand::{append_thousand, append_two_thousands, write_thousand};
 use std::io;
 use std::test::Fail;
@@ -20,8 +21,8 @@ fn too_short(rt: HostRuntime) -> Result<(), Fail> {
         let answer = write_thousand(&mut slice);
         assert!(rt; slice.is_empty());
         let kind = answer.err().ok_or("accepted")?.kind();
-        assert_eq!(rt; kind, io::ErrorKind::WriteZero);
-        assert_eq!(rt; bytes.as_slice(), wanted.as_slice());
+        assert_equal(&rt, kind, io::ErrorKind::WriteZero);
+        assert_equal(&rt, bytes.as_slice(), wanted.as_slice());
     }
     Ok(())
 }
@@ -32,11 +33,11 @@ fn long_enough(rt: HostRuntime) -> Result<(), Fail> {
     let mut bytes = [b'x'; 11];
     let mut slice = bytes.as_mut_slice();
     append_two_thousands(&rt, &mut slice)?;
-    assert_eq!(rt; slice.len(), 1);
-    assert_eq!(rt; bytes.as_slice(), b"1,0001,000x".as_slice());
+    assert_equal(&rt, slice.len(), 1);
+    assert_equal(&rt, bytes.as_slice(), b"1,0001,000x".as_slice());
     let mut bytes = [b'x'; 5];
     let mut slice = bytes.as_mut_slice();
     append_thousand(&rt, &mut slice)?;
-    assert_eq!(rt; bytes.as_slice(), b"1,000".as_slice());
+    assert_equal(&rt, bytes.as_slice(), b"1,000".as_slice());
     Ok(())
 }

@@ -1,59 +1,25 @@
 //! Numbers into strings and into other writers of text.
 
-use crate::every_way::is_whole;
-use crate::texts::built;
+use crate::asserting::assert_equal;
 use crate::thousand::{append_two_thousands, write_thousand};
-use num_format::{CustomFormat, Grouping, ToFormattedStr, ToFormattedString, WriteFormatted};
+use num_format::{CustomFormat, ToFormattedString, WriteFormatted};
 use std::alloc::Global;
 use std::fmt::Write;
-use std::num::{NonZeroU16, NonZeroU32, NonZeroU64, NonZeroU128, NonZeroUsize};
 use std::process::Abort;
 use std::test::Fail;
 use std::{fmt, io};
-
-/// Asserts the counts of a thousand under the format of `en`, and with a separator of four bytes.
-fn counts<N: ToFormattedStr>(rt: &impl Abort, alloc: Global, thousand: &N) -> Result<(), Fail> {
-    let mut english = String::new(alloc);
-    let count = english.write_formatted(thousand, &CustomFormat::default())?;
-    is_whole(rt, count, english.as_bytes(), "1,000");
-    let format = built(Grouping::Standard, "𠜱", "-")?;
-    let mut long = String::new(alloc);
-    let count = long.write_formatted(thousand, &format)?;
-    is_whole(rt, count, long.as_bytes(), "1𠜱000");
-    assert_eq!(rt; count, 8);
-    Ok(())
-}
-
-#[test]
-fn a_thousand_of_every_type(rt: HostRuntime) -> Result<(), Fail> {
-    let alloc = rt.alloc();
-    counts(&rt, alloc, &1000u16)?;
-    counts(&rt, alloc, &1000u32)?;
-    counts(&rt, alloc, &1000usize)?;
-    counts(&rt, alloc, &1000u64)?;
-    counts(&rt, alloc, &1000u128)?;
-    counts(&rt, alloc, &1000i16)?;
-    counts(&rt, alloc, &1000i32)?;
-    counts(&rt, alloc, &1000isize)?;
-    counts(&rt, alloc, &1000i64)?;
-    counts(&rt, alloc, &1000i128)?;
-    counts(&rt, alloc, &NonZeroU16::new(1000).ok_or("zero")?)?;
-    counts(&rt, alloc, &NonZeroU32::new(1000).ok_or("zero")?)?;
-    counts(&rt, alloc, &NonZeroUsize::new(1000).ok_or("zero")?)?;
-    counts(&rt, alloc, &NonZeroU64::new(1000).ok_or("zero")?)?;
-    counts(&rt, alloc, &NonZeroU128::new(1000).ok_or("zero")?)
-}
 
 /// A text is put behind the one that stands.
 #[test]
 fn behind_a_text(rt: HostRuntime) -> Result<(), Fail> {
     let mut text = String::from_str(rt.alloc(), "x")?;
     append_two_thousands(&rt, &mut text)?;
-    assert_eq!(rt;
+    assert_equal(
+        &rt,
         7u8.read_to_fmt_writer(&mut text, &CustomFormat::default())?,
-        1
+        1,
     );
-    assert_eq!(rt; text.as_str(), "x1,0001,0007");
+    assert_equal(&rt, text.as_str(), "x1,0001,0007");
     Ok(())
 }
 
@@ -67,20 +33,20 @@ fn where_memory_is_refused(rt: HostRuntime) -> Result<(), Fail> {
     let wanted = match write_thousand(&mut text) {
         Ok(_) => "x1,000",
         Err(error) => {
-            assert_eq!(rt; error.kind(), io::ErrorKind::OutOfMemory);
+            assert_equal(&rt, error.kind(), io::ErrorKind::OutOfMemory);
             "x"
         }
     };
-    assert_eq!(rt; text.as_str(), wanted);
+    assert_equal(&rt, text.as_str(), wanted);
     let mut bytes = b"x".to_vec(rt.alloc())?;
     let wanted = match write_thousand(&mut bytes) {
         Ok(_) => "x1,000",
         Err(error) => {
-            assert_eq!(rt; error.kind(), io::ErrorKind::OutOfMemory);
+            assert_equal(&rt, error.kind(), io::ErrorKind::OutOfMemory);
             "x"
         }
     };
-    assert_eq!(rt; bytes.as_slice(), wanted.as_bytes());
+    assert_equal(&rt, bytes.as_slice(), wanted.as_bytes());
     Ok(())
 }
 
@@ -100,7 +66,7 @@ impl fmt::Display for English {
 fn by_a_formatter(rt: HostRuntime) -> Result<(), Fail> {
     let number = English(1000);
     let shown = format!(in rt.alloc(); "{number} m {number:>9}")?;
-    assert_eq!(rt; shown.as_str(), "1,000 m 1,000");
+    assert_equal(&rt, shown.as_str(), "1,000 m 1,000");
     Ok(())
 }
 
@@ -136,8 +102,8 @@ impl fmt::Write for Narrow {
 
 /// Asserts that a writer was called once, and what it holds.
 fn assert_held(rt: &impl Abort, narrow: &Narrow, held: &str) {
-    assert_eq!(rt; narrow.held.as_str(), held);
-    assert_eq!(rt; narrow.calls, 1);
+    assert_equal(rt, narrow.held.as_str(), held);
+    assert_equal(rt, narrow.calls, 1);
 }
 
 /// The whole text is one call, and its fault is the answer.
@@ -153,11 +119,11 @@ fn into_a_writer_that_fails(rt: HostRuntime) -> Result<(), Fail> {
     let format = CustomFormat::default();
     for (room, answer, held) in rows {
         let mut narrow = Narrow::new(rt.alloc(), room);
-        assert_eq!(rt; 1000.read_to_fmt_writer(&mut narrow, &format), answer);
+        assert_equal(&rt, 1000.read_to_fmt_writer(&mut narrow, &format), answer);
         assert_held(&rt, &narrow, held);
         let mut narrow = Narrow::new(rt.alloc(), room);
         let number = English(1000);
-        assert_eq!(rt; write!(narrow, "{number}").is_ok(), answer.is_ok());
+        assert_equal(&rt, write!(narrow, "{number}").is_ok(), answer.is_ok());
         assert_held(&rt, &narrow, held);
     }
     Ok(())

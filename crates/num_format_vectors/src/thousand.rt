@@ -1,5 +1,6 @@
 //! One number for every writer.
 
+use crate::asserting::assert_equal;
 use num_format::{CustomFormat, WriteFormatted};
 use std::io;
 use std::process::Abort;
@@ -12,7 +13,7 @@ pub fn write_thousand<W: WriteFormatted>(writer: &mut W) -> Result<usize, io::Er
 
 /// Writes 1000 and asserts the length that is answered.
 pub fn append_thousand<W: WriteFormatted>(rt: &impl Abort, writer: &mut W) -> Result<(), Fail> {
-    assert_eq!(rt; write_thousand(writer)?, 5);
+    assert_equal(rt, write_thousand(writer)?, 5);
     Ok(())
 }
 

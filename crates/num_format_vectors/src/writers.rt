@@ -1,5 +1,6 @@
 //! Thousands into std's writers of bytes.
 
+use crate::asserting::assert_equal;
 use crate::thousand::{append_thousand, append_two_thousands, write_thousand};
 use num_format::{CustomFormat, WriteFormatted};
 use std::io;
@@ -11,10 +12,10 @@ fn vectors(rt: HostRuntime) -> Result<(), Fail> {
     let alloc = rt.alloc();
     let mut bytes = b"x".to_vec(alloc)?;
     append_two_thousands(&rt, &mut bytes)?;
-    assert_eq!(rt; bytes.as_slice(), b"x1,0001,000".as_slice());
+    assert_equal(&rt, bytes.as_slice(), b"x1,0001,000".as_slice());
     let mut boxed = Box::new(alloc, b"x".to_vec(alloc)?)?;
     append_two_thousands(&rt, &mut boxed)?;
-    assert_eq!(rt; boxed.as_slice(), b"x1,0001,000".as_slice());
+    assert_equal(&rt, boxed.as_slice(), b"x1,0001,000".as_slice());
     Ok(())
 }
 
@@ -25,16 +26,17 @@ fn cursors_over_vectors(rt: HostRuntime) -> Result<(), Fail> {
     let mut cursor = Cursor::new(b"abcdefgh".to_vec(alloc)?);
     cursor.set_position(2);
     append_thousand(&rt, &mut cursor)?;
-    assert_eq!(rt; cursor.get_ref().as_slice(), b"ab1,000h".as_slice());
+    assert_equal(&rt, cursor.get_ref().as_slice(), b"ab1,000h".as_slice());
     append_two_thousands(&rt, &mut cursor)?;
-    assert_eq!(rt;
+    assert_equal(
+        &rt,
         cursor.get_ref().as_slice(),
-        b"ab1,0001,0001,000".as_slice()
+        b"ab1,0001,0001,000".as_slice(),
     );
-    assert_eq!(rt; cursor.position(), 17);
+    assert_equal(&rt, cursor.position(), 17);
     let mut bytes = Vec::new(alloc);
     append_two_thousands(&rt, &mut Cursor::new(&mut bytes))?;
-    assert_eq!(rt; bytes.as_slice(), b"1,0001,000".as_slice());
+    assert_equal(&rt, bytes.as_slice(), b"1,0001,000".as_slice());
     Ok(())
 }
 
@@ -45,11 +47,11 @@ fn cursors_over_slices(rt: HostRuntime) -> Result<(), Fail> {
     let mut cursor = Cursor::new(bytes.as_mut_slice());
     cursor.set_position(2);
     append_thousand(&rt, &mut &mut cursor)?;
-    assert_eq!(rt; cursor.position(), 7);
-    assert_eq!(rt; bytes.as_slice(), b"xx1,000x".as_slice());
+    assert_equal(&rt, cursor.position(), 7);
+    assert_equal(&rt, bytes.as_slice(), b"xx1,000x".as_slice());
     let mut short = [b'x'; 3];
     assert!(rt; write_thousand(&mut Cursor::new(short.as_mut_slice())).is_err());
-    assert_eq!(rt; short.as_slice(), b"1,0".as_slice());
+    assert_equal(&rt, short.as_slice(), b"1,0".as_slice());
     Ok(())
 }
 
@@ -57,10 +59,10 @@ fn cursors_over_slices(rt: HostRuntime) -> Result<(), Fail> {
 fn cursors_over_boxed_slices(rt: HostRuntime) -> Result<(), Fail> {
     let mut cursor = Cursor::new(b"xxxxxx".to_vec(rt.alloc())?.into_boxed_slice());
     append_thousand(&rt, &mut cursor)?;
-    assert_eq!(rt; &cursor.get_ref()[..], b"1,000x".as_slice());
+    assert_equal(&rt, &cursor.get_ref()[..], b"1,000x".as_slice());
     let mut cursor = Cursor::new(b"xxxx".to_vec(rt.alloc())?.into_boxed_slice());
     assert!(rt; write_thousand(&mut cursor).is_err());
-    assert_eq!(rt; &cursor.get_ref()[..], b"1,00".as_slice());
+    assert_equal(&rt, &cursor.get_ref()[..], b"1,00".as_slice());
     Ok(())
 }
 
@@ -72,7 +74,7 @@ fn buffered_writers(rt: HostRuntime) -> Result<(), Fail> {
     append_two_thousands(&rt, &mut buffered)?;
     assert!(rt; buffered.get_ref().is_empty());
     buffered.flush()?;
-    assert_eq!(rt; buffered.get_ref().as_slice(), b"1,0001,000".as_slice());
+    assert_equal(&rt, buffered.get_ref().as_slice(), b"1,0001,000".as_slice());
     Ok(())
 }
 
@@ -83,7 +85,7 @@ fn line_writers(rt: HostRuntime) -> Result<(), Fail> {
     let mut lines = LineWriter::new(alloc, Vec::new(alloc))?;
     append_two_thousands(&rt, &mut lines)?;
     lines.write_all(b"\n")?;
-    assert_eq!(rt; lines.get_ref().as_slice(), b"1,0001,000\n".as_slice());
+    assert_equal(&rt, lines.get_ref().as_slice(), b"1,0001,000\n".as_slice());
     Ok(())
 }
 
@@ -94,7 +96,7 @@ fn small_buffers(rt: HostRuntime) -> Result<(), Fail> {
     let mut buffered = BufWriter::with_capacity(alloc, 3, Vec::new(alloc))?;
     append_two_thousands(&rt, &mut buffered)?;
     buffered.flush()?;
-    assert_eq!(rt; buffered.get_ref().as_slice(), b"1,0001,000".as_slice());
+    assert_equal(&rt, buffered.get_ref().as_slice(), b"1,0001,000".as_slice());
     Ok(())
 }
 
@@ -102,9 +104,9 @@ fn small_buffers(rt: HostRuntime) -> Result<(), Fail> {
 fn sinks_and_streams(rt: HostRuntime) -> Result<(), Fail> {
     append_two_thousands(&rt, &mut io::sink())?;
     let format = CustomFormat::default();
-    assert_eq!(rt; rt.stdout().write_formatted(&0, &format)?, 1);
-    assert_eq!(rt; rt.stdout().lock().write_formatted(&0, &format)?, 1);
-    assert_eq!(rt; rt.stderr().write_formatted(&0, &format)?, 1);
-    assert_eq!(rt; rt.stderr().lock().write_formatted(&0, &format)?, 1);
+    assert_equal(&rt, rt.stdout().write_formatted(&0, &format)?, 1);
+    assert_equal(&rt, rt.stdout().lock().write_formatted(&0, &format)?, 1);
+    assert_equal(&rt, rt.stderr().write_formatted(&0, &format)?, 1);
+    assert_equal(&rt, rt.stderr().lock().write_formatted(&0, &format)?, 1);
     Ok(())
 }
