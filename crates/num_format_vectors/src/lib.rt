@@ -14,7 +14,7 @@
 //! |---|---|
 //! | `five_formats` | zero, the lowest and the highest value of each of the eighteen types |
 //! | `every_way` | one text by every way of printing: the check that `five_formats` makes too |
-//! | `own_formats` | a format of a user's own, [`OwnFormat`] |
+//! | `own_formats` | a format of a user's own, that of `own_format` |
 //! | `refusals` | the capacities of the six texts, what a builder takes, and what a refusal prints |
 //! | `buffers` | a new buffer, one that is written twice, a copy, and a printed one |
 //! | `constants` | the name of each constant of `Locale` |
@@ -27,10 +27,6 @@
 //! | `files` | a file of the system, written and read back |
 //! | `program` | command lines of the program `regroup`, and writers that fail in mid-reply |
 #![tactic(auto)]
-
-pub mod own_format;
-
-pub use own_format::OwnFormat;
 
 #[cfg(test)]
 mod asserting;
@@ -50,6 +46,8 @@ mod files;
 mod five_formats;
 #[cfg(test)]
 mod locales;
+#[cfg(test)]
+mod own_format;
 #[cfg(test)]
 mod own_formats;
 #[cfg(test)]

@@ -6,7 +6,7 @@ use num_format::{Format, Grouping};
 
 /// A format whose texts look like digits: the separator is `7` and the minus sign `17`. All else
 /// but the grouping is that of the locale `en`.
-#[derive(Clone, Copy, Debug, PartialEq, Eq)]
+#[derive(Clone, Copy)]
 pub struct OwnFormat {
     /// How the digits of a whole number are grouped.
     pub grouping: Grouping,

@@ -1,7 +1,7 @@
 //! Numbers under a format of a user's own, whose separator is `7` and whose minus sign is `17`.
 
-use crate::OwnFormat;
 use crate::asserting::assert_equal;
+use crate::own_format::OwnFormat;
 use crate::texts::printed;
 use num_format::{Format, Grouping};
 
@@ -44,5 +44,5 @@ fn answers(rt: HostRuntime) {
         format.plus_sign().into_str(),
         format.separator().into_str(),
     ];
-    assert_equal(&rt, answers, [".", "∞", "17", "NaN", "+", "7"]);
+    assert_eq!(rt; answers, [".", "∞", "17", "NaN", "+", "7"]);
 }

@@ -131,7 +131,7 @@ fn assert_answers(rt: &impl Abort, format: &CustomFormat, grouping: Grouping, te
         format.plus_sign(),
         format.separator(),
     ];
-    assert_equal(rt, answers, texts);
+    assert_eq!(rt; answers, texts);
 }
 
 /// A builder keeps each text of exactly the capacity.

@@ -13,6 +13,12 @@ fn vectors(rt: HostRuntime) -> Result<(), Fail> {
     let mut bytes = b"x".to_vec(alloc)?;
     append_two_thousands(&rt, &mut bytes)?;
     assert_equal(&rt, bytes.as_slice(), b"x1,0001,000".as_slice());
+    Ok(())
+}
+
+#[test]
+fn boxed_vectors(rt: HostRuntime) -> Result<(), Fail> {
+    let alloc = rt.alloc();
     let mut boxed = Box::new(alloc, b"x".to_vec(alloc)?)?;
     append_two_thousands(&rt, &mut boxed)?;
     assert_equal(&rt, boxed.as_slice(), b"x1,0001,000".as_slice());
@@ -22,8 +28,7 @@ fn vectors(rt: HostRuntime) -> Result<(), Fail> {
 /// Over a vector, which grows where the text goes past its end.
 #[test]
 fn cursors_over_vectors(rt: HostRuntime) -> Result<(), Fail> {
-    let alloc = rt.alloc();
-    let mut cursor = Cursor::new(b"abcdefgh".to_vec(alloc)?);
+    let mut cursor = Cursor::new(b"abcdefgh".to_vec(rt.alloc())?);
     cursor.set_position(2);
     append_thousand(&rt, &mut cursor)?;
     assert_equal(&rt, cursor.get_ref().as_slice(), b"ab1,000h".as_slice());
@@ -34,7 +39,12 @@ fn cursors_over_vectors(rt: HostRuntime) -> Result<(), Fail> {
         b"ab1,0001,0001,000".as_slice(),
     );
     assert_equal(&rt, cursor.position(), 17);
-    let mut bytes = Vec::new(alloc);
+    Ok(())
+}
+
+#[test]
+fn cursors_over_borrowed_vectors(rt: HostRuntime) -> Result<(), Fail> {
+    let mut bytes = Vec::new(rt.alloc());
     append_two_thousands(&rt, &mut Cursor::new(&mut bytes))?;
     assert_equal(&rt, bytes.as_slice(), b"1,0001,000".as_slice());
     Ok(())
@@ -49,10 +59,14 @@ fn cursors_over_slices(rt: HostRuntime) -> Result<(), Fail> {
     append_thousand(&rt, &mut &mut cursor)?;
     assert_equal(&rt, cursor.position(), 7);
     assert_equal(&rt, bytes.as_slice(), b"xx1,000x".as_slice());
+    Ok(())
+}
+
+#[test]
+fn cursors_over_short_slices(rt: HostRuntime) {
     let mut short = [b'x'; 3];
     assert!(rt; write_thousand(&mut Cursor::new(short.as_mut_slice())).is_err());
     assert_equal(&rt, short.as_slice(), b"1,0".as_slice());
-    Ok(())
 }
 
 #[test]
@@ -60,6 +74,11 @@ fn cursors_over_boxed_slices(rt: HostRuntime) -> Result<(), Fail> {
     let mut cursor = Cursor::new(b"xxxxxx".to_vec(rt.alloc())?.into_boxed_slice());
     append_thousand(&rt, &mut cursor)?;
     assert_equal(&rt, &cursor.get_ref()[..], b"1,000x".as_slice());
+    Ok(())
+}
+
+#[test]
+fn cursors_over_short_boxed_slices(rt: HostRuntime) -> Result<(), Fail> {
     let mut cursor = Cursor::new(b"xxxx".to_vec(rt.alloc())?.into_boxed_slice());
     assert!(rt; write_thousand(&mut cursor).is_err());
     assert_equal(&rt, &cursor.get_ref()[..], b"1,00".as_slice());
@@ -101,12 +120,20 @@ fn small_buffers(rt: HostRuntime) -> Result<(), Fail> {
 }
 
 #[test]
-fn sinks_and_streams(rt: HostRuntime) -> Result<(), Fail> {
-    append_two_thousands(&rt, &mut io::sink())?;
+fn sinks(rt: HostRuntime) -> Result<(), Fail> {
+    append_two_thousands(&rt, &mut io::sink())
+}
+
+#[test]
+fn streams(rt: HostRuntime) -> Result<(), Fail> {
+    append_two_thousands(&rt, &mut rt.stdout())?;
+    append_two_thousands(&rt, &mut rt.stderr())
+}
+
+#[test]
+fn locked_streams(rt: HostRuntime) -> Result<(), Fail> {
     let format = CustomFormat::default();
-    assert_equal(&rt, rt.stdout().write_formatted(&0, &format)?, 1);
     assert_equal(&rt, rt.stdout().lock().write_formatted(&0, &format)?, 1);
-    assert_equal(&rt, rt.stderr().write_formatted(&0, &format)?, 1);
     assert_equal(&rt, rt.stderr().lock().write_formatted(&0, &format)?, 1);
     Ok(())
 }
