@@ -27,33 +27,51 @@ fn assert_fails(rt: &impl Abort, answer: io::Result<usize>, kind: io::ErrorKind)
 /// The whole text is taken, in as many writes as it needs.
 #[test]
 fn a_few_bytes_a_call(rt: HostRuntime) -> Result<(), Fail> {
-    let rows = [(1, 5), (2, 3), (3, 2), (4, 2), (5, 1), (6, 1)];
-    let format = CustomFormat::default();
-    for (most, calls) in rows {
-        let mut choppy = Choppy::new(rt.alloc(), most, None);
-        assert_equal(&rt, 1000.read_to_io_writer(&mut choppy, &format)?, 5);
-        assert_held(&rt, &choppy, "1,000", calls);
-        let mut boxed = Box::new(rt.alloc(), Choppy::new(rt.alloc(), most, None))?;
-        append_thousand(&rt, &mut boxed)?;
-        assert_held(&rt, &boxed, "1,000", calls);
+    for (most, calls) in [(1, 5), (2, 3), (3, 2), (4, 2), (5, 1), (6, 1)] {
+        takes_all(&rt, rt.alloc(), most, calls)?;
+        boxed_takes_all(&rt, rt.alloc(), most, calls)?;
     }
+    Ok(())
+}
+
+fn takes_all(rt: &impl Abort, alloc: Global, most: usize, calls: usize) -> Result<(), Fail> {
+    let mut choppy = Choppy::new(alloc, most, None);
+    let count = 1000.read_to_io_writer(&mut choppy, &CustomFormat::default())?;
+    assert_equal(rt, count, 5);
+    assert_held(rt, &choppy, "1,000", calls);
+    Ok(())
+}
+
+fn boxed_takes_all(rt: &impl Abort, alloc: Global, most: usize, calls: usize) -> Result<(), Fail> {
+    let mut boxed = Box::new(alloc, Choppy::new(alloc, most, None))?;
+    append_thousand(rt, &mut boxed)?;
+    assert_held(rt, &boxed, "1,000", calls);
     Ok(())
 }
 
 /// Asserts that a write gone wrong is the last one and that its fault is the answer. A writer of
 /// one byte a call then holds a byte for each write before it.
 fn stops_at(rt: &impl Abort, alloc: Global, fault: Fault, kind: io::ErrorKind) -> Result<(), Fail> {
-    let rows = [(1, ""), (2, "1"), (3, "1,"), (4, "1,0"), (5, "1,00")];
-    let format = CustomFormat::default();
-    for (call, held) in rows {
+    for (call, held) in [(1, ""), (2, "1"), (3, "1,"), (4, "1,0"), (5, "1,00")] {
         let mut choppy = Choppy::new(alloc, 1, Some((call, fault)));
-        assert_fails(rt, 1000.read_to_io_writer(&mut choppy, &format), kind);
+        let answer = 1000.read_to_io_writer(&mut choppy, &CustomFormat::default());
+        assert_fails(rt, answer, kind);
         assert_held(rt, &choppy, held, call);
-        let mut boxed = Box::new(alloc, Choppy::new(alloc, 1, Some((call, fault))))?;
-        assert_fails(rt, write_thousand(&mut boxed), kind);
-        assert_held(rt, &boxed, held, call);
+        let boxed = Box::new(alloc, Choppy::new(alloc, 1, Some((call, fault))))?;
+        boxed_stops(rt, boxed, kind, held, call);
     }
     Ok(())
+}
+
+fn boxed_stops(
+    rt: &impl Abort,
+    mut boxed: Box<Choppy>,
+    kind: io::ErrorKind,
+    held: &str,
+    calls: usize,
+) {
+    assert_fails(rt, write_thousand(&mut boxed), kind);
+    assert_held(rt, &boxed, held, calls);
 }
 
 #[test]
