@@ -12,7 +12,7 @@
 //!
 //! | Module | What is tested |
 //! |---|---|
-//! | `five_formats` | zero, the lowest and the highest value of each of the eighteen types |
+//! | `five_formats` | zero, a thousand and the ends of each of the eighteen types |
 //! | `every_way` | one text by every way of printing: the check that `five_formats` makes too |
 //! | `own_formats` | a format of a user's own, that of `own_format` |
 //! | `refusals` | the capacities of the six texts, what a builder takes, and what a refusal prints |
