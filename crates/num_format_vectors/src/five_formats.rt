@@ -112,6 +112,7 @@ impl<'a> Number<'a> {
     }
 }
 
+/// Asserts it of a number of the type of that name.
 fn as_type(
     rt: &impl Abort,
     alloc: Global,

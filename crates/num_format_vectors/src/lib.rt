@@ -2,9 +2,10 @@
 //!
 //! What is proved is proved against definitions; these tests show that the definitions mean what
 //! the Rust crate num-format 0.4.4 does. Each expected text is a literal. Those of the module
-//! `five_formats` are the texts of the Rust crate's own tests: the ends of every integer type
-//! under five formats, with `_` in place of the separator. The names of `constants` are those of
-//! the crate's table. The others were worked out by hand from the rules of grouping and reading.
+//! `five_formats`, but for a thousand, are the texts of the Rust crate's own tests: the ends of
+//! every integer type under five formats, with `_` in place of the separator. The names of
+//! `constants` are those of the crate's table. The others were worked out by hand from the rules of
+//! grouping and reading.
 //!
 //! A text, a name or a number that needs no test of its own is a row that `num_format_oracle`
 //! replays: worked texts under locales and built formats, texts that are read and refused, and
