@@ -66,7 +66,7 @@ const LOCALE_ROWS: [Row<'static>; 12] = [
 
 /// Asserts the status that a command line ends with.
 fn assert_status(rt: &impl Abort, words: &[&str], status: u8, wanted: u8) {
-    assert_eq!(rt; status, wanted, "{words:?}");
+    assert_equal(rt, (words, status), (words, wanted));
 }
 
 /// Asserts what an output was sent.

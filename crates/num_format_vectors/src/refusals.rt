@@ -28,11 +28,6 @@ const OF_129_INTO_128: &str =
 /// The texts of `en`, in the order of their names.
 const ENGLISH: [&str; 6] = [".", "\u{221e}", "-", "NaN", "+", ","];
 
-/// The first `len` bytes of an ASCII text, or all of it where it is shorter.
-fn first(text: &str, len: usize) -> &str {
-    text.get(..len).unwrap_or(text)
-}
-
 /// What a refusal prints, whatever width is asked, or `accepted` where there is none.
 fn told(alloc: Global, refusal: Option<Error>) -> Result<String, AllocError> {
     match refusal {
@@ -48,9 +43,10 @@ fn keeps_to<S: Symbol>(
     capacity: usize,
     refusal: &str,
 ) -> Result<(), Fail> {
+    let longest = "x".repeat(alloc, capacity)?;
     let too_long = "x".repeat(alloc, capacity.saturating_add(1))?;
-    let longest = first(&too_long, capacity);
-    assert_equal(rt, BoundedStr::<S>::new(longest)?.into_str(), longest);
+    let kept = BoundedStr::<S>::new(&longest)?;
+    assert_equal(rt, kept.into_str(), longest.as_str());
     let refused = told(alloc, BoundedStr::<S>::new(&too_long).err())?;
     assert_equal(rt, refused.as_str(), refusal);
     Ok(())
