@@ -14,16 +14,16 @@ mod report;
 mod row;
 
 use report::Report;
-use std::io::{self, BufRead, BufReader};
+use std::io;
 use std::process::ExitCode;
 
 fn main(rt: HostRuntime) -> io::Result<ExitCode> {
     let alloc = rt.alloc();
+    let rows = io::read_to_string(alloc, rt.reader())?;
     let mut report = Report::new();
-    for (index, line) in BufReader::new(alloc, rt.reader())?.lines(alloc).enumerate() {
-        let line = line?;
+    for (index, line) in rows.lines().enumerate() {
         if !line.starts_with('#') {
-            report.replay(&rt, alloc, index + 1, &line)?;
+            report.replay(&rt, alloc, index + 1, line)?;
         }
     }
     report.print(&rt)?;

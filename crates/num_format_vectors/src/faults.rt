@@ -3,7 +3,7 @@
 use crate::asserting::assert_equal;
 use crate::choppy::{Choppy, Fault};
 use crate::texts::built;
-use crate::thousand::{append_thousand, write_thousand};
+use crate::thousand::{append_thousand, assert_fails, write_thousand};
 use num_format::{CustomFormat, Grouping, ToFormattedString};
 use std::alloc::Global;
 use std::io;
@@ -14,14 +14,6 @@ use std::test::Fail;
 fn assert_held(rt: &impl Abort, choppy: &Choppy, held: &str, calls: usize) {
     assert_equal(rt, choppy.held.as_slice(), held.as_bytes());
     assert_equal(rt, choppy.calls, calls);
-}
-
-/// Asserts that an answer is an error of this kind.
-fn assert_fails(rt: &impl Abort, answer: io::Result<usize>, kind: io::ErrorKind) {
-    match answer {
-        Ok(count) => panic!(rt; "{count} bytes were taken"),
-        Err(error) => assert_equal(rt, error.kind(), kind),
-    }
 }
 
 /// The whole text is taken, in as many writes as it needs.

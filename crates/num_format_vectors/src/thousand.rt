@@ -26,3 +26,11 @@ pub fn append_two_thousands<W: WriteFormatted>(
     let mut lent = writer;
     append_thousand(rt, &mut lent)
 }
+
+/// Asserts that an answer is an error of this kind.
+pub fn assert_fails(rt: &impl Abort, answer: io::Result<usize>, kind: io::ErrorKind) {
+    match answer {
+        Ok(count) => panic!(rt; "{count} bytes were taken"),
+        Err(error) => assert_equal(rt, error.kind(), kind),
+    }
+}
