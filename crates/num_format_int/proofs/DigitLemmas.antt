@@ -1,15 +1,17 @@
 -- Laws of the digits of a number.
-use Rattle.std.proofs.Common.{◌≡◌, ℕ, zero, suc, ◌+◌, ◌/◌, ◌%◌, ◌^◌, ◌<◌, ◌≤◌, true, false, ◌⊎◌, inl, inr, List, [], ◌∷◌, ◌++◌, length, map, ap, ◌∙◌, sym, arith, length-append, All}
+use Rattle.std.proofs.Common.{◌≡◌, ℕ, zero, suc, ◌+◌, ◌/◌, ◌*◌, ◌%◌, ◌^◌, ◌<◌, ◌≤◌, true, false, ◌⊎◌, inl, inr, List, [], ◌∷◌, ◌++◌, length, map, refl, ap, append-nil, append_assoc, ◌∙◌, sym, arith, length-append, All}
 use Rattle.std.specs.Prelude.{nat_lt}
 use Rattle.std.specs.Fmt.{decimal}
 use Rattle.std.specs.Int.Digits.{number_from_digits}
 use Rattle.std.proofs.lemmas.Bool.Decides.{nat_tests}
 use Rattle.std.proofs.lemmas.Fmt.{decimal_by_steps_wide}
 use Rattle.std.proofs.lemmas.Int.Digits.{number_push}
-use Rattle.std.proofs.lemmas.List.{map-append}
+use Rattle.std.proofs.lemmas.List.{map-append, length-map}
 use Rattle.std.proofs.lemmas.List.Elements.{All-append, All-cons, All-nil}
-use Rattle.std.proofs.Math.Nat.{pow-suc}
+use Rattle.std.proofs.Math.Nat.{pow-suc, pow-succ', div-div-eq-div-mul}
+use Rattle.std.proofs.Math.Arith.{mod-mul}
 use Rattle.num_format_int.specs.Digits.{digits, digits_in}
+use Rattle.num_format_int.specs.Groups.{last_digits, plain}
 
 one_or_more_digits : (n : ℕ) → (n < 10) ⊎ (10 ≤ n)
 one_or_more_digits n = grind arith
@@ -30,7 +32,7 @@ digits_in-turns (suc a) (suc b) n in_a in_b =
       | inl small ↦ digits_in-small (suc a) n small ∙ sym (digits_in-small (suc b) n small)
       | inr more ↦
           digits_in-more a n more
-          ∙ ap (λ front. front ++ (n % 10 ∷ [])) (digits_in-turns a b (n / 10) (omega arith) (omega arith))
+          ∙ ap (λ ds. ds ++ (n % 10 ∷ [])) (digits_in-turns a b (n / 10) (omega arith) (omega arith))
           ∙ sym (digits_in-more b n more)
     ]
 
@@ -45,7 +47,7 @@ unfolding digits
 digits-more zero more = absurd (omega arith)
 digits-more (suc m) more =
     digits_in-more m (suc m) more
-    ∙ ap (λ front. front ++ (suc m % 10 ∷ [])) (digits_in-turns m (suc m / 10) (suc m / 10) (omega arith) (omega arith))
+    ∙ ap (λ ds. ds ++ (suc m % 10 ∷ [])) (digits_in-turns m (suc m / 10) (suc m / 10) (omega arith) (omega arith))
 
 by_digits_in : (P : ℕ → Type 0) → ((n : ℕ) → n < 10 → P n) → ((n : ℕ) → 10 ≤ n → P (n / 10) → P n) → (turns n : ℕ) → n ≤ turns → P n
 by_digits_in P one more zero n within = one n (omega arith)
@@ -55,22 +57,11 @@ by_digits_in P one more (suc turns) n within =
       | inr large ↦ more n large (by_digits_in P one more turns (n / 10) (omega arith))
     ]
 
--- what holds of one digit, and of a number where it holds without the last digit, holds of every number
+-- what holds of one digit, and of a number if it holds of the number without its last digit, holds of every number
 pub by_digits : (P : ℕ → Type 0) → ((n : ℕ) → n < 10 → P n) → ((n : ℕ) → 10 ≤ n → P (n / 10) → P n) → (n : ℕ) → P n
 by_digits P one more n = by_digits_in P one more n n (omega arith)
 
--- one more digit behind digits
-pub All-push : (ds : List ℕ) (d : ℕ) → All (λ x. x < 10) ds → d < 10 → All (λ x. x < 10) (ds ++ (d ∷ []))
-All-push ds d all last =
-    let below_ten : ℕ → Type 0 = λ x. x < 10 in
-    All-append below_ten ds (d ∷ []) all (All-cons below_ten d [] last (All-nil below_ten))
-
--- each digit is below ten
-pub digits_below_ten : (n : ℕ) → All (λ d. d < 10) (digits n)
-digits_below_ten = by_digits (λ n. All (λ d. d < 10) (digits n))
-    (λ n small. rw (digits-small n small) (All-push [] n (All-nil (λ d. d < 10)) small))
-    (λ n large front. rw (digits-more n large) (All-push (digits (n / 10)) (n % 10) front (omega arith)))
-
+-- one more digit
 pub length-digits-more : (n : ℕ) → 10 ≤ n → length (digits n) ≡ length (digits (n / 10)) + 1
 length-digits-more n more = ap length (digits-more n more) ∙ length-append (digits (n / 10)) (n % 10 ∷ [])
 
@@ -78,7 +69,7 @@ length-digits-more n more = ap length (digits-more n more) ∙ length-append (di
 pub digits_given : (n : ℕ) → 0 < length (digits n)
 digits_given = by_digits (λ n. 0 < length (digits n))
     (λ n small. omega (arith, ap length (digits-small n small)))
-    (λ n large front. omega (arith, length-digits-more n large))
+    (λ n large less. omega (arith, length-digits-more n large))
 
 -- a number below ten to the k has at most k digits
 pub length-digits-le : (k n : ℕ) → 0 < k → n < 10 ^ k → length (digits n) ≤ k
@@ -88,8 +79,8 @@ length-digits-le (suc (suc k)) n some below =
     elim (one_or_more_digits n) [
       | inl small ↦ omega (arith, ap length (digits-small n small))
       | inr large ↦
-          let below_front : n / 10 < 10 ^ suc k = omega (arith, pow-suc 10 (suc k)) in
-          omega (arith, length-digits-more n large, length-digits-le (suc k) (n / 10) (omega arith) below_front)
+          let below_less : n / 10 < 10 ^ suc k = omega (arith, pow-suc 10 (suc k)) in
+          omega (arith, length-digits-more n large, length-digits-le (suc k) (n / 10) (omega arith) below_less)
     ]
 
 -- a number of 128 bits has at most 39 digits
@@ -100,11 +91,73 @@ length-digits-le39 n fits = length-digits-le 39 n (omega arith) (omega arith)
 pub number_from_digits-digits : (n : ℕ) → number_from_digits 10 (digits n) ≡ n
 number_from_digits-digits = by_digits (λ n. number_from_digits 10 (digits n) ≡ n)
     (λ n small. rw (digits-small n small) (omega arith))
-    (λ n large front. rw (digits-more n large, number_push 10 (digits (n / 10)) (n % 10), front) (omega arith))
+    (λ n large less. rw (digits-more n large, number_push 10 (digits (n / 10)) (n % 10), less) (omega arith))
 
--- std's decimal text is the digits as characters
-pub decimal-digits : (n : ℕ) → n < 10 ^ 64 → decimal n ≡ map (λ d. 48 + d) (digits n)
+-- std's decimal text is the digits as text
+pub decimal-digits : (n : ℕ) → n < 10 ^ 64 → decimal n ≡ plain (digits n)
 decimal-digits =
-    decimal_by_steps_wide (λ n text. text ≡ map (λ d. 48 + d) (digits n))
-    (λ n small. ap (map (λ d. 48 + d)) (sym (digits-small n small)))
-    (λ n text large front. rw (digits-more n large, map-append, front))
+    decimal_by_steps_wide (λ n text. text ≡ plain (digits n))
+    (λ n small. ap plain (sym (digits-small n small)))
+    (λ n text large less. rw (digits-more n large, map-append, less))
+
+pow_pos10 : (k : ℕ) → 1 ≤ 10 ^ k
+pow_pos10 zero = omega arith
+pow_pos10 (suc k) = omega (arith, pow-suc 10 k, pow_pos10 k)
+
+-- a number of more than k digits is the others and then the last k
+pub digits-split : (k n : ℕ) → 10 ^ k ≤ n → digits n ≡ digits (n / 10 ^ k) ++ last_digits k n
+digits-split zero n some = let whole : n / 10 ^ 0 ≡ n = omega arith in rw (whole, append-nil)
+digits-split (suc k) n some =
+    let large : 10 ≤ n = omega (arith, pow-suc 10 k, pow_pos10 k) in
+    let more : 10 ^ k ≤ n / 10 = omega (arith, pow-suc 10 k) in
+    let whole : n / 10 / 10 ^ k ≡ n / 10 ^ suc k = div-div-eq-div-mul n 10 (10 ^ k) ∙ ap (λ d. n / d) (sym (pow-succ' 10 k)) in
+    digits-more n large
+    ∙ ap (λ ds. ds ++ (n % 10 ∷ [])) (digits-split k (n / 10) more)
+    ∙ rw (whole, append_assoc)
+
+-- they are k
+pub length-last_digits : (k n : ℕ) → length (last_digits k n) ≡ k
+length-last_digits zero n = refl
+length-last_digits (suc k) n = simp (length-append, length-last_digits k (n / 10)) (omega arith)
+
+-- the lengths add up
+pub length-digits-split : (k n : ℕ) → 10 ^ k ≤ n → length (digits n) ≡ length (digits (n / 10 ^ k)) + k
+length-digits-split k n some =
+    omega (arith, ap length (digits-split k n some), length-append (digits (n / 10 ^ k)) (last_digits k n), length-last_digits k n)
+
+-- the digits of a number of two digits
+pub digits-two : (n : ℕ) → 10 ≤ n → n < 100 → digits n ≡ (n / 10) ∷ (n % 10) ∷ []
+digits-two n some below = rw (digits-more n some, digits-small (n / 10) (omega arith))
+
+-- and of three
+pub digits-three : (n : ℕ) → 100 ≤ n → n < 1000 → digits n ≡ (n / 100) ∷ (n % 100 / 10) ∷ (n % 100 % 10) ∷ []
+digits-three n some below =
+    let high : n / 10 / 10 ≡ n / 100 = omega arith in
+    let middle : n / 10 % 10 ≡ n % 100 / 10 = omega arith in
+    let low : n % 10 ≡ n % 100 % 10 = omega arith in
+    rw (digits-more n (omega arith), digits-two (n / 10) (omega arith) (omega arith), high, middle, low)
+
+-- from the k-th power of ten on, a number has more than k digits
+pub length-digits-gt : (k n : ℕ) → 10 ^ k ≤ n → k < length (digits n)
+length-digits-gt k n some = omega (arith, length-digits-split k n some, digits_given (n / 10 ^ k))
+
+-- the length of a separator, a group of k digits and a text
+pub length-put_group : (s b : List ℕ) (k n : ℕ) → length (s ++ (plain (last_digits k n) ++ b)) ≡ length s + k + length b
+length-put_group s b k n = simp (length-append, length-map, length-last_digits) (omega arith)
+
+-- more digits to the left do not change the last k
+pub last_digits-mod : (k n : ℕ) → last_digits k (n % 10 ^ k) ≡ last_digits k n
+last_digits-mod zero n = refl
+last_digits-mod (suc k) n =
+    let both : n % 10 ^ suc k ≡ (n / 10 % 10 ^ k) * 10 + n % 10 = ap (λ p. n % p) (pow-suc 10 k) ∙ mod-mul n (pow_pos10 k) (omega arith) in
+    let first : n % 10 ^ suc k / 10 ≡ n / 10 % 10 ^ k = omega arith in
+    let last : n % 10 ^ suc k % 10 ≡ n % 10 = omega arith in
+    rw (first, last, last_digits-mod k (n / 10))
+
+-- a digit 1 and then eighteen digits
+pub digits-eighteen : (part : ℕ) → part < 10 ^ 18 → digits (1000000000000000000 + part) ≡ 1 ∷ last_digits 18 part
+digits-eighteen part below =
+    let one : (1000000000000000000 + part) / 10 ^ 18 ≡ 1 = omega arith in
+    let rest : (1000000000000000000 + part) % 10 ^ 18 ≡ part % 10 ^ 18 = omega arith in
+    digits-split 18 (1000000000000000000 + part) (omega arith)
+    ∙ rw (one, digits-small 1 (omega arith), ← last_digits-mod 18 (1000000000000000000 + part), rest, last_digits-mod 18 part)

@@ -1,4 +1,7 @@
+pub mod BufferLemmas
 pub mod DigitLemmas
+pub mod GroupLemmas
 pub mod GroupedLemmas
+pub mod PairLemmas
 pub mod ReadingLemmas
 pub mod ReadingRows

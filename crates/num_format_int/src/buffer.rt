@@ -1,128 +1,166 @@
-//! A text of at most 191 bytes, without memory of its own.
+//! The text of a number, kept in place.
+//!
+//! A [`Buffer`] is an array of [`MAX_BUF_LEN`] bytes, which no number outgrows under any format. Its
+//! text ends where the array ends and grows to the left, since the digits of a number are found from
+//! the last to the first.
 ghost use Rattle.std.specs.Prelude.{◌≡◌, ◌+◌, ◌<◌, ◌≤◌, ◌==◌, [], ◌∷◌, ◌++◌, length, Some};
 
-use crate::to_formatted_str::ToFormattedStr;
-use num_format_text::Format;
 use std::marker::Model;
 use std::{fmt, str};
 
-/// The length in bytes of the longest text of a number: 39 digits, 18 separators and a minus sign
-/// of 8 bytes each.
+/// The length in bytes of the longest text of a number: 39 digits, and 18 separators and a minus
+/// sign of 8 bytes each.
 pub const MAX_BUF_LEN: usize = 191;
 
+/// The bytes at the end of the array that a short text takes.
+const SHORT_LEN: usize = 32;
+
+/// Where these bytes begin.
+const SHORT_START: usize = MAX_BUF_LEN - SHORT_LEN;
+
 /// The text of a number, kept in place. A contract sees its bytes.
+///
+/// The text alone makes up the value: the bytes of the array outside of it are zero.
 #[derive(Clone, Copy)]
 pub struct Buffer {
     inner: [u8; MAX_BUF_LEN],
-    end: usize,
+    start: usize,
 }
 
 impl Model for Buffer {
     ghost use Rattle.std.specs.Prelude.{◌≡◌, ℕ, ◌-◌, ◌≤◌, List, ◌++◌, length, take, drop, replicate, IsUtf8};
-    ghost use Rattle.num_format_int.specs.TextAndZeros.{text_and_zeros, end_of_text};
+    ghost use Rattle.num_format_int.specs.ZerosAndText.{zeros_and_text, start_of_text};
+    ghost use Rattle.num_format_int.specs.declared.buffer.TheConstants.{MAX_BUF_LEN};
 
     ghost Value = { List ℕ };
 
-    ghost view = { λ b. take b.end b.inner };
+    ghost view = { λ b. drop b.start b.inner };
 
-    ghost invariant = { λ b. (b.end ≤ 191) × (length b.inner ≡ 191)
-        × (drop b.end b.inner ≡ replicate (191 - b.end) 0) × ∥ IsUtf8 (take b.end b.inner) ∥₁ };
+    ghost invariant = { λ b. (b.start ≤ MAX_BUF_LEN) × (length b.inner ≡ MAX_BUF_LEN)
+        × (take b.start b.inner ≡ replicate b.start 0) × ∥ IsUtf8 (drop b.start b.inner) ∥₁ };
 
-    ghost inverse = { λ t. record { inner = t ++ replicate (191 - length t) 0; end = length t } };
+    ghost inverse = { λ t. record {
+        inner = replicate (MAX_BUF_LEN - length t) 0 ++ t;
+        start = MAX_BUF_LEN - length t;
+    } };
 
     ghost inverse_ok = { λ b h i. record {
-      inner = text_and_zeros b.inner b.end h.0 h.1 h.2 i;
-      end = end_of_text b.inner b.end h.0 h.1 i;
+      inner = zeros_and_text MAX_BUF_LEN b.inner b.start h.0 h.1 h.2 i;
+      start = start_of_text MAX_BUF_LEN b.inner b.start h.0 h.1 i;
     } };
 }
 
 impl Buffer {
     ghost use Rattle.std.specs.Prelude.{◌≡◌, ◌+◌, ◌<◌, ◌≤◌, ◌==◌, [], ◌∷◌, ◌++◌, length};
-    ghost use Rattle.num_format_int.specs.Text.{text_of};
 
-    /// A buffer with the empty text.
+    /// Returns a buffer with the empty text.
     pub fn new() -> Buffer
         ensures { result ≡ [] }
     {
         Buffer {
             inner: [0; MAX_BUF_LEN],
-            end: 0,
+            start: MAX_BUF_LEN,
         }
     }
 
-    /// The bytes of the text.
+    /// Returns the bytes of the text.
     pub fn as_bytes(&self) -> &[u8]
         ensures same { result.now ≡ self.now }
         ensures fits { length result.now ≤ MAX_BUF_LEN }
     {
-        &self.inner[..self.end]
+        &self.inner[self.start..]
     }
 
-    /// The text.
+    /// Returns the text.
     pub fn as_str(&self) -> &str
         ensures same { result.now ≡ self.now }
         ensures fits { length result.now ≤ MAX_BUF_LEN }
     {
-        unsafe { str::from_utf8_unchecked(&self.inner[..self.end]) }
+        unsafe { str::from_utf8_unchecked(&self.inner[self.start..]) }
     }
 
-    /// Whether the text has no byte.
+    /// Returns whether the text is empty.
     pub fn is_empty(&self) -> bool
         ensures { result ≡ (length self.now == 0) }
     {
         self.len() == 0
     }
 
-    /// The length of the text in bytes.
+    /// Returns the length of the text in bytes.
     pub fn len(&self) -> usize
         ensures length { result ≡ length self.now }
         ensures fits { result ≤ MAX_BUF_LEN }
     {
-        self.as_bytes().len()
+        MAX_BUF_LEN - self.start
     }
 
-    /// Writes the number in place of the text that stood, and answers the new length in bytes.
-    pub fn write_formatted<F: Format, N: ToFormattedStr>(&mut self, n: &N, format: &F) -> usize
-        ensures text { self.new ≡ text_of (F.answers format.now) (N.value n.now) }
-        ensures length { result ≡ length self.new }
+    /// Prepends a text to the one that stands. Both together have at most [`MAX_BUF_LEN`] bytes.
+    ///
+    /// The Rust crate has no such call.
+    ///
+    /// ```text
+    /// let mut buffer = Buffer::new();
+    /// buffer.write_formatted(&1000, &Locale::en);
+    /// buffer.put_front("$");
+    /// buffer.as_str()                              // $1,000
+    /// ```
+    #[inline(always)]
+    pub fn put_front(&mut self, text: &str)
+        requires { length text.now + length self.old ≤ MAX_BUF_LEN }
+        ensures { self.new ≡ text.now ++ self.old }
     {
-        n.read_to_buffer(self, format)
+        let start = self.start - text.len();
+        copy_bytes(text.as_bytes(), &mut self.inner[start..self.start]);
+        self.start = start;
     }
 
     /// Makes the text empty.
+    ///
+    /// The bytes before the text are zero already, so of a short text only the last bytes of the
+    /// array are set to zero, which takes a fraction of the time that the whole array takes.
     pub(crate) fn clear(&mut self)
         ensures { self.new ≡ [] }
     {
-        *self = Buffer::new();
-    }
-
-    /// Puts a text behind the one that stands.
-    pub(crate) fn push_str(&mut self, text: &str)
-        requires { length self.old + length text.now ≤ MAX_BUF_LEN }
-        ensures { self.new ≡ self.old ++ text.now }
-    {
-        let end = self.end + text.len();
-        copy_bytes(text.as_bytes(), &mut self.inner[self.end..end]);
-        self.end = end;
+        if self.start >= SHORT_START {
+            self.inner[SHORT_START..].copy_from_slice(&[0; SHORT_LEN]);
+            self.start = MAX_BUF_LEN;
+        } else {
+            *self = Buffer::new();
+        }
     }
 }
 
-/// Writes the bytes over as many others.
+/// Copies the bytes over as many others.
+///
+/// A copy whose length is known only at run time is a call. The texts of one to three bytes, which
+/// are digits and most separators, are copied in a move or two: all of their bytes are read before
+/// the first is written, so that the compiler may join the writes.
+#[inline(always)]
 fn copy_bytes(bytes: &[u8], target: &mut [u8])
     requires { length target.old ≡ length bytes.now }
     ensures { target.new ≡ bytes.now }
 {
-    // A digit is one byte, and a copy of any length would be a call for each.
-    if let [byte] = bytes {
-        target[0] = *byte;
-    } else {
-        target.copy_from_slice(bytes);
+    match bytes {
+        [a] => target[0] = *a,
+        [a, b] => {
+            let (a, b) = (*a, *b);
+            target[0] = a;
+            target[1] = b;
+        }
+        [a, b, c] => {
+            let (a, b, c) = (*a, *b, *c);
+            target[0] = a;
+            target[1] = b;
+            target[2] = c;
+        }
+        _ => target.copy_from_slice(bytes),
     }
 }
 
 impl Default for Buffer {
     ghost is_default = { λ b. b ≡ [] };
 
+    /// Returns a buffer with the empty text.
     fn default() -> Buffer {
         Buffer::new()
     }
@@ -133,6 +171,7 @@ impl fmt::Display for Buffer {
 
     ghost styled_output = { λ b _. Some b };
 
+    /// Writes the text alone, whatever width or fill is asked for.
     fn fmt<W: fmt::Write>(&self, f: &mut fmt::Formatter<W>) -> fmt::Result {
         f.write_str(self.as_str())
     }
