@@ -1,3 +1,2 @@
-pub mod EqualItems
 pub mod NameLemmas
 pub mod TextLemmas

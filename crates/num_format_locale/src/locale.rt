@@ -166,9 +166,11 @@ fn spells(text: &str, name: &str) -> bool
 fn has_underscores(text: &[u8], name: &[u8]) -> bool
     ensures { IsTrue result ↔ (map underscore_for_hyphen name.now ≡ text.now) }
 {
-    name.iter()
-        .map(|byte| if *byte == b'-' { b'_' } else { *byte })
-        .eq(text.iter().copied())
+    text.len() == name.len()
+        && text
+            .iter()
+            .zip(name)
+            .all(|(each, byte)| *each == if *byte == b'-' { b'_' } else { *byte })
 }
 
 impl FromStr for Locale {

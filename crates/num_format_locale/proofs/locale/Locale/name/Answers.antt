@@ -1,8 +1,0 @@
-use Rattle.std.proofs.Common.{rules}
-use Rattle.num_format_locale.proofs.locale.Locale.name.Goals as goal
-
-pub returns-clause-same : goal.returns-clause-same
-returns-clause-same c = search rules
-
-pub returns-clause-within : goal.returns-clause-within
-returns-clause-within c = search rules
