@@ -1,5 +1,6 @@
 -- What a format is made of.
 use Rattle.std.specs.Prelude.{ℕ, ◌≤◌, List, length}
+use Rattle.num_format_text.specs.declared.capacities.TheConstants.{MAX_DEC_LEN, MAX_INF_LEN, MAX_MIN_LEN, MAX_NAN_LEN, MAX_PLUS_LEN, MAX_SEP_LEN}
 use Rattle.num_format_text.specs.declared.grouping.Grouping.{Grouping}
 
 -- the seven answers of a format; each text is the list of its bytes
@@ -14,9 +15,9 @@ pub record FormatData : Type 0 where
 
 -- each text is within its capacity
 pub record IsWithinCapacity (f : FormatData) : Type 0 where
-  pub decimal : length f.decimal ≤ 8
-  pub infinity : length f.infinity ≤ 128
-  pub minus_sign : length f.minus_sign ≤ 8
-  pub nan : length f.nan ≤ 64
-  pub plus_sign : length f.plus_sign ≤ 8
-  pub separator : length f.separator ≤ 8
+  pub decimal : length f.decimal ≤ MAX_DEC_LEN
+  pub infinity : length f.infinity ≤ MAX_INF_LEN
+  pub minus_sign : length f.minus_sign ≤ MAX_MIN_LEN
+  pub nan : length f.nan ≤ MAX_NAN_LEN
+  pub plus_sign : length f.plus_sign ≤ MAX_PLUS_LEN
+  pub separator : length f.separator ≤ MAX_SEP_LEN

@@ -2,6 +2,7 @@
 ghost use Rattle.std.specs.Prelude.{Some};
 ghost use Rattle.num_format_text.specs.Refusal.{message_of, refusal_of};
 
+use crate::capacities::MAX_ERR_LEN;
 use arrayvec::ArrayString;
 use std::fmt;
 
@@ -18,9 +19,9 @@ pub enum ErrorKind {
         cap: usize,
     },
     /// The text, cut, names no locale.
-    ParseLocale(ArrayString<256>),
+    ParseLocale(ArrayString<MAX_ERR_LEN>),
     /// The text, cut, is no number of the type that was asked for.
-    ParseNumber(ArrayString<256>),
+    ParseNumber(ArrayString<MAX_ERR_LEN>),
 }
 
 impl fmt::Display for ErrorKind {

@@ -8,6 +8,7 @@
 //! The names are those of the Rust crate `num-format` 0.4.4.
 #![tactic(auto)]
 
+pub mod capacities;
 pub mod error;
 pub mod error_kind;
 pub mod format;

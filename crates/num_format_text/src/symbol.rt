@@ -4,6 +4,11 @@
 //! symbol is a type without data, which tells its text from the texts of the others and says how
 //! many bytes the text may have. The capacities are those of the Rust crate `num-format`.
 ghost use Rattle.std.specs.Prelude.{ℕ};
+ghost use Rattle.num_format_text.specs.declared.capacities.TheConstants.{MAX_DEC_LEN, MAX_INF_LEN, MAX_MIN_LEN, MAX_NAN_LEN, MAX_PLUS_LEN, MAX_SEP_LEN};
+
+use crate::capacities::{
+    MAX_DEC_LEN, MAX_INF_LEN, MAX_MIN_LEN, MAX_NAN_LEN, MAX_PLUS_LEN, MAX_SEP_LEN,
+};
 
 /// A symbol of a format.
 pub trait Symbol {
@@ -18,9 +23,9 @@ pub trait Symbol {
 pub struct Decimal;
 
 impl Symbol for Decimal {
-    const CAPACITY: usize = 8;
+    const CAPACITY: usize = MAX_DEC_LEN;
 
-    ghost CAPACITY = { 8 };
+    ghost CAPACITY = { MAX_DEC_LEN };
 }
 
 /// Infinity, of at most 128 bytes.
@@ -28,9 +33,9 @@ impl Symbol for Decimal {
 pub struct Infinity;
 
 impl Symbol for Infinity {
-    const CAPACITY: usize = 128;
+    const CAPACITY: usize = MAX_INF_LEN;
 
-    ghost CAPACITY = { 128 };
+    ghost CAPACITY = { MAX_INF_LEN };
 }
 
 /// The minus sign, of at most 8 bytes.
@@ -38,9 +43,9 @@ impl Symbol for Infinity {
 pub struct MinusSign;
 
 impl Symbol for MinusSign {
-    const CAPACITY: usize = 8;
+    const CAPACITY: usize = MAX_MIN_LEN;
 
-    ghost CAPACITY = { 8 };
+    ghost CAPACITY = { MAX_MIN_LEN };
 }
 
 /// Not a number, of at most 64 bytes.
@@ -48,9 +53,9 @@ impl Symbol for MinusSign {
 pub struct Nan;
 
 impl Symbol for Nan {
-    const CAPACITY: usize = 64;
+    const CAPACITY: usize = MAX_NAN_LEN;
 
-    ghost CAPACITY = { 64 };
+    ghost CAPACITY = { MAX_NAN_LEN };
 }
 
 /// The plus sign, of at most 8 bytes.
@@ -58,9 +63,9 @@ impl Symbol for Nan {
 pub struct PlusSign;
 
 impl Symbol for PlusSign {
-    const CAPACITY: usize = 8;
+    const CAPACITY: usize = MAX_PLUS_LEN;
 
-    ghost CAPACITY = { 8 };
+    ghost CAPACITY = { MAX_PLUS_LEN };
 }
 
 /// The separator between groups of digits, of at most 8 bytes.
@@ -68,7 +73,7 @@ impl Symbol for PlusSign {
 pub struct Separator;
 
 impl Symbol for Separator {
-    const CAPACITY: usize = 8;
+    const CAPACITY: usize = MAX_SEP_LEN;
 
-    ghost CAPACITY = { 8 };
+    ghost CAPACITY = { MAX_SEP_LEN };
 }
