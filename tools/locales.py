@@ -105,8 +105,7 @@ def piece_source(number, piece):
     start = number * PIECE
     lines = "".join(row_line(row) for row in piece)
     return f"""//! The rows from `{first}` to `{last}`. {MARK}
-ghost use Rattle.std.specs.Prelude.{{◌≡◌, map}};
-ghost use Rattle.num_format_cldr.specs.Entry.{{bytes_of, encoded}};
+ghost use Rattle.num_format_cldr.specs.Entry.{{ShowsAll}};
 ghost use Rattle.num_format_cldr.specs.Table.{{piece}};
 
 use crate::record::Row;
@@ -117,7 +116,7 @@ static ROWS: [Row; {len(piece)}] = [
 
 /// The rows from place {start} to place {start + len(piece) - 1}.
 pub fn rows() -> &'static [Row]
-    ensures {{ map bytes_of result.now ≡ map encoded (piece {number}) }}
+    ensures {{ ShowsAll result.now (piece {number}) }}
 {{
     &ROWS
 }}
@@ -128,14 +127,14 @@ def piece_answers(module):
     return f"""-- {MARK}
 use Rattle.std.proofs.Common.{{refl}}
 use lib.Utf8.{{encode}}
-use Rattle.num_format_cldr.specs.Entry.{{bytes_of, encoded}}
 use Rattle.num_format_cldr.specs.Families.{{families}}
 use Rattle.num_format_cldr.specs.Table.{{members, piece}}
+use Rattle.num_format_cldr.proofs.Shown.{{ShowsAll-from_equal}}
 use Rattle.num_format_cldr.proofs.rows.{module}.rows.Goals as goal
 
 pub returns : goal.returns
-unfolding encode bytes_of encoded families members piece
-returns c = refl
+unfolding encode families members piece
+returns c = ShowsAll-from_equal _ _ refl
 """
 
 
@@ -143,17 +142,20 @@ def dispatch_source(modules):
     declarations = "".join(f"mod {module};\n" for module in modules)
     arms = "".join(f"        {number} => {module}::rows(),\n" for number, module in enumerate(modules[:-1]))
     return f"""//! The rows, in modules of at most {PIECE} each. {MARK}
-ghost use Rattle.std.specs.Prelude.{{◌≡◌, ◌<◌, map}};
-ghost use Rattle.num_format_cldr.specs.Entry.{{bytes_of, encoded}};
+ghost use Rattle.std.specs.Prelude.{{◌<◌}};
+ghost use Rattle.num_format_cldr.specs.Entry.{{ShowsAll}};
 ghost use Rattle.num_format_cldr.specs.Table.{{piece}};
 
 use crate::record::Row;
 
 {declarations}
-/// The rows from place `{PIECE} * number` on, at most {PIECE} of them.
+/// The most rows of one module.
+pub const PIECE_LEN: usize = {PIECE};
+
+/// The rows from place `PIECE_LEN * number` on, at most [`PIECE_LEN`] of them.
 pub fn rows_of_piece(number: usize) -> &'static [Row]
     requires {{ number < {len(modules)} }}
-    ensures {{ map bytes_of result.now ≡ map encoded (piece number) }}
+    ensures {{ ShowsAll result.now (piece number) }}
 {{
     match number {{
 {arms}        _ => {modules[-1]}::rows(),

@@ -1,8 +1,11 @@
-use Rattle.std.proofs.Common.{◌≡◌, ◌≢◌, ℕ, ◌<◌, ◌≤◌, List, [], ◌∷◌, length, encode_utf8_all, refl, sym, subst, Bool, true, false, ◌&&◌, nat_le, if◌then◌else◌}
+-- What holds of every entry, whatever its name.
+use Rattle.std.proofs.Common.{◌≡◌, ◌≢◌, ℕ, ◌<◌, ◌≤◌, List, [], ◌∷◌, length, encode_utf8_all, refl, sym, ap, subst, arith, Bool, true, false, ◌&&◌, nat_le, if◌then◌else◌}
 use Rattle.std.specs.List.{list_all}
 use Rattle.std.specs.Cmp.{first_so, second_so}
 use Rattle.std.proofs.lemmas.Bool.{leb-true}
 use lib.Utf8.{encode}
+use Rattle.num_format_text.specs.declared.capacities.TheConstants.{MAX_DEC_LEN, MAX_INF_LEN, MAX_MIN_LEN, MAX_NAN_LEN, MAX_PLUS_LEN, MAX_SEP_LEN}
+use Rattle.num_format_cldr.specs.declared.TheConstants.{LEN}
 use Rattle.num_format_cldr.specs.Entry.{IsWellFormed}
 use Rattle.num_format_cldr.specs.Classes.{Class, A, B, C, D, E, F, G, H, decimal_mark_of, separator_of}
 use Rattle.num_format_cldr.specs.Families.{Member}
@@ -26,24 +29,26 @@ value_passes test name (line ∷ lines) usual hu h =
     if_passes test (line.is_for name) line.value (value_for name lines usual) (first_so _ _ h)
     (value_passes test name lines usual hu (second_so _ _ h))
 
--- a text has at most so many bytes
+-- whether a text has at most so many bytes
 abbrev fits : ℕ → List ℕ → Bool
 fits capacity text = nat_le (length (encode_utf8_all text)) capacity
 
--- a text of 1 to 8 bytes
-abbrev fits_given : List ℕ → Bool
-fits_given text = nat_le 1 (length text) && fits 8 text
+-- whether it has one byte at least, too
+abbrev fits_given : ℕ → List ℕ → Bool
+fits_given capacity text = nat_le 1 (length (encode_utf8_all text)) && fits capacity text
 
 -- what the tests say
 within : (capacity : ℕ) (text : List ℕ) → fits capacity text ≡ true → length (encode_utf8_all text) ≤ capacity
 within capacity text h = leb-true _ _ h
 
-given : (text : List ℕ) → fits_given text ≡ true → text ≢ []
-given [] h = cc
-given (c ∷ text) h = λ e. cc
+given : (capacity : ℕ) (text : List ℕ) → fits_given capacity text ≡ true → encode_utf8_all text ≢ []
+given capacity text h none =
+    let some : 1 ≤ length (encode_utf8_all text) = leb-true _ _ (first_so _ _ h) in
+    let empty : length (encode_utf8_all text) ≡ 0 = ap length none in
+    absurd (omega arith)
 
 -- each text of the definition passes its test
-decimal_mark_fits : (c : Class) → fits 8 (decimal_mark_of c) ≡ true
+decimal_mark_fits : (c : Class) → fits MAX_DEC_LEN (decimal_mark_of c) ≡ true
 unfolding encode
 decimal_mark_fits A = refl
 decimal_mark_fits B = refl
@@ -54,7 +59,7 @@ decimal_mark_fits F = refl
 decimal_mark_fits G = refl
 decimal_mark_fits H = refl
 
-separator_fits : (c : Class) → fits_given (separator_of c) ≡ true
+separator_fits : (c : Class) → fits_given MAX_SEP_LEN (separator_of c) ≡ true
 unfolding encode
 separator_fits A = refl
 separator_fits B = refl
@@ -68,21 +73,21 @@ separator_fits H = refl
 grouping_fits : (name : List ℕ) → nat_le (grouping_of name) 2 ≡ true
 grouping_fits name = value_passes (λ group. nat_le group 2) name unusual_groupings standard refl refl
 
-infinity_fits : (name : List ℕ) → fits 128 (infinity_of name) ≡ true
+infinity_fits : (name : List ℕ) → fits MAX_INF_LEN (infinity_of name) ≡ true
 unfolding encode
-infinity_fits name = value_passes (fits 128) name unusual_infinities _ refl refl
+infinity_fits name = value_passes (fits MAX_INF_LEN) name unusual_infinities _ refl refl
 
-minus_fits : (name : List ℕ) → fits_given (signs_of name).minus ≡ true
+minus_fits : (name : List ℕ) → fits_given MAX_MIN_LEN (signs_of name).minus ≡ true
 unfolding encode
-minus_fits name = value_passes (λ its. fits_given its.minus) name unusual_signs (signs "-" "+") refl refl
+minus_fits name = value_passes (λ its. fits_given MAX_MIN_LEN its.minus) name unusual_signs (signs "-" "+") refl refl
 
-plus_fits : (name : List ℕ) → fits 8 (signs_of name).plus ≡ true
+plus_fits : (name : List ℕ) → fits MAX_PLUS_LEN (signs_of name).plus ≡ true
 unfolding encode
-plus_fits name = value_passes (λ its. fits 8 its.plus) name unusual_signs (signs "-" "+") refl refl
+plus_fits name = value_passes (λ its. fits MAX_PLUS_LEN its.plus) name unusual_signs (signs "-" "+") refl refl
 
-nan_fits : (name : List ℕ) → fits 64 (nan_of name) ≡ true
+nan_fits : (name : List ℕ) → fits MAX_NAN_LEN (nan_of name) ≡ true
 unfolding encode
-nan_fits name = value_passes (fits 64) name unusual_nans _ refl refl
+nan_fits name = value_passes (fits MAX_NAN_LEN) name unusual_nans _ refl refl
 
 -- so every entry is well formed, whatever its name
 entry_of_is_well_formed : (m : Member) → IsWellFormed (entry_of m)
@@ -94,10 +99,10 @@ entry_of_is_well_formed m = record {
   nan = within _ _ (nan_fits m.name);
   plus = within _ _ (plus_fits m.name);
   sep = within _ _ (second_so _ _ (separator_fits m.class));
-  min_given = given _ (minus_fits m.name);
-  sep_given = given _ (separator_fits m.class);
+  min_given = given _ _ (minus_fits m.name);
+  sep_given = given _ _ (separator_fits m.class);
 }
 
 -- and with it the entry at each place
-pub entry_is_well_formed : (place : ℕ) → place < 542 → IsWellFormed (entry place)
+pub entry_is_well_formed : (place : ℕ) → place < LEN → IsWellFormed (entry place)
 entry_is_well_formed place h = subst IsWellFormed (sym (entry-member place h)) (entry_of_is_well_formed (member place))

@@ -1,18 +1,21 @@
-use Rattle.std.proofs.Common.{◌≡◌, ℕ, ◌+◌, ◌-◌, ◌*◌, ◌/◌, ◌%◌, ◌<◌, List, [], length, map, take, drop, slice_index_or, encode_utf8_all, refl, sym, ap, ◌∙◌, arith, min}
+-- Where the entries of the table stand in its pieces.
+use Rattle.std.proofs.Common.{◌≡◌, ℕ, ◌+◌, ◌-◌, ◌*◌, ◌/◌, ◌%◌, ◌<◌, List, [], length, map, take, drop, slice_index_or, encode_utf8_all, refl, sym, ap, subst, ◌∙◌, arith, min}
 use Rattle.std.proofs.lemmas.List.{length-map, get_or-map, get_or-take, get_or-drop, drop-map, take-map, length-take, length-drop}
-use Rattle.std.proofs.Math.ListN.{get_or-map as get_or-map_default}
+use Rattle.num_format_cldr.specs.declared.TheConstants.{LEN}
 use Rattle.num_format_cldr.specs.declared.record.Row.{Row}
-use Rattle.num_format_cldr.specs.Entry.{no_entry, Shows, bytes_of, encoded}
+use Rattle.num_format_cldr.specs.declared.rows.TheConstants.{PIECE_LEN}
+use Rattle.num_format_cldr.specs.Entry.{no_entry, Shows, ShowsAll}
 use Rattle.num_format_cldr.specs.Classes.{A}
 use Rattle.num_format_cldr.specs.Families.{Member, families}
 use Rattle.num_format_cldr.specs.Table.{members, entry_of, table, entry, table_names, piece}
+use Rattle.num_format_cldr.proofs.Shown.{Shows-at, length-ShowsAll}
 
--- there are 542 names
-pub length-members : length members ≡ 542
+-- there are as many names as rows
+pub length-members : length members ≡ LEN
 unfolding members families
 length-members = refl
 
--- what stands at a place past the end of `members`
+-- the member at each place past the end of `members`
 abbrev no_member : Member
 no_member = record { name = []; class = A }
 
@@ -21,70 +24,49 @@ abbrev pub member : ℕ → Member
 member place = slice_index_or members place no_member
 
 -- the entry at a place is that of the member there
-pub entry-member : (place : ℕ) → place < 542 → entry place ≡ entry_of (member place)
+pub entry-member : (place : ℕ) → place < LEN → entry place ≡ entry_of (member place)
 unfolding table
 entry-member place within = get_or-map entry_of members place no_member no_entry (omega (arith, length-members))
 
 -- the list of names and the table have the same name at a place
-pub name_at : (place : ℕ) → place < 542 → slice_index_or table_names place [] ≡ encode_utf8_all (entry place).name
+pub name_at : (place : ℕ) → place < LEN → slice_index_or table_names place [] ≡ (entry place).name
 unfolding table_names
 name_at place within =
     get_or-map (λ m. encode_utf8_all m.name) members place no_member [] (omega (arith, length-members))
-    ∙ ap (λ e. encode_utf8_all e.name) (sym (entry-member place within))
+    ∙ ap (λ e. e.name) (sym (entry-member place within))
 
 -- a piece is a part of the table
-piece-table : (k : ℕ) → piece k ≡ take 64 (drop (64 * k) table)
+piece-table : (k : ℕ) → piece k ≡ take PIECE_LEN (drop (PIECE_LEN * k) table)
 unfolding piece table
 piece-table k =
-    sym (ap (take 64) (drop-map entry_of (64 * k) members) ∙ take-map entry_of 64 (drop (64 * k) members))
+    sym (ap (take PIECE_LEN) (drop-map entry_of (PIECE_LEN * k) members) ∙ take-map entry_of PIECE_LEN (drop (PIECE_LEN * k) members))
 
--- where a place stands in its piece
-entry_in_piece : (place : ℕ) → slice_index_or (piece (place / 64)) (place % 64) no_entry ≡ entry place
+-- the entry at a place stands in the piece of its quotient, at its remainder
+entry_in_piece : (place : ℕ) → slice_index_or (piece (place / PIECE_LEN)) (place % PIECE_LEN) no_entry ≡ entry place
 entry_in_piece place =
-    let within : place % 64 < 64 = omega arith in
-    let here : 64 * (place / 64) + place % 64 ≡ place = omega arith in
-    ap (λ entries. slice_index_or entries (place % 64) no_entry) (piece-table (place / 64))
-    ∙ get_or-take 64 (drop (64 * (place / 64)) table) (place % 64) no_entry within
-    ∙ get_or-drop (64 * (place / 64)) table (place % 64) no_entry
+    let within : place % PIECE_LEN < PIECE_LEN = omega arith in
+    let here : PIECE_LEN * (place / PIECE_LEN) + place % PIECE_LEN ≡ place = omega arith in
+    ap (λ entries. slice_index_or entries (place % PIECE_LEN) no_entry) (piece-table (place / PIECE_LEN))
+    ∙ get_or-take PIECE_LEN (drop (PIECE_LEN * (place / PIECE_LEN)) table) (place % PIECE_LEN) no_entry within
+    ∙ get_or-drop (PIECE_LEN * (place / PIECE_LEN)) table (place % PIECE_LEN) no_entry
     ∙ ap (λ p. slice_index_or table p no_entry) here
 
--- all pieces but the last have 64 entries
-length-piece : (k : ℕ) → length (piece k) ≡ min 64 (542 - 64 * k)
+-- all pieces but the last are full
+length-piece : (k : ℕ) → length (piece k) ≡ min PIECE_LEN (LEN - PIECE_LEN * k)
 unfolding piece
 length-piece k =
-    length-map (take 64 (drop (64 * k) members)) entry_of
-    ∙ length-take 64 (drop (64 * k) members)
-    ∙ ap (min 64) (length-drop (64 * k) members ∙ ap (λ n. n - 64 * k) length-members)
+    length-map (take PIECE_LEN (drop (PIECE_LEN * k) members)) entry_of
+    ∙ length-take PIECE_LEN (drop (PIECE_LEN * k) members)
+    ∙ ap (min PIECE_LEN) (length-drop (PIECE_LEN * k) members ∙ ap (λ n. n - PIECE_LEN * k) length-members)
 
--- rows show the entries of the piece that holds a place
-module _ (rows : List Row) (place : ℕ) (shown : map bytes_of rows ≡ map encoded (piece (place / 64))) where
+-- rows that show the piece of a place
+module _ (rows : List Row) (place : ℕ) (shown : ShowsAll rows (piece (place / PIECE_LEN))) where
   -- how many rows there are
-  pub length-rows : length rows ≡ min 64 (542 - 64 * (place / 64))
-  length-rows =
-      sym (length-map rows bytes_of) ∙ ap length shown ∙ length-map (piece (place / 64)) encoded
-      ∙ length-piece (place / 64)
+  pub length-rows : length rows ≡ min PIECE_LEN (LEN - PIECE_LEN * (place / PIECE_LEN))
+  length-rows = sym (length-ShowsAll rows (piece (place / PIECE_LEN)) shown) ∙ length-piece (place / PIECE_LEN)
 
-  -- the row of a place has the bytes of its entry
-  bytes_at : (d : Row) → place < 542 → bytes_of (slice_index_or rows (place % 64) d) ≡ encoded (entry place)
-  bytes_at d within =
-      let in_piece : place % 64 < length (piece (place / 64)) = omega (arith, length-piece (place / 64)) in
-      sym (get_or-map_default bytes_of rows (place % 64) d)
-      ∙ ap (λ entries. slice_index_or entries (place % 64) (bytes_of d)) shown
-      ∙ get_or-map encoded (piece (place / 64)) (place % 64) no_entry (bytes_of d) in_piece
-      ∙ ap encoded (entry_in_piece place)
-
-  -- the same, field by field
-  pub row_at : (d : Row) → place < 542 → Shows (slice_index_or rows (place % 64) d) (entry place)
-  unfolding bytes_of encoded
+  -- the row of a place shows the entry there
+  pub row_at : (d : Row) → place < LEN → Shows (slice_index_or rows (place % PIECE_LEN) d) (entry place)
   row_at d within =
-      let same = bytes_at d within in
-      record {
-        name = ap (λ e. e.name) same;
-        dec = ap (λ e. e.dec) same;
-        group = ap (λ e. e.group) same;
-        inf = ap (λ e. e.inf) same;
-        min = ap (λ e. e.min) same;
-        nan = ap (λ e. e.nan) same;
-        plus = ap (λ e. e.plus) same;
-        sep = ap (λ e. e.sep) same;
-      }
+      subst (Shows (slice_index_or rows (place % PIECE_LEN) d)) (entry_in_piece place)
+      (Shows-at rows (piece (place / PIECE_LEN)) (place % PIECE_LEN) d no_entry shown (omega (arith, length-rows)))

@@ -1,3 +1,4 @@
+-- The table of locales.
 use Rattle.std.specs.Prelude.{ℕ, ◌*◌, List, map, take, drop, encode_utf8_all, slice_index_or}
 use Rattle.std.specs.List.{flat_map}
 use Rattle.num_format_cldr.specs.Entry.{Entry, no_entry}
@@ -7,22 +8,23 @@ use Rattle.num_format_cldr.specs.Groupings.{grouping_of}
 use Rattle.num_format_cldr.specs.Infinities.{infinity_of}
 use Rattle.num_format_cldr.specs.Signs.{signs_of}
 use Rattle.num_format_cldr.specs.Nans.{nan_of}
+use Rattle.num_format_cldr.specs.declared.rows.TheConstants.{PIECE_LEN}
 
--- all names and their classes, in rising byte order
+-- all names with their classes, in rising byte order
 unfoldable pub members : List Member
 members = flat_map members_of families
 
--- the class gives the decimal mark and the separator, and the name all else
+-- the entry of a name: its class gives the decimal mark and the separator, and the name all else
 abbrev pub entry_of : Member → Entry
 entry_of member = record {
-  name = member.name;
-  dec = decimal_mark_of member.class;
+  name = encode_utf8_all member.name;
+  dec = encode_utf8_all (decimal_mark_of member.class);
   group = grouping_of member.name;
-  inf = infinity_of member.name;
-  min = (signs_of member.name).minus;
-  nan = nan_of member.name;
-  plus = (signs_of member.name).plus;
-  sep = separator_of member.class;
+  inf = encode_utf8_all (infinity_of member.name);
+  min = encode_utf8_all (signs_of member.name).minus;
+  nan = encode_utf8_all (nan_of member.name);
+  plus = encode_utf8_all (signs_of member.name).plus;
+  sep = encode_utf8_all (separator_of member.class);
 }
 
 -- the entries of all locales, in rising byte order of their names
@@ -37,6 +39,7 @@ entry place = slice_index_or table place no_entry
 unfoldable pub table_names : List (List ℕ)
 table_names = map (λ member. encode_utf8_all member.name) members
 
--- the entries from place 64 * k on, at most 64 of them: what one module of the code has
+-- a piece of the table, which one module of the code has: the entries from place `PIECE_LEN * k`
+-- on, at most `PIECE_LEN` of them
 unfoldable pub piece : ℕ → List Entry
-piece k = map entry_of (take 64 (drop (64 * k) members))
+piece k = map entry_of (take PIECE_LEN (drop (PIECE_LEN * k) members))

@@ -13,7 +13,7 @@
 //! definition. The rows themselves are written by `tools/locales.py`, one a line.
 #![tactic(auto)]
 
-ghost use Rattle.std.specs.Prelude.{◌≡◌, ◌<◌, [], map, length, All, Contains, encode_utf8_all, slice_index_or};
+ghost use Rattle.std.specs.Prelude.{◌≡◌, ◌<◌, [], map, length, All, Contains, slice_index_or};
 ghost use Rattle.num_format_cldr.specs.Entry.{Shows, IsWellFormed, Rises};
 ghost use Rattle.num_format_cldr.specs.Table.{entry, table_names};
 
@@ -31,9 +31,9 @@ pub fn row(place: usize) -> &'static Row
     requires { place < LEN }
     ensures shown { Shows result.now (entry place) }
     ensures well_formed { IsWellFormed (entry place) }
-    ensures named { slice_index_or table_names place [] ≡ encode_utf8_all (entry place).name }
+    ensures named { slice_index_or table_names place [] ≡ (entry place).name }
 {
-    &rows::rows_of_piece(place / 64)[place % 64]
+    &rows::rows_of_piece(place / rows::PIECE_LEN)[place % rows::PIECE_LEN]
 }
 
 /// The names of all rows, in order: the name at a place is that of the row at that place.

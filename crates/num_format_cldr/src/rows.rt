@@ -1,6 +1,6 @@
 //! The rows, in modules of at most 64 each. Written by tools/locales.py from tools/locales.txt; do not edit.
-ghost use Rattle.std.specs.Prelude.{◌≡◌, ◌<◌, map};
-ghost use Rattle.num_format_cldr.specs.Entry.{bytes_of, encoded};
+ghost use Rattle.std.specs.Prelude.{◌<◌};
+ghost use Rattle.num_format_cldr.specs.Entry.{ShowsAll};
 ghost use Rattle.num_format_cldr.specs.Table.{piece};
 
 use crate::record::Row;
@@ -15,10 +15,13 @@ mod from_mua;
 mod from_sah;
 mod from_uz_arab;
 
-/// The rows from place `64 * number` on, at most 64 of them.
+/// The most rows of one module.
+pub const PIECE_LEN: usize = 64;
+
+/// The rows from place `PIECE_LEN * number` on, at most [`PIECE_LEN`] of them.
 pub fn rows_of_piece(number: usize) -> &'static [Row]
     requires { number < 9 }
-    ensures { map bytes_of result.now ≡ map encoded (piece number) }
+    ensures { ShowsAll result.now (piece number) }
 {
     match number {
         0 => from_af::rows(),

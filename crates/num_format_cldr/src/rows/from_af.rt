@@ -1,6 +1,5 @@
 //! The rows from `af` to `cgg`. Written by tools/locales.py from tools/locales.txt; do not edit.
-ghost use Rattle.std.specs.Prelude.{◌≡◌, map};
-ghost use Rattle.num_format_cldr.specs.Entry.{bytes_of, encoded};
+ghost use Rattle.num_format_cldr.specs.Entry.{ShowsAll};
 ghost use Rattle.num_format_cldr.specs.Table.{piece};
 
 use crate::record::Row;
@@ -75,7 +74,7 @@ static ROWS: [Row; 64] = [
 
 /// The rows from place 0 to place 63.
 pub fn rows() -> &'static [Row]
-    ensures { map bytes_of result.now ≡ map encoded (piece 0) }
+    ensures { ShowsAll result.now (piece 0) }
 {
     &ROWS
 }

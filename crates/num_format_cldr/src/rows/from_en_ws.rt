@@ -1,6 +1,5 @@
 //! The rows from `en-WS` to `fr-CF`. Written by tools/locales.py from tools/locales.txt; do not edit.
-ghost use Rattle.std.specs.Prelude.{◌≡◌, map};
-ghost use Rattle.num_format_cldr.specs.Entry.{bytes_of, encoded};
+ghost use Rattle.num_format_cldr.specs.Entry.{ShowsAll};
 ghost use Rattle.num_format_cldr.specs.Table.{piece};
 
 use crate::record::Row;
@@ -75,7 +74,7 @@ static ROWS: [Row; 64] = [
 
 /// The rows from place 192 to place 255.
 pub fn rows() -> &'static [Row]
-    ensures { map bytes_of result.now ≡ map encoded (piece 3) }
+    ensures { ShowsAll result.now (piece 3) }
 {
     &ROWS
 }

@@ -1,6 +1,5 @@
 //! The rows from `uz-Arab` to `zu`. Written by tools/locales.py from tools/locales.txt; do not edit.
-ghost use Rattle.std.specs.Prelude.{◌≡◌, map};
-ghost use Rattle.num_format_cldr.specs.Entry.{bytes_of, encoded};
+ghost use Rattle.num_format_cldr.specs.Entry.{ShowsAll};
 ghost use Rattle.num_format_cldr.specs.Table.{piece};
 
 use crate::record::Row;
@@ -41,7 +40,7 @@ static ROWS: [Row; 30] = [
 
 /// The rows from place 512 to place 541.
 pub fn rows() -> &'static [Row]
-    ensures { map bytes_of result.now ≡ map encoded (piece 8) }
+    ensures { ShowsAll result.now (piece 8) }
 {
     &ROWS
 }
