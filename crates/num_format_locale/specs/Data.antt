@@ -1,5 +1,5 @@
 -- How a locale writes numbers.
-use Rattle.std.specs.Prelude.{ℕ, ◌==◌, encode_utf8_all, if◌then◌else◌}
+use Rattle.std.specs.Prelude.{ℕ, ◌==◌, if◌then◌else◌}
 use Rattle.num_format_cldr.specs.Entry.{Entry}
 use Rattle.num_format_cldr.specs.Groupings.{standard, indian}
 use Rattle.num_format_cldr.specs.Table.{entry}
@@ -14,13 +14,13 @@ grouping_for group = if group == standard then Standard else (if group == indian
 -- the seven data of an entry of the table; each text is the list of its bytes
 abbrev pub data_of : Entry → FormatData
 data_of e = record {
-  decimal = encode_utf8_all e.dec;
+  decimal = e.dec;
   grouping = grouping_for e.group;
-  infinity = encode_utf8_all e.inf;
-  minus_sign = encode_utf8_all e.min;
-  nan = encode_utf8_all e.nan;
-  plus_sign = encode_utf8_all e.plus;
-  separator = encode_utf8_all e.sep;
+  infinity = e.inf;
+  minus_sign = e.min;
+  nan = e.nan;
+  plus_sign = e.plus;
+  separator = e.sep;
 }
 
 -- the seven data of the locale at a place

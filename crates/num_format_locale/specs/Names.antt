@@ -1,6 +1,7 @@
 -- The names of the locales, and which texts spell one.
 use Rattle.num_format_cldr.specs.declared.TheConstants.{LEN}
 use Rattle.std.specs.Prelude.{ℕ, ◌<◌, ◌==◌, ◌≡◌, ◌⊎◌, List, [], map, slice_index_or, Result, Ok, IfOk, IfErr, OnErr, if◌then◌else◌}
+use Rattle.std.specs.Str.{byte}
 use Rattle.num_format_cldr.specs.Table.{table_names}
 use Rattle.num_format_text.specs.declared.error.Error.{Error}
 use Rattle.num_format_text.specs.Cut.{cut_text}
@@ -10,9 +11,9 @@ use Rattle.num_format_text.specs.Refusal.{ParseLocale, refusal_of}
 abbrev pub name_of : ℕ → List ℕ
 name_of place = slice_index_or table_names place []
 
--- an underscore (95) in place of a hyphen (45)
+-- a byte, with an underscore in place of a hyphen
 abbrev pub underscore_for_hyphen : ℕ → ℕ
-underscore_for_hyphen byte = if byte == 45 then 95 else byte
+underscore_for_hyphen at = if at == byte "-" then byte "_" else at
 
 -- the text is the name, or the name with every hyphen an underscore
 abbrev pub Spells : List ℕ → List ℕ → Type 0

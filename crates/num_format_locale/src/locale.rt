@@ -8,6 +8,9 @@ ghost use Rattle.num_format_locale.specs.Data.{locale_data};
 ghost use Rattle.num_format_locale.specs.Names.{LooksUp, Spells, name_of, underscore_for_hyphen};
 
 use num_format_cldr::{LEN, Row};
+use num_format_text::capacities::{
+    MAX_DEC_LEN, MAX_INF_LEN, MAX_MIN_LEN, MAX_NAN_LEN, MAX_PLUS_LEN, MAX_SEP_LEN,
+};
 use num_format_text::error::cut;
 use num_format_text::strings::{
     DecimalStr, InfinityStr, MinusSignStr, NanStr, PlusSignStr, SeparatorStr,
@@ -86,7 +89,7 @@ impl Locale {
     /// The decimal mark, of at most 8 bytes.
     pub fn decimal(&self) -> &'static str
         ensures same { result.now ≡ (locale_data self.now).decimal }
-        ensures fits { length result.now ≤ 8 }
+        ensures fits { length result.now ≤ MAX_DEC_LEN }
     {
         self.row().dec
     }
@@ -105,7 +108,7 @@ impl Locale {
     /// The text for infinity, of at most 128 bytes.
     pub fn infinity(&self) -> &'static str
         ensures same { result.now ≡ (locale_data self.now).infinity }
-        ensures fits { length result.now ≤ 128 }
+        ensures fits { length result.now ≤ MAX_INF_LEN }
     {
         self.row().inf
     }
@@ -113,7 +116,7 @@ impl Locale {
     /// The minus sign, which stands before a negative number, of 1 to 8 bytes.
     pub fn minus_sign(&self) -> &'static str
         ensures same { result.now ≡ (locale_data self.now).minus_sign }
-        ensures fits { length result.now ≤ 8 }
+        ensures fits { length result.now ≤ MAX_MIN_LEN }
         ensures given { result.now ≢ [] }
     {
         self.row().min
@@ -122,7 +125,7 @@ impl Locale {
     /// The text for NaN, of at most 64 bytes.
     pub fn nan(&self) -> &'static str
         ensures same { result.now ≡ (locale_data self.now).nan }
-        ensures fits { length result.now ≤ 64 }
+        ensures fits { length result.now ≤ MAX_NAN_LEN }
     {
         self.row().nan
     }
@@ -130,7 +133,7 @@ impl Locale {
     /// The plus sign, of at most 8 bytes.
     pub fn plus_sign(&self) -> &'static str
         ensures same { result.now ≡ (locale_data self.now).plus_sign }
-        ensures fits { length result.now ≤ 8 }
+        ensures fits { length result.now ≤ MAX_PLUS_LEN }
     {
         self.row().plus
     }
@@ -138,7 +141,7 @@ impl Locale {
     /// The separator between groups of digits, of 1 to 8 bytes.
     pub fn separator(&self) -> &'static str
         ensures same { result.now ≡ (locale_data self.now).separator }
-        ensures fits { length result.now ≤ 8 }
+        ensures fits { length result.now ≤ MAX_SEP_LEN }
         ensures given { result.now ≢ [] }
     {
         self.row().sep
@@ -167,10 +170,8 @@ fn has_underscores(text: &[u8], name: &[u8]) -> bool
     ensures { IsTrue result ↔ (map underscore_for_hyphen name.now ≡ text.now) }
 {
     text.len() == name.len()
-        && text
-            .iter()
-            .zip(name)
-            .all(|(each, byte)| *each == if *byte == b'-' { b'_' } else { *byte })
+        && text.iter().zip(name).all(|(each, byte)| *each
+            == if *byte == b'-' { b'_' } else { *byte })
 }
 
 impl FromStr for Locale {

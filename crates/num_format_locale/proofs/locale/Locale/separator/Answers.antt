@@ -1,6 +1,0 @@
-use Rattle.std.proofs.Common.{sym, ◌∙◌}
-use Rattle.num_format_locale.proofs.TextLemmas.{bytes_given}
-use Rattle.num_format_locale.proofs.locale.Locale.separator.Goals as goal
-
-pub returns-clause-given : goal.returns-clause-given
-returns-clause-given c = λ none. bytes_given _ c.row.ensures.well_formed.sep_given (sym c.row.ensures.shown.sep ∙ none)
