@@ -1,5 +1,5 @@
 #!/usr/bin/env python3
-"""Writes what the crates have of the table of locales, from locales.txt beside this file.
+"""Writes the table of locales into the crates, from locales.txt beside this file.
 
     python3 tools/locales.py rows        rewrites the generated files of crates/num_format_cldr
     python3 tools/locales.py constants   rewrites the constants of `Locale` in crates/num_format_locale
@@ -23,7 +23,7 @@ def unescaped(text):
 
 
 def is_plain(character):
-    """Whether it stands in a literal as it is: visible ASCII, and letters from left to right."""
+    """Whether a literal has it unescaped: visible ASCII, and letters written from left to right."""
     category = unicodedata.category(character)
     is_letter = category.startswith("L") or category == "Po"
     return " " < character <= "~" and character not in '"\\' or is_letter and unicodedata.bidirectional(character) == "L"
@@ -114,7 +114,7 @@ use crate::record::Row;
 static ROWS: [Row; {len(piece)}] = [
 {lines}];
 
-/// The rows from place {start} to place {start + len(piece) - 1}.
+/// Returns the rows from place {start} to place {start + len(piece) - 1}.
 pub fn rows() -> &'static [Row]
     ensures {{ ShowsAll result.now (piece {number}) }}
 {{
@@ -149,10 +149,10 @@ ghost use Rattle.num_format_cldr.specs.Table.{{piece}};
 use crate::record::Row;
 
 {declarations}
-/// The most rows of one module.
+/// The most rows that one module has.
 pub const PIECE_LEN: usize = {PIECE};
 
-/// The rows from place `PIECE_LEN * number` on, at most [`PIECE_LEN`] of them.
+/// Returns the rows from place `PIECE_LEN * number` on, at most [`PIECE_LEN`] of them.
 pub fn rows_of_piece(number: usize) -> &'static [Row]
     requires {{ number < {len(modules)} }}
     ensures {{ ShowsAll result.now (piece number) }}
@@ -168,6 +168,7 @@ def names_source(names):
     lines = "".join(f"    {literal(name)},\n" for name in names)
     return f"""//! The names of all rows. {MARK}
 
+/// The names, in rising byte order.
 #[rattlefmt::skip]
 pub static NAMES: [&str; {len(names)}] = [
 {lines}];
@@ -202,7 +203,7 @@ def write_rows():
 
 
 def constant_name(name):
-    """The name with underscores for hyphens; `as` is a word of the language."""
+    """The name with underscores for hyphens; `as` is a keyword."""
     return "as_" if name == "as" else name.replace("-", "_")
 
 
@@ -213,7 +214,8 @@ def constants_source(names):
     return f"""//! The locales as constants. {MARK}
 use crate::Locale;
 
-/// Each constant has the name of its locale with `_` for `-`, and that of `as` is `as_`.
+/// One constant a locale. It has the locale's name with `_` for `-`, and that of `as` is `as_`, since
+/// `as` is a keyword.
 #[allow(non_upper_case_globals)]
 #[rattlefmt::skip]
 impl Locale {{

@@ -1,3 +1,4 @@
+-- The order of the names, and the bytes that they do not have.
 use Rattle.std.proofs.Common.{◌≡◌, ℕ, zero, suc, ◌<◌, List, [], ◌∷◌, length, slice_index_or, refl, subst, arith, Bool, true, false, ◌&&◌, All, Contains, not, nat_eq}
 use Rattle.std.specs.List.{list_all}
 use Rattle.std.specs.Ordering.{nat_cmp}
@@ -12,29 +13,30 @@ use Rattle.num_format_cldr.specs.Entry.{Rises}
 use Rattle.num_format_cldr.specs.Families.{families}
 use Rattle.num_format_cldr.specs.Table.{members, table_names}
 
+-- whether a comparison says less
 abbrev is_less : Ordering → Bool
 is_less Less = true
 is_less Equal = false
 is_less Greater = false
 
--- what the test of two texts says
+-- what that test says
 less_from_test : (o : Ordering) → is_less o ≡ true → o ≡ Less
 less_from_test Less h = refl
 less_from_test Equal h = cc
 less_from_test Greater h = cc
 
--- whether each text stands before the next
+-- whether each text is less than the next
 abbrev rises : List (List ℕ) → Bool
 rises [] = true
 rises (x ∷ []) = true
 rises (x ∷ (y ∷ ys)) = is_less (slice_cmp nat_cmp x y) && rises (y ∷ ys)
 
--- what is left of a list that rises, rises
+-- the tail of a list that rises, rises
 rises_tail : (x : List ℕ) (ys : List (List ℕ)) → rises (x ∷ ys) ≡ true → rises ys ≡ true
 rises_tail x [] h = refl
 rises_tail x (y ∷ ys) h = second_so _ _ h
 
--- the first text stands before every other
+-- the first text is less than every other
 rises_first : (x : List ℕ) (ys : List (List ℕ)) → rises (x ∷ ys) ≡ true → (k : ℕ) → k < length ys → slice_cmp nat_cmp x (slice_index_or ys k []) ≡ Less
 rises_first x [] h k within = absurd (omega arith)
 rises_first x (y ∷ ys) h zero within = less_from_test _ (first_so _ _ h)
@@ -42,7 +44,7 @@ rises_first x (y ∷ ys) h (suc k) within =
     nat_list_cmp_total.trans x y (slice_index_or ys k []) (less_from_test _ (first_so _ _ h))
     (rises_first y ys (second_so _ _ h) k (omega arith))
 
--- where each text stands before the next, each stands before every later one
+-- where each text is less than the next, it is less than every later one
 Rises-from_test : (xs : List (List ℕ)) → rises xs ≡ true → Rises xs
 Rises-from_test [] h j k before within = absurd (omega arith)
 Rises-from_test (x ∷ xs) h j zero before within = absurd (omega arith)
@@ -75,6 +77,6 @@ all_have_none : list_all has_none table_names ≡ true
 unfolding encode families members table_names
 all_have_none = refl
 
--- no name has an underscore, 95
+-- no name has an underscore (95)
 pub names_have_no_underscore : All (λ name. Contains name 95 → ⊥) table_names
 names_have_no_underscore = λ k d within. has_none-says _ (AllPass-from_list_all has_none table_names all_have_none k d within)

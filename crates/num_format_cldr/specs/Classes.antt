@@ -1,3 +1,4 @@
+-- The decimal marks and separators of locales.
 use Rattle.std.specs.Prelude.{ℕ, List, codes}
 
 -- locales of one class share a decimal mark and a separator
@@ -11,7 +12,7 @@ pub data Class : Type 0 where
   G : Class
   H : Class
 
--- what stands between the whole part of a number and its fraction
+-- the decimal mark, between the whole part of a number and its fraction
 abbrev pub decimal_mark_of : Class → List ℕ
 decimal_mark_of A = codes "."
 decimal_mark_of B = codes ","
@@ -22,7 +23,7 @@ decimal_mark_of F = codes "."
 decimal_mark_of G = codes ","
 decimal_mark_of H = codes "."
 
--- what stands between two groups of digits
+-- the separator, between two groups of digits
 abbrev pub separator_of : Class → List ℕ
 separator_of A = codes ","
 separator_of B = codes "."

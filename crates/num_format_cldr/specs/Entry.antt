@@ -37,8 +37,7 @@ pub record Shows (row : Row) (e : Entry) : Type 0 where
 pub record ShowsAll (rows : List Row) (entries : List Entry) : Type 0 where
   pub each : AllZip Shows rows entries
 
--- each text is within its capacity, `group` is one of the three groupings, and neither the minus
--- sign nor the separator is empty
+-- texts are within their capacities, `group` is a grouping, and `min` and `sep` are not empty
 pub record IsWellFormed (e : Entry) : Type 0 where
   pub dec : length e.dec ≤ MAX_DEC_LEN
   pub group : e.group ≤ 2
@@ -50,7 +49,7 @@ pub record IsWellFormed (e : Entry) : Type 0 where
   pub min_given : e.min ≢ []
   pub sep_given : e.sep ≢ []
 
--- each text of a list stands before every later one, in the order of `&str`, which is that of bytes
+-- each text of a list is less than every later one, in the order of `&str`, which is that of bytes
 abbrev pub Rises : List (List ℕ) → Type 0
 Rises texts =
     (j k : ℕ) → j < k → k < length texts →

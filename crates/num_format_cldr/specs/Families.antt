@@ -1,3 +1,4 @@
+-- The names of locales, each with its class.
 use Rattle.std.specs.Prelude.{ℕ, Option, Some, None, unwrap_or, List, [], ◌∷◌, ◌++◌, map, codes}
 use Prim.Native.String.{String}
 use Rattle.num_format_cldr.specs.Classes.{Class, A, B, C, D, E, F, G, H}
@@ -7,7 +8,7 @@ pub record Member : Type 0 where
   pub name : List ℕ
   pub class : Class
 
--- what follows a stem and a hyphen in a name, with a class where it is not the stem's
+-- what follows a stem and a hyphen in a name, with its class where that is not the stem's
 pub record Word : Type 0 where
   pub text : List ℕ
   pub own_class : Option Class
@@ -26,7 +27,7 @@ pub record Family : Type 0 where
   pub class : Class
   pub words : List Word
 
--- a family, as the list below writes it
+-- a family, in the notation of the list below
 abbrev pub family : String → Class → List Word → Family
 family stem class words = record { stem = codes stem; class = class; words = words }
 
@@ -36,8 +37,7 @@ members_of f =
     record { name = f.stem; class = f.class }
     ∷ map (λ word. record { name = f.stem ++ 45 ∷ word.text; class = unwrap_or word.own_class f.class }) f.words
 
--- all families: from the first to the last, and in each from left to right, they give the names in
--- rising byte order
+-- all families; in the order of this list, their names rise in byte order
 unfoldable pub families : List Family
 families =
     family "af" C (same "NA" ∷ [])

@@ -1,3 +1,4 @@
+-- How locales group the digits of a number.
 use Rattle.std.specs.Prelude.{ℕ, List, [], ◌∷◌}
 use Rattle.num_format_cldr.specs.Unusual.{Unusual, for_names, value_for}
 
@@ -5,7 +6,7 @@ use Rattle.num_format_cldr.specs.Unusual.{Unusual, for_names, value_for}
 abbrev pub standard : ℕ
 standard = 0
 
--- three digits at the end, and groups of two before them
+-- a last group of three digits, and groups of two before it
 abbrev pub indian : ℕ
 indian = 1
 
@@ -13,7 +14,7 @@ indian = 1
 abbrev pub posix : ℕ
 posix = 2
 
--- the locales that group otherwise than in threes
+-- the locales with another grouping than groups of three
 abbrev pub unusual_groupings : List (Unusual ℕ)
 unusual_groupings =
     for_names ("as" ∷ "bn" ∷ "bn-IN" ∷ "brx" ∷ "ccp" ∷ "ccp-IN" ∷ "dz" ∷ "en-IN" ∷ "gu" ∷ "hi" ∷ "ks" ∷

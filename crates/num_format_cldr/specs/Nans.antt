@@ -1,7 +1,8 @@
+-- The texts of locales for a value that is not a number.
 use Rattle.std.specs.Prelude.{ℕ, List, [], ◌∷◌, ◌++◌, codes}
 use Rattle.num_format_cldr.specs.Unusual.{Unusual, for_names, for_stem, for_stem_but, value_for}
 
--- the locales that do not write NaN
+-- the locales with another text than NaN
 abbrev pub unusual_nans : List (Unusual (List ℕ))
 unusual_nans =
     for_stem_but "ar" ("ar-DZ" ∷ "ar-EH" ∷ "ar-LY" ∷ "ar-MA" ∷ "ar-TN" ∷ [])
@@ -34,6 +35,6 @@ unusual_nans =
     ∷ for_names ("yue-Hans" ∷ []) (codes "非数值")
     ∷ []
 
--- what a locale writes for a value that is not a number
+-- the text of a locale for a value that is not a number
 abbrev pub nan_of : List ℕ → List ℕ
 nan_of name = value_for name unusual_nans (codes "NaN")

@@ -1,8 +1,9 @@
+-- The signs of locales.
 use Rattle.std.specs.Prelude.{ℕ, List, [], ◌∷◌, codes}
 use Prim.Native.String.{String}
 use Rattle.num_format_cldr.specs.Unusual.{Unusual, for_names, for_stem_but, value_for}
 
--- what stands before a negative and before a positive number
+-- the signs before a negative and before a positive number
 pub record Signs : Type 0 where
   pub minus : List ℕ
   pub plus : List ℕ
@@ -11,7 +12,7 @@ pub record Signs : Type 0 where
 abbrev pub signs : String → String → Signs
 signs minus plus = record { minus = codes minus; plus = codes plus }
 
--- the locales that write a mark of direction beside a sign, or the minus sign U+2212, here −
+-- the locales whose signs have a directional mark, or whose minus sign is U+2212, here −
 abbrev pub unusual_signs : List (Unusual Signs)
 unusual_signs =
     for_names ("sd" ∷ []) (signs "\u{61c}-" "\u{61c}+")
@@ -27,6 +28,6 @@ unusual_signs =
     (signs "−" "+")
     ∷ []
 
--- the signs that a locale writes
+-- the signs of a locale
 abbrev pub signs_of : List ℕ → Signs
 signs_of name = value_for name unusual_signs (signs "-" "+")

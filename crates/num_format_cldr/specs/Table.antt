@@ -39,7 +39,6 @@ entry place = slice_index_or table place no_entry
 unfoldable pub table_names : List (List ℕ)
 table_names = map (λ member. encode_utf8_all member.name) members
 
--- a piece of the table, which one module of the code has: the entries from place `PIECE_LEN * k`
--- on, at most `PIECE_LEN` of them
+-- the entries from place `PIECE_LEN * k` on, at most `PIECE_LEN` of them: those of one module
 unfoldable pub piece : ℕ → List Entry
 piece k = map entry_of (take PIECE_LEN (drop (PIECE_LEN * k) members))

@@ -1,3 +1,4 @@
+-- Values of some locales that differ from the usual value.
 use Rattle.std.specs.Prelude.{ℕ, Bool, ◌&&◌, ◌||◌, not, nat_eq, List, [], ◌∷◌, ◌++◌, codes, if◌then◌else◌}
 use Rattle.std.specs.List.{list_any, starts_with}
 use Rattle.std.specs.Cmp.Lexicographic.{pointwise}
@@ -11,7 +12,7 @@ is_among names name = list_any (λ each. pointwise nat_eq name (codes each)) nam
 abbrev pub is_of_stem : String → List ℕ → Bool
 is_of_stem stem name = pointwise nat_eq name (codes stem) || starts_with nat_eq name (codes stem ++ 45 ∷ [])
 
--- some names, told by a test, and what they have in place of the usual value
+-- the names that pass a test, and their value in place of the usual one
 pub record Unusual (X : Type 0) : Type 0 where
   pub is_for : List ℕ → Bool
   pub value : X
@@ -28,7 +29,7 @@ for_stem stem value = record { is_for = is_of_stem stem; value = value }
 abbrev pub for_stem_but : {X : Type 0} → String → List String → X → Unusual X
 for_stem_but stem names value = record { is_for = λ name. is_of_stem stem name && not (is_among names name); value = value }
 
--- what a name has: the value of the first line that is for it, or else the usual one
+-- the value for a name: that of the first line that is for it, or else the usual one
 abbrev pub value_for : {X : Type 0} → List ℕ → List (Unusual X) → X → X
 value_for name [] usual = usual
 value_for name (line ∷ lines) usual = if line.is_for name then line.value else value_for name lines usual

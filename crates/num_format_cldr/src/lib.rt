@@ -1,16 +1,16 @@
-//! The table of the 542 locales that num-format knows.
+//! The table of the 542 locales of num-format.
 //!
 //! A row says how a locale writes numbers: its decimal mark, its separator and its signs, how it
 //! groups digits, and its texts for infinity and for a value that is not a number. The data are
-//! those of the Unicode CLDR as the Rust crate num-format 0.4.4 has them.
+//! those of the Unicode CLDR, as the Rust crate `num-format` 0.4.4 has them.
 //!
-//! Rows are in rising byte order of their names, which is that of `&str`: `af` is at place 0, `en`
-//! at place 90 and `zu` at place 541. [`row`] answers a row by its place, and [`names`] lists the
-//! names, so that a caller can find a place by halving.
+//! Rows are in rising byte order of their names, which is the order of `&str`: `af` is at place 0,
+//! `en` at place 90 and `zu` at place 541. [`row`] returns the row at a place, and [`names`] returns
+//! all names, among which a caller can find a place by binary search.
 //!
 //! `specs/` defines the same table in another form, by families of names that share a class and by
 //! lists of the names with unusual texts. The contracts say that the rows are those of that
-//! definition. The rows themselves are written by `tools/locales.py`, one a line.
+//! definition. `tools/locales.py` writes the rows, one a line.
 #![tactic(auto)]
 
 ghost use Rattle.std.specs.Prelude.{◌≡◌, ◌<◌, [], map, length, All, Contains, slice_index_or};
@@ -23,10 +23,14 @@ mod rows;
 
 pub use record::Row;
 
-/// The number of rows. Places run from 0 to `LEN - 1`.
+/// The number of rows. Places are the numbers below it.
 pub const LEN: usize = 542;
 
-/// The row at `place`, counted from 0 in rising byte order of the names.
+/// Returns the row at `place`, counted from 0 in rising byte order of the names.
+///
+/// ```text
+/// row(134)  is the row of en-IN, with decimal mark ".", separator "," and Indian grouping
+/// ```
 pub fn row(place: usize) -> &'static Row
     requires { place < LEN }
     ensures shown { Shows result.now (entry place) }
@@ -36,7 +40,9 @@ pub fn row(place: usize) -> &'static Row
     &rows::rows_of_piece(place / rows::PIECE_LEN)[place % rows::PIECE_LEN]
 }
 
-/// The names of all rows, in order: the name at a place is that of the row at that place.
+/// Returns the names of all rows, in order: the name at a place is that of the row at that place.
+///
+/// They rise in byte order, and none has an underscore.
 pub fn names() -> &'static [&'static str]
     ensures listed { map (λ name. name.now) result.now ≡ table_names }
     ensures count { length result.now ≡ LEN }

@@ -1,5 +1,6 @@
 //! The names of all rows. Written by tools/locales.py from tools/locales.txt; do not edit.
 
+/// The names, in rising byte order.
 #[rattlefmt::skip]
 pub static NAMES: [&str; 542] = [
     "af",

@@ -15,10 +15,10 @@ mod from_mua;
 mod from_sah;
 mod from_uz_arab;
 
-/// The most rows of one module.
+/// The most rows that one module has.
 pub const PIECE_LEN: usize = 64;
 
-/// The rows from place `PIECE_LEN * number` on, at most [`PIECE_LEN`] of them.
+/// Returns the rows from place `PIECE_LEN * number` on, at most [`PIECE_LEN`] of them.
 pub fn rows_of_piece(number: usize) -> &'static [Row]
     requires { number < 9 }
     ensures { ShowsAll result.now (piece number) }

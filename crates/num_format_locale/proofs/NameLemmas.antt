@@ -1,4 +1,4 @@
--- Names and places.
+-- Lemmas on the names of locales and their places.
 use Rattle.std.proofs.Common.{◌≡◌, ◌≢◌, ℕ, suc, ◌<◌, ◌==◌, inl, inr, List, [], ◌∷◌, length, map, Contains, slice_index_or, if◌then◌else◌, arith, refl, sym, ap, ◌∙◌}
 use Rattle.std.specs.Borrow.{Bor}
 use Rattle.std.specs.Cmp.{nat_cmp_is}
@@ -19,11 +19,11 @@ use Rattle.num_format_cldr.proofs.Rising.{names_rise, names_have_no_underscore}
 use Rattle.num_format_locale.specs.Laws.{OrderLaw, UniqueLaw}
 use Rattle.num_format_locale.specs.Names.{Spells, name_of, underscore_for_hyphen}
 
--- a hyphen in place of an underscore
+-- the byte itself, but a hyphen (45) for an underscore (95)
 hyphen_for_underscore : ℕ → ℕ
 hyphen_for_underscore byte = if byte == 95 then 45 else byte
 
--- it is undone where no underscore stood
+-- a byte that is no underscore stays, also with an underscore for a hyphen and back
 same_byte : (x : ℕ) → x ≢ 95 → hyphen_for_underscore x ≡ x
 unfolding hyphen_for_underscore
 same_byte x other = grind (arith, nat_tests)
@@ -32,14 +32,14 @@ byte_back : (x : ℕ) → x ≢ 95 → hyphen_for_underscore (underscore_for_hyp
 unfolding hyphen_for_underscore
 byte_back x other = grind (arith, nat_tests)
 
--- of a text without underscores, the first byte is none, and the rest has none
+-- of a text with no underscore, the first byte is none, and the rest has none
 other_first : (x : ℕ) (xs : List ℕ) → ¬ Contains (x ∷ xs) 95 → x ≢ 95
 other_first x xs none same = none (0, omega arith, same)
 
 other_rest : (x : ℕ) (xs : List ℕ) → ¬ Contains (x ∷ xs) 95 → ¬ Contains xs 95
 other_rest x xs none at = none (suc at.0, (let within = at.1 in omega arith), at.2)
 
--- such a text is what it and its form with underscores are with hyphens for underscores
+-- such a text, and its form with underscores, give the text itself with hyphens for underscores
 same_name : (xs : List ℕ) → ¬ Contains xs 95 → map hyphen_for_underscore xs ≡ xs
 same_name [] none = refl
 same_name (x ∷ xs) none = λ i. same_byte x (other_first x xs none) i ∷ same_name xs (other_rest x xs none) i
@@ -64,7 +64,7 @@ unmoved Less same = cc
 unmoved Equal same = refl
 unmoved Greater same = cc
 
--- a text compares to itself as equal
+-- a text is equal to itself
 cmp_same : (x : List ℕ) → slice_cmp nat_cmp x x ≡ Equal
 cmp_same x = unmoved _ (nat_list_cmp_total.antisymm x x)
 
@@ -81,7 +81,7 @@ order p q within_p within_q =
       ]
     ]
 
--- a text spells one name at most
+-- a text spells at most one name
 pub unique : UniqueLaw
 unique text p q within_p within_q spells_p spells_q =
     let none : (place : ℕ) → place < LEN → ¬ Contains (name_of place) 95 = λ place within. names_have_no_underscore place [] (omega (arith, length-table_names)) in

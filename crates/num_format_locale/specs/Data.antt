@@ -1,4 +1,4 @@
--- How a locale writes numbers.
+-- The data of a locale: how it writes numbers.
 use Rattle.std.specs.Prelude.{ℕ, ◌==◌, if◌then◌else◌}
 use Rattle.num_format_cldr.specs.Entry.{Entry}
 use Rattle.num_format_cldr.specs.Groupings.{standard, indian}
@@ -7,11 +7,11 @@ use Rattle.num_format_text.specs.declared.grouping.Grouping.{Grouping}
 use Rattle.num_format_text.specs.declared.grouping.Grouping.TheVariants.{Standard, Indian, Posix}
 use Rattle.num_format_text.specs.Format.{FormatData}
 
--- the `Grouping` that a group of the table stands for
+-- the `Grouping` of a group, 0 to 2, of the table
 abbrev pub grouping_for : ℕ → Grouping
 grouping_for group = if group == standard then Standard else (if group == indian then Indian else Posix)
 
--- the seven data of an entry of the table; each text is the list of its bytes
+-- the seven data of an entry of the table
 abbrev pub data_of : Entry → FormatData
 data_of e = record {
   decimal = e.dec;

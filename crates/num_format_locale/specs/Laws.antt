@@ -1,4 +1,4 @@
--- Laws over the definitions alone.
+-- Laws of the names of locales, over the definitions alone.
 use Rattle.std.specs.Prelude.{◌≡◌, ℕ, ◌<◌, List, Result, Ok}
 use Rattle.std.specs.Ordering.{nat_cmp}
 use Rattle.std.specs.Cmp.Lexicographic.{slice_cmp}
@@ -6,15 +6,15 @@ use Rattle.num_format_cldr.specs.declared.TheConstants.{LEN}
 use Rattle.num_format_text.specs.declared.error.Error.{Error}
 use Rattle.num_format_locale.specs.Names.{LooksUp, Spells, name_of}
 
--- a text spells the name of one locale at most
+-- a text spells the name of at most one locale
 abbrev pub UniqueLaw : Type 0
 UniqueLaw = (text : List ℕ) (p q : ℕ) → p < LEN → q < LEN →
     Spells text (name_of p) → Spells text (name_of q) → p ≡ q
 
 -- a locale's name, looked up, gives that locale
 abbrev pub FoundByNameLaw : Type 0
-FoundByNameLaw = (place : ℕ) (answer : Result ℕ Error) → place < LEN →
-    LooksUp (name_of place) answer → answer ≡ Ok place
+FoundByNameLaw = (place : ℕ) (result : Result ℕ Error) → place < LEN →
+    LooksUp (name_of place) result → result ≡ Ok place
 
 -- places compare as their names do, byte by byte
 abbrev pub OrderLaw : Type 0

@@ -11,21 +11,20 @@ use Rattle.num_format_text.specs.Refusal.{ParseLocale, refusal_of}
 abbrev pub name_of : ℕ → List ℕ
 name_of place = slice_index_or table_names place []
 
--- a byte, with an underscore in place of a hyphen
+-- the byte itself, but an underscore for a hyphen
 abbrev pub underscore_for_hyphen : ℕ → ℕ
 underscore_for_hyphen at = if at == byte "-" then byte "_" else at
 
--- the text is the name, or the name with every hyphen an underscore
+-- the text is the name, or the name with an underscore for every hyphen
 abbrev pub Spells : List ℕ → List ℕ → Type 0
 Spells text name = (text ≡ name) ⊎ (text ≡ map underscore_for_hyphen name)
 
--- what is answered to a text that is looked up: the place whose name it spells, or a refusal where
--- it spells no name
-pub record LooksUp (text : List ℕ) (answer : Result ℕ Error) : Type 0 where
-  -- whichever place has a name that the text spells is the answer
-  pub found : (place : ℕ) → place < LEN → Spells text (name_of place) → answer ≡ Ok place
-  pub within : IfOk answer (λ place. place < LEN)
-  pub spelled : IfOk answer (λ place. Spells text (name_of place))
-  pub unspelled : OnErr answer ((place : ℕ) → place < LEN → ¬ Spells text (name_of place))
-  -- a refusal keeps the text, cut
-  pub refused : IfErr answer (λ error. refusal_of error ≡ ParseLocale (cut_text text))
+-- the result of looking a text up: the place whose name it spells, or an error that keeps the text
+pub record LooksUp (text : List ℕ) (result : Result ℕ Error) : Type 0 where
+  -- a place whose name the text spells is the result
+  pub found : (place : ℕ) → place < LEN → Spells text (name_of place) → result ≡ Ok place
+  pub within : IfOk result (λ place. place < LEN)
+  pub spelled : IfOk result (λ place. Spells text (name_of place))
+  pub unspelled : OnErr result ((place : ℕ) → place < LEN → ¬ Spells text (name_of place))
+  -- the error keeps the text, truncated
+  pub refused : IfErr result (λ error. refusal_of error ≡ ParseLocale (cut_text text))

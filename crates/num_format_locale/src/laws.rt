@@ -1,16 +1,16 @@
-//! Laws of the names of locales.
+//! Laws of the names of locales, for callers' proofs.
 //!
-//! Each function's contract is a law: a fact about all texts and all places, over the definitions
-//! alone. The bodies are empty, since there is nothing to compute. A caller that needs a law in a
-//! proof calls its function.
+//! The contract of each function is a law: a fact about all texts and all places, over the
+//! definitions alone. The bodies are empty, since there is nothing to compute. A caller that needs
+//! a law in a proof calls its function.
 ghost use Rattle.num_format_locale.specs.Laws.{FoundByNameLaw, OrderLaw, UniqueLaw};
 
-/// A text spells the name of one locale at most: names differ, even with underscores for hyphens.
+/// A text spells the name of at most one locale.
 pub fn spelled_once()
     ensures { UniqueLaw }
 {}
 
-/// Looking the name of a locale up answers that locale.
+/// A locale's name, looked up, gives that locale.
 pub fn found_by_name()
     ensures { FoundByNameLaw }
 {}

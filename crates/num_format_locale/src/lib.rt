@@ -1,15 +1,23 @@
-//! The locales that num-format knows, by name.
+//! The locales of num-format, by name.
 //!
 //! A [`Locale`] is a [`Format`](num_format_text::Format): it says how digits are grouped, and which
 //! texts stand for the decimal mark, the separator, the signs, infinity and NaN. Its data are a row
-//! of the table of `num_format_cldr`, and its name is that row's.
+//! of the table of `num_format_cldr`, which has them from the Unicode CLDR by the Rust crate
+//! `num-format` 0.4.4, and its name is that row's.
 //!
-//! A name is hyphenated, as `ca-ES-VALENCIA`. There are 542 of them, in rising byte order, and a
-//! locale's place in that order is all that a `Locale` holds. A contract sees the place.
+//! ```text
+//! let locale = Locale::from_name("en-IN")?;
+//! locale.grouping()      // Grouping::Indian
+//! Locale::fr.separator() // a narrow no-break space, U+202F
+//! ```
 //!
-//! The Rust crate num-format 0.4.4 has an enum of 542 variants. Here `Locale` is a struct with 542
-//! associated constants of the variants' names, `Locale::ca_ES_VALENCIA` for one. A `match` on a
-//! locale takes these constants as patterns, and ends with an arm `_`:
+//! There are 542 names, in rising byte order, and their parts are joined by hyphens, as in
+//! `ca-ES-VALENCIA`. A `Locale` is the place of its name in that order, and a contract sees it as
+//! that number.
+//!
+//! The Rust crate has an enum of 542 variants. Here `Locale` is a struct with 542 associated
+//! constants of the variants' names, such as `Locale::ca_ES_VALENCIA`. A `match` on a locale has
+//! these constants as patterns, and ends with an arm `_`:
 //!
 //! ```text
 //! match locale {

@@ -1,6 +1,7 @@
-//! A locale: how it is found by its name, and what it answers.
+//! The type `Locale`: how a locale is found by its name, and what its texts are.
 //!
-//! The data are those of a row of `num_format_cldr`. A text is looked up by a walk over all names.
+//! The data of a locale are a row of `num_format_cldr`. A name is looked up among all names, one
+//! after another.
 ghost use Rattle.std.specs.Prelude.{◌≡◌, ◌≢◌, ◌<◌, ◌≤◌, ◌↔◌, [], length, map, All, Contains, IsTrue};
 ghost use Rattle.num_format_cldr.specs.Entry.{IsWellFormed, Rises, Shows};
 ghost use Rattle.num_format_cldr.specs.Table.{entry, table_names};
@@ -22,10 +23,16 @@ use std::str::FromStr;
 
 mod constants;
 
-/// A locale: a place in the table of locales. A contract sees that place, from 0 to 541.
+/// A locale: a place in the table of locales, which is the number that a contract sees.
 ///
-/// Locales compare as their names do in byte order. Each has a constant of its name, with `_` for
-/// `-`, such as `Locale::en` and `Locale::zh_Hans_HK`; that of `as` is `Locale::as_`.
+/// Each locale has a constant of its name, with `_` for `-`, such as `Locale::en` and
+/// `Locale::zh_Hans_HK`; that of `as` is `Locale::as_`. Locales compare as their names do in byte
+/// order, and `Debug` shows the name.
+///
+/// ```text
+/// Locale::de_CH.separator()   // "’"
+/// "de_CH".parse::<Locale>()?  // Locale::de_CH
+/// ```
 #[derive(Clone, Copy, PartialEq, Eq, PartialOrd, Ord, Hash)]
 pub struct Locale {
     place: u16,
@@ -45,15 +52,16 @@ impl Model for Locale {
 }
 
 impl Locale {
-    /// The locale of a name, which may stand with hyphens, as in the table, or with an underscore
-    /// for every hyphen.
+    /// Returns the locale of a name, written with hyphens or with an underscore for every hyphen.
     ///
-    /// Any other text is refused with [`ErrorKind::ParseLocale`], which keeps the text, cut:
+    /// Any other text is refused with [`ErrorKind::ParseLocale`], which keeps the text, truncated
+    /// as [`cut`] says. Letters have to be of the right case.
     ///
     /// ```text
     /// Locale::from_name("ca-ES-VALENCIA")  is Ok
     /// Locale::from_name("ca_ES_VALENCIA")  is Ok
-    /// Locale::from_name("ca-ES_VALENCIA")  is Err
+    /// Locale::from_name("ca-ES_VALENCIA")  is Err, and so is
+    /// Locale::from_name("en-us-posix")
     /// ```
     pub fn from_name(name: &str) -> Result<Locale, Error>
         ensures { LooksUp name.now result }
@@ -67,7 +75,7 @@ impl Locale {
         Err(Error::from(ErrorKind::ParseLocale(cut(name))))
     }
 
-    /// The names of all locales, in rising byte order.
+    /// Returns the names of all locales, with hyphens, in rising byte order.
     pub fn available_names() -> &'static [&'static str]
         ensures listed { map (λ name. name.now) result.now ≡ table_names }
         ensures count { length result.now ≡ LEN }
@@ -78,7 +86,7 @@ impl Locale {
         num_format_cldr::names()
     }
 
-    /// The name, with hyphens. [`from_name`](Locale::from_name) of it is the locale.
+    /// Returns the name, with hyphens. [`from_name`](Locale::from_name) of it is the locale.
     pub fn name(&self) -> &'static str
         ensures same { result.now ≡ name_of self.now }
         ensures within { self.now < LEN }
@@ -86,7 +94,7 @@ impl Locale {
         self.row().name
     }
 
-    /// The decimal mark, of at most 8 bytes.
+    /// Returns the decimal mark, of at most [`MAX_DEC_LEN`] bytes.
     pub fn decimal(&self) -> &'static str
         ensures same { result.now ≡ (locale_data self.now).decimal }
         ensures fits { length result.now ≤ MAX_DEC_LEN }
@@ -94,7 +102,7 @@ impl Locale {
         self.row().dec
     }
 
-    /// How the digits of a whole number are grouped.
+    /// Returns how the digits of a whole number are grouped.
     pub fn grouping(&self) -> Grouping
         ensures { result ≡ (locale_data self.now).grouping }
     {
@@ -105,7 +113,7 @@ impl Locale {
         }
     }
 
-    /// The text for infinity, of at most 128 bytes.
+    /// Returns the text for infinity, of at most [`MAX_INF_LEN`] bytes.
     pub fn infinity(&self) -> &'static str
         ensures same { result.now ≡ (locale_data self.now).infinity }
         ensures fits { length result.now ≤ MAX_INF_LEN }
@@ -113,7 +121,8 @@ impl Locale {
         self.row().inf
     }
 
-    /// The minus sign, which stands before a negative number, of 1 to 8 bytes.
+    /// Returns the minus sign, with which each negative number begins. It has at least one byte
+    /// and at most [`MAX_MIN_LEN`].
     pub fn minus_sign(&self) -> &'static str
         ensures same { result.now ≡ (locale_data self.now).minus_sign }
         ensures fits { length result.now ≤ MAX_MIN_LEN }
@@ -122,7 +131,7 @@ impl Locale {
         self.row().min
     }
 
-    /// The text for NaN, of at most 64 bytes.
+    /// Returns the text for NaN, of at most [`MAX_NAN_LEN`] bytes.
     pub fn nan(&self) -> &'static str
         ensures same { result.now ≡ (locale_data self.now).nan }
         ensures fits { length result.now ≤ MAX_NAN_LEN }
@@ -130,7 +139,7 @@ impl Locale {
         self.row().nan
     }
 
-    /// The plus sign, of at most 8 bytes.
+    /// Returns the plus sign, of at most [`MAX_PLUS_LEN`] bytes.
     pub fn plus_sign(&self) -> &'static str
         ensures same { result.now ≡ (locale_data self.now).plus_sign }
         ensures fits { length result.now ≤ MAX_PLUS_LEN }
@@ -138,7 +147,8 @@ impl Locale {
         self.row().plus
     }
 
-    /// The separator between groups of digits, of 1 to 8 bytes.
+    /// Returns the separator between groups of digits. It has at least one byte and at most
+    /// [`MAX_SEP_LEN`].
     pub fn separator(&self) -> &'static str
         ensures same { result.now ≡ (locale_data self.now).separator }
         ensures fits { length result.now ≤ MAX_SEP_LEN }
@@ -147,7 +157,7 @@ impl Locale {
         self.row().sep
     }
 
-    /// The row of the table.
+    /// Returns the row of the table.
     fn row(&self) -> &'static Row
         ensures shown { Shows result.now (entry self.now) }
         ensures well_formed { IsWellFormed (entry self.now) }
@@ -158,20 +168,22 @@ impl Locale {
     }
 }
 
-/// Whether the text is the name, or the name with every hyphen an underscore.
+/// Returns whether the text is the name, or the name with an underscore for every hyphen.
 fn spells(text: &str, name: &str) -> bool
     ensures { IsTrue result ↔ Spells text.now name.now }
 {
     text == name || has_underscores(text.as_bytes(), name.as_bytes())
 }
 
-/// Whether the text is the name with every hyphen an underscore.
+/// Returns whether the text is the name with an underscore for every hyphen.
 fn has_underscores(text: &[u8], name: &[u8]) -> bool
     ensures { IsTrue result ↔ (map underscore_for_hyphen name.now ≡ text.now) }
 {
     text.len() == name.len()
-        && text.iter().zip(name).all(|(each, byte)| *each
-            == if *byte == b'-' { b'_' } else { *byte })
+        && text.iter().zip(name).all(|(&byte, &name_byte)| match name_byte {
+            b'-' => byte == b'_',
+            _ => byte == name_byte,
+        })
 }
 
 impl FromStr for Locale {

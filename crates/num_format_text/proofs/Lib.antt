@@ -1,2 +1,2 @@
 mod CutLemmas
-mod WorkedRows
+mod Examples

@@ -1,9 +1,9 @@
--- What a format is made of.
+-- The data of a format.
 use Rattle.std.specs.Prelude.{ℕ, ◌≤◌, List, length}
 use Rattle.num_format_text.specs.declared.capacities.TheConstants.{MAX_DEC_LEN, MAX_INF_LEN, MAX_MIN_LEN, MAX_NAN_LEN, MAX_PLUS_LEN, MAX_SEP_LEN}
 use Rattle.num_format_text.specs.declared.grouping.Grouping.{Grouping}
 
--- the seven answers of a format; each text is the list of its bytes
+-- what the seven methods of a format return; each text is the list of its bytes
 pub record FormatData : Type 0 where
   pub decimal : List ℕ
   pub grouping : Grouping

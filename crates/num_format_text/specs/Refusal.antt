@@ -1,22 +1,22 @@
--- What a refusal says, and what it prints.
+-- Errors as clauses compare them, and their messages.
 use Rattle.std.specs.Prelude.{ℕ, List, ◌++◌, codes}
 use Rattle.std.specs.Fmt.{decimal}
 use Rattle.num_format_text.specs.declared.error_kind.ErrorKind.{ErrorKind}
 use Rattle.num_format_text.specs.declared.error_kind.ErrorKind.TheVariants as kind
 
--- a kind of refusal, with the bytes of the text that it keeps
+-- a kind of error; a text that it keeps is the list of its bytes
 pub data Refusal : Type 0 where
   Capacity : ℕ → ℕ → Refusal
   ParseLocale : List ℕ → Refusal
   ParseNumber : List ℕ → Refusal
 
--- the refusal that an `ErrorKind` is, whatever lies in its text's unused room
+-- the `Refusal` of an `ErrorKind`: a text without the unused bytes of its array
 abbrev pub refusal_of : ErrorKind → Refusal
 refusal_of (kind.Capacity len cap) = Capacity len cap
 refusal_of (kind.ParseLocale text) = ParseLocale text.bytes
 refusal_of (kind.ParseNumber text) = ParseNumber text.bytes
 
--- the printed text; lengths are in decimal
+-- the message of an error; lengths are in decimal
 abbrev pub message_of : Refusal → List ℕ
 message_of (Capacity len cap) =
     codes "Attempted to write input of length " ++ (decimal len

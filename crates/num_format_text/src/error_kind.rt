@@ -1,4 +1,4 @@
-//! The kinds of refusal.
+//! The kinds of errors, with the messages that they print.
 ghost use Rattle.std.specs.Prelude.{Some};
 ghost use Rattle.num_format_text.specs.Refusal.{message_of, refusal_of};
 
@@ -6,21 +6,28 @@ use crate::capacities::MAX_ERR_LEN;
 use arrayvec::ArrayString;
 use std::fmt;
 
-/// Why something was refused.
+/// Why an input was refused.
 ///
-/// A text that a kind keeps is cut: [`cut`](crate::error::cut) says where.
+/// A text that a kind keeps is truncated, as [`cut`](crate::error::cut) says. The kinds and their
+/// messages are those of the Rust crate:
+///
+/// ```text
+/// Attempted to write input of length 9 bytes into a buffer with capacity 8 bytes.
+/// Failed to parse xx-YY into a valid locale.
+/// Failed to parse 1e3 into a number.
+/// ```
 #[derive(Clone, Debug, Drop, PartialEq, Eq, Hash)]
 pub enum ErrorKind {
-    /// A text of `len` bytes was offered where at most `cap` bytes fit.
+    /// The text has `len` bytes, and at most `cap` bytes fit.
     Capacity {
         /// The length of the text in bytes.
         len: usize,
-        /// The most bytes that fit.
+        /// The capacity in bytes.
         cap: usize,
     },
-    /// The text, cut, names no locale.
+    /// The text, kept here, is the name of no locale.
     ParseLocale(ArrayString<MAX_ERR_LEN>),
-    /// The text, cut, is no number of the type that was asked for.
+    /// The text, kept here, is no number of the type that was asked for.
     ParseNumber(ArrayString<MAX_ERR_LEN>),
 }
 

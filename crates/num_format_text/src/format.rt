@@ -1,43 +1,59 @@
-//! What a format answers.
+//! The trait of number formats.
 ghost use Rattle.std.specs.Prelude.{◌≡◌};
 ghost use Rattle.num_format_text.specs.Format.{FormatData};
 
 use crate::grouping::Grouping;
 use crate::strings::{DecimalStr, InfinityStr, MinusSignStr, NanStr, PlusSignStr, SeparatorStr};
 
-/// How numbers are written: a locale, a format that was built, or a type of your own.
+/// A number format: a locale, a format that was built, or a type of your own.
 ///
-/// The seven answers are a function of the format alone, which an implementation names as its one
-/// ghost member, `answers`. Nothing else has to be proved: that each text is within its capacity
-/// is a fact of its type.
+/// The data of a format are a function of the format alone. An implementation names that function
+/// as its one ghost member, `answers`, and writes seven methods that return the data. Nothing else
+/// has to be proved: each text is within its capacity by its type.
+///
+/// ```text
+/// impl Format for Plain {
+///     ghost answers = { λ _. plain };
+///
+///     fn grouping(&self) -> Grouping {
+///         Grouping::Standard
+///     }
+///
+///     fn separator(&self) -> SeparatorStr<'_> {
+///         SeparatorStr::new(" ").unwrap()
+///     }
+///
+///     // and five more
+/// }
+/// ```
 pub trait Format {
     ghost answers: { Self → FormatData };
 
-    /// The decimal mark.
+    /// Returns the decimal mark.
     fn decimal(&self) -> DecimalStr<'_>
         ensures { result ≡ (answers self.now).decimal };
 
-    /// How the digits of a whole number are grouped.
+    /// Returns how the digits of a whole number are grouped.
     fn grouping(&self) -> Grouping
         ensures { result ≡ (answers self.now).grouping };
 
-    /// The text for infinity.
+    /// Returns the text for infinity.
     fn infinity(&self) -> InfinityStr<'_>
         ensures { result ≡ (answers self.now).infinity };
 
-    /// The minus sign, which stands before a negative number.
+    /// Returns the minus sign, with which each negative number begins.
     fn minus_sign(&self) -> MinusSignStr<'_>
         ensures { result ≡ (answers self.now).minus_sign };
 
-    /// The text for NaN.
+    /// Returns the text for NaN.
     fn nan(&self) -> NanStr<'_>
         ensures { result ≡ (answers self.now).nan };
 
-    /// The plus sign.
+    /// Returns the plus sign. Whole numbers are printed without it.
     fn plus_sign(&self) -> PlusSignStr<'_>
         ensures { result ≡ (answers self.now).plus_sign };
 
-    /// The separator between groups of digits.
+    /// Returns the separator between groups of digits.
     fn separator(&self) -> SeparatorStr<'_>
         ensures { result ≡ (answers self.now).separator };
 }

@@ -1,9 +1,9 @@
-//! What a number format is made of, and what refuses a part of one.
+//! The parts of a number format: its texts, its grouping, and the errors of num-format.
 //!
-//! A [`Format`] answers seven questions: how digits are grouped, and which texts stand for the
-//! decimal mark, infinity, the minus sign, NaN, the plus sign and the separator. Each text is a
-//! [`strings::BoundedStr`] and so within its capacity in bytes, which is why a printed number has
-//! a longest length. What is refused is told by an [`Error`] and its [`ErrorKind`].
+//! A [`Format`] has seven methods. One says how digits are grouped, and six return the texts for
+//! the decimal mark, infinity, the minus sign, NaN, the plus sign and the separator. Each text is a
+//! [`strings::BoundedStr`], which has at most its capacity in bytes. So the text of a number has a
+//! greatest length too. An [`Error`] says by its [`ErrorKind`] why an input was refused.
 //!
 //! The names are those of the Rust crate `num-format` 0.4.4.
 #![tactic(auto)]

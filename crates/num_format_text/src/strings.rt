@@ -1,6 +1,6 @@
 //! The texts of a format, each within the capacity of its symbol.
 //!
-//! The six types differ in their symbol alone, so that a minus sign is not taken for a separator.
+//! The six types differ in their symbol alone, so a minus sign cannot be passed for a separator.
 ghost use Rattle.std.specs.Prelude.{◌≡◌, ◌≤◌, ◌↔◌, length, IfOk, IfErr, IsOk};
 
 use crate::error::Error;
@@ -8,28 +8,30 @@ use crate::error_kind::ErrorKind;
 use crate::symbol::{Decimal, Infinity, MinusSign, Nan, PlusSign, Separator, Symbol};
 use std::marker::{Model, PhantomData};
 
-/// The text of a symbol, borrowed, within the symbol's capacity. A contract sees its bytes.
+/// The text of a symbol, borrowed. It has at most [`Symbol::CAPACITY`] bytes.
+///
+/// A contract sees it as the list of its bytes.
 pub struct BoundedStr<'a, S: Symbol> {
     text: &'a str,
     symbol: PhantomData<S>,
 }
 
-/// A decimal mark of at most 8 bytes.
+/// A decimal mark of at most [`MAX_DEC_LEN`](crate::capacities::MAX_DEC_LEN) bytes.
 pub type DecimalStr<'a> = BoundedStr<'a, Decimal>;
 
-/// A text for infinity of at most 128 bytes.
+/// A text for infinity of at most [`MAX_INF_LEN`](crate::capacities::MAX_INF_LEN) bytes.
 pub type InfinityStr<'a> = BoundedStr<'a, Infinity>;
 
-/// A minus sign of at most 8 bytes.
+/// A minus sign of at most [`MAX_MIN_LEN`](crate::capacities::MAX_MIN_LEN) bytes.
 pub type MinusSignStr<'a> = BoundedStr<'a, MinusSign>;
 
-/// A text for NaN of at most 64 bytes.
+/// A text for NaN of at most [`MAX_NAN_LEN`](crate::capacities::MAX_NAN_LEN) bytes.
 pub type NanStr<'a> = BoundedStr<'a, Nan>;
 
-/// A plus sign of at most 8 bytes.
+/// A plus sign of at most [`MAX_PLUS_LEN`](crate::capacities::MAX_PLUS_LEN) bytes.
 pub type PlusSignStr<'a> = BoundedStr<'a, PlusSign>;
 
-/// A separator of at most 8 bytes.
+/// A separator of at most [`MAX_SEP_LEN`](crate::capacities::MAX_SEP_LEN) bytes.
 pub type SeparatorStr<'a> = BoundedStr<'a, Separator>;
 
 impl<'a, S: Symbol> Model for BoundedStr<'a, S> {
@@ -43,7 +45,7 @@ impl<'a, S: Symbol> Model for BoundedStr<'a, S> {
 }
 
 impl<'a, S: Symbol> BoundedStr<'a, S> {
-    /// The text as one of this symbol.
+    /// Returns `text` as the text of this symbol.
     ///
     /// The empty text and a text of exactly the capacity are accepted. A longer one is refused
     /// with [`ErrorKind::Capacity`], which has both lengths in bytes.
@@ -68,7 +70,8 @@ impl<'a, S: Symbol> BoundedStr<'a, S> {
         })
     }
 
-    /// The text, for as long as it was lent.
+    /// Returns the text that [`new`](BoundedStr::new) was given. It has at most
+    /// [`Symbol::CAPACITY`] bytes.
     pub fn into_str(self) -> &'a str
         ensures same { result.now ≡ self.entry }
         ensures fits { length result.now ≤ S.CAPACITY }

@@ -1,8 +1,8 @@
 //! The symbols of a format, as types.
 //!
-//! A symbol is one of the texts that a format gives; the word is CLDR's ("Number Symbols"). Each
-//! symbol is a type without data, which tells its text from the texts of the others and says how
-//! many bytes the text may have. The capacities are those of the Rust crate `num-format`.
+//! A symbol is one of the texts that a format returns; the word is CLDR's ("Number Symbols"). Each
+//! type has no data. It distinguishes its text from those of the other symbols, and says how many
+//! bytes the text may have.
 ghost use Rattle.std.specs.Prelude.{ℕ};
 ghost use Rattle.num_format_text.specs.declared.capacities.TheConstants.{MAX_DEC_LEN, MAX_INF_LEN, MAX_MIN_LEN, MAX_NAN_LEN, MAX_PLUS_LEN, MAX_SEP_LEN};
 
@@ -12,13 +12,13 @@ use crate::capacities::{
 
 /// A symbol of a format.
 pub trait Symbol {
-    /// The most bytes that the symbol's text may have.
+    /// The most bytes of the symbol's text.
     const CAPACITY: usize;
 
     ghost CAPACITY: { ℕ };
 }
 
-/// The decimal mark, of at most 8 bytes.
+/// The decimal mark, as `.` in `1.5`.
 #[derive(Clone, Copy, Debug)]
 pub struct Decimal;
 
@@ -28,7 +28,7 @@ impl Symbol for Decimal {
     ghost CAPACITY = { MAX_DEC_LEN };
 }
 
-/// Infinity, of at most 128 bytes.
+/// The text for infinity, as `∞`.
 #[derive(Clone, Copy, Debug)]
 pub struct Infinity;
 
@@ -38,7 +38,7 @@ impl Symbol for Infinity {
     ghost CAPACITY = { MAX_INF_LEN };
 }
 
-/// The minus sign, of at most 8 bytes.
+/// The minus sign, as `-` in `-1`.
 #[derive(Clone, Copy, Debug)]
 pub struct MinusSign;
 
@@ -48,7 +48,7 @@ impl Symbol for MinusSign {
     ghost CAPACITY = { MAX_MIN_LEN };
 }
 
-/// Not a number, of at most 64 bytes.
+/// The text for a value that is not a number, as `NaN`.
 #[derive(Clone, Copy, Debug)]
 pub struct Nan;
 
@@ -58,7 +58,7 @@ impl Symbol for Nan {
     ghost CAPACITY = { MAX_NAN_LEN };
 }
 
-/// The plus sign, of at most 8 bytes.
+/// The plus sign, as `+` in `+1`.
 #[derive(Clone, Copy, Debug)]
 pub struct PlusSign;
 
@@ -68,7 +68,7 @@ impl Symbol for PlusSign {
     ghost CAPACITY = { MAX_PLUS_LEN };
 }
 
-/// The separator between groups of digits, of at most 8 bytes.
+/// The separator between groups of digits, as `,` in `1,000`.
 #[derive(Clone, Copy, Debug)]
 pub struct Separator;
 

@@ -72,7 +72,7 @@ static ROWS: [Row; 64] = [
     Row { name: "en-GM", dec: ".", group: 0, inf: "\u{221e}", min: "-", nan: "NaN", plus: "+", sep: "," },
 ];
 
-/// The rows from place 64 to place 127.
+/// Returns the rows from place 64 to place 127.
 pub fn rows() -> &'static [Row]
     ensures { ShowsAll result.now (piece 1) }
 {

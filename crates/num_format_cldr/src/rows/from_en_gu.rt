@@ -72,7 +72,7 @@ static ROWS: [Row; 64] = [
     Row { name: "en-VU", dec: ".", group: 0, inf: "\u{221e}", min: "-", nan: "NaN", plus: "+", sep: "," },
 ];
 
-/// The rows from place 128 to place 191.
+/// Returns the rows from place 128 to place 191.
 pub fn rows() -> &'static [Row]
     ensures { ShowsAll result.now (piece 2) }
 {

@@ -72,7 +72,7 @@ static ROWS: [Row; 64] = [
     Row { name: "fr-CF", dec: ",", group: 0, inf: "\u{221e}", min: "-", nan: "NaN", plus: "+", sep: "\u{202f}" },
 ];
 
-/// The rows from place 192 to place 255.
+/// Returns the rows from place 192 to place 255.
 pub fn rows() -> &'static [Row]
     ensures { ShowsAll result.now (piece 3) }
 {

@@ -72,7 +72,7 @@ static ROWS: [Row; 64] = [
     Row { name: "ii", dec: ".", group: 0, inf: "\u{221e}", min: "-", nan: "NaN", plus: "+", sep: "," },
 ];
 
-/// The rows from place 256 to place 319.
+/// Returns the rows from place 256 to place 319.
 pub fn rows() -> &'static [Row]
     ensures { ShowsAll result.now (piece 4) }
 {

@@ -72,7 +72,7 @@ static ROWS: [Row; 64] = [
     Row { name: "uz", dec: ",", group: 0, inf: "\u{221e}", min: "-", nan: "son\u{a0}emas", plus: "+", sep: "\u{a0}" },
 ];
 
-/// The rows from place 448 to place 511.
+/// Returns the rows from place 448 to place 511.
 pub fn rows() -> &'static [Row]
     ensures { ShowsAll result.now (piece 7) }
 {

@@ -38,7 +38,7 @@ static ROWS: [Row; 30] = [
     Row { name: "zu", dec: ".", group: 0, inf: "\u{221e}", min: "-", nan: "NaN", plus: "+", sep: "," },
 ];
 
-/// The rows from place 512 to place 541.
+/// Returns the rows from place 512 to place 541.
 pub fn rows() -> &'static [Row]
     ensures { ShowsAll result.now (piece 8) }
 {

@@ -1,7 +1,8 @@
 //! The locales as constants. Written by tools/locales.py from tools/locales.txt; do not edit.
 use crate::Locale;
 
-/// Each constant has the name of its locale with `_` for `-`, and that of `as` is `as_`.
+/// One constant a locale. It has the locale's name with `_` for `-`, and that of `as` is `as_`, since
+/// `as` is a keyword.
 #[allow(non_upper_case_globals)]
 #[rattlefmt::skip]
 impl Locale {

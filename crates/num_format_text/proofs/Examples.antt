@@ -1,4 +1,4 @@
--- Worked examples of the definitions, each shown by computing it.
+-- Examples of the definitions, each shown by computing it.
 use Rattle.std.proofs.Common.{◌≡◌, [], refl}
 use Rattle.std.specs.Prelude.{codes}
 use Rattle.std.specs.Fmt.{digits}
