@@ -1,6 +1,7 @@
 -- Where the entries of the table stand in its pieces.
-use Rattle.std.proofs.Common.{◌≡◌, ℕ, ◌+◌, ◌-◌, ◌*◌, ◌/◌, ◌%◌, ◌<◌, List, [], length, map, take, drop, slice_index_or, encode_utf8_all, refl, sym, ap, subst, ◌∙◌, arith, min}
+use Rattle.std.proofs.Common.{◌≡◌, ℕ, ◌+◌, ◌-◌, ◌*◌, ◌/◌, ◌%◌, ◌<◌, List, [], length, take, drop, slice_index_or, encode_utf8_all, refl, sym, ap, subst, ◌∙◌, arith, min}
 use Rattle.std.proofs.lemmas.List.{length-map, get_or-map, get_or-take, get_or-drop, drop-map, take-map, length-take, length-drop}
+use Rattle.std.proofs.lemmas.Slice.Zip.{AllZip-long}
 use Rattle.num_format_cldr.specs.declared.TheConstants.{LEN}
 use Rattle.num_format_cldr.specs.declared.record.Row.{Row}
 use Rattle.num_format_cldr.specs.declared.rows.TheConstants.{PIECE_LEN}
@@ -8,7 +9,7 @@ use Rattle.num_format_cldr.specs.Entry.{no_entry, Shows, ShowsAll}
 use Rattle.num_format_cldr.specs.Classes.{A}
 use Rattle.num_format_cldr.specs.Families.{Member, families}
 use Rattle.num_format_cldr.specs.Table.{members, entry_of, table, entry, table_names, piece}
-use Rattle.num_format_cldr.proofs.Shown.{Shows-at, length-ShowsAll}
+use Rattle.num_format_cldr.proofs.Shown.{Shows-at}
 
 -- there are as many names as rows
 pub length-members : length members ≡ LEN
@@ -63,10 +64,10 @@ length-piece k =
 module _ (rows : List Row) (place : ℕ) (shown : ShowsAll rows (piece (place / PIECE_LEN))) where
   -- how many rows there are
   pub length-rows : length rows ≡ min PIECE_LEN (LEN - PIECE_LEN * (place / PIECE_LEN))
-  length-rows = sym (length-ShowsAll rows (piece (place / PIECE_LEN)) shown) ∙ length-piece (place / PIECE_LEN)
+  length-rows = sym (AllZip-long Shows rows (piece (place / PIECE_LEN)) shown.each) ∙ length-piece (place / PIECE_LEN)
 
   -- the row of a place shows the entry there
   pub row_at : (d : Row) → place < LEN → Shows (slice_index_or rows (place % PIECE_LEN) d) (entry place)
   row_at d within =
       subst (Shows (slice_index_or rows (place % PIECE_LEN) d)) (entry_in_piece place)
-      (Shows-at rows (piece (place / PIECE_LEN)) (place % PIECE_LEN) d no_entry shown (omega (arith, length-rows)))
+      (Shows-at rows (piece (place / PIECE_LEN)) (place % PIECE_LEN) d no_entry shown.each (omega (arith, length-rows)))

@@ -13,7 +13,7 @@ name_of place = slice_index_or table_names place []
 
 -- the byte itself, but an underscore for a hyphen
 abbrev pub underscore_for_hyphen : ℕ → ℕ
-underscore_for_hyphen at = if at == byte "-" then byte "_" else at
+underscore_for_hyphen each = if each == byte "-" then byte "_" else each
 
 -- the text is the name, or the name with an underscore for every hyphen
 abbrev pub Spells : List ℕ → List ℕ → Type 0

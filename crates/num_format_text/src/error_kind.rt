@@ -8,8 +8,8 @@ use std::fmt;
 
 /// Why an input was refused.
 ///
-/// A text that a kind keeps is truncated, as [`cut`](crate::error::cut) says. The kinds and their
-/// messages are those of the Rust crate:
+/// A text that a kind keeps is truncated, as [`cut`](crate::error::cut) says. These kinds and their
+/// messages are as in the Rust crate, which has further kinds:
 ///
 /// ```text
 /// Attempted to write input of length 9 bytes into a buffer with capacity 8 bytes.
