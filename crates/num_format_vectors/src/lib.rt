@@ -14,10 +14,11 @@
 //! | Module | What is tested |
 //! |---|---|
 //! | `five_formats` | zero, a thousand and the ends of each of the eighteen types |
+//! | `left_to_right` | numbers with each possible number of digits, against a plain function |
 //! | `every_way` | one text by every way of printing: the check that `five_formats` makes too |
 //! | `own_formats` | a format of a user's own, that of `own_format` |
 //! | `refusals` | the capacities of the six texts, what a builder takes, and what a refusal prints |
-//! | `buffers` | a new buffer, one that is written twice, a copy, and a printed one |
+//! | `buffers` | a new buffer, one that is written twice, a copy, a printed one, and prepended texts |
 //! | `constants` | the name of each constant of `Locale` |
 //! | `locales` | the list of names, and a locale found by its name and shown |
 //! | `reading` | texts of any sort as numbers of any type |
@@ -45,6 +46,8 @@ mod faults;
 mod files;
 #[cfg(test)]
 mod five_formats;
+#[cfg(test)]
+mod left_to_right;
 #[cfg(test)]
 mod locales;
 #[cfg(test)]
