@@ -34,3 +34,29 @@ fn prints_the_bare_text(rt: HostRuntime) -> Result<(), Fail> {
     assert_equal(&rt, shown.as_str(), "1,000 1,000 1,000");
     Ok(())
 }
+
+#[test]
+fn a_text_is_prepended(rt: HostRuntime) {
+    let mut buffer = Buffer::new();
+    buffer.put_front("5");
+    buffer.put_front("-");
+    buffer.put_front("");
+    is_whole(&rt, buffer.len(), buffer.as_bytes(), "-5");
+}
+
+/// The longest text that fits has 191 bytes.
+#[test]
+fn the_last_byte_is_prepended(rt: HostRuntime) -> Result<(), Fail> {
+    let zeros = "0".repeat(rt.alloc(), 190)?;
+    let mut buffer = Buffer::new();
+    buffer.put_front(&zeros);
+    buffer.put_front("-");
+    is_whole(
+        &rt,
+        buffer.len(),
+        buffer.as_bytes(),
+        &format!(in rt.alloc(); "-{zeros}")?,
+    );
+    assert_equal(&rt, buffer.len(), 191);
+    Ok(())
+}
