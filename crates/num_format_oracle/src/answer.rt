@@ -1,10 +1,9 @@
 //! What `num_format` answers to a question, in the words of the data.
 
+use crate::printing::printed;
 use crate::row::{Question, RowFormat};
 use num_format::parsing::{FromFormattedStr, ParseFormatted};
-use num_format::{
-    Buffer, CustomFormat, Error, ErrorKind, Format, Grouping, Locale, ToFormattedStr,
-};
+use num_format::{CustomFormat, Error, ErrorKind, Format, Grouping, Locale, ToFormattedString};
 use std::alloc::Global;
 use std::fmt::Display;
 use std::num::{NonZeroU8, NonZeroU16, NonZeroU32, NonZeroU64, NonZeroU128, NonZeroUsize};
@@ -89,16 +88,14 @@ fn of_type<F: Format>(
 
 fn answer_as<N, F>(alloc: Global, asked: Asked<'_>, format: &F) -> Option<String>
 where
-    N: ToFormattedStr + FromFormattedStr + FromStr + Display + Drop,
+    N: ToFormattedString + FromFormattedStr + FromStr + Display + Drop,
     N::Err: Drop,
     F: Format,
 {
     match asked {
         Asked::Print(decimal) => {
             let number: N = decimal.parse().ok()?;
-            let mut buffer = Buffer::new();
-            buffer.write_formatted(&number, format);
-            hex::encode(alloc, buffer.as_bytes()).ok()
+            printed(alloc, &number, format)
         }
         Asked::Read(text) => {
             let string = String::from_str(alloc, text).ok()?;

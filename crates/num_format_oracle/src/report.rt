@@ -43,6 +43,11 @@ impl Tally {
         Ok(())
     }
 
+    /// Whether there were rows, and no answer differs.
+    fn is_as_wanted(&self) -> bool {
+        self.rows > 0 && self.different == 0
+    }
+
     fn print(&self, rt: &impl Print) -> io::Result<()> {
         println!(rt;
             "{}: {} rows, {} differ",
@@ -109,12 +114,14 @@ impl Report {
         Ok(())
     }
 
-    /// Whether each line was a row, and the changed rows, and no others, differ.
+    /// Whether there were rows of each kind, each line was a row, and the changed rows, and no
+    /// others, differ.
     pub fn is_as_wanted(&self) -> bool {
-        self.printing.different == 0
-            && self.reading.different == 0
-            && self.naming.different == 0
-            && self.locales.different == 0
+        self.printing.is_as_wanted()
+            && self.reading.is_as_wanted()
+            && self.naming.is_as_wanted()
+            && self.locales.is_as_wanted()
+            && self.changed.rows > 0
             && self.changed.different == self.changed.rows
             && self.unreadable == 0
     }
