@@ -1,18 +1,31 @@
-//! Replays what the Rust crate num-format 0.4.4 answered.
+//! Compares `num_format` with recorded results of the Rust crate `num-format` 0.4.4.
 //!
-//! Standard input has one question a line, with the answer that is wanted; the module [`row`] says
-//! in which words. A line that begins with `#` is a comment, and the first ones tell where an
-//! answer is not the Rust crate's. Each question is asked again of `num_format`. The first answers
-//! that differ are printed, and the first lines that are no row; then, for each kind of row, how
-//! many rows there were and how many answers differ. A row that begins with `changed` wants what is
-//! not so: it shows that a wrong answer would be found. The exit status is 0 where there are
-//! rows of each kind, each line could be read and the changed rows alone differ, and else 1.
+//! Standard input has one case a line: a call, and the result that is expected of it. The module
+//! [`case`] describes the words. A line that begins with `#` is a comment. The expected results are:
+//!
+//! - `print`: the texts that the `Buffer` of that crate had, unchanged.
+//! - `read`: the numbers that it returned, and `ParseNumber` where it did not return one. Where it
+//!   returned `ParseLocale`, panicked, or took a numeral of another script for a digit, the port
+//!   differs on purpose, and the data has the error of the port.
+//! - `names`: the locales that it found, and `ParseLocale` where it found none.
+//! - `locale`: the table of locales, as written down from the CLDR data of that crate.
+//! - The last cases of each kind were worked out by hand from the rules of grouping, of parsing and
+//!   of names. `tools/examples.py` has them.
+//! - `changed`: cases with a wrong result, which show that a difference would be found.
+//!
+//! An error keeps the text truncated at a character within 256 bytes, which is what the port
+//! promises; that crate keeps the whole text.
+//!
+//! The program prints the first results that differ from the expected ones, the first lines that
+//! could not be read, and then, for each kind, how many cases there were and how many differ. The
+//! exit status is 0 where there are cases of each kind, each line could be read, and the changed
+//! cases alone differ. It is 1 otherwise, as for an input without cases.
 #![tactic(auto)]
 
-mod answer;
+mod case;
 mod printing;
 mod report;
-mod row;
+mod result;
 
 use report::Report;
 use std::alloc::Global;
@@ -20,24 +33,24 @@ use std::io;
 use std::process::ExitCode;
 
 fn main(rt: HostRuntime) -> io::Result<ExitCode> {
-    let rows = io::read_to_string(rt.alloc(), rt.reader())?;
-    Ok(if replay(&rt, rt.alloc(), &rows)? {
+    let data = io::read_to_string(rt.alloc(), rt.reader())?;
+    Ok(if passes(&rt, rt.alloc(), &data)? {
         ExitCode::SUCCESS
     } else {
         ExitCode::FAILURE
     })
 }
 
-/// Replays the rows and prints what came of them. Returns whether that is as wanted.
-fn replay(rt: &impl Print, alloc: Global, rows: &str) -> io::Result<bool> {
+/// Tries the cases of the data and prints what came of them. Returns whether that is as expected.
+fn passes(rt: &impl Print, alloc: Global, data: &str) -> io::Result<bool> {
     let mut report = Report::new();
-    for (index, line) in rows.lines().enumerate() {
+    for (index, line) in data.lines().enumerate() {
         if !line.starts_with('#') {
-            report.replay(rt, alloc, index + 1, line)?;
+            report.add(rt, alloc, index + 1, line)?;
         }
     }
     report.print(rt)?;
-    Ok(report.is_as_wanted())
+    Ok(report.is_passed())
 }
 
 #[cfg(test)]
@@ -45,8 +58,8 @@ mod tests {
     use super::*;
     use std::test::Fail;
 
-    /// A row of each kind, and one whose wanted answer was changed.
-    const ROWS: &str = "\
+    /// A case of each kind.
+    const CASES: &str = "\
 print\tu8\tlocale:en\t5\t35
 read\tu8\tlocale:en\t35\tok 5
 names\t656e\tok en
@@ -55,12 +68,12 @@ changed\tprint\tu8\tlocale:en\t5\t36
 ";
 
     #[test]
-    fn each_kind_of_row_is_needed(rt: HostRuntime) -> Result<(), Fail> {
-        assert!(rt; replay(&rt, rt.alloc(), ROWS)?);
-        assert!(rt; !replay(&rt, rt.alloc(), "")?);
-        for left_out in ROWS.lines() {
-            let rest = ROWS.replace(rt.alloc(), left_out, "# left out")?;
-            assert!(rt; !replay(&rt, rt.alloc(), &rest)?, "{left_out}");
+    fn each_kind_is_required(rt: HostRuntime) -> Result<(), Fail> {
+        assert!(rt; passes(&rt, rt.alloc(), CASES)?);
+        assert!(rt; !passes(&rt, rt.alloc(), "")?);
+        for case in CASES.lines() {
+            let others = CASES.replace(rt.alloc(), case, "# left out")?;
+            assert!(rt; !passes(&rt, rt.alloc(), &others)?, "{case}");
         }
         Ok(())
     }

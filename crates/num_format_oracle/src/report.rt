@@ -1,17 +1,17 @@
-//! What came of the rows.
+//! What came of the cases: those whose result differs, and how many there were of each kind.
 
-use crate::row::{Question, Row};
+use crate::case::{Call, Case};
 use std::alloc::Global;
 use std::io;
 
-/// The most lines of one sort that are named.
-const MOST_NAMED: usize = 5;
+/// The most lines of one sort that are printed.
+const MOST_PRINTED: usize = 5;
 
-/// How many rows of a kind were replayed, and how many answers differ from those that are wanted.
+/// How many cases of a kind were tried, and how many results differ from the expected ones.
 #[derive(Drop)]
 struct Tally {
     kind: &'static str,
-    rows: usize,
+    cases: usize,
     different: usize,
 }
 
@@ -19,49 +19,49 @@ impl Tally {
     fn new(kind: &'static str) -> Tally {
         Tally {
             kind,
-            rows: 0,
+            cases: 0,
             different: 0,
         }
     }
 
-    /// Counts one more row, and names it where it is one of the first that differ.
+    /// Counts one more case, and prints it where it is one of the first that differ.
     fn add(
         &mut self,
         rt: &impl Print,
         line: usize,
-        wanted: &str,
-        answered: &str,
+        expected: &str,
+        returned: &str,
     ) -> io::Result<()> {
-        self.rows = self.rows.saturating_add(1);
-        if wanted == answered {
+        self.cases = self.cases.saturating_add(1);
+        if expected == returned {
             return Ok(());
         }
         self.different = self.different.saturating_add(1);
-        if self.different <= MOST_NAMED {
-            println!(rt; "line {line}: wanted {wanted}, answered {answered}")?;
+        if self.different <= MOST_PRINTED {
+            println!(rt; "line {line}: expected {expected}, returned {returned}")?;
         }
         Ok(())
     }
 
-    /// Whether there were rows, and no answer differs.
-    fn is_as_wanted(&self) -> bool {
-        self.rows > 0 && self.different == 0
+    /// Whether there were cases, and no result differs.
+    fn is_passed(&self) -> bool {
+        self.cases > 0 && self.different == 0
     }
 
     fn print(&self, rt: &impl Print) -> io::Result<()> {
         println!(rt;
-            "{}: {} rows, {} differ",
-            self.kind, self.rows, self.different
+            "{}: {} cases, {} differ",
+            self.kind, self.cases, self.different
         )
     }
 }
 
-/// What came of the rows so far, by their kind, and how many lines are no row.
+/// What came of the cases so far, by their kind, and how many lines have no case.
 #[derive(Drop)]
 pub struct Report {
     printing: Tally,
     reading: Tally,
-    naming: Tally,
+    names: Tally,
     locales: Tally,
     changed: Tally,
     unreadable: usize,
@@ -72,67 +72,67 @@ impl Report {
         Report {
             printing: Tally::new("print"),
             reading: Tally::new("read"),
-            naming: Tally::new("names"),
+            names: Tally::new("names"),
             locales: Tally::new("locale"),
             changed: Tally::new("changed"),
             unreadable: 0,
         }
     }
 
-    /// Replays the row of a line, whose number is given.
-    pub fn replay(
+    /// Tries the case of a line, whose number is given.
+    pub fn add(
         &mut self,
         rt: &impl Print,
         alloc: Global,
         line: usize,
         text: &str,
     ) -> io::Result<()> {
-        let Some(row) = Row::parse(alloc, text) else {
-            return self.count_unreadable(rt, line);
+        let Some(case) = Case::parse(alloc, text) else {
+            return self.add_unreadable(rt, line);
         };
-        let Some(answered) = row.question.answer(alloc) else {
-            return self.count_unreadable(rt, line);
+        let Some(returned) = case.call.result(alloc) else {
+            return self.add_unreadable(rt, line);
         };
-        let wanted = row.wanted;
-        if row.is_changed {
-            return self.changed.add(rt, line, wanted, &answered);
+        let expected = case.expected;
+        if case.is_changed {
+            return self.changed.add(rt, line, expected, &returned);
         }
-        match row.question {
-            Question::Print { .. } => self.printing.add(rt, line, wanted, &answered),
-            Question::Read { .. } => self.reading.add(rt, line, wanted, &answered),
-            Question::Name { .. } => self.naming.add(rt, line, wanted, &answered),
-            Question::Locale { .. } => self.locales.add(rt, line, wanted, &answered),
+        match case.call {
+            Call::Print { .. } => self.printing.add(rt, line, expected, &returned),
+            Call::Parse { .. } => self.reading.add(rt, line, expected, &returned),
+            Call::FindLocale { .. } => self.names.add(rt, line, expected, &returned),
+            Call::DescribeLocale { .. } => self.locales.add(rt, line, expected, &returned),
         }
     }
 
-    /// Counts one more line that is no row, and names it where it is one of the first.
-    fn count_unreadable(&mut self, rt: &impl Print, line: usize) -> io::Result<()> {
+    /// Counts one more line without a case, and prints its number where it is one of the first.
+    fn add_unreadable(&mut self, rt: &impl Print, line: usize) -> io::Result<()> {
         self.unreadable = self.unreadable.saturating_add(1);
-        if self.unreadable <= MOST_NAMED {
-            println!(rt; "line {line}: no row")?;
+        if self.unreadable <= MOST_PRINTED {
+            println!(rt; "line {line}: no case")?;
         }
         Ok(())
     }
 
-    /// Whether there were rows of each kind, each line was a row, and the changed rows, and no
+    /// Whether there were cases of each kind, each line had one, and the changed cases, and no
     /// others, differ.
-    pub fn is_as_wanted(&self) -> bool {
-        self.printing.is_as_wanted()
-            && self.reading.is_as_wanted()
-            && self.naming.is_as_wanted()
-            && self.locales.is_as_wanted()
-            && self.changed.rows > 0
-            && self.changed.different == self.changed.rows
+    pub fn is_passed(&self) -> bool {
+        self.printing.is_passed()
+            && self.reading.is_passed()
+            && self.names.is_passed()
+            && self.locales.is_passed()
+            && self.changed.cases > 0
+            && self.changed.different == self.changed.cases
             && self.unreadable == 0
     }
 
-    /// Prints how many rows there were of each kind, and how many answers differ.
+    /// Prints how many cases there were of each kind, and how many results differ.
     pub fn print(&self, rt: &impl Print) -> io::Result<()> {
         self.printing.print(rt)?;
         self.reading.print(rt)?;
-        self.naming.print(rt)?;
+        self.names.print(rt)?;
         self.locales.print(rt)?;
         self.changed.print(rt)?;
-        println!(rt; "unreadable: {} rows", self.unreadable)
+        println!(rt; "unreadable: {} lines", self.unreadable)
     }
 }

@@ -1,4 +1,4 @@
--- A format of a user's own.
+-- The data of the format that the test module own_format defines.
 use Rattle.std.specs.Prelude.{codes}
 use Rattle.num_format_text.specs.declared.grouping.Grouping.{Grouping}
 use Rattle.num_format.specs.English.{english}

@@ -1,4 +1,4 @@
-//! What a buffer holds.
+//! What a [`Buffer`] holds.
 
 use crate::asserting::assert_equal;
 use crate::every_way::is_whole;
@@ -27,7 +27,7 @@ fn a_second_text_replaces_the_first(rt: HostRuntime) {
 }
 
 #[test]
-fn prints_the_bare_text(rt: HostRuntime) -> Result<(), Fail> {
+fn displays_the_text_alone(rt: HostRuntime) -> Result<(), Fail> {
     let mut buffer = Buffer::new();
     buffer.write_formatted(&1000, &CustomFormat::default());
     let shown = format!(in rt.alloc(); "{buffer} {buffer:>9} {buffer:.2}")?;

@@ -1,14 +1,14 @@
 //! One text by every way of printing.
 
 use crate::asserting::assert_equal;
-use num_format::{Buffer, CustomFormat, Format, ToFormattedStr, ToFormattedString, WriteFormatted};
+use num_format::{Buffer, CustomFormat, Format, ToFormattedString, WriteFormatted};
 use std::alloc::Global;
 use std::process::Abort;
 use std::test::Fail;
 
-/// Asserts that a number has this text by every way of printing, and that each way that counts
-/// answers the length of the text in bytes.
-pub fn prints<N: ToFormattedStr, F: Format>(
+/// Asserts that a number has this text by every way of printing, and that each returned count is
+/// the length of the text in bytes.
+pub fn prints<N: ToFormattedString, F: Format>(
     rt: &impl Abort,
     alloc: Global,
     n: &N,
@@ -20,13 +20,13 @@ pub fn prints<N: ToFormattedStr, F: Format>(
     into_vectors(rt, alloc, n, format, text)
 }
 
-/// Asserts that what holds a text has the whole of it, and that the count is its length in bytes.
-pub fn is_whole(rt: &impl Abort, count: usize, held: &[u8], text: &str) {
-    assert_equal(rt, held, text.as_bytes());
+/// Asserts that these bytes are the whole text, and that the count is its length in bytes.
+pub fn is_whole(rt: &impl Abort, count: usize, bytes: &[u8], text: &str) {
+    assert_equal(rt, bytes, text.as_bytes());
     assert_equal(rt, count, text.len());
 }
 
-fn into_buffers<N: ToFormattedStr, F: Format>(rt: &impl Abort, n: &N, format: &F, text: &str) {
+fn into_buffers<N: ToFormattedString, F: Format>(rt: &impl Abort, n: &N, format: &F, text: &str) {
     let mut written = Buffer::new();
     let count = written.write_formatted(n, format);
     is_whole(rt, count, written.as_bytes(), text);
@@ -35,7 +35,7 @@ fn into_buffers<N: ToFormattedStr, F: Format>(rt: &impl Abort, n: &N, format: &F
     is_whole(rt, count, read.as_bytes(), text);
 }
 
-fn into_strings<N: ToFormattedStr, F: Format>(
+fn into_strings<N: ToFormattedString, F: Format>(
     rt: &impl Abort,
     alloc: Global,
     n: &N,
@@ -53,7 +53,7 @@ fn into_strings<N: ToFormattedStr, F: Format>(
     Ok(())
 }
 
-fn into_vectors<N: ToFormattedStr, F: Format>(
+fn into_vectors<N: ToFormattedString, F: Format>(
     rt: &impl Abort,
     alloc: Global,
     n: &N,
@@ -71,7 +71,7 @@ fn into_vectors<N: ToFormattedStr, F: Format>(
 
 #[test]
 fn under_the_default_format(rt: HostRuntime) -> Result<(), Fail> {
-    let rows = [
+    let cases = [
         (0i32, "0"),
         (999, "999"),
         (1000, "1,000"),
@@ -79,7 +79,7 @@ fn under_the_default_format(rt: HostRuntime) -> Result<(), Fail> {
         (-1000000, "-1,000,000"),
     ];
     let format = CustomFormat::default();
-    for (n, text) in rows {
+    for (n, text) in cases {
         prints(&rt, rt.alloc(), &n, &format, text)?;
     }
     Ok(())

@@ -1,4 +1,4 @@
-//! A thousand into a file of the system.
+//! The number 1000 into a file of the system.
 
 use crate::asserting::assert_equal;
 use crate::thousand::{append_thousand, append_two_thousands, write_thousand};
@@ -8,7 +8,8 @@ use std::test::Fail;
 
 const PATH: &str = "num_format_vectors_files.txt";
 
-/// What was written stands in the file, and a file that is open for reading alone takes nothing.
+/// A file has the bytes that were written to it, and a file that is open for reading alone returns
+/// an error.
 #[test]
 fn written_and_read_back(rt: HostRuntime) -> Result<(), Fail> {
     let mut file = File::create(&rt, PATH)?;

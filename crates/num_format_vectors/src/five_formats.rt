@@ -2,7 +2,7 @@
 
 use crate::every_way;
 use crate::texts::built;
-use num_format::{Grouping, ToFormattedStr};
+use num_format::{Grouping, ToFormattedString};
 use std::alloc::Global;
 use std::num::{NonZeroU8, NonZeroU16, NonZeroU32, NonZeroU64, NonZeroU128, NonZeroUsize};
 use std::process::Abort;
@@ -12,7 +12,7 @@ use std::test::Fail;
 /// Left-to-right marks round a hyphen.
 const MARKED: &str = "\u{200e}-\u{200e}";
 
-/// Grouping, separator, minus sign, and what stands between groups.
+/// Grouping, separator, minus sign, and the text between two groups.
 const FORMATS: [(Grouping, &str, &str, &str); 5] = [
     (Grouping::Standard, ",", "-", ","),
     (Grouping::Standard, "𠜱", MARKED, "𠜱"),
@@ -22,7 +22,7 @@ const FORMATS: [(Grouping, &str, &str, &str); 5] = [
 ];
 
 /// In each line a type, a number of it, and its text in groups of three and in Indian groups, with
-/// `_` for what stands between them. `MIN` and `MAX` are the constants of the type.
+/// `_` between two groups. `MIN` and `MAX` are the constants of the type.
 const NUMBERS: &str = "\
 u8 MIN 0 0
 u8 MAX 255 255
@@ -112,7 +112,7 @@ impl<'a> Number<'a> {
     }
 }
 
-/// Asserts it of a number of the type of that name.
+/// Asserts the texts of a number of the type of that name.
 fn as_type(
     rt: &impl Abort,
     alloc: Global,
@@ -145,10 +145,10 @@ fn as_type(
 /// Asserts that the number has the text of its pattern under each of the formats.
 fn prints<N>(rt: &impl Abort, alloc: Global, ends: [N; 2], number: Number<'_>) -> Result<(), Fail>
 where
-    N: ToFormattedStr + FromStr + Copy,
+    N: ToFormattedString + FromStr + Copy,
     N::Err: Drop,
 {
-    let n = number_of(ends, number.decimal)?;
+    let n = parse_number(ends, number.decimal)?;
     for format in FORMATS {
         let pattern = match format.0 {
             Grouping::Indian => number.indian,
@@ -159,8 +159,8 @@ where
     Ok(())
 }
 
-/// The end of the type that is named, or the number that is written.
-fn number_of<N: FromStr + Copy>([min, max]: [N; 2], decimal: &str) -> Result<N, Fail>
+/// Returns the constant of the type that is named, or the number in decimal.
+fn parse_number<N: FromStr + Copy>([min, max]: [N; 2], decimal: &str) -> Result<N, Fail>
 where
     N::Err: Drop,
 {
@@ -172,7 +172,7 @@ where
 }
 
 /// Asserts that the number has the text of the pattern under the format, by every way of printing.
-fn prints_under<N: ToFormattedStr>(
+fn prints_under<N: ToFormattedString>(
     rt: &impl Abort,
     alloc: Global,
     n: &N,

@@ -4,7 +4,7 @@
 use crate::asserting::assert_equal;
 use crate::every_way::is_whole;
 use crate::texts::built;
-use num_format::{Buffer, CustomFormat, Grouping, ToFormattedStr};
+use num_format::{Buffer, CustomFormat, Grouping, ToFormattedString};
 use std::alloc::Global;
 use std::process::Abort;
 use std::test::Fail;
@@ -84,7 +84,7 @@ fn print_powers_of_ten(
 }
 
 /// Asserts that a buffer gets the text of the number.
-fn prints<N: ToFormattedStr>(rt: &impl Abort, n: &N, format: &CustomFormat, text: &str) {
+fn prints<N: ToFormattedString>(rt: &impl Abort, n: &N, format: &CustomFormat, text: &str) {
     let mut buffer = Buffer::new();
     let count = buffer.write_formatted(n, format);
     is_whole(rt, count, buffer.as_bytes(), text);

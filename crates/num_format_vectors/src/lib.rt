@@ -1,33 +1,34 @@
-//! Tests of the crates of the workspace against values from outside.
+//! Tests of the crates of this repository against expected values from outside.
 //!
-//! What is proved is proved against definitions; these tests show that the definitions mean what
-//! the Rust crate num-format 0.4.4 does. Each expected text is a literal. Those of the module
-//! `five_formats`, but for a thousand, are the texts of the Rust crate's own tests: the ends of
-//! every integer type under five formats, with `_` in place of the separator. The names of
-//! `constants` are those of the crate's table. The others were worked out by hand from the rules of
-//! grouping and reading.
+//! The proofs are over definitions. These tests show that the definitions mean what the Rust crate
+//! `num-format` 0.4.4 does, and that calls succeed. No expected value comes from the code under
+//! test: the texts of `five_formats`, but for those of 1000, are those of that crate's own tests;
+//! the names of `constants` are those of its table; `left_to_right` has a plain function; all else
+//! was worked out by hand from the rules of grouping and of parsing.
 //!
-//! A text, a name or a number that needs no test of its own is a row that `num_format_oracle`
-//! replays: worked texts under locales and built formats, texts that are read and refused, and
-//! names that are found and refused.
+//! A number to print, a text to parse or a name to find needs no test of its own: it is a test case
+//! of `num_format_oracle`.
 //!
 //! | Module | What is tested |
 //! |---|---|
-//! | `five_formats` | zero, a thousand and the ends of each of the eighteen types |
-//! | `left_to_right` | numbers with each possible number of digits, against a plain function |
-//! | `every_way` | one text by every way of printing: the check that `five_formats` makes too |
-//! | `own_formats` | a format of a user's own, that of `own_format` |
-//! | `refusals` | the capacities of the six texts, what a builder takes, and what a refusal prints |
-//! | `buffers` | a new buffer, one that is written twice, a copy, a printed one, and prepended texts |
-//! | `constants` | the name of each constant of `Locale` |
-//! | `locales` | the list of names, and a locale found by its name and shown |
-//! | `reading` | texts of any sort as numbers of any type |
+//! | `five_formats` | zero, 1000 and the ends of each of the eighteen types, by every way of printing |
+//! | `left_to_right` | powers of ten and one less, under separators of each length |
+//! | `every_way` | some numbers under the default format, by every way of printing |
+//! | `own_format` | a type of its own that implements `Format` |
+//! | `buffers` | a `Buffer`: new, written twice, copied, displayed, prepended to |
 //! | `strings` | numbers into strings and formatters, and into a writer of text that fails |
 //! | `writers` | std's writers of bytes: vectors, cursors, buffers, the sink, standard output |
 //! | `slices` | slices of bytes, too short and long enough |
-//! | `faults` | writers of bytes that take a few bytes a call, that fail, and that take nothing |
-//! | `files` | a file of the system, written and read back |
-//! | `program` | command lines of the program `regroup`, and writers that fail in mid-reply |
+//! | `faults` | writers of bytes that make short writes, return errors, and accept nothing |
+//! | `files` | a file, written and read back |
+//! | `parsing` | texts parsed by generic code |
+//! | `errors` | the capacities of the six texts, and what an error prints |
+//! | `builder` | what a builder of formats keeps, and which error it returns |
+//! | `locales` | the list of names, and a locale found by its name and shown |
+//! | `constants` | the name of each constant of `Locale` |
+//! | `program` | command lines of the program `regroup`, and writes that fail in mid-output |
+//!
+//! `asserting`, `texts`, `thousand` and `short_writer` serve these tests.
 #![tactic(auto)]
 
 #[cfg(test)]
@@ -35,9 +36,11 @@ mod asserting;
 #[cfg(test)]
 mod buffers;
 #[cfg(test)]
-mod choppy;
+mod builder;
 #[cfg(test)]
 mod constants;
+#[cfg(test)]
+mod errors;
 #[cfg(test)]
 mod every_way;
 #[cfg(test)]
@@ -53,13 +56,11 @@ mod locales;
 #[cfg(test)]
 mod own_format;
 #[cfg(test)]
-mod own_formats;
+mod parsing;
 #[cfg(test)]
 mod program;
 #[cfg(test)]
-mod reading;
-#[cfg(test)]
-mod refusals;
+mod short_writer;
 #[cfg(test)]
 mod slices;
 #[cfg(test)]

@@ -1,4 +1,4 @@
-//! What `num_format_oracle` does not ask of locales.
+//! The list of the names of locales, a locale found by its own name, and its `Debug` text.
 ghost use Rattle.std.specs.Prelude.{◌≡◌};
 
 use crate::asserting::assert_equal;
@@ -13,7 +13,8 @@ fn names(rt: HostRuntime) {
     assert_equal(&rt, names.last(), Some(&"zu"));
 }
 
-/// The name of a locale leads back to it: proved, as for any caller, from the contracts alone.
+/// Returns the locale that is found by the name of this one: the same, which is proved from the
+/// contracts alone, as for any caller.
 fn found_by_its_name(locale: Locale) -> Result<Locale, Error>
     ensures { result ≡ Ok locale }
 {
@@ -21,7 +22,7 @@ fn found_by_its_name(locale: Locale) -> Result<Locale, Error>
 }
 
 #[test]
-fn a_name_leads_back(rt: HostRuntime) {
+fn the_name_finds_its_locale(rt: HostRuntime) {
     assert_equal(&rt, found_by_its_name(Locale::as_).ok(), Some(Locale::as_));
 }
 

@@ -1,17 +1,18 @@
-//! The program's command lines: the replies where nothing fails, and what ends one.
+//! Command lines of the program `regroup`: the status and the outputs of each, also where a write
+//! fails.
 
 use crate::asserting::assert_equal;
-use crate::choppy::{Choppy, Fault};
+use crate::short_writer::{Fault, ShortWriter};
 use regroup_commands::{ANSWERED, FAILED, MISUSED, REFUSED, run};
 use std::alloc::Global;
 use std::io;
 use std::process::Abort;
 
-const ANSWER: &[&str] = &["custom", ",", "Standard", "-", "-1000000"];
+const PRINTED: &[&str] = &["custom", ",", "Standard", "-", "-1000000"];
 
-const REFUSAL: &[&str] = &["custom", "123456789", "Standard", "1234567890", "1"];
+const TOO_LONG: &[&str] = &["custom", "123456789", "Standard", "1234567890", "1"];
 
-const REFUSAL_TEXT: &str =
+const TOO_LONG_MESSAGE: &str =
     "Attempted to write input of length 10 bytes into a buffer with capacity 8 bytes.\n";
 
 const UNKNOWN_LOCALE: &str = "Failed to parse xx into a valid locale.\n";
@@ -20,18 +21,18 @@ const NO_NUMBER: &str = "Failed to parse one into a number.\n";
 
 const USAGE: &str = "usage: regroup COMMAND ARGUMENT...\n";
 
-/// One command line, with the status and the texts on both outputs that it gets.
-type Row<'a> = (&'a [&'a str], u8, &'a str, &'a str);
+/// A command line, its status, and its texts on standard output and standard error.
+type Case<'a> = (&'a [&'a str], u8, &'a str, &'a str);
 
-const CUSTOM_ROWS: [Row<'static>; 8] = [
-    (ANSWER, ANSWERED, "-1,000,000\n", ""),
+const CUSTOM_CASES: [Case<'static>; 8] = [
+    (PRINTED, ANSWERED, "-1,000,000\n", ""),
     (
         &["custom", "", "Indian", "", "-100000"],
         ANSWERED,
         "100000\n",
         "",
     ),
-    (REFUSAL, REFUSED, "", REFUSAL_TEXT),
+    (TOO_LONG, REFUSED, "", TOO_LONG_MESSAGE),
     (
         &["custom", "123456789", "Chinese", "-", "1"],
         MISUSED,
@@ -49,7 +50,7 @@ const CUSTOM_ROWS: [Row<'static>; 8] = [
     (&[], MISUSED, "", USAGE),
 ];
 
-const LOCALE_ROWS: [Row<'static>; 12] = [
+const LOCALE_CASES: [Case<'static>; 12] = [
     (&["print", "as", "-1234567"], ANSWERED, "-12,34,567\n", ""),
     (&["print", "en_IN", "100000"], ANSWERED, "1,00,000\n", ""),
     (&["print", "xx", "1"], REFUSED, "", UNKNOWN_LOCALE),
@@ -65,40 +66,40 @@ const LOCALE_ROWS: [Row<'static>; 12] = [
 ];
 
 /// Asserts the status that a command line ends with.
-fn assert_status(rt: &impl Abort, words: &[&str], status: u8, wanted: u8) {
-    assert_equal(rt, (words, status), (words, wanted));
+fn assert_status(rt: &impl Abort, words: &[&str], status: u8, expected: u8) {
+    assert_equal(rt, (words, status), (words, expected));
 }
 
-/// Asserts what an output was sent.
-fn assert_sent(rt: &impl Abort, output: &[u8], text: &str) {
+/// Asserts what was written to an output.
+fn assert_written(rt: &impl Abort, output: &[u8], text: &str) {
     assert_equal(rt, output, text.as_bytes());
 }
 
-/// Asserts what a command line is answered.
-fn assert_reply(rt: &impl Abort, alloc: Global, (words, status, answer, fault): Row<'_>) {
+/// Asserts the status and the outputs of a command line.
+fn assert_run(rt: &impl Abort, alloc: Global, (words, status, printed, error): Case<'_>) {
     let mut out: Vec<u8> = Vec::new(alloc);
     let mut err: Vec<u8> = Vec::new(alloc);
     assert_status(rt, words, run(words, &mut out, &mut err), status);
-    assert_sent(rt, &out, answer);
-    assert_sent(rt, &err, fault);
+    assert_written(rt, &out, printed);
+    assert_written(rt, &err, error);
 }
 
 #[test]
-fn replies(rt: HostRuntime) {
-    for row in CUSTOM_ROWS {
-        assert_reply(&rt, rt.alloc(), row);
+fn custom_formats(rt: HostRuntime) {
+    for case in CUSTOM_CASES {
+        assert_run(&rt, rt.alloc(), case);
     }
 }
 
 #[test]
-fn replies_of_locales(rt: HostRuntime) {
-    for row in LOCALE_ROWS {
-        assert_reply(&rt, rt.alloc(), row);
+fn locales(rt: HostRuntime) {
+    for case in LOCALE_CASES {
+        assert_run(&rt, rt.alloc(), case);
     }
 }
 
 #[test]
-fn names_stand_one_per_line(rt: HostRuntime) {
+fn names_are_printed_one_per_line(rt: HostRuntime) {
     let mut out: Vec<u8> = Vec::new(rt.alloc());
     let mut err: Vec<u8> = Vec::new(rt.alloc());
     assert_status(
@@ -116,8 +117,8 @@ fn names_stand_one_per_line(rt: HostRuntime) {
 #[test]
 fn each_write_fails_in_turn(rt: HostRuntime) {
     for (words, status, text) in [
-        (ANSWER, ANSWERED, "-1,000,000\n"),
-        (REFUSAL, REFUSED, REFUSAL_TEXT),
+        (PRINTED, ANSWERED, "-1,000,000\n"),
+        (TOO_LONG, REFUSED, TOO_LONG_MESSAGE),
         (&["print", "xx", "1"], REFUSED, UNKNOWN_LOCALE),
         (&["read", "as", "-12,34,567"], ANSWERED, "-1234567\n"),
         (&["custom"], MISUSED, USAGE),
@@ -126,28 +127,28 @@ fn each_write_fails_in_turn(rt: HostRuntime) {
     }
 }
 
-/// Asserts that a reply ends with 3 where a write fails, and has sent what was written before it.
-/// By one byte a call it takes as many writes as it has bytes.
+/// Asserts that a command ends with 3 where a write fails, after the bytes that were written before
+/// it. At one byte a write, there are as many writes as the text has bytes.
 fn fails_at_each_write(rt: &impl Abort, alloc: Global, words: &[&str], status: u8, text: &str) {
     for calls in 0..=text.len() {
-        let fault = Fault::Fails(io::ErrorKind::Interrupted);
-        let mut faulty = Choppy::new(alloc, 1, Some((calls.saturating_add(1), fault)));
+        let fault = Fault::Error(io::ErrorKind::Interrupted);
+        let mut failing = ShortWriter::new(alloc, 1, Some((calls.saturating_add(1), fault)));
         let mut other: Vec<u8> = Vec::new(alloc);
-        let answered = if status == ANSWERED {
-            run(words, &mut faulty, &mut other)
+        let returned = if status == ANSWERED {
+            run(words, &mut failing, &mut other)
         } else {
-            run(words, &mut other, &mut faulty)
+            run(words, &mut other, &mut failing)
         };
-        let wanted = if calls == text.len() { status } else { FAILED };
-        assert_status(rt, words, answered, wanted);
-        assert_sent(rt, &faulty.held, text.get(..calls).unwrap_or(text));
-        assert_sent(rt, &other, "");
+        let expected = if calls == text.len() { status } else { FAILED };
+        assert_status(rt, words, returned, expected);
+        assert_written(rt, &failing.received, text.get(..calls).unwrap_or(text));
+        assert_written(rt, &other, "");
     }
 }
 
 #[test]
-fn a_write_that_takes_nothing_ends_the_reply(rt: HostRuntime) {
-    for words in [ANSWER, REFUSAL, &["names"], &["custom"]] {
+fn a_write_of_no_byte_ends_the_command(rt: HostRuntime) {
+    for words in [PRINTED, TOO_LONG, &["names"], &["custom"]] {
         let (mut out, mut err): (&mut [u8], &mut [u8]) = (&mut [], &mut []);
         assert_status(&rt, words, run(words, &mut out, &mut err), FAILED);
     }

@@ -1,31 +1,31 @@
-//! A thousand into slices of bytes.
+//! The number 1000 into slices of bytes.
 
 use crate::asserting::assert_equal;
-use crate::thousand::{append_thousand, append_two_thousands, assert_fails, write_thousand};
+use crate::thousand::{append_thousand, append_two_thousands, assert_error, write_thousand};
 use std::io;
 use std::test::Fail;
 
-/// A slice too short is full, and what stands behind it in memory stays.
+/// A slice that is too short is filled, and the bytes after it in memory stay.
 #[test]
 fn too_short(rt: HostRuntime) -> Result<(), Fail> {
-    let rows = [
+    let cases = [
         (0, b"xxxxx"),
         (1, b"1xxxx"),
         (2, b"1,xxx"),
         (3, b"1,0xx"),
         (4, b"1,00x"),
     ];
-    for (len, wanted) in rows {
+    for (len, expected) in cases {
         let mut bytes = [b'x'; 5];
         let mut slice = bytes.get_mut(..len).ok_or("past the end")?;
-        assert_fails(&rt, write_thousand(&mut slice), io::ErrorKind::WriteZero);
+        assert_error(&rt, write_thousand(&mut slice), io::ErrorKind::WriteZero);
         assert!(rt; slice.is_empty());
-        assert_equal(&rt, bytes.as_slice(), wanted.as_slice());
+        assert_equal(&rt, bytes.as_slice(), expected.as_slice());
     }
     Ok(())
 }
 
-/// A slice then names the room behind the text, which the next number takes.
+/// A slice then is the space that remains after the text, into which the next number goes.
 #[test]
 fn long_enough(rt: HostRuntime) -> Result<(), Fail> {
     let mut bytes = [b'x'; 11];

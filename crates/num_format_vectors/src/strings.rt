@@ -9,9 +9,9 @@ use std::process::Abort;
 use std::test::Fail;
 use std::{fmt, io};
 
-/// A text is put behind the one that stands.
+/// A number is appended to the text that the string holds.
 #[test]
-fn behind_a_text(rt: HostRuntime) -> Result<(), Fail> {
+fn after_a_text(rt: HostRuntime) -> Result<(), Fail> {
     let mut text = String::from_str(rt.alloc(), "x")?;
     append_two_thousands(&rt, &mut text)?;
     assert_equal(
@@ -23,30 +23,30 @@ fn behind_a_text(rt: HostRuntime) -> Result<(), Fail> {
     Ok(())
 }
 
-/// A string and a vector whose growth is refused stay as they were.
+/// A string and a vector stay as they were where they can't grow.
 ///
-/// Memory is refused only under `rt try --test --fail-alloc N`: the string's growth where `N` is 2,
-/// the vector's where it is 4. The test passes there too.
+/// An allocation fails only under `rt try --test --fail-alloc N`: the string's growth where `N` is
+/// 2, the vector's where it is 4. The test passes there too.
 #[test]
-fn where_memory_is_refused(rt: HostRuntime) -> Result<(), Fail> {
+fn out_of_memory(rt: HostRuntime) -> Result<(), Fail> {
     let mut text = String::from_str(rt.alloc(), "x")?;
-    let wanted = match write_thousand(&mut text) {
+    let expected = match write_thousand(&mut text) {
         Ok(_) => "x1,000",
         Err(error) => {
             assert_equal(&rt, error.kind(), io::ErrorKind::OutOfMemory);
             "x"
         }
     };
-    assert_equal(&rt, text.as_str(), wanted);
+    assert_equal(&rt, text.as_str(), expected);
     let mut bytes = b"x".to_vec(rt.alloc())?;
-    let wanted = match write_thousand(&mut bytes) {
+    let expected = match write_thousand(&mut bytes) {
         Ok(_) => "x1,000",
         Err(error) => {
             assert_equal(&rt, error.kind(), io::ErrorKind::OutOfMemory);
             "x"
         }
     };
-    assert_equal(&rt, bytes.as_slice(), wanted.as_bytes());
+    assert_equal(&rt, bytes.as_slice(), expected.as_bytes());
     Ok(())
 }
 
@@ -70,46 +70,47 @@ fn by_a_formatter(rt: HostRuntime) -> Result<(), Fail> {
     Ok(())
 }
 
-/// A writer of text with room for some bytes a call. A longer text fails, and its front is kept.
+/// A writer of text that accepts some bytes a call. A longer text is an error, and its prefix is
+/// kept.
 #[derive(Drop)]
-struct Narrow {
-    held: String,
-    room: usize,
+struct LimitedWriter {
+    received: String,
+    most: usize,
     calls: usize,
 }
 
-impl Narrow {
-    fn new(alloc: Global, room: usize) -> Narrow {
-        Narrow {
-            held: String::new(alloc),
-            room,
+impl LimitedWriter {
+    fn new(alloc: Global, most: usize) -> LimitedWriter {
+        LimitedWriter {
+            received: String::new(alloc),
+            most,
             calls: 0,
         }
     }
 }
 
-impl fmt::Write for Narrow {
+impl fmt::Write for LimitedWriter {
     fn write_str(&mut self, text: &str) -> fmt::Result {
         self.calls = self.calls.saturating_add(1);
-        if text.len() <= self.room {
-            self.held.push_str(text)?;
+        if text.len() <= self.most {
+            self.received.push_str(text)?;
             return Ok(());
         }
-        self.held.push_str(text.get(..self.room).unwrap_or(""))?;
+        self.received.push_str(text.get(..self.most).unwrap_or(""))?;
         Err(fmt::Error)
     }
 }
 
-/// Asserts that a writer was called once, and what it holds.
-fn assert_held(rt: &impl Abort, narrow: &Narrow, held: &str) {
-    assert_equal(rt, narrow.held.as_str(), held);
-    assert_equal(rt, narrow.calls, 1);
+/// Asserts that a writer was called once, and what it received.
+fn assert_received(rt: &impl Abort, writer: &LimitedWriter, text: &str) {
+    assert_equal(rt, writer.received.as_str(), text);
+    assert_equal(rt, writer.calls, 1);
 }
 
-/// The whole text is one call, and its fault is the answer.
+/// The whole text is written by one call, whose error is returned.
 #[test]
 fn into_a_writer_that_fails(rt: HostRuntime) -> Result<(), Fail> {
-    let rows = [
+    let cases = [
         (0, Err(fmt::Error), ""),
         (3, Err(fmt::Error), "1,0"),
         (4, Err(fmt::Error), "1,00"),
@@ -117,14 +118,14 @@ fn into_a_writer_that_fails(rt: HostRuntime) -> Result<(), Fail> {
         (6, Ok(5), "1,000"),
     ];
     let format = CustomFormat::default();
-    for (room, answer, held) in rows {
-        let mut narrow = Narrow::new(rt.alloc(), room);
-        assert_equal(&rt, 1000.read_to_fmt_writer(&mut narrow, &format), answer);
-        assert_held(&rt, &narrow, held);
-        let mut narrow = Narrow::new(rt.alloc(), room);
+    for (most, expected, received) in cases {
+        let mut writer = LimitedWriter::new(rt.alloc(), most);
+        assert_equal(&rt, 1000.read_to_fmt_writer(&mut writer, &format), expected);
+        assert_received(&rt, &writer, received);
+        let mut writer = LimitedWriter::new(rt.alloc(), most);
         let number = English(1000);
-        assert_equal(&rt, write!(narrow, "{number}").is_ok(), answer.is_ok());
-        assert_held(&rt, &narrow, held);
+        assert_equal(&rt, write!(writer, "{number}").is_ok(), expected.is_ok());
+        assert_received(&rt, &writer, received);
     }
     Ok(())
 }

@@ -1,15 +1,15 @@
-//! A printed text, and the format of one.
+//! How the tests print a number and make a format.
 
 use num_format::{Buffer, CustomFormat, Error, Format, Grouping, ToFormattedStr};
 
-/// A buffer that was new, and then written.
+/// Returns a new buffer with the text of the number.
 pub fn printed<N: ToFormattedStr, F: Format>(n: &N, format: &F) -> Buffer {
     let mut buffer = Buffer::new();
     buffer.write_formatted(n, format);
     buffer
 }
 
-/// A format with this grouping, separator and minus sign, and else that of the locale `en`.
+/// Returns the format of the locale `en` with this grouping, separator and minus sign.
 pub fn built(grouping: Grouping, separator: &str, minus_sign: &str) -> Result<CustomFormat, Error> {
     CustomFormat::builder()
         .grouping(grouping)

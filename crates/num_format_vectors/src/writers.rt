@@ -1,4 +1,4 @@
-//! Thousands into std's writers of bytes.
+//! The number 1000 into std's writers of bytes.
 
 use crate::asserting::assert_equal;
 use crate::thousand::{append_thousand, append_two_thousands, write_thousand};
@@ -25,7 +25,7 @@ fn boxed_vectors(rt: HostRuntime) -> Result<(), Fail> {
     Ok(())
 }
 
-/// Over a vector, which grows where the text goes past its end.
+/// A cursor over a vector, which grows where the text goes past its end.
 #[test]
 fn cursors_over_vectors(rt: HostRuntime) -> Result<(), Fail> {
     let mut cursor = Cursor::new(b"abcdefgh".to_vec(rt.alloc())?);
@@ -50,7 +50,7 @@ fn cursors_over_borrowed_vectors(rt: HostRuntime) -> Result<(), Fail> {
     Ok(())
 }
 
-/// Over a slice, which does not grow.
+/// A cursor over a slice, which does not grow.
 #[test]
 fn cursors_over_slices(rt: HostRuntime) -> Result<(), Fail> {
     let mut bytes = [b'x'; 8];
@@ -85,7 +85,7 @@ fn cursors_over_short_boxed_slices(rt: HostRuntime) -> Result<(), Fail> {
     Ok(())
 }
 
-/// What is buffered reaches the vector at the flush.
+/// Buffered bytes are written to the vector by `flush`.
 #[test]
 fn buffered_writers(rt: HostRuntime) -> Result<(), Fail> {
     let alloc = rt.alloc();
@@ -97,7 +97,7 @@ fn buffered_writers(rt: HostRuntime) -> Result<(), Fail> {
     Ok(())
 }
 
-/// A line reaches the vector at its end.
+/// A line is written to the vector at its end.
 #[test]
 fn line_writers(rt: HostRuntime) -> Result<(), Fail> {
     let alloc = rt.alloc();
@@ -108,7 +108,7 @@ fn line_writers(rt: HostRuntime) -> Result<(), Fail> {
     Ok(())
 }
 
-/// A buffer of three bytes writes the text out as it fills.
+/// A buffer of three bytes is written to the vector whenever it is full.
 #[test]
 fn small_buffers(rt: HostRuntime) -> Result<(), Fail> {
     let alloc = rt.alloc();
