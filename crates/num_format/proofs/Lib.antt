@@ -1,4 +1,4 @@
 mod BuildingLemmas
-pub mod TakingLemmas
+pub mod WritingLemmas
 pub mod TextLemmas
 mod WorkedRows

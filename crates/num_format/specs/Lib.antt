@@ -1,7 +1,7 @@
 pub mod Building
 pub mod English
 pub mod Laws
-pub mod Taking
+pub mod Writing
 pub use Rattle.num_format_text.specs.Format
 pub use Rattle.num_format_text.specs.Refusal
 pub use Rattle.num_format_int.specs.Reading

@@ -1,8 +1,7 @@
 //! Numbers into strings and writers.
-ghost use Rattle.std.specs.Prelude.{◌≡◌, length, IfOk, OnOk, OnErr, string_bytes};
-ghost use Rattle.std.specs.Io.KnownBytes.{Appends};
+ghost use Rattle.std.specs.Prelude.{◌≡◌, length, IfOk, OnOk, string_bytes};
 ghost use Rattle.num_format_int.specs.Text.{text_of};
-ghost use Rattle.num_format.specs.Taking.{StopsWithin};
+ghost use Rattle.num_format.specs.Writing.{Writes};
 
 use crate::{Buffer, Format, ToFormattedStr};
 use std::alloc::{AllocError, Global};
@@ -35,12 +34,8 @@ pub trait ToFormattedString: ToFormattedStr {
         w: &mut W,
         format: &F,
     ) -> Result<usize, io::Error>
-        ensures whole { OnOk result (Appends (W.contents w.old) (W.contents w.new)
-            (text_of (F.answers format.now) (Self.value self.now))) }
-        ensures count { IfOk result
-            (λ count. count ≡ length (text_of (F.answers format.now) (Self.value self.now))) }
-        ensures front { OnErr result (StopsWithin (W.contents w.old) (W.contents w.new)
-            (text_of (F.answers format.now) (Self.value self.now))) };
+        ensures { Writes result (W.contents w.old) (W.contents w.new)
+            (text_of (F.answers format.now) (Self.value self.now)) };
 
     /// The text of the number, in memory of its own. It fails only where memory was refused.
     fn to_formatted_string<F: Format>(
@@ -70,9 +65,8 @@ impl<N: ToFormattedStr> ToFormattedString for N {
         format: &F,
     ) -> Result<usize, io::Error> {
         let mut buffer = Buffer::new();
-        let count = self.read_to_buffer(&mut buffer, format);
-        write_whole(buffer.as_bytes(), w)?;
-        Ok(count)
+        self.read_to_buffer(&mut buffer, format);
+        write_whole(buffer.as_bytes(), w)
     }
 
     fn to_formatted_string<F: Format>(
@@ -86,20 +80,20 @@ impl<N: ToFormattedStr> ToFormattedString for N {
     }
 }
 
-/// Writes the bytes, in as many writes as it takes.
+/// Writes the bytes, in as many writes as it takes, and returns their number.
 ///
 /// std's `write_all` tells nothing of what was taken after a fault, and tries an interrupted write
 /// again.
-fn write_whole<W: io::Write>(bytes: &[u8], w: &mut W) -> Result<(), io::Error>
-    ensures whole { OnOk result (Appends (W.contents w.old) (W.contents w.new) bytes.now) }
-    ensures front { OnErr result (StopsWithin (W.contents w.old) (W.contents w.new) bytes.now) }
+#[tactic(auto, using(crate::proofs::WritingLemmas::HasReceivedUpTo_more))]
+fn write_whole<W: io::Write>(bytes: &[u8], w: &mut W) -> Result<usize, io::Error>
+    ensures { Writes result (W.contents w.old) (W.contents w.new) bytes.now }
 {
     let mut rest = bytes;
     while !rest.is_empty() {
         match w.write(rest)? {
             0 => return Err(io::Error::from(io::ErrorKind::WriteZero)),
-            taken => rest = &rest[taken..],
+            count => rest = &rest[count..],
         }
     }
-    Ok(())
+    Ok(bytes.len())
 }

@@ -4,33 +4,9 @@ use Rattle.std.specs.Borrow.{Bor}
 use Rattle.std.specs.Prelude.{Option}
 use Rattle.std.proofs.KnownBytes.{Appends-nil, Appends-trans}
 use Rattle.std.specs.Io.KnownBytes.{Appends}
-use Rattle.num_format.specs.Taking.{HasTakenUpTo, StopsWithin}
-use Rattle.num_format.proofs.TakingLemmas.{HasTakenUpTo-none, StopsWithin-none}
+use Rattle.num_format.specs.Writing.{HasReceivedUpTo, StopsWithin}
+use Rattle.num_format.proofs.WritingLemmas.{HasReceivedUpTo-none, StopsWithin-none, StopsWithin_prefix, StopsWithin_suffix}
 use Rattle.regroup_commands.specs.Reply.{IsSent, StopsShort, line, lines}
-
--- a writer that stops within a front stops within the whole
-pub StopsWithin-front : (a b : Option (List ℕ)) (front back : List ℕ) → StopsWithin a b front → StopsWithin a b (front ++ back)
-StopsWithin-front a b front back stops = record {
-  rest = stops.rest ++ back;
-  unfinished = omega (arith, length-append stops.rest back, stops.unfinished);
-  taken = record {
-    taken = stops.taken.taken;
-    split = sym (append_assoc stops.taken.taken stops.rest back) ∙ ap (λ l. l ++ back) stops.taken.split;
-    appended = stops.taken.appended;
-  };
-}
-
--- so does one that has taken the front and stops within the back
-pub StopsWithin-back : (a b c : Option (List ℕ)) (front back : List ℕ) → Appends a b front → StopsWithin b c back → StopsWithin a c (front ++ back)
-StopsWithin-back a b c front back first stops = record {
-  rest = stops.rest;
-  unfinished = stops.unfinished;
-  taken = record {
-    taken = front ++ stops.taken.taken;
-    split = append_assoc front stops.taken.taken stops.rest ∙ ap (λ l. front ++ l) stops.taken.split;
-    appended = Appends-trans a b c front stops.taken.taken first stops.taken.appended;
-  };
-}
 
 -- no line is taken whole by a writer that nothing was sent to
 pub StopsWithin-unsent : (a : Option (List ℕ)) (text : List ℕ) → StopsWithin a a (line text)
@@ -51,8 +27,8 @@ pub StopsShort-out : (a b c : Option (List ℕ)) (status : ℕ) (text : List ℕ
 StopsShort-out a b c status text stops = record {
   out_rest = stops.rest;
   err_rest = [];
-  out = stops.taken;
-  err = HasTakenUpTo-none c [];
+  out = stops.received;
+  err = HasReceivedUpTo-none c [];
   unfinished = omega (arith, length-append stops.rest [], stops.unfinished);
 }
 
@@ -61,25 +37,25 @@ pub StopsShort-err : (a b c : Option (List ℕ)) (status : ℕ) (text : List ℕ
 StopsShort-err a b c status text stops = record {
   out_rest = [];
   err_rest = stops.rest;
-  out = HasTakenUpTo-none c [];
-  err = stops.taken;
+  out = HasReceivedUpTo-none c [];
+  err = stops.received;
   unfinished = stops.unfinished;
 }
 
 -- a writer goes on with the front of the rest, and takes all of it
-pub HasTakenUpTo-next : (a b c : Option (List ℕ)) (whole front back : List ℕ) → HasTakenUpTo a b whole (front ++ back) → Appends b c front →
-    HasTakenUpTo a c whole back
-HasTakenUpTo-next a b c whole front back so_far more = record {
-  taken = so_far.taken ++ front;
-  split = append_assoc so_far.taken front back ∙ so_far.split;
-  appended = Appends-trans a b c so_far.taken front so_far.appended more;
+pub HasReceivedUpTo-next : (a b c : Option (List ℕ)) (whole front back : List ℕ) → HasReceivedUpTo a b whole (front ++ back) → Appends b c front →
+    HasReceivedUpTo a c whole back
+HasReceivedUpTo-next a b c whole front back so_far more = record {
+  received = so_far.received ++ front;
+  split = append_assoc so_far.received front back ∙ so_far.split;
+  appended = Appends-trans a b c so_far.received front so_far.appended more;
 }
 
 -- or stops within it
-pub StopsWithin-next : (a b c : Option (List ℕ)) (whole front back : List ℕ) → HasTakenUpTo a b whole (front ++ back) → StopsWithin b c front →
+pub StopsWithin-next : (a b c : Option (List ℕ)) (whole front back : List ℕ) → HasReceivedUpTo a b whole (front ++ back) → StopsWithin b c front →
     StopsWithin a c whole
 StopsWithin-next a b c whole front back so_far stops =
-    rw (← so_far.split) (StopsWithin-back a b c so_far.taken (front ++ back) so_far.appended (StopsWithin-front b c front back stops))
+    rw (← so_far.split) (StopsWithin_suffix a b c so_far.received (front ++ back) so_far.appended (StopsWithin_prefix b c front back stops))
 
 -- the lines of the texts from a place on: that of the text there, and those of the texts behind it
 lines-drop : (texts : List (Bor (List ℕ))) (k : ℕ) (d : Bor (List ℕ)) → k < length texts →
@@ -87,14 +63,14 @@ lines-drop : (texts : List (Bor (List ℕ))) (k : ℕ) (d : Bor (List ℕ)) → 
 lines-drop texts k d within = rw (add-one, drop-cons texts k d)
 
 -- of some lines, a writer takes the next, or stops within it
-pub HasTakenUpTo-line : (a b c : Option (List ℕ)) (whole : List ℕ) (texts : List (Bor (List ℕ))) (k : ℕ) (d : Bor (List ℕ)) → k < length texts →
-    HasTakenUpTo a b whole (lines (map (λ text. text.now) (drop k texts))) → Appends b c (line (get_or texts k d).now) →
-    HasTakenUpTo a c whole (lines (map (λ text. text.now) (drop (k + 1) texts)))
-HasTakenUpTo-line a b c whole texts k d within so_far more =
-    HasTakenUpTo-next a b c whole _ _ (rw (lines-drop texts k d within) at so_far) more
+pub HasReceivedUpTo-line : (a b c : Option (List ℕ)) (whole : List ℕ) (texts : List (Bor (List ℕ))) (k : ℕ) (d : Bor (List ℕ)) → k < length texts →
+    HasReceivedUpTo a b whole (lines (map (λ text. text.now) (drop k texts))) → Appends b c (line (get_or texts k d).now) →
+    HasReceivedUpTo a c whole (lines (map (λ text. text.now) (drop (k + 1) texts)))
+HasReceivedUpTo-line a b c whole texts k d within so_far more =
+    HasReceivedUpTo-next a b c whole _ _ (rw (lines-drop texts k d within) at so_far) more
 
 pub StopsWithin-line : (a b c : Option (List ℕ)) (whole : List ℕ) (texts : List (Bor (List ℕ))) (k : ℕ) (d : Bor (List ℕ)) → k < length texts →
-    HasTakenUpTo a b whole (lines (map (λ text. text.now) (drop k texts))) → StopsWithin b c (line (get_or texts k d).now) →
+    HasReceivedUpTo a b whole (lines (map (λ text. text.now) (drop k texts))) → StopsWithin b c (line (get_or texts k d).now) →
     StopsWithin a c whole
 StopsWithin-line a b c whole texts k d within so_far stops =
     StopsWithin-next a b c whole _ _ (rw (lines-drop texts k d within) at so_far) stops

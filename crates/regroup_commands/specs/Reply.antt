@@ -10,7 +10,7 @@ use Rattle.std.specs.Str.Parse.{signed_digits_value, without_leading_sign}
 use Rattle.std.specs.Io.KnownBytes.{Appends}
 use Rattle.num_format.specs.Building.{built, choices_of, chosen}
 use Rattle.num_format.specs.English.{english}
-use Rattle.num_format.specs.Taking.{HasTakenUpTo, StopsWithin}
+use Rattle.num_format.specs.Writing.{HasReceivedUpTo, StopsWithin}
 use Rattle.num_format_cldr.specs.Table.{table_names}
 use Rattle.num_format_int.specs.Reading.{denoted, figures, is_negative_text, is_other_numeral}
 use Rattle.num_format_int.specs.Text.{text_of}
@@ -175,8 +175,8 @@ pub record IsSent (r : Reply) (out_old out_new err_old err_new : Option (List �
 pub record StopsShort (r : Reply) (out_old out_new err_old err_new : Option (List ℕ)) : Type 0 where
   pub out_rest : List ℕ
   pub err_rest : List ℕ
-  pub out : HasTakenUpTo out_old out_new r.out out_rest
-  pub err : HasTakenUpTo err_old err_new r.err err_rest
+  pub out : HasReceivedUpTo out_old out_new r.out out_rest
+  pub err : HasReceivedUpTo err_old err_new r.err err_rest
   pub unfinished : 0 < length (out_rest ++ err_rest)
 
 -- a writer was sent the answer: it has taken all of it where that ended well, and a prefix of it and not all where that failed

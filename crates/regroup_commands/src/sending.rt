@@ -4,7 +4,7 @@
 //! has taken a prefix of them and not all: nothing is sent twice, and nothing is left out.
 ghost use Rattle.std.specs.Prelude.{IfSome, OnOk, OnErr};
 ghost use Rattle.std.specs.Io.KnownBytes.{Appends};
-ghost use Rattle.num_format.specs.Taking.{StopsWithin};
+ghost use Rattle.num_format.specs.Writing.{StopsWithin};
 ghost use Rattle.num_format_int.specs.Text.{text_of};
 ghost use Rattle.regroup_commands.specs.Command.{texts};
 ghost use Rattle.regroup_commands.specs.Reply.{line, lines};

@@ -1,7 +1,7 @@
 use Rattle.std.proofs.Common.{◌≡◌, rules}
 use Rattle.regroup_commands.specs.Command.{texts}
 use Rattle.regroup_commands.specs.Reply.{reply, usage}
-use Rattle.num_format.proofs.TakingLemmas.{OnErr-always}
+use Rattle.num_format.proofs.WritingLemmas.{OnErr-always}
 use Rattle.regroup_commands.proofs.TakingLemmas.{IsSent-err, StopsShort-err}
 use Rattle.regroup_commands.proofs.reply.Goals as goal
 

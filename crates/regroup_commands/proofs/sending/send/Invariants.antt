@@ -1,10 +1,10 @@
 use Rattle.std.proofs.Common.{length}
-use Rattle.num_format.specs.Taking.{HasTakenUpTo}
+use Rattle.num_format.specs.Writing.{HasReceivedUpTo}
 use Rattle.regroup_commands.proofs.sending.send.Given as goal
 
 -- what is taken so far and the rest make the whole
 abbrev pub invariant-loop-rest : goal.invariant-loop-rest
-invariant-loop-rest g l = HasTakenUpTo (g.W.Write.contents l.initial.writer) (g.W.Write.contents l.writer) l.bytes l.rest
+invariant-loop-rest g l = HasReceivedUpTo (g.W.Write.contents l.initial.writer) (g.W.Write.contents l.writer) l.bytes l.rest
 
 abbrev pub decreases-loop-rest : goal.decreases-loop-rest
 decreases-loop-rest g l = length l.rest

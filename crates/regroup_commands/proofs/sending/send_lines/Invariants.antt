@@ -1,9 +1,9 @@
 use Rattle.std.proofs.Common.{drop}
-use Rattle.num_format.specs.Taking.{HasTakenUpTo}
+use Rattle.num_format.specs.Writing.{HasReceivedUpTo}
 use Rattle.regroup_commands.specs.Command.{texts}
 use Rattle.regroup_commands.specs.Reply.{lines}
 use Rattle.regroup_commands.proofs.sending.send_lines.Given as goal
 
 -- what is taken so far and the lines left make the whole
 abbrev pub invariant-loop-text : goal.invariant-loop-text
-invariant-loop-text g l = HasTakenUpTo (g.W.Write.contents l.initial.writer) (g.W.Write.contents l.writer) (lines (texts l.items)) (lines (texts (drop l.text-index l.items)))
+invariant-loop-text g l = HasReceivedUpTo (g.W.Write.contents l.initial.writer) (g.W.Write.contents l.writer) (lines (texts l.items)) (lines (texts (drop l.text-index l.items)))

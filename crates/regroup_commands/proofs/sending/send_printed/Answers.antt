@@ -1,6 +1,6 @@
 use Rattle.std.proofs.Common.{◌≡◌, ◌∙◌}
 use Rattle.std.proofs.lemmas.Option.{IfSome_then}
-use Rattle.num_format.proofs.TakingLemmas.{OnErr-always}
+use Rattle.num_format.proofs.WritingLemmas.{OnErr-always}
 use Rattle.regroup_commands.proofs.MessageLemmas.{IfSome-always, inline_text-printed}
 use Rattle.regroup_commands.proofs.TakingLemmas.{StopsWithin-unsent}
 use Rattle.regroup_commands.proofs.sending.send_printed.Goals as goal

@@ -1,4 +1,4 @@
-use Rattle.num_format.proofs.TakingLemmas.{OnErr-always}
+use Rattle.num_format.proofs.WritingLemmas.{OnErr-always}
 use Rattle.regroup_commands.proofs.TakingLemmas.{IsSent-out, StopsShort-err, StopsShort-out}
 use Rattle.regroup_commands.proofs.command.Command.run.Goals as goal
 

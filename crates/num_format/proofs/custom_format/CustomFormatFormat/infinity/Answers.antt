@@ -1,5 +1,0 @@
-use Rattle.std.proofs.Common.{rules}
-use Rattle.num_format.proofs.custom_format.CustomFormatFormat.infinity.Goals as goal
-
-pub returns : goal.returns
-returns c = search rules
