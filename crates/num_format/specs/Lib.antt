@@ -1,10 +1,22 @@
+-- The definitions that the contracts of this crate use. Those of the crates below are passed on.
 pub mod Building
 pub mod English
 pub mod Laws
 pub mod Writing
+pub use Rattle.num_format_text.specs.Cut
 pub use Rattle.num_format_text.specs.Format
 pub use Rattle.num_format_text.specs.Refusal
+pub use Rattle.num_format_text.specs.declared.error.Error
+pub use Rattle.num_format_text.specs.declared.error_kind.ErrorKind
+pub use Rattle.num_format_text.specs.declared.grouping.Grouping
+pub use Rattle.num_format_int.specs.Digits
+pub use Rattle.num_format_int.specs.Grouped
+pub use Rattle.num_format_int.specs.Kind
 pub use Rattle.num_format_int.specs.Reading
 pub use Rattle.num_format_int.specs.Text
+pub use Rattle.num_format_cldr.specs.Entry
+pub use Rattle.num_format_cldr.specs.Families
+pub use Rattle.num_format_cldr.specs.Groupings
+pub use Rattle.num_format_cldr.specs.Table
 pub use Rattle.num_format_locale.specs.Data
 pub use Rattle.num_format_locale.specs.Names
