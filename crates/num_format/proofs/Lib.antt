@@ -1,4 +1,3 @@
-mod BuildingLemmas
-pub mod WritingLemmas
+mod Examples
 pub mod TextLemmas
-mod WorkedRows
+pub mod WritingLemmas

@@ -1,4 +1,4 @@
--- Laws of the text of a number.
+-- What follows for the text of a number.
 use Rattle.std.proofs.Common.{◌≡◌, ℕ, ◌+◌, ◌-◌, ◌*◌, ◌^◌, ◌<◌, ◌≤◌, Bool, true, false, List, [], ◌∷◌, ◌++◌, length, refl, ap, arith, length-append, ℤ, pos, negsuc, unsigned_abs, append_assoc}
 use Rattle.std.specs.Prelude.{if◌then◌else◌, ◌≤ℤ◌}
 use Rattle.std.specs.Int.{is_negative}
@@ -6,6 +6,7 @@ use Rattle.std.proofs.lemmas.Int.{ints}
 use Rattle.num_format_text.specs.declared.grouping.Grouping.{Grouping}
 use Rattle.num_format_text.specs.declared.grouping.Grouping.TheVariants.{Standard, Indian, Posix}
 use Rattle.num_format_text.specs.Format.{FormatData, IsWithinCapacity}
+use Rattle.num_format_int.specs.declared.buffer.TheConstants.{MAX_BUF_LEN}
 use Rattle.num_format_int.specs.Digits.{digits}
 use Rattle.num_format_int.specs.Grouped.{grouped, separators, stands}
 use Rattle.num_format_int.specs.Text.{body_of, text_of}
@@ -18,46 +19,46 @@ pub length-text_of : (f : FormatData) (z : ℤ) →
 length-text_of f z = simp (length-append, length-grouped f.grouping f.separator (digits (unsigned_abs z))) (omega arith)
 
 -- a text is not empty
-pub text_of-given : (f : FormatData) (z : ℤ) → 0 < length (text_of f z)
-text_of-given f z = omega (arith, length-text_of f z, digits_given (unsigned_abs z))
+pub text_of-nonempty : (f : FormatData) (z : ℤ) → 0 < length (text_of f z)
+text_of-nonempty f z = omega (arith, length-text_of f z, digits_given (unsigned_abs z))
 
-short_sign : (b : Bool) (sign : List ℕ) → length sign ≤ 8 → length (if b then sign else []) ≤ 8
-short_sign true sign short = short
-short_sign false sign short = omega arith
+length-sign : (b : Bool) (sign : List ℕ) → length sign ≤ 8 → length (if b then sign else []) ≤ 8
+length-sign true sign short = short
+length-sign false sign short = omega arith
 
 unsigned_abs-lt : (z : ℤ) → negsuc (2 ^ 127 - 1) ≤ℤ z → z ≤ℤ pos (2 ^ 128 - 1) → unsigned_abs z < 2 ^ 128
 unsigned_abs-lt (pos n) low high = omega (arith, ints)
 unsigned_abs-lt (negsuc n) low high = omega (arith, ints)
 
-pub length-text_of-le191 : (f : FormatData) (z : ℤ) → IsWithinCapacity f → negsuc (2 ^ 127 - 1) ≤ℤ z → z ≤ℤ pos (2 ^ 128 - 1) → length (text_of f z) ≤ 191
-length-text_of-le191 f z fits low high =
+pub length-text_of-le_max : (f : FormatData) (z : ℤ) → IsWithinCapacity f → negsuc (2 ^ 127 - 1) ≤ℤ z → z ≤ℤ pos (2 ^ 128 - 1) → length (text_of f z) ≤ MAX_BUF_LEN
+length-text_of-le_max f z fits low high =
     let few = length-digits-le39 (unsigned_abs z) (unsigned_abs-lt z low high) in
-    let short = short_sign (is_negative z) f.minus_sign fits.minus_sign in
+    let short = length-sign (is_negative z) f.minus_sign fits.minus_sign in
     simp length-append (omega (arith, short, length-grouped-le183 f.grouping f.separator (digits (unsigned_abs z)) fits.separator few))
 
 length-digits-i128-MIN : length (digits (2 ^ 127)) ≡ 39
 unfolding digits
 length-digits-i128-MIN = refl
 
-pub length-text_of-i128-MIN : (f : FormatData) → f.grouping ≡ Indian → length f.separator ≡ 8 → length f.minus_sign ≡ 8 → length (text_of f (negsuc (2 ^ 127 - 1))) ≡ 191
+pub length-text_of-i128-MIN : (f : FormatData) → f.grouping ≡ Indian → length f.separator ≡ 8 → length f.minus_sign ≡ 8 → length (text_of f (negsuc (2 ^ 127 - 1))) ≡ MAX_BUF_LEN
 length-text_of-i128-MIN f indian separator minus_sign =
     rw (length-text_of f (negsuc (2 ^ 127 - 1)), length-digits-i128-MIN, indian, separator, minus_sign)
 
 pub body_of-begins : (f : FormatData) (n first : ℕ) (others : List ℕ) → digits n ≡ first ∷ others → (rest : List ℕ) × (body_of f n ≡ (48 + first) ∷ rest)
 body_of-begins f n first others e = (_, ap (grouped f.grouping f.separator) e)
 
-no_separator_at_the_end : (g : Grouping) → stands g 0 ≡ false
-no_separator_at_the_end Standard = refl
-no_separator_at_the_end Indian = refl
-no_separator_at_the_end Posix = refl
+stands-zero : (g : Grouping) → stands g 0 ≡ false
+stands-zero Standard = refl
+stands-zero Indian = refl
+stands-zero Posix = refl
 
-grouped-ends : (g : Grouping) (s others : List ℕ) (last : ℕ) → (front : List ℕ) × (grouped g s (others ++ (last ∷ [])) ≡ front ++ ((48 + last) ∷ []))
-grouped-ends g s [] last = ([], rw (no_separator_at_the_end g))
+grouped-ends : (g : Grouping) (s others : List ℕ) (last : ℕ) → (before : List ℕ) × (grouped g s (others ++ (last ∷ [])) ≡ before ++ ((48 + last) ∷ []))
+grouped-ends g s [] last = ([], rw (stands-zero g))
 grouped-ends g s (d ∷ others) last =
     let rest = grouped-ends g s others last in
     ((48 + d) ∷ ((if stands g (length (others ++ (last ∷ []))) then s else []) ++ rest.0), rw (rest.1, append_assoc))
 
-pub body_of-ends : (f : FormatData) (n last : ℕ) (others : List ℕ) → digits n ≡ others ++ (last ∷ []) → (front : List ℕ) × (body_of f n ≡ front ++ ((48 + last) ∷ []))
+pub body_of-ends : (f : FormatData) (n last : ℕ) (others : List ℕ) → digits n ≡ others ++ (last ∷ []) → (before : List ℕ) × (body_of f n ≡ before ++ ((48 + last) ∷ []))
 body_of-ends f n last others e =
     let rest = grouped-ends f.grouping f.separator others last in
     (rest.0, rw e (rest.1))

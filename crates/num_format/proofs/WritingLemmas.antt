@@ -7,7 +7,7 @@ use Rattle.std.proofs.lemmas.List.{take_rest}
 use Rattle.num_format_text.specs.Format.{FormatData}
 use Rattle.num_format_int.specs.Text.{text_of}
 use Rattle.num_format.specs.Writing.{HasReceivedUpTo, StopsWithin, Writes}
-use Rattle.num_format.proofs.TextLemmas.{text_of-given}
+use Rattle.num_format.proofs.TextLemmas.{text_of-nonempty}
 
 -- a writer that stops within the first of two texts stops within both together
 pub StopsWithin_prefix : (a b : Option (List ℕ)) (prefix suffix : List ℕ) → StopsWithin a b prefix → StopsWithin a b (prefix ++ suffix)
@@ -55,7 +55,7 @@ StopsWithin-none a whole nonempty = record { rest = whole; unfinished = nonempty
 -- a call that fails, and wrote to a writer whose bytes are not known
 pub Writes_err : {E : Type 0} (r : Result ℕ E) (f : FormatData) (z : ℤ) → IsErr r → Writes r None None (text_of f z)
 Writes_err (Ok n) f z fails = absurd (cc)
-Writes_err (Err e) f z fails = record { whole = tt; count = tt; prefix = StopsWithin-none None (text_of f z) (text_of-given f z) }
+Writes_err (Err e) f z fails = record { whole = tt; count = tt; prefix = StopsWithin-none None (text_of f z) (text_of-nonempty f z) }
 
 -- what holds anyway holds on an error
 pub OnErr-always : {T E : Type 0} (r : Result T E) (P : Type 0) → P → OnErr r P

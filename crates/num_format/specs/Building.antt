@@ -1,4 +1,4 @@
--- What a list of builder calls builds.
+-- What a builder has after calls of its setters, and what it builds.
 use Rattle.std.specs.Prelude.{ℕ, nat_le, List, [], ◌∷◌, length, Option, Some, None, Result, Ok, Err, if◌then◌else◌}
 use Rattle.std.specs.List.{filter_map}
 use Rattle.num_format_text.specs.declared.grouping.Grouping.{Grouping}
@@ -6,15 +6,15 @@ use Rattle.num_format_text.specs.declared.error.Error.{Error}
 use Rattle.num_format_text.specs.declared.error_kind.ErrorKind.TheVariants as kind
 use Rattle.num_format_text.specs.Format.{FormatData}
 
--- a text, or the refusal of one
+-- a text, or the error of a text that was refused
 abbrev pub Choice : Type 0
 Choice = Result (List ℕ) Error
 
--- a text that is given to a field of some capacity: itself, or a refusal where it is too long
+-- what a field of some capacity has once it is given a text: the text, or an error where the text is too long
 abbrev pub chosen : ℕ → List ℕ → Choice
 chosen cap text = if nat_le (length text) cap then Ok text else Err (kind.Capacity (length text) cap)
 
--- what stands in each field of a builder
+-- what each field of a builder has
 pub record Choices : Type 0 where
   pub decimal : Choice
   pub grouping : Grouping
@@ -24,7 +24,7 @@ pub record Choices : Type 0 where
   pub plus_sign : Choice
   pub separator : Choice
 
--- what stands in the fields of a builder that is made of a format
+-- what the fields of a builder have that starts with the data of a format
 abbrev pub choices_of : FormatData → Choices
 choices_of f = record {
   decimal = Ok f.decimal;
@@ -36,7 +36,7 @@ choices_of f = record {
   separator = Ok f.separator;
 }
 
--- a call of a setter, with the bytes of the text or the grouping that it gives
+-- a call of a setter, with the bytes of its text or its grouping
 pub data Call : Type 0 where
   Decimal : List ℕ → Call
   Groups : Grouping → Call
@@ -46,7 +46,7 @@ pub data Call : Type 0 where
   PlusSign : List ℕ → Call
   Separator : List ℕ → Call
 
--- what a call gives to each field, where it is the setter of that field
+-- what a call gives to the decimal mark, if it is the setter of that field; and so on for the other fields
 abbrev pub to_decimal : Call → Option Choice
 to_decimal (Decimal text) = Some (chosen 8 text)
 to_decimal _ = None
@@ -80,7 +80,7 @@ abbrev pub last_or : {X : Type 0} → X → List X → X
 last_or x [] = x
 last_or x (y ∷ ys) = last_or y ys
 
--- what stands after some calls: in each field the last that was given to it, or what stood there before them
+-- what a builder has after some calls: in each field the last that the field was given, or what it had before them
 abbrev pub choices_after : Choices → List Call → Choices
 choices_after before calls = record {
   decimal = last_or before.decimal (filter_map to_decimal calls);
@@ -92,12 +92,12 @@ choices_after before calls = record {
   separator = last_or before.separator (filter_map to_separator calls);
 }
 
--- goes on with the text of a choice, or ends with its refusal
+-- what follows from the text of a choice, or the error of the choice
 abbrev pub and_then : {X : Type 0} → Choice → (List ℕ → Result X Error) → Result X Error
 and_then (Ok text) next = next text
-and_then (Err refusal) next = Err refusal
+and_then (Err error) next = Err error
 
--- the format that was chosen, or the refusal of the first refused field in this order
+-- the format with the texts of all choices, or the first error in this order
 abbrev pub built : Choices → Result FormatData Error
 built c =
     and_then c.decimal (λ decimal.

@@ -1,4 +1,4 @@
--- The format that a builder starts at.
+-- The data of the locale en, which a builder starts with.
 use Rattle.std.specs.Prelude.{codes, ◌∷◌, []}
 use Rattle.num_format_text.specs.declared.grouping.Grouping.TheVariants.{Standard}
 use Rattle.num_format_text.specs.Format.{FormatData}

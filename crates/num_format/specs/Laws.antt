@@ -1,10 +1,11 @@
--- Laws over the definitions alone.
+-- Laws of the definitions that the contracts use.
 use Rattle.std.specs.Prelude.{◌≡◌, ℕ, ◌+◌, ◌-◌, ◌*◌, ◌/◌, ◌%◌, ◌^◌, ◌<◌, ◌≤◌, ℤ, pos, negsuc, ◌≤ℤ◌, unsigned_abs, codes, List, [], ◌∷◌, ◌++◌, length, if◌then◌else◌}
 use Rattle.std.specs.Int.{is_negative}
 use Rattle.std.specs.Int.Digits.{number_from_digits}
 use Rattle.num_format_text.specs.declared.grouping.Grouping.{Grouping}
 use Rattle.num_format_text.specs.declared.grouping.Grouping.TheVariants.{Indian}
 use Rattle.num_format_text.specs.Format.{FormatData, IsWithinCapacity}
+use Rattle.num_format_int.specs.declared.buffer.TheConstants.{MAX_BUF_LEN}
 use Rattle.num_format_int.specs.Digits.{digits}
 use Rattle.num_format_int.specs.Grouped.{separators}
 use Rattle.num_format_int.specs.Text.{body_of, text_of}
@@ -14,7 +15,7 @@ use Rattle.num_format.specs.English.{english}
 use Rattle.num_format.specs.Building.{Call, Choices, choices_after, chosen}
 use Rattle.num_format.specs.Building as call
 
--- what the digits of a number are, and that they write it
+-- which digits a number has, and that they write it
 pub record DigitsLaw : Type 0 where
   pub one : (n : ℕ) → n < 10 → digits n ≡ n ∷ []
   pub more : (n : ℕ) → 10 ≤ n → digits n ≡ digits (n / 10) ++ (n % 10 ∷ [])
@@ -27,22 +28,22 @@ LengthLaw = (f : FormatData) (z : ℤ) →
     let count : ℕ = length (digits (unsigned_abs z)) in
     length (text_of f z) ≡ length (if is_negative z then f.minus_sign else []) + count + separators f.grouping count * length f.separator
 
--- no text of a number from -2 ^ 127 to 2 ^ 128 - 1 is longer than 191 bytes, and that of -2 ^ 127 can be as long
+-- no text of a number from -2 ^ 127 to 2 ^ 128 - 1 has more than `MAX_BUF_LEN` bytes, and that of -2 ^ 127 can have as many
 pub record BoundLaw : Type 0 where
-  pub bound : (f : FormatData) (z : ℤ) → IsWithinCapacity f → negsuc (2 ^ 127 - 1) ≤ℤ z → z ≤ℤ pos (2 ^ 128 - 1) → length (text_of f z) ≤ 191
-  pub reached : (f : FormatData) → f.grouping ≡ Indian → length f.separator ≡ 8 → length f.minus_sign ≡ 8 → length (text_of f (negsuc (2 ^ 127 - 1))) ≡ 191
+  pub bound : (f : FormatData) (z : ℤ) → IsWithinCapacity f → negsuc (2 ^ 127 - 1) ≤ℤ z → z ≤ℤ pos (2 ^ 128 - 1) → length (text_of f z) ≤ MAX_BUF_LEN
+  pub reached : (f : FormatData) → f.grouping ≡ Indian → length f.separator ≡ 8 → length f.minus_sign ≡ 8 → length (text_of f (negsuc (2 ^ 127 - 1))) ≡ MAX_BUF_LEN
 
--- a body begins with the first digit of its number and ends with the last, so no separator leads or trails
+-- the digits and separators of a number begin with its first digit and end with its last: no separator leads or trails
 pub record EndsLaw : Type 0 where
   pub begins : (f : FormatData) (n first : ℕ) (others : List ℕ) → digits n ≡ first ∷ others → (rest : List ℕ) × (body_of f n ≡ (48 + first) ∷ rest)
-  pub ends : (f : FormatData) (n last : ℕ) (others : List ℕ) → digits n ≡ others ++ (last ∷ []) → (front : List ℕ) × (body_of f n ≡ front ++ ((48 + last) ∷ []))
+  pub ends : (f : FormatData) (n last : ℕ) (others : List ℕ) → digits n ≡ others ++ (last ∷ []) → (before : List ℕ) × (body_of f n ≡ before ++ ((48 + last) ∷ []))
 
--- the format that a builder starts at is that of the locale `en`, at place 90
+-- a builder starts with the data of the locale `en`, which has place 90
 pub record EnglishLaw : Type 0 where
   pub named : name_of 90 ≡ codes "en"
   pub same : locale_data 90 ≡ english
 
--- a setter's clause says what one more call does to what stands after the calls before it
+-- one more call of a setter does to a builder what the clause of the setter says
 pub record BuildingLaw : Type 0 where
   pub none : (c : Choices) → choices_after c [] ≡ c
   pub decimal : (c : Choices) (calls : List Call) (text : List ℕ) → choices_after c (calls ++ (call.Decimal text ∷ [])) ≡ record (choices_after c calls) { decimal = chosen 8 text }

@@ -22,7 +22,12 @@ impl<const CAP: usize> Model for BoundedString<CAP> {
 }
 
 impl<const CAP: usize> BoundedString<CAP> {
-    /// A copy of the text, refused where it is longer than `CAP` bytes.
+    /// Returns a copy of the text.
+    ///
+    /// # Errors
+    ///
+    /// A text of more than `CAP` bytes is refused with [`ErrorKind::Capacity`], which has both
+    /// numbers of bytes.
     pub(crate) fn new(text: &str) -> Result<BoundedString<CAP>, Error>
         ensures { result ≡ chosen CAP text.now }
     {
@@ -35,7 +40,7 @@ impl<const CAP: usize> BoundedString<CAP> {
         }
     }
 
-    /// The text.
+    /// Returns the text.
     pub(crate) fn as_str(&self) -> &str
         ensures same { result.now ≡ self.now }
         ensures fits { length result.now ≤ CAP }

@@ -1,4 +1,4 @@
-//! A format that a user fills.
+//! A format with seven fields of the caller's choice.
 ghost use Rattle.std.specs.Prelude.{◌≡◌, ◌≤◌, length};
 ghost use Rattle.num_format.specs.Building.{choices_of};
 ghost use Rattle.num_format.specs.English.{english};
@@ -10,16 +10,20 @@ use crate::utils::{DecimalStr, InfinityStr, MinusSignStr, NanStr, PlusSignStr, S
 use crate::{Format, Grouping, Locale};
 use std::marker::Model;
 
-/// A format that keeps its seven answers. A contract sees them.
+/// A format with seven fields of the caller's choice. A contract sees them as `FormatData`.
 ///
-/// It is made by a [`CustomFormatBuilder`]:
+/// A [`CustomFormatBuilder`] builds one:
 ///
 /// ```text
 /// let format = CustomFormat::builder()
 ///     .grouping(Grouping::Indian)
 ///     .separator("'")
 ///     .build()?;
+/// buffer.write_formatted(&1000000, &format);    // buffer.as_str() is "10'00'000"
 /// ```
+///
+/// The seven getters return the fields as they are. The methods of [`Format`] return the texts as
+/// the types of [`utils`](crate::utils).
 #[derive(Drop)]
 pub struct CustomFormat {
     pub(crate) decimal: BoundedString<8>,
@@ -48,14 +52,14 @@ impl Model for CustomFormat {
 }
 
 impl CustomFormat {
-    /// A builder that starts at the data of the locale `en`.
+    /// Returns a builder that starts with the data of the locale `en`.
     pub fn builder() -> CustomFormatBuilder
         ensures { result ≡ choices_of english }
     {
         CustomFormatBuilder::new()
     }
 
-    /// The decimal mark.
+    /// Returns the decimal mark, of at most 8 bytes.
     pub fn decimal(&self) -> &str
         ensures same { result.now ≡ self.now.decimal }
         ensures fits { length result.now ≤ 8 }
@@ -63,14 +67,14 @@ impl CustomFormat {
         self.decimal.as_str()
     }
 
-    /// How the digits of a whole number are grouped.
+    /// Returns the grouping of the digits.
     pub fn grouping(&self) -> Grouping
         ensures { result ≡ self.now.grouping }
     {
         self.grouping
     }
 
-    /// The text for infinity.
+    /// Returns the text for infinity, of at most 128 bytes.
     pub fn infinity(&self) -> &str
         ensures same { result.now ≡ self.now.infinity }
         ensures fits { length result.now ≤ 128 }
@@ -78,7 +82,7 @@ impl CustomFormat {
         self.infinity.as_str()
     }
 
-    /// The minus sign.
+    /// Returns the minus sign, of at most 8 bytes.
     pub fn minus_sign(&self) -> &str
         ensures same { result.now ≡ self.now.minus_sign }
         ensures fits { length result.now ≤ 8 }
@@ -86,7 +90,7 @@ impl CustomFormat {
         self.minus_sign.as_str()
     }
 
-    /// The text for NaN.
+    /// Returns the text for NaN, of at most 64 bytes.
     pub fn nan(&self) -> &str
         ensures same { result.now ≡ self.now.nan }
         ensures fits { length result.now ≤ 64 }
@@ -94,7 +98,7 @@ impl CustomFormat {
         self.nan.as_str()
     }
 
-    /// The plus sign.
+    /// Returns the plus sign, of at most 8 bytes.
     pub fn plus_sign(&self) -> &str
         ensures same { result.now ≡ self.now.plus_sign }
         ensures fits { length result.now ≤ 8 }
@@ -102,7 +106,7 @@ impl CustomFormat {
         self.plus_sign.as_str()
     }
 
-    /// The separator between groups of digits.
+    /// Returns the separator between groups of digits, of at most 8 bytes.
     pub fn separator(&self) -> &str
         ensures same { result.now ≡ self.now.separator }
         ensures fits { length result.now ≤ 8 }
@@ -114,6 +118,7 @@ impl CustomFormat {
 impl Default for CustomFormat {
     ghost is_default = { λ f. f ≡ english };
 
+    /// Returns the format with the data of the locale `en`.
     fn default() -> CustomFormat {
         CustomFormat::builder().build().unwrap()
     }
@@ -122,7 +127,7 @@ impl Default for CustomFormat {
 impl From<Locale> for CustomFormat {
     ghost from_gives = { λ locale format. format ≡ locale_data locale };
 
-    /// The format that answers what the locale does.
+    /// Returns the format with the data of the locale.
     fn from(locale: Locale) -> CustomFormat {
         CustomFormat {
             decimal: BoundedString::new(locale.decimal()).unwrap(),

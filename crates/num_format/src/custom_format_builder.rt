@@ -1,4 +1,4 @@
-//! What fills a format.
+//! A builder of custom formats.
 ghost use Rattle.std.specs.Prelude.{◌≡◌};
 ghost use Rattle.num_format.specs.Building.{built, choices_of, chosen};
 ghost use Rattle.num_format.specs.English.{english};
@@ -29,11 +29,17 @@ const PLUS_SIGN: &str = "+";
 /// The separator of the locale `en`.
 const SEPARATOR: &str = ",";
 
-/// A format in the making. A contract sees what stands in each field: a value, or the refusal of
-/// one.
+/// A builder of a [`CustomFormat`]. A contract sees in each field a value, or the error of a text
+/// that was refused.
 ///
-/// A setter never refuses. It replaces what stood in its field, a refusal too, and
-/// [`build`](CustomFormatBuilder::build) answers the last value of each field, or a refusal.
+/// It starts with the data of the locale `en`. A setter replaces the value of its field, and never
+/// fails: where its text is longer than the field's capacity, the field keeps the error, and
+/// [`build`](CustomFormatBuilder::build) returns it. A later text of that field replaces the error.
+///
+/// ```text
+/// CustomFormat::builder().separator("").build()           is Ok, with no separator
+/// CustomFormat::builder().separator("123456789").build()  is Err, of kind Capacity { len: 9, cap: 8 }
+/// ```
 #[derive(Drop)]
 pub struct CustomFormatBuilder {
     decimal: Result<BoundedString<8>, Error>,
@@ -62,7 +68,7 @@ impl Model for CustomFormatBuilder {
 }
 
 impl CustomFormatBuilder {
-    /// A builder that starts at the data of the locale `en`.
+    /// Returns a builder that starts with the data of the locale `en`.
     pub(crate) fn new() -> CustomFormatBuilder
         ensures { result ≡ choices_of english }
     {
@@ -87,7 +93,7 @@ impl CustomFormatBuilder {
         }
     }
 
-    /// Sets how the digits of a whole number are grouped.
+    /// Sets the grouping of the digits.
     pub fn grouping(self, grouping: Grouping) -> CustomFormatBuilder
         ensures { result ≡ record self { grouping = grouping } }
     {
@@ -144,8 +150,13 @@ impl CustomFormatBuilder {
         }
     }
 
-    /// The format with the last value of each field, or the refusal of the first refused field in
-    /// the order decimal mark, infinity, minus sign, NaN, plus sign, separator.
+    /// Returns the format with the last value of each field.
+    ///
+    /// # Errors
+    ///
+    /// Returns the error of the first field whose last text was refused, in the order decimal
+    /// mark, infinity, minus sign, NaN, plus sign, separator. It is an
+    /// [`ErrorKind::Capacity`](crate::ErrorKind::Capacity), with both lengths in bytes.
     pub fn build(self) -> Result<CustomFormat, Error>
         ensures { result ≡ built self }
     {

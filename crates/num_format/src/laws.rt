@@ -1,15 +1,14 @@
-//! Laws of the definitions that the contracts cite.
+//! Laws: what follows from the definitions that the contracts use, for all formats and numbers.
 //!
-//! Each function's contract is a law: a fact about all formats and all numbers, over the
-//! definitions alone. The bodies are empty, since there is nothing to compute. A caller that
-//! needs a law in a proof calls its function.
+//! The contract of each function states a law. There is nothing to compute, so the bodies are
+//! empty. A caller that needs a law in a proof calls its function.
 ghost use Rattle.num_format.specs.Laws.{BoundLaw, BuildingLaw, DigitsLaw, EndsLaw, EnglishLaw, LengthLaw};
 
 use crate::Locale;
 pub use num_format_locale::laws::{found_by_name, name_order, spelled_once};
 
-/// The digits of a number: their two equations, that they write the number, and that a leading
-/// zero does not change what digits write.
+/// The digits of a number: `n` alone below ten, and else the digits of `n / 10` and then `n % 10`.
+/// They write the number, and a leading zero does not change which number digits write.
 pub fn digits()
     ensures { DigitsLaw }
 {}
@@ -20,24 +19,25 @@ pub fn text_length()
     ensures { LengthLaw }
 {}
 
-/// No text has more than 191 bytes, and that of `i128::MIN` has as many where the grouping is
-/// Indian and the separator and the minus sign have 8 bytes each.
+/// No text of a number from `i128::MIN` to `u128::MAX` has more than 191 bytes. That of `i128::MIN`
+/// has as many where the grouping is Indian, and the separator and the minus sign have 8 bytes
+/// each.
 pub fn text_bound()
     ensures { BoundLaw }
 {}
 
-/// A digit begins the digits and separators of a number, and a digit ends them.
+/// After the minus sign, a text begins and ends with a digit: no separator leads or trails.
 pub fn text_ends()
     ensures { EndsLaw }
 {}
 
-/// The format that a builder starts at is that of the locale `en`.
+/// A builder starts with the data of the locale `en`.
 pub fn english()
     ensures { EnglishLaw }
 {}
 
-/// What stands in a builder after any calls of its setters: in each field the last value that was
-/// given, by the clauses of the setters.
+/// After any calls of setters, a builder has in each field the last value that the field was
+/// given.
 pub fn building()
     ensures { BuildingLaw }
 {}

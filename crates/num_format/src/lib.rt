@@ -1,24 +1,28 @@
-//! Whole numbers as people write them: with separators between groups of digits.
+//! Formats whole numbers with separators between groups of digits, and parses them again.
 //!
-//! A number is printed under a [`Format`], which is a [`Locale`] or a [`CustomFormat`] or a type of
-//! your own, into a [`Buffer`], a string or a writer:
+//! A number is written under a [`Format`], which is a [`Locale`], a [`CustomFormat`] or a type of
+//! your own. It is written into a [`Buffer`], a string or a writer:
 //!
 //! ```text
 //! let mut buffer = Buffer::new();
-//! buffer.write_formatted(&1000000, &Locale::en);          // buffer.as_str() is 1,000,000
+//! buffer.write_formatted(&1000000, &Locale::en);          // buffer.as_str() is "1,000,000"
 //! let text = 1000000.to_formatted_string(alloc, &Locale::en)?;
-//! line.write_formatted(&1000000, &Locale::en)?;           // into a String, a Vec<u8>, a file ..
+//! line.write_formatted(&1000000, &Locale::en)?;           // a String, a Vec<u8>, a File ..
 //! ```
 //!
-//! and read back under one:
+//! It is parsed under a format too:
 //!
 //! ```text
 //! let number: i64 = "1,000,000".parse_formatted(&Locale::en)?;
 //! ```
 //!
-//! Each way of printing gives the one text that the format fixes for the number, and reading answers
-//! the number that the digits and the front sign of a text denote. The contracts say so, and
-//! [`laws`] has what follows for all formats and numbers.
+//! Every call writes the same text for a number and a format. Parsing reads the digits of a text,
+//! and the minus sign at its start. It ignores every other character: under the locale `en`,
+//! `12.50` is 1250 and `(7)` is 7.
+//!
+//! The contracts state both, and [`laws`] states what follows for all formats and numbers. A
+//! caller imports the definitions that the contracts use from `Rattle.num_format.specs`, as
+//! `Rattle.num_format.specs.Text.{text_of}`.
 //!
 //! The names are those of the Rust crate `num-format` 0.4.4.
 #![tactic(auto)]
@@ -44,7 +48,7 @@ pub use num_format_text::grouping::Grouping;
 pub use to_formatted_string::ToFormattedString;
 pub use write_formatted::WriteFormatted;
 
-/// The texts of a format, each of bounded length.
+/// The texts of a format, one type for each. A text has at most its capacity in bytes.
 pub mod utils {
     pub use num_format_text::strings::{
         DecimalStr, InfinityStr, MinusSignStr, NanStr, PlusSignStr, SeparatorStr,

@@ -7,13 +7,15 @@ use crate::{Buffer, Format, ToFormattedStr};
 use std::alloc::{AllocError, Global};
 use std::{fmt, io};
 
-/// A number that can be printed into strings and writers: each one that can be printed into a
-/// [`Buffer`].
+/// A number that can be formatted into strings and writers: each number that can be formatted
+/// into a [`Buffer`].
 pub trait ToFormattedString: ToFormattedStr {
-    /// Writes the number to the writer of text, by one `write_str` of the whole text, and answers
-    /// its length in bytes.
+    /// Writes the text of the number to a writer of text, by one call of `write_str`. Returns the
+    /// length of the text in bytes.
     ///
-    /// It fails only where that call failed, and the writer keeps what the call left.
+    /// # Errors
+    ///
+    /// Returns the error of that call. The contract does not say what the writer received by then.
     fn read_to_fmt_writer<F: Format, W: fmt::Write>(
         &self,
         w: &mut W,
@@ -24,11 +26,17 @@ pub trait ToFormattedString: ToFormattedStr {
         ensures count { IfOk result
             (λ count. count ≡ length (text_of (F.answers format.now) (Self.value self.now))) };
 
-    /// Writes the number to the writer of bytes, and answers the length of its text in bytes.
+    /// Writes the text of the number to a writer of bytes, in as many writes as it takes. Returns
+    /// the length of the text in bytes.
     ///
-    /// It loops over `write`, and ends at the first write that fails, an interrupted one included,
-    /// or that takes no byte. The writer has then taken a front of the text. Each other write takes
-    /// at least one byte of at most 191.
+    /// Code that is generic over [`io::Write`] calls this method: its contract is about the
+    /// writer's `contents`.
+    ///
+    /// # Errors
+    ///
+    /// Returns the error of the first write that fails, also of one that was interrupted. A write
+    /// of no bytes is an error of kind [`WriteZero`](io::ErrorKind::WriteZero). The writer then
+    /// received a prefix of the text, and not all of it.
     fn read_to_io_writer<F: Format, W: io::Write>(
         &self,
         w: &mut W,
@@ -37,7 +45,16 @@ pub trait ToFormattedString: ToFormattedStr {
         ensures { Writes result (W.contents w.old) (W.contents w.new)
             (text_of (F.answers format.now) (Self.value self.now)) };
 
-    /// The text of the number, in memory of its own. It fails only where memory was refused.
+    /// Returns the text of the number as a new string.
+    ///
+    /// ```text
+    /// 1000000.to_formatted_string(alloc, &Locale::en)?    // "1,000,000"
+    /// (-100).to_formatted_string(alloc, &Locale::en)?     // "-100"
+    /// ```
+    ///
+    /// # Errors
+    ///
+    /// Returns an error if there is no memory for the string.
     fn to_formatted_string<F: Format>(
         &self,
         alloc: Global,
@@ -82,8 +99,8 @@ impl<N: ToFormattedStr> ToFormattedString for N {
 
 /// Writes the bytes, in as many writes as it takes, and returns their number.
 ///
-/// std's `write_all` tells nothing of what was taken after a fault, and tries an interrupted write
-/// again.
+/// The contract of std's `write_all` does not say what the writer received before an error, and
+/// `write_all` repeats an interrupted write.
 #[tactic(auto, using(crate::proofs::WritingLemmas::HasReceivedUpTo_more))]
 fn write_whole<W: io::Write>(bytes: &[u8], w: &mut W) -> Result<usize, io::Error>
     ensures { Writes result (W.contents w.old) (W.contents w.new) bytes.now }

@@ -1,8 +1,14 @@
 //! Writers that numbers can be written to.
 //!
-//! [`WriteFormatted`] stands for the writers of std. Each that is one writes a number by
-//! [`read_to_io_writer`](ToFormattedString::read_to_io_writer), but for strings, vectors and
-//! formatters, which have a call of their own for a whole text.
+//! [`WriteFormatted`] is implemented for strings, vectors, formatters and the writers of std. A
+//! contract tells which bytes a writer received where `held` names them: for `String`, `Vec<u8>`,
+//! `Box<W>`, `BufWriter<W>`, `LineWriter<W>`, and a `&mut` of one of these. The impls for
+//! `&mut [u8]`, `Cursor<&mut [u8]>` and `Sink` have clauses of their own. The contracts of the
+//! others tell the length of the text alone.
+//!
+//! Code that is generic over std's [`Write`] calls
+//! [`read_to_io_writer`](ToFormattedString::read_to_io_writer), whose contract is about the
+//! writer's `contents`.
 ghost use Rattle.std.specs.Prelude.{◌≡◌, ◌+◌, ◌-◌, ◌<◌, ◌≤◌, ◌↔◌, ℕ, List, Option, Some, None, length, drop, IsOk, IfOk, OnOk, OnErr, string_bytes, string_len, vec_len, vec_capacity};
 ghost use Rattle.std.specs.String.{string_capacity};
 ghost use Rattle.std.specs.Io.Iter.{u64_saturate};
@@ -19,12 +25,23 @@ use std::io::{BufWriter, Cursor, LineWriter, Sink, Stderr, StderrLock, Stdout, S
 use std::{fmt, io};
 
 /// A writer that numbers can be written to.
+///
+/// ```text
+/// let mut line = String::new(alloc);
+/// line.write_formatted(&1000000, &Locale::en)?;    // Ok(9), and line is "1,000,000"
+/// ```
 pub trait WriteFormatted {
-    /// The bytes that the writer holds, where they are known.
+    /// The bytes that the writer holds, where a contract can tell them.
     ghost held: { Self → Option (List ℕ) } = { λ _. None };
 
-    /// Writes the number behind what the writer holds, and answers the length of its text in
-    /// bytes. On an error the writer has taken a front of the text.
+    /// Writes the text of the number to the writer, after what the writer holds. Returns the
+    /// length of the text in bytes.
+    ///
+    /// # Errors
+    ///
+    /// Returns the error of the first write that fails. A write of no bytes is an error of kind
+    /// [`WriteZero`](io::ErrorKind::WriteZero). The writer then received a prefix of the text, and
+    /// not all of it.
     fn write_formatted<F: Format, N: ToFormattedString>(
         &mut self,
         n: &N,
@@ -49,8 +66,13 @@ impl<W: WriteFormatted> WriteFormatted for &mut W {
 impl WriteFormatted for String {
     ghost held = { λ s. Some (string_bytes s) };
 
-    /// Puts the text behind the string. It fails only where memory was refused, and the string is
-    /// then as it was.
+    /// Appends the text of the number to the string. Returns the length of the text in bytes.
+    ///
+    /// # Errors
+    ///
+    /// Returns an error if the string has to grow and there is no memory. The string is then
+    /// unchanged. The clause `beyond_capacity` says that the string had to grow, and not that it
+    /// tried to.
     fn write_formatted<F: Format, N: ToFormattedString>(
         &mut self,
         n: &N,
@@ -59,7 +81,7 @@ impl WriteFormatted for String {
         ensures writes { Writes result (Some (string_bytes self.old)) (Some (string_bytes self.new))
             (text_of (F.answers format.now) (N.value n.now)) }
         ensures unchanged { OnErr result (string_bytes self.new ≡ string_bytes self.old) }
-        ensures refused { OnErr result (string_capacity self.old
+        ensures beyond_capacity { OnErr result (string_capacity self.old
             < string_len self.old + length (text_of (F.answers format.now) (N.value n.now))) }
     {
         let mut buffer = Buffer::new();
@@ -72,8 +94,13 @@ impl WriteFormatted for String {
 impl WriteFormatted for Vec<u8> {
     ghost held = { λ v. Some v.items };
 
-    /// Puts the text behind the vector. It fails only where memory was refused, and the vector is
-    /// then as it was.
+    /// Appends the text of the number to the vector. Returns the length of the text in bytes.
+    ///
+    /// # Errors
+    ///
+    /// Returns an error if the vector has to grow and there is no memory. The vector is then
+    /// unchanged. The clause `beyond_capacity` says that the vector had to grow, and not that it
+    /// tried to.
     fn write_formatted<F: Format, N: ToFormattedString>(
         &mut self,
         n: &N,
@@ -82,7 +109,7 @@ impl WriteFormatted for Vec<u8> {
         ensures writes { Writes result (Some self.old.items) (Some self.new.items)
             (text_of (F.answers format.now) (N.value n.now)) }
         ensures unchanged { OnErr result (self.new.items ≡ self.old.items) }
-        ensures refused { OnErr result (vec_capacity self.old
+        ensures beyond_capacity { OnErr result (vec_capacity self.old
             < vec_len self.old + length (text_of (F.answers format.now) (N.value n.now))) }
     {
         let mut buffer = Buffer::new();
@@ -159,9 +186,13 @@ impl WriteFormatted for Cursor<&mut Vec<u8>> {
 }
 
 impl WriteFormatted for Cursor<&mut [u8]> {
-    /// Writes the text at the cursor's position, over what the slice has there, and moves the
-    /// cursor to the end of the text. It fails exactly where the slice has fewer bytes than the
-    /// text from that position on, and has then received as many bytes as it has there.
+    /// Writes the text of the number over the bytes of the slice from the cursor's position on,
+    /// and moves the cursor to the end of the text. Returns the length of the text in bytes.
+    ///
+    /// # Errors
+    ///
+    /// Returns an error, of kind [`WriteZero`](io::ErrorKind::WriteZero), exactly if the slice has
+    /// fewer bytes than the text from that position on. It received as much of the text as fits.
     fn write_formatted<F: Format, N: ToFormattedString>(
         &mut self,
         n: &N,
@@ -199,11 +230,15 @@ impl WriteFormatted for Cursor<BoxedSlice<u8>> {
 }
 
 impl WriteFormatted for &mut [u8] {
-    /// Puts the text at the front of the slice, which then names the room behind it. It fails
-    /// exactly where the text is longer than the slice, which is then full and names no room.
+    /// Writes the text of the number to the start of the slice, and shortens the slice to the
+    /// space after the text. Returns the length of the text in bytes.
     ///
-    /// One write takes as much as fits, so no loop is needed, and the contract of that write says
-    /// what the loop's could not.
+    /// # Errors
+    ///
+    /// Returns an error, of kind [`WriteZero`](io::ErrorKind::WriteZero), exactly if the text is
+    /// longer than the slice. The slice received as much of the text as fits, and is then empty.
+    ///
+    /// The contract tells the space that is left, and not the bytes before it.
     #[tactic(auto, using(crate::proofs::WritingLemmas::Writes_err))]
     fn write_formatted<F: Format, N: ToFormattedString>(
         &mut self,
@@ -214,12 +249,13 @@ impl WriteFormatted for &mut [u8] {
             (text_of (F.answers format.now) (N.value n.now)) }
         ensures fits { IsOk result
             ↔ (length (text_of (F.answers format.now) (N.value n.now)) ≤ length self.old.now) }
-        ensures room { self.new.now
+        ensures remaining_space { self.new.now
             ≡ drop (length (text_of (F.answers format.now) (N.value n.now))) self.old.now }
     {
         let mut buffer = Buffer::new();
         let count = n.read_to_buffer(&mut buffer, format);
-        if self.write(buffer.as_bytes())? < count {
+        let written = self.write(buffer.as_bytes())?;
+        if written < count {
             return Err(io::Error::from(io::ErrorKind::WriteZero));
         }
         Ok(count)
@@ -247,7 +283,7 @@ impl WriteFormatted for &File {
 }
 
 impl WriteFormatted for Sink {
-    /// Returns the length of the text in bytes, and keeps none of it. It never fails.
+    /// Returns the length of the text in bytes, and keeps nothing of the text. It never fails.
     fn write_formatted<F: Format, N: ToFormattedString>(
         &mut self,
         n: &N,

@@ -1,8 +1,13 @@
-use Rattle.std.proofs.Common.{refl}
+use Rattle.std.proofs.Common.{◌≡◌, List, [], ◌∷◌, ◌++◌, refl}
 use Rattle.std.proofs.lemmas.List.{append-nil}
 use Rattle.std.proofs.lemmas.List.Elements.{filter_map-append}
-use Rattle.num_format.proofs.BuildingLemmas.{last_or-push}
+use Rattle.num_format.specs.Building.{last_or}
 use Rattle.num_format.proofs.laws.building.Goals as goal
+
+-- the last element of a list is the one that was appended
+last_or-push : {X : Type 0} (x : X) (ys : List X) (z : X) → last_or x (ys ++ (z ∷ [])) ≡ z
+last_or-push x [] z = refl
+last_or-push x (y ∷ ys) z = last_or-push y ys z
 
 pub returns : goal.returns
 returns c = record {

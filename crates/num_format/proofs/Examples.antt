@@ -1,4 +1,4 @@
--- Worked examples of the definitions, each shown by computing it.
+-- Examples of the definitions, each proved by computing it.
 use Rattle.std.proofs.Common.{◌≡◌, ℕ, List, [], ◌∷◌, refl, pos, negsuc}
 use Rattle.std.specs.Prelude.{codes, Result, Ok, Err, encode_utf8_all}
 use lib.Utf8.{encode}
@@ -13,11 +13,11 @@ use Rattle.num_format_int.specs.Text.{text_of}
 use Rattle.num_format.specs.Building.{Call, built, choices_after, choices_of, Decimal, Groups, MinusSign, Separator}
 use Rattle.num_format.specs.English.{english}
 
--- what calls on a builder that starts at English build
+-- what a builder builds after calls of its setters
 abbrev built_by : List Call → Result FormatData Error
 built_by calls = built (choices_after (choices_of english) calls)
 
--- English with another grouping, separator and minus sign
+-- the data of `en` with another grouping, separator and minus sign
 abbrev english_with : Grouping → List ℕ → List ℕ → FormatData
 english_with grouping separator minus_sign = record english { grouping = grouping; separator = separator; minus_sign = minus_sign }
 
@@ -45,7 +45,7 @@ minus_million : text_of english (negsuc 999999) ≡ codes "-1,000,000"
 unfolding digits
 minus_million = refl
 
--- 😀 separates and 🙌 negates: `10 00 000` in groups of two and three, of 19 bytes
+-- 😀 is the separator and 🙌 the minus sign; the text has 19 bytes
 many_bytes : text_of (english_with Indian (encode_utf8_all (0x1F600 ∷ [])) (encode_utf8_all (0x1F64C ∷ []))) (negsuc 999999)
     ≡ encode_utf8_all (0x1F64C ∷ 49 ∷ 48 ∷ 0x1F600 ∷ 48 ∷ 48 ∷ 0x1F600 ∷ 48 ∷ 48 ∷ 48 ∷ [])
 unfolding digits encode
@@ -70,12 +70,12 @@ posix_has_no_groups : text_of (english_with Posix (codes ",") (codes "-")) (pos 
 unfolding digits
 posix_has_no_groups = refl
 
--- the separator was refused first, and the decimal mark is first in order
-first_refused_field : built_by (Separator (codes "123456789") ∷ Decimal (codes "1234567890") ∷ []) ≡ Err (Capacity 10 8)
-first_refused_field = refl
+-- the separator was refused before the decimal mark, and `build` looks at the decimal mark first
+first_error_in_order : built_by (Separator (codes "123456789") ∷ Decimal (codes "1234567890") ∷ []) ≡ Err (Capacity 10 8)
+first_error_in_order = refl
 
-good_values_replace_refusals : built_by (Separator (codes "123456789") ∷ Decimal (codes "1234567890") ∷ Decimal (codes ".") ∷ Separator (codes ",") ∷ []) ≡ Ok english
-good_values_replace_refusals = refl
+good_values_replace_errors : built_by (Separator (codes "123456789") ∷ Decimal (codes "1234567890") ∷ Decimal (codes ".") ∷ Separator (codes ",") ∷ []) ≡ Ok english
+good_values_replace_errors = refl
 
 minus_sign_before_separator : built_by (Separator (codes "123456789") ∷ Groups Standard ∷ MinusSign (codes "1234567890") ∷ []) ≡ Err (Capacity 10 8)
 minus_sign_before_separator = refl
