@@ -132,9 +132,9 @@ impl Buffer {
 
 /// Copies the bytes over as many others.
 ///
-/// A copy whose length is known only at run time is a call. The texts of one to three bytes, which
-/// are digits and most separators, are copied in a move or two: all of their bytes are read before
-/// the first is written, so that the compiler may join the writes.
+/// A copy whose length is known only at run time is a call. So texts of up to 32 bytes, which digits
+/// and signs are, are copied in a few moves. All of their bytes are read before the first is written,
+/// so that the compiler may join the moves.
 #[inline(always)]
 fn copy_bytes(bytes: &[u8], target: &mut [u8])
     requires { length target.old ≡ length bytes.now }
@@ -153,8 +153,27 @@ fn copy_bytes(bytes: &[u8], target: &mut [u8])
             target[1] = b;
             target[2] = c;
         }
+        [_, _, _, _, ..] if bytes.len() <= 8 => copy_ends::<4>(bytes, target),
+        [_, _, _, _, ..] if bytes.len() <= 16 => copy_ends::<8>(bytes, target),
+        [_, _, _, _, ..] if bytes.len() <= 32 => copy_ends::<16>(bytes, target),
         _ => target.copy_from_slice(bytes),
     }
+}
+
+/// Copies the first `HALF` bytes and the last, which together are all of them.
+#[inline(always)]
+fn copy_ends<const HALF: usize>(bytes: &[u8], target: &mut [u8])
+    requires same { length target.old ≡ length bytes.now }
+    requires all { (HALF ≤ length bytes.now) × (length bytes.now ≤ HALF + HALF) }
+    ensures { target.new ≡ bytes.now }
+{
+    let place = bytes.len() - HALF;
+    let mut first = [0; HALF];
+    let mut last = [0; HALF];
+    first.copy_from_slice(&bytes[..HALF]);
+    last.copy_from_slice(&bytes[place..]);
+    target[..HALF].copy_from_slice(&first);
+    target[place..].copy_from_slice(&last);
 }
 
 impl Default for Buffer {

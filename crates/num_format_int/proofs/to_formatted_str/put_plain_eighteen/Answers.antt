@@ -1,4 +1,4 @@
-use Rattle.std.proofs.Common.{◌≡◌, ℕ, List, ◌+◌, ◌^◌, ◌<◌, ◌≤◌, ◌∷◌, ◌++◌, ◌∙◌, length, drop, ap, arith}
+use Rattle.std.proofs.Common.{◌≡◌, ℕ, List, ◌+◌, ◌^◌, ◌<◌, ◌≤◌, ◌∷◌, ◌++◌, ◌∙◌, length, take, drop, ap, arith}
 use Rattle.std.proofs.lemmas.List.{length-map}
 use Rattle.std.proofs.lemmas.Str.{IsCharBoundary-from_ascii}
 use Rattle.std.specs.Fmt.{decimal}
@@ -12,12 +12,16 @@ whole part below = decimal-digits (1000000000000000000 + part) (omega arith) ∙
 length-whole : (part : ℕ) (text : List ℕ) → part < 10 ^ 18 → text ≡ decimal (1000000000000000000 + part) → length text ≡ 19
 length-whole part text below e = omega (arith, ap length (e ∙ whole part below), length-map (last_digits 18 part) (λ d. 48 + d), length-last_digits 18 part)
 
-pub range_from-requires : goal.range_from-requires
-range_from-requires c = λ _.
+pub range-requires-clause-end_boundary : goal.range-requires-clause-end_boundary
+range-requires-clause-end_boundary c =
+    IsCharBoundary-from_ascii c.format-text.result.now 19 c.format-text.ensures.ascii (omega (arith, length-whole c.args.part c.format-text.result.now c.requires.part c.format-text.ensures.text))
+
+pub range-requires-clause-start_boundary : goal.range-requires-clause-start_boundary
+range-requires-clause-start_boundary c = λ _.
     IsCharBoundary-from_ascii c.format-text.result.now 1 c.format-text.ensures.ascii (omega (arith, length-whole c.args.part c.format-text.result.now c.requires.part c.format-text.ensures.text))
 
 pub put_front-requires : goal.put_front-requires
-put_front-requires c = omega (arith, length-whole c.args.part c.format-text.result.now c.requires.part c.format-text.ensures.text, c.range_from.ensures.len)
+put_front-requires c = omega (arith, length-whole c.args.part c.format-text.result.now c.requires.part c.format-text.ensures.text, c.range.ensures.len)
 
 pub returns : goal.returns
-returns c = c.put_front.ensures ∙ ap (λ text. text ++ c.args.buffer.now) (c.range_from.ensures.value ∙ ap (drop 1) (c.format-text.ensures.text ∙ whole c.args.part c.requires.part))
+returns c = c.put_front.ensures ∙ ap (λ text. text ++ c.args.buffer.now) (c.range.ensures.value ∙ ap (λ text. take 18 (drop 1 text)) (c.format-text.ensures.text ∙ whole c.args.part c.requires.part))
