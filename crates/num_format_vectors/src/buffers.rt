@@ -51,12 +51,7 @@ fn the_last_byte_is_prepended(rt: HostRuntime) -> Result<(), Fail> {
     let mut buffer = Buffer::new();
     buffer.put_front(&zeros);
     buffer.put_front("-");
-    is_whole(
-        &rt,
-        buffer.len(),
-        buffer.as_bytes(),
-        &format!(in rt.alloc(); "-{zeros}")?,
-    );
     assert_equal(&rt, buffer.len(), 191);
+    assert_equal(&rt, buffer.as_str().strip_prefix('-'), Some(zeros.as_str()));
     Ok(())
 }
