@@ -1,20 +1,21 @@
 //! Compares `num_format` with recorded results of the Rust crate `num-format` 0.4.4.
 //!
 //! Standard input has one case a line: a call, and the result that is expected of it. The module
-//! [`case`] describes the words. A line that begins with `#` is a comment. The expected results are:
+//! [`case`] describes the fields. A line that begins with `#` is a comment. The expected results,
+//! by the kind of the case:
 //!
-//! - `print`: the texts that the `Buffer` of that crate had, unchanged.
-//! - `read`: the numbers that it returned, and `ParseNumber` where it did not return one. Where it
-//!   returned `ParseLocale`, panicked, or took a numeral of another script for a digit, the port
+//! - `print`: the texts in the `Buffer` of that crate, unchanged.
+//! - `read`: the numbers that it returned, and `ParseNumber` where it returned none. Where it
+//!   returned `ParseLocale`, panicked, or used a numeral of another script as a digit, the port
 //!   differs on purpose, and the data has the error of the port.
 //! - `names`: the locales that it found, and `ParseLocale` where it found none.
 //! - `locale`: the table of locales, as written down from the CLDR data of that crate.
-//! - The last cases of each kind were worked out by hand from the rules of grouping, of parsing and
-//!   of names. `tools/examples.py` has them.
-//! - `changed`: cases with a wrong result, which show that a difference would be found.
+//! - `changed`: results that are wrong, which show that a difference would be found.
 //!
-//! An error keeps the text truncated at a character within 256 bytes, which is what the port
-//! promises; that crate keeps the whole text.
+//! An error keeps the text truncated at a character within 256 bytes, as the port promises; that
+//! crate keeps the whole text. The cases below the comment on examples do not come from that crate:
+//! they were worked out by hand from the rules of grouping, of parsing and of names, and
+//! `tools/examples.py` has them.
 //!
 //! The program prints the first results that differ from the expected ones, the first lines that
 //! could not be read, and then, for each kind, how many cases there were and how many differ. The

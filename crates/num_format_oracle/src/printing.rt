@@ -7,7 +7,7 @@ use std::alloc::Global;
 const BEFORE: &str = "17,";
 
 /// Returns the text of the number in hexadecimal, as a new [`Buffer`] has it, and the name of each
-/// other way of printing that differs from it. None where memory was refused.
+/// other way of printing that differs from it. None where out of memory.
 pub fn printed<N: ToFormattedString, F: Format>(
     alloc: Global,
     number: &N,
@@ -45,7 +45,7 @@ pub fn printed<N: ToFormattedString, F: Format>(
 
 /// A number, a format, and the text of the number under it. Each method prints the number in one
 /// way and returns whether that leads to the same text, and to its length where the way has a
-/// count. None where memory was refused.
+/// count. None where out of memory.
 #[derive(Drop)]
 struct Printing<'a, N, F> {
     alloc: Global,
