@@ -3,13 +3,13 @@
 //! [`WriteFormatted`] is implemented for strings, vectors, formatters and the writers of std. A
 //! contract tells which bytes a writer received where `held` names them: for `String`, `Vec<u8>`,
 //! `Box<W>`, `BufWriter<W>`, `LineWriter<W>`, and a `&mut` of one of these. The impls for
-//! `&mut [u8]`, `Cursor<&mut [u8]>` and `Sink` have clauses of their own. The contracts of the
-//! others tell the length of the text alone.
+//! `&mut [u8]`, `Cursor<&mut [u8]>`, `Cursor<Vec<u8>>` and `Sink` have clauses of their own. The
+//! contracts of the others tell the length of the text alone.
 //!
 //! Code that is generic over std's [`Write`] calls
 //! [`read_to_io_writer`](ToFormattedString::read_to_io_writer), whose contract is about the
 //! writer's `contents`.
-ghost use Rattle.std.specs.Prelude.{◌≡◌, ◌+◌, ◌-◌, ◌<◌, ◌≤◌, ◌↔◌, ℕ, List, Option, Some, None, length, drop, IsOk, IfOk, OnOk, OnErr, string_bytes, string_len, vec_len, vec_capacity};
+ghost use Rattle.std.specs.Prelude.{◌≡◌, ◌+◌, ◌-◌, ◌++◌, ◌<◌, ◌≤◌, ◌↔◌, ℕ, List, Option, Some, None, length, drop, IsOk, IfOk, OnOk, OnErr, string_bytes, string_len, vec_len, vec_capacity};
 ghost use Rattle.std.specs.String.{string_capacity};
 ghost use Rattle.std.specs.Io.Iter.{u64_saturate};
 ghost use Rattle.std.specs.Io.Cursor.{cursor_inner, cursor_position};
@@ -166,12 +166,32 @@ impl<W: Write + Drop> WriteFormatted for LineWriter<W> {
 }
 
 impl WriteFormatted for Cursor<Vec<u8>> {
+    /// Writes the text of the number at the cursor's position, over the bytes that the vector has
+    /// there, and moves the cursor to the end of the text. A cursor at the end of the vector
+    /// appends the text. Returns the length of the text in bytes.
+    ///
+    /// # Errors
+    ///
+    /// Returns an error if the vector has to grow and there is no memory. The cursor is then where
+    /// it was.
     fn write_formatted<F: Format, N: ToFormattedString>(
         &mut self,
         n: &N,
         format: &F,
-    ) -> Result<usize, io::Error> {
-        n.read_to_io_writer(self, format)
+    ) -> Result<usize, io::Error>
+        ensures writes { Writes result None None
+            (text_of (F.answers format.now) (N.value n.now)) }
+        ensures at_end { OnOk result (cursor_position self.old ≡ length (cursor_inner self.old).items
+            → (cursor_inner self.new).items ≡ (cursor_inner self.old).items
+            ++ text_of (F.answers format.now) (N.value n.now)) }
+        ensures position { IfOk result (λ count. cursor_position self.new
+            ≡ u64_saturate (cursor_position self.old + count)) }
+        ensures unmoved { OnErr result (cursor_position self.new ≡ cursor_position self.old) }
+    {
+        let mut buffer = Buffer::new();
+        let count = n.read_to_buffer(&mut buffer, format);
+        self.write(buffer.as_bytes())?;
+        Ok(count)
     }
 }
 
