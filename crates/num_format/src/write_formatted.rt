@@ -34,8 +34,7 @@ pub trait WriteFormatted {
     /// The bytes that the writer holds, where a contract can tell them.
     ghost held: { Self → Option (List ℕ) } = { λ _. None };
 
-    /// Writes the text of the number to the writer, after what the writer holds. Returns the
-    /// length of the text in bytes.
+    /// Writes the text of the number to the writer. Returns the length of the text in bytes.
     ///
     /// # Errors
     ///
@@ -71,8 +70,8 @@ impl WriteFormatted for String {
     /// # Errors
     ///
     /// Returns an error if the string has to grow and there is no memory. The string is then
-    /// unchanged. The clause `beyond_capacity` says that the string had to grow, and not that it
-    /// tried to.
+    /// unchanged. The clause `beyond_capacity` says that the text did not fit in the capacity. No
+    /// clause says that the string tried to grow.
     fn write_formatted<F: Format, N: ToFormattedString>(
         &mut self,
         n: &N,
@@ -99,8 +98,8 @@ impl WriteFormatted for Vec<u8> {
     /// # Errors
     ///
     /// Returns an error if the vector has to grow and there is no memory. The vector is then
-    /// unchanged. The clause `beyond_capacity` says that the vector had to grow, and not that it
-    /// tried to.
+    /// unchanged. The clause `beyond_capacity` says that the text did not fit in the capacity. No
+    /// clause says that the vector tried to grow.
     fn write_formatted<F: Format, N: ToFormattedString>(
         &mut self,
         n: &N,
