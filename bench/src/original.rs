@@ -1,77 +1,299 @@
 //! The original crate, called by the same loops as those of `crates/num_format_bench`.
 
 use num_format::parsing::FromFormattedStr;
-use num_format::{Buffer, CustomFormat, Error, Format, Grouping, Locale, ToFormattedStr};
+use num_format::utils::{
+    DecimalStr, InfinityStr, MinusSignStr, NanStr, PlusSignStr, SeparatorStr,
+};
+use num_format::{
+    Buffer, CustomFormat, Error, Format, Grouping, Locale, ToFormattedStr, ToFormattedString,
+    WriteFormatted,
+};
 
-/// Groups of Indian length between narrow no-break spaces.
-fn narrow_spaces() -> Result<CustomFormat, Error> {
+/// The code of printing into a [`Buffer`] that is used again.
+const BUFFER: u8 = 0;
+
+/// The code of printing into a new `String`.
+const STRING: u8 = 1;
+
+/// The code of [`Constants`].
+const CONSTANTS: u8 = 4;
+
+/// The data of the locale `en`, but for a separator of eight bytes.
+struct Constants;
+
+impl Format for Constants {
+    fn decimal(&self) -> DecimalStr<'_> {
+        DecimalStr::new(".").unwrap()
+    }
+
+    fn grouping(&self) -> Grouping {
+        Grouping::Standard
+    }
+
+    fn infinity(&self) -> InfinityStr<'_> {
+        InfinityStr::new("∞").unwrap()
+    }
+
+    fn minus_sign(&self) -> MinusSignStr<'_> {
+        MinusSignStr::new("-").unwrap()
+    }
+
+    fn nan(&self) -> NanStr<'_> {
+        NanStr::new("NaN").unwrap()
+    }
+
+    fn plus_sign(&self) -> PlusSignStr<'_> {
+        PlusSignStr::new("+").unwrap()
+    }
+
+    fn separator(&self) -> SeparatorStr<'_> {
+        SeparatorStr::new(" . , . |").unwrap()
+    }
+}
+
+/// The locale of a code, if it is one of a locale.
+fn locale(code: u8) -> Option<Locale> {
+    match code {
+        0 => Some(Locale::en),
+        1 => Some(Locale::en_IN),
+        2 => Some(Locale::fr),
+        3 => Some(Locale::en_US_POSIX),
+        _ => None,
+    }
+}
+
+/// Indian groups between apostrophes of three bytes.
+fn built() -> Result<CustomFormat, Error> {
     CustomFormat::builder()
         .grouping(Grouping::Indian)
-        .separator("\u{202f}")
+        .separator("’")
         .build()
 }
 
-fn read_each<N: FromFormattedStr, F: Format, S: From<N>>(
-    bytes: &[u8],
-    length: usize,
+trait Printer {
+    fn print<N: ToFormattedStr, F: Format>(&mut self, n: &N, format: &F) -> bool;
+
+    fn text(&self) -> &str;
+}
+
+struct UsedBuffer {
+    buffer: Buffer,
+}
+
+impl Printer for UsedBuffer {
+    #[inline(never)]
+    fn print<N: ToFormattedStr, F: Format>(&mut self, n: &N, format: &F) -> bool {
+        self.buffer.write_formatted(n, format) > 0
+    }
+
+    fn text(&self) -> &str {
+        self.buffer.as_str()
+    }
+}
+
+struct NewString {
+    text: String,
+}
+
+impl Printer for NewString {
+    #[inline(never)]
+    fn print<N: ToFormattedStr, F: Format>(&mut self, n: &N, format: &F) -> bool {
+        self.text = n.to_formatted_string(format);
+        true
+    }
+
+    fn text(&self) -> &str {
+        self.text.as_str()
+    }
+}
+
+struct UsedString {
+    line: String,
+}
+
+impl Printer for UsedString {
+    #[inline(never)]
+    fn print<N: ToFormattedStr, F: Format>(&mut self, n: &N, format: &F) -> bool {
+        self.line.clear();
+        self.line.write_formatted(n, format).is_ok()
+    }
+
+    fn text(&self) -> &str {
+        self.line.as_str()
+    }
+}
+
+pub trait Sink {
+    fn receive(&mut self, text: &str) -> bool;
+}
+
+/// A sum over the length and the last byte of each text.
+#[derive(Default)]
+pub struct Checksum {
+    pub sum: u64,
+}
+
+impl Sink for Checksum {
+    fn receive(&mut self, text: &str) -> bool {
+        let last = text.as_bytes().last().copied().unwrap_or(0);
+        self.sum = self
+            .sum
+            .wrapping_mul(31)
+            .wrapping_add(text.len() as u64)
+            .wrapping_add(u64::from(last));
+        true
+    }
+}
+
+impl Sink for String {
+    fn receive(&mut self, text: &str) -> bool {
+        self.push_str(text);
+        self.push('\n');
+        true
+    }
+}
+
+fn print_each<N: ToFormattedStr + Copy, F: Format, P: Printer, K: Sink>(
+    numbers: &[N],
     format: &F,
-    numbers: &mut [S],
+    printer: &mut P,
+    sink: &mut K,
 ) -> bool {
-    let Ok(mut left) = str::from_utf8(bytes) else {
-        return false;
-    };
-    for number in numbers {
-        let Some((text, rest)) = left.split_at_checked(length) else {
+    for &number in numbers {
+        if !printer.print(&number, format) || !sink.receive(printer.text()) {
             return false;
-        };
-        let Ok(read) = N::from_formatted_str(text, format) else {
-            return false;
-        };
-        *number = S::from(read);
-        left = rest;
+        }
     }
     true
 }
 
-/// Reads texts of one length, which stand one behind another, and answers whether each was read.
-#[inline(never)]
-pub fn read<N: FromFormattedStr, S: From<N>>(
-    bytes: &[u8],
-    length: usize,
-    is_built: bool,
-    numbers: &mut [S],
+fn print_under<N: ToFormattedStr + Copy, P: Printer, K: Sink>(
+    numbers: &[N],
+    format: u8,
+    printer: &mut P,
+    sink: &mut K,
 ) -> bool {
-    if !is_built {
-        return read_each::<N, Locale, S>(bytes, length, &Locale::en, numbers);
+    if let Some(locale) = locale(format) {
+        return print_each(numbers, &locale, printer, sink);
     }
-    match narrow_spaces() {
-        Ok(format) => read_each::<N, CustomFormat, S>(bytes, length, &format, numbers),
+    if format == CONSTANTS {
+        return print_each(numbers, &Constants, printer, sink);
+    }
+    match built() {
+        Ok(format) => print_each(numbers, &format, printer, sink),
         Err(_) => false,
     }
 }
 
-fn print_each<N: ToFormattedStr, F: Format>(numbers: &[N], format: &F) -> u64 {
-    let mut buffer = Buffer::new();
-    let mut sum = 0u64;
-    for number in numbers {
-        let length = buffer.write_formatted(number, format);
-        let first = buffer.as_bytes().first().copied().unwrap_or(0);
-        sum = sum
-            .wrapping_mul(31)
-            .wrapping_add(length as u64)
-            .wrapping_add(u64::from(first));
+fn print_by<N: ToFormattedStr + Copy, K: Sink>(
+    numbers: &[N],
+    way: u8,
+    format: u8,
+    sink: &mut K,
+) -> bool {
+    match way {
+        BUFFER => {
+            let buffer = Buffer::new();
+            print_under(numbers, format, &mut UsedBuffer { buffer }, sink)
+        }
+        STRING => {
+            let text = String::new();
+            print_under(numbers, format, &mut NewString { text }, sink)
+        }
+        _ => {
+            let line = String::new();
+            print_under(numbers, format, &mut UsedString { line }, sink)
+        }
     }
-    sum
 }
 
-/// Prints numbers, and answers a sum over the length and the first byte of each text.
+/// Prints numbers, and returns a sum over their texts.
 #[inline(never)]
-pub fn print<N: ToFormattedStr>(numbers: &[N], is_built: bool) -> u64 {
-    if !is_built {
-        return print_each(numbers, &Locale::en);
+pub fn print<N: ToFormattedStr + Copy>(numbers: &[N], way: u8, format: u8) -> u64 {
+    let mut sum = Checksum::default();
+    if !print_by(numbers, way, format, &mut sum) {
+        return 0;
     }
-    match narrow_spaces() {
-        Ok(format) => print_each(numbers, &format),
+    sum.sum
+}
+
+/// The texts of numbers, each with a line feed after it.
+pub fn texts<N: ToFormattedStr + Copy>(numbers: &[N], way: u8, format: u8) -> String {
+    let mut lines = String::new();
+    print_by(numbers, way, format, &mut lines);
+    lines
+}
+
+#[inline(never)]
+fn read_one<N: FromFormattedStr, F: Format>(text: &str, format: &F) -> Result<N, Error> {
+    N::from_formatted_str(text, format)
+}
+
+fn read_each<N: FromFormattedStr, F: Format>(
+    texts: &str,
+    lengths: &[usize],
+    format: &F,
+    numbers: &mut [N],
+) -> u64 {
+    let mut left = texts;
+    let mut accepted = 0u64;
+    for (number, length) in numbers.iter_mut().zip(lengths) {
+        let Some((text, rest)) = left.split_at_checked(*length) else {
+            break;
+        };
+        if let Ok(read) = read_one::<N, F>(text, format) {
+            *number = read;
+            accepted = accepted.wrapping_add(1);
+        }
+        left = rest;
+    }
+    accepted
+}
+
+/// Reads texts of the lengths, and returns how many were accepted.
+#[inline(never)]
+pub fn read<N: FromFormattedStr>(
+    texts: &str,
+    lengths: &[usize],
+    format: u8,
+    numbers: &mut [N],
+) -> u64 {
+    if let Some(locale) = locale(format) {
+        return read_each(texts, lengths, &locale, numbers);
+    }
+    if format == CONSTANTS {
+        return read_each(texts, lengths, &Constants, numbers);
+    }
+    match built() {
+        Ok(format) => read_each(texts, lengths, &format, numbers),
         Err(_) => 0,
     }
+}
+
+#[inline(never)]
+fn find_one(name: &str) -> Result<Locale, Error> {
+    Locale::from_name(name)
+}
+
+/// Looks up names of the lengths, and returns how many are names of `en` or refused.
+#[inline(never)]
+pub fn find(names: &str, lengths: &[usize]) -> u64 {
+    let mut left = names;
+    let mut count = 0u64;
+    for length in lengths {
+        let Some((name, rest)) = left.split_at_checked(*length) else {
+            break;
+        };
+        match find_one(name) {
+            Ok(locale) if locale != Locale::en => {}
+            _ => count = count.wrapping_add(1),
+        }
+        left = rest;
+    }
+    count
+}
+
+/// The name of the locale that the text names.
+pub fn name(text: &str) -> Option<String> {
+    find_one(text).ok().map(|locale| locale.name().to_owned())
 }

@@ -1,122 +1,121 @@
 //! The Rattle crate, called through the static library `num_format_bench`.
 
-use std::num::{NonZeroU8, NonZeroU16, NonZeroU32, NonZeroU64, NonZeroU128, NonZeroUsize};
-
-/// The library's function that reads texts of one length.
-type Read<S> = unsafe extern "C" fn(*const u8, usize, usize, bool, *mut S, usize) -> bool;
-
-/// The library's function that prints numbers.
-type Print<N> = unsafe extern "C" fn(*const N, usize, bool) -> u64;
-
-/// A number that the library reads.
-pub trait FromText {
-    /// The name of the type.
-    const NAME: &str;
-
-    /// The library's function.
-    const READ: Read<Self::Stored>;
-
-    /// The integer that is kept of it.
-    type Stored;
+/// The library's functions for an integer type.
+pub struct Functions<N> {
+    print: unsafe extern "C" fn(*const N, usize, u8, u8) -> u64,
+    texts: unsafe extern "C" fn(*const N, usize, u8, u8, *mut u8, usize) -> usize,
+    read: unsafe extern "C" fn(*const u8, usize, *const usize, usize, u8, *mut N, usize) -> u64,
 }
 
-/// A number that the library prints.
-pub trait ToText: Sized {
-    /// The library's function.
-    const PRINT: Print<Self>;
+/// An integer type that the library prints and reads.
+pub trait Exported: Sized {
+    /// Its functions.
+    const FUNCTIONS: Functions<Self>;
 }
 
-macro_rules! impl_from_text {
-    ($($type:ident $stored:ident $read:ident;)*) => {
+macro_rules! impl_exported {
+    ($($type:ident $print:ident $texts:ident $read:ident;)*) => {
         unsafe extern "C" {$(
-            fn $read(
-                bytes: *const u8,
-                bytes_len: usize,
-                length: usize,
-                is_built: bool,
-                numbers: *mut $stored,
+            fn $print(numbers: *const $type, numbers_len: usize, way: u8, format: u8) -> u64;
+            fn $texts(
+                numbers: *const $type,
                 numbers_len: usize,
-            ) -> bool;
+                way: u8,
+                format: u8,
+                texts: *mut u8,
+                texts_len: usize,
+            ) -> usize;
+            fn $read(
+                texts: *const u8,
+                texts_len: usize,
+                lengths: *const usize,
+                lengths_len: usize,
+                format: u8,
+                numbers: *mut $type,
+                numbers_len: usize,
+            ) -> u64;
         )*}
 
-        $(impl FromText for $type {
-            const NAME: &str = stringify!($type);
-            const READ: Read<$stored> = $read;
-            type Stored = $stored;
+        $(impl Exported for $type {
+            const FUNCTIONS: Functions<$type> = Functions {
+                print: $print,
+                texts: $texts,
+                read: $read,
+            };
         })*
     };
 }
 
-macro_rules! impl_to_text {
-    ($($type:ident $print:ident;)*) => {
-        unsafe extern "C" {$(
-            fn $print(numbers: *const $type, numbers_len: usize, is_built: bool) -> u64;
-        )*}
+impl_exported! {
+    u8 rattle_print_u8 rattle_texts_u8 rattle_read_u8;
+    i32 rattle_print_i32 rattle_texts_i32 rattle_read_i32;
+    u32 rattle_print_u32 rattle_texts_u32 rattle_read_u32;
+    i64 rattle_print_i64 rattle_texts_i64 rattle_read_i64;
+    u64 rattle_print_u64 rattle_texts_u64 rattle_read_u64;
+    i128 rattle_print_i128 rattle_texts_i128 rattle_read_i128;
+    u128 rattle_print_u128 rattle_texts_u128 rattle_read_u128;
+}
 
-        $(impl ToText for $type {
-            const PRINT: Print<$type> = $print;
-        })*
+unsafe extern "C" {
+    fn rattle_find(
+        names: *const u8,
+        names_len: usize,
+        lengths: *const usize,
+        lengths_len: usize,
+    ) -> u64;
+    fn rattle_name(text: *const u8, text_len: usize, name: *mut u8, name_len: usize) -> usize;
+}
+
+// SAFETY, of each call below: the library receives each slice as a pointer and a length, and the
+// texts are UTF-8.
+
+/// Prints numbers, and returns a sum over their texts.
+pub fn print<N: Exported>(numbers: &[N], way: u8, format: u8) -> u64 {
+    unsafe { (N::FUNCTIONS.print)(numbers.as_ptr(), numbers.len(), way, format) }
+}
+
+/// The texts of numbers, each with a line feed after it.
+pub fn texts<N: Exported>(numbers: &[N], way: u8, format: u8) -> String {
+    let mut texts = vec![0; 192 * numbers.len()];
+    let length = unsafe {
+        (N::FUNCTIONS.texts)(
+            numbers.as_ptr(),
+            numbers.len(),
+            way,
+            format,
+            texts.as_mut_ptr(),
+            texts.len(),
+        )
     };
+    texts.truncate(length);
+    String::from_utf8(texts).expect("texts are UTF-8")
 }
 
-impl_from_text! {
-    u8 u8 rattle_read_u8;
-    u16 u16 rattle_read_u16;
-    u32 u32 rattle_read_u32;
-    u64 u64 rattle_read_u64;
-    u128 u128 rattle_read_u128;
-    usize usize rattle_read_usize;
-    i8 i8 rattle_read_i8;
-    i16 i16 rattle_read_i16;
-    i32 i32 rattle_read_i32;
-    i64 i64 rattle_read_i64;
-    i128 i128 rattle_read_i128;
-    isize isize rattle_read_isize;
-    NonZeroU8 u8 rattle_read_nonzero_u8;
-    NonZeroU16 u16 rattle_read_nonzero_u16;
-    NonZeroU32 u32 rattle_read_nonzero_u32;
-    NonZeroU64 u64 rattle_read_nonzero_u64;
-    NonZeroU128 u128 rattle_read_nonzero_u128;
-    NonZeroUsize usize rattle_read_nonzero_usize;
-}
-
-impl_to_text! {
-    u8 rattle_print_u8;
-    u16 rattle_print_u16;
-    u32 rattle_print_u32;
-    u64 rattle_print_u64;
-    u128 rattle_print_u128;
-    usize rattle_print_usize;
-    i8 rattle_print_i8;
-    i16 rattle_print_i16;
-    i32 rattle_print_i32;
-    i64 rattle_print_i64;
-    i128 rattle_print_i128;
-    isize rattle_print_isize;
-}
-
-/// Reads texts of one length, which stand one behind another, and answers whether each was read.
-pub fn read<N: FromText>(
-    bytes: &[u8],
-    length: usize,
-    is_built: bool,
-    numbers: &mut [N::Stored],
-) -> bool {
-    // SAFETY: the library takes each slice as a pointer and a length.
+/// Reads texts of the lengths, and returns how many were accepted.
+pub fn read<N: Exported>(texts: &str, lengths: &[usize], format: u8, numbers: &mut [N]) -> u64 {
     unsafe {
-        N::READ(
-            bytes.as_ptr(),
-            bytes.len(),
-            length,
-            is_built,
+        (N::FUNCTIONS.read)(
+            texts.as_ptr(),
+            texts.len(),
+            lengths.as_ptr(),
+            lengths.len(),
+            format,
             numbers.as_mut_ptr(),
             numbers.len(),
         )
     }
 }
 
-/// Prints numbers, and answers a sum over the length and the first byte of each text.
-pub fn print<N: ToText>(numbers: &[N], is_built: bool) -> u64 {
-    // SAFETY: the library takes a slice as a pointer and a length.
-    unsafe { N::PRINT(numbers.as_ptr(), numbers.len(), is_built) }
+/// Looks up names of the lengths, and returns how many are names of `en` or refused.
+pub fn find(names: &str, lengths: &[usize]) -> u64 {
+    unsafe { rattle_find(names.as_ptr(), names.len(), lengths.as_ptr(), lengths.len()) }
+}
+
+/// The name of the locale that the text names.
+pub fn name(text: &str) -> Option<String> {
+    let mut name = [0; 64];
+    let length =
+        unsafe { rattle_name(text.as_ptr(), text.len(), name.as_mut_ptr(), name.len()) };
+    let name = str::from_utf8(&name[..length]).expect("names are UTF-8");
+    (length > 0).then(|| name.to_owned())
 }

@@ -1,0 +1,181 @@
+//! The integer types, and batches of numbers of given lengths.
+
+use crate::rattle::Exported;
+use num_format::ToFormattedStr;
+use num_format::parsing::FromFormattedStr;
+use std::fmt::Display;
+use std::ops::RangeInclusive;
+use std::str::FromStr;
+
+/// The numbers of a batch, which are more than a branch predictor learns by heart.
+pub const BATCH: usize = 4096;
+
+/// The digits of `u64::MAX`.
+const DIGITS_OF_64_BITS: u32 = 20;
+
+/// An integer type.
+pub trait Number:
+    Exported
+    + ToFormattedStr
+    + FromFormattedStr
+    + itoa::Integer
+    + FromStr
+    + Display
+    + Copy
+    + Default
+    + PartialEq
+    + 'static
+{
+    /// The name of the type.
+    const NAME: &str;
+
+    /// The digits of the largest number.
+    const MOST_DIGITS: u32;
+
+    /// Whether there are negative numbers.
+    const IS_SIGNED: bool;
+
+    /// A number of that many digits.
+    fn random(random: &mut Random, digits: u32) -> Self;
+
+    /// The number with the other sign.
+    fn negated(self) -> Self;
+
+    /// The lowest number above all of the type, in plain digits.
+    fn out_of_range() -> String;
+}
+
+macro_rules! impl_number {
+    ($($type:ident)*) => {$(
+        impl Number for $type {
+            const NAME: &str = stringify!($type);
+            const MOST_DIGITS: u32 = $type::MAX.ilog10() + 1;
+            const IS_SIGNED: bool = $type::MIN != 0;
+
+            fn random(random: &mut Random, digits: u32) -> $type {
+                let low = $type::pow(10, digits - 1);
+                let high = $type::checked_pow(10, digits).map_or($type::MAX, |end| end - 1);
+                low + random.below((high - low) as u128 + 1) as $type
+            }
+
+            fn negated(self) -> $type {
+                self.wrapping_neg()
+            }
+
+            fn out_of_range() -> String {
+                match ($type::MAX as u128).checked_add(1) {
+                    Some(number) => number.to_string(),
+                    None => String::from("340282366920938463463374607431768211456"),
+                }
+            }
+        }
+    )*};
+}
+
+impl_number! { u8 i32 u32 i64 u64 i128 u128 }
+
+/// Random numbers by splitmix64, the same in each run.
+pub struct Random {
+    state: u64,
+}
+
+impl Random {
+    pub fn new() -> Random {
+        Random { state: 0 }
+    }
+
+    fn next(&mut self) -> u64 {
+        self.state = self.state.wrapping_add(0x9e3779b97f4a7c15);
+        let mixed = (self.state ^ (self.state >> 30)).wrapping_mul(0xbf58476d1ce4e5b9);
+        let mixed = (mixed ^ (mixed >> 27)).wrapping_mul(0x94d049bb133111eb);
+        mixed ^ (mixed >> 31)
+    }
+
+    /// A number below the bound.
+    pub fn below(&mut self, bound: u128) -> u128 {
+        (u128::from(self.next()) << 64 | u128::from(self.next())) % bound
+    }
+}
+
+/// The signs of the numbers of a batch.
+#[derive(Clone, Copy, PartialEq)]
+pub enum Signs {
+    Positive,
+    Negative,
+    Mixed,
+}
+
+/// The lengths of the numbers of a batch, and their signs.
+#[derive(Clone)]
+pub struct Sizes {
+    digits: RangeInclusive<u32>,
+    signs: Signs,
+}
+
+impl Sizes {
+    /// All that are measured for a type: each length alone, for each sign, and mixtures of the
+    /// lengths of each group and of all lengths.
+    pub fn all<N: Number>() -> Vec<Sizes> {
+        let mut all = Vec::new();
+        for digits in 1..=N::MOST_DIGITS {
+            let digits = digits..=digits;
+            all.push(Sizes { digits, signs: Signs::Positive });
+        }
+        if N::IS_SIGNED {
+            let negative = all.clone().into_iter();
+            all.extend(negative.map(|sizes| Sizes { signs: Signs::Negative, ..sizes }));
+        }
+        let signs = if N::IS_SIGNED { Signs::Mixed } else { Signs::Positive };
+        let mut groups = Vec::from([1..=3, 4..=6, 7..=9, 10..=DIGITS_OF_64_BITS, 1..=N::MOST_DIGITS]);
+        if N::MOST_DIGITS > DIGITS_OF_64_BITS {
+            groups = Vec::from([1..=3, 4..=6, 7..=9, 10..=19, 20..=N::MOST_DIGITS, 1..=N::MOST_DIGITS]);
+        }
+        groups.retain(|digits| *digits.start() < N::MOST_DIGITS);
+        for digits in groups {
+            let end = N::MOST_DIGITS.min(*digits.end());
+            all.push(Sizes { digits: *digits.start()..=end, signs });
+        }
+        all.dedup_by(|a, b| a.digits == b.digits && a.signs == b.signs);
+        all
+    }
+
+    /// The group of the table that numbers of these lengths belong to.
+    pub fn group<N: Number>(&self) -> &'static str {
+        let is_wide = N::MOST_DIGITS > DIGITS_OF_64_BITS;
+        match (*self.digits.start(), *self.digits.end()) {
+            (_, ..=3) => "1 to 3 digits",
+            (4.., ..=6) => "4 to 6 digits",
+            (7.., ..=9) => "7 to 9 digits",
+            (10.., end) if !is_wide || end < DIGITS_OF_64_BITS => "10 digits to 64 bits full",
+            (DIGITS_OF_64_BITS.., _) => "past 64 bits",
+            _ => "all lengths mixed",
+        }
+    }
+
+    /// The lengths in short, as `7`, `-7` or `4-6`.
+    pub fn label(&self) -> String {
+        let (start, end) = (self.digits.start(), self.digits.end());
+        match self.signs {
+            Signs::Negative => format!("-{start}"),
+            _ if start == end => start.to_string(),
+            _ => format!("{start}-{end} mixed"),
+        }
+    }
+
+    /// A batch of numbers of these lengths, each length as often as the others.
+    pub fn batch<N: Number>(&self) -> Vec<N> {
+        let mut random = Random::new();
+        let (start, end) = (*self.digits.start(), *self.digits.end());
+        let number = |_| {
+            let digits = start + random.below(u128::from(end - start) + 1) as u32;
+            let number = N::random(&mut random, digits);
+            match self.signs {
+                Signs::Positive => number,
+                Signs::Negative => number.negated(),
+                Signs::Mixed if random.below(2) == 0 => number,
+                Signs::Mixed => number.negated(),
+            }
+        };
+        (0..BATCH).map(number).collect()
+    }
+}

@@ -1,0 +1,40 @@
+//! A format of a user's own, whose texts are constants.
+ghost use Rattle.num_format_bench.specs.Constants.{constants};
+
+use num_format::utils::{DecimalStr, InfinityStr, MinusSignStr, NanStr, PlusSignStr, SeparatorStr};
+use num_format::{Format, Grouping};
+
+/// The data of the locale `en`, but for a separator of eight bytes, the most that there is.
+pub struct Constants;
+
+impl Format for Constants {
+    ghost answers = { λ _. constants };
+
+    fn decimal(&self) -> DecimalStr<'_> {
+        DecimalStr::new(".").unwrap()
+    }
+
+    fn grouping(&self) -> Grouping {
+        Grouping::Standard
+    }
+
+    fn infinity(&self) -> InfinityStr<'_> {
+        InfinityStr::new("∞").unwrap()
+    }
+
+    fn minus_sign(&self) -> MinusSignStr<'_> {
+        MinusSignStr::new("-").unwrap()
+    }
+
+    fn nan(&self) -> NanStr<'_> {
+        NanStr::new("NaN").unwrap()
+    }
+
+    fn plus_sign(&self) -> PlusSignStr<'_> {
+        PlusSignStr::new("+").unwrap()
+    }
+
+    fn separator(&self) -> SeparatorStr<'_> {
+        SeparatorStr::new(" . , . |").unwrap()
+    }
+}
