@@ -1,6 +1,6 @@
 //! What plain digits take: printing by `itoa` and reading by std, in loops of the same form.
 
-use crate::original::{Checksum, Sink};
+use crate::original::Checksum;
 use std::str::FromStr;
 
 #[inline(never)]
@@ -12,16 +12,16 @@ fn print_one<N: itoa::Integer>(buffer: &mut itoa::Buffer, n: N) -> &str {
 #[inline(never)]
 pub fn print<N: itoa::Integer + Copy>(numbers: &[N]) -> u64 {
     let mut buffer = itoa::Buffer::new();
-    let mut sum = Checksum::default();
+    let mut checksum = Checksum::default();
     for number in numbers {
-        sum.receive(print_one(&mut buffer, *number));
+        checksum.add(print_one(&mut buffer, *number));
     }
-    sum.sum
+    checksum.sum
 }
 
 #[inline(never)]
-fn read_one<N: FromStr>(text: &str) -> Result<N, N::Err> {
-    text.parse()
+fn read_one<N: FromStr>(text: &str) -> Option<N> {
+    text.parse().ok()
 }
 
 /// Reads texts of the lengths, and returns how many were accepted.
@@ -33,7 +33,7 @@ pub fn read<N: FromStr>(texts: &str, lengths: &[usize], numbers: &mut [N]) -> u6
         let Some((text, rest)) = left.split_at_checked(*length) else {
             break;
         };
-        if let Ok(read) = read_one::<N>(text) {
+        if let Some(read) = read_one::<N>(text) {
             *number = read;
             accepted = accepted.wrapping_add(1);
         }

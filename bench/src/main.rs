@@ -1,28 +1,39 @@
 //! Measures the Rattle crate beside the original crate, in one process.
 //!
-//! Both sides print and read the same batches by the same loops, in turn. Of many rounds the best
-//! counts, since whatever else the processor does only adds to a round. A cell in which the two
-//! sides differ ends the run.
+//! Both sides print, read and look up the same batches by the same loops, in turn. Of many rounds
+//! the best counts, since whatever else the processor does only adds to a round. A cell in which the
+//! two sides differ ends the run.
 
 mod floor;
 mod numbers;
 mod original;
 mod rattle;
 mod table;
+mod texts;
 
-use numbers::{BATCH, Number, Sizes};
+use num_format::Locale;
+use numbers::{BATCH, Number, Random, Sizes};
 use std::hint::black_box;
 use std::time::{Duration, Instant};
 use table::{Cell, Table, Times};
+use texts::Texts;
 
 /// The formats, in the order of their codes.
 const FORMATS: [&str; 6] = ["en", "en_IN", "fr", "en_US_POSIX", "constants", "built"];
 
-/// The ways of printing, in the order of their codes.
-const WAYS: [&str; 3] = ["print Buffer", "print String", "print appended"];
+/// The ways of printing, in the order of their codes, and whether all types are printed so.
+const WAYS: [(&str, bool); 4] = [
+    ("used Buffer", true),
+    ("new Buffer", false),
+    ("to_formatted_string", false),
+    ("append to String", false),
+];
 
-/// The time that a cell is measured for.
-const CELL_TIME: Duration = Duration::from_millis(20);
+/// How often all cells are measured.
+const PASSES: usize = 3;
+
+/// The time that a cell is measured for in a pass.
+const CELL_TIME: Duration = Duration::from_millis(8);
 
 /// The best time of an item for each side, taken in turn.
 fn best<const S: usize>(items: usize, mut sides: [&mut dyn FnMut(); S]) -> [f64; S] {
@@ -45,36 +56,96 @@ struct Run {
 }
 
 impl Run {
-    /// Whether the cell is to be measured.
-    fn wants(&self, name: &str) -> bool {
-        self.words.iter().all(|word| name.contains(word))
+    /// Measures a cell, if it is wanted.
+    fn measure(&mut self, cell: Cell, measure: impl FnOnce(&str) -> Times) {
+        let name = cell.name();
+        if self.words.iter().all(|word| name.contains(word)) {
+            self.table.record(&cell, measure(&name));
+        }
     }
 
-    /// Measures printing of numbers of a type.
-    fn print<N: Number>(&mut self) {
-        for (way, operation) in WAYS.into_iter().enumerate() {
-            for (code, format) in FORMATS.into_iter().enumerate() {
-                for sizes in Sizes::all::<N>() {
-                    let name = Cell::name(operation, format, N::NAME, &sizes.label());
-                    if self.wants(&name) {
-                        let numbers = sizes.batch::<N>();
-                        let times = measure_printing(&name, &numbers, way as u8, code as u8);
-                        self.table.cells.push(Cell {
-                            operation,
-                            format,
-                            type_name: N::NAME,
-                            sizes: sizes.label(),
-                            group: sizes.group::<N>(),
-                            times,
-                        });
-                    }
-                }
+    /// Measures a type at all sizes under all formats.
+    fn measure_type<N: Number>(&mut self) {
+        let is_chosen = ["i64", "u128"].contains(&N::NAME);
+        for (way, (operation, is_for_all)) in WAYS.into_iter().enumerate() {
+            if is_for_all || is_chosen {
+                self.measure_sizes::<N>(operation, |name, sizes, format| {
+                    measure_printing::<N>(name, &sizes.batch(), way as u8, format)
+                });
             }
+        }
+        self.measure_sizes::<N>("read", |name, sizes, format| {
+            measure_reading::<N>(name, &sizes.batch(), format)
+        });
+        let mut refuse = |operation, texts: Vec<String>| {
+            let cell = Cell {
+                operation: "refuse",
+                format: "en",
+                type_name: N::NAME,
+                sizes: String::from(operation),
+                group: operation,
+            };
+            self.measure(cell, |name| measure_refusing::<N>(name, &Texts::from_all(texts)));
+        };
+        let mut random = Random::new();
+        refuse("no digit", texts::without_digit(&mut random));
+        refuse("another numeral", texts::with_other_numeral::<N>(&mut random));
+        refuse("out of range", texts::out_of_range::<N>(&mut random));
+    }
+
+    /// Measures an operation at all sizes of a type under all formats.
+    fn measure_sizes<N: Number>(
+        &mut self,
+        operation: &'static str,
+        measure: impl Fn(&str, &Sizes, u8) -> Times,
+    ) {
+        for (code, format) in FORMATS.into_iter().enumerate() {
+            for sizes in Sizes::all::<N>() {
+                let cell = Cell {
+                    operation,
+                    format,
+                    type_name: N::NAME,
+                    sizes: sizes.label(),
+                    group: sizes.group::<N>(),
+                };
+                self.measure(cell, |name| measure(name, &sizes, code as u8));
+            }
+        }
+    }
+
+    /// Measures looking names up.
+    fn measure_names(&mut self) {
+        let names = Locale::available_names();
+        let with_underscores = Vec::from_iter(names.iter().map(|name| name.replace('-', "_")));
+        let refused = names.iter().map(|name| format!("{name}-ZZ"));
+        let mut random = Random::new();
+        let mut at_random = || random.below(names.len() as u128) as usize;
+        let some = Vec::from_iter((0..BATCH).map(|_| names[at_random()]));
+        let some_underscored = (0..BATCH).map(|_| &with_underscores[at_random()]);
+        let some_underscored = Texts::from_all(some_underscored);
+        for (group, texts) in [
+            ("all names in turn", Texts::from_all(names)),
+            ("all names in turn, underscores", Texts::from_all(&with_underscores)),
+            ("names at random", Texts::from_all(some)),
+            ("names at random, underscores", some_underscored),
+            ("en", Texts::from_all(["en"; BATCH])),
+            ("refused: xx", Texts::from_all(["xx"; BATCH])),
+            ("refused: NAME-ZZ in turn", Texts::from_all(refused)),
+            ("refused: 64 letters", Texts::from_all(["a".repeat(64).as_str(); BATCH])),
+        ] {
+            let cell = Cell {
+                operation: "look up",
+                format: "",
+                type_name: "Locale",
+                sizes: String::from(group),
+                group,
+            };
+            self.measure(cell, |name| measure_names(name, &texts));
         }
     }
 }
 
-/// Measures printing of these numbers.
+/// Measures printing of numbers.
 fn measure_printing<N: Number>(name: &str, numbers: &[N], way: u8, format: u8) -> Times {
     let ours = rattle::texts(numbers, way, format);
     let theirs = original::texts(numbers, way, format);
@@ -83,33 +154,111 @@ fn measure_printing<N: Number>(name: &str, numbers: &[N], way: u8, format: u8) -
     }
     assert_eq!(ours.len(), theirs.len(), "{name}");
     let (mut ours, mut theirs) = (0, 0);
-    let [port, original, floor] = best(BATCH, [
-        &mut || ours = rattle::print(black_box(numbers), way, black_box(format)),
-        &mut || theirs = original::print(black_box(numbers), way, black_box(format)),
-        &mut || _ = black_box(floor::print(black_box(numbers))),
-    ]);
+    let [port, original, floor] = best(
+        numbers.len(),
+        [
+            &mut || ours = rattle::print(black_box(numbers), way, black_box(format)),
+            &mut || theirs = original::print(black_box(numbers), way, black_box(format)),
+            &mut || _ = black_box(floor::print(black_box(numbers))),
+        ],
+    );
     assert_eq!(ours, theirs, "{name}");
     Times { port, original, floor: Some(floor) }
+}
+
+/// Measures reading of the texts of numbers.
+fn measure_reading<N: Number>(name: &str, numbers: &[N], format: u8) -> Times {
+    let Texts { text, lengths } = Texts::formatted(numbers, format);
+    let plain = Texts::plain(numbers);
+    let [mut ours, mut theirs, mut plainly] = [const { Vec::new() }; 3].map(|mut read: Vec<N>| {
+        read.resize(numbers.len(), N::default());
+        read
+    });
+    let [port, original, floor] = best(
+        numbers.len(),
+        [
+            &mut || {
+                let accepted = rattle::read(black_box(&text), &lengths, black_box(format), &mut ours);
+                assert_eq!(accepted, BATCH as u64, "{name}");
+            },
+            &mut || {
+                let accepted = original::read(black_box(&text), &lengths, black_box(format), &mut theirs);
+                assert_eq!(accepted, BATCH as u64, "{name}");
+            },
+            &mut || {
+                let accepted = floor::read(black_box(&plain.text), &plain.lengths, &mut plainly);
+                assert_eq!(accepted, BATCH as u64, "{name}");
+            },
+        ],
+    );
+    for (((ours, theirs), plainly), number) in ours.iter().zip(&theirs).zip(&plainly).zip(numbers) {
+        assert!([ours, theirs, plainly].iter().all(|read| *read == number), "{name}: {number}");
+    }
+    Times { port, original, floor: Some(floor) }
+}
+
+/// Measures refusing of texts.
+fn measure_refusing<N: Number>(name: &str, texts: &Texts) -> Times {
+    let Texts { text, lengths } = texts;
+    let untouched = vec![N::default(); lengths.len()];
+    let [mut ours, mut theirs] = [const { Vec::new() }; 2].map(|_: Vec<N>| untouched.clone());
+    let mut sums = [0, 0];
+    let [our_sum, their_sum] = &mut sums;
+    let [port, original] = best(
+        lengths.len(),
+        [
+            &mut || *our_sum = rattle::read(black_box(text), lengths, 0, &mut ours),
+            &mut || *their_sum = original::read(black_box(text), lengths, 0, &mut theirs),
+        ],
+    );
+    assert_eq!(sums[0], sums[1], "{name}");
+    assert!(ours == untouched && theirs == untouched, "{name}");
+    Times { port, original, floor: None }
+}
+
+/// Measures looking names up.
+fn measure_names(name: &str, texts: &Texts) -> Times {
+    let mut left = texts.text.as_str();
+    for length in &texts.lengths {
+        let (text, rest) = left.split_at(*length);
+        assert_eq!(rattle::name(text), original::name(text), "{name}: {text}");
+        left = rest;
+    }
+    let (mut ours, mut theirs) = (0, 0);
+    let [port, original] = best(
+        texts.lengths.len(),
+        [
+            &mut || ours = rattle::find(black_box(&texts.text), &texts.lengths),
+            &mut || theirs = original::find(black_box(&texts.text), &texts.lengths),
+        ],
+    );
+    assert_eq!(ours, theirs, "{name}");
+    Times { port, original, floor: None }
 }
 
 fn main() {
     let mut words = Vec::new();
     let mut shows_cells = false;
-    for argument in std::env::args().skip(1) {
+    let mut arguments = std::env::args().skip(1);
+    while let Some(argument) = arguments.next() {
         match argument.as_str() {
             "--cells" => shows_cells = true,
-            _ => words.push(argument),
+            "--only" => words.push(arguments.next().expect("--only needs a word")),
+            _ => panic!("no such option: {argument}"),
         }
     }
     let is_whole = words.is_empty();
     let mut run = Run { words, table: Table::default() };
-    run.print::<u8>();
-    run.print::<i32>();
-    run.print::<u32>();
-    run.print::<i64>();
-    run.print::<u64>();
-    run.print::<i128>();
-    run.print::<u128>();
+    for _ in 0..PASSES {
+        run.measure_type::<u8>();
+        run.measure_type::<i32>();
+        run.measure_type::<u32>();
+        run.measure_type::<i64>();
+        run.measure_type::<u64>();
+        run.measure_type::<i128>();
+        run.measure_type::<u128>();
+        run.measure_names();
+    }
     if shows_cells {
         run.table.print_cells();
     }

@@ -40,9 +40,6 @@ pub trait Number:
 
     /// The number with the other sign.
     fn negated(self) -> Self;
-
-    /// The lowest number above all of the type, in plain digits.
-    fn out_of_range() -> String;
 }
 
 macro_rules! impl_number {
@@ -60,13 +57,6 @@ macro_rules! impl_number {
 
             fn negated(self) -> $type {
                 self.wrapping_neg()
-            }
-
-            fn out_of_range() -> String {
-                match ($type::MAX as u128).checked_add(1) {
-                    Some(number) => number.to_string(),
-                    None => String::from("340282366920938463463374607431768211456"),
-                }
             }
         }
     )*};
@@ -113,13 +103,18 @@ pub struct Sizes {
 }
 
 impl Sizes {
+    /// Positive numbers of these lengths.
+    pub fn positive(digits: RangeInclusive<u32>) -> Sizes {
+        let signs = Signs::Positive;
+        Sizes { digits, signs }
+    }
+
     /// All that are measured for a type: each length alone, for each sign, and mixtures of the
     /// lengths of each group and of all lengths.
     pub fn all<N: Number>() -> Vec<Sizes> {
         let mut all = Vec::new();
         for digits in 1..=N::MOST_DIGITS {
-            let digits = digits..=digits;
-            all.push(Sizes { digits, signs: Signs::Positive });
+            all.push(Sizes::positive(digits..=digits));
         }
         if N::IS_SIGNED {
             let negative = all.clone().into_iter();
@@ -143,6 +138,7 @@ impl Sizes {
     pub fn group<N: Number>(&self) -> &'static str {
         let is_wide = N::MOST_DIGITS > DIGITS_OF_64_BITS;
         match (*self.digits.start(), *self.digits.end()) {
+            (_, ..=3) if N::NAME == "u8" => "1 to 3 digits, u8",
             (_, ..=3) => "1 to 3 digits",
             (4.., ..=6) => "4 to 6 digits",
             (7.., ..=9) => "7 to 9 digits",

@@ -5,15 +5,18 @@ use num_format::utils::{
     DecimalStr, InfinityStr, MinusSignStr, NanStr, PlusSignStr, SeparatorStr,
 };
 use num_format::{
-    Buffer, CustomFormat, Error, Format, Grouping, Locale, ToFormattedStr, ToFormattedString,
+    Buffer, CustomFormat, Error, ErrorKind, Format, Grouping, Locale, ToFormattedStr, ToFormattedString,
     WriteFormatted,
 };
 
 /// The code of printing into a [`Buffer`] that is used again.
-const BUFFER: u8 = 0;
+const USED_BUFFER: u8 = 0;
+
+/// The code of printing into a new [`Buffer`].
+const NEW_BUFFER: u8 = 1;
 
 /// The code of printing into a new `String`.
-const STRING: u8 = 1;
+const NEW_STRING: u8 = 2;
 
 /// The code of [`Constants`].
 const CONSTANTS: u8 = 4;
@@ -91,6 +94,22 @@ impl Printer for UsedBuffer {
     }
 }
 
+struct NewBuffer {
+    buffer: Buffer,
+}
+
+impl Printer for NewBuffer {
+    #[inline(never)]
+    fn print<N: ToFormattedStr, F: Format>(&mut self, n: &N, format: &F) -> bool {
+        self.buffer = Buffer::new();
+        self.buffer.write_formatted(n, format) > 0
+    }
+
+    fn text(&self) -> &str {
+        self.buffer.as_str()
+    }
+}
+
 struct NewString {
     text: String,
 }
@@ -133,14 +152,27 @@ pub struct Checksum {
     pub sum: u64,
 }
 
-impl Sink for Checksum {
-    fn receive(&mut self, text: &str) -> bool {
+impl Checksum {
+    pub fn add(&mut self, text: &str) {
         let last = text.as_bytes().last().copied().unwrap_or(0);
         self.sum = self
             .sum
             .wrapping_mul(31)
             .wrapping_add(text.len() as u64)
             .wrapping_add(u64::from(last));
+    }
+
+    fn add_error(&mut self, error: &Error) {
+        match error.kind() {
+            ErrorKind::ParseLocale(text) | ErrorKind::ParseNumber(text) => self.add(text),
+            _ => {}
+        }
+    }
+}
+
+impl Sink for Checksum {
+    fn receive(&mut self, text: &str) -> bool {
+        self.add(text);
         true
     }
 }
@@ -192,11 +224,15 @@ fn print_by<N: ToFormattedStr + Copy, K: Sink>(
     sink: &mut K,
 ) -> bool {
     match way {
-        BUFFER => {
+        USED_BUFFER => {
             let buffer = Buffer::new();
             print_under(numbers, format, &mut UsedBuffer { buffer }, sink)
         }
-        STRING => {
+        NEW_BUFFER => {
+            let buffer = Buffer::new();
+            print_under(numbers, format, &mut NewBuffer { buffer }, sink)
+        }
+        NEW_STRING => {
             let text = String::new();
             print_under(numbers, format, &mut NewString { text }, sink)
         }
@@ -210,11 +246,11 @@ fn print_by<N: ToFormattedStr + Copy, K: Sink>(
 /// Prints numbers, and returns a sum over their texts.
 #[inline(never)]
 pub fn print<N: ToFormattedStr + Copy>(numbers: &[N], way: u8, format: u8) -> u64 {
-    let mut sum = Checksum::default();
-    if !print_by(numbers, way, format, &mut sum) {
+    let mut checksum = Checksum::default();
+    if !print_by(numbers, way, format, &mut checksum) {
         return 0;
     }
-    sum.sum
+    checksum.sum
 }
 
 /// The texts of numbers, each with a line feed after it.
@@ -225,8 +261,18 @@ pub fn texts<N: ToFormattedStr + Copy>(numbers: &[N], way: u8, format: u8) -> St
 }
 
 #[inline(never)]
-fn read_one<N: FromFormattedStr, F: Format>(text: &str, format: &F) -> Result<N, Error> {
-    N::from_formatted_str(text, format)
+fn read_one<N: FromFormattedStr, F: Format>(
+    text: &str,
+    format: &F,
+    errors: &mut Checksum,
+) -> Option<N> {
+    match N::from_formatted_str(text, format) {
+        Ok(number) => Some(number),
+        Err(error) => {
+            errors.add_error(&error);
+            None
+        }
+    }
 }
 
 fn read_each<N: FromFormattedStr, F: Format>(
@@ -237,20 +283,21 @@ fn read_each<N: FromFormattedStr, F: Format>(
 ) -> u64 {
     let mut left = texts;
     let mut accepted = 0u64;
+    let mut errors = Checksum::default();
     for (number, length) in numbers.iter_mut().zip(lengths) {
         let Some((text, rest)) = left.split_at_checked(*length) else {
             break;
         };
-        if let Ok(read) = read_one::<N, F>(text, format) {
+        if let Some(read) = read_one::<N, F>(text, format, &mut errors) {
             *number = read;
             accepted = accepted.wrapping_add(1);
         }
         left = rest;
     }
-    accepted
+    accepted.wrapping_add(errors.sum)
 }
 
-/// Reads texts of the lengths, and returns how many were accepted.
+/// Reads texts of the lengths, and returns how many were accepted, plus a sum over the errors.
 #[inline(never)]
 pub fn read<N: FromFormattedStr>(
     texts: &str,
@@ -271,29 +318,37 @@ pub fn read<N: FromFormattedStr>(
 }
 
 #[inline(never)]
-fn find_one(name: &str) -> Result<Locale, Error> {
-    Locale::from_name(name)
+fn find_one(name: &str, errors: &mut Checksum) -> Option<Locale> {
+    match Locale::from_name(name) {
+        Ok(locale) => Some(locale),
+        Err(error) => {
+            errors.add_error(&error);
+            None
+        }
+    }
 }
 
-/// Looks up names of the lengths, and returns how many are names of `en` or refused.
+/// Looks up names of the lengths, and returns how many are names of `en`, plus a sum over the
+/// errors.
 #[inline(never)]
 pub fn find(names: &str, lengths: &[usize]) -> u64 {
     let mut left = names;
-    let mut count = 0u64;
+    let mut found = 0u64;
+    let mut errors = Checksum::default();
     for length in lengths {
         let Some((name, rest)) = left.split_at_checked(*length) else {
             break;
         };
-        match find_one(name) {
-            Ok(locale) if locale != Locale::en => {}
-            _ => count = count.wrapping_add(1),
+        if find_one(name, &mut errors) == Some(Locale::en) {
+            found = found.wrapping_add(1);
         }
         left = rest;
     }
-    count
+    found.wrapping_add(errors.sum)
 }
 
 /// The name of the locale that the text names.
 pub fn name(text: &str) -> Option<String> {
-    find_one(text).ok().map(|locale| locale.name().to_owned())
+    let locale = find_one(text, &mut Checksum::default())?;
+    Some(locale.name().to_owned())
 }

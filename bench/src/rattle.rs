@@ -91,7 +91,7 @@ pub fn texts<N: Exported>(numbers: &[N], way: u8, format: u8) -> String {
     String::from_utf8(texts).expect("texts are UTF-8")
 }
 
-/// Reads texts of the lengths, and returns how many were accepted.
+/// Reads texts of the lengths, and returns how many were accepted, plus a sum over the errors.
 pub fn read<N: Exported>(texts: &str, lengths: &[usize], format: u8, numbers: &mut [N]) -> u64 {
     unsafe {
         (N::FUNCTIONS.read)(
@@ -106,7 +106,7 @@ pub fn read<N: Exported>(texts: &str, lengths: &[usize], format: u8, numbers: &m
     }
 }
 
-/// Looks up names of the lengths, and returns how many are names of `en` or refused.
+/// Looks up names of the lengths, and returns how many are names of `en`, plus a sum over the errors.
 pub fn find(names: &str, lengths: &[usize]) -> u64 {
     unsafe { rattle_find(names.as_ptr(), names.len(), lengths.as_ptr(), lengths.len()) }
 }

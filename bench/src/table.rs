@@ -1,19 +1,10 @@
-//! What was measured: a line for each cell, and the table by operation, format and digits.
+//! What was measured: a line for each cell, and the table by operation, digits and format.
 
+use std::collections::HashMap;
 use std::fs;
 use std::io;
 
-/// The rows of an operation in the table, in order.
-const GROUPS: [&str; 6] = [
-    "1 to 3 digits",
-    "4 to 6 digits",
-    "7 to 9 digits",
-    "10 digits to 64 bits full",
-    "past 64 bits",
-    "all lengths mixed",
-];
-
-/// The columns, and the formats of each.
+/// The columns of the table, and the formats of each.
 const COLUMNS: [(&str, &[&str]); 4] = [
     ("en, en_IN, fr", &["en", "en_IN", "fr"]),
     ("en_US_POSIX", &["en_US_POSIX"]),
@@ -22,95 +13,167 @@ const COLUMNS: [(&str, &[&str]); 4] = [
 ];
 
 /// The nanoseconds that one number, text or name takes.
+#[derive(Clone, Copy)]
 pub struct Times {
     pub port: f64,
     pub original: f64,
+    /// The time that plain digits take, where there is such a thing.
     pub floor: Option<f64>,
 }
 
-/// What was measured, and how long it takes.
+impl Times {
+    /// The time of the port over that of the original.
+    fn ratio(&self) -> Option<f64> {
+        Some(self.port / self.original)
+    }
+
+    /// The time of the port over that of plain digits.
+    fn ratio_to_floor(&self) -> Option<f64> {
+        Some(self.port / self.floor?)
+    }
+
+    /// The lower time of each side.
+    fn best(&self, other: Times) -> Times {
+        Times {
+            port: self.port.min(other.port),
+            original: self.original.min(other.original),
+            floor: self.floor.zip(other.floor).map(|(a, b)| a.min(b)),
+        }
+    }
+}
+
+/// What is measured, and where it stands in the table.
+#[derive(Clone)]
 pub struct Cell {
     pub operation: &'static str,
     pub format: &'static str,
     pub type_name: &'static str,
+    /// The lengths of the numbers, or what else tells the cell from others.
     pub sizes: String,
+    /// The row of the table.
     pub group: &'static str,
-    pub times: Times,
 }
 
 impl Cell {
-    /// The name of the cell, which an option chooses cells by.
-    pub fn name(operation: &str, format: &str, type_name: &str, sizes: &str) -> String {
-        format!("{operation} {format} {type_name} {sizes}")
-    }
-
-    /// The time of the port over that of the original.
-    fn ratio(&self) -> f64 {
-        self.times.port / self.times.original
+    /// The name, which an option chooses cells by.
+    pub fn name(&self) -> String {
+        let parts = [self.operation, self.format, self.type_name, &self.sizes];
+        parts.join(" ")
     }
 }
 
-/// All cells that were measured.
+/// The cells that were measured, in order.
 #[derive(Default)]
 pub struct Table {
-    pub cells: Vec<Cell>,
+    rows: Vec<(Cell, Times)>,
+    places: HashMap<String, usize>,
 }
 
 impl Table {
-    /// Prints a line for each cell.
-    pub fn print_cells(&self) {
-        println!("{:<17}{:<13}{:<6}{:<14}{:>8}{:>10}{:>8}{:>7}{:>9}",
-            "operation", "format", "type", "digits", "port", "original", "floor", "ratio", "to floor");
-        for cell in &self.cells {
-            let Times { port, original, floor } = cell.times;
-            let floors = floor.map_or(String::new(), |floor| {
-                format!("{floor:8.1}{:7.2}{:9.2}", cell.ratio(), port / floor)
-            });
-            let ratio = if floor.is_none() { format!("{:15.2}", cell.ratio()) } else { floors };
-            println!("{:<17}{:<13}{:<6}{:<14}{port:8.1}{original:10.1}{ratio}",
-                cell.operation, cell.format, cell.type_name, cell.sizes);
+    /// Adds a cell, or keeps the better times of one that was measured before.
+    pub fn record(&mut self, cell: &Cell, times: Times) {
+        let place = *self.places.entry(cell.name()).or_insert(self.rows.len());
+        match self.rows.get_mut(place) {
+            Some((_, best)) => *best = best.best(times),
+            None => self.rows.push((cell.clone(), times)),
         }
-        println!();
     }
 
-    /// Prints the highest ratio of each group, and the cell that has it.
+    /// Prints a line for each cell.
+    pub fn print_cells(&self) {
+        println!("| Operation | Format | Type | Digits | Port, ns | Original, ns | Plain digits, ns | Port / original | Port / plain |");
+        println!("|---|---|---|---|---|---|---|---|---|");
+        for (cell, times) in &self.rows {
+            let shown = |number: Option<f64>, places: usize| {
+                number.map_or(String::new(), |number| format!("{number:.places$}"))
+            };
+            println!(
+                "| {} | {} | {} | {} | {} | {} | {} | {} | {} |",
+                cell.operation,
+                cell.format,
+                cell.type_name,
+                cell.sizes,
+                shown(Some(times.port), 1),
+                shown(Some(times.original), 1),
+                shown(times.floor, 1),
+                shown(times.ratio(), 2),
+                shown(times.ratio_to_floor(), 2),
+            );
+        }
+    }
+
+    /// Prints the median and the highest ratio to the original of each group, and the cell of the
+    /// highest, and then those to plain digits.
     pub fn print_groups(&self) {
-        println!("Time of the port over that of the original: median and highest of the cells, and the cell of the highest.");
-        let mut operations: Vec<&str> = self.cells.iter().map(|cell| cell.operation).collect();
-        operations.dedup();
-        for operation in operations {
-            println!("\n{operation}");
-            for group in GROUPS {
-                self.print_group(operation, group);
+        println!("\nPort / original: median, highest (cell of the highest)");
+        self.print_ratios(Times::ratio);
+        println!("\nPort / plain digits: median, highest (cell of the highest)");
+        self.print_ratios(Times::ratio_to_floor);
+    }
+
+    fn print_ratios(&self, ratio: fn(&Times) -> Option<f64>) {
+        for operation in self.distinct(|_| true, |cell| cell.operation) {
+            let groups = self.distinct(
+                |(cell, times)| cell.operation == operation && ratio(times).is_some(),
+                |cell| cell.group,
+            );
+            if groups.is_empty() {
+                continue;
+            }
+            let names = COLUMNS.map(|(name, _)| name).join(" | ");
+            println!("\n| {operation} | {names} |\n|---|---|---|---|---|");
+            for group in groups {
+                let row = COLUMNS.map(|(_, formats)| self.entry(operation, group, formats, ratio));
+                println!("| {group} | {} |", row.join(" | "));
             }
         }
     }
 
-    fn print_group(&self, operation: &str, group: &str) {
-        let mut line = String::new();
-        for (_, formats) in COLUMNS {
-            let mut cells: Vec<&Cell> = self.cells.iter().filter(|cell| {
-                cell.operation == operation && cell.group == group && formats.contains(&cell.format)
-            }).collect();
-            cells.sort_by(|a, b| a.ratio().total_cmp(&b.ratio()));
-            let Some(highest) = cells.last() else { continue };
-            let name = Cell::name("", highest.format, highest.type_name, &highest.sizes);
-            let median = cells[cells.len() / 2].ratio();
-            line += &format!("{median:6.2}{:6.2} {:<24}", highest.ratio(), name.trim());
+    /// A part of those cells, each value once, in order.
+    fn distinct(
+        &self,
+        is_wanted: impl Fn(&(Cell, Times)) -> bool,
+        part: impl Fn(&Cell) -> &'static str,
+    ) -> Vec<&'static str> {
+        let mut parts = Vec::new();
+        for row in self.rows.iter().filter(|row| is_wanted(row)) {
+            if !parts.contains(&part(&row.0)) {
+                parts.push(part(&row.0));
+            }
         }
-        if !line.is_empty() {
-            println!("{group:<27}{line}");
-        }
+        parts
+    }
+
+    /// The median and the highest ratio of an operation, a group and formats.
+    fn entry(
+        &self,
+        operation: &str,
+        group: &str,
+        formats: &[&str],
+        ratio: fn(&Times) -> Option<f64>,
+    ) -> String {
+        let is_here = |cell: &Cell| {
+            cell.operation == operation && cell.group == group && formats.contains(&cell.format)
+        };
+        let rows = self.rows.iter().filter(|(cell, _)| is_here(cell));
+        let mut ratios = Vec::from_iter(rows.filter_map(|(cell, times)| Some((ratio(times)?, cell))));
+        ratios.sort_by(|a, b| a.0.total_cmp(&b.0));
+        let Some((highest, cell)) = ratios.last() else {
+            return String::new();
+        };
+        let median = ratios[ratios.len() / 2].0;
+        let place = [cell.format, cell.type_name, &cell.sizes].join(" ");
+        format!("{median:.2}, {highest:.2} ({})", place.trim())
     }
 
     /// Writes the cells to a file, a line for each, with tabs between the fields.
     pub fn write(&self, path: &str) -> io::Result<()> {
-        let mut text = String::from("operation\tformat\ttype\tdigits\tgroup\tport\toriginal\tfloor\n");
-        for cell in &self.cells {
-            let Times { port, original, floor } = cell.times;
+        let mut text = String::from("operation\tformat\ttype\tdigits\tgroup\tport\toriginal\tplain\n");
+        for (cell, times) in &self.rows {
+            let Times { port, original, floor } = times;
             let floor = floor.map_or(String::new(), |floor| format!("{floor:.2}"));
-            text += &format!("{}\t{}\t{}\t{}\t{}\t{port:.2}\t{original:.2}\t{floor}\n",
-                cell.operation, cell.format, cell.type_name, cell.sizes, cell.group);
+            let Cell { operation, format, type_name, sizes, group } = cell;
+            text += &format!("{operation}\t{format}\t{type_name}\t{sizes}\t{group}\t{port:.2}\t{original:.2}\t{floor}\n");
         }
         fs::write(path, text)
     }

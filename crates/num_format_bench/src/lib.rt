@@ -10,6 +10,7 @@
 #![tactic(auto)]
 ghost use Rattle.std.specs.Prelude.{IsUtf8};
 
+mod checksum;
 mod constants;
 mod formats;
 pub mod halves;
@@ -145,7 +146,7 @@ pub extern "C" fn rattle_texts_u128(
     printing::texts::<u128, _>(alloc, numbers, way, format, texts)
 }
 
-/// Reads texts of the lengths as `u8`, and returns how many were accepted.
+/// Reads texts of the lengths as `u8`, and returns how many were accepted, plus a sum over the errors.
 #[unsafe(no_mangle)]
 pub extern "C" fn rattle_read_u8(
     texts: &[u8],
@@ -158,7 +159,7 @@ pub extern "C" fn rattle_read_u8(
     reading::read::<u8, _>(texts, lengths, format, numbers)
 }
 
-/// Reads texts of the lengths as `i32`, and returns how many were accepted.
+/// Reads texts of the lengths as `i32`, and returns how many were accepted, plus a sum over the errors.
 #[unsafe(no_mangle)]
 pub extern "C" fn rattle_read_i32(
     texts: &[u8],
@@ -171,7 +172,7 @@ pub extern "C" fn rattle_read_i32(
     reading::read::<i32, _>(texts, lengths, format, numbers)
 }
 
-/// Reads texts of the lengths as `u32`, and returns how many were accepted.
+/// Reads texts of the lengths as `u32`, and returns how many were accepted, plus a sum over the errors.
 #[unsafe(no_mangle)]
 pub extern "C" fn rattle_read_u32(
     texts: &[u8],
@@ -184,7 +185,7 @@ pub extern "C" fn rattle_read_u32(
     reading::read::<u32, _>(texts, lengths, format, numbers)
 }
 
-/// Reads texts of the lengths as `i64`, and returns how many were accepted.
+/// Reads texts of the lengths as `i64`, and returns how many were accepted, plus a sum over the errors.
 #[unsafe(no_mangle)]
 pub extern "C" fn rattle_read_i64(
     texts: &[u8],
@@ -197,7 +198,7 @@ pub extern "C" fn rattle_read_i64(
     reading::read::<i64, _>(texts, lengths, format, numbers)
 }
 
-/// Reads texts of the lengths as `u64`, and returns how many were accepted.
+/// Reads texts of the lengths as `u64`, and returns how many were accepted, plus a sum over the errors.
 #[unsafe(no_mangle)]
 pub extern "C" fn rattle_read_u64(
     texts: &[u8],
@@ -210,7 +211,7 @@ pub extern "C" fn rattle_read_u64(
     reading::read::<u64, _>(texts, lengths, format, numbers)
 }
 
-/// Reads texts of the lengths as `i128`, and returns how many were accepted.
+/// Reads texts of the lengths as `i128`, and returns how many were accepted, plus a sum over the errors.
 #[unsafe(no_mangle)]
 pub extern "C" fn rattle_read_i128(
     texts: &[u8],
@@ -223,7 +224,7 @@ pub extern "C" fn rattle_read_i128(
     reading::read::<i128, _>(texts, lengths, format, numbers)
 }
 
-/// Reads texts of the lengths as `u128`, and returns how many were accepted.
+/// Reads texts of the lengths as `u128`, and returns how many were accepted, plus a sum over the errors.
 #[unsafe(no_mangle)]
 pub extern "C" fn rattle_read_u128(
     texts: &[u8],
@@ -236,7 +237,8 @@ pub extern "C" fn rattle_read_u128(
     reading::read::<u128, _>(texts, lengths, format, numbers)
 }
 
-/// Looks up names of the lengths, and returns how many are names of the locale `en` or refused.
+/// Looks up names of the lengths, and returns how many are names of the locale `en`, plus a sum over
+/// the errors.
 #[unsafe(no_mangle)]
 pub extern "C" fn rattle_find(names: &[u8], lengths: &[usize]) -> u64
     requires { IsUtf8 names.now }

@@ -1,15 +1,19 @@
 //! Numbers printed, one call a number.
 
+use crate::checksum::Checksum;
 use crate::constants::Constants;
 use crate::formats::{CONSTANTS, built, locale};
 use num_format::{Buffer, Format, ToFormattedStr, ToFormattedString, WriteFormatted};
 use std::alloc::Global;
 
 /// The code of printing into a [`Buffer`] that is used again.
-const BUFFER: u8 = 0;
+const USED_BUFFER: u8 = 0;
+
+/// The code of printing into a new [`Buffer`].
+const NEW_BUFFER: u8 = 1;
 
 /// The code of printing into a new `String`.
-const STRING: u8 = 1;
+const NEW_STRING: u8 = 2;
 
 /// What numbers are printed into, which keeps the text of the last one.
 trait Printer {
@@ -29,6 +33,24 @@ struct UsedBuffer {
 impl Printer for UsedBuffer {
     #[inline(never)]
     fn print<N: ToFormattedStr, F: Format>(&mut self, n: &N, format: &F) -> bool {
+        self.buffer.write_formatted(n, format) > 0
+    }
+
+    fn text(&self) -> &str {
+        self.buffer.as_str()
+    }
+}
+
+/// A buffer that is made anew for each number.
+#[derive(Drop)]
+struct NewBuffer {
+    buffer: Buffer,
+}
+
+impl Printer for NewBuffer {
+    #[inline(never)]
+    fn print<N: ToFormattedStr, F: Format>(&mut self, n: &N, format: &F) -> bool {
+        self.buffer = Buffer::new();
         self.buffer.write_formatted(n, format) > 0
     }
 
@@ -85,20 +107,9 @@ trait Sink {
     fn receive(&mut self, text: &str) -> bool;
 }
 
-/// A sum over the length and the last byte of each text.
-#[derive(Drop)]
-struct Checksum {
-    sum: u64,
-}
-
 impl Sink for Checksum {
     fn receive(&mut self, text: &str) -> bool {
-        let last = text.as_bytes().last().copied().unwrap_or(0);
-        self.sum = self
-            .sum
-            .wrapping_mul(31)
-            .wrapping_add(text.len() as u64)
-            .wrapping_add(last as u64);
+        self.add(text);
         true
     }
 }
@@ -155,11 +166,15 @@ where
     K: Sink,
 {
     match way {
-        BUFFER => {
+        USED_BUFFER => {
             let buffer = Buffer::new();
             print_under::<N, _, _, _>(numbers, format, &mut UsedBuffer { buffer }, sink)
         }
-        STRING => {
+        NEW_BUFFER => {
+            let buffer = Buffer::new();
+            print_under::<N, _, _, _>(numbers, format, &mut NewBuffer { buffer }, sink)
+        }
+        NEW_STRING => {
             let text = String::new(alloc);
             print_under::<N, _, _, _>(numbers, format, &mut NewString { alloc, text }, sink)
         }
@@ -176,11 +191,11 @@ where
     N: ToFormattedStr + From<S> + Drop,
     S: Copy,
 {
-    let mut sum = Checksum { sum: 0 };
-    if !print_by::<N, _, _>(alloc, numbers, way, format, &mut sum) {
+    let mut checksum = Checksum::new();
+    if !print_by::<N, _, _>(alloc, numbers, way, format, &mut checksum) {
         return 0;
     }
-    sum.sum
+    checksum.sum()
 }
 
 /// Writes the texts of numbers, with a line feed after each, to the beginning of `texts`, and

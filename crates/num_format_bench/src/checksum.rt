@@ -1,0 +1,39 @@
+//! A sum over texts, by which each is used.
+
+use num_format::{Error, ErrorKind};
+
+/// A sum over the length and the last byte of each text.
+#[derive(Drop)]
+pub struct Checksum {
+    sum: u64,
+}
+
+impl Checksum {
+    /// The sum over no text.
+    pub fn new() -> Checksum {
+        Checksum { sum: 0 }
+    }
+
+    /// Adds a text.
+    pub fn add(&mut self, text: &str) {
+        let last = text.as_bytes().last().copied().unwrap_or(0);
+        self.sum = self
+            .sum
+            .wrapping_mul(31)
+            .wrapping_add(text.len() as u64)
+            .wrapping_add(last as u64);
+    }
+
+    /// Adds the text that an error keeps.
+    pub fn add_error(&mut self, error: &Error) {
+        match error.kind() {
+            ErrorKind::ParseLocale(text) | ErrorKind::ParseNumber(text) => self.add(text.as_str()),
+            ErrorKind::Capacity { .. } => {}
+        }
+    }
+
+    /// The sum.
+    pub fn sum(&self) -> u64 {
+        self.sum
+    }
+}
