@@ -261,21 +261,21 @@ pub fn texts<N: ToFormattedStr + Copy>(numbers: &[N], way: u8, format: u8) -> St
 }
 
 #[inline(never)]
-fn read_one<N: FromFormattedStr, F: Format>(
+fn read_one<N: FromFormattedStr + Copy, F: Format>(
     text: &str,
     format: &F,
     errors: &mut Checksum,
 ) -> Option<N> {
-    match N::from_formatted_str(text, format) {
-        Ok(number) => Some(number),
+    match &N::from_formatted_str(text, format) {
+        Ok(number) => Some(*number),
         Err(error) => {
-            errors.add_error(&error);
+            errors.add_error(error);
             None
         }
     }
 }
 
-fn read_each<N: FromFormattedStr, F: Format>(
+fn read_each<N: FromFormattedStr + Copy, F: Format>(
     texts: &str,
     lengths: &[usize],
     format: &F,
@@ -299,7 +299,7 @@ fn read_each<N: FromFormattedStr, F: Format>(
 
 /// Reads texts of the lengths, and returns how many were accepted, plus a sum over the errors.
 #[inline(never)]
-pub fn read<N: FromFormattedStr>(
+pub fn read<N: FromFormattedStr + Copy>(
     texts: &str,
     lengths: &[usize],
     format: u8,
@@ -319,10 +319,10 @@ pub fn read<N: FromFormattedStr>(
 
 #[inline(never)]
 fn find_one(name: &str, errors: &mut Checksum) -> Option<Locale> {
-    match Locale::from_name(name) {
-        Ok(locale) => Some(locale),
+    match &Locale::from_name(name) {
+        Ok(locale) => Some(*locale),
         Err(error) => {
-            errors.add_error(&error);
+            errors.add_error(error);
             None
         }
     }

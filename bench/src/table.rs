@@ -6,7 +6,7 @@ use std::io;
 
 /// The columns of the table, and the formats of each.
 const COLUMNS: [(&str, &[&str]); 4] = [
-    ("en, en_IN, fr", &["en", "en_IN", "fr"]),
+    ("en, en_IN, fr", &["en", "en_IN", "fr", ""]),
     ("en_US_POSIX", &["en_US_POSIX"]),
     ("constants", &["constants"]),
     ("built", &["built"]),
