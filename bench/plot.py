@@ -48,7 +48,7 @@ def main():
         axis.grid(color="#dddddd", linewidth=0.6)
     axes[0].set_ylabel("nanoseconds a number")
     axes[0].set_ylim(bottom=0)
-    axes[0].legend(loc="upper left", frameon=False)
+    axes[-1].legend(loc="upper left")
     figure.suptitle("Printing into a Buffer under the locale en (lower is better)")
     figure.tight_layout()
     figure.savefig(HERE / "speed.svg", metadata={"Date": None})

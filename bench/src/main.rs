@@ -30,10 +30,10 @@ const WAYS: [(&str, bool); 4] = [
 ];
 
 /// How often all cells are measured.
-const PASSES: usize = 3;
+const PASSES: usize = 4;
 
 /// The time that a cell is measured for in a pass.
-const CELL_TIME: Duration = Duration::from_millis(8);
+const CELL_TIME: Duration = Duration::from_millis(6);
 
 /// The best time of an item for each side, taken in turn.
 fn best<const S: usize>(items: usize, mut sides: [&mut dyn FnMut(); S]) -> [f64; S] {
@@ -80,16 +80,21 @@ impl Run {
         let mut refuse = |operation, texts: Vec<String>| {
             let cell = Cell {
                 operation: "refuse",
-                format: "en",
+                format: "",
                 type_name: N::NAME,
                 sizes: String::from(operation),
                 group: operation,
             };
-            self.measure(cell, |name| measure_refusing::<N>(name, &Texts::from_all(texts)));
+            self.measure(cell, |name| {
+                measure_refusing::<N>(name, &Texts::from_all(texts))
+            });
         };
         let mut random = Random::new();
         refuse("no digit", texts::without_digit(&mut random));
-        refuse("another numeral", texts::with_other_numeral::<N>(&mut random));
+        refuse(
+            "another numeral",
+            texts::with_other_numeral::<N>(&mut random),
+        );
         refuse("out of range", texts::out_of_range::<N>(&mut random));
     }
 
@@ -125,13 +130,19 @@ impl Run {
         let some_underscored = Texts::from_all(some_underscored);
         for (group, texts) in [
             ("all names in turn", Texts::from_all(names)),
-            ("all names in turn, underscores", Texts::from_all(&with_underscores)),
+            (
+                "all names in turn, underscores",
+                Texts::from_all(&with_underscores),
+            ),
             ("names at random", Texts::from_all(some)),
             ("names at random, underscores", some_underscored),
             ("en", Texts::from_all(["en"; BATCH])),
             ("refused: xx", Texts::from_all(["xx"; BATCH])),
             ("refused: NAME-ZZ in turn", Texts::from_all(refused)),
-            ("refused: 64 letters", Texts::from_all(["a".repeat(64).as_str(); BATCH])),
+            (
+                "refused: 64 letters",
+                Texts::from_all(["a".repeat(64).as_str(); BATCH]),
+            ),
         ] {
             let cell = Cell {
                 operation: "look up",
@@ -163,7 +174,11 @@ fn measure_printing<N: Number>(name: &str, numbers: &[N], way: u8, format: u8) -
         ],
     );
     assert_eq!(ours, theirs, "{name}");
-    Times { port, original, floor: Some(floor) }
+    Times {
+        port,
+        original,
+        floor: Some(floor),
+    }
 }
 
 /// Measures reading of the texts of numbers.
@@ -178,11 +193,13 @@ fn measure_reading<N: Number>(name: &str, numbers: &[N], format: u8) -> Times {
         numbers.len(),
         [
             &mut || {
-                let accepted = rattle::read(black_box(&text), &lengths, black_box(format), &mut ours);
+                let accepted =
+                    rattle::read(black_box(&text), &lengths, black_box(format), &mut ours);
                 assert_eq!(accepted, BATCH as u64, "{name}");
             },
             &mut || {
-                let accepted = original::read(black_box(&text), &lengths, black_box(format), &mut theirs);
+                let accepted =
+                    original::read(black_box(&text), &lengths, black_box(format), &mut theirs);
                 assert_eq!(accepted, BATCH as u64, "{name}");
             },
             &mut || {
@@ -192,9 +209,16 @@ fn measure_reading<N: Number>(name: &str, numbers: &[N], format: u8) -> Times {
         ],
     );
     for (((ours, theirs), plainly), number) in ours.iter().zip(&theirs).zip(&plainly).zip(numbers) {
-        assert!([ours, theirs, plainly].iter().all(|read| *read == number), "{name}: {number}");
+        assert!(
+            [ours, theirs, plainly].iter().all(|read| *read == number),
+            "{name}: {number}"
+        );
     }
-    Times { port, original, floor: Some(floor) }
+    Times {
+        port,
+        original,
+        floor: Some(floor),
+    }
 }
 
 /// Measures refusing of texts.
@@ -213,7 +237,11 @@ fn measure_refusing<N: Number>(name: &str, texts: &Texts) -> Times {
     );
     assert_eq!(sums[0], sums[1], "{name}");
     assert!(ours == untouched && theirs == untouched, "{name}");
-    Times { port, original, floor: None }
+    Times {
+        port,
+        original,
+        floor: None,
+    }
 }
 
 /// Measures looking names up.
@@ -233,7 +261,11 @@ fn measure_names(name: &str, texts: &Texts) -> Times {
         ],
     );
     assert_eq!(ours, theirs, "{name}");
-    Times { port, original, floor: None }
+    Times {
+        port,
+        original,
+        floor: None,
+    }
 }
 
 fn main() {
@@ -248,7 +280,10 @@ fn main() {
         }
     }
     let is_whole = words.is_empty();
-    let mut run = Run { words, table: Table::default() };
+    let mut run = Run {
+        words,
+        table: Table::default(),
+    };
     for _ in 0..PASSES {
         run.measure_type::<u8>();
         run.measure_type::<i32>();
@@ -264,6 +299,8 @@ fn main() {
     }
     run.table.print_groups();
     if is_whole {
-        run.table.write("cells.tsv").expect("cells.tsv can be written");
+        run.table
+            .write("cells.tsv")
+            .expect("cells.tsv can be written");
     }
 }

@@ -1,6 +1,7 @@
 //! The integer types, and batches of numbers of given lengths.
 
 use crate::rattle::Exported;
+use crate::table::GROUPS;
 use num_format::ToFormattedStr;
 use num_format::parsing::FromFormattedStr;
 use std::fmt::Display;
@@ -118,17 +119,40 @@ impl Sizes {
         }
         if N::IS_SIGNED {
             let negative = all.clone().into_iter();
-            all.extend(negative.map(|sizes| Sizes { signs: Signs::Negative, ..sizes }));
+            all.extend(negative.map(|sizes| Sizes {
+                signs: Signs::Negative,
+                ..sizes
+            }));
         }
-        let signs = if N::IS_SIGNED { Signs::Mixed } else { Signs::Positive };
-        let mut groups = Vec::from([1..=3, 4..=6, 7..=9, 10..=DIGITS_OF_64_BITS, 1..=N::MOST_DIGITS]);
+        let signs = if N::IS_SIGNED {
+            Signs::Mixed
+        } else {
+            Signs::Positive
+        };
+        let mut groups = Vec::from([
+            1..=3,
+            4..=6,
+            7..=9,
+            10..=DIGITS_OF_64_BITS,
+            1..=N::MOST_DIGITS,
+        ]);
         if N::MOST_DIGITS > DIGITS_OF_64_BITS {
-            groups = Vec::from([1..=3, 4..=6, 7..=9, 10..=19, 20..=N::MOST_DIGITS, 1..=N::MOST_DIGITS]);
+            groups = Vec::from([
+                1..=3,
+                4..=6,
+                7..=9,
+                10..=19,
+                20..=N::MOST_DIGITS,
+                1..=N::MOST_DIGITS,
+            ]);
         }
         groups.retain(|digits| *digits.start() < N::MOST_DIGITS);
         for digits in groups {
             let end = N::MOST_DIGITS.min(*digits.end());
-            all.push(Sizes { digits: *digits.start()..=end, signs });
+            all.push(Sizes {
+                digits: *digits.start()..=end,
+                signs,
+            });
         }
         all.dedup_by(|a, b| a.digits == b.digits && a.signs == b.signs);
         all
@@ -138,13 +162,13 @@ impl Sizes {
     pub fn group<N: Number>(&self) -> &'static str {
         let is_wide = N::MOST_DIGITS > DIGITS_OF_64_BITS;
         match (*self.digits.start(), *self.digits.end()) {
-            (_, ..=3) if N::NAME == "u8" => "1 to 3 digits, u8",
-            (_, ..=3) => "1 to 3 digits",
-            (4.., ..=6) => "4 to 6 digits",
-            (7.., ..=9) => "7 to 9 digits",
-            (10.., end) if !is_wide || end < DIGITS_OF_64_BITS => "10 digits to 64 bits full",
-            (DIGITS_OF_64_BITS.., _) => "past 64 bits",
-            _ => "all lengths mixed",
+            (_, ..=3) if N::NAME == "u8" => GROUPS[0],
+            (_, ..=3) => GROUPS[1],
+            (4.., ..=6) => GROUPS[2],
+            (7.., ..=9) => GROUPS[3],
+            (10.., end) if !is_wide || end < DIGITS_OF_64_BITS => GROUPS[4],
+            (DIGITS_OF_64_BITS.., _) => GROUPS[5],
+            _ => GROUPS[6],
         }
     }
 

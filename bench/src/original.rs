@@ -1,12 +1,10 @@
 //! The original crate, called by the same loops as those of `crates/num_format_bench`.
 
 use num_format::parsing::FromFormattedStr;
-use num_format::utils::{
-    DecimalStr, InfinityStr, MinusSignStr, NanStr, PlusSignStr, SeparatorStr,
-};
+use num_format::utils::{DecimalStr, InfinityStr, MinusSignStr, NanStr, PlusSignStr, SeparatorStr};
 use num_format::{
-    Buffer, CustomFormat, Error, ErrorKind, Format, Grouping, Locale, ToFormattedStr, ToFormattedString,
-    WriteFormatted,
+    Buffer, CustomFormat, Error, ErrorKind, Format, Grouping, Locale, ToFormattedStr,
+    ToFormattedString, WriteFormatted,
 };
 
 /// The code of printing into a [`Buffer`] that is used again.
@@ -261,21 +259,21 @@ pub fn texts<N: ToFormattedStr + Copy>(numbers: &[N], way: u8, format: u8) -> St
 }
 
 #[inline(never)]
-fn read_one<N: FromFormattedStr + Copy, F: Format>(
+fn read_one<N: FromFormattedStr, F: Format>(
     text: &str,
     format: &F,
     errors: &mut Checksum,
 ) -> Option<N> {
-    match &N::from_formatted_str(text, format) {
-        Ok(number) => Some(*number),
+    match N::from_formatted_str(text, format) {
+        Ok(number) => Some(number),
         Err(error) => {
-            errors.add_error(error);
+            errors.add_error(&error);
             None
         }
     }
 }
 
-fn read_each<N: FromFormattedStr + Copy, F: Format>(
+fn read_each<N: FromFormattedStr, F: Format>(
     texts: &str,
     lengths: &[usize],
     format: &F,
@@ -299,7 +297,7 @@ fn read_each<N: FromFormattedStr + Copy, F: Format>(
 
 /// Reads texts of the lengths, and returns how many were accepted, plus a sum over the errors.
 #[inline(never)]
-pub fn read<N: FromFormattedStr + Copy>(
+pub fn read<N: FromFormattedStr>(
     texts: &str,
     lengths: &[usize],
     format: u8,
@@ -319,10 +317,10 @@ pub fn read<N: FromFormattedStr + Copy>(
 
 #[inline(never)]
 fn find_one(name: &str, errors: &mut Checksum) -> Option<Locale> {
-    match &Locale::from_name(name) {
-        Ok(locale) => Some(*locale),
+    match Locale::from_name(name) {
+        Ok(locale) => Some(locale),
         Err(error) => {
-            errors.add_error(error);
+            errors.add_error(&error);
             None
         }
     }

@@ -114,8 +114,7 @@ pub fn find(names: &str, lengths: &[usize]) -> u64 {
 /// The name of the locale that the text names.
 pub fn name(text: &str) -> Option<String> {
     let mut name = [0; 64];
-    let length =
-        unsafe { rattle_name(text.as_ptr(), text.len(), name.as_mut_ptr(), name.len()) };
+    let length = unsafe { rattle_name(text.as_ptr(), text.len(), name.as_mut_ptr(), name.len()) };
     let name = str::from_utf8(&name[..length]).expect("names are UTF-8");
     (length > 0).then(|| name.to_owned())
 }

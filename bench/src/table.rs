@@ -5,11 +5,23 @@ use std::fs;
 use std::io;
 
 /// The columns of the table, and the formats of each.
-const COLUMNS: [(&str, &[&str]); 4] = [
-    ("en, en_IN, fr", &["en", "en_IN", "fr", ""]),
+const COLUMNS: [(&str, &[&str]); 5] = [
+    ("", &[""]),
+    ("en, en_IN, fr", &["en", "en_IN", "fr"]),
     ("en_US_POSIX", &["en_US_POSIX"]),
     ("constants", &["constants"]),
     ("built", &["built"]),
+];
+
+/// The rows that are by digits, in order.
+pub const GROUPS: [&str; 7] = [
+    "1 to 3 digits, u8",
+    "1 to 3 digits",
+    "4 to 6 digits",
+    "7 to 9 digits",
+    "10 digits to 64 bits full",
+    "past 64 bits",
+    "all lengths mixed",
 ];
 
 /// The nanoseconds that one number, text or name takes.
@@ -60,6 +72,19 @@ impl Cell {
         let parts = [self.operation, self.format, self.type_name, &self.sizes];
         parts.join(" ")
     }
+
+    /// The name within an operation and a row of the table.
+    fn place(&self) -> String {
+        let sizes = if self.sizes == self.group {
+            ""
+        } else {
+            &self.sizes
+        };
+        [self.format, self.type_name, sizes]
+            .join(" ")
+            .trim()
+            .to_owned()
+    }
 }
 
 /// The cells that were measured, in order.
@@ -81,7 +106,9 @@ impl Table {
 
     /// Prints a line for each cell.
     pub fn print_cells(&self) {
-        println!("| Operation | Format | Type | Digits | Port, ns | Original, ns | Plain digits, ns | Port / original | Port / plain |");
+        println!(
+            "| Operation | Format | Type | Digits | Port, ns | Original, ns | Plain digits, ns | Port / original | Port / plain |"
+        );
         println!("|---|---|---|---|---|---|---|---|---|");
         for (cell, times) in &self.rows {
             let shown = |number: Option<f64>, places: usize| {
@@ -106,39 +133,50 @@ impl Table {
     /// highest, and then those to plain digits.
     pub fn print_groups(&self) {
         println!("\nPort / original: median, highest (cell of the highest)");
-        self.print_ratios(Times::ratio);
+        for operation in self.distinct(|_| true, |cell| cell.operation) {
+            self.print_ratios(operation, Times::ratio);
+        }
         println!("\nPort / plain digits: median, highest (cell of the highest)");
-        self.print_ratios(Times::ratio_to_floor);
+        for operation in ["used Buffer", "read"] {
+            self.print_ratios(operation, Times::ratio_to_floor);
+        }
     }
 
-    fn print_ratios(&self, ratio: fn(&Times) -> Option<f64>) {
-        for operation in self.distinct(|_| true, |cell| cell.operation) {
-            let groups = self.distinct(
-                |(cell, times)| cell.operation == operation && ratio(times).is_some(),
-                |cell| cell.group,
-            );
-            if groups.is_empty() {
-                continue;
-            }
-            let names = COLUMNS.map(|(name, _)| name).join(" | ");
-            println!("\n| {operation} | {names} |\n|---|---|---|---|---|");
-            for group in groups {
-                let row = COLUMNS.map(|(_, formats)| self.entry(operation, group, formats, ratio));
-                println!("| {group} | {} |", row.join(" | "));
-            }
+    fn print_ratios(&self, operation: &str, ratio: fn(&Times) -> Option<f64>) {
+        let mut groups = self.distinct(|cell| cell.operation == operation, |cell| cell.group);
+        groups.sort_by_key(|group| GROUPS.iter().position(|other| other == group));
+        let formats = self.distinct(|cell| cell.operation == operation, |cell| cell.format);
+        let columns = Vec::from_iter(
+            COLUMNS
+                .into_iter()
+                .filter(|(_, shown)| shown.iter().any(|format| formats.contains(format))),
+        );
+        if columns.is_empty() {
+            return;
+        }
+        let names = Vec::from_iter(columns.iter().map(|(name, _)| *name)).join(" | ");
+        println!(
+            "\n| {operation} | {names} |\n|---|{}",
+            "---|".repeat(columns.len())
+        );
+        for group in groups {
+            let entry =
+                |(_, formats): &(&str, &[&str])| self.entry(operation, group, formats, ratio);
+            let entries = Vec::from_iter(columns.iter().map(entry)).join(" | ");
+            println!("| {group} | {entries} |");
         }
     }
 
     /// A part of those cells, each value once, in order.
     fn distinct(
         &self,
-        is_wanted: impl Fn(&(Cell, Times)) -> bool,
+        is_wanted: impl Fn(&Cell) -> bool,
         part: impl Fn(&Cell) -> &'static str,
     ) -> Vec<&'static str> {
         let mut parts = Vec::new();
-        for row in self.rows.iter().filter(|row| is_wanted(row)) {
-            if !parts.contains(&part(&row.0)) {
-                parts.push(part(&row.0));
+        for (cell, _) in self.rows.iter().filter(|(cell, _)| is_wanted(cell)) {
+            if !parts.contains(&part(cell)) {
+                parts.push(part(cell));
             }
         }
         parts
@@ -155,25 +193,38 @@ impl Table {
         let is_here = |cell: &Cell| {
             cell.operation == operation && cell.group == group && formats.contains(&cell.format)
         };
-        let rows = self.rows.iter().filter(|(cell, _)| is_here(cell));
-        let mut ratios = Vec::from_iter(rows.filter_map(|(cell, times)| Some((ratio(times)?, cell))));
+        let here = self.rows.iter().filter(|(cell, _)| is_here(cell));
+        let mut ratios =
+            Vec::from_iter(here.filter_map(|(cell, times)| Some((ratio(times)?, cell))));
         ratios.sort_by(|a, b| a.0.total_cmp(&b.0));
         let Some((highest, cell)) = ratios.last() else {
             return String::new();
         };
         let median = ratios[ratios.len() / 2].0;
-        let place = [cell.format, cell.type_name, &cell.sizes].join(" ");
-        format!("{median:.2}, {highest:.2} ({})", place.trim())
+        format!("{median:.2}, {highest:.2} ({})", cell.place())
     }
 
     /// Writes the cells to a file, a line for each, with tabs between the fields.
     pub fn write(&self, path: &str) -> io::Result<()> {
-        let mut text = String::from("operation\tformat\ttype\tdigits\tgroup\tport\toriginal\tplain\n");
+        let mut text =
+            String::from("operation\tformat\ttype\tdigits\tgroup\tport\toriginal\tplain\n");
         for (cell, times) in &self.rows {
-            let Times { port, original, floor } = times;
+            let Times {
+                port,
+                original,
+                floor,
+            } = times;
             let floor = floor.map_or(String::new(), |floor| format!("{floor:.2}"));
-            let Cell { operation, format, type_name, sizes, group } = cell;
-            text += &format!("{operation}\t{format}\t{type_name}\t{sizes}\t{group}\t{port:.2}\t{original:.2}\t{floor}\n");
+            let Cell {
+                operation,
+                format,
+                type_name,
+                sizes,
+                group,
+            } = cell;
+            text += &format!(
+                "{operation}\t{format}\t{type_name}\t{sizes}\t{group}\t{port:.2}\t{original:.2}\t{floor}\n"
+            );
         }
         fs::write(path, text)
     }

@@ -36,7 +36,9 @@ impl Texts {
 pub fn without_digit(random: &mut Random) -> Vec<String> {
     let word = |_| {
         let length = 1 + random.below(16);
-        (0..length).map(|_| char::from(b'a' + random.below(26) as u8)).collect()
+        (0..length)
+            .map(|_| char::from(b'a' + random.below(26) as u8))
+            .collect()
     };
     (0..BATCH).map(word).collect()
 }

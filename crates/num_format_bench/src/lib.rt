@@ -8,6 +8,7 @@
 //!
 //! A number of 128 bits does not cross to C, so it goes as its [`Halves`](halves::Halves).
 #![tactic(auto)]
+
 ghost use Rattle.std.specs.Prelude.{IsUtf8};
 
 mod checksum;

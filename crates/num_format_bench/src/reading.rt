@@ -12,13 +12,13 @@ use std::str::from_utf8_unchecked;
 #[inline(never)]
 fn read_one<N, F>(text: &str, format: &F, errors: &mut Checksum) -> Option<N>
 where
-    N: FromFormattedStr + Copy,
+    N: FromFormattedStr + Drop,
     F: Format,
 {
-    match &N::from_formatted_str(text, format) {
-        Ok(number) => Some(*number),
+    match N::from_formatted_str(text, format) {
+        Ok(number) => Some(number),
         Err(error) => {
-            errors.add_error(error);
+            errors.add_error(&error);
             None
         }
     }
@@ -28,8 +28,8 @@ where
 /// were accepted, plus a sum over the errors.
 fn read_each<N, S, F>(texts: &[u8], lengths: &[usize], format: &F, numbers: &mut [S]) -> u64
 where
-    N: FromFormattedStr + Copy,
-    S: From<N> + Copy,
+    N: FromFormattedStr + Drop,
+    S: From<N> + Drop,
     F: Format,
     requires { IsUtf8 texts.now }
 {
@@ -53,8 +53,8 @@ where
 /// errors.
 pub fn read<N, S>(texts: &[u8], lengths: &[usize], format: u8, numbers: &mut [S]) -> u64
 where
-    N: FromFormattedStr + Copy,
-    S: From<N> + Copy,
+    N: FromFormattedStr + Drop,
+    S: From<N> + Drop,
     requires { IsUtf8 texts.now }
 {
     if let Some(locale) = locale(format) {
@@ -72,10 +72,10 @@ where
 /// Looks one name up, and adds the text that its error keeps if it is refused.
 #[inline(never)]
 fn find_one(name: &str, errors: &mut Checksum) -> Option<Locale> {
-    match &Locale::from_name(name) {
-        Ok(locale) => Some(*locale),
+    match Locale::from_name(name) {
+        Ok(locale) => Some(locale),
         Err(error) => {
-            errors.add_error(error);
+            errors.add_error(&error);
             None
         }
     }
