@@ -1,0 +1,47 @@
+#!/usr/bin/env python3
+"""Compares the code in README.md and docs/ with that of the crate num_format_examples.
+
+    python3 tools/readme_code.py
+
+Each block of the language `rust` has to stand in a file of the crate, line after line, and the text
+block after the first one in README.md has to be the crate's stdout. The exit status is 1 where one
+differs.
+"""
+import re
+import sys
+from pathlib import Path
+from textwrap import dedent
+
+ROOT = Path(__file__).resolve().parent.parent
+CRATE = ROOT / "crates" / "num_format_examples"
+
+
+def blocks(path, language):
+    """The code blocks of a document in that language."""
+    text = path.read_text(encoding="utf-8")
+    return re.findall(rf"^```{language}\n(.*?)^```$", text, re.DOTALL | re.MULTILINE)
+
+
+def is_part(block, source):
+    """Whether the lines of the block stand in the source, one after another, indented alike."""
+    lines, wanted = source.splitlines(), block.splitlines()
+    parts = (lines[start : start + len(wanted)] for start in range(len(lines)))
+    return any(dedent("\n".join(part)) == "\n".join(wanted) for part in parts)
+
+
+def main():
+    sources = [path.read_text(encoding="utf-8") for path in (CRATE / "src").glob("*.rt")]
+    readme = ROOT / "README.md"
+    different = []
+    for path in [readme, *sorted((ROOT / "docs").glob("*.md"))]:
+        for block in blocks(path, "rust"):
+            if not any(is_part(block, source) for source in sources):
+                different.append(f"{path.relative_to(ROOT)}: not in num_format_examples:\n{block}")
+    if (CRATE / "stdout").read_text(encoding="utf-8") not in blocks(readme, "text"):
+        different.append("README.md: no block has the stdout of num_format_examples")
+    print("\n".join(different), end="")
+    sys.exit(1 if different else 0)
+
+
+if __name__ == "__main__":
+    main()
