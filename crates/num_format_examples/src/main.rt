@@ -1,0 +1,33 @@
+//! The program of `README.md`, word for word, and callers with contracts of their own.
+#![tactic(auto)]
+
+use anyhow::Result;
+use num_format::parsing::ParseFormatted;
+use num_format::{Buffer, CustomFormat, Grouping, Locale, ToFormattedString, WriteFormatted};
+
+fn main(rt: HostRuntime) -> Result<()> {
+    // Into a buffer: this needs no memory and cannot fail.
+    let mut buffer = Buffer::new();
+    buffer.write_formatted(&1_000_000u32, &Locale::en);
+    println!(rt; "{buffer}")?;
+
+    // Into a new string, under a format of your own.
+    let format = CustomFormat::builder()
+        .grouping(Grouping::Indian)
+        .separator("'")
+        .build()?;
+    let text = (-1_234_567i64).to_formatted_string(rt.alloc(), &format)?;
+    println!(rt; "{text}")?;
+
+    // After what a string or another writer holds.
+    let mut line = String::from_str(rt.alloc(), "total: ")?;
+    line.write_formatted(&1_234_567u64, &Locale::de)?;
+    println!(rt; "{line}")?;
+
+    // And back into a number.
+    let number: i64 = "-1,000,000".parse_formatted(&Locale::en)?;
+    println!(rt; "{number}")?;
+    Ok(())
+}
+
+mod callers;
