@@ -185,10 +185,9 @@ fn measure_printing<N: Number>(name: &str, numbers: &[N], way: u8, format: u8) -
 fn measure_reading<N: Number>(name: &str, numbers: &[N], format: u8) -> Times {
     let Texts { text, lengths } = Texts::formatted(numbers, format);
     let plain = Texts::plain(numbers);
-    let [mut ours, mut theirs, mut plainly] = [const { Vec::new() }; 3].map(|mut read: Vec<N>| {
-        read.resize(numbers.len(), N::default());
-        read
-    });
+    let mut ours = vec![N::default(); numbers.len()];
+    let mut theirs = ours.clone();
+    let mut plainly = ours.clone();
     let [port, original, floor] = best(
         numbers.len(),
         [
@@ -208,11 +207,8 @@ fn measure_reading<N: Number>(name: &str, numbers: &[N], format: u8) -> Times {
             },
         ],
     );
-    for (((ours, theirs), plainly), number) in ours.iter().zip(&theirs).zip(&plainly).zip(numbers) {
-        assert!(
-            [ours, theirs, plainly].iter().all(|read| *read == number),
-            "{name}: {number}"
-        );
+    for read in [ours, theirs, plainly] {
+        assert!(read == numbers, "{name}");
     }
     Times {
         port,
@@ -225,18 +221,21 @@ fn measure_reading<N: Number>(name: &str, numbers: &[N], format: u8) -> Times {
 fn measure_refusing<N: Number>(name: &str, texts: &Texts) -> Times {
     let Texts { text, lengths } = texts;
     let untouched = vec![N::default(); lengths.len()];
-    let [mut ours, mut theirs] = [const { Vec::new() }; 2].map(|_: Vec<N>| untouched.clone());
-    let mut sums = [0, 0];
-    let [our_sum, their_sum] = &mut sums;
+    let mut our_numbers = untouched.clone();
+    let mut their_numbers = untouched.clone();
+    let (mut ours, mut theirs) = (0, 0);
     let [port, original] = best(
         lengths.len(),
         [
-            &mut || *our_sum = rattle::read(black_box(text), lengths, 0, &mut ours),
-            &mut || *their_sum = original::read(black_box(text), lengths, 0, &mut theirs),
+            &mut || ours = rattle::read(black_box(text), lengths, 0, &mut our_numbers),
+            &mut || theirs = original::read(black_box(text), lengths, 0, &mut their_numbers),
         ],
     );
-    assert_eq!(sums[0], sums[1], "{name}");
-    assert!(ours == untouched && theirs == untouched, "{name}");
+    assert_eq!(ours, theirs, "{name}");
+    assert!(
+        our_numbers == untouched && their_numbers == untouched,
+        "{name}"
+    );
     Times {
         port,
         original,
@@ -294,6 +293,7 @@ fn main() {
         run.measure_type::<u128>();
         run.measure_names();
     }
+    assert!(!run.table.is_empty(), "no cell has such a name");
     if shows_cells {
         run.table.print_cells();
     }

@@ -113,48 +113,15 @@ impl Sizes {
     /// All that are measured for a type: each length alone, for each sign, and mixtures of the
     /// lengths of each group and of all lengths.
     pub fn all<N: Number>() -> Vec<Sizes> {
-        let mut all = Vec::new();
-        for digits in 1..=N::MOST_DIGITS {
-            all.push(Sizes::positive(digits..=digits));
-        }
+        let alone = Vec::from_iter((1..=N::MOST_DIGITS).map(|digits| digits..=digits));
+        let mut all = Vec::from_iter(alone.iter().cloned().map(Sizes::positive));
+        let mut signs = Signs::Positive;
         if N::IS_SIGNED {
-            let negative = all.clone().into_iter();
-            all.extend(negative.map(|sizes| Sizes {
-                signs: Signs::Negative,
-                ..sizes
-            }));
+            signs = Signs::Negative;
+            all.extend(alone.into_iter().map(|digits| Sizes { digits, signs }));
+            signs = Signs::Mixed;
         }
-        let signs = if N::IS_SIGNED {
-            Signs::Mixed
-        } else {
-            Signs::Positive
-        };
-        let mut groups = Vec::from([
-            1..=3,
-            4..=6,
-            7..=9,
-            10..=DIGITS_OF_64_BITS,
-            1..=N::MOST_DIGITS,
-        ]);
-        if N::MOST_DIGITS > DIGITS_OF_64_BITS {
-            groups = Vec::from([
-                1..=3,
-                4..=6,
-                7..=9,
-                10..=19,
-                20..=N::MOST_DIGITS,
-                1..=N::MOST_DIGITS,
-            ]);
-        }
-        groups.retain(|digits| *digits.start() < N::MOST_DIGITS);
-        for digits in groups {
-            let end = N::MOST_DIGITS.min(*digits.end());
-            all.push(Sizes {
-                digits: *digits.start()..=end,
-                signs,
-            });
-        }
-        all.dedup_by(|a, b| a.digits == b.digits && a.signs == b.signs);
+        all.extend(mixtures::<N>().map(|digits| Sizes { digits, signs }));
         all
     }
 
@@ -198,4 +165,20 @@ impl Sizes {
         };
         (0..BATCH).map(number).collect()
     }
+}
+
+/// The lengths of each mixture for a type: those of a group of the table that has more than one, and
+/// all.
+fn mixtures<N: Number>() -> impl Iterator<Item = RangeInclusive<u32>> {
+    let most = N::MOST_DIGITS;
+    // Of 20 digits are numbers in 64 bits and past them.
+    let groups = if most > DIGITS_OF_64_BITS {
+        vec![1..=3, 4..=6, 7..=9, 10..=19, 20..=most]
+    } else {
+        vec![1..=3, 4..=6, 7..=9, 10..=most]
+    };
+    let is_mixture =
+        move |digits: &RangeInclusive<u32>| digits.start() < digits.end() && *digits.end() <= most;
+    let all = (most > 3).then_some(1..=most);
+    groups.into_iter().filter(is_mixture).chain(all)
 }

@@ -104,6 +104,11 @@ impl Table {
         }
     }
 
+    /// Whether no cell was measured.
+    pub fn is_empty(&self) -> bool {
+        self.rows.is_empty()
+    }
+
     /// Prints a line for each cell.
     pub fn print_cells(&self) {
         println!(
