@@ -10,8 +10,8 @@ use Rattle.num_format_int.proofs.GroupedLemmas.{grouped-short, grouped-empty, gr
 use Rattle.num_format_int.proofs.GroupLemmas.{groups-Standard, groups-Indian}
 use Rattle.num_format_int.proofs.to_formatted_str.put_body.Goals as goal
 
-length-plain-le183 : (text ds : List ℕ) → text ≡ plain ds → length ds ≤ 39 → length text ≤ 183
-length-plain-le183 text ds e few = omega (arith, ap length e, length-map ds (λ d. 48 + d))
+length-plain-fits : (text ds : List ℕ) → text ≡ plain ds → length ds ≤ 39 → length text + 8 ≤ 191
+length-plain-fits text ds e few = omega (arith, ap length e, length-map ds (λ d. 48 + d))
 
 alone : (text old ds : List ℕ) → text ≡ plain ds ++ old → old ≡ [] → text ≡ plain ds
 alone text old ds e empty = e ∙ ap (λ right. plain ds ++ right) empty ∙ append-nil (plain ds)
@@ -26,7 +26,7 @@ returns-then-limit-eq3-clause-text g c =
     ∙ sym (grouped-short format.grouping format.separator (digits c.args.n) (length-digits-le 3 c.args.n (omega arith) (omega arith)))
 
 pub returns-then-limit-eq3-clause-fits : goal.returns-then-limit-eq3-clause-fits
-returns-then-limit-eq3-clause-fits g c = length-plain-le183 c.put_plain.new.buffer (digits c.args.n) c.put_plain.ensures (length-digits-le39 c.args.n (omega arith))
+returns-then-limit-eq3-clause-fits g c = length-plain-fits c.put_plain.new.buffer (digits c.args.n) c.put_plain.ensures (length-digits-le39 c.args.n (omega arith))
 
 pub returns-else-limit-eq3-clause-text : goal.returns-else-limit-eq3-clause-text
 returns-else-limit-eq3-clause-text g c =
@@ -36,7 +36,7 @@ returns-else-limit-eq3-clause-text g c =
 
 pub returns-else-limit-eq3-clause-fits : goal.returns-else-limit-eq3-clause-fits
 returns-else-limit-eq3-clause-fits g c =
-    length-plain-le183 c.put_first_group.new.buffer (digits c.args.n)
+    length-plain-fits c.put_first_group.new.buffer (digits c.args.n)
     (alone c.put_first_group.new.buffer c.args.buffer.now (digits c.args.n) c.put_first_group.ensures c.requires)
     (length-digits-le39 c.args.n (omega arith))
 
@@ -48,7 +48,7 @@ returns-then-is_empty-clause-text g c =
     ∙ sym (grouped-empty format.grouping format.separator (digits c.args.n) (ap length (sym (c.into_str-separator.ensures.same ∙ c.separator.ensures)) ∙ none))
 
 pub returns-then-is_empty-clause-fits : goal.returns-then-is_empty-clause-fits
-returns-then-is_empty-clause-fits g c = length-plain-le183 c.put_plain-then-is_empty.new.buffer (digits c.args.n) c.put_plain-then-is_empty.ensures (length-digits-le39 c.args.n (omega arith))
+returns-then-is_empty-clause-fits g c = length-plain-fits c.put_plain-then-is_empty.new.buffer (digits c.args.n) c.put_plain-then-is_empty.ensures (length-digits-le39 c.args.n (omega arith))
 
 pub returns-in-Standard-clause-fits : goal.returns-in-Standard-clause-fits
 returns-in-Standard-clause-fits g c =
@@ -74,4 +74,4 @@ returns-in-Posix-clause-text g c =
     ∙ ap (λ k. grouped k format.separator (digits c.args.n)) c.in-Posix.ensures
 
 pub returns-in-Posix-clause-fits : goal.returns-in-Posix-clause-fits
-returns-in-Posix-clause-fits g c = length-plain-le183 c.put_plain-in-Posix.new.buffer (digits c.args.n) c.put_plain-in-Posix.ensures (length-digits-le39 c.args.n (omega arith))
+returns-in-Posix-clause-fits g c = length-plain-fits c.put_plain-in-Posix.new.buffer (digits c.args.n) c.put_plain-in-Posix.ensures (length-digits-le39 c.args.n (omega arith))
