@@ -1,4 +1,5 @@
 -- What a builder has after calls of its setters, and what it builds.
+use Rattle.num_format_text.specs.declared.capacities.TheConstants.{MAX_DEC_LEN, MAX_INF_LEN, MAX_MIN_LEN, MAX_NAN_LEN, MAX_PLUS_LEN, MAX_SEP_LEN}
 use Rattle.std.specs.Prelude.{ℕ, nat_le, List, [], ◌∷◌, length, Option, Some, None, Result, Ok, Err, if◌then◌else◌}
 use Rattle.std.specs.List.{filter_map}
 use Rattle.num_format_text.specs.declared.grouping.Grouping.{Grouping}
@@ -48,7 +49,7 @@ pub data Call : Type 0 where
 
 -- what a call gives to the decimal mark, if it is the setter of that field; and so on for the other fields
 abbrev pub to_decimal : Call → Option Choice
-to_decimal (Decimal text) = Some (chosen 8 text)
+to_decimal (Decimal text) = Some (chosen MAX_DEC_LEN text)
 to_decimal _ = None
 
 abbrev pub to_grouping : Call → Option Grouping
@@ -56,23 +57,23 @@ to_grouping (Groups grouping) = Some grouping
 to_grouping _ = None
 
 abbrev pub to_infinity : Call → Option Choice
-to_infinity (Infinity text) = Some (chosen 128 text)
+to_infinity (Infinity text) = Some (chosen MAX_INF_LEN text)
 to_infinity _ = None
 
 abbrev pub to_minus_sign : Call → Option Choice
-to_minus_sign (MinusSign text) = Some (chosen 8 text)
+to_minus_sign (MinusSign text) = Some (chosen MAX_MIN_LEN text)
 to_minus_sign _ = None
 
 abbrev pub to_nan : Call → Option Choice
-to_nan (Nan text) = Some (chosen 64 text)
+to_nan (Nan text) = Some (chosen MAX_NAN_LEN text)
 to_nan _ = None
 
 abbrev pub to_plus_sign : Call → Option Choice
-to_plus_sign (PlusSign text) = Some (chosen 8 text)
+to_plus_sign (PlusSign text) = Some (chosen MAX_PLUS_LEN text)
 to_plus_sign _ = None
 
 abbrev pub to_separator : Call → Option Choice
-to_separator (Separator text) = Some (chosen 8 text)
+to_separator (Separator text) = Some (chosen MAX_SEP_LEN text)
 to_separator _ = None
 
 -- the last element, or x where there is none

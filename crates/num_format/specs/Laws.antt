@@ -1,4 +1,5 @@
 -- Laws of the definitions that the contracts use.
+use Rattle.num_format_text.specs.declared.capacities.TheConstants.{MAX_DEC_LEN, MAX_INF_LEN, MAX_MIN_LEN, MAX_NAN_LEN, MAX_PLUS_LEN, MAX_SEP_LEN}
 use Rattle.std.specs.Prelude.{◌≡◌, ℕ, ◌+◌, ◌-◌, ◌*◌, ◌/◌, ◌%◌, ◌^◌, ◌<◌, ◌≤◌, ℤ, pos, negsuc, ◌≤ℤ◌, unsigned_abs, codes, List, [], ◌∷◌, ◌++◌, length, if◌then◌else◌}
 use Rattle.std.specs.Int.{is_negative}
 use Rattle.std.specs.Int.Digits.{number_from_digits}
@@ -31,7 +32,7 @@ LengthLaw = (f : FormatData) (z : ℤ) →
 -- no text of a number from -2 ^ 127 to 2 ^ 128 - 1 has more than `MAX_BUF_LEN` bytes, and that of -2 ^ 127 can have as many
 pub record BoundLaw : Type 0 where
   pub bound : (f : FormatData) (z : ℤ) → IsWithinCapacity f → negsuc (2 ^ 127 - 1) ≤ℤ z → z ≤ℤ pos (2 ^ 128 - 1) → length (text_of f z) ≤ MAX_BUF_LEN
-  pub reached : (f : FormatData) → f.grouping ≡ Indian → length f.separator ≡ 8 → length f.minus_sign ≡ 8 → length (text_of f (negsuc (2 ^ 127 - 1))) ≡ MAX_BUF_LEN
+  pub reached : (f : FormatData) → f.grouping ≡ Indian → length f.separator ≡ MAX_SEP_LEN → length f.minus_sign ≡ MAX_MIN_LEN → length (text_of f (negsuc (2 ^ 127 - 1))) ≡ MAX_BUF_LEN
 
 -- the digits and separators of a number begin with its first digit and end with its last: no separator leads or trails
 pub record EndsLaw : Type 0 where
@@ -46,10 +47,10 @@ pub record EnglishLaw : Type 0 where
 -- one more call of a setter does to a builder what the clause of the setter says
 pub record BuildingLaw : Type 0 where
   pub none : (c : Choices) → choices_after c [] ≡ c
-  pub decimal : (c : Choices) (calls : List Call) (text : List ℕ) → choices_after c (calls ++ (call.Decimal text ∷ [])) ≡ record (choices_after c calls) { decimal = chosen 8 text }
+  pub decimal : (c : Choices) (calls : List Call) (text : List ℕ) → choices_after c (calls ++ (call.Decimal text ∷ [])) ≡ record (choices_after c calls) { decimal = chosen MAX_DEC_LEN text }
   pub grouping : (c : Choices) (calls : List Call) (g : Grouping) → choices_after c (calls ++ (call.Groups g ∷ [])) ≡ record (choices_after c calls) { grouping = g }
-  pub infinity : (c : Choices) (calls : List Call) (text : List ℕ) → choices_after c (calls ++ (call.Infinity text ∷ [])) ≡ record (choices_after c calls) { infinity = chosen 128 text }
-  pub minus_sign : (c : Choices) (calls : List Call) (text : List ℕ) → choices_after c (calls ++ (call.MinusSign text ∷ [])) ≡ record (choices_after c calls) { minus_sign = chosen 8 text }
-  pub nan : (c : Choices) (calls : List Call) (text : List ℕ) → choices_after c (calls ++ (call.Nan text ∷ [])) ≡ record (choices_after c calls) { nan = chosen 64 text }
-  pub plus_sign : (c : Choices) (calls : List Call) (text : List ℕ) → choices_after c (calls ++ (call.PlusSign text ∷ [])) ≡ record (choices_after c calls) { plus_sign = chosen 8 text }
-  pub separator : (c : Choices) (calls : List Call) (text : List ℕ) → choices_after c (calls ++ (call.Separator text ∷ [])) ≡ record (choices_after c calls) { separator = chosen 8 text }
+  pub infinity : (c : Choices) (calls : List Call) (text : List ℕ) → choices_after c (calls ++ (call.Infinity text ∷ [])) ≡ record (choices_after c calls) { infinity = chosen MAX_INF_LEN text }
+  pub minus_sign : (c : Choices) (calls : List Call) (text : List ℕ) → choices_after c (calls ++ (call.MinusSign text ∷ [])) ≡ record (choices_after c calls) { minus_sign = chosen MAX_MIN_LEN text }
+  pub nan : (c : Choices) (calls : List Call) (text : List ℕ) → choices_after c (calls ++ (call.Nan text ∷ [])) ≡ record (choices_after c calls) { nan = chosen MAX_NAN_LEN text }
+  pub plus_sign : (c : Choices) (calls : List Call) (text : List ℕ) → choices_after c (calls ++ (call.PlusSign text ∷ [])) ≡ record (choices_after c calls) { plus_sign = chosen MAX_PLUS_LEN text }
+  pub separator : (c : Choices) (calls : List Call) (text : List ℕ) → choices_after c (calls ++ (call.Separator text ∷ [])) ≡ record (choices_after c calls) { separator = chosen MAX_SEP_LEN text }

@@ -8,6 +8,9 @@ use crate::bounded_string::BoundedString;
 use crate::custom_format_builder::CustomFormatBuilder;
 use crate::utils::{DecimalStr, InfinityStr, MinusSignStr, NanStr, PlusSignStr, SeparatorStr};
 use crate::{Format, Grouping, Locale};
+use num_format_text::capacities::{
+    MAX_DEC_LEN, MAX_INF_LEN, MAX_MIN_LEN, MAX_NAN_LEN, MAX_PLUS_LEN, MAX_SEP_LEN,
+};
 use std::marker::Model;
 
 /// A format with seven fields of the caller's choice. A contract sees them as `FormatData`.
@@ -26,13 +29,13 @@ use std::marker::Model;
 /// the types of [`utils`](crate::utils).
 #[derive(Drop)]
 pub struct CustomFormat {
-    pub(crate) decimal: BoundedString<8>,
+    pub(crate) decimal: BoundedString<MAX_DEC_LEN>,
     pub(crate) grouping: Grouping,
-    pub(crate) infinity: BoundedString<128>,
-    pub(crate) minus_sign: BoundedString<8>,
-    pub(crate) nan: BoundedString<64>,
-    pub(crate) plus_sign: BoundedString<8>,
-    pub(crate) separator: BoundedString<8>,
+    pub(crate) infinity: BoundedString<MAX_INF_LEN>,
+    pub(crate) minus_sign: BoundedString<MAX_MIN_LEN>,
+    pub(crate) nan: BoundedString<MAX_NAN_LEN>,
+    pub(crate) plus_sign: BoundedString<MAX_PLUS_LEN>,
+    pub(crate) separator: BoundedString<MAX_SEP_LEN>,
 }
 
 impl Model for CustomFormat {
@@ -62,7 +65,7 @@ impl CustomFormat {
     /// Returns the decimal mark, of at most 8 bytes.
     pub fn decimal(&self) -> &str
         ensures same { result.now ≡ self.now.decimal }
-        ensures fits { length result.now ≤ 8 }
+        ensures fits { length result.now ≤ MAX_DEC_LEN }
     {
         self.decimal.as_str()
     }
@@ -77,7 +80,7 @@ impl CustomFormat {
     /// Returns the text for infinity, of at most 128 bytes.
     pub fn infinity(&self) -> &str
         ensures same { result.now ≡ self.now.infinity }
-        ensures fits { length result.now ≤ 128 }
+        ensures fits { length result.now ≤ MAX_INF_LEN }
     {
         self.infinity.as_str()
     }
@@ -85,7 +88,7 @@ impl CustomFormat {
     /// Returns the minus sign, of at most 8 bytes.
     pub fn minus_sign(&self) -> &str
         ensures same { result.now ≡ self.now.minus_sign }
-        ensures fits { length result.now ≤ 8 }
+        ensures fits { length result.now ≤ MAX_MIN_LEN }
     {
         self.minus_sign.as_str()
     }
@@ -93,7 +96,7 @@ impl CustomFormat {
     /// Returns the text for NaN, of at most 64 bytes.
     pub fn nan(&self) -> &str
         ensures same { result.now ≡ self.now.nan }
-        ensures fits { length result.now ≤ 64 }
+        ensures fits { length result.now ≤ MAX_NAN_LEN }
     {
         self.nan.as_str()
     }
@@ -101,7 +104,7 @@ impl CustomFormat {
     /// Returns the plus sign, of at most 8 bytes.
     pub fn plus_sign(&self) -> &str
         ensures same { result.now ≡ self.now.plus_sign }
-        ensures fits { length result.now ≤ 8 }
+        ensures fits { length result.now ≤ MAX_PLUS_LEN }
     {
         self.plus_sign.as_str()
     }
@@ -109,7 +112,7 @@ impl CustomFormat {
     /// Returns the separator between groups of digits, of at most 8 bytes.
     pub fn separator(&self) -> &str
         ensures same { result.now ≡ self.now.separator }
-        ensures fits { length result.now ≤ 8 }
+        ensures fits { length result.now ≤ MAX_SEP_LEN }
     {
         self.separator.as_str()
     }

@@ -6,6 +6,9 @@ ghost use Rattle.num_format.specs.English.{english};
 use crate::bounded_string::BoundedString;
 use crate::custom_format::CustomFormat;
 use crate::{Error, Grouping};
+use num_format_text::capacities::{
+    MAX_DEC_LEN, MAX_INF_LEN, MAX_MIN_LEN, MAX_NAN_LEN, MAX_PLUS_LEN, MAX_SEP_LEN,
+};
 use std::marker::Model;
 
 /// The decimal mark of the locale `en`.
@@ -42,13 +45,13 @@ const SEPARATOR: &str = ",";
 /// ```
 #[derive(Drop)]
 pub struct CustomFormatBuilder {
-    decimal: Result<BoundedString<8>, Error>,
+    decimal: Result<BoundedString<MAX_DEC_LEN>, Error>,
     grouping: Grouping,
-    infinity: Result<BoundedString<128>, Error>,
-    minus_sign: Result<BoundedString<8>, Error>,
-    nan: Result<BoundedString<64>, Error>,
-    plus_sign: Result<BoundedString<8>, Error>,
-    separator: Result<BoundedString<8>, Error>,
+    infinity: Result<BoundedString<MAX_INF_LEN>, Error>,
+    minus_sign: Result<BoundedString<MAX_MIN_LEN>, Error>,
+    nan: Result<BoundedString<MAX_NAN_LEN>, Error>,
+    plus_sign: Result<BoundedString<MAX_PLUS_LEN>, Error>,
+    separator: Result<BoundedString<MAX_SEP_LEN>, Error>,
 }
 
 impl Model for CustomFormatBuilder {
@@ -85,7 +88,7 @@ impl CustomFormatBuilder {
 
     /// Sets the decimal mark, of at most 8 bytes.
     pub fn decimal(self, text: &str) -> CustomFormatBuilder
-        ensures { result ≡ record self { decimal = chosen 8 text.now } }
+        ensures { result ≡ record self { decimal = chosen MAX_DEC_LEN text.now } }
     {
         CustomFormatBuilder {
             decimal: BoundedString::new(text),
@@ -102,7 +105,7 @@ impl CustomFormatBuilder {
 
     /// Sets the text for infinity, of at most 128 bytes.
     pub fn infinity(self, text: &str) -> CustomFormatBuilder
-        ensures { result ≡ record self { infinity = chosen 128 text.now } }
+        ensures { result ≡ record self { infinity = chosen MAX_INF_LEN text.now } }
     {
         CustomFormatBuilder {
             infinity: BoundedString::new(text),
@@ -112,7 +115,7 @@ impl CustomFormatBuilder {
 
     /// Sets the minus sign, of at most 8 bytes.
     pub fn minus_sign(self, text: &str) -> CustomFormatBuilder
-        ensures { result ≡ record self { minus_sign = chosen 8 text.now } }
+        ensures { result ≡ record self { minus_sign = chosen MAX_MIN_LEN text.now } }
     {
         CustomFormatBuilder {
             minus_sign: BoundedString::new(text),
@@ -122,7 +125,7 @@ impl CustomFormatBuilder {
 
     /// Sets the text for NaN, of at most 64 bytes.
     pub fn nan(self, text: &str) -> CustomFormatBuilder
-        ensures { result ≡ record self { nan = chosen 64 text.now } }
+        ensures { result ≡ record self { nan = chosen MAX_NAN_LEN text.now } }
     {
         CustomFormatBuilder {
             nan: BoundedString::new(text),
@@ -132,7 +135,7 @@ impl CustomFormatBuilder {
 
     /// Sets the plus sign, of at most 8 bytes.
     pub fn plus_sign(self, text: &str) -> CustomFormatBuilder
-        ensures { result ≡ record self { plus_sign = chosen 8 text.now } }
+        ensures { result ≡ record self { plus_sign = chosen MAX_PLUS_LEN text.now } }
     {
         CustomFormatBuilder {
             plus_sign: BoundedString::new(text),
@@ -142,7 +145,7 @@ impl CustomFormatBuilder {
 
     /// Sets the separator between groups of digits, of at most 8 bytes.
     pub fn separator(self, text: &str) -> CustomFormatBuilder
-        ensures { result ≡ record self { separator = chosen 8 text.now } }
+        ensures { result ≡ record self { separator = chosen MAX_SEP_LEN text.now } }
     {
         CustomFormatBuilder {
             separator: BoundedString::new(text),

@@ -1,5 +1,5 @@
 -- Groups of digits and what is prepended to them, for every grouping.
-use Rattle.std.proofs.Common.{◌≡◌, ℕ, suc, ◌+◌, ◌*◌, ◌/◌, ◌%◌, ◌^◌, ◌<◌, ◌≤◌, ◌⊎◌, inl, inr, true, false, List, [], ◌∷◌, ◌++◌, length, refl, ap, ◌∙◌, sym, arith, append-nil, append_assoc, length-append}
+use Rattle.std.proofs.Common.{◌≡◌, ℕ, ◌+◌, ◌*◌, ◌/◌, ◌%◌, ◌^◌, ◌<◌, ◌≤◌, ◌⊎◌, inl, inr, true, false, List, [], ◌∷◌, ◌++◌, length, refl, ap, ◌∙◌, sym, arith, append-nil, append_assoc, length-append}
 use Rattle.std.proofs.lemmas.Bool.Decides.{nat_tests}
 use Rattle.num_format_text.specs.declared.grouping.Grouping.{Grouping}
 use Rattle.num_format_text.specs.declared.grouping.Grouping.TheVariants.{Standard, Indian}
@@ -83,8 +83,8 @@ prepends-more size n left s old text new some prepends large e = record {
   together = prepends.together ∙ rw (digits-split size left large, append_assoc);
   whole = omega (arith, length-append (last_digits size left) prepends.low, length-last_digits size left, prepends.whole);
   text = λ g right groups begins.
-    rw (e, last_digits-mod, append_assoc)
-    (put-group g s (last_digits size left) (prepends.low ++ right) text 3 size groups some (length-last_digits size left) (prepends.text g right groups begins));
+      rw (e, last_digits-mod, append_assoc)
+      (put-group g s (last_digits size left) (prepends.low ++ right) text 3 size groups some (length-last_digits size left) (prepends.text g right groups begins));
 }
 
 -- all groups, and then the first
@@ -114,7 +114,7 @@ prepends-eighteen size part first s old new sizes some below within prepends g r
     let all = sym (digits-eighteen part below) ∙ prepends.together in
     let long = ap length all ∙ length-append (digits first) prepends.low in
     let alone = one_digit_left size prepends.count (length (digits first)) sizes (digits_given first) (length-digits-le size first some within)
-        (omega (arith, long, prepends.whole, length-last_digits 18 part)) in
+    (omega (arith, long, prepends.whole, length-last_digits 18 part)) in
     rw (after_one (digits first) prepends.low (last_digits 18 part) 1 alone all) at (prepends.text g right groups begins)
 
 -- the digits of a number in three parts

@@ -40,8 +40,8 @@ impl Model for Buffer {
         × (take b.start b.inner ≡ replicate b.start 0) × ∥ IsUtf8 (drop b.start b.inner) ∥₁ };
 
     ghost inverse = { λ t. record {
-        inner = replicate (MAX_BUF_LEN - length t) 0 ++ t;
-        start = MAX_BUF_LEN - length t;
+      inner = replicate (MAX_BUF_LEN - length t) 0 ++ t;
+      start = MAX_BUF_LEN - length t;
     } };
 
     ghost inverse_ok = { λ b h i. record {

@@ -1,4 +1,4 @@
-use Rattle.std.proofs.Common.{◌≡◌, ℕ, ◌+◌, ◌<◌, ◌≤◌, length, arith}
+use Rattle.std.proofs.Common.{ℕ, ◌+◌, ◌<◌, ◌≤◌, length, arith}
 use Rattle.num_format_int.specs.Digits.{digits}
 use Rattle.num_format_int.proofs.DigitLemmas.{length-digits-le, digits_given}
 use Rattle.num_format_int.proofs.GroupLemmas.{prepends-eighteen, size_given}

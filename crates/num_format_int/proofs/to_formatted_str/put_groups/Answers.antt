@@ -19,5 +19,5 @@ pub returns : goal.returns
 returns g c = λ k right groups begins.
     c.put_first_group.ensures
     ∙ prepends-all g.G.Groups.SIZE c.args.n c.put_full_groups-first.result c.args.separator.now c.args.buffer.now c.put_full_groups-first.new.buffer c.put_full_groups-first.ensures.text
-        (length-digits-le g.G.Groups.SIZE c.put_full_groups-first.result (size_given g.G.Groups.SIZE g.met.G.Groups.size) (rw g.met.G.Groups.base at c.put_full_groups-first.ensures.first))
-        k right groups begins
+    (length-digits-le g.G.Groups.SIZE c.put_full_groups-first.result (size_given g.G.Groups.SIZE g.met.G.Groups.size) (rw g.met.G.Groups.base at c.put_full_groups-first.ensures.first))
+    k right groups begins

@@ -1,5 +1,4 @@
-use Rattle.std.proofs.Common.{◌≡◌, ℕ, ◌+◌, ◌/◌, ◌%◌, ◌<◌, ◌≤◌, ◌∙◌, length, refl, ap, sym, arith}
-use Rattle.num_format_int.specs.Digits.{digits}
+use Rattle.std.proofs.Common.{◌/◌, ◌%◌, ◌∙◌, length, refl, ap, sym, arith}
 use Rattle.num_format_int.specs.Grouped.{grouped}
 use Rattle.num_format_int.specs.Groups.{last_digits}
 use Rattle.num_format_int.proofs.DigitLemmas.{digits-split, length-digits-le, length-put_group}
@@ -19,5 +18,5 @@ put_groups-requires-clause-fits g c =
 pub returns : goal.returns
 returns g c = λ k groups.
     c.put_groups.ensures k (last_digits 3 c.args.n) groups
-        (put-last_group k c.args.separator.now c.args.buffer.now c.put_group.new.buffer 3 g.G.Groups.SIZE c.args.n _ groups c.requires.empty refl c.put_group.ensures)
+    (put-last_group k c.args.separator.now c.args.buffer.now c.put_group.new.buffer 3 g.G.Groups.SIZE c.args.n _ groups c.requires.empty refl c.put_group.ensures)
     ∙ ap (grouped k c.args.separator.now) (sym (digits-split 3 c.args.n c.requires.some))

@@ -1,5 +1,4 @@
-use Rattle.std.proofs.Common.{◌≡◌, ℕ, ◌+◌, ◌^◌, ◌<◌, ◌≤◌, length, ap, arith}
-use Rattle.num_format_int.specs.Digits.{digits}
+use Rattle.std.proofs.Common.{length, ap, arith}
 use Rattle.num_format_int.proofs.DigitLemmas.{length-digits-le}
 use Rattle.num_format_int.proofs.to_formatted_str.put_plain.Goals as goal
 

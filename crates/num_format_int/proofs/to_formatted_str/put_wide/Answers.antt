@@ -1,5 +1,4 @@
-use Rattle.std.proofs.Common.{◌≡◌, ℕ, ◌+◌, ◌/◌, ◌%◌, ◌^◌, ◌<◌, ◌≤◌, ◌++◌, ◌∙◌, length, refl, ap, sym, arith}
-use Rattle.num_format_int.specs.Digits.{digits}
+use Rattle.std.proofs.Common.{◌≡◌, ◌/◌, ◌^◌, ◌++◌, ◌∙◌, length, refl, ap, sym, arith}
 use Rattle.num_format_int.specs.Grouped.{grouped}
 use Rattle.num_format_int.specs.Groups.{last_digits}
 use Rattle.num_format_int.proofs.DigitLemmas.{digits-split, length-digits-le, length-put_group}
