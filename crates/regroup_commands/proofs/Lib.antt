@@ -1,6 +1,6 @@
+mod Examples
 mod LocaleLemmas
 mod MessageLemmas
 mod ReadingLemmas
 mod RequestLemmas
-mod TakingLemmas
-mod WorkedRows
+pub mod SendingLemmas

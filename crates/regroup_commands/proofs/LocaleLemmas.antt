@@ -15,7 +15,7 @@ use Rattle.num_format_text.specs.Refusal.{ParseLocale, refusal_of}
 use Rattle.num_format_locale.specs.Data.{locale_data}
 use Rattle.num_format_locale.specs.Names.{LooksUp, Spells, name_of}
 use Rattle.num_format_locale.proofs.NameLemmas.{length-table_names}
-use Rattle.regroup_commands.specs.Reply.{is_spelling, locale_named}
+use Rattle.regroup_commands.specs.Output.{is_spelling, locale_named}
 
 is_spelling-Decides : (text name : List ℕ) → Decides (is_spelling text name) (Spells text name)
 is_spelling-Decides text name = Decides-or _ _ (bytes_eq-Decides text name) (bytes_eq-Decides text _)

@@ -13,7 +13,8 @@ use Rattle.num_format_text.specs.Cut.{cut_text}
 use Rattle.num_format_text.specs.Format.{FormatData}
 use Rattle.num_format_text.specs.Refusal.{ParseNumber, refusal_of}
 use Rattle.num_format_text.specs.declared.error.Error.{Error}
-use Rattle.regroup_commands.specs.Reply.{fits_i128, is_readable, number_read}
+use Rattle.regroup_commands.specs.Output.{is_readable, number_read}
+use Rattle.regroup_commands.specs.Request.{fits_i128}
 
 -- the values of an i128 are the numbers that fit
 fits-from_value : (z : ℤ) → IsValueOf (signed 127 40) z → fits_i128 z ≡ true

@@ -7,7 +7,7 @@ use Rattle.std.specs.List.{list_all}
 use Rattle.std.specs.Result.{result_ok}
 use Rattle.std.specs.Str.Parse.{AllDigits, ParsesSigned, signed_digits_value, without_leading_sign}
 use Rattle.std.proofs.lemmas.Bool.Decides.{Decides-and, Decides-like, Decides-ltb}
-use Rattle.regroup_commands.specs.Reply.{fits_i128, number_in}
+use Rattle.regroup_commands.specs.Request.{fits_i128, number_in}
 
 all_digits-Decides : (text : List ℕ) → Decides (list_all (λ c. is_digit c 10) text) (AllDigits 10 text)
 all_digits-Decides [] = (λ _. tt, λ _. refl)

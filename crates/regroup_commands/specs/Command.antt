@@ -1,8 +1,8 @@
 -- The request that a `Command` is.
 use Rattle.std.specs.Prelude.{ℕ, List, map}
 use Rattle.std.specs.Borrow.{Bor}
-use Rattle.regroup_commands.specs.Reply.{Request}
-use Rattle.regroup_commands.specs.Reply.Request.{Custom, Names, Print, Read}
+use Rattle.regroup_commands.specs.Request.{Request}
+use Rattle.regroup_commands.specs.Request.Request.{Custom, Names, Print, Read}
 use Rattle.regroup_commands.specs.declared.command.Command.{Command}
 use Rattle.regroup_commands.specs.declared.command.Command.TheVariants as command
 

@@ -1,2 +1,5 @@
+-- The definitions that the contracts of this crate use.
 pub mod Command
-pub mod Reply
+pub mod Output
+pub mod Request
+pub mod Sending

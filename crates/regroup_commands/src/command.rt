@@ -1,10 +1,12 @@
-//! The commands: how words ask for them, and what each does.
-ghost use Rattle.std.specs.Prelude.{◌≡◌, Err, IfOk, IfErr, OnOk, OnErr};
+//! The commands: how words ask for them, and what each prints.
+ghost use Rattle.std.specs.Prelude.{◌≡◌, Err, IfOk, IfErr, OnErr};
 ghost use Rattle.std.specs.Option.{option_map};
 ghost use Rattle.std.specs.Result.{result_map_both};
-ghost use Rattle.num_format_locale.specs.Data.{locale_data};
-ghost use Rattle.num_format_text.specs.Refusal.{refusal_of};
-ghost use Rattle.regroup_commands.specs.Reply.{IsAnswered, IsSent, StopsShort, answer_to, custom_format, custom_with, grouping_named, locale_named, names_with, number_in, number_read, print_with, read_with, reply_to, request_in};
+ghost use Rattle.num_format.specs.Data.{locale_data};
+ghost use Rattle.num_format.specs.Refusal.{refusal_of};
+ghost use Rattle.regroup_commands.specs.Output.{custom_format, locale_named, number_read, output_of_request, result_of};
+ghost use Rattle.regroup_commands.specs.Request.{custom_with, grouping_named, names_with, number_in, print_with, read_with, request_in};
+ghost use Rattle.regroup_commands.specs.Sending.{SendsLines, SendsOutput};
 
 use crate::sending::{send_lines, send_number, send_printed};
 use crate::{ANSWERED, REFUSED};
@@ -13,25 +15,26 @@ use num_format::{CustomFormat, Error, Grouping, Locale};
 use std::io;
 use std::io::Write;
 
-/// What words ask for.
+/// A command with its arguments.
 #[derive(Clone, Copy)]
 pub(crate) enum Command<'a> {
-    /// `custom SEP GROUPING MINUS NUMBER`: the number under the format of `en` with three fields
-    /// of its own.
+    /// `custom SEP GROUPING MINUS NUMBER`: prints the number under the format of `en` with these
+    /// three fields.
     Custom {
         separator: &'a str,
         grouping: Grouping,
         minus_sign: &'a str,
         number: i128,
     },
-    /// `print LOCALE NUMBER`: the number under the locale.
+    /// `print LOCALE NUMBER`: prints the number under the locale.
     Print {
         locale: &'a str,
         number: i128,
     },
-    /// `names`: the names of all locales.
+    /// `names`: prints the names of all locales.
     Names,
-    /// `read LOCALE TEXT`: the number that the text reads as under the locale, in plain decimal.
+    /// `read LOCALE TEXT`: parses the text under the locale, and prints the number in plain
+    /// decimal.
     Read {
         locale: &'a str,
         text: &'a str,
@@ -41,8 +44,8 @@ pub(crate) enum Command<'a> {
 impl<'a> Command<'a> {
     ghost use Rattle.regroup_commands.specs.Command.{request_of, texts};
 
-    /// What the words ask for, or `None`: an unknown command, a wrong number of words, a grouping
-    /// or a number that is none.
+    /// Returns the command of these words. Returns `None` for an unknown command, a wrong number of
+    /// arguments, and a GROUPING or a NUMBER that is not one.
     pub(crate) fn from_words(words: &[&'a str]) -> Option<Command<'a>>
         ensures { option_map request_of result ≡ request_in (texts words.now) }
     {
@@ -56,7 +59,7 @@ impl<'a> Command<'a> {
         }
     }
 
-    /// The command `custom` with these arguments.
+    /// Returns the command `custom` with these arguments.
     fn custom_with(arguments: &[&'a str]) -> Option<Command<'a>>
         ensures { option_map request_of result ≡ custom_with (texts arguments.now) }
     {
@@ -71,7 +74,7 @@ impl<'a> Command<'a> {
         })
     }
 
-    /// The command `print` with these arguments.
+    /// Returns the command `print` with these arguments.
     fn print_with(arguments: &[&'a str]) -> Option<Command<'a>>
         ensures { option_map request_of result ≡ print_with (texts arguments.now) }
     {
@@ -84,14 +87,14 @@ impl<'a> Command<'a> {
         })
     }
 
-    /// The command `names`, which takes no argument.
+    /// Returns the command `names`, which has no arguments.
     fn names_with(arguments: &[&'a str]) -> Option<Command<'a>>
         ensures { option_map request_of result ≡ names_with (texts arguments.now) }
     {
         arguments.is_empty().then_some(Command::Names)
     }
 
-    /// The command `read` with these arguments.
+    /// Returns the command `read` with these arguments.
     fn read_with(arguments: &[&'a str]) -> Option<Command<'a>>
         ensures { option_map request_of result ≡ read_with (texts arguments.now) }
     {
@@ -101,16 +104,16 @@ impl<'a> Command<'a> {
         Some(Command::Read { locale, text })
     }
 
-    /// Sends the answer to `out`, or a refusal to `err`, and answers the status.
+    /// Sends the result to `out`, or the message of an error to `err`, and returns the status.
+    ///
+    /// # Errors
+    ///
+    /// Returns the error of the first write that fails or writes no bytes.
     pub(crate) fn run<O: Write, E: Write>(self, out: &mut O, err: &mut E) -> io::Result<u8>
-        ensures status { IfOk result
-            (λ status. status ≡ (reply_to (request_of self.entry)).status) }
-        ensures sent { OnOk result (IsSent (reply_to (request_of self.entry))
-            (O.contents out.old) (O.contents out.new) (E.contents err.old) (E.contents err.new)) }
-        ensures failed { OnErr result (StopsShort (reply_to (request_of self.entry))
-            (O.contents out.old) (O.contents out.new) (E.contents err.old) (E.contents err.new)) }
+        ensures { SendsOutput result (output_of_request (request_of self.entry))
+            (O.contents out.old) (O.contents out.new) (E.contents err.old) (E.contents err.new) }
     {
-        match self.answer(out) {
+        match self.send_result(out) {
             Ok(sent) => {
                 sent?;
                 Ok(ANSWERED)
@@ -122,12 +125,16 @@ impl<'a> Command<'a> {
         }
     }
 
-    /// Sends the answer, or says why there is none: then nothing is sent.
-    fn answer<O: Write>(self, out: &mut O) -> Result<io::Result<()>, Error>
-        ensures sent { IfOk result (λ sent. IsAnswered (answer_to (request_of self.entry)) sent
-            (O.contents out.old) (O.contents out.new)) }
+    /// Sends the result to `out`, and returns whether `out` received all of it.
+    ///
+    /// # Errors
+    ///
+    /// Returns the error of a request that has no result. Then nothing was sent.
+    fn send_result<O: Write>(self, out: &mut O) -> Result<io::Result<()>, Error>
+        ensures sent { IfOk result (λ sent. SendsLines sent
+            (O.contents out.old) (O.contents out.new) (result_of (request_of self.entry))) }
         ensures refused { IfErr result
-            (λ error. answer_to (request_of self.entry) ≡ Err (refusal_of error)) }
+            (λ error. result_of (request_of self.entry) ≡ Err (refusal_of error)) }
         ensures unsent { OnErr result (O.contents out.new ≡ O.contents out.old) }
     {
         Ok(match self {
@@ -150,7 +157,7 @@ impl<'a> Command<'a> {
     }
 }
 
-/// The grouping of that name.
+/// Returns the grouping of that name.
 fn grouping_named(name: &str) -> Option<Grouping>
     ensures { result ≡ grouping_named name.now }
 {
@@ -162,14 +169,18 @@ fn grouping_named(name: &str) -> Option<Grouping>
     }
 }
 
-/// The number that the text writes, as `parse` reads it.
+/// Returns the number that std's `parse` returns.
 fn number_in(text: &str) -> Option<i128>
     ensures { result ≡ number_in text.now }
 {
     text.parse().ok()
 }
 
-/// The format of `en` with three fields of its own, or the refusal of one.
+/// Returns the format of `en` with these three fields.
+///
+/// # Errors
+///
+/// Returns the error of a field that is too long: of the minus sign before that of the separator.
 fn custom_format(
     separator: &str,
     grouping: Grouping,
@@ -185,14 +196,22 @@ fn custom_format(
         .build()
 }
 
-/// The locale of that name, or the refusal of a text that names none.
+/// Returns the locale of that name.
+///
+/// # Errors
+///
+/// Returns an error if no locale has the name.
 fn locale_named(name: &str) -> Result<Locale, Error>
     ensures { result_map_both locale_data refusal_of result ≡ locale_named name.now }
 {
     Locale::from_name(name)
 }
 
-/// The number that the text reads as under the locale, or the refusal of a text that is none.
+/// Returns the number that the text denotes under the locale.
+///
+/// # Errors
+///
+/// Returns an error if the text does not parse as an `i128`.
 fn number_read(text: &str, locale: &Locale) -> Result<i128, Error>
     ensures { result_map_both (λ number. number) refusal_of result
         ≡ number_read (locale_data locale.now) text.now }

@@ -1,82 +1,95 @@
 //! The commands of the program `regroup`, over any two writers.
 //!
-//! [`run`] takes the words after the program's name and replies to them with a status and with
-//! bytes on one of two outputs:
+//! [`run`] takes the words after the program's name. It sends the output of the command to two
+//! writers, standard output and standard error in the program, and returns the exit status:
 //!
-//! | Status | Reply |
+//! | Status | Output |
 //! |---|---|
-//! | 0 | the answer on standard output: lines that each end with a newline |
-//! | 1 | what an `Error` prints and a newline on standard error |
-//! | 2 | the usage and a newline on standard error |
-//! | 3 | a part of one of these, since an output failed or took no byte |
+//! | 0 | the result on standard output: lines, each of which ends with a newline |
+//! | 1 | the message of an `Error` and a newline, on standard error |
+//! | 2 | the usage and a newline, on standard error |
+//! | 3 | a part of one of these: a write failed or wrote no bytes |
 //!
 //! The commands:
 //!
-//! | Words | Answer |
+//! | Words | Result |
 //! |---|---|
 //! | `custom SEP GROUPING MINUS NUMBER` | the number under the format of `en` with these three fields |
 //! | `print LOCALE NUMBER` | the number under the locale |
-//! | `names` | the names of the 542 locales, in rising byte order, one a line |
-//! | `read LOCALE TEXT` | the number that the text reads as under the locale, in plain decimal |
+//! | `names` | the names of the 542 locales, in ascending byte order, one per line |
+//! | `read LOCALE TEXT` | the number that the text denotes under the locale, in plain decimal |
 //!
-//! GROUPING is `Standard`, `Indian` or `Posix`, and NUMBER is what `parse::<i128>` accepts: both
-//! are tried before anything is refused. LOCALE is a name as `names` lists it, or with `_` for each
-//! `-`, and is looked up before TEXT is read. TEXT reads as an `i128`.
+//! GROUPING is `Standard`, `Indian` or `Posix`, and NUMBER is a text that `parse::<i128>` accepts.
+//! Both are checked first: a text that is neither gets the usage, whatever the other arguments are.
+//! LOCALE is a name as `names` prints it, or with `_` in place of each `-`. It is looked up before
+//! TEXT is parsed. TEXT parses as an `i128`.
 //!
-//! Nothing here takes memory: a reply is made in place, and leaves in as many writes as it takes.
+//! Nothing here allocates.
 #![tactic(auto)]
 
 mod command;
 mod sending;
 
-ghost use Rattle.std.specs.Prelude.{◌≡◌, ◌≢◌, IfOk, OnOk, OnErr};
+ghost use Rattle.std.specs.Prelude.{◌≡◌, ◌≢◌};
 ghost use Rattle.regroup_commands.specs.Command.{texts};
-ghost use Rattle.regroup_commands.specs.Reply.{IsSent, StopsShort, reply};
+ghost use Rattle.regroup_commands.specs.Output.{output_of};
+ghost use Rattle.regroup_commands.specs.Sending.{IsSent, SendsOutput, StopsShort};
 
 use crate::command::Command;
 use crate::sending::send_line;
 use std::io;
 use std::io::Write;
 
-/// The status of an answer.
+/// The status of a command that printed its result.
 pub const ANSWERED: u8 = 0;
 
-/// The status of a refusal: a text that is too long for its field, that names no locale, or that
-/// reads as no number.
+/// The status of a command that has an error in place of a result: a separator or a minus sign is
+/// too long, no locale has the name, or the text does not parse as a number.
 pub const REFUSED: u8 = 1;
 
-/// The status of words that ask for nothing.
+/// The status where the words are no command with its arguments.
 pub const MISUSED: u8 = 2;
 
-/// The status where an output failed, or took no byte.
+/// The status where a write failed or wrote no bytes. The program ends with it also where it could
+/// not get the words.
 pub const FAILED: u8 = 3;
 
-/// What standard error says where the words ask for nothing.
+/// The message for words that are no command with its arguments.
 const USAGE: &str = "usage: regroup COMMAND ARGUMENT...";
 
-/// Replies to the words, which stand after the program's name, and answers the status.
+/// Runs the command that the words ask for, and returns the exit status. The words are those after
+/// the program's name.
 ///
-/// An unknown command, a wrong number of words, and a grouping or a number that is none get the
-/// usage, even where a text is refused as well. The first write that fails, an interrupted one
-/// included, or that takes no byte ends the reply: each output has then taken a prefix of what
-/// the reply sends to it.
+/// - [`ANSWERED`] (0): `out` received the result, and `err` nothing.
+/// - [`REFUSED`] (1): `err` received the message of the error and a newline, and `out` nothing.
+/// - [`MISUSED`] (2): `err` received the usage and a newline, and `out` nothing. The command is
+///   unknown, the number of words is wrong, or GROUPING or NUMBER is not one. This is checked
+///   before any error of status 1.
+/// - [`FAILED`] (3): a write failed, also one that was interrupted, or wrote no bytes. Nothing was
+///   written after it. Each of `out` and `err` received a prefix of what it receives with the
+///   status 0, 1 or 2 that the words have, and not both received all.
+///
+/// ```text
+/// run(&["print", "en", "1000000"], &mut out, &mut err)    // 0, and "1,000,000\n" in `out`
+/// ```
 pub fn run<O: Write, E: Write>(args: &[&str], out: &mut O, err: &mut E) -> u8
-    ensures status { result ≢ FAILED → result ≡ (reply (texts args.now)).status }
-    ensures sent { result ≢ FAILED → IsSent (reply (texts args.now))
+    ensures status { result ≢ FAILED → result ≡ (output_of (texts args.now)).status }
+    ensures sent { result ≢ FAILED → IsSent (output_of (texts args.now))
         (O.contents out.old) (O.contents out.new) (E.contents err.old) (E.contents err.new) }
-    ensures failed { result ≡ FAILED → StopsShort (reply (texts args.now))
+    ensures failed { result ≡ FAILED → StopsShort (output_of (texts args.now))
         (O.contents out.old) (O.contents out.new) (E.contents err.old) (E.contents err.new) }
 {
-    reply(args, out, err).unwrap_or(FAILED)
+    try_run(args, out, err).unwrap_or(FAILED)
 }
 
-/// Sends the reply to the words, and answers its status, or how an output failed.
-fn reply<O: Write, E: Write>(args: &[&str], out: &mut O, err: &mut E) -> io::Result<u8>
-    ensures status { IfOk result (λ status. status ≡ (reply (texts args.now)).status) }
-    ensures sent { OnOk result (IsSent (reply (texts args.now))
-        (O.contents out.old) (O.contents out.new) (E.contents err.old) (E.contents err.new)) }
-    ensures failed { OnErr result (StopsShort (reply (texts args.now))
-        (O.contents out.old) (O.contents out.new) (E.contents err.old) (E.contents err.new)) }
+/// Runs the command that the words ask for, and returns its status.
+///
+/// # Errors
+///
+/// Returns the error of the first write that fails or writes no bytes.
+fn try_run<O: Write, E: Write>(args: &[&str], out: &mut O, err: &mut E) -> io::Result<u8>
+    ensures { SendsOutput result (output_of (texts args.now))
+        (O.contents out.old) (O.contents out.new) (E.contents err.old) (E.contents err.new) }
 {
     match Command::from_words(args) {
         Some(command) => command.run(out, err),

@@ -2,7 +2,7 @@ use Rattle.std.proofs.Common.{length}
 use Rattle.num_format.specs.Writing.{HasReceivedUpTo}
 use Rattle.regroup_commands.proofs.sending.send.Given as goal
 
--- what is taken so far and the rest make the whole
+-- the writer received all that stands before the rest
 abbrev pub invariant-loop-rest : goal.invariant-loop-rest
 invariant-loop-rest g l = HasReceivedUpTo (g.W.Write.contents l.initial.writer) (g.W.Write.contents l.writer) l.bytes l.rest
 

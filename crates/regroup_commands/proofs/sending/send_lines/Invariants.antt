@@ -1,7 +1,7 @@
 use Rattle.std.proofs.Common.{drop}
 use Rattle.num_format.specs.Writing.{HasReceivedUpTo}
 use Rattle.regroup_commands.specs.Command.{texts}
-use Rattle.regroup_commands.specs.Reply.{lines}
+use Rattle.regroup_commands.specs.Output.{lines}
 use Rattle.regroup_commands.proofs.sending.send_lines.Given as goal
 
 -- what is taken so far and the lines left make the whole

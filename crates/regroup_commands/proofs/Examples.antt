@@ -1,0 +1,85 @@
+-- What the definition of the reply says of some command lines; 10 is the newline.
+use Rattle.std.proofs.Common.{◌≡◌, [], ◌∷◌, ◌++◌, None, Some, refl, arith}
+use Rattle.std.specs.Prelude.{codes, pos, negsuc, ◌-◌, ◌^◌}
+use Rattle.std.specs.Fmt.{digits as printed_digits}
+use lib.Utf8.{encode}
+use Rattle.std.specs.Str.{chars}
+use Rattle.num_format_cldr.specs.Families.{families}
+use Rattle.num_format_cldr.specs.Table.{members, table, table_names}
+use Rattle.num_format_int.specs.Digits.{digits}
+use Rattle.num_format_int.proofs.ReadingLemmas.{is_other_numeral-ascii}
+use Rattle.num_format_text.specs.Cut.{cut_text}
+use Rattle.regroup_commands.specs.Output.{output_of}
+use Rattle.regroup_commands.specs.Request.{number_in}
+
+millions : output_of (codes "custom" ∷ codes "," ∷ codes "Standard" ∷ codes "-" ∷ codes "-1000000" ∷ [])
+    ≡ record { status = 0; stdout = codes "-1,000,000" ++ 10 ∷ []; stderr = [] }
+unfolding digits
+millions = refl
+
+no_separator_and_no_sign : output_of (codes "custom" ∷ [] ∷ codes "Indian" ∷ [] ∷ codes "-100000" ∷ [])
+    ≡ record { status = 0; stdout = codes "100000" ++ 10 ∷ []; stderr = [] }
+unfolding digits
+no_separator_and_no_sign = refl
+
+-- the minus sign is refused before the separator
+two_refused : output_of (codes "custom" ∷ codes "123456789" ∷ codes "Standard" ∷ codes "1234567890" ∷ codes "1" ∷ [])
+    ≡ record {
+      status = 1;
+      stdout = [];
+      stderr = codes "Attempted to write input of length 10 bytes into a buffer with capacity 8 bytes." ++ 10 ∷ [];
+    }
+unfolding printed_digits
+two_refused = refl
+
+unknown_grouping : output_of (codes "custom" ∷ codes "123456789" ∷ codes "Chinese" ∷ codes "-" ∷ codes "1" ∷ [])
+    ≡ record { status = 2; stdout = []; stderr = codes "usage: regroup COMMAND ARGUMENT..." ++ 10 ∷ [] }
+unknown_grouping = refl
+
+no_number : output_of (codes "custom" ∷ codes "123456789" ∷ codes "Standard" ∷ codes "-" ∷ codes "1e3" ∷ [])
+    ≡ record { status = 2; stdout = []; stderr = codes "usage: regroup COMMAND ARGUMENT..." ++ 10 ∷ [] }
+no_number = refl
+
+no_arguments : output_of (codes "custom" ∷ [])
+    ≡ record { status = 2; stdout = []; stderr = codes "usage: regroup COMMAND ARGUMENT..." ++ 10 ∷ [] }
+no_arguments = refl
+
+no_words : output_of [] ≡ record { status = 2; stdout = []; stderr = codes "usage: regroup COMMAND ARGUMENT..." ++ 10 ∷ [] }
+no_words = refl
+
+indian_locale : output_of (codes "print" ∷ codes "as" ∷ codes "-1234567" ∷ [])
+    ≡ record { status = 0; stdout = codes "-12,34,567" ++ 10 ∷ []; stderr = [] }
+unfolding digits encode families members table table_names
+indian_locale = refl
+
+unknown_locale : output_of (codes "print" ∷ codes "xx" ∷ codes "1" ∷ [])
+    ≡ record { status = 1; stdout = []; stderr = codes "Failed to parse xx into a valid locale." ++ 10 ∷ [] }
+unfolding cut_text encode families members table_names
+unknown_locale = refl
+
+no_number_under_a_locale : output_of (codes "print" ∷ codes "en" ∷ codes "1e3" ∷ [])
+    ≡ record { status = 2; stdout = []; stderr = codes "usage: regroup COMMAND ARGUMENT..." ++ 10 ∷ [] }
+no_number_under_a_locale = refl
+
+names_with_an_argument : output_of (codes "names" ∷ codes "x" ∷ [])
+    ≡ record { status = 2; stdout = []; stderr = codes "usage: regroup COMMAND ARGUMENT..." ++ 10 ∷ [] }
+names_with_an_argument = refl
+
+-- the minus sign is not the front of the text
+sign_behind_a_blank : output_of (codes "read" ∷ codes "en" ∷ codes " -5" ∷ [])
+    ≡ record { status = 0; stdout = codes "5" ++ 10 ∷ []; stderr = [] }
+unfolding chars encode families members printed_digits table table_names
+sign_behind_a_blank =
+    rw (is_other_numeral-ascii 32 (omega arith), is_other_numeral-ascii 45 (omega arith), is_other_numeral-ascii 53 (omega arith)) refl
+
+lowest : number_in (codes "-170141183460469231731687303715884105728") ≡ Some (negsuc (2 ^ 127 - 1))
+lowest = refl
+
+below_lowest : number_in (codes "-170141183460469231731687303715884105729") ≡ None
+below_lowest = refl
+
+plus_sign : number_in (codes "+5") ≡ Some (pos 5)
+plus_sign = refl
+
+sign_alone : number_in (codes "-") ≡ None
+sign_alone = refl

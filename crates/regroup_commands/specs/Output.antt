@@ -1,0 +1,105 @@
+-- The output of the program: its exit status, and the bytes for standard output and standard error.
+use Rattle.std.specs.Prelude.{◌≡◌, ℕ, ◌+◌, nat_le, nat_lt, ℤ, Bool, not, ◌&&◌, ◌||◌, if◌then◌else◌, List, [], ◌∷◌, ◌++◌, length, map, codes, Option, Some, None, Result, Ok, Err}
+use Rattle.std.specs.Fmt.{signed_decimal}
+use Rattle.std.specs.List.{flat_map, list_any, position}
+use Rattle.std.specs.Option.{ok_or, option_map}
+use Rattle.std.specs.Result.{result_map_both}
+use Rattle.std.specs.Str.{bytes_eq, chars}
+use Rattle.num_format.specs.Building.{built, choices_of, chosen}
+use Rattle.num_format.specs.Cut.{cut_text}
+use Rattle.num_format.specs.Data.{locale_data}
+use Rattle.num_format.specs.English.{english}
+use Rattle.num_format.specs.Format.{FormatData}
+use Rattle.num_format.specs.Grouping.{Grouping}
+use Rattle.num_format.specs.Names.{underscore_for_hyphen}
+use Rattle.num_format.specs.Reading.{denoted, figures, is_negative_text, is_other_numeral}
+use Rattle.num_format.specs.Refusal.{Refusal, ParseLocale, ParseNumber, message_of, refusal_of}
+use Rattle.num_format.specs.Table.{table_names}
+use Rattle.num_format.specs.Text.{text_of}
+use Rattle.regroup_commands.specs.Request.{Request, fits_i128, request_in}
+use Rattle.regroup_commands.specs.Request.Request.{Custom, Names, Print, Read}
+
+-- en's format with these three fields, or the error of a field that is too long
+abbrev pub custom_format : List ℕ → Grouping → List ℕ → Result FormatData Refusal
+custom_format separator grouping minus_sign = result_map_both (λ format. format) refusal_of (built (record (choices_of english) {
+  separator = chosen 8 separator;
+  grouping = grouping;
+  minus_sign = chosen 8 minus_sign;
+}))
+
+-- whether the text is the name, or the name with every hyphen an underscore
+abbrev pub is_spelling : List ℕ → List ℕ → Bool
+is_spelling text name = bytes_eq text name || bytes_eq text (map underscore_for_hyphen name)
+
+-- the data of the locale whose name the text spells, or the error of a text that spells none
+abbrev pub locale_named : List ℕ → Result FormatData Refusal
+locale_named text = ok_or (option_map locale_data (position (is_spelling text) table_names)) (ParseLocale (cut_text text))
+
+-- whether the text parses as an i128 under the format: it has a digit 0 to 9 and no other numeral, at most 40 digits, a minus sign
+-- counted as one, and denotes a number that fits
+abbrev pub is_readable : FormatData → List ℕ → Bool
+is_readable format text =
+    nat_lt 0 (length (figures text)) && (not (list_any is_other_numeral (chars text))
+    && (nat_le (length (figures text) + (if is_negative_text format text then 1 else 0)) 40 && fits_i128 (denoted format text)))
+
+-- the number that the text denotes under the format, or the error of a text that does not parse
+abbrev pub number_read : FormatData → List ℕ → Result ℤ Refusal
+number_read format text = if is_readable format text then Ok (denoted format text) else Err (ParseNumber (cut_text text))
+
+-- a text and a newline
+abbrev pub line : List ℕ → List ℕ
+line text = text ++ 10 ∷ []
+
+-- each text and a newline after it
+abbrev pub lines : List (List ℕ) → List ℕ
+lines texts = flat_map line texts
+
+-- the line of a number under the format, or the format's error
+abbrev pub number_line : Result FormatData Refusal → ℤ → Result (List ℕ) Refusal
+number_line (Ok format) number = Ok (line (text_of format number))
+number_line (Err error) number = Err error
+
+-- the number that a text denotes under the format, or the format's error
+abbrev pub number_read_under : Result FormatData Refusal → List ℕ → Result ℤ Refusal
+number_read_under (Ok format) text = number_read format text
+number_read_under (Err error) text = Err error
+
+-- the line of a number in plain decimal, or the number's error
+abbrev pub decimal_line : Result ℤ Refusal → Result (List ℕ) Refusal
+decimal_line (Ok number) = Ok (line (signed_decimal number))
+decimal_line (Err error) = Err error
+
+-- the lines that a request prints, or its error
+abbrev pub result_of : Request → Result (List ℕ) Refusal
+result_of (Custom separator grouping minus_sign number) = number_line (custom_format separator grouping minus_sign) number
+result_of (Print locale number) = number_line (locale_named locale) number
+result_of Names = Ok (lines table_names)
+result_of (Read locale text) = decimal_line (number_read_under (locale_named locale) text)
+
+-- the exit status, and the bytes for each of the two writers
+pub record Output : Type 0 where
+  pub status : ℕ
+  pub stdout : List ℕ
+  pub stderr : List ℕ
+
+-- the output of a result: its lines, or the message of its error
+abbrev pub output_of_result : Result (List ℕ) Refusal → Output
+output_of_result (Ok text) = record { status = 0; stdout = text; stderr = [] }
+output_of_result (Err error) = record { status = 1; stdout = []; stderr = line (message_of error) }
+
+-- the output for words that are no request
+abbrev pub usage_output : Output
+usage_output = record { status = 2; stdout = []; stderr = line (codes "usage: regroup COMMAND ARGUMENT...") }
+
+-- the output of a request
+abbrev pub output_of_request : Request → Output
+output_of_request request = output_of_result (result_of request)
+
+-- the output of a request, or the usage if there is none
+abbrev pub output_or_usage : Option Request → Output
+output_or_usage (Some request) = output_of_request request
+output_or_usage None = usage_output
+
+-- the output for the words after the program's name
+abbrev pub output_of : List (List ℕ) → Output
+output_of words = output_or_usage (request_in words)
