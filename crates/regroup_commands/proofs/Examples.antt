@@ -1,4 +1,4 @@
--- What the definition of the reply says of some command lines; 10 is the newline.
+-- The output for some command lines; 10 is the newline.
 use Rattle.std.proofs.Common.{◌≡◌, [], ◌∷◌, ◌++◌, None, Some, refl, arith}
 use Rattle.std.specs.Prelude.{codes, pos, negsuc, ◌-◌, ◌^◌}
 use Rattle.std.specs.Fmt.{digits as printed_digits}
@@ -22,15 +22,15 @@ no_separator_and_no_sign : output_of (codes "custom" ∷ [] ∷ codes "Indian" �
 unfolding digits
 no_separator_and_no_sign = refl
 
--- the minus sign is refused before the separator
-two_refused : output_of (codes "custom" ∷ codes "123456789" ∷ codes "Standard" ∷ codes "1234567890" ∷ codes "1" ∷ [])
+-- two texts are too long: the error is that of the minus sign
+two_errors : output_of (codes "custom" ∷ codes "123456789" ∷ codes "Standard" ∷ codes "1234567890" ∷ codes "1" ∷ [])
     ≡ record {
       status = 1;
       stdout = [];
       stderr = codes "Attempted to write input of length 10 bytes into a buffer with capacity 8 bytes." ++ 10 ∷ [];
     }
 unfolding printed_digits
-two_refused = refl
+two_errors = refl
 
 unknown_grouping : output_of (codes "custom" ∷ codes "123456789" ∷ codes "Chinese" ∷ codes "-" ∷ codes "1" ∷ [])
     ≡ record { status = 2; stdout = []; stderr = codes "usage: regroup COMMAND ARGUMENT..." ++ 10 ∷ [] }
@@ -65,11 +65,11 @@ names_with_an_argument : output_of (codes "names" ∷ codes "x" ∷ [])
     ≡ record { status = 2; stdout = []; stderr = codes "usage: regroup COMMAND ARGUMENT..." ++ 10 ∷ [] }
 names_with_an_argument = refl
 
--- the minus sign is not the front of the text
-sign_behind_a_blank : output_of (codes "read" ∷ codes "en" ∷ codes " -5" ∷ [])
+-- the minus sign does not begin the text
+sign_after_a_space : output_of (codes "read" ∷ codes "en" ∷ codes " -5" ∷ [])
     ≡ record { status = 0; stdout = codes "5" ++ 10 ∷ []; stderr = [] }
 unfolding chars encode families members printed_digits table table_names
-sign_behind_a_blank =
+sign_after_a_space =
     rw (is_other_numeral-ascii 32 (omega arith), is_other_numeral-ascii 45 (omega arith), is_other_numeral-ascii 53 (omega arith)) refl
 
 lowest : number_in (codes "-170141183460469231731687303715884105728") ≡ Some (negsuc (2 ^ 127 - 1))

@@ -1,6 +1,6 @@
 mod Examples
-mod LocaleLemmas
+pub mod LocaleLemmas
 mod MessageLemmas
-mod ReadingLemmas
-mod RequestLemmas
+pub mod ReadingLemmas
+pub mod RequestLemmas
 pub mod SendingLemmas

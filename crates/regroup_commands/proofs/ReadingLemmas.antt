@@ -1,4 +1,4 @@
--- Which texts read as numbers.
+-- Which texts parse as numbers under a format.
 use Rattle.std.proofs.Common.{◌≡◌, ℕ, ◌+◌, ◌^◌, ◌<◌, ◌≤◌, true, List, [], ◌∷◌, length, Result, Ok, Err, Decides, if◌then◌else◌, refl, ap, arith}
 use Rattle.std.specs.Prelude.{ℤ, pos, negsuc, IfOk, IfErr, not}
 use Rattle.std.specs.List.{list_any}
@@ -16,7 +16,7 @@ use Rattle.num_format_text.specs.declared.error.Error.{Error}
 use Rattle.regroup_commands.specs.Output.{is_readable, number_read}
 use Rattle.regroup_commands.specs.Request.{fits_i128}
 
--- the values of an i128 are the numbers that fit
+-- the values of an i128 are the numbers that pass the test
 fits-from_value : (z : ℤ) → IsValueOf (signed 127 40) z → fits_i128 z ≡ true
 fits-from_value (pos n) value = (Decides-ltb n (2 ^ 127)).1 (let below = value.below in omega (arith, ints))
 fits-from_value (negsuc n) value = (Decides-ltb n (2 ^ 127)).1 (let above = value.above in omega (arith, ints))
@@ -25,23 +25,25 @@ value-from_fits : (z : ℤ) → fits_i128 z ≡ true → IsValueOf (signed 127 4
 value-from_fits (pos n) fits = let within = (Decides-ltb n (2 ^ 127)).0 fits in record { above = omega (arith, ints); below = omega (arith, ints); zero = λ _. refl }
 value-from_fits (negsuc n) fits = let within = (Decides-ltb n (2 ^ 127)).0 fits in record { above = omega (arith, ints); below = omega (arith, ints); zero = λ _. refl }
 
-given : (xs : List ℕ) → ¬ (xs ≡ []) → 0 < length xs
-given [] some = absurd (some refl)
-given (x ∷ xs) some = omega arith
+-- a list that is not empty has an element
+length-nonempty : (xs : List ℕ) → ¬ (xs ≡ []) → 0 < length xs
+length-nonempty [] some = absurd (some refl)
+length-nonempty (x ∷ xs) some = omega arith
 
 module _ (format : FormatData) (text : List ℕ) where
-  -- the parts of the test
+  -- the test is the four conditions
   readable-Decides : Decides (is_readable format text)
       ((0 < length (figures text)) × ((not (list_any is_other_numeral (chars text)) ≡ true)
       × ((length (figures text) + (if is_negative_text format text then 1 else 0) ≤ 40) × (fits_i128 (denoted format text) ≡ true))))
   readable-Decides =
       Decides-and _ _ (Decides-ltb 0 _) (Decides-and _ _ (λ yes. yes, λ yes. yes) (Decides-and _ _ (λ yes. leb-true _ _ yes, λ few. le-leb _ _ few) (λ yes. yes, λ yes. yes)))
 
+  -- a text that is not refused passes the test
   readable-from_accepted : ¬ (Refused (signed 127 40) format text) → is_readable format text ≡ true
   readable-from_accepted accepted =
       let few : 40 < length (figures text) + (if is_negative_text format text then 1 else 0) → ⊥ = λ many. accepted (Refused.too_many_figures many) in
       readable-Decides.1 (
-        given _ (λ none. accepted (Refused.no_digit none)),
+        length-nonempty _ (λ none. accepted (Refused.no_digit none)),
         (
           not_from_false _ (false_from_ne_true _ (λ some. accepted (Refused.other_numeral some))),
           (
@@ -51,6 +53,7 @@ module _ (format : FormatData) (text : List ℕ) where
         ),
       )
 
+  -- a text that is refused does not
   unreadable-from_refused : Refused (signed 127 40) format text → is_readable format text ≡ true → ⊥
   unreadable-from_refused (Refused.no_digit none) readable = let some = (readable-Decides.0 readable).0 in absurd (omega (arith, ap length none))
   unreadable-from_refused (Refused.other_numeral some) readable = both_ways _ (not-true _ (readable-Decides.0 readable).1.0) some
@@ -58,9 +61,9 @@ module _ (format : FormatData) (text : List ℕ) where
   unreadable-from_refused (Refused.no_value none) readable =
       none (record { sign = λ _. refl; value = value-from_fits _ (readable-Decides.0 readable).1.1.1 })
 
-  -- the definition is what `parse_formatted` answers
-  pub number_read-from_parse : (r : Result ℤ Error) → IfOk r (λ n. n ≡ denoted format text) → IfOk r (λ _. ¬ (Refused (signed 127 40) format text)) →
+  -- the definition is what `parse_formatted` returns
+  pub number_read_from_parse : (r : Result ℤ Error) → IfOk r (λ n. n ≡ denoted format text) → IfOk r (λ _. ¬ (Refused (signed 127 40) format text)) →
       IfErr r (λ _. Refused (signed 127 40) format text) → IfErr r (λ e. refusal_of e ≡ ParseNumber (cut_text text)) →
       result_map_both (λ n. n) refusal_of r ≡ number_read format text
-  number_read-from_parse (Ok n) number accepted refused error = rw (readable-from_accepted accepted) (ap Ok number)
-  number_read-from_parse (Err e) number accepted refused error = rw (false_from_ne_true _ (unreadable-from_refused refused)) (ap Err error)
+  number_read_from_parse (Ok n) number accepted refused error = rw (readable-from_accepted accepted) (ap Ok number)
+  number_read_from_parse (Err e) number accepted refused error = rw (false_from_ne_true _ (unreadable-from_refused refused)) (ap Err error)

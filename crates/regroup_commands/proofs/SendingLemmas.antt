@@ -1,23 +1,17 @@
 -- What writers received, text after text.
 use Rattle.std.proofs.Common.{◌≡◌, ℕ, ◌+◌, ◌<◌, List, [], ◌∷◌, ◌++◌, length, map, drop, get_or, sym, ap, ◌∙◌, add-one, append_assoc, drop-cons, length-append, arith}
 use Rattle.std.specs.Borrow.{Bor}
-use Rattle.std.specs.Prelude.{Option, Result, Ok, Err}
+use Rattle.std.specs.Prelude.{Option}
 use Rattle.std.proofs.KnownBytes.{Appends-nil, Appends-trans}
 use Rattle.std.specs.Io.KnownBytes.{Appends}
 use Rattle.num_format.specs.Writing.{HasReceivedUpTo, StopsWithin}
 use Rattle.num_format.proofs.WritingLemmas.{HasReceivedUpTo-none, StopsWithin-none, StopsWithin_prefix, StopsWithin_suffix}
 use Rattle.regroup_commands.specs.Output.{line, lines}
-use Rattle.regroup_commands.specs.Sending.{IsSent, Sends, StopsShort}
+use Rattle.regroup_commands.specs.Sending.{IsSent, StopsShort}
 
 -- a writer that received nothing stops within any line
 pub StopsWithin-unsent : (a : Option (List ℕ)) (text : List ℕ) → StopsWithin a a (line text)
 StopsWithin-unsent a text = StopsWithin-none a (line text) (omega (arith, length-append text (10 ∷ [])))
-
--- a call that sends the newline of a line, after its text
-pub Sends_newline : {T E : Type 0} (r : Result T E) (a b c : Option (List ℕ)) (text : List ℕ) → Appends a b text → Sends r b c (10 ∷ []) →
-    Sends r a c (line text)
-Sends_newline (Ok x) a b c text first newline = record { whole = Appends-trans a b c text (10 ∷ []) first newline.whole; prefix = tt }
-Sends_newline (Err e) a b c text first newline = record { whole = tt; prefix = StopsWithin_suffix a b c text (10 ∷ []) first newline.prefix }
 
 -- an output for one writer is sent where that writer received it
 pub IsSent_stdout : (a b c : Option (List ℕ)) (status : ℕ) (text : List ℕ) → Appends a b text →

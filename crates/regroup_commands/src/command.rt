@@ -170,6 +170,7 @@ fn grouping_named(name: &str) -> Option<Grouping>
 }
 
 /// Returns the number that std's `parse` returns.
+#[tactic(auto, using(crate::proofs::RequestLemmas::number_in_from_parse))]
 fn number_in(text: &str) -> Option<i128>
     ensures { result ≡ number_in text.now }
 {
@@ -201,6 +202,7 @@ fn custom_format(
 /// # Errors
 ///
 /// Returns an error if no locale has the name.
+#[tactic(auto, using(crate::proofs::LocaleLemmas::locale_named_from_LooksUp))]
 fn locale_named(name: &str) -> Result<Locale, Error>
     ensures { result_map_both locale_data refusal_of result ≡ locale_named name.now }
 {
@@ -212,6 +214,7 @@ fn locale_named(name: &str) -> Result<Locale, Error>
 /// # Errors
 ///
 /// Returns an error if the text does not parse as an `i128`.
+#[tactic(auto, using(crate::proofs::ReadingLemmas::number_read_from_parse))]
 fn number_read(text: &str, locale: &Locale) -> Result<i128, Error>
     ensures { result_map_both (λ number. number) refusal_of result
         ≡ number_read (locale_data locale.now) text.now }

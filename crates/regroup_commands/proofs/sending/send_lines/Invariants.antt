@@ -4,6 +4,6 @@ use Rattle.regroup_commands.specs.Command.{texts}
 use Rattle.regroup_commands.specs.Output.{lines}
 use Rattle.regroup_commands.proofs.sending.send_lines.Given as goal
 
--- what is taken so far and the lines left make the whole
+-- the writer received all lines before those that are left
 abbrev pub invariant-loop-text : goal.invariant-loop-text
 invariant-loop-text g l = HasReceivedUpTo (g.W.Write.contents l.initial.writer) (g.W.Write.contents l.writer) (lines (texts l.items)) (lines (texts (drop l.text-index l.items)))
