@@ -4,11 +4,11 @@ use Rattle.std.specs.Prelude.{codes, pos, negsuc, ◌-◌, ◌^◌}
 use Rattle.std.specs.Fmt.{digits as printed_digits}
 use lib.Utf8.{encode}
 use Rattle.std.specs.Str.{chars}
-use Rattle.num_format_cldr.specs.Families.{families}
-use Rattle.num_format_cldr.specs.Table.{members, table, table_names}
-use Rattle.num_format_int.specs.Digits.{digits}
+use Rattle.num_format.specs.Families.{families}
+use Rattle.num_format.specs.Table.{members, table, table_names}
+use Rattle.num_format.specs.Digits.{digits}
 use Rattle.num_format_int.proofs.ReadingLemmas.{is_other_numeral-ascii}
-use Rattle.num_format_text.specs.Cut.{cut_text}
+use Rattle.num_format.specs.Cut.{cut_text}
 use Rattle.regroup_commands.specs.Output.{output_of}
 use Rattle.regroup_commands.specs.Request.{number_in}
 

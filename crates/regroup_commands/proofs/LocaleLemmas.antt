@@ -8,12 +8,12 @@ use Rattle.std.proofs.lemmas.Bool.Decides.{Decides-or}
 use Rattle.std.proofs.lemmas.List.Sums.{position_or_len_is}
 use Rattle.std.proofs.lemmas.Slice.Eq.{bytes_eq-Decides}
 use Rattle.num_format_cldr.specs.declared.TheConstants.{LEN}
-use Rattle.num_format_cldr.specs.Table.{table_names}
-use Rattle.num_format_text.specs.declared.error.Error.{Error}
-use Rattle.num_format_text.specs.Cut.{cut_text}
-use Rattle.num_format_text.specs.Refusal.{ParseLocale, refusal_of}
-use Rattle.num_format_locale.specs.Data.{locale_data}
-use Rattle.num_format_locale.specs.Names.{LooksUp, Spells, name_of}
+use Rattle.num_format.specs.Table.{table_names}
+use Rattle.num_format.specs.Error.{Error}
+use Rattle.num_format.specs.Cut.{cut_text}
+use Rattle.num_format.specs.Refusal.{ParseLocale, refusal_of}
+use Rattle.num_format.specs.Data.{locale_data}
+use Rattle.num_format.specs.Names.{LooksUp, Spells, name_of}
 use Rattle.num_format_locale.proofs.NameLemmas.{length-table_names}
 use Rattle.regroup_commands.specs.Output.{is_spelling, locale_named}
 

@@ -7,12 +7,12 @@ use Rattle.std.specs.Str.{chars}
 use Rattle.std.proofs.lemmas.Bool.{both_ways, false_from_ne_true, le-leb, leb-true, not-true, not_from_false, true_from_ne_false}
 use Rattle.std.proofs.lemmas.Int.{ints}
 use Rattle.std.proofs.lemmas.Bool.Decides.{Decides-and, Decides-ltb}
-use Rattle.num_format_int.specs.Kind.{IsValueOf, signed}
-use Rattle.num_format_int.specs.Reading.{Refused, denoted, figures, is_negative_text, is_other_numeral}
-use Rattle.num_format_text.specs.Cut.{cut_text}
-use Rattle.num_format_text.specs.Format.{FormatData}
-use Rattle.num_format_text.specs.Refusal.{ParseNumber, refusal_of}
-use Rattle.num_format_text.specs.declared.error.Error.{Error}
+use Rattle.num_format.specs.Kind.{IsValueOf, signed}
+use Rattle.num_format.specs.Reading.{Refused, denoted, figures, is_negative_text, is_other_numeral}
+use Rattle.num_format.specs.Cut.{cut_text}
+use Rattle.num_format.specs.Format.{FormatData}
+use Rattle.num_format.specs.Refusal.{ParseNumber, refusal_of}
+use Rattle.num_format.specs.Error.{Error}
 use Rattle.regroup_commands.specs.Output.{is_readable, number_read}
 use Rattle.regroup_commands.specs.Request.{fits_i128}
 

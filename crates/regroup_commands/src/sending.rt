@@ -13,8 +13,8 @@ use std::fmt::{Display, InlineText, Write as _};
 use std::io;
 use std::io::Write;
 
-/// The capacity in bytes for a printed value. An `Error` prints at most 256 bytes of the text that
-/// it keeps and 39 bytes around it; a number prints at most 40 bytes.
+/// The capacity in bytes for a printed value. An `Error` prints at most 293 bytes: 256 of the text
+/// that it keeps, and 37 around it. An `i128` prints at most 40.
 const PRINTED_CAPACITY: usize = 320;
 
 /// Sends the bytes, in as many writes as it takes.
@@ -87,8 +87,8 @@ pub(crate) fn send_number<F: Format, W: Write>(
 
 /// Sends what the value prints, and a newline.
 ///
-/// The text is printed into an array first: while `write!` prints into the writer itself, its
-/// contract does not say which prefix the writer received before an error.
+/// The text is printed into an array first: the contract of `write!` into a writer does not say
+/// which prefix the writer received before an error.
 ///
 /// # Errors
 ///
