@@ -20,9 +20,9 @@
 //! | `read LOCALE TEXT` | the number that the text denotes under the locale, in plain decimal |
 //!
 //! GROUPING is `Standard`, `Indian` or `Posix`, and NUMBER is a text that `parse::<i128>` accepts.
-//! Both are checked first: a text that is neither gets the usage, whatever the other arguments are.
-//! LOCALE is a name as `names` prints it, or with `_` in place of each `-`. It is looked up before
-//! TEXT is parsed. TEXT parses as an `i128`.
+//! Both are checked first: where one of them is wrong, the status is 2, whatever the other arguments
+//! are. LOCALE is a name as `names` prints it, or with `_` in place of each `-`. It is looked up
+//! before TEXT is parsed. TEXT parses as an `i128`.
 //!
 //! Nothing here allocates.
 #![tactic(auto)]
