@@ -8,7 +8,7 @@ use std::fmt::Display;
 use std::ops::RangeInclusive;
 use std::str::FromStr;
 
-/// The numbers of a batch, which are more than a branch predictor learns by heart.
+/// The numbers of a batch, which are more than a branch predictor learns.
 pub const BATCH: usize = 4096;
 
 /// The digits of `u64::MAX`.

@@ -44,7 +44,7 @@ pub fn without_digit(random: &mut Random) -> Vec<String> {
 }
 
 /// Numbers with a numeral that is none of `0` to `9` somewhere. They have fewer digits than the
-/// longest of the type, since the original has room for no more.
+/// longest of the type, since the original panics at more.
 pub fn with_other_numeral<N: Number>(random: &mut Random) -> Vec<String> {
     let numbers = Sizes::positive(1..=N::MOST_DIGITS - 1).batch::<N>();
     let texts = original::texts(&numbers, 0, 0);
