@@ -153,8 +153,8 @@ fn copy_bytes(bytes: &[u8], target: &mut [u8])
             target[1] = b;
             target[2] = c;
         }
-        [_, _, _, _, ..] if bytes.len() <= 8 => copy_ends::<4>(bytes, target),
-        [_, _, _, _, ..] if bytes.len() <= 16 => copy_ends::<8>(bytes, target),
+        [_, _, _, _, ..] if bytes.len() < 8 => copy_ends::<4>(bytes, target),
+        [_, _, _, _, ..] if bytes.len() < 16 => copy_ends::<8>(bytes, target),
         [_, _, _, _, ..] if bytes.len() <= 32 => copy_ends::<16>(bytes, target),
         _ => target.copy_from_slice(bytes),
     }
