@@ -13,16 +13,17 @@ use Rattle.regroup_commands.specs.Sending.{IsSent, StopsShort}
 pub StopsWithin-unsent : (a : Option (List ℕ)) (text : List ℕ) → StopsWithin a a (line text)
 StopsWithin-unsent a text = StopsWithin-none a (line text) (omega (arith, length-append text (10 ∷ [])))
 
--- an output for one writer is sent where that writer received it
+-- an output for standard output alone is sent once that writer received it
 pub IsSent_stdout : (a b c : Option (List ℕ)) (status : ℕ) (text : List ℕ) → Appends a b text →
     IsSent (record { status = status; stdout = text; stderr = [] }) a b c c
 IsSent_stdout a b c status text received = record { stdout = received; stderr = Appends-nil c }
 
+-- likewise for standard error
 pub IsSent_stderr : (a b c : Option (List ℕ)) (status : ℕ) (text : List ℕ) → Appends a b text →
     IsSent (record { status = status; stdout = []; stderr = text }) c c a b
 IsSent_stderr a b c status text received = record { stdout = Appends-nil c; stderr = received }
 
--- and stops short where that writer stops
+-- an output for standard output alone stops short where that writer stops
 pub StopsShort_stdout : (a b c : Option (List ℕ)) (status : ℕ) (text : List ℕ) → StopsWithin a b text →
     StopsShort (record { status = status; stdout = text; stderr = [] }) a b c c
 StopsShort_stdout a b c status text stops = record {
@@ -33,6 +34,7 @@ StopsShort_stdout a b c status text stops = record {
   unfinished = omega (arith, length-append stops.rest [], stops.unfinished);
 }
 
+-- likewise for standard error
 pub StopsShort_stderr : (a b c : Option (List ℕ)) (status : ℕ) (text : List ℕ) → StopsWithin a b text →
     StopsShort (record { status = status; stdout = []; stderr = text }) c c a b
 StopsShort_stderr a b c status text stops = record {
