@@ -1,5 +1,6 @@
 -- The definitions that the contracts of this crate use. Those of the crates below are passed on.
 pub mod Building
+pub mod Constants
 pub mod English
 pub mod Laws
 pub mod Writing

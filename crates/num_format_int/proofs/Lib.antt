@@ -4,4 +4,4 @@ pub mod GroupLemmas
 pub mod GroupedLemmas
 pub mod PairLemmas
 pub mod ReadingLemmas
-pub mod ReadingRows
+pub mod ReadingExamples
