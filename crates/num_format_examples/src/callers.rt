@@ -88,7 +88,7 @@ mod tests {
     fn one_after_the_other(rt: HostRuntime) -> Result<(), Fail> {
         let mut bytes = Vec::new(rt.alloc());
         write_both(&mut bytes, &12_500, &-7, &Locale::en)?;
-        assert_eq!(rt; bytes.as_slice(), b"12,500-7");
+        assert_eq!(rt; bytes.as_slice(), b"12,500-7".as_slice());
         Ok(())
     }
 }
