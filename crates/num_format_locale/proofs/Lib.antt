@@ -1,1 +1,3 @@
 pub mod NameLemmas
+pub mod SearchLemmas
+pub mod SpellingLemmas

@@ -1,5 +1,5 @@
 -- Lemmas on the names of locales and their places.
-use Rattle.std.proofs.Common.{◌≡◌, ◌≢◌, ℕ, suc, ◌<◌, ◌==◌, inl, inr, List, [], ◌∷◌, length, map, Contains, slice_index_or, if◌then◌else◌, arith, refl, sym, ap, ◌∙◌}
+use Rattle.std.proofs.Common.{◌≡◌, ◌≢◌, ℕ, suc, ◌<◌, inl, inr, List, [], ◌∷◌, length, map, Contains, slice_index_or, arith, refl, sym, ap, ◌∙◌}
 use Rattle.std.specs.Borrow.{Bor}
 use Rattle.std.specs.Cmp.{nat_cmp_is}
 use Rattle.std.specs.Cmp.Lexicographic.{slice_cmp}
@@ -18,18 +18,13 @@ use Rattle.num_format_cldr.proofs.Places.{length-members}
 use Rattle.num_format_cldr.proofs.Rising.{names_rise, names_have_no_underscore}
 use Rattle.num_format_locale.specs.Laws.{OrderLaw, UniqueLaw}
 use Rattle.num_format_locale.specs.Names.{Spells, name_of, underscore_for_hyphen}
+use Rattle.num_format_locale.specs.Search.{hyphen_for_underscore, hyphened}
 
--- the byte itself, but a hyphen (45) for an underscore (95)
-hyphen_for_underscore : ℕ → ℕ
-hyphen_for_underscore byte = if byte == 95 then 45 else byte
-
--- a byte that is no underscore stays, also with an underscore for a hyphen and back
+-- a byte that is no underscore (95) stays, also with an underscore for a hyphen and back
 same_byte : (x : ℕ) → x ≢ 95 → hyphen_for_underscore x ≡ x
-unfolding hyphen_for_underscore
 same_byte x other = grind (arith, nat_tests)
 
 byte_back : (x : ℕ) → x ≢ 95 → hyphen_for_underscore (underscore_for_hyphen x) ≡ x
-unfolding hyphen_for_underscore
 byte_back x other = grind (arith, nat_tests)
 
 -- of a text with no underscore, the first byte is none, and the rest has none
@@ -49,14 +44,18 @@ name_back [] none = refl
 name_back (x ∷ xs) none = λ i. byte_back x (other_first x xs none) i ∷ name_back xs (other_rest x xs none) i
 
 -- the name that a text spells is the text with hyphens for underscores
-spelled_name : (text name : List ℕ) → ¬ Contains name 95 → Spells text name → map hyphen_for_underscore text ≡ name
-spelled_name text name none (inl same) = ap (map hyphen_for_underscore) same ∙ same_name name none
-spelled_name text name none (inr same) = ap (map hyphen_for_underscore) same ∙ name_back name none
+pub spelled_name : (text name : List ℕ) → ¬ Contains name 95 → Spells text name → hyphened text ≡ name
+spelled_name text name none (inl same) = ap hyphened same ∙ same_name name none
+spelled_name text name none (inr same) = ap hyphened same ∙ name_back name none
 
 -- there are as many names as places
 pub length-table_names : length table_names ≡ LEN
 unfolding table_names
 length-table_names = length-map members _ ∙ length-members
+
+-- no name has an underscore
+pub no_underscore : (place : ℕ) → place < LEN → ¬ Contains (name_of place) 95
+no_underscore place within = names_have_no_underscore place [] (omega (arith, length-table_names))
 
 -- only Equal is its own reverse
 unmoved : (o : Ordering) → o ≡ ordering_reverse o → o ≡ Equal
@@ -84,8 +83,7 @@ order p q within_p within_q =
 -- a text spells at most one name
 pub unique : UniqueLaw
 unique text p q within_p within_q spells_p spells_q =
-    let none : (place : ℕ) → place < LEN → ¬ Contains (name_of place) 95 = λ place within. names_have_no_underscore place [] (omega (arith, length-table_names)) in
-    let same : name_of p ≡ name_of q = sym (spelled_name text _ (none p within_p) spells_p) ∙ spelled_name text _ (none q within_q) spells_q in
+    let same : name_of p ≡ name_of q = sym (spelled_name text _ (no_underscore p within_p) spells_p) ∙ spelled_name text _ (no_underscore q within_q) spells_q in
     nat_cmp-IsAntisymmetric p q (sym (order p q within_p within_q) ∙ ap (λ name. slice_cmp nat_cmp name (name_of q)) same ∙ cmp_same (name_of q))
 
 -- what a reference to a name points to

@@ -1,3 +1,4 @@
 pub mod Names
+pub mod Search
 pub mod Data
 pub mod Laws

@@ -29,5 +29,6 @@
 
 pub mod laws;
 pub mod locale;
+mod search;
 
 pub use locale::Locale;

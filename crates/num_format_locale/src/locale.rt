@@ -1,13 +1,18 @@
 //! The type `Locale`: how a locale is found by its name, and what its texts are.
 //!
-//! The data of a locale are a row of `num_format_cldr`. A name is looked up among all names, one
-//! after another.
-ghost use Rattle.std.specs.Prelude.{◌≡◌, ◌≢◌, ◌<◌, ◌≤◌, ◌↔◌, [], length, map, All, Contains, IsTrue};
+//! The data of a locale are a row of `num_format_cldr`. A name is looked up among all names by
+//! binary search.
+ghost use Rattle.std.specs.Prelude.{◌≡◌, ◌≢◌, ◌<◌, ◌≤◌, [], length, map, All, Contains};
 ghost use Rattle.num_format_cldr.specs.Entry.{IsWellFormed, Rises, Shows};
 ghost use Rattle.num_format_cldr.specs.Table.{entry, table_names};
 ghost use Rattle.num_format_locale.specs.Data.{locale_data};
-ghost use Rattle.num_format_locale.specs.Names.{LooksUp, Spells, name_of, underscore_for_hyphen};
+ghost use Rattle.num_format_locale.specs.Names.{LooksUp, name_of};
+ghost use Rattle.num_format_locale.specs.Search.{Settles};
+ghost use Rattle.num_format_text.specs.Cut.{cut_text};
+ghost use Rattle.num_format_text.specs.Refusal.{ParseLocale, refusal_of};
 
+use crate::search::search;
+use arrayvec::ArrayVec;
 use num_format_cldr::{LEN, Row};
 use num_format_text::capacities::{
     MAX_DEC_LEN, MAX_INF_LEN, MAX_MIN_LEN, MAX_NAN_LEN, MAX_PLUS_LEN, MAX_SEP_LEN,
@@ -66,13 +71,41 @@ impl Locale {
     pub fn from_name(name: &str) -> Result<Locale, Error>
         ensures { LooksUp name.now result }
     {
-        for (place, each) in Locale::available_names().iter().enumerate() {
-            if spells(name, each) {
-                let place = place as u16;
-                return Ok(Locale { place });
-            }
+        match search(name.as_bytes()) {
+            (Some(place), _) => Ok(Locale {
+                place: place as u16,
+            }),
+            (None, _) => Err(unknown_name(name)),
         }
-        Err(Error::from(ErrorKind::ParseLocale(cut(name))))
+    }
+
+    /// Returns what [`from_name`](Locale::from_name) returns, and the places of the names that were
+    /// compared with the text, in order. There are at most 10 of them.
+    ///
+    /// The places show that the result is right, since names rise in byte order. For a locale, the
+    /// last place is its own. For an error, the text has both a hyphen and an underscore, or the
+    /// places have two neighbors, and the text lies strictly between their names, with hyphens for
+    /// underscores. A text below the first name or above the last has only one neighbor.
+    ///
+    /// The Rust crate has no such function.
+    ///
+    /// ```text
+    /// Locale::from_name_traced("en").1   // ends with 90, the place of `en`
+    /// Locale::from_name_traced("zzz").1  // ends with 541, the place of `zu`, the last name
+    /// ```
+    pub fn from_name_traced(name: &str) -> (Result<Locale, Error>, ArrayVec<usize, 10>)
+        ensures looked_up { LooksUp name.now result.0 }
+        ensures settled { Settles name.now result.1.items result.0 }
+    {
+        match search(name.as_bytes()) {
+            (Some(place), places) => (
+                Ok(Locale {
+                    place: place as u16,
+                }),
+                places,
+            ),
+            (None, places) => (Err(unknown_name(name)), places),
+        }
     }
 
     /// Returns the names of all locales, with hyphens, in rising byte order.
@@ -168,22 +201,12 @@ impl Locale {
     }
 }
 
-/// Returns whether the text is the name, or the name with an underscore for every hyphen.
-fn spells(text: &str, name: &str) -> bool
-    ensures { IsTrue result ↔ Spells text.now name.now }
+/// Returns the error for a text that is no name.
+#[cold]
+fn unknown_name(text: &str) -> Error
+    ensures { refusal_of result ≡ ParseLocale (cut_text text.now) }
 {
-    text == name || has_underscores(text.as_bytes(), name.as_bytes())
-}
-
-/// Returns whether the text is the name with an underscore for every hyphen.
-fn has_underscores(text: &[u8], name: &[u8]) -> bool
-    ensures { IsTrue result ↔ (map underscore_for_hyphen name.now ≡ text.now) }
-{
-    text.len() == name.len()
-        && text.iter().zip(name).all(|(&byte, &name_byte)| match name_byte {
-            b'-' => byte == b'_',
-            _ => byte == name_byte,
-        })
+    Error::from(ErrorKind::ParseLocale(cut(text)))
 }
 
 impl FromStr for Locale {
