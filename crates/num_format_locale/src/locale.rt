@@ -72,9 +72,7 @@ impl Locale {
         ensures { LooksUp name.now result }
     {
         match search(name.as_bytes()) {
-            (Some(place), _) => Ok(Locale {
-                place: place as u16,
-            }),
+            (Some(place), _) => Ok(Locale::at(place)),
             (None, _) => Err(unknown_name(name)),
         }
     }
@@ -98,12 +96,7 @@ impl Locale {
         ensures settled { Settles name.now result.1.items result.0 }
     {
         match search(name.as_bytes()) {
-            (Some(place), places) => (
-                Ok(Locale {
-                    place: place as u16,
-                }),
-                places,
-            ),
+            (Some(place), places) => (Ok(Locale::at(place)), places),
             (None, places) => (Err(unknown_name(name)), places),
         }
     }
@@ -188,6 +181,16 @@ impl Locale {
         ensures given { result.now ≢ [] }
     {
         self.row().sep
+    }
+
+    /// Returns the locale at the place.
+    fn at(place: usize) -> Locale
+        requires { place < LEN }
+        ensures { result ≡ place }
+    {
+        Locale {
+            place: place as u16,
+        }
     }
 
     /// Returns the row of the table.

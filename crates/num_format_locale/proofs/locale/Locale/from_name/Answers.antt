@@ -7,7 +7,7 @@ pub returns-in-Some-default : goal.returns-in-Some-default
 returns-in-Some-default c =
     let found = rw c.in-Some-default.is-0 at c.search.ensures.found in
     let within = rw c.in-Some-default.is-0 at c.search.ensures.within in
-    looked_up c.args.name.now c.search.result.1.items c.in-Some-default.place within (subst (λ text. Finds text c.search.result.1.items c.in-Some-default.place) c.as_bytes.ensures.value found)
+    rw c.at.ensures (looked_up c.args.name.now c.search.result.1.items c.in-Some-default.place within (subst (λ text. Finds text c.search.result.1.items c.in-Some-default.place) c.as_bytes.ensures.value found))
 
 pub returns-in-None-default : goal.returns-in-None-default
 returns-in-None-default c =

@@ -7,7 +7,7 @@ pub returns-in-Some-default-clause-looked_up : goal.returns-in-Some-default-clau
 returns-in-Some-default-clause-looked_up c =
     let found = rw c.in-Some-default.is-0 at c.search.ensures.found in
     let within = rw c.in-Some-default.is-0 at c.search.ensures.within in
-    looked_up c.args.name.now c.search.result.1.items c.in-Some-default.place within (subst (λ text. Finds text c.search.result.1.items c.in-Some-default.place) c.as_bytes.ensures.value found)
+    rw c.at.ensures (looked_up c.args.name.now c.search.result.1.items c.in-Some-default.place within (subst (λ text. Finds text c.search.result.1.items c.in-Some-default.place) c.as_bytes.ensures.value found))
 
 pub returns-in-None-default-clause-looked_up : goal.returns-in-None-default-clause-looked_up
 returns-in-None-default-clause-looked_up c =
