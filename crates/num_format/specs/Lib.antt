@@ -21,3 +21,4 @@ pub use Rattle.num_format_cldr.specs.Groupings
 pub use Rattle.num_format_cldr.specs.Table
 pub use Rattle.num_format_locale.specs.Data
 pub use Rattle.num_format_locale.specs.Names
+pub use Rattle.num_format_locale.specs.Search

@@ -17,7 +17,7 @@
 //! `en`. A GROUPING is the name of a [`Grouping`]. The NAME of a locale is no hexadecimal.
 //!
 //! Most cases stand for several calls: [`printing`](crate::printing) has the ways of printing, a
-//! text is parsed as a `&str` and as a `String`, a name is looked up by `from_name` and by `parse`,
+//! text is parsed as a `&str` and as a `String`, a name is looked up by `from_name`, `parse` and `from_name_traced`,
 //! and a locale is asked by its getters, as a format, and as the [`CustomFormat`] made of it. Where
 //! these differ, the result says so, and is not the expected one.
 

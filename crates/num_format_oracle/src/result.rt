@@ -31,10 +31,14 @@ impl Call<'_> {
                 format,
                 text,
             } => under_format(alloc, type_name, Operation::Parse(text), format),
-            Call::FindLocale { text } => agreed(
-                found(alloc, text, Locale::from_name(text))?,
-                found(alloc, text, text.parse())?,
-            ),
+            Call::FindLocale { text } => {
+                let by_name = agreed(
+                    found(alloc, text, Locale::from_name(text))?,
+                    found(alloc, text, text.parse())?,
+                )?;
+                let (traced, _) = Locale::from_name_traced(text);
+                agreed(by_name, found(alloc, text, traced)?)
+            }
             Call::DescribeLocale { name } => described(alloc, Locale::from_name(name).ok()?),
         }
     }
