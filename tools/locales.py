@@ -211,7 +211,8 @@ def constants_source(names):
     lines = "".join(
         f"    pub const {constant_name(name)}: Locale = Locale {{ place: {place} }};\n" for place, name in enumerate(names)
     )
-    return f"""//! The locales as constants. {MARK}
+    constants = "".join(f"    {literal(constant_name(name))},\n" for name in names)
+    return f"""//! The locales as constants, and the names of the constants. {MARK}
 use crate::Locale;
 
 /// One constant a locale. It has the locale's name with `_` for `-`, and that of `as` is `as_`, since
@@ -220,6 +221,11 @@ use crate::Locale;
 #[rattlefmt::skip]
 impl Locale {{
 {lines}}}
+
+/// The names of the constants, in the order of their places.
+#[rattlefmt::skip]
+pub static VARIANT_NAMES: [&str; {len(names)}] = [
+{constants}];
 """
 
 

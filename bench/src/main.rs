@@ -2,15 +2,18 @@
 //!
 //! Both sides print, read and look up the same batches by the same loops, in turn. Of many rounds
 //! the best counts, since whatever else the processor does only adds to a round. A cell in which the
-//! two sides differ ends the run.
+//! two sides differ ends the run. The groupings that the original does not have are measured beside
+//! Standard.
 
 mod floor;
+mod groupings;
 mod numbers;
 mod original;
 mod rattle;
 mod table;
 mod texts;
 
+use groupings::Grouping;
 use num_format::Locale;
 use numbers::{BATCH, Number, Random, Sizes};
 use std::hint::black_box;
@@ -21,9 +24,12 @@ use texts::Texts;
 /// The formats, in the order of their codes.
 const FORMATS: [&str; 6] = ["en", "en_IN", "fr", "en_US_POSIX", "constants", "built"];
 
+/// The operation that groupings are compared by.
+const USED_BUFFER: &str = "used Buffer";
+
 /// The ways of printing, in the order of their codes, and whether all types are printed so.
 const WAYS: [(&str, bool); 4] = [
-    ("used Buffer", true),
+    (USED_BUFFER, true),
     ("new Buffer", false),
     ("to_formatted_string", false),
     ("append to String", false),
@@ -69,13 +75,13 @@ impl Run {
         let is_chosen = ["i64", "u128"].contains(&N::NAME);
         for (way, (operation, is_for_all)) in WAYS.into_iter().enumerate() {
             if is_for_all || is_chosen {
-                self.measure_sizes::<N>(operation, |name, sizes, format| {
-                    measure_printing::<N>(name, &sizes.batch(), way as u8, format)
+                self.measure_sizes::<N>(operation, &FORMATS, |name, sizes, format| {
+                    measure_printing::<N>(name, &sizes.batch(), way as u8, format as u8)
                 });
             }
         }
-        self.measure_sizes::<N>("read", |name, sizes, format| {
-            measure_reading::<N>(name, &sizes.batch(), format)
+        self.measure_sizes::<N>("read", &FORMATS, |name, sizes, format| {
+            measure_reading::<N>(name, &sizes.batch(), format as u8)
         });
         let mut refuse = |operation, texts: Vec<String>| {
             let cell = Cell {
@@ -98,13 +104,23 @@ impl Run {
         refuse("out of range", texts::out_of_range::<N>(&mut random));
     }
 
-    /// Measures an operation at all sizes of a type under all formats.
+    /// Measures the groupings that the original does not have at all sizes of a type.
+    fn measure_groupings<N: Number>(&mut self) {
+        let names = groupings::OTHERS.map(|grouping| grouping.name);
+        self.measure_sizes::<N>(USED_BUFFER, &names, |name, sizes, grouping| {
+            measure_grouping::<N>(name, &sizes.batch(), &groupings::OTHERS[grouping])
+        });
+    }
+
+    /// Measures an operation at all sizes of a type under formats, which are given by their names,
+    /// and to `measure` by their places.
     fn measure_sizes<N: Number>(
         &mut self,
         operation: &'static str,
-        measure: impl Fn(&str, &Sizes, u8) -> Times,
+        formats: &[&'static str],
+        measure: impl Fn(&str, &Sizes, usize) -> Times,
     ) {
-        for (code, format) in FORMATS.into_iter().enumerate() {
+        for (place, &format) in formats.iter().enumerate() {
             for sizes in Sizes::all::<N>() {
                 let cell = Cell {
                     operation,
@@ -113,7 +129,7 @@ impl Run {
                     sizes: sizes.label(),
                     group: sizes.group::<N>(),
                 };
-                self.measure(cell, |name| measure(name, &sizes, code as u8));
+                self.measure(cell, |name| measure(name, &sizes, place));
             }
         }
     }
@@ -156,14 +172,18 @@ impl Run {
     }
 }
 
-/// Measures printing of numbers.
-fn measure_printing<N: Number>(name: &str, numbers: &[N], way: u8, format: u8) -> Times {
-    let ours = rattle::texts(numbers, way, format);
-    let theirs = original::texts(numbers, way, format);
+/// Ends the run where texts differ, at the first of them.
+fn assert_same_texts(name: &str, ours: &str, theirs: &str) {
     for (ours, theirs) in ours.lines().zip(theirs.lines()) {
         assert_eq!(ours, theirs, "{name}");
     }
     assert_eq!(ours.len(), theirs.len(), "{name}");
+}
+
+/// Measures printing of numbers.
+fn measure_printing<N: Number>(name: &str, numbers: &[N], way: u8, format: u8) -> Times {
+    let ours = rattle::texts(numbers, way, format);
+    assert_same_texts(name, &ours, &original::texts(numbers, way, format));
     let (mut ours, mut theirs) = (0, 0);
     let [port, original, floor] = best(
         numbers.len(),
@@ -176,8 +196,34 @@ fn measure_printing<N: Number>(name: &str, numbers: &[N], way: u8, format: u8) -
     assert_eq!(ours, theirs, "{name}");
     Times {
         port,
-        original,
+        original: Some(original),
+        standard: None,
         floor: Some(floor),
+    }
+}
+
+/// Measures printing of numbers under a grouping beside Standard, into a used `Buffer`.
+fn measure_grouping<N: Number>(name: &str, numbers: &[N], grouping: &Grouping) -> Times {
+    for grouping in [grouping, &groupings::STANDARD] {
+        let ours = rattle::texts(numbers, 0, grouping.code);
+        assert_same_texts(name, &ours, &grouping.texts(numbers));
+    }
+    let print = |grouping: &Grouping| {
+        black_box(rattle::print(
+            black_box(numbers),
+            0,
+            black_box(grouping.code),
+        ));
+    };
+    let [port, standard] = best(
+        numbers.len(),
+        [&mut || print(grouping), &mut || print(&groupings::STANDARD)],
+    );
+    Times {
+        port,
+        original: None,
+        standard: Some(standard),
+        floor: None,
     }
 }
 
@@ -212,7 +258,8 @@ fn measure_reading<N: Number>(name: &str, numbers: &[N], format: u8) -> Times {
     }
     Times {
         port,
-        original,
+        original: Some(original),
+        standard: None,
         floor: Some(floor),
     }
 }
@@ -238,7 +285,8 @@ fn measure_refusing<N: Number>(name: &str, texts: &Texts) -> Times {
     );
     Times {
         port,
-        original,
+        original: Some(original),
+        standard: None,
         floor: None,
     }
 }
@@ -262,7 +310,8 @@ fn measure_names(name: &str, texts: &Texts) -> Times {
     assert_eq!(ours, theirs, "{name}");
     Times {
         port,
-        original,
+        original: Some(original),
+        standard: None,
         floor: None,
     }
 }
@@ -291,6 +340,9 @@ fn main() {
         run.measure_type::<u64>();
         run.measure_type::<i128>();
         run.measure_type::<u128>();
+        run.measure_groupings::<i64>();
+        run.measure_groupings::<u64>();
+        run.measure_groupings::<u128>();
         run.measure_names();
     }
     assert!(!run.table.is_empty(), "no cell has such a name");

@@ -5,12 +5,14 @@ use std::fs;
 use std::io;
 
 /// The columns of the table, and the formats of each.
-const COLUMNS: [(&str, &[&str]); 5] = [
+const COLUMNS: [(&str, &[&str]); 7] = [
     ("", &[""]),
     ("en, en_IN, fr", &["en", "en_IN", "fr"]),
     ("en_US_POSIX", &["en_US_POSIX"]),
     ("constants", &["constants"]),
     ("built", &["built"]),
+    ("Myriad", &["Myriad"]),
+    ("Sparse", &["Sparse"]),
 ];
 
 /// The rows that are by digits, in order.
@@ -28,7 +30,10 @@ pub const GROUPS: [&str; 7] = [
 #[derive(Clone, Copy)]
 pub struct Times {
     pub port: f64,
-    pub original: f64,
+    /// The time of the original, where it has such a thing.
+    pub original: Option<f64>,
+    /// The time of the port under Standard, where another grouping is compared with it.
+    pub standard: Option<f64>,
     /// The time that plain digits take, where there is such a thing.
     pub floor: Option<f64>,
 }
@@ -36,7 +41,12 @@ pub struct Times {
 impl Times {
     /// The time of the port over that of the original.
     fn ratio(&self) -> Option<f64> {
-        Some(self.port / self.original)
+        Some(self.port / self.original?)
+    }
+
+    /// The time of the port over that under Standard.
+    fn ratio_to_standard(&self) -> Option<f64> {
+        Some(self.port / self.standard?)
     }
 
     /// The time of the port over that of plain digits.
@@ -46,10 +56,12 @@ impl Times {
 
     /// The lower time of each side.
     fn best(&self, other: Times) -> Times {
+        let lower = |a: Option<f64>, b: Option<f64>| a.zip(b).map(|(a, b)| a.min(b));
         Times {
             port: self.port.min(other.port),
-            original: self.original.min(other.original),
-            floor: self.floor.zip(other.floor).map(|(a, b)| a.min(b)),
+            original: lower(self.original, other.original),
+            standard: lower(self.standard, other.standard),
+            floor: lower(self.floor, other.floor),
         }
     }
 }
@@ -112,35 +124,39 @@ impl Table {
     /// Prints a line for each cell.
     pub fn print_cells(&self) {
         println!(
-            "| Operation | Format | Type | Digits | Port, ns | Original, ns | Plain digits, ns | Port / original | Port / plain |"
+            "| Operation | Format | Type | Digits | Port, ns | Original, ns | Standard, ns | Plain digits, ns | Port / original | Port / Standard | Port / plain |"
         );
-        println!("|---|---|---|---|---|---|---|---|---|");
+        println!("|---|---|---|---|---|---|---|---|---|---|---|");
         for (cell, times) in &self.rows {
             let shown = |number: Option<f64>, places: usize| {
                 number.map_or(String::new(), |number| format!("{number:.places$}"))
             };
             println!(
-                "| {} | {} | {} | {} | {} | {} | {} | {} | {} |",
+                "| {} | {} | {} | {} | {} | {} | {} | {} | {} | {} | {} |",
                 cell.operation,
                 cell.format,
                 cell.type_name,
                 cell.sizes,
                 shown(Some(times.port), 1),
-                shown(Some(times.original), 1),
+                shown(times.original, 1),
+                shown(times.standard, 1),
                 shown(times.floor, 1),
                 shown(times.ratio(), 2),
+                shown(times.ratio_to_standard(), 2),
                 shown(times.ratio_to_floor(), 2),
             );
         }
     }
 
     /// Prints the median and the highest ratio to the original of each group, and the cell of the
-    /// highest, and then those to plain digits.
+    /// highest, then those to Standard, and then those to plain digits.
     pub fn print_groups(&self) {
         println!("\nPort / original: median, highest (cell of the highest)");
-        for operation in self.distinct(|_| true, |cell| cell.operation) {
+        for operation in self.distinct(|_, _| true, |cell| cell.operation) {
             self.print_ratios(operation, Times::ratio);
         }
+        println!("\nPort / port under Standard: median, highest (cell of the highest)");
+        self.print_ratios("used Buffer", Times::ratio_to_standard);
         println!("\nPort / plain digits: median, highest (cell of the highest)");
         for operation in ["used Buffer", "read"] {
             self.print_ratios(operation, Times::ratio_to_floor);
@@ -148,9 +164,11 @@ impl Table {
     }
 
     fn print_ratios(&self, operation: &str, ratio: fn(&Times) -> Option<f64>) {
-        let mut groups = self.distinct(|cell| cell.operation == operation, |cell| cell.group);
+        let is_here =
+            |cell: &Cell, times: &Times| cell.operation == operation && ratio(times).is_some();
+        let mut groups = self.distinct(is_here, |cell| cell.group);
         groups.sort_by_key(|group| GROUPS.iter().position(|other| other == group));
-        let formats = self.distinct(|cell| cell.operation == operation, |cell| cell.format);
+        let formats = self.distinct(is_here, |cell| cell.format);
         let columns = Vec::from_iter(
             COLUMNS
                 .into_iter()
@@ -175,11 +193,15 @@ impl Table {
     /// A part of those cells, each value once, in order.
     fn distinct(
         &self,
-        is_wanted: impl Fn(&Cell) -> bool,
+        is_wanted: impl Fn(&Cell, &Times) -> bool,
         part: impl Fn(&Cell) -> &'static str,
     ) -> Vec<&'static str> {
         let mut parts = Vec::new();
-        for (cell, _) in self.rows.iter().filter(|(cell, _)| is_wanted(cell)) {
+        for (cell, _) in self
+            .rows
+            .iter()
+            .filter(|(cell, times)| is_wanted(cell, times))
+        {
             if !parts.contains(&part(cell)) {
                 parts.push(part(cell));
             }
@@ -211,15 +233,18 @@ impl Table {
 
     /// Writes the cells to a file, a line for each, with tabs between the fields.
     pub fn write(&self, path: &str) -> io::Result<()> {
-        let mut text =
-            String::from("operation\tformat\ttype\tdigits\tgroup\tport\toriginal\tplain\n");
+        let mut text = String::from(
+            "operation\tformat\ttype\tdigits\tgroup\tport\toriginal\tstandard\tplain\n",
+        );
         for (cell, times) in &self.rows {
             let Times {
                 port,
                 original,
+                standard,
                 floor,
             } = times;
-            let floor = floor.map_or(String::new(), |floor| format!("{floor:.2}"));
+            let [original, standard, floor] = [original, standard, floor]
+                .map(|time| time.map_or(String::new(), |time| format!("{time:.2}")));
             let Cell {
                 operation,
                 format,
@@ -228,7 +253,7 @@ impl Table {
                 group,
             } = cell;
             text += &format!(
-                "{operation}\t{format}\t{type_name}\t{sizes}\t{group}\t{port:.2}\t{original:.2}\t{floor}\n"
+                "{operation}\t{format}\t{type_name}\t{sizes}\t{group}\t{port:.2}\t{original}\t{standard}\t{floor}\n"
             );
         }
         fs::write(path, text)

@@ -1,12 +1,19 @@
 //! The recorded cases, one a line, and how they compare.
 //!
 //! The fields of a line are described in `crates/num_format_oracle/src/case.rt`. Cases with a
-//! changed result are left out.
+//! changed result are left out, and so are those with a grouping that the original does not have,
+//! and those on JSON and on builders.
 
 use crate::differences::{Class, Outcome, classes_of};
 use crate::original;
 use std::collections::BTreeMap;
 use std::fmt;
+
+/// The groupings that the original does not have, as a format names them.
+const OWN_GROUPINGS: [&str; 2] = [":Myriad:", ":Sparse:"];
+
+/// The kinds of cases that the module [`original`] has no calls for, at the start of a line.
+const OTHER_KINDS: [&str; 2] = ["build\t", "json\t"];
 
 /// The most cases without a named difference that are printed.
 const MOST_PRINTED: usize = 20;
@@ -41,7 +48,11 @@ impl Report {
 pub fn compare(data: &str, documentation: &str) -> Report {
     let mut report = Report::default();
     for (index, line) in data.lines().enumerate() {
-        if !line.starts_with('#') && !line.starts_with("changed\t") {
+        let is_left_out = line.starts_with('#')
+            || line.starts_with("changed\t")
+            || OTHER_KINDS.iter().any(|kind| line.starts_with(kind))
+            || OWN_GROUPINGS.iter().any(|grouping| line.contains(grouping));
+        if !is_left_out {
             report.add(index + 1, line);
         }
     }

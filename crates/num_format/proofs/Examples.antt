@@ -1,6 +1,6 @@
 -- Examples of the definitions, each proved by computing it.
 use Rattle.std.proofs.Common.{◌≡◌, ℕ, List, [], ◌∷◌, refl, pos, negsuc}
-use Rattle.std.specs.Prelude.{codes, Result, Ok, Err, encode_utf8_all}
+use Rattle.std.specs.Prelude.{codes, fold, Result, Ok, Err, encode_utf8_all}
 use lib.Utf8.{encode}
 use Rattle.num_format_text.specs.declared.grouping.Grouping.{Grouping}
 use Rattle.num_format_text.specs.declared.grouping.Grouping.TheVariants.{Standard, Indian, Posix}
@@ -10,15 +10,15 @@ use Rattle.num_format_text.specs.Format.{FormatData}
 use Rattle.num_format_int.specs.Digits.{digits}
 use Rattle.num_format_int.specs.Kind.{unsigned, signed}
 use Rattle.num_format_int.specs.Text.{text_of}
-use Rattle.num_format.specs.Building.{Call, built, choices_after, choices_of, Decimal, Groups, MinusSign, Separator}
+use Rattle.num_format.specs.Building.{Call, after_call, built, choices_of, SetDecimal, SetFormat, SetGrouping, SetMinusSign, SetSeparator}
 use Rattle.num_format.specs.English.{english}
 
--- what a builder builds after calls of its setters
+-- what a builder builds after calls
 abbrev built_by : List Call → Result FormatData Error
-built_by calls = built (choices_after (choices_of english) calls)
+built_by calls = built (fold after_call (choices_of english) calls)
 
 -- the data of `en` with another grouping, separator and minus sign
-abbrev english_with : Grouping → List ℕ → List ℕ → FormatData
+abbrev pub english_with : Grouping → List ℕ → List ℕ → FormatData
 english_with grouping separator minus_sign = record english { grouping = grouping; separator = separator; minus_sign = minus_sign }
 
 zero : text_of english (pos 0) ≡ codes "0"
@@ -71,11 +71,14 @@ unfolding digits
 posix_has_no_groups = refl
 
 -- the separator was refused before the decimal mark, and `build` looks at the decimal mark first
-first_error_in_order : built_by (Separator (codes "123456789") ∷ Decimal (codes "1234567890") ∷ []) ≡ Err (Capacity 10 8)
+first_error_in_order : built_by (SetSeparator (codes "123456789") ∷ SetDecimal (codes "1234567890") ∷ []) ≡ Err (Capacity 10 8)
 first_error_in_order = refl
 
-good_values_replace_errors : built_by (Separator (codes "123456789") ∷ Decimal (codes "1234567890") ∷ Decimal (codes ".") ∷ Separator (codes ",") ∷ []) ≡ Ok english
+good_values_replace_errors : built_by (SetSeparator (codes "123456789") ∷ SetDecimal (codes "1234567890") ∷ SetDecimal (codes ".") ∷ SetSeparator (codes ",") ∷ []) ≡ Ok english
 good_values_replace_errors = refl
 
-minus_sign_before_separator : built_by (Separator (codes "123456789") ∷ Groups Standard ∷ MinusSign (codes "1234567890") ∷ []) ≡ Err (Capacity 10 8)
+minus_sign_before_separator : built_by (SetSeparator (codes "123456789") ∷ SetGrouping Standard ∷ SetMinusSign (codes "1234567890") ∷ []) ≡ Err (Capacity 10 8)
 minus_sign_before_separator = refl
+
+a_format_replaces_errors : built_by (SetSeparator (codes "123456789") ∷ SetFormat (english_with Indian [] []) ∷ []) ≡ Ok (english_with Indian [] [])
+a_format_replaces_errors = refl

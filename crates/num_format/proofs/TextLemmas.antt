@@ -2,13 +2,14 @@
 use Rattle.std.proofs.Common.{◌≡◌, ℕ, ◌+◌, ◌-◌, ◌*◌, ◌^◌, ◌<◌, ◌≤◌, Bool, true, false, List, [], ◌∷◌, ◌++◌, length, refl, ap, arith, length-append, ℤ, pos, negsuc, unsigned_abs, append_assoc}
 use Rattle.std.specs.Prelude.{if◌then◌else◌, ◌≤ℤ◌}
 use Rattle.std.specs.Int.{is_negative}
+use Rattle.std.proofs.lemmas.Bool.Decides.{nat_tests}
 use Rattle.std.proofs.lemmas.Int.{ints}
 use Rattle.num_format_text.specs.declared.grouping.Grouping.{Grouping}
-use Rattle.num_format_text.specs.declared.grouping.Grouping.TheVariants.{Standard, Indian, Posix}
+use Rattle.num_format_text.specs.declared.grouping.Grouping.TheVariants.{Standard, Indian, Posix, Myriad, Sparse}
 use Rattle.num_format_text.specs.Format.{FormatData, IsWithinCapacity}
 use Rattle.num_format_int.specs.declared.buffer.TheConstants.{MAX_BUF_LEN}
 use Rattle.num_format_int.specs.Digits.{digits}
-use Rattle.num_format_int.specs.Grouped.{grouped, separators, stands}
+use Rattle.num_format_int.specs.Grouped.{grouped, separated, separators, stands}
 use Rattle.num_format_int.specs.Text.{body_of, text_of}
 use Rattle.num_format_int.proofs.DigitLemmas.{digits_given, length-digits-le39}
 use Rattle.num_format_int.proofs.GroupedLemmas.{length-grouped, length-grouped-le183}
@@ -41,7 +42,7 @@ length-text_of-le_max f z fits low high =
     simp length-append (omega (arith, short, length-grouped-le183 f.grouping f.separator (digits (unsigned_abs z)) fits.separator few))
 
 -- `i128::MIN` has 39 digits
-length-digits-i128-MIN : length (digits (2 ^ 127)) ≡ 39
+pub length-digits-i128-MIN : length (digits (2 ^ 127)) ≡ 39
 unfolding digits
 length-digits-i128-MIN = refl
 
@@ -55,20 +56,23 @@ pub body_of-begins : (f : FormatData) (n first : ℕ) (others : List ℕ) → di
 body_of-begins f n first others e = (_, ap (grouped f.grouping f.separator) e)
 
 -- no separator comes after the last digit
-stands-zero : (g : Grouping) → stands g 0 ≡ false
-stands-zero Standard = refl
-stands-zero Indian = refl
-stands-zero Posix = refl
+stands-zero : (g : Grouping) (d : ℕ) → stands g d 0 ≡ false
+stands-zero Standard d = refl
+stands-zero Indian d = refl
+stands-zero Posix d = refl
+stands-zero Myriad d = refl
+stands-zero Sparse d = grind (arith, nat_tests)
 
--- grouped digits end with the last digit
-grouped-ends : (g : Grouping) (s others : List ℕ) (last : ℕ) → (before : List ℕ) × (grouped g s (others ++ (last ∷ [])) ≡ before ++ ((48 + last) ∷ []))
-grouped-ends g s [] last = ([], rw (stands-zero g))
-grouped-ends g s (d ∷ others) last =
-    let rest = grouped-ends g s others last in
-    ((48 + d) ∷ ((if stands g (length (others ++ (last ∷ []))) then s else []) ++ rest.0), rw (rest.1, append_assoc))
+-- separated digits end with the last digit
+separated-ends : (is_due : ℕ → Bool) → is_due 0 ≡ false → (s others : List ℕ) (last : ℕ) → (before : List ℕ) × (separated is_due s (others ++ (last ∷ [])) ≡ before ++ ((48 + last) ∷ []))
+separated-ends is_due none s [] last = ([], rw none)
+separated-ends is_due none s (d ∷ others) last =
+    let rest = separated-ends is_due none s others last in
+    ((48 + d) ∷ ((if is_due (length (others ++ (last ∷ []))) then s else []) ++ rest.0), rw (rest.1, append_assoc))
 
 -- digits and separators end with the last digit
 pub body_of-ends : (f : FormatData) (n last : ℕ) (others : List ℕ) → digits n ≡ others ++ (last ∷ []) → (before : List ℕ) × (body_of f n ≡ before ++ ((48 + last) ∷ []))
 body_of-ends f n last others e =
-    let rest = grouped-ends f.grouping f.separator others last in
+    let d = length (others ++ (last ∷ [])) in
+    let rest = separated-ends (stands f.grouping d) (stands-zero f.grouping d) f.separator others last in
     (rest.0, rw e (rest.1))

@@ -1,8 +1,11 @@
 -- The definitions that the contracts of this crate use. Those of the crates below are passed on.
+pub mod Alike
 pub mod Building
 pub mod Constants
 pub mod English
+pub mod Json
 pub mod Laws
+pub mod RoundTrips
 pub mod Writing
 pub use Rattle.num_format_text.specs.Cut
 pub use Rattle.num_format_text.specs.Format

@@ -25,9 +25,10 @@ use std::marker::Model;
 /// buffer.write_formatted(&1000000, &format);    // buffer.as_str() is "10'00'000"
 /// ```
 ///
-/// The seven getters return the fields as they are. The methods of [`Format`] return the texts as
+/// Two formats are equal exactly if all seven fields are. The seven getters return the fields as they
+/// are. The methods of [`Format`] return the texts as
 /// the types of [`utils`](crate::utils).
-#[derive(Drop)]
+#[derive(Clone, Debug, Drop, PartialEq, Eq, Hash)]
 pub struct CustomFormat {
     pub(crate) decimal: BoundedString<MAX_DEC_LEN>,
     pub(crate) grouping: Grouping,
@@ -52,6 +53,16 @@ impl Model for CustomFormat {
       plus_sign = f.plus_sign;
       separator = f.separator;
     } };
+
+    ghost inverse = { λ f. record {
+      decimal = f.decimal;
+      grouping = f.grouping;
+      infinity = f.infinity;
+      minus_sign = f.minus_sign;
+      nan = f.nan;
+      plus_sign = f.plus_sign;
+      separator = f.separator;
+    } };
 }
 
 impl CustomFormat {
@@ -60,6 +71,17 @@ impl CustomFormat {
         ensures { result ≡ choices_of english }
     {
         CustomFormatBuilder::new()
+    }
+
+    /// Returns a builder that starts with the data of this format.
+    ///
+    /// ```text
+    /// CustomFormat::from(Locale::fr).into_builder().separator(".").build()  is fr, but for the separator
+    /// ```
+    pub fn into_builder(self) -> CustomFormatBuilder
+        ensures { result ≡ choices_of self }
+    {
+        CustomFormatBuilder::from(self)
     }
 
     /// Returns the decimal mark, of at most 8 bytes.
@@ -132,15 +154,7 @@ impl From<Locale> for CustomFormat {
 
     /// Returns the format with the data of the locale.
     fn from(locale: Locale) -> CustomFormat {
-        CustomFormat {
-            decimal: BoundedString::new(locale.decimal()).unwrap(),
-            grouping: locale.grouping(),
-            infinity: BoundedString::new(locale.infinity()).unwrap(),
-            minus_sign: BoundedString::new(locale.minus_sign()).unwrap(),
-            nan: BoundedString::new(locale.nan()).unwrap(),
-            plus_sign: BoundedString::new(locale.plus_sign()).unwrap(),
-            separator: BoundedString::new(locale.separator()).unwrap(),
-        }
+        CustomFormatBuilder::from(locale).build().unwrap()
     }
 }
 

@@ -1,11 +1,12 @@
 //! A builder of custom formats.
 ghost use Rattle.std.specs.Prelude.{◌≡◌};
-ghost use Rattle.num_format.specs.Building.{built, choices_of, chosen};
+ghost use Rattle.num_format.specs.Building.{SetDecimal, SetFormat, SetGrouping, SetInfinity, SetMinusSign, SetNan, SetPlusSign, SetSeparator, after_call, built, choices_of};
 ghost use Rattle.num_format.specs.English.{english};
+ghost use Rattle.num_format_locale.specs.Data.{locale_data};
 
-use crate::bounded_string::BoundedString;
+use crate::choice::Choice;
 use crate::custom_format::CustomFormat;
-use crate::{Error, Grouping};
+use crate::{Error, Format, Grouping, Locale};
 use num_format_text::capacities::{
     MAX_DEC_LEN, MAX_INF_LEN, MAX_MIN_LEN, MAX_NAN_LEN, MAX_PLUS_LEN, MAX_SEP_LEN,
 };
@@ -32,26 +33,29 @@ const PLUS_SIGN: &str = "+";
 /// The separator of the locale `en`.
 const SEPARATOR: &str = ",";
 
-/// A builder of a [`CustomFormat`]. A contract sees in each field a value, or the error of a text
-/// that was refused.
+/// A builder of a [`CustomFormat`]. A contract sees in each field a value, or the length of a text
+/// that is too long.
 ///
-/// It starts with the data of the locale `en`. A setter replaces the value of its field, and never
-/// fails: where its text is longer than the field's capacity, the field keeps the error, and
-/// [`build`](CustomFormatBuilder::build) returns it. A later text of that field replaces the error.
+/// [`CustomFormat::builder`] starts with the data of the locale `en`, and
+/// [`CustomFormat::into_builder`] with those of a format. A setter replaces the value of its field,
+/// and never fails: where its text is longer than the field's capacity,
+/// [`build`](CustomFormatBuilder::build) returns the error, unless a later call replaces that text.
+///
+/// Two builders are equal exactly if they have the same in each field.
 ///
 /// ```text
 /// CustomFormat::builder().separator("").build()           is Ok, with no separator
 /// CustomFormat::builder().separator("123456789").build()  is Err, of kind Capacity { len: 9, cap: 8 }
 /// ```
-#[derive(Drop)]
+#[derive(Clone, Debug, Drop, PartialEq, Eq, Hash)]
 pub struct CustomFormatBuilder {
-    decimal: Result<BoundedString<MAX_DEC_LEN>, Error>,
+    decimal: Choice<MAX_DEC_LEN>,
     grouping: Grouping,
-    infinity: Result<BoundedString<MAX_INF_LEN>, Error>,
-    minus_sign: Result<BoundedString<MAX_MIN_LEN>, Error>,
-    nan: Result<BoundedString<MAX_NAN_LEN>, Error>,
-    plus_sign: Result<BoundedString<MAX_PLUS_LEN>, Error>,
-    separator: Result<BoundedString<MAX_SEP_LEN>, Error>,
+    infinity: Choice<MAX_INF_LEN>,
+    minus_sign: Choice<MAX_MIN_LEN>,
+    nan: Choice<MAX_NAN_LEN>,
+    plus_sign: Choice<MAX_PLUS_LEN>,
+    separator: Choice<MAX_SEP_LEN>,
 }
 
 impl Model for CustomFormatBuilder {
@@ -68,6 +72,16 @@ impl Model for CustomFormatBuilder {
       plus_sign = b.plus_sign;
       separator = b.separator;
     } };
+
+    ghost inverse = { λ b. record {
+      decimal = b.decimal;
+      grouping = b.grouping;
+      infinity = b.infinity;
+      minus_sign = b.minus_sign;
+      nan = b.nan;
+      plus_sign = b.plus_sign;
+      separator = b.separator;
+    } };
 }
 
 impl CustomFormatBuilder {
@@ -76,81 +90,98 @@ impl CustomFormatBuilder {
         ensures { result ≡ choices_of english }
     {
         CustomFormatBuilder {
-            decimal: BoundedString::new(DECIMAL),
+            decimal: Choice::new(DECIMAL),
             grouping: GROUPING,
-            infinity: BoundedString::new(INFINITY),
-            minus_sign: BoundedString::new(MINUS_SIGN),
-            nan: BoundedString::new(NAN),
-            plus_sign: BoundedString::new(PLUS_SIGN),
-            separator: BoundedString::new(SEPARATOR),
+            infinity: Choice::new(INFINITY),
+            minus_sign: Choice::new(MINUS_SIGN),
+            nan: Choice::new(NAN),
+            plus_sign: Choice::new(PLUS_SIGN),
+            separator: Choice::new(SEPARATOR),
         }
     }
 
     /// Sets the decimal mark, of at most 8 bytes.
     pub fn decimal(self, text: &str) -> CustomFormatBuilder
-        ensures { result ≡ record self { decimal = chosen MAX_DEC_LEN text.now } }
+        ensures { result ≡ after_call self (SetDecimal text.now) }
     {
         CustomFormatBuilder {
-            decimal: BoundedString::new(text),
+            decimal: Choice::new(text),
             ..self
         }
     }
 
     /// Sets the grouping of the digits.
     pub fn grouping(self, grouping: Grouping) -> CustomFormatBuilder
-        ensures { result ≡ record self { grouping = grouping } }
+        ensures { result ≡ after_call self (SetGrouping grouping) }
     {
         CustomFormatBuilder { grouping, ..self }
     }
 
     /// Sets the text for infinity, of at most 128 bytes.
     pub fn infinity(self, text: &str) -> CustomFormatBuilder
-        ensures { result ≡ record self { infinity = chosen MAX_INF_LEN text.now } }
+        ensures { result ≡ after_call self (SetInfinity text.now) }
     {
         CustomFormatBuilder {
-            infinity: BoundedString::new(text),
+            infinity: Choice::new(text),
             ..self
         }
     }
 
     /// Sets the minus sign, of at most 8 bytes.
     pub fn minus_sign(self, text: &str) -> CustomFormatBuilder
-        ensures { result ≡ record self { minus_sign = chosen MAX_MIN_LEN text.now } }
+        ensures { result ≡ after_call self (SetMinusSign text.now) }
     {
         CustomFormatBuilder {
-            minus_sign: BoundedString::new(text),
+            minus_sign: Choice::new(text),
             ..self
         }
     }
 
     /// Sets the text for NaN, of at most 64 bytes.
     pub fn nan(self, text: &str) -> CustomFormatBuilder
-        ensures { result ≡ record self { nan = chosen MAX_NAN_LEN text.now } }
+        ensures { result ≡ after_call self (SetNan text.now) }
     {
         CustomFormatBuilder {
-            nan: BoundedString::new(text),
+            nan: Choice::new(text),
             ..self
         }
     }
 
     /// Sets the plus sign, of at most 8 bytes.
     pub fn plus_sign(self, text: &str) -> CustomFormatBuilder
-        ensures { result ≡ record self { plus_sign = chosen MAX_PLUS_LEN text.now } }
+        ensures { result ≡ after_call self (SetPlusSign text.now) }
     {
         CustomFormatBuilder {
-            plus_sign: BoundedString::new(text),
+            plus_sign: Choice::new(text),
             ..self
         }
     }
 
     /// Sets the separator between groups of digits, of at most 8 bytes.
     pub fn separator(self, text: &str) -> CustomFormatBuilder
-        ensures { result ≡ record self { separator = chosen MAX_SEP_LEN text.now } }
+        ensures { result ≡ after_call self (SetSeparator text.now) }
     {
         CustomFormatBuilder {
-            separator: BoundedString::new(text),
+            separator: Choice::new(text),
             ..self
         }
+    }
+
+    /// Sets all seven fields to the data of a format.
+    ///
+    /// ```text
+    /// CustomFormat::builder().format(&Locale::fr).build()  is Ok(CustomFormat::from(Locale::fr))
+    /// ```
+    pub fn format<F: Format>(self, format: &F) -> CustomFormatBuilder
+        ensures { result ≡ after_call self (SetFormat (F.answers format.now)) }
+    {
+        self.decimal(format.decimal().into_str())
+            .grouping(format.grouping())
+            .infinity(format.infinity().into_str())
+            .minus_sign(format.minus_sign().into_str())
+            .nan(format.nan().into_str())
+            .plus_sign(format.plus_sign().into_str())
+            .separator(format.separator().into_str())
     }
 
     /// Returns the format with the last value of each field.
@@ -164,13 +195,39 @@ impl CustomFormatBuilder {
         ensures { result ≡ built self }
     {
         Ok(CustomFormat {
-            decimal: self.decimal?,
+            decimal: self.decimal.into_text()?,
             grouping: self.grouping,
-            infinity: self.infinity?,
-            minus_sign: self.minus_sign?,
-            nan: self.nan?,
-            plus_sign: self.plus_sign?,
-            separator: self.separator?,
+            infinity: self.infinity.into_text()?,
+            minus_sign: self.minus_sign.into_text()?,
+            nan: self.nan.into_text()?,
+            plus_sign: self.plus_sign.into_text()?,
+            separator: self.separator.into_text()?,
         })
+    }
+}
+
+impl From<CustomFormat> for CustomFormatBuilder {
+    ghost from_gives = { λ format builder. builder ≡ choices_of format };
+
+    /// Returns a builder that starts with the data of the format.
+    fn from(format: CustomFormat) -> CustomFormatBuilder {
+        CustomFormatBuilder {
+            decimal: Choice::from(format.decimal),
+            grouping: format.grouping,
+            infinity: Choice::from(format.infinity),
+            minus_sign: Choice::from(format.minus_sign),
+            nan: Choice::from(format.nan),
+            plus_sign: Choice::from(format.plus_sign),
+            separator: Choice::from(format.separator),
+        }
+    }
+}
+
+impl From<Locale> for CustomFormatBuilder {
+    ghost from_gives = { λ locale builder. builder ≡ choices_of (locale_data locale) };
+
+    /// Returns a builder that starts with the data of the locale.
+    fn from(locale: Locale) -> CustomFormatBuilder {
+        CustomFormatBuilder::new().format(&locale)
     }
 }

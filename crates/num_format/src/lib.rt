@@ -20,7 +20,10 @@
 //! and the minus sign at its start. It ignores every other character: under the locale `en`,
 //! `12.50` is 1250 and `(7)` is 7.
 //!
-//! The contracts state both, and [`laws`] states what follows for all formats and numbers. A
+//! [`json`] has a buffer, a custom format and a locale as JSON values. [`reads_back`] and
+//! [`prints_alike`] check a format once, for all numbers.
+//!
+//! The contracts state all this, and [`laws`] states what follows for all formats and numbers. A
 //! caller imports the definitions that the contracts use from `Rattle.num_format.specs`, as
 //! `Rattle.num_format.specs.Text.{text_of}`.
 //!
@@ -28,12 +31,16 @@
 #![tactic(auto)]
 
 mod bounded_string;
+pub mod certificates;
+mod choice;
 pub mod custom_format;
 pub mod custom_format_builder;
+pub mod json;
 pub mod laws;
 pub mod to_formatted_string;
 pub mod write_formatted;
 
+pub use certificates::{prints_alike, reads_back};
 pub use custom_format::CustomFormat;
 pub use custom_format_builder::CustomFormatBuilder;
 pub use num_format_int::buffer::Buffer;

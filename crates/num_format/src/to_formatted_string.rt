@@ -36,7 +36,8 @@ pub trait ToFormattedString: ToFormattedStr {
     ///
     /// Returns the error of the first write that fails, also of one that was interrupted. A write
     /// of no bytes is an error of kind [`WriteZero`](io::ErrorKind::WriteZero). The writer then
-    /// received a prefix of the text, and not all of it.
+    /// received a prefix of the text, and not all of it. The contract does not say that a write
+    /// failed, since std's contract of [`write`](io::Write::write) does not say when it fails.
     fn read_to_io_writer<F: Format, W: io::Write>(
         &self,
         w: &mut W,

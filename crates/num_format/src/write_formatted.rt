@@ -2,17 +2,27 @@
 //!
 //! [`WriteFormatted`] is implemented for strings, vectors, formatters and the writers of std. A
 //! contract tells which bytes a writer received where `held` names them: for `String`, `Vec<u8>`,
-//! `Box<W>`, `BufWriter<W>`, `LineWriter<W>`, and a `&mut` of one of these. The impls for
-//! `&mut [u8]`, `Cursor<&mut [u8]>`, `Cursor<Vec<u8>>` and `Sink` have clauses of their own. The
-//! contracts of the others tell the length of the text alone.
+//! `Box<W>`, `BufWriter<W>`, `LineWriter<W>`, and a `&mut` of one of these. The impls for formatters,
+//! `&mut [u8]`, the cursors and `Sink` have clauses of their own. The contracts of files and of the
+//! standard streams tell the length of the text alone.
+//!
+//! A contract says when a call fails where std's says so of one write: exactly where the space is too
+//! short, for slices and for cursors over slices; only with an error of kind
+//! [`OutOfMemory`](io::ErrorKind::OutOfMemory), for strings, vectors and cursors over vectors; never,
+//! for `Sink`.
 //!
 //! Code that is generic over std's [`Write`] calls
 //! [`read_to_io_writer`](ToFormattedString::read_to_io_writer), whose contract is about the
 //! writer's `contents`.
-ghost use Rattle.std.specs.Prelude.{◌≡◌, ◌+◌, ◌-◌, ◌++◌, ◌<◌, ◌≤◌, ◌↔◌, ℕ, List, Option, Some, None, length, drop, IsOk, IfOk, OnOk, OnErr, string_bytes, string_len, vec_len, vec_capacity};
+ghost use Rattle.std.specs.Prelude.{◌≡◌, ◌+◌, ◌-◌, ◌++◌, ◌<◌, ◌≤◌, ◌↔◌, ℕ, List, Option, Some, None, length, take, drop, IsOk, IfOk, IfErr, OnOk, OnErr, string_bytes, string_len, vec_len, vec_capacity};
 ghost use Rattle.std.specs.String.{string_capacity};
 ghost use Rattle.std.specs.Io.Iter.{u64_saturate};
 ghost use Rattle.std.specs.Io.Cursor.{cursor_inner, cursor_position};
+ghost use Rattle.std.specs.IoError.{error_kind};
+ghost use Rattle.std.specs.declared.io.ErrorKind.TheVariants.{OutOfMemory};
+ghost use Rattle.std.specs.Result.{OkIff};
+ghost use Rattle.std.specs.Box.{boxed_slice_items};
+ghost use Rattle.std.specs.Fmt.{HasWritten, IsPlainFormatter};
 ghost use Rattle.std.specs.List.{replace_range};
 ghost use Rattle.num_format_int.specs.Text.{text_of};
 ghost use Rattle.num_format.specs.Writing.{Writes};
@@ -69,9 +79,9 @@ impl WriteFormatted for String {
     ///
     /// # Errors
     ///
-    /// Returns an error if the string has to grow and there is no memory. The string is then
-    /// unchanged. The clause `beyond_capacity` says that the text did not fit in the capacity. No
-    /// clause says that the string tried to grow.
+    /// Returns an error, of kind [`OutOfMemory`](io::ErrorKind::OutOfMemory), if the string has to
+    /// grow and there is no memory. The string is then unchanged. The clause `beyond_capacity` says
+    /// that the text did not fit in the capacity. No clause says that the string tried to grow.
     fn write_formatted<F: Format, N: ToFormattedString>(
         &mut self,
         n: &N,
@@ -82,6 +92,7 @@ impl WriteFormatted for String {
         ensures unchanged { OnErr result (string_bytes self.new ≡ string_bytes self.old) }
         ensures beyond_capacity { OnErr result (string_capacity self.old
             < string_len self.old + length (text_of (F.answers format.now) (N.value n.now))) }
+        ensures kind { IfErr result (λ error. error_kind error ≡ OutOfMemory) }
     {
         let mut buffer = Buffer::new();
         let count = n.read_to_buffer(&mut buffer, format);
@@ -97,9 +108,9 @@ impl WriteFormatted for Vec<u8> {
     ///
     /// # Errors
     ///
-    /// Returns an error if the vector has to grow and there is no memory. The vector is then
-    /// unchanged. The clause `beyond_capacity` says that the text did not fit in the capacity. No
-    /// clause says that the vector tried to grow.
+    /// Returns an error, of kind [`OutOfMemory`](io::ErrorKind::OutOfMemory), if the vector has to
+    /// grow and there is no memory. The vector is then unchanged. The clause `beyond_capacity` says
+    /// that the text did not fit in the capacity. No clause says that the vector tried to grow.
     fn write_formatted<F: Format, N: ToFormattedString>(
         &mut self,
         n: &N,
@@ -110,6 +121,7 @@ impl WriteFormatted for Vec<u8> {
         ensures unchanged { OnErr result (self.new.items ≡ self.old.items) }
         ensures beyond_capacity { OnErr result (vec_capacity self.old
             < vec_len self.old + length (text_of (F.answers format.now) (N.value n.now))) }
+        ensures kind { IfErr result (λ error. error_kind error ≡ OutOfMemory) }
     {
         let mut buffer = Buffer::new();
         let count = n.read_to_buffer(&mut buffer, format);
@@ -119,11 +131,22 @@ impl WriteFormatted for Vec<u8> {
 }
 
 impl<W: fmt::Write> WriteFormatted for fmt::Formatter<W> {
+    /// Writes the text of the number by one call of `write_str`, whatever width or fill is asked
+    /// for. Returns the length of the text in bytes.
+    ///
+    /// # Errors
+    ///
+    /// Returns an error if that call fails. The contract does not say what was written by then.
     fn write_formatted<F: Format, N: ToFormattedString>(
         &mut self,
         n: &N,
         format: &F,
-    ) -> Result<usize, io::Error> {
+    ) -> Result<usize, io::Error>
+        ensures writes { Writes result None None
+            (text_of (F.answers format.now) (N.value n.now)) }
+        ensures written { OnOk result (IsPlainFormatter self.old → HasWritten W.write_str_gives
+            self.old (text_of (F.answers format.now) (N.value n.now)) self.new) }
+    {
         Ok(n.read_to_fmt_writer(self, format)?)
     }
 }
@@ -171,8 +194,8 @@ impl WriteFormatted for Cursor<Vec<u8>> {
     ///
     /// # Errors
     ///
-    /// Returns an error if the vector has to grow and there is no memory. The cursor is then where
-    /// it was.
+    /// Returns an error, of kind [`OutOfMemory`](io::ErrorKind::OutOfMemory), if the vector has to
+    /// grow and there is no memory. The cursor is then where it was.
     fn write_formatted<F: Format, N: ToFormattedString>(
         &mut self,
         n: &N,
@@ -186,6 +209,7 @@ impl WriteFormatted for Cursor<Vec<u8>> {
         ensures position { IfOk result (λ count. cursor_position self.new
             ≡ u64_saturate (cursor_position self.old + count)) }
         ensures unmoved { OnErr result (cursor_position self.new ≡ cursor_position self.old) }
+        ensures kind { IfErr result (λ error. error_kind error ≡ OutOfMemory) }
     {
         let mut buffer = Buffer::new();
         let count = n.read_to_buffer(&mut buffer, format);
@@ -195,12 +219,29 @@ impl WriteFormatted for Cursor<Vec<u8>> {
 }
 
 impl WriteFormatted for Cursor<&mut Vec<u8>> {
+    /// Writes the text of the number as into a `Cursor<Vec<u8>>`. The contract tells the cursor's
+    /// position, and not the bytes of the vector.
+    ///
+    /// # Errors
+    ///
+    /// Returns an error, of kind [`OutOfMemory`](io::ErrorKind::OutOfMemory), if the vector has to
+    /// grow and there is no memory. The cursor is then where it was.
     fn write_formatted<F: Format, N: ToFormattedString>(
         &mut self,
         n: &N,
         format: &F,
-    ) -> Result<usize, io::Error> {
-        n.read_to_io_writer(self, format)
+    ) -> Result<usize, io::Error>
+        ensures writes { Writes result None None
+            (text_of (F.answers format.now) (N.value n.now)) }
+        ensures position { IfOk result (λ count. cursor_position self.new
+            ≡ u64_saturate (cursor_position self.old + count)) }
+        ensures unmoved { OnErr result (cursor_position self.new ≡ cursor_position self.old) }
+        ensures kind { IfErr result (λ error. error_kind error ≡ OutOfMemory) }
+    {
+        let mut buffer = Buffer::new();
+        let count = n.read_to_buffer(&mut buffer, format);
+        self.write(buffer.as_bytes())?;
+        Ok(count)
     }
 }
 
@@ -221,30 +262,48 @@ impl WriteFormatted for Cursor<&mut [u8]> {
             (text_of (F.answers format.now) (N.value n.now)) }
         ensures fits { IsOk result ↔ (length (text_of (F.answers format.now) (N.value n.now))
             ≤ length (cursor_inner self.old).now - cursor_position self.old) }
-        ensures position { IfOk result (λ count. cursor_position self.new
-            ≡ u64_saturate (cursor_position self.old + count)) }
-        ensures written { OnOk result (cursor_position self.old ≤ length (cursor_inner self.old).now
+        ensures position { let space = length (cursor_inner self.old).now - cursor_position self.old in
+            let prefix = take space (text_of (F.answers format.now) (N.value n.now)) in
+            cursor_position self.new ≡ u64_saturate (cursor_position self.old + length prefix) }
+        ensures written { let space = length (cursor_inner self.old).now - cursor_position self.old in
+            let prefix = take space (text_of (F.answers format.now) (N.value n.now)) in
+            cursor_position self.old ≤ length (cursor_inner self.old).now
             → (cursor_inner self.new).now ≡ replace_range (cursor_inner self.old).now
-            (cursor_position self.old)
-            (cursor_position self.old + length (text_of (F.answers format.now) (N.value n.now)))
-            (text_of (F.answers format.now) (N.value n.now))) }
+            (cursor_position self.old) (cursor_position self.old + length prefix) prefix }
     {
         let mut buffer = Buffer::new();
         let count = n.read_to_buffer(&mut buffer, format);
-        if self.write(buffer.as_bytes())? < count {
-            return Err(io::Error::from(io::ErrorKind::WriteZero));
-        }
-        Ok(count)
+        let written = self.write(buffer.as_bytes())?;
+        all_written(written, count)
     }
 }
 
 impl WriteFormatted for Cursor<BoxedSlice<u8>> {
+    /// Writes the text of the number as into a `Cursor<&mut [u8]>`. The contract tells the cursor's
+    /// position, and not the bytes of the slice.
+    ///
+    /// # Errors
+    ///
+    /// Returns an error, of kind [`WriteZero`](io::ErrorKind::WriteZero), exactly if the slice has
+    /// fewer bytes than the text from that position on. It received as much of the text as fits.
     fn write_formatted<F: Format, N: ToFormattedString>(
         &mut self,
         n: &N,
         format: &F,
-    ) -> Result<usize, io::Error> {
-        n.read_to_io_writer(self, format)
+    ) -> Result<usize, io::Error>
+        ensures writes { Writes result None None
+            (text_of (F.answers format.now) (N.value n.now)) }
+        ensures fits { IsOk result ↔ (length (text_of (F.answers format.now) (N.value n.now))
+            ≤ length (boxed_slice_items (cursor_inner self.old)) - cursor_position self.old) }
+        ensures position { let space = length (boxed_slice_items (cursor_inner self.old))
+            - cursor_position self.old in
+            let prefix = take space (text_of (F.answers format.now) (N.value n.now)) in
+            cursor_position self.new ≡ u64_saturate (cursor_position self.old + length prefix) }
+    {
+        let mut buffer = Buffer::new();
+        let count = n.read_to_buffer(&mut buffer, format);
+        let written = self.write(buffer.as_bytes())?;
+        all_written(written, count)
     }
 }
 
@@ -258,7 +317,6 @@ impl WriteFormatted for &mut [u8] {
     /// longer than the slice. The slice received as much of the text as fits, and is then empty.
     ///
     /// The contract tells the space that is left, and not the bytes before it.
-    #[tactic(auto, using(crate::proofs::WritingLemmas::Writes_err))]
     fn write_formatted<F: Format, N: ToFormattedString>(
         &mut self,
         n: &N,
@@ -274,11 +332,18 @@ impl WriteFormatted for &mut [u8] {
         let mut buffer = Buffer::new();
         let count = n.read_to_buffer(&mut buffer, format);
         let written = self.write(buffer.as_bytes())?;
-        if written < count {
-            return Err(io::Error::from(io::ErrorKind::WriteZero));
-        }
-        Ok(count)
+        all_written(written, count)
     }
+}
+
+/// Returns the length of a text in bytes if as many bytes were written, and else an error.
+fn all_written(written: usize, count: usize) -> io::Result<usize>
+    ensures { OkIff result (count ≤ written) count }
+{
+    if written < count {
+        return Err(io::Error::from(io::ErrorKind::WriteZero));
+    }
+    Ok(count)
 }
 
 impl WriteFormatted for File {

@@ -27,8 +27,9 @@ impl Checksum {
     /// Adds the text that an error keeps.
     pub fn add_error(&mut self, error: &Error) {
         match error.kind() {
-            ErrorKind::ParseLocale(text) | ErrorKind::ParseNumber(text) => self.add(text.as_str()),
             ErrorKind::Capacity { .. } => {}
+            ErrorKind::Other(text) | ErrorKind::ParseLocale(text) | ErrorKind::ParseNumber(text) =>
+                { self.add(text.as_str()) }
         }
     }
 

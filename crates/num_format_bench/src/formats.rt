@@ -2,8 +2,18 @@
 
 use num_format::{CustomFormat, Error, Grouping, Locale};
 
-/// The code of [`Constants`](crate::constants::Constants). Below it are those of the locales.
+/// The code of [`Constants`](crate::constants::Constants). Below it are those of the locales, and
+/// above it those of built formats.
 pub const CONSTANTS: u8 = 4;
+
+/// The code of the built format that has the data of `en`.
+const STANDARD: u8 = 6;
+
+/// The code of the same with the grouping `Myriad`.
+const MYRIAD: u8 = 7;
+
+/// The code of the same with the grouping `Sparse`.
+const SPARSE: u8 = 8;
 
 /// The locale of a code, if it is one of a locale.
 pub fn locale(code: u8) -> Option<Locale> {
@@ -16,10 +26,14 @@ pub fn locale(code: u8) -> Option<Locale> {
     }
 }
 
-/// Indian groups between apostrophes of three bytes.
-pub fn built() -> Result<CustomFormat, Error> {
-    CustomFormat::builder()
-        .grouping(Grouping::Indian)
-        .separator("’")
-        .build()
+/// The built format of a code: where the code is none of those above, it has Indian groups between
+/// apostrophes of three bytes.
+pub fn built(code: u8) -> Result<CustomFormat, Error> {
+    let builder = CustomFormat::builder();
+    match code {
+        STANDARD => builder.build(),
+        MYRIAD => builder.grouping(Grouping::Myriad).build(),
+        SPARSE => builder.grouping(Grouping::Sparse).build(),
+        _ => builder.grouping(Grouping::Indian).separator("’").build(),
+    }
 }

@@ -152,7 +152,7 @@ where
     if format == CONSTANTS {
         return print_each::<N, _, _, _, _>(numbers, &Constants, printer, sink);
     }
-    match built() {
+    match built(format) {
         Ok(format) => print_each::<N, _, _, _, _>(numbers, &format, printer, sink),
         Err(_) => false,
     }

@@ -63,7 +63,7 @@ where
     if format == CONSTANTS {
         return read_each::<N, _, _>(texts, lengths, &Constants, numbers);
     }
-    match built() {
+    match built(format) {
         Ok(format) => read_each::<N, _, _>(texts, lengths, &format, numbers),
         Err(_) => 0,
     }

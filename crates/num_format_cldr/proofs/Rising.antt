@@ -26,7 +26,7 @@ less_from_test Equal h = cc
 less_from_test Greater h = cc
 
 -- whether each text is less than the next
-abbrev rises : List (List ℕ) → Bool
+abbrev pub rises : List (List ℕ) → Bool
 rises [] = true
 rises (x ∷ []) = true
 rises (x ∷ (y ∷ ys)) = is_less (slice_cmp nat_cmp x y) && rises (y ∷ ys)
@@ -45,7 +45,7 @@ rises_first x (y ∷ ys) h (suc k) within =
     (rises_first y ys (second_so _ _ h) k (omega arith))
 
 -- where each text is less than the next, it is less than every later one
-Rises-from_test : (xs : List (List ℕ)) → rises xs ≡ true → Rises xs
+pub Rises-from_test : (xs : List (List ℕ)) → rises xs ≡ true → Rises xs
 Rises-from_test [] h j k before within = absurd (omega arith)
 Rises-from_test (x ∷ xs) h j zero before within = absurd (omega arith)
 Rises-from_test (x ∷ xs) h zero (suc k) before within = rises_first x xs h k (omega arith)

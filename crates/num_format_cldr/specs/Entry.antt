@@ -5,6 +5,7 @@ use Rattle.std.specs.Ordering.{nat_cmp}
 use Rattle.std.specs.declared.cmp.Ordering.TheVariants.{Less}
 use Rattle.std.specs.Cmp.Lexicographic.{slice_cmp}
 use Rattle.num_format_cldr.specs.declared.record.Row.{Row}
+use Rattle.num_format_cldr.specs.Characters.{HasOnly, minus_sign_characters, separator_characters}
 use Rattle.num_format_text.specs.declared.capacities.TheConstants.{MAX_DEC_LEN, MAX_INF_LEN, MAX_MIN_LEN, MAX_NAN_LEN, MAX_PLUS_LEN, MAX_SEP_LEN}
 
 -- a line of the table: the fields of a `Row`, with each text as the list of its bytes
@@ -37,7 +38,8 @@ pub record Shows (row : Row) (e : Entry) : Type 0 where
 pub record ShowsAll (rows : List Row) (entries : List Entry) : Type 0 where
   pub each : AllZip Shows rows entries
 
--- texts are within their capacities, `group` is a grouping, and `min` and `sep` are not empty
+-- texts are within their capacities, `group` is a grouping, and `min` and `sep` are not empty and
+-- have only the characters of minus signs and of separators
 pub record IsWellFormed (e : Entry) : Type 0 where
   pub dec : length e.dec ≤ MAX_DEC_LEN
   pub group : e.group ≤ 2
@@ -47,7 +49,9 @@ pub record IsWellFormed (e : Entry) : Type 0 where
   pub plus : length e.plus ≤ MAX_PLUS_LEN
   pub sep : length e.sep ≤ MAX_SEP_LEN
   pub min_given : e.min ≢ []
+  pub min_characters : HasOnly minus_sign_characters e.min
   pub sep_given : e.sep ≢ []
+  pub sep_characters : HasOnly separator_characters e.sep
 
 -- each text of a list is less than every later one, in the order of `&str`, which is that of bytes
 abbrev pub Rises : List (List ℕ) → Type 0

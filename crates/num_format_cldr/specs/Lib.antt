@@ -1,3 +1,4 @@
+pub mod Characters
 pub mod Entry
 pub mod Classes
 pub mod Families

@@ -19,6 +19,13 @@ fn main(rt: HostRuntime) -> Result<()> {
     let text = (-1_234_567i64).to_formatted_string(rt.alloc(), &format)?;
     println!(rt; "{text}")?;
 
+    // Under a locale's format with another grouping: Spanish has no separator in four digits.
+    let builder = CustomFormat::from(Locale::es).into_builder();
+    let spanish = builder.grouping(Grouping::Sparse).build()?;
+    for number in [1_234, 12_345] {
+        println!(rt; "{}", number.to_formatted_string(rt.alloc(), &spanish)?)?;
+    }
+
     // After what a string or another writer holds.
     let mut line = String::from_str(rt.alloc(), "total: ")?;
     line.write_formatted(&1_234_567u64, &Locale::de)?;

@@ -7,7 +7,8 @@ use Rattle.std.proofs.lemmas.Bool.Decides.{nat_tests}
 use Rattle.std.proofs.lemmas.Fmt.{decimal_by_steps_wide}
 use Rattle.std.proofs.lemmas.Int.Digits.{number_push}
 use Rattle.std.proofs.lemmas.List.{map-append, length-map}
-use Rattle.std.proofs.Math.Nat.{pow-suc, pow-succ', div-div-eq-div-mul}
+use Rattle.std.proofs.Math.Nat.{pow-suc, pow-succ', div-div-eq-div-mul, add-mod_left}
+use Rattle.std.proofs.lemmas.Nat.{div-mul-add}
 use Rattle.std.proofs.Math.Arith.{mod-mul}
 use Rattle.num_format_int.specs.Digits.{digits, digits_in}
 use Rattle.num_format_int.specs.Groups.{last_digits, plain}
@@ -136,6 +137,15 @@ digits-three n some below =
     let low : n % 10 ≡ n % 100 % 10 = omega arith in
     rw (digits-more n (omega arith), digits-two (n / 10) (omega arith) (omega arith), high, middle, low)
 
+-- and of four
+pub digits-four : (n : ℕ) → 1000 ≤ n → n < 10000 → digits n ≡ (n / 100 / 10) ∷ (n / 100 % 10) ∷ (n % 100 / 10) ∷ (n % 100 % 10) ∷ []
+digits-four n some below =
+    let high : n / 10 / 100 ≡ n / 100 / 10 = omega arith in
+    let second : n / 10 % 100 / 10 ≡ n / 100 % 10 = omega arith in
+    let third : n / 10 % 100 % 10 ≡ n % 100 / 10 = omega arith in
+    let low : n % 10 ≡ n % 100 % 10 = omega arith in
+    rw (digits-more n (omega arith), digits-three (n / 10) (omega arith) (omega arith), high, second, third, low)
+
 -- from the k-th power of ten on, a number has more than k digits
 pub length-digits-gt : (k n : ℕ) → 10 ^ k ≤ n → k < length (digits n)
 length-digits-gt k n some = omega (arith, length-digits-split k n some, digits_given (n / 10 ^ k))
@@ -153,10 +163,11 @@ last_digits-mod (suc k) n =
     let last : n % 10 ^ suc k % 10 ≡ n % 10 = omega arith in
     rw (first, last, last_digits-mod k (n / 10))
 
--- a digit 1 and then eighteen digits
-pub digits-eighteen : (part : ℕ) → part < 10 ^ 18 → digits (1000000000000000000 + part) ≡ 1 ∷ last_digits 18 part
-digits-eighteen part below =
-    let one : (1000000000000000000 + part) / 10 ^ 18 ≡ 1 = omega arith in
-    let rest : (1000000000000000000 + part) % 10 ^ 18 ≡ part % 10 ^ 18 = omega arith in
-    digits-split 18 (1000000000000000000 + part) (omega arith)
-    ∙ rw (one, digits-small 1 (omega arith), ← last_digits-mod 18 (1000000000000000000 + part), rest, last_digits-mod 18 part)
+-- a digit 1 and then k digits
+pub digits-leading_one : (k part : ℕ) → part < 10 ^ k → digits (10 ^ k + part) ≡ 1 ∷ last_digits k part
+digits-leading_one k part below =
+    let once : 1 * 10 ^ k ≡ 10 ^ k = omega arith in
+    let one : (10 ^ k + part) / 10 ^ k ≡ 1 = rw once at (div-mul-add 1 (10 ^ k) part below) in
+    let rest : (10 ^ k + part) % 10 ^ k ≡ part % 10 ^ k = add-mod_left (10 ^ k) part in
+    digits-split k (10 ^ k + part) (omega arith)
+    ∙ rw (one, digits-small 1 (omega arith), ← last_digits-mod k (10 ^ k + part), rest, last_digits-mod k part)

@@ -63,6 +63,22 @@ impl Buffer {
         }
     }
 
+    /// Returns a buffer with this text, which has at most [`MAX_BUF_LEN`] bytes.
+    ///
+    /// The Rust crate has no such call.
+    ///
+    /// ```text
+    /// Buffer::from_text("1,000").as_bytes()        // [49, 44, 48, 48, 48]
+    /// ```
+    pub fn from_text(text: &str) -> Buffer
+        requires { length text.now ≤ MAX_BUF_LEN }
+        ensures { result ≡ text.now }
+    {
+        let mut buffer = Buffer::new();
+        buffer.put_front(text);
+        buffer
+    }
+
     /// Returns the bytes of the text.
     pub fn as_bytes(&self) -> &[u8]
         ensures same { result.now ≡ self.now }
@@ -193,5 +209,14 @@ impl fmt::Display for Buffer {
     /// Writes the text alone, whatever width or fill is asked for.
     fn fmt<W: fmt::Write>(&self, f: &mut fmt::Formatter<W>) -> fmt::Result {
         f.write_str(self.as_str())
+    }
+}
+
+impl fmt::Debug for Buffer {
+    ghost debug_output = { λ b. Some b };
+
+    /// Writes the bare text, with no quotes, as the Rust crate does.
+    fn fmt<W: fmt::Write>(&self, f: &mut fmt::Formatter<W>) -> fmt::Result {
+        fmt::Display::fmt(self, f)
     }
 }

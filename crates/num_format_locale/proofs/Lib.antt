@@ -1,3 +1,4 @@
 pub mod NameLemmas
 pub mod SearchLemmas
 pub mod SpellingLemmas
+pub mod VariantLemmas

@@ -10,9 +10,10 @@ use Rattle.std.specs.declared.cmp.Ordering.TheVariants.{Less, Equal, Greater}
 use Rattle.std.proofs.Math.Nat.{eq-or-lt_of_le}
 use Rattle.std.proofs.lemmas.Bool.{cases_lt}
 use Rattle.std.proofs.lemmas.Bool.Decides.{nat_tests}
-use Rattle.std.proofs.lemmas.Cmp.{nat_list_cmp_total}
+use Rattle.std.proofs.lemmas.Cmp.{nat_list_cmp_total, tied_itself}
 use Rattle.std.proofs.lemmas.List.{get_or-map, length-map}
 use Rattle.num_format_cldr.specs.declared.TheConstants.{LEN}
+use Rattle.num_format_cldr.specs.Entry.{Rises}
 use Rattle.num_format_cldr.specs.Table.{members, table_names}
 use Rattle.num_format_cldr.proofs.Places.{length-members}
 use Rattle.num_format_cldr.proofs.Rising.{names_rise, names_have_no_underscore}
@@ -57,34 +58,40 @@ length-table_names = length-map members _ ∙ length-members
 pub no_underscore : (place : ℕ) → place < LEN → ¬ Contains (name_of place) 95
 no_underscore place within = names_have_no_underscore place [] (omega (arith, length-table_names))
 
--- only Equal is its own reverse
-unmoved : (o : Ordering) → o ≡ ordering_reverse o → o ≡ Equal
-unmoved Less same = cc
-unmoved Equal same = refl
-unmoved Greater same = cc
+-- texts that rise
+module _ (texts : List (List ℕ)) (rise : Rises texts) where
+  -- places compare as their texts do
+  pub places_compare : (p q : ℕ) → p < length texts → q < length texts → slice_cmp nat_cmp (slice_index_or texts p []) (slice_index_or texts q []) ≡ nat_cmp p q
+  places_compare p q within_p within_q =
+      elim (cases_lt p q) [
+        | inl less ↦ rise p q less within_q ∙ nat_cmp_is p q Less less
+        | inr not_less ↦ elim (eq-or-lt_of_le not_less) [
+          | inl same ↦
+              ap (λ place. slice_cmp nat_cmp (slice_index_or texts p []) (slice_index_or texts place [])) same
+              ∙ tied_itself nat_list_cmp_total (slice_index_or texts p []) ∙ nat_cmp_is p q Equal (sym same)
+          | inr more ↦
+              nat_list_cmp_total.antisymm (slice_index_or texts p []) (slice_index_or texts q [])
+              ∙ ap ordering_reverse (rise q p more within_p) ∙ nat_cmp_is p q Greater more
+        ]
+      ]
 
--- a text is equal to itself
-cmp_same : (x : List ℕ) → slice_cmp nat_cmp x x ≡ Equal
-cmp_same x = unmoved _ (nat_list_cmp_total.antisymm x x)
+  -- texts at different places are different
+  pub same_place : (p q : ℕ) → p < length texts → q < length texts → slice_index_or texts p [] ≡ slice_index_or texts q [] → p ≡ q
+  same_place p q within_p within_q same =
+      nat_cmp-IsAntisymmetric p q
+      (sym (places_compare p q within_p within_q) ∙ ap (λ text. slice_cmp nat_cmp text (slice_index_or texts q [])) same
+      ∙ tied_itself nat_list_cmp_total (slice_index_or texts q []))
 
 -- places compare as their names do
 pub order : OrderLaw
 order p q within_p within_q =
-    elim (cases_lt p q) [
-      | inl less ↦ names_rise p q less (omega (arith, length-table_names)) ∙ nat_cmp_is p q Less less
-      | inr not_less ↦ elim (eq-or-lt_of_le not_less) [
-        | inl same ↦ ap (λ place. slice_cmp nat_cmp (name_of p) (name_of place)) same ∙ cmp_same (name_of p) ∙ nat_cmp_is p q Equal (sym same)
-        | inr more ↦
-            nat_list_cmp_total.antisymm (name_of p) (name_of q)
-            ∙ ap ordering_reverse (names_rise q p more (omega (arith, length-table_names))) ∙ nat_cmp_is p q Greater more
-      ]
-    ]
+    places_compare table_names names_rise p q (omega (arith, length-table_names)) (omega (arith, length-table_names))
 
 -- a text spells at most one name
 pub unique : UniqueLaw
 unique text p q within_p within_q spells_p spells_q =
-    let same : name_of p ≡ name_of q = sym (spelled_name text _ (no_underscore p within_p) spells_p) ∙ spelled_name text _ (no_underscore q within_q) spells_q in
-    nat_cmp-IsAntisymmetric p q (sym (order p q within_p within_q) ∙ ap (λ name. slice_cmp nat_cmp name (name_of q)) same ∙ cmp_same (name_of q))
+    same_place table_names names_rise p q (omega (arith, length-table_names)) (omega (arith, length-table_names))
+    (sym (spelled_name text _ (no_underscore p within_p) spells_p) ∙ spelled_name text _ (no_underscore q within_q) spells_q)
 
 -- what a reference to a name points to
 pub name_at : (names : List (Bor (List ℕ))) (place : ℕ) (d : Bor (List ℕ)) → map (λ name. name.now) names ≡ table_names → place < length names → (slice_index_or names place d).now ≡ name_of place

@@ -1,10 +1,12 @@
--- Laws of the names of locales, over the definitions alone.
+-- Laws of the names and the data of locales, over the definitions alone.
 use Rattle.std.specs.Prelude.{◌≡◌, ℕ, ◌<◌, List, Result, Ok}
 use Rattle.std.specs.Ordering.{nat_cmp}
 use Rattle.std.specs.Cmp.Lexicographic.{slice_cmp}
 use Rattle.num_format_cldr.specs.declared.TheConstants.{LEN}
+use Rattle.num_format_cldr.specs.Entry.{IsWellFormed}
+use Rattle.num_format_cldr.specs.Table.{entry}
 use Rattle.num_format_text.specs.declared.error.Error.{Error}
-use Rattle.num_format_locale.specs.Names.{LooksUp, Spells, name_of}
+use Rattle.num_format_locale.specs.Names.{LooksUp, Spells, name_of, variant_name_of}
 
 -- a text spells the name of at most one locale
 abbrev pub UniqueLaw : Type 0
@@ -16,6 +18,14 @@ abbrev pub FoundByNameLaw : Type 0
 FoundByNameLaw = (place : ℕ) (result : Result ℕ Error) → place < LEN →
     LooksUp (name_of place) result → result ≡ Ok place
 
+-- two locales have different variants
+abbrev pub VariantLaw : Type 0
+VariantLaw = (p q : ℕ) → p < LEN → q < LEN → variant_name_of p ≡ variant_name_of q → p ≡ q
+
 -- places compare as their names do, byte by byte
 abbrev pub OrderLaw : Type 0
 OrderLaw = (p q : ℕ) → p < LEN → q < LEN → slice_cmp nat_cmp (name_of p) (name_of q) ≡ nat_cmp p q
+
+-- the data of each locale are well formed
+abbrev pub WellFormedLaw : Type 0
+WellFormedLaw = (place : ℕ) → place < LEN → IsWellFormed (entry place)

@@ -1,6 +1,6 @@
--- The names of the locales, and which texts spell one.
+-- The names of the locales and of their variants, and which texts spell a name.
 use Rattle.num_format_cldr.specs.declared.TheConstants.{LEN}
-use Rattle.std.specs.Prelude.{ℕ, ◌<◌, ◌==◌, ◌≡◌, ◌⊎◌, List, [], map, slice_index_or, Result, Ok, IfOk, IfErr, OnErr, if◌then◌else◌}
+use Rattle.std.specs.Prelude.{ℕ, ◌<◌, ◌==◌, ◌≡◌, ◌⊎◌, List, [], map, bytes_eq, codes, slice_index_or, Result, Ok, IfOk, IfErr, OnErr, if◌then◌else◌}
 use Rattle.std.specs.Str.{byte}
 use Rattle.num_format_cldr.specs.Table.{table_names}
 use Rattle.num_format_text.specs.declared.error.Error.{Error}
@@ -14,6 +14,15 @@ name_of place = slice_index_or table_names place []
 -- the byte itself, but an underscore for a hyphen
 abbrev pub underscore_for_hyphen : ℕ → ℕ
 underscore_for_hyphen each = if each == byte "-" then byte "_" else each
+
+-- the name of the variant of a locale: the name with an underscore for every hyphen, and `as_` for
+-- `as`, which is a keyword of Rust
+abbrev pub variant_name : List ℕ → List ℕ
+variant_name name = if bytes_eq name (codes "as") then codes "as_" else map underscore_for_hyphen name
+
+-- the name of the variant of the locale at a place
+abbrev pub variant_name_of : ℕ → List ℕ
+variant_name_of place = variant_name (name_of place)
 
 -- the text is the name, or the name with an underscore for every hyphen
 abbrev pub Spells : List ℕ → List ℕ → Type 0

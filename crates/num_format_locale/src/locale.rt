@@ -2,11 +2,11 @@
 //!
 //! The data of a locale are a row of `num_format_cldr`. A name is looked up among all names by
 //! binary search.
-ghost use Rattle.std.specs.Prelude.{◌≡◌, ◌≢◌, ◌<◌, ◌≤◌, [], length, map, All, Contains};
+ghost use Rattle.std.specs.Prelude.{◌≡◌, ◌≢◌, ℕ, ◌<◌, ◌≤◌, [], length, map, All, Contains, Some, IfSome};
 ghost use Rattle.num_format_cldr.specs.Entry.{IsWellFormed, Rises, Shows};
 ghost use Rattle.num_format_cldr.specs.Table.{entry, table_names};
 ghost use Rattle.num_format_locale.specs.Data.{locale_data};
-ghost use Rattle.num_format_locale.specs.Names.{LooksUp, name_of};
+ghost use Rattle.num_format_locale.specs.Names.{LooksUp, name_of, variant_name, variant_name_of};
 ghost use Rattle.num_format_locale.specs.Search.{Settles};
 ghost use Rattle.num_format_text.specs.Cut.{cut_text};
 ghost use Rattle.num_format_text.specs.Refusal.{ParseLocale, refusal_of};
@@ -101,6 +101,27 @@ impl Locale {
         }
     }
 
+    /// Returns the locale whose [variant](Locale::variant_name) has this name, if there is one.
+    ///
+    /// The Rust crate has no such function. It reads a locale by this name where it deserializes one.
+    ///
+    /// ```text
+    /// Locale::from_variant_name("en_US_POSIX")  is Some(Locale::en_US_POSIX)
+    /// Locale::from_variant_name("en-US-POSIX")  is None
+    /// Locale::from_variant_name("as_")          is Some(Locale::as_)
+    /// Locale::from_variant_name("as")           is None
+    /// ```
+    pub fn from_variant_name(text: &str) -> Option<Locale>
+        ensures found { (place : ℕ) → place < LEN → text.now ≡ variant_name_of place → result ≡ Some place }
+        ensures within { IfSome result (λ place. place < LEN) }
+        ensures named { IfSome result (λ place. text.now ≡ variant_name_of place) }
+    {
+        match variant_names().binary_search(&text) {
+            Ok(place) => Some(Locale::at(place)),
+            Err(_) => None,
+        }
+    }
+
     /// Returns the names of all locales, with hyphens, in rising byte order.
     pub fn available_names() -> &'static [&'static str]
         ensures listed { map (λ name. name.now) result.now ≡ table_names }
@@ -118,6 +139,22 @@ impl Locale {
         ensures within { self.now < LEN }
     {
         self.row().name
+    }
+
+    /// Returns the name of the constant, which is that of the variant of the Rust crate's enum: the
+    /// [`name`](Locale::name) with an underscore for every hyphen, and `as_` for `as`, since `as` is a
+    /// keyword.
+    ///
+    /// The Rust crate has no such function. It shows a variant's name by `Debug`, and serializes it.
+    ///
+    /// ```text
+    /// Locale::en_US_POSIX.variant_name()  // "en_US_POSIX"
+    /// Locale::as_.variant_name()          // "as_"
+    /// ```
+    pub fn variant_name(&self) -> &'static str
+        ensures { result.now ≡ variant_name_of self.now }
+    {
+        variant_names()[self.place as usize]
     }
 
     /// Returns the decimal mark, of at most [`MAX_DEC_LEN`] bytes.
@@ -204,6 +241,13 @@ impl Locale {
     }
 }
 
+/// Returns the names of all variants, in the order of their places.
+fn variant_names() -> &'static [&'static str]
+    ensures { map (λ name. name.now) result.now ≡ map variant_name table_names }
+{
+    &constants::VARIANT_NAMES
+}
+
 /// Returns the error for a text that is no name.
 #[cold]
 fn unknown_name(text: &str) -> Error
@@ -222,10 +266,12 @@ impl FromStr for Locale {
     }
 }
 
-/// Shows the name, with hyphens.
+/// Shows the [`variant_name`](Locale::variant_name), as the Rust crate's derive does.
 impl fmt::Debug for Locale {
+    ghost debug_output = { λ locale. Some (variant_name_of locale) };
+
     fn fmt<W: fmt::Write>(&self, f: &mut fmt::Formatter<W>) -> fmt::Result {
-        f.write_str(self.name())
+        f.write_str(self.variant_name())
     }
 }
 

@@ -11,10 +11,20 @@
 //! | `read` | TYPE FORMAT TEXT | the number that the text is parsed to: `ok NUMBER`, or `err ParseNumber LENGTH` |
 //! | `names` | TEXT | the name of the locale that the text finds: `ok NAME`, or `err ParseLocale LENGTH` |
 //! | `locale` | NAME | GROUPING DECIMAL INFINITY MINUS NAN PLUS SEPARATOR, the data of the locale |
+//! | `json` | `buffer` TEXT | the text of the buffer that the JSON holds: `ok TEXT`, or `err FAULT` |
+//! | `json` | `format` TEXT | the format that the JSON holds: `ok DATA`, or `err FAULT` |
+//! | `json` | `locale` TEXT | the locale that the JSON holds: `ok NAME`, or `err FAULT` |
+//! | `build` | CALLS | the format that is built: `ok DATA`, or `err Capacity LENGTH CAPACITY` |
 //! | `changed` | the fields of a case of another kind | not what the call returns |
 //!
 //! A FORMAT is `locale:NAME`, or `custom:SEPARATOR:GROUPING:MINUS` with all else as in the locale
 //! `en`. A GROUPING is the name of a [`Grouping`]. The NAME of a locale is no hexadecimal.
+//!
+//! A FAULT is a `JsonFault` as `Debug` writes it. The DATA of a format are `dec=DECIMAL`,
+//! `grp=GROUPING`, `inf=INFINITY`, `min=MINUS`, `nan=NAN`, `plus=PLUS` and `sep=SEPARATOR`, with a
+//! space between them. So are the CALLS of a builder: `from=locale:NAME` starts with a builder made
+//! of the locale, `format=locale:NAME` and `grouping=GROUPING` are setters, and so is the name of a
+//! text with `=TEXT`, as `minus_sign=2d`.
 //!
 //! Most cases stand for several calls: [`printing`](crate::printing) has the ways of printing, a
 //! text is parsed as a `&str` and as a `String`, a name is looked up by `from_name`, `parse` and `from_name_traced`,
@@ -49,6 +59,13 @@ pub enum Call<'a> {
     },
     DescribeLocale {
         name: &'a str,
+    },
+    FromJson {
+        kind: &'a str,
+        json: String,
+    },
+    Build {
+        calls: &'a str,
     },
 }
 
@@ -95,6 +112,8 @@ impl<'a> Call<'a> {
             "locale" => Some(Call::DescribeLocale {
                 name: arguments.split_once('\t')?.0,
             }),
+            "json" => Call::parse_json(alloc, arguments),
+            "build" => Some(Call::Build { calls: arguments }),
             _ => None,
         }
     }
@@ -116,6 +135,14 @@ impl<'a> Call<'a> {
             type_name,
             format: NamedFormat::parse(alloc, format)?,
             text: text(alloc, hexadecimal)?,
+        })
+    }
+
+    fn parse_json(alloc: Global, arguments: &'a str) -> Option<Call<'a>> {
+        let (kind, hexadecimal) = arguments.split_once('\t')?;
+        Some(Call::FromJson {
+            kind,
+            json: text(alloc, hexadecimal)?,
         })
     }
 }
@@ -143,16 +170,18 @@ impl NamedFormat {
 }
 
 /// Returns the grouping of that name.
-fn grouping_of(name: &str) -> Option<Grouping> {
+pub fn grouping_of(name: &str) -> Option<Grouping> {
     match name {
         "Standard" => Some(Grouping::Standard),
         "Indian" => Some(Grouping::Indian),
         "Posix" => Some(Grouping::Posix),
+        "Myriad" => Some(Grouping::Myriad),
+        "Sparse" => Some(Grouping::Sparse),
         _ => None,
     }
 }
 
 /// Returns the text whose UTF-8 is given in hexadecimal.
-fn text(alloc: Global, hexadecimal: &str) -> Option<String> {
+pub fn text(alloc: Global, hexadecimal: &str) -> Option<String> {
     String::from_utf8(hex::decode(alloc, hexadecimal).ok()?).ok()
 }

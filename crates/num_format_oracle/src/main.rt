@@ -10,6 +10,13 @@
 //!   differs on purpose, and the data has the error of the port.
 //! - `names`: the locales that it found, and `ParseLocale` where it found none.
 //! - `locale`: the table of locales, as written down from the CLDR data of that crate.
+//! - `json`: the buffers, formats and locales that it deserialized with its feature `with-serde`,
+//!   and the fault of the port where it returned an error. It also took bytes that are not UTF-8, a
+//!   format from an array, and a grouping or a locale from an object: there the port differs on
+//!   purpose, and the data has the fault of the port. The data has the format of the port where the
+//!   grouping is `Myriad`, which that crate does not have. Further cases, which were not recorded,
+//!   have the keys of an object in reverse order.
+//! - `build`: the formats that a builder builds, and the error of a text that is too long.
 //! - `changed`: results that are wrong, which show that a difference would be found.
 //!
 //! An error keeps the text truncated at a character within 256 bytes, as the port promises; that
@@ -23,6 +30,7 @@
 //! cases alone differ. It is 1 otherwise, as for an input without cases.
 #![tactic(auto)]
 
+mod building;
 mod case;
 mod printing;
 mod report;
@@ -65,6 +73,8 @@ print\tu8\tlocale:en\t5\t35
 read\tu8\tlocale:en\t35\tok 5
 names\t656e\tok en
 locale\ten\tStandard\t2e\te2889e\t2d\t4e614e\t2b\t2c
+json\tlocale\t22656e22\tok en
+build\tseparator=313233343536373839\terr Capacity 9 8
 changed\tprint\tu8\tlocale:en\t5\t36
 ";
 

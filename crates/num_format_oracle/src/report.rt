@@ -5,7 +5,7 @@ use std::alloc::Global;
 use std::io;
 
 /// The most lines of one sort that are printed.
-const MOST_PRINTED: usize = 5;
+const MOST_PRINTED: usize = 10;
 
 /// How many cases of a kind were tried, and how many results differ from the expected ones.
 #[derive(Drop)]
@@ -63,6 +63,8 @@ pub struct Report {
     reading: Tally,
     names: Tally,
     locales: Tally,
+    json: Tally,
+    building: Tally,
     changed: Tally,
     unreadable: usize,
 }
@@ -74,6 +76,8 @@ impl Report {
             reading: Tally::new("read"),
             names: Tally::new("names"),
             locales: Tally::new("locale"),
+            json: Tally::new("json"),
+            building: Tally::new("build"),
             changed: Tally::new("changed"),
             unreadable: 0,
         }
@@ -102,6 +106,8 @@ impl Report {
             Call::Parse { .. } => self.reading.add(rt, line, expected, &returned),
             Call::FindLocale { .. } => self.names.add(rt, line, expected, &returned),
             Call::DescribeLocale { .. } => self.locales.add(rt, line, expected, &returned),
+            Call::FromJson { .. } => self.json.add(rt, line, expected, &returned),
+            Call::Build { .. } => self.building.add(rt, line, expected, &returned),
         }
     }
 
@@ -121,6 +127,8 @@ impl Report {
             && self.reading.is_passed()
             && self.names.is_passed()
             && self.locales.is_passed()
+            && self.json.is_passed()
+            && self.building.is_passed()
             && self.changed.cases > 0
             && self.changed.different == self.changed.cases
             && self.unreadable == 0
@@ -132,6 +140,8 @@ impl Report {
         self.reading.print(rt)?;
         self.names.print(rt)?;
         self.locales.print(rt)?;
+        self.json.print(rt)?;
+        self.building.print(rt)?;
         self.changed.print(rt)?;
         println!(rt; "unreadable: {} lines", self.unreadable)
     }

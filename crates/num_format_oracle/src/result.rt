@@ -1,5 +1,6 @@
 //! What `num_format` returns, in the words of the data.
 
+use crate::building::{built, from_json};
 use crate::case::{Call, NamedFormat};
 use crate::printing::printed;
 use num_format::parsing::{FromFormattedStr, ParseFormatted};
@@ -40,6 +41,8 @@ impl Call<'_> {
                 agreed(by_name, found(alloc, text, traced)?)
             }
             Call::DescribeLocale { name } => described(alloc, Locale::from_name(name).ok()?),
+            Call::FromJson { kind, json } => from_json(alloc, kind, json),
+            Call::Build { calls } => built(alloc, calls),
         }
     }
 }

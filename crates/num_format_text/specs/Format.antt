@@ -1,6 +1,5 @@
 -- The data of a format.
 use Rattle.std.specs.Prelude.{ℕ, ◌≤◌, List, length}
-use Rattle.num_format_text.specs.declared.capacities.TheConstants.{MAX_DEC_LEN, MAX_INF_LEN, MAX_MIN_LEN, MAX_NAN_LEN, MAX_PLUS_LEN, MAX_SEP_LEN}
 use Rattle.num_format_text.specs.declared.grouping.Grouping.{Grouping}
 
 -- what the seven methods of a format return; each text is the list of its bytes
@@ -13,11 +12,24 @@ pub record FormatData : Type 0 where
   pub plus_sign : List ℕ
   pub separator : List ℕ
 
+-- the most bytes of each text
+pub record Capacities : Type 0 where
+  pub decimal : ℕ
+  pub infinity : ℕ
+  pub minus_sign : ℕ
+  pub nan : ℕ
+  pub plus_sign : ℕ
+  pub separator : ℕ
+
+-- the capacities, which are those of the Rust crate num-format
+abbrev pub capacities : Capacities
+capacities = record { decimal = 8; infinity = 128; minus_sign = 8; nan = 64; plus_sign = 8; separator = 8 }
+
 -- each text is within its capacity
 pub record IsWithinCapacity (f : FormatData) : Type 0 where
-  pub decimal : length f.decimal ≤ MAX_DEC_LEN
-  pub infinity : length f.infinity ≤ MAX_INF_LEN
-  pub minus_sign : length f.minus_sign ≤ MAX_MIN_LEN
-  pub nan : length f.nan ≤ MAX_NAN_LEN
-  pub plus_sign : length f.plus_sign ≤ MAX_PLUS_LEN
-  pub separator : length f.separator ≤ MAX_SEP_LEN
+  pub decimal : length f.decimal ≤ capacities.decimal
+  pub infinity : length f.infinity ≤ capacities.infinity
+  pub minus_sign : length f.minus_sign ≤ capacities.minus_sign
+  pub nan : length f.nan ≤ capacities.nan
+  pub plus_sign : length f.plus_sign ≤ capacities.plus_sign
+  pub separator : length f.separator ≤ capacities.separator

@@ -25,6 +25,8 @@ pub enum ErrorKind {
         /// The capacity in bytes.
         cap: usize,
     },
+    /// None of the others. The message, kept here, says why.
+    Other(ArrayString<MAX_ERR_LEN>),
     /// The text, kept here, is the name of no locale.
     ParseLocale(ArrayString<MAX_ERR_LEN>),
     /// The text, kept here, is no number of the type that was asked for.
@@ -34,16 +36,30 @@ pub enum ErrorKind {
 impl fmt::Display for ErrorKind {
     ghost output = { λ kind. Some (message_of (refusal_of kind)) };
 
+    ghost styled_output = { λ kind _. Some (message_of (refusal_of kind)) };
+
+    /// Writes the message alone, whatever width or fill is asked for.
+    #[tactic(auto, using(crate::proofs::WriteLemmas::three_writes, crate::proofs::WriteLemmas::five_writes))]
     fn fmt<W: fmt::Write>(&self, f: &mut fmt::Formatter<W>) -> fmt::Result {
         match self {
-            ErrorKind::Capacity { len, cap } => write!(
-                f,
-                "Attempted to write input of length {len} bytes into a buffer with capacity {cap} bytes."
-            ),
-            ErrorKind::ParseLocale(input) => {
-                write!(f, "Failed to parse {input} into a valid locale.")
+            ErrorKind::Capacity { len, cap } => {
+                f.write_str("Attempted to write input of length ")?;
+                f.write_str(itoa::Buffer::new().format(*len))?;
+                f.write_str(" bytes into a buffer with capacity ")?;
+                f.write_str(itoa::Buffer::new().format(*cap))?;
+                f.write_str(" bytes.")
             }
-            ErrorKind::ParseNumber(input) => write!(f, "Failed to parse {input} into a number."),
+            ErrorKind::Other(message) => f.write_str(message.as_str()),
+            ErrorKind::ParseLocale(input) => {
+                f.write_str("Failed to parse ")?;
+                f.write_str(input.as_str())?;
+                f.write_str(" into a valid locale.")
+            }
+            ErrorKind::ParseNumber(input) => {
+                f.write_str("Failed to parse ")?;
+                f.write_str(input.as_str())?;
+                f.write_str(" into a number.")
+            }
         }
     }
 }

@@ -13,6 +13,7 @@ pub mod error;
 pub mod error_kind;
 pub mod format;
 pub mod grouping;
+pub mod laws;
 pub mod strings;
 pub mod symbol;
 

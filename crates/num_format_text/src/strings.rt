@@ -1,11 +1,22 @@
 //! The texts of a format, each within the capacity of its symbol.
 //!
 //! The six types differ in their symbol alone, so a minus sign cannot be passed for a separator.
-ghost use Rattle.std.specs.Prelude.{◌≡◌, ◌≤◌, ◌↔◌, length, IfOk, IfErr, IsOk};
+ghost use Rattle.std.specs.Prelude.{◌≡◌, ◌≤◌, ◌↔◌, length, nat_eq, refl, Some, IfOk, IfErr, IsOk, ⊤};
+ghost use Rattle.std.proofs.Common.{rules};
+ghost use Rattle.std.specs.Ordering.{nat_cmp};
+ghost use Rattle.std.specs.Cmp.{partial_equiv_from_equiv};
+ghost use Rattle.std.specs.Cmp.Lexicographic.{pointwise, slice_cmp, nat_list_eq_equiv, nat_list_cmp_total, texts_po, texts_ties};
+ghost use Rattle.std.specs.Cmp.Rules.{hashing};
+ghost use Rattle.std.specs.Fmt.{debug_str};
+ghost use Rattle.std.specs.Hash as fed;
 
 use crate::error::Error;
 use crate::error_kind::ErrorKind;
 use crate::symbol::{Decimal, Infinity, MinusSign, Nan, PlusSign, Separator, Symbol};
+use std::alloc::AllocError;
+use std::cmp::Ordering;
+use std::fmt;
+use std::hash::{Hash, Hasher};
 use std::marker::{Model, PhantomData};
 
 /// The text of a symbol, borrowed. It has at most [`Symbol::CAPACITY`] bytes.
@@ -76,7 +87,90 @@ impl<'a, S: Symbol> BoundedStr<'a, S> {
         ensures same { result.now ≡ self.entry }
         ensures fits { length result.now ≤ S.CAPACITY }
     {
-        self.text
+        let BoundedStr { text, symbol: _ } = self;
+        text
+    }
+}
+
+impl<'a, S: Symbol> Clone for BoundedStr<'a, S> {
+    ghost is_clone = { λ s copy. copy ≡ s };
+
+    ghost is_infallible = { λ _. ⊤ };
+
+    /// Returns the same text. This is never an error.
+    fn clone(&self) -> Result<Self, AllocError> {
+        Ok(BoundedStr {
+            text: self.text,
+            symbol: PhantomData,
+        })
+    }
+}
+
+impl<'a, S: Symbol> PartialEq for BoundedStr<'a, S> {
+    ghost eq = { pointwise nat_eq };
+
+    ghost laws = { partial_equiv_from_equiv nat_list_eq_equiv };
+
+    fn eq(&self, other: &Self) -> bool {
+        self.text == other.text
+    }
+}
+
+impl<'a, S: Symbol> Eq for BoundedStr<'a, S> {
+    ghost laws = { nat_list_eq_equiv };
+}
+
+impl<'a, S: Symbol> PartialOrd for BoundedStr<'a, S> {
+    ghost partial_cmp = { λ s t. Some (slice_cmp nat_cmp s t) };
+
+    ghost laws = { texts_po };
+
+    fn partial_cmp(&self, other: &Self) -> Option<Ordering> {
+        Some(self.cmp(other))
+    }
+}
+
+impl<'a, S: Symbol> Ord for BoundedStr<'a, S> {
+    ghost cmp = { slice_cmp nat_cmp };
+
+    ghost total = { nat_list_cmp_total };
+
+    ghost matches_partial_cmp = { λ s t. refl };
+
+    ghost matches_eq = { texts_ties };
+
+    fn cmp(&self, other: &Self) -> Ordering {
+        self.text.cmp(other.text)
+    }
+}
+
+impl<'a, S: Symbol> Hash for BoundedStr<'a, S> {
+    ghost hash_input = { fed.str };
+
+    ghost respects_eq = { Prim.search (hashing, rules) };
+
+    fn hash<H: Hasher>(&self, state: &mut H) {
+        self.text.hash(state);
+    }
+}
+
+impl<'a, S: Symbol> fmt::Display for BoundedStr<'a, S> {
+    ghost output = { λ s. Some s };
+
+    ghost styled_output = { λ s _. Some s };
+
+    /// Writes the text alone, whatever width or fill is asked for.
+    fn fmt<W: fmt::Write>(&self, f: &mut fmt::Formatter<W>) -> fmt::Result {
+        f.write_str(self.text)
+    }
+}
+
+impl<'a, S: Symbol> fmt::Debug for BoundedStr<'a, S> {
+    ghost debug_output = { debug_str };
+
+    /// Writes the debug form of the text, as `","`.
+    fn fmt<W: fmt::Write>(&self, f: &mut fmt::Formatter<W>) -> fmt::Result {
+        fmt::Debug::fmt(self.text, f)
     }
 }
 

@@ -1,1 +1,2 @@
 pub mod OwnFormat
+pub mod Settings

@@ -30,8 +30,8 @@ fn a_second_text_replaces_the_first(rt: HostRuntime) {
 fn displays_the_text_alone(rt: HostRuntime) -> Result<(), Fail> {
     let mut buffer = Buffer::new();
     buffer.write_formatted(&1000, &CustomFormat::default());
-    let shown = format!(in rt.alloc(); "{buffer} {buffer:>9} {buffer:.2}")?;
-    assert_equal(&rt, shown.as_str(), "1,000 1,000 1,000");
+    let shown = format!(in rt.alloc(); "{buffer} {buffer:>9} {buffer:.2} {buffer:?}")?;
+    assert_equal(&rt, shown.as_str(), "1,000 1,000 1,000 1,000");
     Ok(())
 }
 
@@ -48,8 +48,7 @@ fn a_text_is_prepended(rt: HostRuntime) {
 #[test]
 fn the_last_byte_is_prepended(rt: HostRuntime) -> Result<(), Fail> {
     let zeros = "0".repeat(rt.alloc(), 190)?;
-    let mut buffer = Buffer::new();
-    buffer.put_front(&zeros);
+    let mut buffer = Buffer::from_text(&zeros);
     buffer.put_front("-");
     assert_equal(&rt, buffer.len(), 191);
     assert_equal(&rt, buffer.as_str().strip_prefix('-'), Some(zeros.as_str()));

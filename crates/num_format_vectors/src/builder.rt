@@ -1,8 +1,11 @@
-//! What a builder of formats keeps, and which error it returns.
+//! What a builder of formats keeps, and which error it returns; what formats and builders equal.
 
 use crate::asserting::assert_equal;
 use crate::errors::{message, too_long};
-use num_format::{CustomFormat, ErrorKind, Grouping};
+use crate::settings::{Setting, format_of};
+use crate::texts::printed;
+use num_format::utils::SeparatorStr;
+use num_format::{CustomFormat, CustomFormatBuilder, ErrorKind, Grouping, Locale};
 use std::process::Abort;
 use std::test::Fail;
 
@@ -43,6 +46,17 @@ fn two_texts_too_long(rt: HostRuntime) -> Result<(), Fail> {
     Ok(())
 }
 
+/// A builder returns the error of the field's own type.
+#[test]
+fn one_text_too_long(rt: HostRuntime) -> Result<(), Fail> {
+    let expected = too_long(rt.alloc(), 9, 8)?;
+    let text = SeparatorStr::new("123456789").err();
+    assert_equal(&rt, message(rt.alloc(), text)?.as_str(), expected.as_str());
+    let built = CustomFormat::builder().separator("123456789").build().err();
+    assert_equal(&rt, message(rt.alloc(), built)?.as_str(), expected.as_str());
+    Ok(())
+}
+
 /// A later text that fits replaces one that is too long.
 #[test]
 fn the_last_texts_are_kept(rt: HostRuntime) -> Result<(), Fail> {
@@ -53,6 +67,38 @@ fn the_last_texts_are_kept(rt: HostRuntime) -> Result<(), Fail> {
         .separator(",")
         .build()?;
     assert_fields(&rt, &format, Grouping::Standard, ENGLISH);
+    assert!(rt; format == CustomFormat::default());
+    Ok(())
+}
+
+/// A format replaces all fields, a text that is too long too.
+#[test]
+fn a_format_is_given(rt: HostRuntime) -> Result<(), Fail> {
+    let french = CustomFormat::builder()
+        .separator("123456789")
+        .format(&Locale::fr)
+        .build()?;
+    assert!(rt; french == CustomFormat::from(Locale::fr));
+    let indian = french.into_builder().grouping(Grouping::Indian).build()?;
+    let expected = "-10\u{202f}00\u{202f}000";
+    assert_equal(&rt, printed(&-1_000_000, &indian).as_str(), expected);
+    let settings = [
+        Setting::Separator("123456789"),
+        Setting::Locale(Locale::fr),
+        Setting::Grouping(Grouping::Indian),
+    ];
+    assert!(rt; format_of(&settings)? == indian);
+    Ok(())
+}
+
+/// Builders are compared by what each field has, the length of a text that is too long too.
+#[test]
+fn equal_builders(rt: HostRuntime) -> Result<(), Fail> {
+    assert!(rt; CustomFormatBuilder::from(Locale::en) == CustomFormat::builder());
+    let refused = CustomFormat::builder().separator("123456789");
+    assert!(rt; refused.clone()? == refused);
+    assert!(rt; refused != CustomFormat::builder());
+    assert!(rt; refused != CustomFormat::builder().separator("1234567890"));
     Ok(())
 }
 

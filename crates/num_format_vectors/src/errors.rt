@@ -25,8 +25,9 @@ pub fn message(alloc: Global, error: Option<Error>) -> Result<String, AllocError
     }
 }
 
-/// Asserts that a text of the capacity is kept, and that one byte more is an error.
+/// Asserts that an empty text and one of the capacity are kept, and that one byte more is an error.
 fn keeps_to<S: Symbol>(rt: &impl Abort, alloc: Global, capacity: usize) -> Result<(), Fail> {
+    assert_equal(rt, BoundedStr::<S>::new("")?.into_str(), "");
     let text = "x".repeat(alloc, capacity)?;
     assert_equal(rt, BoundedStr::<S>::new(&text)?.into_str(), text.as_str());
     let len = capacity.saturating_add(1);

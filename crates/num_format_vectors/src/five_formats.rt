@@ -152,7 +152,7 @@ where
     for format in FORMATS {
         let pattern = match format.0 {
             Grouping::Indian => number.indian,
-            Grouping::Standard | Grouping::Posix => number.standard,
+            _ => number.standard,
         };
         prints_under(rt, alloc, &n, format, pattern)?;
     }

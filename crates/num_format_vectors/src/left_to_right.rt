@@ -21,6 +21,14 @@ const SEPARATORS: [&str; 8] = [
     "12345678",
 ];
 
+/// The groupings that print a separator.
+const GROUPINGS: [Grouping; 4] = [
+    Grouping::Standard,
+    Grouping::Indian,
+    Grouping::Myriad,
+    Grouping::Sparse,
+];
+
 /// A minus sign of several characters.
 const MINUS_SIGN: &str = "\u{200e}-";
 
@@ -41,6 +49,8 @@ fn left_to_right(
             Grouping::Standard => right > 0 && right % 3 == 0,
             Grouping::Indian => right == 3 || right > 3 && right % 2 == 1,
             Grouping::Posix => false,
+            Grouping::Myriad => right > 0 && right % 4 == 0,
+            Grouping::Sparse => digits.len() > 4 && right > 0 && right % 3 == 0,
         };
         if is_separated {
             text.push_str(separator)?;
@@ -53,7 +63,7 @@ fn left_to_right(
 fn each_number_of_digits(rt: HostRuntime) -> Result<(), Fail> {
     for (length, separator) in (1..=8).zip(SEPARATORS) {
         assert_equal(&rt, separator.len(), length);
-        for grouping in [Grouping::Standard, Grouping::Indian] {
+        for grouping in GROUPINGS {
             print_powers_of_ten(&rt, rt.alloc(), grouping, separator)?;
         }
     }

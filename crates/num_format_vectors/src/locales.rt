@@ -1,6 +1,6 @@
-//! The list of the names of locales, a locale found by its own name, the places that are compared on
-//! the way, and the `Debug` text.
-ghost use Rattle.std.specs.Prelude.{◌≡◌};
+//! The list of the names of locales, a locale found by its own name or by that of its variant, the
+//! places that are compared on the way, and the `Debug` text.
+ghost use Rattle.std.specs.Prelude.{◌≡◌, ◌<◌, ◌↔◌, IsTrue, Ok};
 
 use crate::asserting::assert_equal;
 use num_format::{Error, Locale};
@@ -26,6 +26,27 @@ fn found_by_its_name(locale: Locale) -> Result<Locale, Error>
 #[test]
 fn the_name_finds_its_locale(rt: HostRuntime) {
     assert_equal(&rt, found_by_its_name(Locale::as_).ok(), Some(Locale::as_));
+}
+
+/// Returns whether two locales are the same: `==` says so to any caller.
+fn is_same(a: Locale, b: Locale) -> bool
+    ensures { IsTrue result ↔ (a ≡ b) }
+{
+    a == b
+}
+
+/// Returns whether a locale is before another: `<` says so to any caller.
+fn is_before(a: Locale, b: Locale) -> bool
+    ensures { IsTrue result ↔ (a < b) }
+{
+    a < b
+}
+
+/// Returns a clone, which is the locale and is never refused.
+fn cloned(a: &Locale) -> Result<Locale, std::alloc::AllocError>
+    ensures { result ≡ Ok a.now }
+{
+    a.clone()
 }
 
 /// Asserts that the text is the name of the locale at the place: the last place that is compared.
@@ -66,8 +87,21 @@ fn a_refused_text_is_between_names_that_are_compared(rt: HostRuntime) {
 }
 
 #[test]
-fn debug_shows_the_name(rt: HostRuntime) -> Result<(), Fail> {
-    let shown = format!(in rt.alloc(); "{:?}", Locale::en_IN)?;
-    assert_equal(&rt, shown.as_str(), "en-IN");
+fn a_variant_is_found_by_its_name_alone(rt: HostRuntime) {
+    for (text, variant) in [
+        ("en", Some(Locale::en)),
+        ("as_", Some(Locale::as_)),
+        ("as", None),
+        ("en_US_POSIX", Some(Locale::en_US_POSIX)),
+        ("en-US-POSIX", None),
+    ] {
+        assert_equal(&rt, Locale::from_variant_name(text), variant);
+    }
+}
+
+#[test]
+fn debug_shows_the_variant(rt: HostRuntime) -> Result<(), Fail> {
+    let shown = format!(in rt.alloc(); "{:?} {:?}", Locale::en_IN, Locale::as_)?;
+    assert_equal(&rt, shown.as_str(), "en_IN as_");
     Ok(())
 }

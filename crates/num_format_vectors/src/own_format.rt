@@ -1,19 +1,25 @@
-//! A type of the test's own that implements [`Format`], and numbers under it.
-ghost use Rattle.num_format_vectors.specs.OwnFormat.{sevens};
+//! Types of the tests' own that implement [`Format`], and numbers under them.
+ghost use Rattle.num_format_vectors.specs.OwnFormat.{sevens, without_minus};
 
 use crate::asserting::assert_equal;
-use crate::texts::printed;
+use crate::errors::message;
+use crate::every_way;
+use num_format::parsing::{FromFormattedStr, ParseFormatted};
 use num_format::utils::{DecimalStr, InfinityStr, MinusSignStr, NanStr, PlusSignStr, SeparatorStr};
-use num_format::{Format, Grouping};
+use num_format::{Format, Grouping, ToFormattedString, prints_alike, reads_back};
+use std::alloc::Global;
+use std::fmt::Debug;
+use std::process::Abort;
+use std::test::Fail;
 
 /// A format whose texts look like digits: the separator is `7` and the minus sign `17`. All else
 /// but the grouping is that of the locale `en`.
 #[derive(Clone, Copy)]
-struct OwnFormat {
+struct Sevens {
     grouping: Grouping,
 }
 
-impl Format for OwnFormat {
+impl Format for Sevens {
     ghost answers = { λ f. sevens f.grouping };
 
     fn decimal(&self) -> DecimalStr<'_> {
@@ -45,34 +51,140 @@ impl Format for OwnFormat {
     }
 }
 
+/// The format of the locale `en` with an empty minus sign.
+#[derive(Clone, Copy)]
+struct WithoutMinus;
+
+impl Format for WithoutMinus {
+    ghost answers = { λ _. without_minus };
+
+    fn decimal(&self) -> DecimalStr<'_> {
+        DecimalStr::new(".").unwrap()
+    }
+
+    fn grouping(&self) -> Grouping {
+        Grouping::Standard
+    }
+
+    fn infinity(&self) -> InfinityStr<'_> {
+        InfinityStr::new("∞").unwrap()
+    }
+
+    fn minus_sign(&self) -> MinusSignStr<'_> {
+        MinusSignStr::new("").unwrap()
+    }
+
+    fn nan(&self) -> NanStr<'_> {
+        NanStr::new("NaN").unwrap()
+    }
+
+    fn plus_sign(&self) -> PlusSignStr<'_> {
+        PlusSignStr::new("+").unwrap()
+    }
+
+    fn separator(&self) -> SeparatorStr<'_> {
+        SeparatorStr::new(",").unwrap()
+    }
+}
+
+/// Asserts the number that a text parses to, or that it is an error where there is none.
+fn assert_parses<N, F: Format>(
+    rt: &impl Abort,
+    alloc: Global,
+    text: &str,
+    format: &F,
+    parsed: Option<N>,
+) -> Result<(), Fail>
+where
+    N: FromFormattedStr + Copy + PartialEq + Debug,
+{
+    assert_equal(rt, text.parse_formatted(format).ok(), parsed);
+    match N::from_formatted_str(text, format) {
+        Ok(number) => assert_equal(rt, Some(number), parsed),
+        Err(error) => {
+            let expected = format!(in alloc; "Failed to parse {text} into a number.")?;
+            assert_equal(rt, message(alloc, Some(error))?.as_str(), expected.as_str());
+        }
+    }
+    Ok(())
+}
+
+/// Asserts the text of a number by every way of printing, and the number that this text parses to.
+fn assert_number<N, F: Format>(
+    rt: &impl Abort,
+    alloc: Global,
+    n: N,
+    format: &F,
+    text: &str,
+    parsed: N,
+) -> Result<(), Fail>
+where
+    N: ToFormattedString + FromFormattedStr + Copy + PartialEq + Debug,
+{
+    every_way::prints(rt, alloc, &n, format, text)?;
+    assert_parses(rt, alloc, text, format, Some(parsed))
+}
+
+/// A text that begins with `17` is negative, whatever was printed.
 #[test]
-fn prints_numbers(rt: HostRuntime) {
+fn digits_as_separator_and_minus_sign(rt: HostRuntime) -> Result<(), Fail> {
     let cases = [
-        (Grouping::Standard, 0i128, "0"),
-        (Grouping::Standard, 7, "7"),
-        (Grouping::Standard, 999, "999"),
-        (Grouping::Standard, 1000, "17000"),
-        (Grouping::Standard, -1000, "1717000"),
-        (Grouping::Standard, 1234567, "172347567"),
-        (Grouping::Indian, 1234567, "127347567"),
-        (Grouping::Indian, -100000, "1717007000"),
-        (Grouping::Posix, -5, "175"),
-        (Grouping::Posix, -1234567, "171234567"),
+        (Grouping::Standard, 0i128, "0", 0i128),
+        (Grouping::Standard, 7, "7", 7),
+        (Grouping::Standard, 999, "999", 999),
+        (Grouping::Standard, 1000, "17000", -17000),
+        (Grouping::Standard, -1000, "1717000", -1717000),
+        (Grouping::Standard, 1234567, "172347567", -172347567),
+        (Grouping::Indian, 1234567, "127347567", 127347567),
+        (Grouping::Indian, -100000, "1717007000", -1717007000),
+        (Grouping::Posix, -5, "175", -175),
+        (Grouping::Posix, -1234567, "171234567", -171234567),
         (
             Grouping::Posix,
             i128::MAX,
             "170141183460469231731687303715884105727",
+            -i128::MAX,
         ),
     ];
-    for (grouping, n, expected) in cases {
-        let format = OwnFormat { grouping };
-        assert_equal(&rt, printed(&n, &format).as_str(), expected);
+    for (grouping, n, text, parsed) in cases {
+        assert_number(&rt, rt.alloc(), n, &Sevens { grouping }, text, parsed)?;
     }
+    let format = Sevens {
+        grouping: Grouping::Standard,
+    };
+    assert_parses(&rt, rt.alloc(), "17000", &format, None::<u32>)
+}
+
+/// Each text is negative, so a number that is not parses to another one, or is an error.
+#[test]
+fn an_empty_minus_sign(rt: HostRuntime) -> Result<(), Fail> {
+    for (n, text, parsed) in [(0, "0", 0), (1000, "1,000", -1000), (-1000, "1,000", -1000)] {
+        assert_number(&rt, rt.alloc(), n, &WithoutMinus, text, parsed)?;
+    }
+    assert_parses(&rt, rt.alloc(), "1,000", &WithoutMinus, None::<u32>)
+}
+
+/// Neither certificate asks more of a format than its methods.
+#[test]
+fn certificates(rt: HostRuntime) {
+    for grouping in [
+        Grouping::Standard,
+        Grouping::Indian,
+        Grouping::Posix,
+        Grouping::Myriad,
+        Grouping::Sparse,
+    ] {
+        let format = Sevens { grouping };
+        assert_equal(&rt, reads_back(&format), false);
+        assert_equal(&rt, prints_alike(&format, &format), true);
+        assert_equal(&rt, prints_alike(&format, &WithoutMinus), false);
+    }
+    assert_equal(&rt, reads_back(&WithoutMinus), false);
 }
 
 #[test]
 fn returns_its_texts(rt: HostRuntime) {
-    let format = OwnFormat {
+    let format = Sevens {
         grouping: Grouping::Indian,
     };
     assert_equal(&rt, format.grouping(), Grouping::Indian);

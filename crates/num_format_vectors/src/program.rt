@@ -1,12 +1,11 @@
-//! Command lines of the program `regroup`: the status and the outputs of each, also where a write
-//! fails.
+//! Command lines of the program `regroup`: the status and the outputs of each, also where an output
+//! accepts no byte.
 
 use crate::asserting::assert_equal;
-use crate::short_writer::{Fault, ShortWriter};
 use regroup_commands::{ANSWERED, FAILED, MISUSED, REFUSED, run};
 use std::alloc::Global;
-use std::io;
 use std::process::Abort;
+use std::test::Fail;
 
 const PRINTED: &[&str] = &["custom", ",", "Standard", "-", "-1000000"];
 
@@ -14,6 +13,8 @@ const TOO_LONG: &[&str] = &["custom", "123456789", "Standard", "1234567890", "1"
 
 const TOO_LONG_MESSAGE: &str =
     "Attempted to write input of length 10 bytes into a buffer with capacity 8 bytes.\n";
+
+const I128_MIN: &str = "-170141183460469231731687303715884105728";
 
 const UNKNOWN_LOCALE: &str = "Failed to parse xx into a valid locale.\n";
 
@@ -24,12 +25,21 @@ const USAGE: &str = "usage: regroup COMMAND ARGUMENT...\n";
 /// A command line, its status, and its texts on standard output and standard error.
 type Case<'a> = (&'a [&'a str], u8, &'a str, &'a str);
 
-const CUSTOM_CASES: [Case<'static>; 8] = [
+const CUSTOM_CASES: [Case<'static>; 9] = [
     (PRINTED, ANSWERED, "-1,000,000\n", ""),
     (
         &["custom", "", "Indian", "", "-100000"],
         ANSWERED,
         "100000\n",
+        "",
+    ),
+    // The longest text of a number: 191 bytes.
+    (
+        &["custom", "12345678", "Indian", "abcdefgh", I128_MIN],
+        ANSWERED,
+        "abcdefgh1712345678011234567841123456781812345678341234567860123456784612345678921234567831\
+            1234567873123456781612345678871234567830123456783712345678151234567888123456784112345678\
+            0512345678728\n",
         "",
     ),
     (TOO_LONG, REFUSED, "", TOO_LONG_MESSAGE),
@@ -50,7 +60,7 @@ const CUSTOM_CASES: [Case<'static>; 8] = [
     (&[], MISUSED, "", USAGE),
 ];
 
-const LOCALE_CASES: [Case<'static>; 12] = [
+const LOCALE_CASES: [Case<'static>; 13] = [
     (&["print", "as", "-1234567"], ANSWERED, "-12,34,567\n", ""),
     (&["print", "en_IN", "100000"], ANSWERED, "1,00,000\n", ""),
     (&["print", "xx", "1"], REFUSED, "", UNKNOWN_LOCALE),
@@ -60,9 +70,26 @@ const LOCALE_CASES: [Case<'static>; 12] = [
     (&["names", "x"], MISUSED, "", USAGE),
     (&["read", "en", " -5"], ANSWERED, "5\n", ""),
     (&["read", "as", "-12,34,567"], ANSWERED, "-1234567\n", ""),
+    (
+        &["read", "en", I128_MIN],
+        ANSWERED,
+        "-170141183460469231731687303715884105728\n",
+        "",
+    ),
     (&["read", "en", "one"], REFUSED, "", NO_NUMBER),
     (&["read", "xx", "one"], REFUSED, "", UNKNOWN_LOCALE),
     (&["read", "en"], MISUSED, "", USAGE),
+];
+
+const CERTIFICATE_CASES: [Case<'static>; 8] = [
+    (&["check", "en"], ANSWERED, "true\n", ""),
+    (&["check", "fa"], ANSWERED, "true\n", ""),
+    (&["check", "xx"], REFUSED, "", UNKNOWN_LOCALE),
+    (&["check"], MISUSED, "", USAGE),
+    (&["alike", "af", "agq"], ANSWERED, "true\n", ""),
+    (&["alike", "en", "en_IN"], ANSWERED, "false\n", ""),
+    (&["alike", "xx", "yy"], REFUSED, "", UNKNOWN_LOCALE),
+    (&["alike", "en"], MISUSED, "", USAGE),
 ];
 
 /// Asserts the status that a command line ends with.
@@ -99,6 +126,40 @@ fn locales(rt: HostRuntime) {
 }
 
 #[test]
+fn certificates(rt: HostRuntime) {
+    for case in CERTIFICATE_CASES {
+        assert_run(&rt, rt.alloc(), case);
+    }
+}
+
+/// Asserts the messages of a name and of a number that are refused.
+fn assert_kept(rt: &impl Abort, alloc: Global, text: &str, kept: &str) -> Result<(), Fail> {
+    let message = format!(in alloc; "Failed to parse {kept} into a valid locale.\n")?;
+    assert_run(rt, alloc, (&["print", text, "1"], REFUSED, "", &message));
+    let message = format!(in alloc; "Failed to parse {kept} into a number.\n")?;
+    assert_run(rt, alloc, (&["read", "en", text], REFUSED, "", &message));
+    Ok(())
+}
+
+/// A message has the whole characters of the text that fit 256 bytes.
+#[test]
+fn long_texts(rt: HostRuntime) -> Result<(), Fail> {
+    let alloc = rt.alloc();
+    for (count, end, kept_end) in [
+        (253, "€", "€"),
+        (254, "€", ""),
+        (255, "é", ""),
+        (256, "aa", ""),
+    ] {
+        let start = "a".repeat(alloc, count)?;
+        let text = format!(in alloc; "{start}{end}")?;
+        let kept = format!(in alloc; "{start}{kept_end}")?;
+        assert_kept(&rt, alloc, &text, &kept)?;
+    }
+    Ok(())
+}
+
+#[test]
 fn names_are_printed_one_per_line(rt: HostRuntime) {
     let mut out: Vec<u8> = Vec::new(rt.alloc());
     let mut err: Vec<u8> = Vec::new(rt.alloc());
@@ -112,38 +173,6 @@ fn names_are_printed_one_per_line(rt: HostRuntime) {
     assert!(rt; out.starts_with(b"af\naf-NA\nagq\n"));
     assert!(rt; out.ends_with(b"\nzu\n"));
     assert!(rt; err.is_empty());
-}
-
-#[test]
-fn each_write_fails_in_turn(rt: HostRuntime) {
-    for (words, status, text) in [
-        (PRINTED, ANSWERED, "-1,000,000\n"),
-        (TOO_LONG, REFUSED, TOO_LONG_MESSAGE),
-        (&["print", "xx", "1"], REFUSED, UNKNOWN_LOCALE),
-        (&["read", "as", "-12,34,567"], ANSWERED, "-1234567\n"),
-        (&["custom"], MISUSED, USAGE),
-    ] {
-        fails_at_each_write(&rt, rt.alloc(), words, status, text);
-    }
-}
-
-/// Asserts that a command ends with 3 where a write fails, after the bytes that were written before
-/// it. At one byte a write, there are as many writes as the text has bytes.
-fn fails_at_each_write(rt: &impl Abort, alloc: Global, words: &[&str], status: u8, text: &str) {
-    for calls in 0..=text.len() {
-        let fault = Fault::Error(io::ErrorKind::Interrupted);
-        let mut failing = ShortWriter::new(alloc, 1, Some((calls.saturating_add(1), fault)));
-        let mut other: Vec<u8> = Vec::new(alloc);
-        let returned = if status == ANSWERED {
-            run(words, &mut failing, &mut other)
-        } else {
-            run(words, &mut other, &mut failing)
-        };
-        let expected = if calls == text.len() { status } else { FAILED };
-        assert_status(rt, words, returned, expected);
-        assert_written(rt, &failing.received, text.get(..calls).unwrap_or(text));
-        assert_written(rt, &other, "");
-    }
 }
 
 #[test]

@@ -39,7 +39,7 @@ module _ (format : FormatData) (text : List ℕ) where
       Decides-and _ _ (Decides-ltb 0 _) (Decides-and _ _ (λ yes. yes, λ yes. yes) (Decides-and _ _ (λ yes. leb-true _ _ yes, λ few. le-leb _ _ few) (λ yes. yes, λ yes. yes)))
 
   -- a text that is not refused passes the test
-  readable-from_accepted : ¬ (Refused (signed 127 40) format text) → is_readable format text ≡ true
+  pub readable-from_accepted : ¬ (Refused (signed 127 40) format text) → is_readable format text ≡ true
   readable-from_accepted accepted =
       let few : 40 < length (figures text) + (if is_negative_text format text then 1 else 0) → ⊥ = λ many. accepted (Refused.too_many_figures many) in
       readable-Decides.1 (

@@ -1,49 +1,74 @@
 -- What writers received, text after text.
-use Rattle.std.proofs.Common.{◌≡◌, ℕ, ◌+◌, ◌<◌, List, [], ◌∷◌, ◌++◌, length, map, drop, get_or, ◌∙◌, add-one, append_assoc, drop-cons, length-append, arith}
+use Rattle.std.proofs.Common.{◌≡◌, ℕ, ◌+◌, ◌<◌, List, [], ◌++◌, length, map, drop, get_or, refl, ◌∙◌, add-one, append_assoc, drop-cons, length-append, arith}
 use Rattle.std.specs.Borrow.{Bor}
-use Rattle.std.specs.Prelude.{Option}
+use Rattle.std.specs.Prelude.{Option, None, Result, Ok, Err}
+use Rattle.std.specs.Result.{result_and}
 use Rattle.std.proofs.KnownBytes.{Appends-nil, Appends-trans}
 use Rattle.std.specs.Io.KnownBytes.{Appends}
+use Rattle.num_format.specs.Refusal.{Refusal, message_of}
 use Rattle.num_format.specs.Writing.{HasReceivedUpTo, StopsWithin}
-use Rattle.num_format.proofs.WritingLemmas.{HasReceivedUpTo-none, StopsWithin-none, StopsWithin_prefix, StopsWithin_suffix}
-use Rattle.regroup_commands.specs.Output.{line, lines}
-use Rattle.regroup_commands.specs.Sending.{IsSent, StopsShort}
+use Rattle.num_format.proofs.WritingLemmas.{HasReceivedUpTo-none, StopsWithin_prefix, StopsWithin_suffix}
+use Rattle.regroup_commands.specs.Output.{line, lines, output_of_result, output_or_usage, usage_output}
+use Rattle.regroup_commands.specs.Request.{Request}
+use Rattle.regroup_commands.specs.Sending.{Sends, SendsLines, SendsOutput}
 
--- a writer that received nothing stops within any line
-pub StopsWithin-unsent : (a : Option (List ℕ)) (text : List ℕ) → StopsWithin a a (line text)
-StopsWithin-unsent a text = StopsWithin-none a (line text) (omega (arith, length-append text (10 ∷ [])))
+-- a call that sends the lines of a result, and then returns 0, sends the result's output
+pub SendsOutput_lines : {E : Type 0} (r : Result ℕ E) (result : Result (List ℕ) Refusal) (a b c : Option (List ℕ)) (sent : Result (Unit {0}) E) →
+    SendsLines sent a b result → r ≡ result_and sent (Ok 0) → SendsOutput r (output_of_result result) a b c c
+SendsOutput_lines r result a b c (Ok done) lines returned =
+    rw (lines.is, returned) (record {
+      status = refl;
+      sent = record { stdout = lines.sends.whole; stderr = Appends-nil c };
+      failed = tt;
+    })
+SendsOutput_lines r result a b c (Err e) lines returned =
+    let stops = lines.sends.prefix in
+    rw (lines.is, returned) (record {
+      status = tt;
+      sent = tt;
+      failed = record {
+        stdout_rest = stops.rest;
+        stderr_rest = [];
+        stdout = stops.received;
+        stderr = HasReceivedUpTo-none c [];
+        unfinished = omega (arith, length-append stops.rest [], stops.unfinished);
+      };
+    })
 
--- an output for standard output alone is sent once that writer received it
-pub IsSent_stdout : (a b c : Option (List ℕ)) (status : ℕ) (text : List ℕ) → Appends a b text →
-    IsSent (record { status = status; stdout = text; stderr = [] }) a b c c
-IsSent_stdout a b c status text received = record { stdout = received; stderr = Appends-nil c }
+-- a call that sends a text to standard error, and then returns the status, sends the output of the two
+SendsOutput_stderr : {E : Type 0} (r : Result ℕ E) (a c d : Option (List ℕ)) (sent : Result (Unit {0}) E) (status : ℕ) (text : List ℕ) →
+    Sends sent c d text → r ≡ result_and sent (Ok status) → SendsOutput r (record { status = status; stdout = []; stderr = text }) a a c d
+SendsOutput_stderr r a c d (Ok done) status text sends returned =
+    rw returned (record {
+      status = refl;
+      sent = record { stdout = Appends-nil a; stderr = sends.whole };
+      failed = tt;
+    })
+SendsOutput_stderr r a c d (Err e) status text sends returned =
+    let stops = sends.prefix in
+    rw returned (record {
+      status = tt;
+      sent = tt;
+      failed = record {
+        stdout_rest = [];
+        stderr_rest = stops.rest;
+        stdout = HasReceivedUpTo-none a [];
+        stderr = stops.received;
+        unfinished = stops.unfinished;
+      };
+    })
 
--- likewise for standard error
-pub IsSent_stderr : (a b c : Option (List ℕ)) (status : ℕ) (text : List ℕ) → Appends a b text →
-    IsSent (record { status = status; stdout = []; stderr = text }) c c a b
-IsSent_stderr a b c status text received = record { stdout = Appends-nil c; stderr = received }
+-- so a call that sends the message of an error, and then returns 1, sends the error's output
+pub SendsOutput_message : {E : Type 0} (r : Result ℕ E) (result : Result (List ℕ) Refusal) (a b c d : Option (List ℕ)) (sent : Result (Unit {0}) E) (error : Refusal) →
+    result ≡ Err error → b ≡ a → Sends sent c d (line (message_of error)) → r ≡ result_and sent (Ok 1) →
+    SendsOutput r (output_of_result result) a b c d
+SendsOutput_message r result a b c d sent error is unsent sends returned = rw (is, unsent) (SendsOutput_stderr r a c d sent 1 (line (message_of error)) sends returned)
 
--- an output for standard output alone stops short where that writer stops
-pub StopsShort_stdout : (a b c : Option (List ℕ)) (status : ℕ) (text : List ℕ) → StopsWithin a b text →
-    StopsShort (record { status = status; stdout = text; stderr = [] }) a b c c
-StopsShort_stdout a b c status text stops = record {
-  stdout_rest = stops.rest;
-  stderr_rest = [];
-  stdout = stops.received;
-  stderr = HasReceivedUpTo-none c [];
-  unfinished = omega (arith, length-append stops.rest [], stops.unfinished);
-}
-
--- likewise for standard error
-pub StopsShort_stderr : (a b c : Option (List ℕ)) (status : ℕ) (text : List ℕ) → StopsWithin a b text →
-    StopsShort (record { status = status; stdout = []; stderr = text }) c c a b
-StopsShort_stderr a b c status text stops = record {
-  stdout_rest = [];
-  stderr_rest = stops.rest;
-  stdout = HasReceivedUpTo-none c [];
-  stderr = stops.received;
-  unfinished = stops.unfinished;
-}
+-- and one that sends the usage, and then returns 2, sends the output for words that are no request
+pub SendsOutput_usage : {E : Type 0} (r : Result ℕ E) (request : Option Request) (a b c d : Option (List ℕ)) (sent : Result (Unit {0}) E) →
+    None ≡ request → b ≡ a → Sends sent c d usage_output.stderr → r ≡ result_and sent (Ok 2) →
+    SendsOutput r (output_or_usage request) a b c d
+SendsOutput_usage r request a b c d sent none unsent sends returned = rw (← none, unsent) (SendsOutput_stderr r a c d sent 2 usage_output.stderr sends returned)
 
 -- the lines from a place on: the line there, and those after it
 lines-drop : (texts : List (Bor (List ℕ))) (k : ℕ) (d : Bor (List ℕ)) → k < length texts →

@@ -2,7 +2,7 @@
 use Rattle.std.specs.Prelude.{ℕ, List, map}
 use Rattle.std.specs.Borrow.{Bor}
 use Rattle.regroup_commands.specs.Request.{Request}
-use Rattle.regroup_commands.specs.Request.Request.{Custom, Names, Print, Read}
+use Rattle.regroup_commands.specs.Request.Request.{Alike, Check, Custom, Names, Print, Read}
 use Rattle.regroup_commands.specs.declared.command.Command.{Command}
 use Rattle.regroup_commands.specs.declared.command.Command.TheVariants as command
 
@@ -16,3 +16,5 @@ request_of (command.Custom separator grouping minus_sign number) = Custom separa
 request_of (command.Print locale number) = Print locale.now number
 request_of command.Names = Names
 request_of (command.Read locale text) = Read locale.now text.now
+request_of (command.Check locale) = Check locale.now
+request_of (command.Alike first second) = Alike first.now second.now

@@ -1,8 +1,9 @@
 -- The output of the program: its exit status, and the bytes for standard output and standard error.
-use Rattle.std.specs.Prelude.{ℕ, ◌+◌, nat_le, nat_lt, ℤ, Bool, not, ◌&&◌, ◌||◌, if◌then◌else◌, List, [], ◌∷◌, ◌++◌, length, map, codes, Option, Some, None, Result, Ok, Err}
+use Rattle.std.specs.Prelude.{ℕ, ◌+◌, ◌-◌, ◌^◌, nat_le, nat_lt, ℤ, pos, negsuc, Bool, not, ◌&&◌, ◌||◌, if◌then◌else◌, List, [], ◌∷◌, ◌++◌, length, map, codes, Option, Some, None, Result, Ok, Err}
 use Rattle.std.specs.Fmt.{signed_decimal}
-use Rattle.std.specs.List.{flat_map, list_any, position}
+use Rattle.std.specs.List.{flat_map, list_all, list_any, position}
 use Rattle.std.specs.Option.{ok_or, option_map}
+use Rattle.std.specs.Ordering.{int_eq}
 use Rattle.std.specs.Result.{result_map_both}
 use Rattle.std.specs.Str.{bytes_eq, chars}
 use Rattle.num_format.specs.Building.{built, choices_of, chosen}
@@ -17,7 +18,7 @@ use Rattle.num_format.specs.Refusal.{Refusal, ParseLocale, ParseNumber, message_
 use Rattle.num_format.specs.Table.{table_names}
 use Rattle.num_format.specs.Text.{text_of}
 use Rattle.regroup_commands.specs.Request.{Request, fits_i128, request_in}
-use Rattle.regroup_commands.specs.Request.Request.{Custom, Names, Print, Read}
+use Rattle.regroup_commands.specs.Request.Request.{Alike, Check, Custom, Names, Print, Read}
 
 -- en's format with these three fields, or the error of a field that is too long
 abbrev pub custom_format : List ℕ → Grouping → List ℕ → Result FormatData Refusal
@@ -46,6 +47,17 @@ is_readable format text =
 abbrev pub number_read : FormatData → List ℕ → Result ℤ Refusal
 number_read format text = if is_readable format text then Ok (denoted format text) else Err (ParseNumber (cut_text text))
 
+-- whether 1 and -2 ^ 127 parse as i128 values from their texts under the format, and as themselves; by the law `round_trips` of
+-- num_format, these two decide it for every number of every integer type
+abbrev pub is_read_back : FormatData → Bool
+is_read_back format =
+    list_all (λ z. is_readable format (text_of format z) && int_eq (denoted format (text_of format z)) z) (pos 1 ∷ negsuc (2 ^ 127 - 1) ∷ [])
+
+-- whether the texts of 1000, 100000, 1000000 and -1 are the same under both formats; by the law `alike` of num_format, these four
+-- decide it for every number from -2 ^ 127 to 2 ^ 128 - 1
+abbrev pub is_alike : FormatData → FormatData → Bool
+is_alike f g = list_all (λ z. bytes_eq (text_of f z) (text_of g z)) (pos 1000 ∷ pos 100000 ∷ pos 1000000 ∷ negsuc 0 ∷ [])
+
 -- a text and a newline
 abbrev pub line : List ℕ → List ℕ
 line text = text ++ 10 ∷ []
@@ -69,12 +81,29 @@ abbrev pub decimal_line : Result ℤ Refusal → Result (List ℕ) Refusal
 decimal_line (Ok number) = Ok (line (signed_decimal number))
 decimal_line (Err error) = Err error
 
+-- the line `true` or `false`
+abbrev pub bool_line : Bool → List ℕ
+bool_line value = line (if value then codes "true" else codes "false")
+
+-- the line of whether numbers read back under the format, or the format's error
+abbrev pub read_back_line : Result FormatData Refusal → Result (List ℕ) Refusal
+read_back_line (Ok format) = Ok (bool_line (is_read_back format))
+read_back_line (Err error) = Err error
+
+-- the line of whether two formats print alike, or the error of the first format that has one
+abbrev pub alike_line : Result FormatData Refusal → Result FormatData Refusal → Result (List ℕ) Refusal
+alike_line (Ok f) (Ok g) = Ok (bool_line (is_alike f g))
+alike_line (Ok f) (Err error) = Err error
+alike_line (Err error) _ = Err error
+
 -- the lines that a request prints, or its error
 abbrev pub result_of : Request → Result (List ℕ) Refusal
 result_of (Custom separator grouping minus_sign number) = number_line (custom_format separator grouping minus_sign) number
 result_of (Print locale number) = number_line (locale_named locale) number
 result_of Names = Ok (lines table_names)
 result_of (Read locale text) = decimal_line (number_read_under (locale_named locale) text)
+result_of (Check locale) = read_back_line (locale_named locale)
+result_of (Alike first second) = alike_line (locale_named first) (locale_named second)
 
 -- the exit status, and the bytes for each of the two writers
 pub record Output : Type 0 where

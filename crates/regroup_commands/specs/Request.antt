@@ -6,7 +6,7 @@ use Rattle.std.specs.Option.{option_map}
 use Rattle.std.specs.Str.{bytes_eq}
 use Rattle.std.specs.Str.Parse.{signed_digits_value, without_leading_sign}
 use Rattle.num_format.specs.Grouping.{Grouping}
-use Rattle.num_format.specs.Grouping.TheVariants.{Standard, Indian, Posix}
+use Rattle.num_format.specs.Grouping.TheVariants.{Standard, Indian, Posix, Myriad, Sparse}
 
 -- a command with its arguments
 pub data Request : Type 0 where
@@ -14,13 +14,17 @@ pub data Request : Type 0 where
   Print : (locale : List ℕ) → (number : ℤ) → Request
   Names : Request
   Read : (locale text : List ℕ) → Request
+  Check : (locale : List ℕ) → Request
+  Alike : (first second : List ℕ) → Request
 
 -- the grouping of that name
 abbrev pub grouping_named : List ℕ → Option Grouping
 grouping_named name =
     if bytes_eq name (codes "Standard") then Some Standard
     else (if bytes_eq name (codes "Indian") then Some Indian
-    else (if bytes_eq name (codes "Posix") then Some Posix else None))
+    else (if bytes_eq name (codes "Posix") then Some Posix
+    else (if bytes_eq name (codes "Myriad") then Some Myriad
+    else (if bytes_eq name (codes "Sparse") then Some Sparse else None))))
 
 -- one digit or more, and nothing else
 abbrev pub is_numeral : List ℕ → Bool
@@ -58,6 +62,16 @@ abbrev pub read_with : List (List ℕ) → Option Request
 read_with (locale ∷ text ∷ []) = Some (Read locale text)
 read_with _ = None
 
+-- `check` with these arguments
+abbrev pub check_with : List (List ℕ) → Option Request
+check_with (locale ∷ []) = Some (Check locale)
+check_with _ = None
+
+-- `alike` with these arguments
+abbrev pub alike_with : List (List ℕ) → Option Request
+alike_with (first ∷ second ∷ []) = Some (Alike first second)
+alike_with _ = None
+
 -- the request of the words, if they are a command with its arguments
 abbrev pub request_in : List (List ℕ) → Option Request
 request_in [] = None
@@ -65,4 +79,6 @@ request_in (command ∷ arguments) =
     if bytes_eq command (codes "custom") then custom_with arguments
     else (if bytes_eq command (codes "print") then print_with arguments
     else (if bytes_eq command (codes "names") then names_with arguments
-    else (if bytes_eq command (codes "read") then read_with arguments else None)))
+    else (if bytes_eq command (codes "read") then read_with arguments
+    else (if bytes_eq command (codes "check") then check_with arguments
+    else (if bytes_eq command (codes "alike") then alike_with arguments else None)))))

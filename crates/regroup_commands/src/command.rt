@@ -4,14 +4,14 @@ ghost use Rattle.std.specs.Option.{option_map};
 ghost use Rattle.std.specs.Result.{result_map_both};
 ghost use Rattle.num_format.specs.Data.{locale_data};
 ghost use Rattle.num_format.specs.Refusal.{refusal_of};
-ghost use Rattle.regroup_commands.specs.Output.{custom_format, locale_named, number_read, output_of_request, result_of};
-ghost use Rattle.regroup_commands.specs.Request.{custom_with, grouping_named, names_with, number_in, print_with, read_with, request_in};
+ghost use Rattle.regroup_commands.specs.Output.{custom_format, is_alike, is_read_back, locale_named, number_read, output_of_request, result_of};
+ghost use Rattle.regroup_commands.specs.Request.{alike_with, check_with, custom_with, grouping_named, names_with, number_in, print_with, read_with, request_in};
 ghost use Rattle.regroup_commands.specs.Sending.{SendsLines, SendsOutput};
 
-use crate::sending::{send_lines, send_number, send_printed};
+use crate::sending::{send_bool, send_decimal, send_error, send_lines, send_number};
 use crate::{ANSWERED, REFUSED};
 use num_format::parsing::ParseFormatted;
-use num_format::{CustomFormat, Error, Grouping, Locale};
+use num_format::{CustomFormat, Error, Grouping, Locale, laws, prints_alike, reads_back};
 use std::io;
 use std::io::Write;
 
@@ -39,6 +39,16 @@ pub(crate) enum Command<'a> {
         locale: &'a str,
         text: &'a str,
     },
+    /// `check LOCALE`: prints whether every number, printed under the locale, parses as the same
+    /// number again.
+    Check {
+        locale: &'a str,
+    },
+    /// `alike LOCALE LOCALE`: prints whether every number has the same text under both locales.
+    Alike {
+        first: &'a str,
+        second: &'a str,
+    },
 }
 
 impl<'a> Command<'a> {
@@ -55,6 +65,8 @@ impl<'a> Command<'a> {
             "print" => Command::print_with(arguments),
             "names" => Command::names_with(arguments),
             "read" => Command::read_with(arguments),
+            "check" => Command::check_with(arguments),
+            "alike" => Command::alike_with(arguments),
             _ => None,
         }
     }
@@ -104,6 +116,26 @@ impl<'a> Command<'a> {
         Some(Command::Read { locale, text })
     }
 
+    /// Returns the command `check` with these arguments.
+    fn check_with(arguments: &[&'a str]) -> Option<Command<'a>>
+        ensures { option_map request_of result ≡ check_with (texts arguments.now) }
+    {
+        let [locale] = *arguments else {
+            return None;
+        };
+        Some(Command::Check { locale })
+    }
+
+    /// Returns the command `alike` with these arguments.
+    fn alike_with(arguments: &[&'a str]) -> Option<Command<'a>>
+        ensures { option_map request_of result ≡ alike_with (texts arguments.now) }
+    {
+        let [first, second] = *arguments else {
+            return None;
+        };
+        Some(Command::Alike { first, second })
+    }
+
     /// Sends the result to `out`, or the message of an error to `err`, and returns the status.
     ///
     /// # Errors
@@ -114,14 +146,8 @@ impl<'a> Command<'a> {
             (O.contents out.old) (O.contents out.new) (E.contents err.old) (E.contents err.new) }
     {
         match self.send_result(out) {
-            Ok(sent) => {
-                sent?;
-                Ok(ANSWERED)
-            }
-            Err(error) => {
-                send_printed(&error, err)?;
-                Ok(REFUSED)
-            }
+            Ok(sent) => sent.and(Ok(ANSWERED)),
+            Err(error) => send_error(&error, err).and(Ok(REFUSED)),
         }
     }
 
@@ -137,7 +163,7 @@ impl<'a> Command<'a> {
             (λ error. result_of (request_of self.entry) ≡ Err (refusal_of error)) }
         ensures unsent { OnErr result (O.contents out.new ≡ O.contents out.old) }
     {
-        Ok(match self {
+        match self {
             Command::Custom {
                 separator,
                 grouping,
@@ -145,15 +171,22 @@ impl<'a> Command<'a> {
                 number,
             } => {
                 let format = custom_format(separator, grouping, minus_sign)?;
-                send_number(number, &format, out)
+                Ok(send_number(number, &format, out))
             }
-            Command::Print { locale, number } => send_number(number, &locale_named(locale)?, out),
-            Command::Names => send_lines(Locale::available_names(), out),
+            Command::Print { locale, number } => {
+                Ok(send_number(number, &locale_named(locale)?, out))
+            }
+            Command::Names => Ok(send_lines(Locale::available_names(), out)),
             Command::Read { locale, text } => {
                 let number = number_read(text, &locale_named(locale)?)?;
-                send_printed(&number, out)
+                Ok(send_decimal(number, out))
             }
-        })
+            Command::Check { locale } => Ok(send_bool(is_read_back(&locale_named(locale)?), out)),
+            Command::Alike { first, second } => {
+                let locale = locale_named(first)?;
+                Ok(send_bool(is_alike(&locale, &locale_named(second)?), out))
+            }
+        }
     }
 }
 
@@ -165,6 +198,8 @@ fn grouping_named(name: &str) -> Option<Grouping>
         "Standard" => Some(Grouping::Standard),
         "Indian" => Some(Grouping::Indian),
         "Posix" => Some(Grouping::Posix),
+        "Myriad" => Some(Grouping::Myriad),
+        "Sparse" => Some(Grouping::Sparse),
         _ => None,
     }
 }
@@ -220,4 +255,20 @@ fn number_read(text: &str, locale: &Locale) -> Result<i128, Error>
         ≡ number_read (locale_data locale.now) text.now }
 {
     text.parse_formatted(locale)
+}
+
+/// Returns whether every number, printed under the locale, parses as the same number again.
+fn is_read_back(locale: &Locale) -> bool
+    ensures { result ≡ is_read_back (locale_data locale.now) }
+{
+    // By this law the two numbers of the contract read back under every locale.
+    laws::locale_round_trips(*locale);
+    reads_back(locale)
+}
+
+/// Returns whether every number has the same text under both locales.
+fn is_alike(first: &Locale, second: &Locale) -> bool
+    ensures { result ≡ is_alike (locale_data first.now) (locale_data second.now) }
+{
+    prints_alike(first, second)
 }

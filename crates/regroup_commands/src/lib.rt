@@ -18,16 +18,22 @@
 //! | `print LOCALE NUMBER` | the number under the locale |
 //! | `names` | the names of the 542 locales, in ascending byte order, one per line |
 //! | `read LOCALE TEXT` | the number that the text denotes under the locale, in plain decimal |
+//! | `check LOCALE` | `true` or `false`: whether every number parses again from its text under the locale |
+//! | `alike LOCALE LOCALE` | `true` or `false`: whether every number has the same text under both locales |
 //!
-//! GROUPING is `Standard`, `Indian` or `Posix`, and NUMBER is a text that `parse::<i128>` accepts.
+//! GROUPING is `Standard`, `Indian`, `Posix`, `Myriad` or `Sparse`, and NUMBER is a text that
+//! `parse::<i128>` accepts.
 //! Both are checked first: where one of them is wrong, the status is 2, whatever the other arguments
 //! are. LOCALE is a name as `names` prints it, or with `_` in place of each `-`. It is looked up
-//! before TEXT is parsed. TEXT parses as an `i128`.
+//! before TEXT is parsed, and the first of two before the second. TEXT parses as an `i128`. The
+//! numbers of `check` and `alike` are those of all integer types. `check` prints `true` for every
+//! locale.
 //!
 //! Nothing here allocates.
 #![tactic(auto)]
 
 mod command;
+mod message;
 mod sending;
 
 ghost use Rattle.std.specs.Prelude.{◌≡◌, ◌≢◌};
@@ -93,9 +99,6 @@ fn try_run<O: Write, E: Write>(args: &[&str], out: &mut O, err: &mut E) -> io::R
 {
     match Command::from_words(args) {
         Some(command) => command.run(out, err),
-        None => {
-            send_line(USAGE, err)?;
-            Ok(MISUSED)
-        }
+        None => send_line(USAGE, err).and(Ok(MISUSED)),
     }
 }

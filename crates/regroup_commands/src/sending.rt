@@ -1,21 +1,24 @@
-//! Sends texts and numbers to a writer, line by line.
+//! Sends lines to a writer.
 //!
 //! After each call here, on `Ok` the writer received all the bytes. On `Err` it received a prefix
-//! of them, and not all: nothing was sent twice or left out.
-ghost use Rattle.std.specs.Prelude.{IfSome};
+//! of them, and not all: nothing was sent twice or left out. An error comes only from a write: a
+//! line is put together first, in an array that the longest line fits.
+ghost use Rattle.std.specs.Prelude.{◌<◌, length, All};
+ghost use Rattle.std.specs.Fmt.{signed_decimal};
+ghost use Rattle.num_format.specs.Refusal.{message_of, refusal_of};
 ghost use Rattle.num_format.specs.Text.{text_of};
 ghost use Rattle.regroup_commands.specs.Command.{texts};
-ghost use Rattle.regroup_commands.specs.Output.{line, lines};
+ghost use Rattle.regroup_commands.specs.Output.{bool_line, line, lines};
 ghost use Rattle.regroup_commands.specs.Sending.{Sends};
 
-use num_format::{Format, ToFormattedString};
-use std::fmt::{Display, InlineText, Write as _};
+use crate::message::{MAX_MESSAGE_LEN, message};
+use arrayvec::ArrayString;
+use num_format::{Buffer, Error, Format};
 use std::io;
 use std::io::Write;
 
-/// The capacity in bytes for a printed value. An `Error` prints at most 293 bytes: 256 of the text
-/// that it keeps, and 37 around it. An `i128` prints at most 40.
-const PRINTED_CAPACITY: usize = 320;
+/// The most bytes of a line with its newline. No line is longer than the longest message.
+const MAX_LINE_LEN: usize = MAX_MESSAGE_LEN + 1;
 
 /// Sends the bytes, in as many writes as it takes.
 ///
@@ -37,18 +40,19 @@ fn send<W: Write>(bytes: &[u8], writer: &mut W) -> io::Result<()>
     Ok(())
 }
 
-/// Sends the text and a newline.
+/// Sends the text and a newline together, by one write if that writes all of them.
 ///
 /// # Errors
 ///
 /// Returns the error of the first write that fails or writes no bytes.
-#[tactic(auto, using(num_format::proofs::WritingLemmas::StopsWithin_prefix, num_format::proofs::WritingLemmas::StopsWithin_suffix))]
 pub(crate) fn send_line<W: Write>(text: &str, writer: &mut W) -> io::Result<()>
+    requires { length text.now < MAX_LINE_LEN }
     ensures { Sends result (W.contents writer.old) (W.contents writer.new) (line text.now) }
 {
-    send(text.as_bytes(), writer)?;
-    send(b"\n", writer)?;
-    Ok(())
+    let mut line = ArrayString::<MAX_LINE_LEN>::new();
+    line.push_str(text);
+    line.push('\n');
+    send(line.as_str().as_bytes(), writer)
 }
 
 /// Sends each text and a newline after it.
@@ -58,6 +62,7 @@ pub(crate) fn send_line<W: Write>(text: &str, writer: &mut W) -> io::Result<()>
 /// Returns the error of the first write that fails or writes no bytes.
 #[tactic(auto, using(crate::proofs::SendingLemmas::HasReceivedUpTo_line, crate::proofs::SendingLemmas::StopsWithin_line))]
 pub(crate) fn send_lines<W: Write>(items: &[&str], writer: &mut W) -> io::Result<()>
+    requires { All (λ text. length text.now < MAX_LINE_LEN) items.now }
     ensures { Sends result (W.contents writer.old) (W.contents writer.new) (lines (texts items.now)) }
 {
     for text in items {
@@ -71,7 +76,6 @@ pub(crate) fn send_lines<W: Write>(items: &[&str], writer: &mut W) -> io::Result
 /// # Errors
 ///
 /// Returns the error of the first write that fails or writes no bytes.
-#[tactic(auto, using(num_format::proofs::WritingLemmas::StopsWithin_prefix, num_format::proofs::WritingLemmas::StopsWithin_suffix))]
 pub(crate) fn send_number<F: Format, W: Write>(
     number: i128,
     format: &F,
@@ -80,24 +84,43 @@ pub(crate) fn send_number<F: Format, W: Write>(
     ensures { Sends result (W.contents writer.old) (W.contents writer.new)
         (line (text_of (F.answers format.now) number)) }
 {
-    number.read_to_io_writer(writer, format)?;
-    send(b"\n", writer)?;
-    Ok(())
+    let mut buffer = Buffer::new();
+    buffer.write_formatted(&number, format);
+    send_line(buffer.as_str(), writer)
 }
 
-/// Sends what the value prints, and a newline.
-///
-/// The text is printed into an array first: the contract of `write!` into a writer does not say
-/// which prefix the writer received before an error.
+/// Sends the number in plain decimal, and a newline.
 ///
 /// # Errors
 ///
 /// Returns the error of the first write that fails or writes no bytes.
-pub(crate) fn send_printed<D: Display, W: Write>(value: &D, writer: &mut W) -> io::Result<()>
-    ensures { IfSome (D.output value.now) (λ text.
-        Sends result (W.contents writer.old) (W.contents writer.new) (line text)) }
+pub(crate) fn send_decimal<W: Write>(number: i128, writer: &mut W) -> io::Result<()>
+    ensures { Sends result (W.contents writer.old) (W.contents writer.new)
+        (line (signed_decimal number)) }
 {
-    let mut text = InlineText::<PRINTED_CAPACITY>::new();
-    write!(text, "{value}")?;
-    send_line(text.as_str(), writer)
+    let mut digits = itoa::Buffer::new();
+    send_line(digits.format(number), writer)
+}
+
+/// Sends `true` or `false`, and a newline.
+///
+/// # Errors
+///
+/// Returns the error of the first write that fails or writes no bytes.
+pub(crate) fn send_bool<W: Write>(value: bool, writer: &mut W) -> io::Result<()>
+    ensures { Sends result (W.contents writer.old) (W.contents writer.new) (bool_line value) }
+{
+    send_line(if value { "true" } else { "false" }, writer)
+}
+
+/// Sends the message of the error, and a newline.
+///
+/// # Errors
+///
+/// Returns the error of the first write that fails or writes no bytes.
+pub(crate) fn send_error<W: Write>(error: &Error, writer: &mut W) -> io::Result<()>
+    ensures { Sends result (W.contents writer.old) (W.contents writer.new)
+        (line (message_of (refusal_of error.now))) }
+{
+    send_line(message(error).as_str(), writer)
 }

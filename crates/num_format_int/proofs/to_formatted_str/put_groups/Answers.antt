@@ -1,23 +1,25 @@
 use Rattle.std.proofs.Common.{◌≡◌, ℕ, ◌^◌, ◌<◌, ◌⊎◌, ◌∙◌, inl, inr, arith}
 use Rattle.num_format_int.proofs.DigitLemmas.{length-digits-le}
-use Rattle.num_format_int.proofs.GroupLemmas.{prepends-all, size_given}
+use Rattle.num_format_int.proofs.GroupLemmas.{prepends-all, size_bounds}
 use Rattle.num_format_int.proofs.to_formatted_str.put_groups.Goals as goal
 
-at_most_three : (size base first : ℕ) → (size ≡ 2) ⊎ (size ≡ 3) → base ≡ 10 ^ size → first < base → first < 1000
-at_most_three size base first sizes power within =
+at_most_four : (size base first : ℕ) → (size ≡ 2) ⊎ ((size ≡ 3) ⊎ (size ≡ 4)) → base ≡ 10 ^ size → first < base → first < 10000
+at_most_four size base first sizes power within =
     let below = rw power at within in
     elim sizes [
       | inl two ↦ let small : first < 10 ^ 2 = rw two at below in omega arith
-      | inr three ↦ let small : first < 10 ^ 3 = rw three at below in omega arith
+      | inr (inl three) ↦ let small : first < 10 ^ 3 = rw three at below in omega arith
+      | inr (inr four) ↦ let small : first < 10 ^ 4 = rw four at below in omega arith
     ]
 
 pub put_first_group-requires-clause-group : goal.put_first_group-requires-clause-group
 put_first_group-requires-clause-group g c =
-    at_most_three g.G.Groups.SIZE g.G.Groups.BASE c.put_full_groups-first.result g.met.G.Groups.size g.met.G.Groups.base c.put_full_groups-first.ensures.first
+    at_most_four g.G.Groups.SIZE g.G.Groups.BASE c.put_full_groups-first.result g.met.G.Groups.size g.met.G.Groups.base c.put_full_groups-first.ensures.first
 
 pub returns : goal.returns
-returns g c = λ k right groups begins.
+returns g c = λ is_due right groups begins.
+    let some = size_bounds g.G.Groups.SIZE g.met.G.Groups.size in
     c.put_first_group.ensures
     ∙ prepends-all g.G.Groups.SIZE c.args.n c.put_full_groups-first.result c.args.separator.now c.args.buffer.now c.put_full_groups-first.new.buffer c.put_full_groups-first.ensures.text
-    (length-digits-le g.G.Groups.SIZE c.put_full_groups-first.result (size_given g.G.Groups.SIZE g.met.G.Groups.size) (rw g.met.G.Groups.base at c.put_full_groups-first.ensures.first))
-    k right groups begins
+    (length-digits-le g.G.Groups.SIZE c.put_full_groups-first.result (omega (arith, some.0)) (rw g.met.G.Groups.base at c.put_full_groups-first.ensures.first))
+    is_due right groups begins

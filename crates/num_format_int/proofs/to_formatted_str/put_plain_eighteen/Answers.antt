@@ -3,11 +3,11 @@ use Rattle.std.proofs.lemmas.List.{length-map}
 use Rattle.std.proofs.lemmas.Str.{IsCharBoundary-from_ascii}
 use Rattle.std.specs.Fmt.{decimal}
 use Rattle.num_format_int.specs.Groups.{last_digits, plain}
-use Rattle.num_format_int.proofs.DigitLemmas.{decimal-digits, digits-eighteen, length-last_digits}
+use Rattle.num_format_int.proofs.DigitLemmas.{decimal-digits, digits-leading_one, length-last_digits}
 use Rattle.num_format_int.proofs.to_formatted_str.put_plain_eighteen.Goals as goal
 
 whole : (part : ℕ) → part < 10 ^ 18 → decimal (1000000000000000000 + part) ≡ 49 ∷ plain (last_digits 18 part)
-whole part below = decimal-digits (1000000000000000000 + part) (omega arith) ∙ ap plain (digits-eighteen part below)
+whole part below = decimal-digits (1000000000000000000 + part) (omega arith) ∙ ap plain (digits-leading_one 18 part below)
 
 length-whole : (part : ℕ) (text : List ℕ) → part < 10 ^ 18 → text ≡ decimal (1000000000000000000 + part) → length text ≡ 19
 length-whole part text below e = omega (arith, ap length (e ∙ whole part below), length-map (last_digits 18 part) (λ d. 48 + d), length-last_digits 18 part)

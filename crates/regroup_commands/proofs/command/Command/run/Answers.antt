@@ -1,25 +1,11 @@
 use Rattle.std.proofs.Common.{rules}
-use Rattle.num_format.proofs.WritingLemmas.{OnErr-always}
-use Rattle.regroup_commands.proofs.SendingLemmas.{IsSent_stdout, StopsShort_stderr, StopsShort_stdout}
+use Rattle.num_format.specs.Refusal.{refusal_of}
+use Rattle.regroup_commands.proofs.SendingLemmas.{SendsOutput_lines, SendsOutput_message}
 use Rattle.regroup_commands.proofs.command.Command.run.Goals as goal
 
-pub returns-in_err-sent-in-Ok : goal.returns-in_err-sent-in-Ok
-returns-in_err-sent-in-Ok g c = record {
-  status = search rules;
-  sent = search rules;
-  failed = rw c.in-Ok.ensures.sent.is (OnErr-always _ _ (StopsShort_stdout _ _ _ 0 _ (rw c.in_err-sent-in-Ok.was at c.in-Ok.ensures.sent.sends.prefix)));
-}
+pub returns-in-Ok : goal.returns-in-Ok
+returns-in-Ok g c = SendsOutput_lines _ _ _ _ _ c.in-Ok.sent (search rules) (search rules)
 
-pub returns-in_err-send_printed-in-Err : goal.returns-in_err-send_printed-in-Err
-returns-in_err-send_printed-in-Err g c = record {
-  status = search rules;
-  sent = search rules;
-  failed = rw (c.in-Err.ensures.refused, c.in-Err.ensures.unsent) (OnErr-always _ _ (StopsShort_stderr _ _ _ 1 _ c.in_err-send_printed-in-Err.ensures.prefix));
-}
-
-pub returns-in_ok-sent-in-Ok : goal.returns-in_ok-sent-in-Ok
-returns-in_ok-sent-in-Ok g c = record {
-  status = search rules;
-  sent = rw c.in-Ok.ensures.sent.is (IsSent_stdout _ _ _ 0 _ (rw c.in_ok-sent-in-Ok.was at c.in-Ok.ensures.sent.sends.whole));
-  failed = search rules;
-}
+pub returns-in-Err : goal.returns-in-Err
+returns-in-Err g c =
+    SendsOutput_message _ _ _ _ _ _ c.send_error.result (refusal_of c.in-Err.error) (search rules) (search rules) (search rules) (search rules)

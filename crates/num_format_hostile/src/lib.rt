@@ -1,0 +1,28 @@
+//! Writers that fail, and memory that is refused: what stands after an error.
+//!
+//! [`Scripted`] is a writer that does what a list of steps says. Its contract tells the bytes that it
+//! received, the space that is left, and which step each call takes, so which writes fail or write
+//! nothing.
+//!
+//! std's contract of `write` does not say when a write fails. So no contract of code that is generic
+//! over a writer can say that it fails only after such a write, and these tests show it:
+//!
+//! | Module | What is tested |
+//! |---|---|
+//! | `bytes` | numbers into writers of bytes that make short writes, fail, or write nothing |
+//! | `text` | numbers into writers of text that fail |
+//! | `program` | commands of `regroup` whose outputs fail at each of their writes |
+//! | `memory` | calls that take memory, where it is refused |
+#![tactic(auto)]
+
+#[cfg(test)]
+mod bytes;
+#[cfg(test)]
+mod memory;
+#[cfg(test)]
+mod program;
+mod scripted;
+#[cfg(test)]
+mod text;
+
+pub use scripted::{Scripted, Step};

@@ -1,0 +1,15 @@
+use Rattle.std.proofs.Common.{append_assoc}
+use Rattle.regroup_commands.proofs.message.capacity_message.Goals as goal
+
+pub returns : goal.returns
+returns c = simp (
+  c.push_str-5.ensures.bytes,
+  c.push_str-4.ensures.bytes,
+  c.format-2.ensures.text,
+  c.push_str-3.ensures.bytes,
+  c.push_str-2.ensures.bytes,
+  c.format.ensures.text,
+  c.push_str.ensures.bytes,
+  c.new-message.ensures,
+  append_assoc,
+)
