@@ -10,20 +10,21 @@ In this order:
 2. `rt ci` has every proof from nothing, the must-fail edits, the tests, and each program as two
    compilers build it.
 3. The program `regroup` runs with words of each status, and with outputs that are full or closed.
-4. The program runs with one request for memory refused: the first, then the second, and so on, until
-   one more than it makes. So do the tests of memory, up to the third request.
+4. The program with the same words, and each test of memory, runs as often as it makes requests for
+   memory, each time with another one refused. The C compiler `cc` builds what refuses it.
 
 The last line says how many passed and failed in all. The exit status is 1 where one failed.
 
-With --skip-proofs, `rt run` builds the program, and proves what it needs of what changed.
+With --skip-proofs, `rt run` and `rt test` build the program and the tests, and prove what they need
+of what changed.
 """
 import argparse
 import os
 import re
+import shutil
 import subprocess
 import sys
-from concurrent.futures import ThreadPoolExecutor
-from itertools import count
+import tempfile
 from pathlib import Path
 
 from locales import members, sections
@@ -38,20 +39,24 @@ STORED_OUTPUT = (PROGRAM / "stdout").read_bytes()
 # The program as each of the two compilers builds it.
 BUILDS = [PROGRAM / "out" / "regroup", PROGRAM / "out" / "regroup.by-rattle"]
 
-# The crate and the module that have the tests of memory. Each of them passes whichever request is
-# refused. What writes to a string, a vector or a cursor makes at most two requests: one for what it
-# writes to, and one by the call. A JSON value makes more.
+# The crate that has the tests of memory, and these tests as its executable file lists them.
 MEMORY_CRATE = ROOT / "crates" / "num_format_hostile"
-MEMORY_TEST = re.compile(r"test (memory::\w+) \.\.\. (.+)")
-MEMORY_TESTS = 8
-MEMORY_REQUESTS = 3
+MEMORY_TESTS = MEMORY_CRATE / "out" / "num_format_hostile_tests"
+MEMORY_TEST = re.compile(r"^(memory::\w+): test$", re.M)
 
-# More requests for memory than the program or a test makes.
+# How a test of memory ends, and how with any request refused: the status and both outputs.
+PASSED = (0, b"\ntest result: ok\n", b"")
+PASSED_REFUSED = (0, b"refused\n\ntest result: ok\n", b"")
+
+# How the program ends where it gets no memory for its words.
+FAILED = (3, b"", b"")
+
+# What refuses a request for memory, and more requests than the program or a test makes.
+REFUSE_MEMORY = ROOT / "tools" / "refuse_memory.c"
 MANY_REQUESTS = 100
 
-# The most seconds for a run, and for one that is built first.
+# The most seconds for a run.
 RUN_SECONDS = 60
-TRY_SECONDS = 1200
 
 NAMES = "".join(f"{name}\n" for name, _ in members(sections()["families"]))
 USAGE = "usage: regroup COMMAND ARGUMENT...\n"
@@ -147,6 +152,9 @@ def build(tally):
     words = ["rt", "run", "--", *STORED_WORDS]
     ended = run(words, cwd=PROGRAM, stdout=subprocess.PIPE, timeout=None)
     tally.compare("rt run", (ended.returncode, ended.stdout), (0, STORED_OUTPUT))
+    heading("rt test, in crates/num_format_hostile")
+    ended = run(["rt", "test", "--", "memory::"], cwd=MEMORY_CRATE, timeout=None)
+    tally.compare("rt test", ended.returncode, 0)
 
 
 def shown(words):
@@ -178,63 +186,71 @@ def compare_failed(tally, words, output, state, how):
     tally.compare(name, (ended.returncode, getattr(ended, other)), (3, b""))
 
 
-def each_refused(crate, *words):
-    """Yields what `rt try` in the crate does with the first request for memory refused, then with the
-    second, and so on. The next runs go on meanwhile."""
-
-    def refused(number):
-        command = ["rt", "try", "--fail-alloc", str(number), *words]
-        return run(command, cwd=crate, capture_output=True, timeout=TRY_SECONDS)
-
-    ahead = max(1, (os.cpu_count() or 1) // 2)
-    with ThreadPoolExecutor(ahead) as pool:
-        runs = [pool.submit(refused, number) for number in range(1, ahead + 1)]
-        try:
-            for number in count(ahead + 1):
-                yield runs.pop(0).result()
-                runs.append(pool.submit(refused, number))
-        finally:
-            pool.shutdown(cancel_futures=True)
-
-
-def refuse_to_program(tally):
-    """Refuses each request of the program: it prints its result, or nothing and ends with 3.
-
-    It makes no more requests where it prints the result twice in a row.
-    """
-    heading("the program, without memory at one request")
-    printed = 0
-    for number, ended in enumerate(each_refused(PROGRAM, "--", *STORED_WORDS), 1):
-        found = re.search(rb"^run=ended status=(\d+) ", ended.stderr, re.M)
-        status = found and int(found[1])
-        printed = printed + 1 if status == 0 else 0
-        expected = (3, b"") if status == 3 else (0, STORED_OUTPUT)
-        tally.compare(f"request {number}", (status, ended.stdout), expected)
-        if not found:
-            print(ended.stderr.decode(errors="replace"))
-        if not found or printed == 2 or is_endless(tally, number):
+def refuse_memory(tally, programs):
+    """Refuses each request for memory of the programs and of the tests of memory in turn."""
+    heading("memory refused at each request in turn")
+    if shutil.which("cc") is None:
+        tally.add(REFUSE_MEMORY.name, "no C compiler `cc` was found to build it")
+        return
+    with tempfile.TemporaryDirectory() as folder:
+        library = Path(folder) / "refuse_memory.so"
+        flags = ["-shared", "-fPIC", "-Wall", "-Wextra", "-Werror"]
+        ended = run(["cc", *flags, "-o", library, REFUSE_MEMORY])
+        tally.compare(f"cc {REFUSE_MEMORY.name}", ended.returncode, 0)
+        if not library.is_file():
             return
+        for program in filter(Path.is_file, programs):
+            refuse_to_program(tally, library, program)
+        refuse_to_tests(tally, library)
 
 
-def refuse_to_tests(tally):
-    """Refuses each of the first requests of the tests of memory."""
-    heading("the tests of memory, without memory at one request")
-    runs = each_refused(MEMORY_CRATE, "--test")
-    for number in range(1, MEMORY_REQUESTS + 1):
-        ended = next(runs)
-        output = (ended.stdout + ended.stderr).decode(errors="replace")
-        tests = MEMORY_TEST.findall(output)
-        tally.compare(f"the number of tests of memory at request {number}", len(tests), MEMORY_TESTS)
-        for name, result in tests:
-            tally.compare(f"request {number} of {name}", result, "ok")
-    runs.close()
+def refuse_to_program(tally, library, program):
+    """The program ends as with memory, or prints nothing and ends with status 3."""
+    for words, status, out, err in COMMANDS:
+        whole = (status, out.encode(), err.encode())
+        name = f"{program.name} {shown(words)}"
+        refuse_each(tally, library, name, [program, *words], whole, [whole, FAILED])
 
 
-def is_endless(tally, number):
-    """Counts a failure where the requests have no end."""
-    if number == MANY_REQUESTS:
-        tally.add(f"request {number}", "more requests than expected")
-    return number == MANY_REQUESTS
+def refuse_to_tests(tally, library):
+    """A test of memory passes, and tells of each refused request."""
+    listed = run([MEMORY_TESTS, "--list"], capture_output=True) if MEMORY_TESTS.is_file() else None
+    tests = MEMORY_TEST.findall(listed.stdout.decode()) if listed else []
+    if not tests:
+        tally.add(MEMORY_TESTS.name, "it was not built, or lists no tests of memory")
+    for test in tests:
+        refuse_each(tally, library, test, [MEMORY_TESTS, test], PASSED, [PASSED_REFUSED])
+
+
+def refuse_each(tally, library, name, words, whole, refused):
+    """Refuses no request of a command, then each in turn, and then the one after the last.
+
+    Where a request of the command is refused, it has to end in one of the ways `refused`, and else
+    as `whole` says.
+    """
+    ended, requests = run_refused(library, 0, words)
+    if not 0 < requests < MANY_REQUESTS:
+        tally.add(name, f"{requests} requests for memory, and it ended as {ended!r}")
+        return
+    problems = [f"none refused: {ended!r}"] if ended != whole else []
+    for number in range(1, requests + 2):
+        ended, _ = run_refused(library, number, words)
+        if ended not in (refused if number <= requests else [whole]):
+            problems.append(f"request {number}: {ended!r}")
+    tally.add(f"{name}, requests refused: {requests}", "; ".join(problems[:3]))
+
+
+def run_refused(library, number, words):
+    """Runs a command whose request for memory of that number is refused; at 0 none is.
+
+    Returns its status and outputs, and how many requests it made.
+    """
+    with tempfile.NamedTemporaryFile() as requests:
+        settings = {"REFUSED_REQUEST": str(number), "REQUESTS_FILE": requests.name}
+        env = {**os.environ, "LD_PRELOAD": str(library), **settings}
+        ended = run(words, capture_output=True, env=env)
+        made = os.stat(requests.name).st_size
+    return (ended.returncode, ended.stdout, ended.stderr), made
 
 
 def main():
@@ -245,10 +261,10 @@ def main():
     compare_code(tally)
     (build if skips else prove)(tally)
     # `rt run` has one compiler.
-    for program in BUILDS[:1] if skips else BUILDS:
+    programs = BUILDS[:1] if skips else BUILDS
+    for program in programs:
         run_commands(tally, program)
-    refuse_to_program(tally)
-    refuse_to_tests(tally)
+    refuse_memory(tally, programs)
     left_out = ", rt ci left out" if skips else ""
     print(f"{tally.passed} passed, {tally.failed} failed{left_out}")
     sys.exit(1 if tally.failed else 0)
