@@ -67,6 +67,9 @@ COMMANDS = [
     (["print", "as", "-1234567"], 0, "-12,34,567\n", ""),
     (["print", "fr", "-1000000"], 0, "-1\u202f000\u202f000\n", ""),
     (["read", "en", " -5"], 0, "5\n", ""),
+    (["check", "en"], 0, "true\n", ""),
+    (["alike", "ru", "xh"], 0, "true\n", ""),
+    (["alike", "en", "en_IN"], 0, "false\n", ""),
     (["names"], 0, NAMES, ""),
     (
         ["custom", "123456789", "Standard", "1234567890", "1"],
@@ -77,6 +80,7 @@ COMMANDS = [
     (["print", "xx", "1"], 1, "", "Failed to parse xx into a valid locale.\n"),
     (["print", 300 * "a", "1"], 1, "", f"Failed to parse {256 * 'a'} into a valid locale.\n"),
     (["read", "en", "one"], 1, "", "Failed to parse one into a number.\n"),
+    (["alike", "en", "xx"], 1, "", "Failed to parse xx into a valid locale.\n"),
     ([], 2, "", USAGE),
     (["costume"], 2, "", USAGE),
     (["print", "en", "1e3"], 2, "", USAGE),

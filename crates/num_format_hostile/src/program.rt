@@ -10,14 +10,17 @@ use std::test;
 /// The space of each output in bytes, enough for the names.
 const SPACE: usize = 8192;
 
-/// Commands that print a result, and after them some that print an error.
-const COMMANDS: [&[&str]; 7] = [
+/// Commands that print a result, and after them some that print an error. Each prints one line.
+const COMMANDS: [&[&str]; 10] = [
     &["custom", ",", "Standard", "-", "-1000000"],
     &["print", "as", "-1234567"],
     &["read", "as", "-12,34,567"],
+    &["check", "as"],
+    &["alike", "as", "en"],
     &["custom", "123456789", "Standard", "1234567890", "1"],
     &["print", "xx", "1"],
     &["read", "en", "one"],
+    &["check", "xx"],
     &["custom"],
 ];
 
@@ -104,5 +107,22 @@ fn each_write_fails_in_turn(rt: HostRuntime) -> Result<(), test::Fail> {
 #[test]
 fn each_write_of_the_names_fails_in_turn(rt: HostRuntime) -> Result<(), test::Fail> {
     fails_at_each_write(&rt, rt.alloc(), &["names"], SPACE, Fail)?;
+    Ok(())
+}
+
+/// Returns how many writes a command makes to outputs that accept all bytes.
+fn writes(alloc: Global, words: &[&str]) -> Result<usize, AllocError> {
+    let mut out = Scripted::new(alloc, SPACE, &[])?;
+    let mut err = Scripted::new(alloc, SPACE, &[])?;
+    run(words, &mut out, &mut err);
+    Ok(out.calls.saturating_add(err.calls))
+}
+
+#[test]
+fn each_line_is_one_write(rt: HostRuntime) -> Result<(), test::Fail> {
+    for words in COMMANDS {
+        assert_eq!(rt; writes(rt.alloc(), words)?, 1);
+    }
+    assert_eq!(rt; writes(rt.alloc(), &["names"])?, 542);
     Ok(())
 }
