@@ -9,14 +9,16 @@ In this order:
 1. tools/readme_code.py compares the code in README.md and docs/ with the crate that has it.
 2. `rt ci` has every proof from nothing, the must-fail edits, the tests, and each program as two
    compilers build it.
-3. The program `regroup` runs with words of each status, and with outputs that are full or closed.
-4. The program with the same words, and each test of memory, runs as often as it makes requests for
-   memory, each time with another one refused. The C compiler `cc` builds what refuses it.
+3. The program `regroup` runs with words of each status, and with outputs that are full or closed. So
+   does num_format_streams, which tells how many of its writes failed.
+4. `regroup` with the same words, and each test of memory, runs as often as it makes requests for
+   memory, each time with another one refused: by tools/refuse_memory.c, which the C compiler `cc`
+   builds.
 
 The last line says how many passed and failed in all. The exit status is 1 where one failed.
 
-With --skip-proofs, `rt run` and `rt test` build the program and the tests, and prove what they need
-of what changed.
+With --skip-proofs, `rt run` and `rt test` build the programs and the tests, and prove what they
+need of what changed.
 """
 import argparse
 import os
@@ -32,12 +34,16 @@ from locales import members, sections
 ROOT = Path(__file__).resolve().parent.parent
 PROGRAM = ROOT / "crates" / "regroup"
 
-# The program's stored run, which `rt ci` makes too.
+# The words of the program's stored run, which `rt ci` makes too.
 STORED_WORDS = (PROGRAM / "args").read_text(encoding="utf-8").splitlines()
-STORED_OUTPUT = (PROGRAM / "stdout").read_bytes()
 
-# The program as each of the two compilers builds it.
-BUILDS = [PROGRAM / "out" / "regroup", PROGRAM / "out" / "regroup.by-rattle"]
+# The program of two writes to each output, and what they are. The status is how many of them failed.
+STREAMS = ROOT / "crates" / "num_format_streams"
+STREAMS_OUTPUTS = {"stdout": (STREAMS / "stdout").read_bytes(), "stderr": b"3,0004,000"}
+STREAMS_WRITES = 2
+
+# How the name of a program ends as each of the two compilers builds it.
+COMPILERS = ["", ".by-rattle"]
 
 # The crate that has the tests of memory, and these tests as its executable file lists them.
 MEMORY_CRATE = ROOT / "crates" / "num_format_hostile"
@@ -152,10 +158,12 @@ def prove(tally):
 
 
 def build(tally):
-    heading("rt run, in crates/regroup")
-    words = ["rt", "run", "--", *STORED_WORDS]
-    ended = run(words, cwd=PROGRAM, stdout=subprocess.PIPE, timeout=None)
-    tally.compare("rt run", (ended.returncode, ended.stdout), (0, STORED_OUTPUT))
+    for crate, words in [(PROGRAM, STORED_WORDS), (STREAMS, [])]:
+        heading(f"rt run, in crates/{crate.name}")
+        words = ["rt", "run", "--", *words]
+        ended = run(words, cwd=crate, stdout=subprocess.PIPE, timeout=None)
+        expected = (0, (crate / "stdout").read_bytes())
+        tally.compare("rt run", (ended.returncode, ended.stdout), expected)
     heading("rt test, in crates/num_format_hostile")
     ended = run(["rt", "test", "--", "memory::"], cwd=MEMORY_CRATE, timeout=None)
     tally.compare("rt test", ended.returncode, 0)
@@ -166,28 +174,48 @@ def shown(words):
     return " ".join(repr(word[:20]) for word in words) or "no words"
 
 
+def builds(tally, crate, compilers):
+    """Yields the program of a crate as each of the compilers builds it."""
+    for ending in compilers:
+        program = crate / "out" / f"{crate.name}{ending}"
+        heading(program.relative_to(ROOT))
+        if program.is_file():
+            yield program
+        else:
+            tally.add(program.name, "it was not built")
+
+
 def run_commands(tally, program):
-    heading(program.relative_to(ROOT))
-    if not program.is_file():
-        tally.add(program.name, "it was not built")
-        return
     for words, status, out, err in COMMANDS:
         ended = run([program, *words], capture_output=True)
         expected = (status, out.encode(), err.encode())
         tally.compare(shown(words), (ended.returncode, ended.stdout, ended.stderr), expected)
     for words, output in PRINTING:
-        with open("/dev/full", "wb") as full:
-            compare_failed(tally, [program, *words], output, "full", {output: full})
-        closed = {output: None, "preexec_fn": CLOSE[output]}
-        compare_failed(tally, [program, *words], output, "closed", closed)
+        compare_failed(tally, [program, *words], output, FAILED[:2])
 
 
-def compare_failed(tally, words, output, state, how):
-    """Runs the program with an output that fails. The other one has to stay empty."""
-    other = "stderr" if output == "stdout" else "stdout"
-    ended = run(words, **{other: subprocess.PIPE, **how})
-    name = f"{shown(words[1:])}, {output} {state}"
-    tally.compare(name, (ended.returncode, getattr(ended, other)), (3, b""))
+def run_streams(tally, program):
+    ended = run([program], capture_output=True)
+    expected = (0, *STREAMS_OUTPUTS.values())
+    tally.compare(shown([]), (ended.returncode, ended.stdout, ended.stderr), expected)
+    for output in STREAMS_OUTPUTS:
+        compare_failed(tally, [program], output, (STREAMS_WRITES, STREAMS_OUTPUTS[other(output)]))
+
+
+def other(output):
+    return "stderr" if output == "stdout" else "stdout"
+
+
+def compare_failed(tally, words, output, expected):
+    """Runs a program with an output that is full, then closed: its status, and the other output."""
+    with open("/dev/full", "wb") as full:
+        for state, how in [
+            ("full", {output: full}),
+            ("closed", {output: None, "preexec_fn": CLOSE[output]}),
+        ]:
+            ended = run(words, **{other(output): subprocess.PIPE, **how})
+            name = f"{shown(words[1:])}, {output} {state}"
+            tally.compare(name, (ended.returncode, getattr(ended, other(output))), expected)
 
 
 def refuse_memory(tally, programs):
@@ -203,7 +231,7 @@ def refuse_memory(tally, programs):
         tally.compare(f"cc {REFUSE_MEMORY.name}", ended.returncode, 0)
         if not library.is_file():
             return
-        for program in filter(Path.is_file, programs):
+        for program in programs:
             refuse_to_program(tally, library, program)
         refuse_to_tests(tally, library)
 
@@ -265,9 +293,13 @@ def main():
     compare_code(tally)
     (build if skips else prove)(tally)
     # `rt run` has one compiler.
-    programs = BUILDS[:1] if skips else BUILDS
-    for program in programs:
+    compilers = COMPILERS[:1] if skips else COMPILERS
+    programs = []
+    for program in builds(tally, PROGRAM, compilers):
         run_commands(tally, program)
+        programs.append(program)
+    for program in builds(tally, STREAMS, compilers):
+        run_streams(tally, program)
     refuse_memory(tally, programs)
     left_out = ", rt ci left out" if skips else ""
     print(f"{tally.passed} passed, {tally.failed} failed{left_out}")

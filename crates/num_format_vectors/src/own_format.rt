@@ -6,7 +6,7 @@ use crate::errors::message;
 use crate::every_way;
 use num_format::parsing::{FromFormattedStr, ParseFormatted};
 use num_format::utils::{DecimalStr, InfinityStr, MinusSignStr, NanStr, PlusSignStr, SeparatorStr};
-use num_format::{Format, Grouping, ToFormattedString, prints_alike, reads_back};
+use num_format::{CustomFormat, Format, Grouping, ToFormattedString, prints_alike, reads_back};
 use std::alloc::Global;
 use std::fmt::Debug;
 use std::process::Abort;
@@ -180,6 +180,16 @@ fn certificates(rt: HostRuntime) {
         assert_equal(&rt, prints_alike(&format, &WithoutMinus), false);
     }
     assert_equal(&rt, reads_back(&WithoutMinus), false);
+}
+
+#[test]
+fn taken_by_a_builder(rt: HostRuntime) -> Result<(), Fail> {
+    let format = Sevens {
+        grouping: Grouping::Indian,
+    };
+    let built = CustomFormat::builder().format(&format).build()?;
+    assert_equal(&rt, prints_alike(&format, &built), true);
+    assert_number(&rt, rt.alloc(), 1234567, &built, "127347567", 127347567)
 }
 
 #[test]
