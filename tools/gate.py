@@ -10,7 +10,8 @@ In this order:
 2. `rt ci` has every proof from nothing, the must-fail edits, the tests, and each program as two
    compilers build it.
 3. The program `regroup` runs with words of each status, and with outputs that are full or closed. So
-   does num_format_streams, which tells how many of its writes failed.
+   does num_format_streams, which tells how many of its writes failed. num_format_oracle runs with
+   cases of each kind but one, and has to fail.
 4. `regroup` with the same words, and each test of memory, runs as often as it makes requests for
    memory, each time with another one refused: by tools/refuse_memory.c, which the C compiler `cc`
    builds.
@@ -41,6 +42,10 @@ STORED_WORDS = (PROGRAM / "args").read_text(encoding="utf-8").splitlines()
 STREAMS = ROOT / "crates" / "num_format_streams"
 STREAMS_OUTPUTS = {"stdout": (STREAMS / "stdout").read_bytes(), "stderr": b"3,0004,000"}
 STREAMS_WRITES = 2
+
+# The program that compares cases with their expected results, and its cases.
+ORACLE = ROOT / "crates" / "num_format_oracle"
+CASES = (ORACLE / "stdin").read_text(encoding="utf-8").splitlines(keepends=True)
 
 # How the name of a program ends as each of the two compilers builds it.
 COMPILERS = ["", ".by-rattle"]
@@ -128,7 +133,9 @@ def heading(text):
 
 def run(words, **how):
     """Runs a command to its end. One that takes too long has the status None."""
-    how = {"stdin": subprocess.DEVNULL, "timeout": RUN_SECONDS, **how}
+    how = {"timeout": RUN_SECONDS, **how}
+    if "input" not in how:
+        how["stdin"] = subprocess.DEVNULL
     try:
         return subprocess.run(words, check=False, **how)
     except subprocess.TimeoutExpired as late:
@@ -158,10 +165,14 @@ def prove(tally):
 
 
 def build(tally):
-    for crate, words in [(PROGRAM, STORED_WORDS), (STREAMS, [])]:
+    for crate, words, text in [
+        (PROGRAM, STORED_WORDS, ""),
+        (STREAMS, [], ""),
+        (ORACLE, [], "".join(CASES)),
+    ]:
         heading(f"rt run, in crates/{crate.name}")
-        words = ["rt", "run", "--", *words]
-        ended = run(words, cwd=crate, stdout=subprocess.PIPE, timeout=None)
+        how = {"input": text.encode(), "stdout": subprocess.PIPE, "timeout": None}
+        ended = run(["rt", "run", "--", *words], cwd=crate, **how)
         expected = (0, (crate / "stdout").read_bytes())
         tally.compare("rt run", (ended.returncode, ended.stdout), expected)
     heading("rt test, in crates/num_format_hostile")
@@ -200,6 +211,19 @@ def run_streams(tally, program):
     tally.compare(shown([]), (ended.returncode, ended.stdout, ended.stderr), expected)
     for output in STREAMS_OUTPUTS:
         compare_failed(tally, [program], output, (STREAMS_WRITES, STREAMS_OUTPUTS[other(output)]))
+
+
+def run_oracle(tally, program):
+    """It passes with a case of each kind, and fails where there are none of a kind."""
+    kinds = {}
+    for case in CASES:
+        if not case.startswith("#"):
+            kinds.setdefault(case.partition("\t")[0], case)
+    for kind in [None, *kinds]:
+        text = "".join(case for other_kind, case in kinds.items() if other_kind != kind)
+        ended = run([program], input=text.encode(), stdout=subprocess.DEVNULL)
+        name = f"without cases of the kind {kind}" if kind else "a case of each kind"
+        tally.compare(name, ended.returncode, 1 if kind else 0)
 
 
 def other(output):
@@ -300,6 +324,8 @@ def main():
         programs.append(program)
     for program in builds(tally, STREAMS, compilers):
         run_streams(tally, program)
+    for program in builds(tally, ORACLE, compilers):
+        run_oracle(tally, program)
     refuse_memory(tally, programs)
     left_out = ", rt ci left out" if skips else ""
     print(f"{tally.passed} passed, {tally.failed} failed{left_out}")

@@ -61,31 +61,3 @@ fn passes(rt: &impl Print, alloc: Global, data: &str) -> io::Result<bool> {
     report.print(rt)?;
     Ok(report.is_passed())
 }
-
-#[cfg(test)]
-mod tests {
-    use super::*;
-    use std::test::Fail;
-
-    /// A case of each kind.
-    const CASES: &str = "\
-print\tu8\tlocale:en\t5\t35
-read\tu8\tlocale:en\t35\tok 5
-names\t656e\tok en
-locale\ten\tStandard\t2e\te2889e\t2d\t4e614e\t2b\t2c
-json\tlocale\t22656e22\tok en
-build\tseparator=313233343536373839\terr Capacity 9 8
-changed\tprint\tu8\tlocale:en\t5\t36
-";
-
-    #[test]
-    fn each_kind_is_required(rt: HostRuntime) -> Result<(), Fail> {
-        assert!(rt; passes(&rt, rt.alloc(), CASES)?);
-        assert!(rt; !passes(&rt, rt.alloc(), "")?);
-        for case in CASES.lines() {
-            let others = CASES.replace(rt.alloc(), case, "# left out")?;
-            assert!(rt; !passes(&rt, rt.alloc(), &others)?, "{case}");
-        }
-        Ok(())
-    }
-}
