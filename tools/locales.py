@@ -2,16 +2,20 @@
 """Writes the table of locales into the crates, from locales.txt beside this file.
 
     python3 tools/locales.py rows        rewrites the generated files of crates/num_format_cldr
-    python3 tools/locales.py constants   rewrites the constants of `Locale` in crates/num_format_locale
+    python3 tools/locales.py constants   rewrites those of crates/num_format_locale
 """
+import bisect
 import re
 import sys
 import unicodedata
+from itertools import product
 from pathlib import Path
+from string import ascii_lowercase
 
 HERE = Path(__file__).resolve().parent
 CRATE = HERE.parent / "crates" / "num_format_cldr"
 CONSTANTS = HERE.parent / "crates" / "num_format_locale" / "src" / "locale" / "constants.rt"
+PLACES = HERE.parent / "crates" / "num_format_locale" / "src" / "search" / "pair_list.rt"
 DATA = HERE / "locales.txt"
 MARK = "Written by tools/locales.py from tools/locales.txt; do not edit."
 PIECE = 64  # rows in one module at most
@@ -229,9 +233,28 @@ pub static VARIANT_NAMES: [&str; {len(names)}] = [
 """
 
 
+def places_source(names):
+    pairs = [first + second for first, second in product(ascii_lowercase, repeat=2)]
+    places = [bisect.bisect_left(names, pair) for pair in pairs] + [len(names)]
+    width = len(ascii_lowercase)
+    lines = "".join(
+        "    " + ", ".join(map(str, places[start:start + width])) + ",\n" for start in range(0, len(places), width)
+    )
+    return f"""//! The places where pairs of letters begin. {MARK}
+
+/// For each pair of letters from `aa` to `zz` the first place whose name begins with that pair or a
+/// later one, and last the number of names.
+#[rattlefmt::skip]
+pub static FIRST_PLACES: [u16; {len(places)}] = [
+{lines}];
+"""
+
+
 def write_constants():
-    CONSTANTS.parent.mkdir(parents=True, exist_ok=True)
-    CONSTANTS.write_text(constants_source([row["name"] for row in rows()]), encoding="utf-8")
+    names = [row["name"] for row in rows()]
+    for path, source in [(CONSTANTS, constants_source), (PLACES, places_source)]:
+        path.parent.mkdir(parents=True, exist_ok=True)
+        path.write_text(source(names), encoding="utf-8")
 
 
 COMMANDS = {"rows": write_rows, "constants": write_constants}

@@ -1,4 +1,5 @@
 pub mod NameLemmas
+pub mod PairLemmas
 pub mod SearchLemmas
 pub mod SpellingLemmas
 pub mod VariantLemmas

@@ -1,6 +1,6 @@
 -- Lemmas on the search among names, and on what the compared names show.
 use Rattle.std.proofs.Common.{◌≡◌, ℕ, zero, suc, ◌+◌, ◌-◌, ◌*◌, ◌/◌, ◌^◌, ◌<◌, ◌≤◌, inl, inr, List, [], ◌∷◌, ◌++◌, length, length-append, arith, refl, sym, ap, subst, ◌∙◌, Contains, Option, Some, None, Ok, Err}
-use Rattle.std.specs.Prelude.{IfSome}
+use Rattle.std.specs.Prelude.{IfNone, IfSome}
 use Rattle.std.specs.Ordering.{nat_cmp, ordering_reverse}
 use Rattle.std.specs.declared.cmp.Ordering.TheVariants.{Less, Equal, Greater}
 use Rattle.std.specs.Cmp.Lexicographic.{slice_cmp}
@@ -85,6 +85,11 @@ pub finds : (text places : List ℕ) (place : Option ℕ) → ¬ IsMixed text �
 finds text places (Some p) pure at = (spells text (name_of p) pure at.0, at.1)
 finds text places None pure at = tt
 
+-- the same without a list of places
+pub spells_if_found : (text : List ℕ) (place : Option ℕ) → ¬ IsMixed text → IfSome place (λ p. hyphened text ≡ name_of p) → IfSome place (λ p. Spells text (name_of p))
+spells_if_found text (Some p) pure at = spells text (name_of p) pure at
+spells_if_found text None pure at = tt
+
 -- no name is the text between two neighbors
 outside : (text places : List ℕ) (k p : ℕ) → IsBetween text places k → p < LEN → hyphened text ≡ name_of p → ⊥
 outside text places k p so within same =
@@ -97,28 +102,73 @@ outside text places k p so within same =
           let lower : p < k = ranked p k Less (sym below ∙ order p k within (omega arith)) in omega arith
     ]
 
--- a text that is ruled out spells no name
-unspelled : (text places : List ℕ) → RulesOut text places → (place : ℕ) → place < LEN → ¬ Spells text (name_of place)
-unspelled text places (inl mixed) place within spelled = unmixed text (name_of place) (no_underscore place within) spelled mixed
-unspelled text places (inr at) place within spelled =
-    outside text places at.0 place at.1 within (spelled_name text (name_of place) (no_underscore place within) spelled)
+-- a mixed text spells no name
+pub mixed_spells_none : (text : List ℕ) → IsMixed text → (place : ℕ) → place < LEN → ¬ Spells text (name_of place)
+mixed_spells_none text mixed place within spelled = unmixed text (name_of place) (no_underscore place within) spelled mixed
 
--- a place that is found is the result
-pub looked_up : (text places : List ℕ) (place : ℕ) → place < LEN → Finds text places place → LooksUp text (Ok place)
-looked_up text places place within finds = record {
-  found = λ other also spelled. ap Ok (unique text place other within also finds.0 spelled);
+-- nor does a text that is no name with hyphens for underscores
+pub other_spells_none : (text : List ℕ) → ((place : ℕ) → place < LEN → ¬ (hyphened text ≡ name_of place)) → (place : ℕ) → place < LEN → ¬ Spells text (name_of place)
+other_spells_none text other place within spelled = other place within (spelled_name text (name_of place) (no_underscore place within) spelled)
+
+pub none_if_missing : (text : List ℕ) (place : Option ℕ) → IfNone place ((k : ℕ) → k < LEN → ¬ (hyphened text ≡ name_of k)) → IfNone place ((k : ℕ) → k < LEN → ¬ Spells text (name_of k))
+none_if_missing text (Some p) missing = tt
+none_if_missing text None missing = other_spells_none text missing
+
+-- nor does a text that is ruled out
+pub unspelled : (text places : List ℕ) → RulesOut text places → (place : ℕ) → place < LEN → ¬ Spells text (name_of place)
+unspelled text places (inl mixed) = mixed_spells_none text mixed
+unspelled text places (inr at) = other_spells_none text (λ place. outside text places at.0 place at.1)
+
+-- a place whose name the text spells is the result
+pub looked_up : (text : List ℕ) (place : ℕ) → place < LEN → Spells text (name_of place) → LooksUp text (Ok place)
+looked_up text place within spelled = record {
+  found = λ other also other_spelled. ap Ok (unique text place other within also spelled other_spelled);
   within = within;
-  spelled = finds.0;
+  spelled = spelled;
   unspelled = tt;
   refused = tt;
 }
 
--- where the text is ruled out, the error that keeps it is
-pub refused : (text places : List ℕ) (error : Error) → RulesOut text places → refusal_of error ≡ ParseLocale (cut_text text) → LooksUp text (Err error)
-refused text places error rules_out keeps = record {
-  found = λ place within spelled. absurd (unspelled text places rules_out place within spelled);
+-- where it spells none, the error that keeps it is
+pub refused : (text : List ℕ) (error : Error) → ((place : ℕ) → place < LEN → ¬ Spells text (name_of place)) → refusal_of error ≡ ParseLocale (cut_text text) → LooksUp text (Err error)
+refused text error none keeps = record {
+  found = λ place within spelled. absurd (none place within spelled);
   within = tt;
   spelled = tt;
-  unspelled = unspelled text places rules_out;
+  unspelled = none;
   refused = keeps;
 }
+
+-- the places that may still be that of the text's name, and the one whose name is compared next
+pub record IsNarrowed (text : List ℕ) (low middle high : ℕ) : Type 0 where
+  pub ordered : low ≤ middle
+  pub inside : low < high → middle < high
+  pub within : high ≤ LEN
+  pub kept : (place : ℕ) → place < LEN → hyphened text ≡ name_of place → (low ≤ place) × (place < high)
+
+module _ (text : List ℕ) (low middle high next : ℕ) (so : IsNarrowed text low middle high) (more : low < high) where
+  -- after a comparison where the text is less than the name
+  pub lower : slice_cmp nat_cmp (hyphened text) (name_of middle) ≡ Less → next ≡ low + (middle - low) / 2 → IsNarrowed text low next middle
+  lower less half = record {
+    ordered = omega arith;
+    inside = λ left. omega arith;
+    within = let b = so.within in let m = so.inside more in omega arith;
+    kept = λ place bound same.
+        let less_name : slice_cmp nat_cmp (name_of place) (name_of middle) ≡ Less = subst (λ t. slice_cmp nat_cmp t (name_of middle) ≡ Less) same less in
+        let m : middle < LEN = (let b = so.within in let i = so.inside more in omega arith) in
+        ((so.kept place bound same).0, ranked place middle Less (sym less_name ∙ order place middle bound m));
+  }
+
+  -- after one where it is greater
+  pub upper : slice_cmp nat_cmp (hyphened text) (name_of middle) ≡ Greater → next ≡ middle + 1 + (high - (middle + 1)) / 2 → IsNarrowed text (middle + 1) next high
+  upper greater half = record {
+    ordered = omega arith;
+    inside = λ left. omega arith;
+    within = so.within;
+    kept = λ place bound same.
+        let greater_name : slice_cmp nat_cmp (name_of place) (name_of middle) ≡ Greater = subst (λ t. slice_cmp nat_cmp t (name_of middle) ≡ Greater) same greater in
+        let less_name : slice_cmp nat_cmp (name_of middle) (name_of place) ≡ Less = nat_list_cmp_total.antisymm (name_of middle) (name_of place) ∙ ap ordering_reverse greater_name in
+        let m : middle < LEN = (let b = so.within in let i = so.inside more in omega arith) in
+        let above : middle < place = ranked middle place Less (sym less_name ∙ order middle place m bound) in
+        (omega arith, (so.kept place bound same).1);
+  }

@@ -13,9 +13,9 @@
 //!
 //! There are 542 names, in rising byte order, and their parts are joined by hyphens, as in
 //! `ca-ES-VALENCIA`. A `Locale` is the place of its name in that order, and a contract sees it as
-//! that number. A name is found by binary search, with no copy of the text, and
-//! [`Locale::from_name_traced`] also returns the places of the names compared, which show that the
-//! result is right.
+//! that number. A name is found by its first two letters and binary search, with no copy of the text.
+//! [`Locale::from_name_traced`] searches all names, and also returns the places of those compared,
+//! which show that the result is right.
 //!
 //! The Rust crate has an enum of 542 variants. Here `Locale` is a struct with 542 associated
 //! constants of the variants' names, such as `Locale::ca_ES_VALENCIA`. A `match` on a locale has

@@ -1,7 +1,6 @@
 //! The type `Locale`: how a locale is found by its name, and what its texts are.
 //!
-//! The data of a locale are a row of `num_format_cldr`. A name is looked up among all names by
-//! binary search.
+//! The data of a locale are a row of `num_format_cldr`. A name is looked up by binary search.
 ghost use Rattle.std.specs.Prelude.{◌≡◌, ◌≢◌, ℕ, ◌<◌, ◌≤◌, [], length, map, All, Contains, Some, IfSome};
 ghost use Rattle.num_format_cldr.specs.Entry.{IsWellFormed, Rises, Shows};
 ghost use Rattle.num_format_cldr.specs.Table.{entry, table_names};
@@ -11,7 +10,7 @@ ghost use Rattle.num_format_locale.specs.Search.{Settles};
 ghost use Rattle.num_format_text.specs.Cut.{cut_text};
 ghost use Rattle.num_format_text.specs.Refusal.{ParseLocale, refusal_of};
 
-use crate::search::search;
+use crate::search::{find, search};
 use arrayvec::ArrayVec;
 use num_format_cldr::{LEN, Row};
 use num_format_text::capacities::{
@@ -71,9 +70,9 @@ impl Locale {
     pub fn from_name(name: &str) -> Result<Locale, Error>
         ensures { LooksUp name.now result }
     {
-        match search(name.as_bytes()) {
-            (Some(place), _) => Ok(Locale::at(place)),
-            (None, _) => Err(unknown_name(name)),
+        match find(name.as_bytes()) {
+            Some(place) => Ok(Locale::at(place)),
+            None => Err(unknown_name(name)),
         }
     }
 

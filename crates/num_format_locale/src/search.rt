@@ -1,13 +1,77 @@
-//! The search for a name: each comparison halves the names that are left.
-ghost use Rattle.std.specs.Prelude.{◌≡◌, ℕ, ◌<◌, ◌↔◌, IfNone, IfSome, IsTrue};
+//! The search for a name: each comparison halves the names that are left. [`find`] starts from those
+//! that begin with the same two letters as the text, and [`search`] from all, with a list of the
+//! places compared.
+ghost use Rattle.std.specs.Prelude.{◌≡◌, ℕ, ◌<◌, ◌≤◌, ◌↔◌, IfNone, IfSome, IsTrue};
 ghost use Rattle.std.specs.Ordering.{nat_cmp};
 ghost use Rattle.std.specs.Cmp.Lexicographic.{slice_cmp};
 ghost use Rattle.num_format_cldr.specs.declared.TheConstants.{LEN};
-ghost use Rattle.num_format_locale.specs.Names.{name_of};
+ghost use Rattle.num_format_locale.specs.Names.{Spells, name_of};
+ghost use Rattle.num_format_locale.specs.Pairs.{ListsPairs};
 ghost use Rattle.num_format_locale.specs.Search.{Finds, IsBetween, IsLast, IsMixed, RulesOut, hyphen_for_underscore, hyphened};
 
 use arrayvec::ArrayVec;
 use std::cmp::Ordering;
+
+mod pair_list;
+
+/// Returns the place of the name that the text spells, if there is one.
+pub(crate) fn find(text: &[u8]) -> Option<usize>
+    ensures spelled { IfSome result (λ place. Spells text.now (name_of place)) }
+    ensures within { IfSome result (λ place. place < LEN) }
+    ensures missing { IfNone result ((place : ℕ) → place < LEN → ¬ Spells text.now (name_of place)) }
+{
+    let place = find_hyphened(text);
+    // Only a text that is found is scanned: it is as short as a name.
+    if place.is_some() && is_mixed(text) {
+        return None;
+    }
+    place
+}
+
+/// Returns the place of the name that the text is, with hyphens for underscores, if there is one.
+fn find_hyphened(text: &[u8]) -> Option<usize>
+    ensures found { IfSome result (λ place. hyphened text.now ≡ name_of place) }
+    ensures within { IfSome result (λ place. place < LEN) }
+    ensures missing { IfNone result ((place : ℕ) → place < LEN → ¬ (hyphened text.now ≡ name_of place)) }
+{
+    let names = num_format_cldr::names();
+    let (mut low, mut high) = narrowed(text);
+    // The first name with these letters is mostly a language alone, which is asked for most.
+    let mut middle = low;
+    while low < high {
+        match compare(text, names[middle].as_bytes()) {
+            Ordering::Equal => return Some(middle),
+            Ordering::Less => high = middle,
+            Ordering::Greater => low = middle + 1,
+        }
+        middle = low + (high - low) / 2;
+    }
+    None
+}
+
+/// Returns the first of the places whose names begin with the same two letters as the text, and the
+/// place after the last of them.
+fn narrowed(text: &[u8]) -> (usize, usize)
+    ensures within { result.1 ≤ LEN }
+    ensures kept { (place : ℕ) → place < LEN → hyphened text.now ≡ name_of place → (result.0 ≤ place) × (place < result.1) }
+{
+    let places = first_places();
+    let [first, second, ..] = text else {
+        return (0, 0);
+    };
+    if !first.is_ascii_lowercase() || !second.is_ascii_lowercase() {
+        return (0, 0);
+    }
+    let pair = (first - b'a') as usize * 26 + (second - b'a') as usize;
+    (places[pair] as usize, places[pair + 1] as usize)
+}
+
+/// Returns the place where the names of each pair of letters begin, and last the number of names.
+fn first_places() -> &'static [u16]
+    ensures { ListsPairs result.now }
+{
+    &pair_list::FIRST_PLACES
+}
 
 /// Returns the place of the name that the text spells, if there is one, and the places of the names
 /// that were compared with the text, in order.

@@ -1,15 +1,16 @@
-use Rattle.std.proofs.Common.{subst}
-use Rattle.num_format_locale.specs.Search.{Finds, RulesOut}
+use Rattle.std.proofs.Common.{subst, ℕ, ◌<◌}
+use Rattle.num_format_cldr.specs.declared.TheConstants.{LEN}
+use Rattle.num_format_locale.specs.Names.{Spells, name_of}
 use Rattle.num_format_locale.proofs.SearchLemmas.{looked_up, refused}
 use Rattle.num_format_locale.proofs.locale.Locale.from_name.Goals as goal
 
-pub returns-in-Some-default : goal.returns-in-Some-default
-returns-in-Some-default c =
-    let found = rw c.in-Some-default.is-0 at c.search.ensures.found in
-    let within = rw c.in-Some-default.is-0 at c.search.ensures.within in
-    rw c.at.ensures (looked_up c.args.name.now c.search.result.1.items c.in-Some-default.place within (subst (λ text. Finds text c.search.result.1.items c.in-Some-default.place) c.as_bytes.ensures.value found))
+pub returns-in-Some : goal.returns-in-Some
+returns-in-Some c =
+    let spelled = rw c.in-Some.is at c.find.ensures.spelled in
+    let within = rw c.in-Some.is at c.find.ensures.within in
+    rw c.at.ensures (looked_up c.args.name.now c.in-Some.place within (subst (λ text. Spells text (name_of c.in-Some.place)) c.as_bytes.ensures.value spelled))
 
-pub returns-in-None-default : goal.returns-in-None-default
-returns-in-None-default c =
-    let missing = rw c.in-None-default.is-0 at c.search.ensures.missing in
-    refused c.args.name.now c.search.result.1.items c.unknown_name.result (subst (λ text. RulesOut text c.search.result.1.items) c.as_bytes.ensures.value missing) c.unknown_name.ensures
+pub returns-in-None : goal.returns-in-None
+returns-in-None c =
+    let missing = rw c.in-None.is at c.find.ensures.missing in
+    refused c.args.name.now c.unknown_name.result (subst (λ text. (place : ℕ) → place < LEN → ¬ Spells text (name_of place)) c.as_bytes.ensures.value missing) c.unknown_name.ensures
