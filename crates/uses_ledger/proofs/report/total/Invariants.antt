@@ -1,0 +1,7 @@
+use Rattle.std.proofs.Common.{◌≡◌, take}
+use Rattle.uses_ledger.specs.Report.{sum_of}
+use Rattle.uses_ledger.proofs.report.total.Given as goal
+
+-- the sum is that of the entries so far
+abbrev pub invariant-loop-entry : goal.invariant-loop-entry
+invariant-loop-entry l = l.sum ≡ sum_of (take l.entry-index l.entries)
