@@ -1,7 +1,7 @@
 //! A ledger printed, with its total.
 ghost use Rattle.std.specs.Prelude.{◌≡◌, IfOk, IfErr, OnOk, OnErr};
 ghost use Rattle.std.specs.Io.KnownBytes.{Appends};
-ghost use Rattle.uses_ledger.specs.Report.{HasLargeSum, line_of, report_of, sum_of};
+ghost use Rattle.uses_ledger.specs.Report.{Fails, HasLargeSum, line_of, report_of, sum_of};
 ghost use Rattle.uses_ledger.specs.declared.entry.LedgerError.TheVariants.{TotalTooLarge};
 
 use crate::entry::{Entry, LedgerError};
@@ -40,8 +40,9 @@ pub fn write_report<F: Format, W: Write>(
     format: &F,
     w: &mut W,
 ) -> Result<(), LedgerError>
-    ensures { OnOk result (Appends (W.contents w.old) (W.contents w.new)
+    ensures written { OnOk result (Appends (W.contents w.old) (W.contents w.new)
         (report_of (F.answers format.now) entries.now)) }
+    ensures failed { IfErr result (Fails entries.now) }
 {
     let sum = total(entries)?;
     for entry in entries {
