@@ -1,0 +1,118 @@
+//! How the lines of a text set the data of a format.
+ghost use Rattle.std.specs.Prelude.{◌≡◌, All, IfOk, IfErr, IsSome, Ok, OnOk};
+ghost use Rattle.std.specs.Option.{option_map};
+ghost use Rattle.std.specs.Str.Lines.{lines};
+ghost use Rattle.num_format.specs.Building.{after_call, built};
+ghost use Rattle.num_format.specs.RoundTrips.{RoundTrips};
+ghost use Rattle.uses_settings.specs.Settings.{Refuses, call_in, choices_in, grouping_named};
+
+use num_format::{CustomFormat, CustomFormatBuilder, Error, Grouping, reads_back};
+
+/// Returns the format that the lines of a text set, over the data of the locale `en`.
+///
+/// A line is a key, `=` and a value. The keys are `decimal`, `grouping`, `minus_sign` and `separator`;
+/// a grouping is `Standard`, `Indian`, `Posix`, `Myriad` or `Sparse`. A later line replaces an earlier
+/// one of the same key.
+///
+/// Every number that is printed under the format parses as that number again.
+///
+/// # Errors
+///
+/// Returns the error of the library for a text that is too long. Returns an error of kind
+/// [`ErrorKind::Other`](num_format::ErrorKind::Other) for a line that is no setting, and for a format
+/// under which a number does not read back.
+///
+/// ```text
+/// parse_format("separator='\ngrouping=Indian")  is Ok: -1234567 is printed as -12'34'567
+/// parse_format("separator=0")                   is Err: 1000 would be printed as 10000
+/// ```
+pub fn parse_format(text: &str) -> Result<CustomFormat, Error>
+    ensures reads_back { IfOk result RoundTrips }
+    ensures format { IfOk result (λ f. built (choices_in text.now) ≡ Ok f) }
+    ensures settings { OnOk result (All (λ line. IsSome (call_in line)) (lines text.now)) }
+    ensures refused { IfErr result (Refuses text.now) }
+{
+    let mut builder = CustomFormat::builder();
+    for line in text.lines() {
+        let Some(next) = with_setting(builder, line) else {
+            return Err(Error::new("a line is no setting of a format"));
+        };
+        builder = next;
+    }
+    let format = builder.build()?;
+    if !reads_back(&format) {
+        return Err(Error::new("numbers under this format do not read back"));
+    }
+    Ok(format)
+}
+
+/// Returns the builder with the setting of one more line. Returns `None` if the line is no setting.
+fn with_setting(builder: CustomFormatBuilder, line: &str) -> Option<CustomFormatBuilder>
+    ensures { result ≡ option_map (after_call builder) (call_in line.now) }
+{
+    let (key, value) = line.split_once('=')?;
+    match key {
+        "decimal" => Some(builder.decimal(value)),
+        "grouping" => Some(builder.grouping(grouping_named(value)?)),
+        "minus_sign" => Some(builder.minus_sign(value)),
+        "separator" => Some(builder.separator(value)),
+        _ => None,
+    }
+}
+
+/// Returns the grouping of that name.
+fn grouping_named(name: &str) -> Option<Grouping>
+    ensures { result ≡ grouping_named name.now }
+{
+    match name {
+        "Standard" => Some(Grouping::Standard),
+        "Indian" => Some(Grouping::Indian),
+        "Posix" => Some(Grouping::Posix),
+        "Myriad" => Some(Grouping::Myriad),
+        "Sparse" => Some(Grouping::Sparse),
+        _ => None,
+    }
+}
+
+#[cfg(test)]
+mod tests {
+    use super::*;
+    use num_format::ToFormattedString;
+    use std::test::Fail;
+
+    #[test]
+    fn formats(rt: HostRuntime) -> Result<(), Fail> {
+        let table = [
+            ("", "-1,234,567"),
+            ("separator='\ngrouping=Indian", "-12'34'567"),
+            ("separator=123456789\nseparator=.\n", "-1.234.567"),
+        ];
+        for (text, expected) in table {
+            let format = parse_format(text)?;
+            let printed = (-1_234_567).to_formatted_string(rt.alloc(), &format)?;
+            assert_eq!(rt; printed.as_str(), expected);
+        }
+        Ok(())
+    }
+
+    #[test]
+    fn refusals(rt: HostRuntime) -> Result<(), Fail> {
+        let too_long =
+            "Attempted to write input of length 9 bytes into a buffer with capacity 8 bytes.";
+        let table = [
+            ("minus_sign=123456789", too_long),
+            ("separator=0", "numbers under this format do not read back"),
+            ("grouping=indian", "a line is no setting of a format"),
+            ("separator", "a line is no setting of a format"),
+        ];
+        for (text, expected) in table {
+            match parse_format(text) {
+                Ok(_) => assert!(rt; false, "{text}"),
+                Err(error) => {
+                    assert_eq!(rt; format!(in rt.alloc(); "{error}")?.as_str(), expected);
+                }
+            }
+        }
+        Ok(())
+    }
+}
