@@ -1,11 +1,11 @@
 #!/usr/bin/env python3
-"""Compares the code in README.md and docs/ with that of the crate num_format_examples.
+"""Compares the code in README.md and docs/ with that of the crates that have it.
 
     python3 tools/readme_code.py
 
-Each block of the language `rust` has to stand in a file of the crate, line after line, and the text
-block after the first one in README.md has to be the crate's stdout. The exit status is 1 where one
-differs.
+Each block of the language `rust` has to stand in a file of num_format_examples or of a crate
+`uses_NAME`, line after line, and README.md has to have a text block that is the stdout of
+num_format_examples. The exit status is 1 where one differs.
 """
 import re
 import sys
@@ -13,7 +13,8 @@ from pathlib import Path
 from textwrap import dedent
 
 ROOT = Path(__file__).resolve().parent.parent
-CRATE = ROOT / "crates" / "num_format_examples"
+EXAMPLES = ROOT / "crates" / "num_format_examples"
+CRATES = [EXAMPLES, *sorted((ROOT / "crates").glob("uses_*"))]
 
 
 def blocks(path, language):
@@ -30,14 +31,15 @@ def is_part(block, source):
 
 
 def main():
-    sources = [path.read_text(encoding="utf-8") for path in (CRATE / "src").glob("*.rt")]
+    files = [path for crate in CRATES for path in (crate / "src").glob("*.rt")]
+    sources = [path.read_text(encoding="utf-8") for path in files]
     readme = ROOT / "README.md"
     different = []
     for path in [readme, *sorted((ROOT / "docs").glob("*.md"))]:
         for block in blocks(path, "rust"):
             if not any(is_part(block, source) for source in sources):
-                different.append(f"{path.relative_to(ROOT)}: not in num_format_examples:\n{block}")
-    if (CRATE / "stdout").read_text(encoding="utf-8") not in blocks(readme, "text"):
+                different.append(f"{path.relative_to(ROOT)}: in none of the crates:\n{block}")
+    if (EXAMPLES / "stdout").read_text(encoding="utf-8") not in blocks(readme, "text"):
         different.append("README.md: no block has the stdout of num_format_examples")
     print("\n".join(different), end="")
     sys.exit(1 if different else 0)

@@ -1,4 +1,4 @@
-//! The program of `README.md`, word for word, and callers with contracts of their own.
+//! The program of `README.md`, word for word, and a caller with a contract of its own.
 #![tactic(auto)]
 
 use anyhow::Result;
