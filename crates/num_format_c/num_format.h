@@ -1,0 +1,151 @@
+/* num-format for C: whole numbers with separators between groups of digits, and back.
+ *
+ *     num_format format = {0};
+ *     char text[NUM_FORMAT_MAX];
+ *     if (num_format_locale(&format, "de", 2) == 0) {
+ *         int length = num_format_print_i64(&format, -1234567, text, sizeof text);
+ *         printf("%.*s\n", length, text);                          -1.234.567
+ *     }
+ *
+ * Lengths, capacities and sizes are in bytes. Texts are UTF-8 with no zero byte after them. No call
+ * allocates, and none keeps a pointer or has a state, so calls may be made from any thread.
+ *
+ * A call that fails returns a negative number, one of those below, and everything that it would
+ * have written is as it was. Where several errors apply, each call says which one it returns.
+ *
+ * The contracts of the functions are proved. They hold for any bytes of a struct `num_format` and
+ * of a text. What a caller has to see to, since no call can test it:
+ *
+ * - No pointer is null, also where the length is 0.
+ * - A pointer to a text or an array points to as many bytes as the length or capacity beside it
+ *   says, which is at most PTRDIFF_MAX.
+ * - What a call writes overlaps nothing else that is passed to it, and no other thread reads or
+ *   writes it meanwhile. No other thread writes what a call reads.
+ */
+#ifndef NUM_FORMAT_H
+#define NUM_FORMAT_H
+
+#include <stddef.h>
+#include <stdint.h>
+
+#ifdef __cplusplus
+extern "C" {
+#endif
+
+/* The size of an array that the text of any number fits, under any format. */
+#define NUM_FORMAT_MAX 191
+
+/* The number of locales. Their places are the numbers below it. */
+#define NUM_FORMAT_LOCALES 542
+
+/* The errors. */
+enum {
+    NUM_FORMAT_BAD_FORMAT = -1,     /* the struct has no format: no call filled it */
+    NUM_FORMAT_TOO_SMALL = -2,      /* the array is shorter than the text */
+    NUM_FORMAT_NOT_UTF8 = -3,       /* a text is not UTF-8 */
+    NUM_FORMAT_NOT_A_NUMBER = -4,   /* the text is refused as a number: see num_format_parse_i64 */
+    NUM_FORMAT_UNKNOWN_LOCALE = -5, /* no locale has the name, or there is none at the place */
+    NUM_FORMAT_TOO_LONG = -6,       /* the separator or the minus sign has more than 8 bytes */
+    NUM_FORMAT_BAD_GROUPING = -7,   /* the number stands for no grouping */
+    NUM_FORMAT_BAD_BITS = -8        /* the number of bits is not 8, 16, 32 or 64 */
+};
+
+/* The groupings: where separators stand among the digits. */
+enum {
+    NUM_FORMAT_STANDARD = 1, /* 1,000,000 */
+    NUM_FORMAT_INDIAN = 2,   /* 10,00,000 */
+    NUM_FORMAT_POSIX = 3,    /* 1000000 */
+    NUM_FORMAT_MYRIAD = 4,   /* 100,0000 */
+    NUM_FORMAT_SPARSE = 5    /* 1000 and 10,000 */
+};
+
+/* A format. Fill it by num_format_locale or num_format_custom, and copy it as you like.
+ *
+ * Each call that is given a format tests it, and refuses with NUM_FORMAT_BAD_FORMAT one that cannot
+ * be a format: a length above 8, a text that is not UTF-8, a number of no grouping. A struct of
+ * zeros is refused. */
+typedef struct num_format {
+    uint8_t separator[8];
+    uint8_t minus_sign[8];
+    uint8_t separator_length;
+    uint8_t minus_sign_length;
+    uint8_t grouping;
+} num_format;
+
+/* Fills the struct with the format of a locale, and returns 0.
+ *
+ * The name has hyphens, or an underscore for every hyphen: "en-US-POSIX" or "en_US_POSIX".
+ *
+ * Errors: NUM_FORMAT_NOT_UTF8, else NUM_FORMAT_UNKNOWN_LOCALE. */
+int32_t num_format_locale(num_format *format, const char *name, size_t length);
+
+/* Fills the struct with a separator of at most 8 bytes, a grouping and a minus sign of at most 8
+ * bytes, and returns 0. Either text may be empty.
+ *
+ * Errors: NUM_FORMAT_NOT_UTF8, else NUM_FORMAT_TOO_LONG, else NUM_FORMAT_BAD_GROUPING. */
+int32_t num_format_custom(num_format *format, const char *separator, size_t separator_length,
+                          uint32_t grouping, const char *minus_sign, size_t minus_sign_length);
+
+/* Print a number at the start of the array, and return the length of its text, from 1 to
+ * NUM_FORMAT_MAX. The other bytes of the array are as they were.
+ *
+ * Numbers of narrower types have the same text, converted to 64 bits.
+ *
+ * Errors: NUM_FORMAT_BAD_FORMAT, else NUM_FORMAT_TOO_SMALL. */
+int32_t num_format_print_i64(const num_format *format, int64_t number, char *text, size_t capacity);
+int32_t num_format_print_u64(const num_format *format, uint64_t number, char *text, size_t capacity);
+
+/* The same of a number of 128 bits, by its low and its high half: of an unsigned __int128 n, or of
+ * an __int128 in two's complement, (uint64_t)n and (uint64_t)(n >> 64). */
+int32_t num_format_print_u128(const num_format *format, uint64_t low, uint64_t high, char *text,
+                              size_t capacity);
+int32_t num_format_print_i128(const num_format *format, uint64_t low, uint64_t high, char *text,
+                              size_t capacity);
+
+/* Parse a text as a number of 8, 16, 32 or 64 bits, write it, and return 0.
+ *
+ * The number is that of the digits 0 to 9 of the text in order, negated if the text begins with the
+ * format's minus sign. Every other character is ignored: under the locale "en" the text "12.50" is
+ * 1250, and "(7)" is 7. Check first what your input may hold.
+ *
+ * Errors, in this order:
+ * - NUM_FORMAT_BAD_BITS.
+ * - NUM_FORMAT_BAD_FORMAT.
+ * - NUM_FORMAT_NOT_UTF8.
+ * - NUM_FORMAT_NOT_A_NUMBER: the text has no digit; it has a numeric character other than 0 to 9; it
+ *   has more digits, a minus sign counted as one, than the longest number of that many bits; or
+ *   its number has more bits, or a sign that the type has not. */
+int32_t num_format_parse_i64(const num_format *format, uint32_t bits, const char *text, size_t length,
+                             int64_t *number);
+int32_t num_format_parse_u64(const num_format *format, uint32_t bits, const char *text, size_t length,
+                             uint64_t *number);
+
+/* The same of a number of 128 bits, which is written by its halves. */
+int32_t num_format_parse_u128(const num_format *format, const char *text, size_t length, uint64_t *low,
+                              uint64_t *high);
+int32_t num_format_parse_i128(const num_format *format, const char *text, size_t length, uint64_t *low,
+                              uint64_t *high);
+
+/* Returns 1 if every number, printed under the format, parses as the same number again, as any type
+ * that has it; else 0. It is 1 for each locale, and 0 for the separator "0" or an empty minus sign.
+ *
+ * Error: NUM_FORMAT_BAD_FORMAT. */
+int32_t num_format_reads_back(const num_format *format);
+
+/* Returns 1 if each number has the same text under both formats, else 0.
+ *
+ * Error: NUM_FORMAT_BAD_FORMAT, if either struct has no format. */
+int32_t num_format_prints_alike(const num_format *first, const num_format *second);
+
+/* Writes the name of the locale at a place at the start of the array, and returns its length. Names
+ * are in rising byte order, and have hyphens. NUM_FORMAT_MAX bytes suffice for each. The other
+ * bytes of the array are as they were.
+ *
+ * Errors: NUM_FORMAT_UNKNOWN_LOCALE, else NUM_FORMAT_TOO_SMALL. */
+int32_t num_format_names(size_t place, char *name, size_t capacity);
+
+#ifdef __cplusplus
+}
+#endif
+
+#endif

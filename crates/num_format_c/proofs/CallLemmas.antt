@@ -1,0 +1,52 @@
+-- Results, as they cross to C.
+use Rattle.std.proofs.Common.{◌≡◌, ℕ, ℤ, pos, List, refl, ap, Option, Some, None, Result, Ok, Err, MatchOption, ◌∙◌, Bool, true, false, if◌then◌else◌}
+use Rattle.std.specs.Prelude.{IsTrue, ◌↔◌}
+use Rattle.num_format.specs.Kind.{Kind}
+use Rattle.num_format_c.specs.Calls.{Fails, Parses, ParsesInto, Tells, code}
+use Rattle.num_format_c.specs.declared.format.NumFormat.{NumFormat}
+use Rattle.num_format_c.specs.declared.status.Status.{Status}
+use Rattle.num_format_c.specs.declared.status.Status.TheVariants.{BadBits}
+
+-- the number of a result's error
+abbrev error_code : {A : Type 0} → Result A Status → ℤ
+error_code (Ok n) = pos 0
+error_code (Err status) = code status
+
+-- whether a property holds, as a number
+pub told : (given holds : Type 0) (b : Bool) (result : ℤ) → given → (IsTrue b ↔ holds) → result ≡ (if b then pos 1 else pos 0) → Tells given holds result
+told given holds true result g both same = record { bad_format = λ none. absurd (none g); yes = λ _ _. same; no = λ _ none. absurd (none (both.0 refl)) }
+told given holds false result g both same = record { bad_format = λ none. absurd (none g); yes = λ _ h. (let e = both.1 h in cc); no = λ _ _. same }
+
+module _ {A : Type 0} (value : A → ℤ) (s : NumFormat) (text : List ℕ) (old new result : ℤ) where
+  -- an error as a result
+  abbrev pub failed : Status → Result A Status
+  failed status = Err status
+
+  -- the number is stored, and 0 returned
+  pub stored : (k : Kind) (n : A) → Parses k value s text (Ok n) → new ≡ value n → result ≡ pos 0 → ParsesInto k s text old new result
+  stored k n p same ok = record {
+    bad_format = λ none. (let e = p.bad_format none in cc);
+    not_utf8 = λ given none. (let e = p.not_utf8 given none in cc);
+    refused = λ given utf8 why. (let e = p.refused given utf8 why in cc);
+    number = λ given utf8 good. (ok, same ∙ p.number given utf8 good);
+  }
+
+  -- nothing is stored, and the error's number returned
+  pub kept : (k : Kind) (status : Status) → Parses k value s text (Err status) → new ≡ old → result ≡ code status → ParsesInto k s text old new result
+  kept k status p same error = record {
+    bad_format = λ none. record { error = error ∙ ap error_code (p.bad_format none); unchanged = same };
+    not_utf8 = λ given none. record { error = error ∙ ap error_code (p.not_utf8 given none); unchanged = same };
+    refused = λ given utf8 why. record { error = error ∙ ap error_code (p.refused given utf8 why); unchanged = same };
+    number = λ given utf8 good. absurd (p.number given utf8 good);
+  }
+
+  -- the same where there may be no such kind
+  pub stored_any : (kind : Option Kind) (n : A) → MatchOption kind (Ok n ≡ Err BadBits) (λ k. Parses k value s text (Ok n)) → new ≡ value n → result ≡ pos 0 →
+      MatchOption kind (Fails BadBits old new result) (λ k. ParsesInto k s text old new result)
+  stored_any None n p same ok = cc
+  stored_any (Some k) n p same ok = stored k n p same ok
+
+  pub kept_any : (kind : Option Kind) (status : Status) → MatchOption kind (failed status ≡ Err BadBits) (λ k. Parses k value s text (failed status)) → new ≡ old → result ≡ code status →
+      MatchOption kind (Fails BadBits old new result) (λ k. ParsesInto k s text old new result)
+  kept_any None status p same error = record { error = error ∙ ap error_code p; unchanged = same }
+  kept_any (Some k) status p same error = kept k status p same error

@@ -1,0 +1,112 @@
+-- What the calls of C return and write.
+use Rattle.std.specs.Prelude.{◌≡◌, ℕ, ◌+◌, ◌*◌, ◌^◌, ◌<◌, ◌≤◌, ◌⊎◌, ◌==◌, ℤ, pos, negsuc, List, ◌++◌, length, drop, Option, Some, None, Result, Ok, Err, IfOk, IfErr, IfSome, MatchOption, MatchResult, IsUtf8, if◌then◌else◌}
+use Rattle.std.specs.Int.{cast_signed, w128}
+use Rattle.num_format.specs.Constants.{LEN}
+use Rattle.num_format.specs.Data.{locale_data}
+use Rattle.num_format.specs.Format.{FormatData}
+use Rattle.num_format.specs.Kind.{Kind, kind_of, U8, U16, U32, U64, I8, I16, I32, I64}
+use Rattle.num_format.specs.Names.{Spells, name_of}
+use Rattle.num_format.specs.Reading.{Refused, denoted}
+use Rattle.num_format.specs.Text.{text_of}
+use Rattle.num_format_c.specs.Held.{Agrees, HasFormat, format_of, format_with, grouping_of}
+use Rattle.num_format_c.specs.declared.format.NumFormat.{NumFormat}
+use Rattle.num_format_c.specs.declared.status.Status.{Status}
+use Rattle.num_format_c.specs.declared.status.Status.TheVariants.{BadFormat, TooSmall, NotUtf8, NotANumber, UnknownLocale, TooLong, BadGrouping, BadBits}
+
+-- the number by which an error crosses to C; `negsuc n` is the number one below -n
+abbrev pub code : Status → ℤ
+code BadFormat = negsuc 0
+code TooSmall = negsuc 1
+code NotUtf8 = negsuc 2
+code NotANumber = negsuc 3
+code UnknownLocale = negsuc 4
+code TooLong = negsuc 5
+code BadGrouping = negsuc 6
+code BadBits = negsuc 7
+
+-- the number that a call returns
+abbrev pub returned : Result ℤ Status → ℤ
+returned (Ok n) = n
+returned (Err status) = code status
+
+-- a call fails: it returns the error's number, and what it would have written is as it was
+pub record Fails {A : Type 0} (status : Status) (old new : A) (result : ℤ) : Type 0 where
+  pub error : result ≡ code status
+  pub unchanged : new ≡ old
+
+-- a text is at the start of an array, whose other bytes are as they were, and its length is returned
+pub record Receives (text old new : List ℕ) (result : ℤ) : Type 0 where
+  pub written : new ≡ text ++ drop (length text) old
+  pub returned : result ≡ pos (length text)
+
+-- a text is written into an array that is long enough
+pub record Writes (text old new : List ℕ) (result : ℤ) : Type 0 where
+  pub whole : length text ≤ length old → Receives text old new result
+  pub too_small : length old < length text → Fails TooSmall old new result
+
+-- a number is printed under the format of a struct into an array
+pub record Prints (s : NumFormat) (z : ℤ) (old new : List ℕ) (result : ℤ) : Type 0 where
+  pub bad_format : ¬ HasFormat s → Fails BadFormat old new result
+  pub text : HasFormat s → Writes (text_of (format_of s) z) old new result
+
+-- a text is parsed under the format of a struct as a number of the kind
+pub record Parses {A : Type 0} (k : Kind) (value : A → ℤ) (s : NumFormat) (text : List ℕ) (result : Result A Status) : Type 0 where
+  pub bad_format : ¬ HasFormat s → result ≡ Err BadFormat
+  pub not_utf8 : HasFormat s → ¬ IsUtf8 text → result ≡ Err NotUtf8
+  pub refused : HasFormat s → IsUtf8 text → Refused k (format_of s) text → result ≡ Err NotANumber
+  pub number : HasFormat s → IsUtf8 text → ¬ Refused k (format_of s) text → MatchResult result (λ n. value n ≡ denoted (format_of s) text) (λ _. ⊥)
+
+-- a text is parsed, and the number is written over another one
+pub record ParsesInto (k : Kind) (s : NumFormat) (text : List ℕ) (old new result : ℤ) : Type 0 where
+  pub bad_format : ¬ HasFormat s → Fails BadFormat old new result
+  pub not_utf8 : HasFormat s → ¬ IsUtf8 text → Fails NotUtf8 old new result
+  pub refused : HasFormat s → IsUtf8 text → Refused k (format_of s) text → Fails NotANumber old new result
+  pub number : HasFormat s → IsUtf8 text → ¬ Refused k (format_of s) text → (result ≡ pos 0) × (new ≡ denoted (format_of s) text)
+
+-- an unsigned number of 128 bits, by its halves
+abbrev pub unsigned_wide : ℕ → ℕ → ℤ
+unsigned_wide low high = pos (low + high * 2 ^ 64)
+
+-- a signed number of 128 bits, by the halves of its two's complement
+abbrev pub signed_wide : ℕ → ℕ → ℤ
+signed_wide low high = cast_signed w128 (low + high * 2 ^ 64)
+
+-- the kind of signed numbers of that many bits
+abbrev pub signed_kind : ℕ → Option Kind
+signed_kind bits = if bits == 8 then Some (kind_of I8) else (if bits == 16 then Some (kind_of I16) else
+    (if bits == 32 then Some (kind_of I32) else (if bits == 64 then Some (kind_of I64) else None)))
+
+-- the kind of unsigned numbers of that many bits
+abbrev pub unsigned_kind : ℕ → Option Kind
+unsigned_kind bits = if bits == 8 then Some (kind_of U8) else (if bits == 16 then Some (kind_of U16) else
+    (if bits == 32 then Some (kind_of U32) else (if bits == 64 then Some (kind_of U64) else None)))
+
+-- a struct is filled with the format
+pub record Fills (f : FormatData) (new : NumFormat) (result : ℤ) : Type 0 where
+  pub ok : result ≡ pos 0
+  pub given : HasFormat new
+  pub same : Agrees (format_of new) f
+
+-- a struct is filled with the format of the locale that a name spells
+pub record FillsLocale (name : List ℕ) (old new : NumFormat) (result : ℤ) : Type 0 where
+  pub not_utf8 : ¬ IsUtf8 name → Fails NotUtf8 old new result
+  pub unknown : IsUtf8 name → ((place : ℕ) → place < LEN → ¬ Spells name (name_of place)) → Fails UnknownLocale old new result
+  pub found : IsUtf8 name → (place : ℕ) → place < LEN → Spells name (name_of place) → Fills (locale_data place) new result
+
+-- a struct is filled with a separator, a grouping's number and a minus sign
+pub record FillsCustom (separator : List ℕ) (number : ℕ) (minus_sign : List ℕ) (old new : NumFormat) (result : ℤ) : Type 0 where
+  pub not_utf8 : (¬ IsUtf8 separator) ⊎ (¬ IsUtf8 minus_sign) → Fails NotUtf8 old new result
+  pub too_long : IsUtf8 separator → IsUtf8 minus_sign → (8 < length separator) ⊎ (8 < length minus_sign) → Fails TooLong old new result
+  pub bad_grouping : IsUtf8 separator → IsUtf8 minus_sign → length separator ≤ 8 → length minus_sign ≤ 8 → grouping_of number ≡ None → Fails BadGrouping old new result
+  pub filled : IsUtf8 separator → IsUtf8 minus_sign → length separator ≤ 8 → length minus_sign ≤ 8 → IfSome (grouping_of number) (λ grouping. Fills (format_with separator grouping minus_sign) new result)
+
+-- the name of the locale at a place is written into an array
+pub record WritesName (place : ℕ) (old new : List ℕ) (result : ℤ) : Type 0 where
+  pub name : place < LEN → Writes (name_of place) old new result
+  pub no_locale : LEN ≤ place → Fails UnknownLocale old new result
+
+-- whether the format of a struct has a property: 1 or 0
+pub record Tells (given holds : Type 0) (result : ℤ) : Type 0 where
+  pub bad_format : ¬ given → result ≡ code BadFormat
+  pub yes : given → holds → result ≡ pos 1
+  pub no : given → ¬ holds → result ≡ pos 0

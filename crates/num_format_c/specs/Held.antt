@@ -1,0 +1,43 @@
+-- The format that a struct of a C program has.
+use Rattle.std.specs.Prelude.{ℕ, ◌≡◌, ◌≤◌, ◌==◌, List, take, Option, Some, None, unwrap_or, IsSome, IsUtf8, if◌then◌else◌}
+use Rattle.num_format.specs.English.{english}
+use Rattle.num_format.specs.Format.{FormatData}
+use Rattle.num_format.specs.Grouping.{Grouping}
+use Rattle.num_format.specs.Grouping.TheVariants.{Standard, Indian, Posix, Myriad, Sparse}
+use Rattle.num_format_c.specs.declared.format.NumFormat.{NumFormat}
+
+-- the grouping for which a number stands
+abbrev pub grouping_of : ℕ → Option Grouping
+grouping_of number =
+    if number == 1 then Some Standard else (if number == 2 then Some Indian else (if number == 3 then Some Posix else
+    (if number == 4 then Some Myriad else (if number == 5 then Some Sparse else None))))
+
+-- the data of `en`, but for the three that the text of a whole number depends on
+abbrev pub format_with : List ℕ → Grouping → List ℕ → FormatData
+format_with separator grouping minus_sign = record english { separator = separator; grouping = grouping; minus_sign = minus_sign }
+
+-- the separator of a struct
+abbrev pub separator_of : NumFormat → List ℕ
+separator_of s = take s.separator_len s.separator
+
+-- the minus sign of a struct
+abbrev pub minus_sign_of : NumFormat → List ℕ
+minus_sign_of s = take s.minus_sign_len s.minus_sign
+
+-- the struct has a format: its texts are UTF-8 within their arrays, and its number stands for a grouping
+pub record HasFormat (s : NumFormat) : Type 0 where
+  pub separator_fits : s.separator_len ≤ 8
+  pub separator : IsUtf8 (separator_of s)
+  pub minus_sign_fits : s.minus_sign_len ≤ 8
+  pub minus_sign : IsUtf8 (minus_sign_of s)
+  pub grouping : IsSome (grouping_of s.grouping)
+
+-- the format that a struct has
+abbrev pub format_of : NumFormat → FormatData
+format_of s = format_with (separator_of s) (unwrap_or (grouping_of s.grouping) Posix) (minus_sign_of s)
+
+-- two formats agree in the three data that the text of a whole number depends on
+pub record Agrees (f g : FormatData) : Type 0 where
+  pub separator : f.separator ≡ g.separator
+  pub grouping : f.grouping ≡ g.grouping
+  pub minus_sign : f.minus_sign ≡ g.minus_sign

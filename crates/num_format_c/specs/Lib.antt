@@ -1,0 +1,3 @@
+-- The definitions that the contracts of this crate use.
+pub mod Calls
+pub mod Held

@@ -1,0 +1,145 @@
+//! A format in a struct that a C program owns.
+ghost use Rattle.std.specs.Prelude.{◌≡◌, ◌≤◌, take, drop, length, ◌++◌, IsUtf8, MatchOption, Some};
+ghost use Rattle.num_format_c.specs.Held.{Agrees, HasFormat, format_of, format_with, grouping_of};
+
+use num_format::utils::{DecimalStr, InfinityStr, MinusSignStr, NanStr, PlusSignStr, SeparatorStr};
+use num_format::{Format, Grouping};
+
+/// The most bytes of a separator or a minus sign.
+const CAPACITY: usize = 8;
+
+/// A format as a C program owns it. It may have any bytes: [`Held::new`] says whether they are those
+/// of a format.
+///
+/// A text is at the start of its array. A grouping is a number, as [`grouping_of`] says.
+#[repr(C)]
+#[derive(Clone, Copy)]
+pub struct NumFormat {
+    pub separator: [u8; CAPACITY],
+    pub minus_sign: [u8; CAPACITY],
+    pub separator_len: u8,
+    pub minus_sign_len: u8,
+    pub grouping: u8,
+}
+
+impl NumFormat {
+    /// Returns a struct with the format.
+    pub fn new<F: Format>(format: &F) -> NumFormat
+        ensures given { HasFormat result }
+        ensures same { Agrees (format_of result) (F.answers format.now) }
+    {
+        let separator = format.separator().into_str();
+        let minus_sign = format.minus_sign().into_str();
+        NumFormat {
+            separator: padded(separator),
+            minus_sign: padded(minus_sign),
+            separator_len: separator.len() as u8,
+            minus_sign_len: minus_sign.len() as u8,
+            grouping: number_of(format.grouping()),
+        }
+    }
+}
+
+/// Returns the bytes of a text, and zeros after them.
+fn padded(text: &str) -> [u8; CAPACITY]
+    requires { length text.now ≤ CAPACITY }
+    ensures { take (length text.now) result ≡ text.now }
+{
+    let mut bytes = [0; CAPACITY];
+    bytes[..text.len()].copy_from_slice(text.as_bytes());
+    bytes
+}
+
+/// A format whose texts are elsewhere, with the data that the text of a whole number depends on. The
+/// others are those of the locale `en`.
+#[derive(Drop)]
+pub struct Held<'a> {
+    pub separator: SeparatorStr<'a>,
+    pub grouping: Grouping,
+    pub minus_sign: MinusSignStr<'a>,
+}
+
+impl<'a> Held<'a> {
+    /// Returns the format that the struct has, if it has one.
+    #[inline(always)]
+    pub fn new(format: &'a NumFormat) -> Option<Held<'a>>
+        ensures { MatchOption result (¬ (HasFormat format.now))
+            (λ h. (HasFormat format.now) × (format_with h.separator h.grouping h.minus_sign ≡ format_of format.now)) }
+    {
+        let separator = text_at(&format.separator, format.separator_len)?;
+        let minus_sign = text_at(&format.minus_sign, format.minus_sign_len)?;
+        Some(Held {
+            separator: SeparatorStr::new(separator).ok()?,
+            grouping: grouping_of(format.grouping as u32)?,
+            minus_sign: MinusSignStr::new(minus_sign).ok()?,
+        })
+    }
+}
+
+/// Returns the text of that length at the start of the array, if there is one.
+#[inline(always)]
+fn text_at(bytes: &[u8; CAPACITY], len: u8) -> Option<&str>
+    ensures { MatchOption result ((len ≤ CAPACITY) → ¬ (IsUtf8 (take len bytes.now)))
+        (λ text. (len ≤ CAPACITY) × (text.now ≡ take len bytes.now) × (IsUtf8 (take len bytes.now))) }
+{
+    str::from_utf8(bytes.get(..len as usize)?).ok()
+}
+
+/// Returns the grouping for which the number stands.
+pub fn grouping_of(number: u32) -> Option<Grouping>
+    ensures { result ≡ grouping_of number }
+{
+    match number {
+        1 => Some(Grouping::Standard),
+        2 => Some(Grouping::Indian),
+        3 => Some(Grouping::Posix),
+        4 => Some(Grouping::Myriad),
+        5 => Some(Grouping::Sparse),
+        _ => None,
+    }
+}
+
+/// Returns the number that stands for the grouping.
+fn number_of(grouping: Grouping) -> u8
+    ensures { grouping_of result ≡ Some grouping }
+{
+    match grouping {
+        Grouping::Standard => 1,
+        Grouping::Indian => 2,
+        Grouping::Posix => 3,
+        Grouping::Myriad => 4,
+        Grouping::Sparse => 5,
+    }
+}
+
+impl<'a> Format for Held<'a> {
+    ghost answers = { λ h. format_with h.separator h.grouping h.minus_sign };
+
+    fn decimal(&self) -> DecimalStr<'_> {
+        DecimalStr::new(".").unwrap()
+    }
+
+    fn grouping(&self) -> Grouping {
+        self.grouping
+    }
+
+    fn infinity(&self) -> InfinityStr<'_> {
+        InfinityStr::new("∞").unwrap()
+    }
+
+    fn minus_sign(&self) -> MinusSignStr<'_> {
+        self.minus_sign.clone().unwrap()
+    }
+
+    fn nan(&self) -> NanStr<'_> {
+        NanStr::new("NaN").unwrap()
+    }
+
+    fn plus_sign(&self) -> PlusSignStr<'_> {
+        PlusSignStr::new("+").unwrap()
+    }
+
+    fn separator(&self) -> SeparatorStr<'_> {
+        self.separator.clone().unwrap()
+    }
+}

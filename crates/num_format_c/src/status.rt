@@ -1,0 +1,53 @@
+//! The errors of the calls, and the numbers by which they cross to C.
+ghost use Rattle.std.specs.Prelude.{◌≡◌};
+ghost use Rattle.num_format_c.specs.Calls.{code, returned};
+
+/// Why a call failed.
+#[derive(Clone, Copy, Debug, PartialEq, Eq)]
+pub enum Status {
+    /// The struct has no format.
+    BadFormat,
+    /// The array is shorter than the text.
+    TooSmall,
+    /// The bytes are not UTF-8.
+    NotUtf8,
+    /// The text is refused as a number of the kind.
+    NotANumber,
+    /// No locale has the name, or there is none at the place.
+    UnknownLocale,
+    /// The separator or the minus sign has more than 8 bytes.
+    TooLong,
+    /// The number stands for no grouping.
+    BadGrouping,
+    /// No kind of number has that many bits.
+    BadBits,
+}
+
+impl Status {
+    /// Returns the number by which the error crosses to C, which is negative.
+    pub fn code(self) -> i32
+        ensures { result ≡ code self }
+    {
+        match self {
+            Status::BadFormat => -1,
+            Status::TooSmall => -2,
+            Status::NotUtf8 => -3,
+            Status::NotANumber => -4,
+            Status::UnknownLocale => -5,
+            Status::TooLong => -6,
+            Status::BadGrouping => -7,
+            Status::BadBits => -8,
+        }
+    }
+}
+
+/// Returns the number that crosses to C: the value itself, or that of the error.
+#[inline(always)]
+pub fn returned(value: Result<i32, Status>) -> i32
+    ensures { result ≡ returned value }
+{
+    match value {
+        Ok(value) => value,
+        Err(status) => status.code(),
+    }
+}
