@@ -1,11 +1,11 @@
 #!/usr/bin/env python3
-"""Compares the code in README.md and docs/ with that of the crates that have it.
+"""Compares the code in README.md and docs/ with that of the crates and of examples/ that have it.
 
     python3 tools/readme_code.py
 
 Each block of the language `rust` has to stand in a file of num_format_examples or of a crate
-`uses_NAME`, line after line, and README.md has to have a text block that is the stdout of
-num_format_examples. The exit status is 1 where one differs.
+`uses_NAME`, line after line, and each of `c` and `python` in a file of examples/. README.md has to
+have a text block that is the stdout of num_format_examples. The exit status is 1 where one differs.
 """
 import re
 import sys
@@ -15,6 +15,13 @@ from textwrap import dedent
 ROOT = Path(__file__).resolve().parent.parent
 EXAMPLES = ROOT / "crates" / "num_format_examples"
 CRATES = [EXAMPLES, *sorted((ROOT / "crates").glob("uses_*"))]
+
+# The files that a block of each language may stand in.
+FILES = {
+    "rust": [path for crate in CRATES for path in sorted((crate / "src").glob("*.rt"))],
+    "c": sorted((ROOT / "examples").glob("*.c")),
+    "python": sorted((ROOT / "examples").glob("*.py")),
+}
 
 
 def blocks(path, language):
@@ -31,14 +38,14 @@ def is_part(block, source):
 
 
 def main():
-    files = [path for crate in CRATES for path in (crate / "src").glob("*.rt")]
-    sources = [path.read_text(encoding="utf-8") for path in files]
     readme = ROOT / "README.md"
     different = []
-    for path in [readme, *sorted((ROOT / "docs").glob("*.md"))]:
-        for block in blocks(path, "rust"):
-            if not any(is_part(block, source) for source in sources):
-                different.append(f"{path.relative_to(ROOT)}: in none of the crates:\n{block}")
+    for language, files in FILES.items():
+        sources = [path.read_text(encoding="utf-8") for path in files]
+        for path in [readme, *sorted((ROOT / "docs").glob("*.md"))]:
+            for block in blocks(path, language):
+                if not any(is_part(block, source) for source in sources):
+                    different.append(f"{path.relative_to(ROOT)}: no file has:\n{block}")
     if (EXAMPLES / "stdout").read_text(encoding="utf-8") not in blocks(readme, "text"):
         different.append("README.md: no block has the stdout of num_format_examples")
     print("\n".join(different), end="")

@@ -1,4 +1,11 @@
-//! num-format for C.
+//! num-format for C: a static library over `num_format`, whose header is `num_format.h`.
+//!
+//! The header says what a C program has to know, and what it has to see to. The contracts here say
+//! what each call returns and writes, for any bytes of a struct and of a text.
+//!
+//! A call returns 0, a length in bytes, or 1 or 0 for yes and no. Where it fails it returns a
+//! negative number, the [`code`](Status::code) of a [`Status`], and what it would have written is as
+//! it was.
 #![tactic(auto)]
 
 ghost use Rattle.std.specs.Prelude.{◌≡◌, ◌+◌, ◌*◌, ◌^◌, pos, MatchOption};
@@ -16,7 +23,9 @@ pub mod status;
 use format::NumFormat;
 use status::{Status, returned};
 
-/// Fills the struct with the format of a locale.
+/// Fills the struct with the format of the locale that the name spells, and returns 0.
+///
+/// Errors: a name that is not UTF-8, or that no locale has.
 #[unsafe(no_mangle)]
 pub extern "C" fn num_format_locale(format: &mut NumFormat, name: &[u8]) -> i32
     ensures { FillsLocale name.now format.old format.new result }
@@ -24,6 +33,10 @@ pub extern "C" fn num_format_locale(format: &mut NumFormat, name: &[u8]) -> i32
     returned(calls::fill_locale(format, name))
 }
 
+/// Fills the struct with a separator and a minus sign of at most 8 bytes each and the grouping for
+/// which the number stands, and returns 0.
+///
+/// Errors, in this order: a text that is not UTF-8, a text that is too long, a number of no grouping.
 #[unsafe(no_mangle)]
 pub extern "C" fn num_format_custom(
     format: &mut NumFormat,
@@ -36,42 +49,55 @@ pub extern "C" fn num_format_custom(
     returned(calls::fill_custom(format, separator, grouping, minus_sign))
 }
 
+/// Prints the number at the start of the array, and returns the length of its text, at most 191.
+///
+/// Errors, in this order: a struct that has no format, an array that is shorter than the text.
 #[unsafe(no_mangle)]
 pub extern "C" fn num_format_print_i64(format: &NumFormat, number: i64, text: &mut [u8]) -> i32
     ensures { Prints format.now number text.old text.new result }
 {
-    returned(calls::print(format, &number, text))
+    returned(calls::print::<i64>(format, &number, text))
 }
 
+/// Prints the number as [`num_format_print_i64`] does.
 #[unsafe(no_mangle)]
 pub extern "C" fn num_format_print_u64(format: &NumFormat, number: u64, text: &mut [u8]) -> i32
     ensures { Prints format.now (pos number) text.old text.new result }
 {
-    returned(calls::print(format, &number, text))
+    returned(calls::print::<u64>(format, &number, text))
 }
 
+/// Prints the number of these halves as [`num_format_print_i64`] does.
 #[unsafe(no_mangle)]
-pub extern "C" fn num_format_names(place: usize, name: &mut [u8]) -> i32
-    ensures { WritesName place name.old name.new result }
+pub extern "C" fn num_format_print_u128(
+    format: &NumFormat,
+    low: u64,
+    high: u64,
+    text: &mut [u8],
+) -> i32
+    ensures { Prints format.now (unsigned_wide low high) text.old text.new result }
 {
-    returned(calls::name(place, name))
+    returned(calls::print(format, &joined(low, high), text))
 }
 
+/// Prints the number of which these are the halves in two's complement, as
+/// [`num_format_print_i64`] does.
 #[unsafe(no_mangle)]
-pub extern "C" fn num_format_reads_back(format: &NumFormat) -> i32
-    ensures { Tells (HasFormat format.now) (RoundTrips (format_of format.now)) result }
+pub extern "C" fn num_format_print_i128(
+    format: &NumFormat,
+    low: u64,
+    high: u64,
+    text: &mut [u8],
+) -> i32
+    ensures { Prints format.now (signed_wide low high) text.old text.new result }
 {
-    returned(calls::reads_back(format))
+    returned(calls::print(format, &joined(low, high).cast_signed(), text))
 }
 
-#[unsafe(no_mangle)]
-pub extern "C" fn num_format_prints_alike(first: &NumFormat, second: &NumFormat) -> i32
-    ensures { Tells (HasFormat first.now × HasFormat second.now)
-        (Alike (format_of first.now) (format_of second.now)) result }
-{
-    returned(calls::prints_alike(first, second))
-}
-
+/// Parses the text as a signed number of 8, 16, 32 or 64 bits, writes the number, and returns 0.
+///
+/// Errors, in this order: another number of bits, a struct that has no format, a text that is not
+/// UTF-8, a text that is refused as a number of that many bits.
 #[unsafe(no_mangle)]
 pub extern "C" fn num_format_parse_i64(
     format: &NumFormat,
@@ -91,6 +117,7 @@ pub extern "C" fn num_format_parse_i64(
     }
 }
 
+/// Parses the text as an unsigned number, as [`num_format_parse_i64`] does as a signed one.
 #[unsafe(no_mangle)]
 pub extern "C" fn num_format_parse_u64(
     format: &NumFormat,
@@ -110,30 +137,9 @@ pub extern "C" fn num_format_parse_u64(
     }
 }
 
-#[unsafe(no_mangle)]
-pub extern "C" fn num_format_print_u128(
-    format: &NumFormat,
-    low: u64,
-    high: u64,
-    text: &mut [u8],
-) -> i32
-    ensures { Prints format.now (unsigned_wide low high) text.old text.new result }
-{
-    returned(calls::print(format, &joined(low, high), text))
-}
-
-#[unsafe(no_mangle)]
-pub extern "C" fn num_format_print_i128(
-    format: &NumFormat,
-    low: u64,
-    high: u64,
-    text: &mut [u8],
-) -> i32
-    ensures { Prints format.now (signed_wide low high) text.old text.new result }
-{
-    returned(calls::print(format, &joined(low, high).cast_signed(), text))
-}
-
+/// Parses the text as a `u128`, writes the halves of the number, and returns 0.
+///
+/// The errors are those of [`num_format_parse_i64`] but the first.
 #[unsafe(no_mangle)]
 pub extern "C" fn num_format_parse_u128(
     format: &NumFormat,
@@ -153,6 +159,9 @@ pub extern "C" fn num_format_parse_u128(
     }
 }
 
+/// Parses the text as an `i128`, writes the halves of its two's complement, and returns 0.
+///
+/// The errors are those of [`num_format_parse_i64`] but the first.
 #[unsafe(no_mangle)]
 pub extern "C" fn num_format_parse_i128(
     format: &NumFormat,
@@ -170,6 +179,38 @@ pub extern "C" fn num_format_parse_i128(
         }
         Err(status) => status.code(),
     }
+}
+
+/// Returns 1 if every number of every integer type parses again from its text under the format,
+/// else 0.
+///
+/// Error: a struct that has no format.
+#[unsafe(no_mangle)]
+pub extern "C" fn num_format_reads_back(format: &NumFormat) -> i32
+    ensures { Tells (HasFormat format.now) (RoundTrips (format_of format.now)) result }
+{
+    returned(calls::reads_back(format))
+}
+
+/// Returns 1 if each number has the same text under both formats, else 0.
+///
+/// Error: a struct that has no format.
+#[unsafe(no_mangle)]
+pub extern "C" fn num_format_prints_alike(first: &NumFormat, second: &NumFormat) -> i32
+    ensures { Tells (HasFormat first.now × HasFormat second.now)
+        (Alike (format_of first.now) (format_of second.now)) result }
+{
+    returned(calls::prints_alike(first, second))
+}
+
+/// Writes the name of the locale at the place at the start of the array, and returns its length.
+///
+/// Errors, in this order: a place past the last locale, an array that is shorter than the name.
+#[unsafe(no_mangle)]
+pub extern "C" fn num_format_names(place: usize, name: &mut [u8]) -> i32
+    ensures { WritesName place name.old name.new result }
+{
+    returned(calls::name(place, name))
 }
 
 /// The first number that a half does not hold.

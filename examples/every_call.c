@@ -1,0 +1,57 @@
+/* Makes each call at least once, also with structs that no call filled, and prints what it returns. */
+#include "num_format.h"
+
+#include <stdio.h>
+#include <string.h>
+
+static num_format en, de, format;
+static char text[NUM_FORMAT_MAX];
+
+static void show(const char *call, int result) {
+    printf("%s: %d", call, result);
+    printf(result > 0 ? " %.*s\n" : "\n", result, text);
+}
+
+static void show_number(const char *call, int result, const void *number) {
+    printf("%s: %d, %lld\n", call, result, (long long)*(const int64_t *)number);
+}
+
+int main(void) {
+    uint64_t low = 7, high = 9, unsigned_number = 5;
+    int64_t number = 5;
+    show("locale en", num_format_locale(&en, "en", 2));
+    show("locale de", num_format_locale(&de, "de", 2));
+    show("locale en_US_POSIX", num_format_locale(&format, "en_US_POSIX", 11));
+    show("print, Posix", num_format_print_i64(&format, -1000, text, sizeof text));
+    memset(&format, 0, sizeof format);
+    show("locale en-us", num_format_locale(&format, "en-us", 5));
+    show("custom, separator too long", num_format_custom(&format, "123456789", 9, 1, "-", 1));
+    show("custom, grouping 6", num_format_custom(&format, ",", 1, 6, "-", 1));
+    show("custom, not UTF-8", num_format_custom(&format, "\xff", 1, 1, "-", 1));
+    show("print, zeros", num_format_print_i64(&format, 1000, text, sizeof text));
+    memset(&format, 0xff, sizeof format);
+    show("print, ones", num_format_print_i64(&format, 1000, text, sizeof text));
+    show("custom, Myriad", num_format_custom(&format, "'", 1, NUM_FORMAT_MYRIAD, "\xe2\x88\x92", 3));
+    show("print, Myriad", num_format_print_i64(&format, -123456789, text, sizeof text));
+    format.minus_sign[2] = '-';
+    show("print, not UTF-8", num_format_print_i64(&format, 1000, text, sizeof text));
+    show("print into 4 bytes", num_format_print_i64(&en, 1000, text, 4));
+    show("print into 5 bytes", num_format_print_i64(&en, 1000, text, 5));
+    show("print u64", num_format_print_u64(&en, UINT64_MAX, text, sizeof text));
+    show("print u128", num_format_print_u128(&en, UINT64_MAX, 1, text, sizeof text));
+    show("print i128", num_format_print_i128(&de, UINT64_MAX - 999, UINT64_MAX, text, sizeof text));
+    show_number("parse 8 bits", num_format_parse_i64(&en, 8, "-128", 4, &number), &number);
+    show_number("parse past 8 bits", num_format_parse_i64(&en, 8, "128", 3, &number), &number);
+    show_number("parse 7 bits", num_format_parse_i64(&en, 7, "1", 1, &number), &number);
+    show_number("parse, not UTF-8", num_format_parse_i64(&en, 64, "1\xff", 2, &number), &number);
+    show_number("parse u64", num_format_parse_u64(&en, 16, "65,535", 6, &unsigned_number), &unsigned_number);
+    show_number("parse u128, low", num_format_parse_u128(&de, "18.446.744.073.709.551.617", 26, &low, &high), &low);
+    show_number("parse u128, high", 0, &high);
+    show_number("parse i128, low", num_format_parse_i128(&en, "-2", 2, &low, &high), &low);
+    show_number("parse i128, high", 0, &high);
+    printf("reads back: %d, %d\n", num_format_reads_back(&en), num_format_reads_back(&format));
+    printf("prints alike: %d, %d\n", num_format_prints_alike(&en, &de), num_format_prints_alike(&en, &en));
+    show("name 90", num_format_names(90, text, sizeof text));
+    show("name 542", num_format_names(NUM_FORMAT_LOCALES, text, sizeof text));
+    return 0;
+}
