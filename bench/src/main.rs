@@ -7,6 +7,8 @@
 
 mod floor;
 mod groupings;
+mod line_tool;
+mod lines;
 mod numbers;
 mod original;
 mod rattle;
@@ -16,6 +18,7 @@ mod texts;
 use groupings::Grouping;
 use num_format::Locale;
 use numbers::{BATCH, Number, Random, Sizes};
+use std::error::Error;
 use std::hint::black_box;
 use std::time::{Duration, Instant};
 use table::{Cell, Table, Times};
@@ -316,7 +319,7 @@ fn measure_names(name: &str, texts: &Texts) -> Times {
     }
 }
 
-fn main() {
+fn main() -> Result<(), Box<dyn Error>> {
     let mut words = Vec::new();
     let mut shows_cells = false;
     let mut arguments = std::env::args().skip(1);
@@ -324,6 +327,15 @@ fn main() {
         match argument.as_str() {
             "--cells" => shows_cells = true,
             "--only" => words.push(arguments.next().expect("--only needs a word")),
+            "--lines" => {
+                return Ok(lines::measure(
+                    &arguments.next().expect("--lines needs a program"),
+                )?);
+            }
+            lines::LINE_TOOL => {
+                let mut name = || arguments.next().expect("two names of locales are needed");
+                return line_tool::run(&name(), &name());
+            }
             _ => panic!("no such option: {argument}"),
         }
     }
@@ -351,8 +363,7 @@ fn main() {
     }
     run.table.print_groups();
     if is_whole {
-        run.table
-            .write("cells.tsv")
-            .expect("cells.tsv can be written");
+        run.table.write("cells.tsv")?;
     }
+    Ok(())
 }

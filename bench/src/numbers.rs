@@ -110,6 +110,12 @@ impl Sizes {
         Sizes { digits, signs }
     }
 
+    /// Numbers of these lengths with both signs.
+    pub fn mixed(digits: RangeInclusive<u32>) -> Sizes {
+        let signs = Signs::Mixed;
+        Sizes { digits, signs }
+    }
+
     /// All that are measured for a type: each length alone, for each sign, and mixtures of the
     /// lengths of each group and of all lengths.
     pub fn all<N: Number>() -> Vec<Sizes> {
@@ -151,6 +157,11 @@ impl Sizes {
 
     /// A batch of numbers of these lengths, each length as often as the others.
     pub fn batch<N: Number>(&self) -> Vec<N> {
+        self.numbers(BATCH)
+    }
+
+    /// That many numbers of these lengths, each length as often as the others.
+    pub fn numbers<N: Number>(&self, count: usize) -> Vec<N> {
         let mut random = Random::new();
         let (start, end) = (*self.digits.start(), *self.digits.end());
         let number = |_| {
@@ -163,7 +174,7 @@ impl Sizes {
                 Signs::Mixed => number.negated(),
             }
         };
-        (0..BATCH).map(number).collect()
+        (0..count).map(number).collect()
     }
 }
 
