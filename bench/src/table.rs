@@ -15,6 +15,9 @@ const COLUMNS: [(&str, &[&str]); 7] = [
     ("Sparse", &["Sparse"]),
 ];
 
+/// The operations whose cells are by kind of text, and not by digits and format.
+const BY_KIND: [&str; 2] = ["refuse", "look up"];
+
 /// The rows that are by digits, in order.
 pub const GROUPS: [&str; 7] = [
     "1 to 3 digits, u8",
@@ -148,18 +151,48 @@ impl Table {
         }
     }
 
-    /// Prints the median and the highest ratio to the original of each group, and the cell of the
-    /// highest, then those to Standard, and then those to plain digits.
+    /// Prints the median and the highest ratio to the original of each operation and each group, then
+    /// those to Standard, and then those to plain digits.
     pub fn print_groups(&self) {
-        println!("\nPort / original: median, highest (cell of the highest)");
-        for operation in self.distinct(|_, _| true, |cell| cell.operation) {
+        println!("\nPort / original: median, highest");
+        self.print_operations();
+        let by_digits = |cell: &Cell, _: &Times| !BY_KIND.contains(&cell.operation);
+        for operation in self.distinct(by_digits, |cell| cell.operation) {
             self.print_ratios(operation, Times::ratio);
         }
-        println!("\nPort / port under Standard: median, highest (cell of the highest)");
+        println!("\nPort / port under Standard: median, highest");
         self.print_ratios("used Buffer", Times::ratio_to_standard);
-        println!("\nPort / plain digits: median, highest (cell of the highest)");
+        println!("\nPort / plain digits: median, highest");
         for operation in ["used Buffer", "read"] {
             self.print_ratios(operation, Times::ratio_to_floor);
+        }
+    }
+
+    /// Prints the ratios to the original over all cells of each operation, or of each of its kinds of
+    /// text.
+    fn print_operations(&self) {
+        println!("\n| Operation | Median | Highest | Cell of the highest |\n|---|---|---|---|");
+        for operation in self.distinct(|_, times| times.original.is_some(), |cell| cell.operation) {
+            let is_here = |cell: &Cell, _: &Times| cell.operation == operation;
+            let parts = if BY_KIND.contains(&operation) {
+                self.distinct(is_here, |cell| cell.group)
+            } else {
+                vec![""]
+            };
+            for part in parts {
+                let is_part = |cell: &Cell| {
+                    cell.operation == operation && (part.is_empty() || cell.group == part)
+                };
+                if let Some((median, highest, cell)) = self.summary(is_part, Times::ratio) {
+                    let name = [operation, part].join(" ");
+                    let (median, highest) = (short(median), short(highest));
+                    println!(
+                        "| {} | {median} | {highest} | {} |",
+                        name.trim_end(),
+                        cell.place()
+                    );
+                }
+            }
         }
     }
 
@@ -220,15 +253,25 @@ impl Table {
         let is_here = |cell: &Cell| {
             cell.operation == operation && cell.group == group && formats.contains(&cell.format)
         };
+        self.summary(is_here, ratio)
+            .map_or(String::new(), |(median, highest, _)| {
+                format!("{}, {}", short(median), short(highest))
+            })
+    }
+
+    /// The median and the highest ratio of some cells, and the cell of the highest.
+    fn summary(
+        &self,
+        is_here: impl Fn(&Cell) -> bool,
+        ratio: fn(&Times) -> Option<f64>,
+    ) -> Option<(f64, f64, &Cell)> {
         let here = self.rows.iter().filter(|(cell, _)| is_here(cell));
         let mut ratios =
             Vec::from_iter(here.filter_map(|(cell, times)| Some((ratio(times)?, cell))));
         ratios.sort_by(|a, b| a.0.total_cmp(&b.0));
-        let Some((highest, cell)) = ratios.last() else {
-            return String::new();
-        };
+        let (highest, cell) = ratios.last()?;
         let median = ratios[ratios.len() / 2].0;
-        format!("{median:.2}, {highest:.2} ({})", cell.place())
+        Some((median, *highest, cell))
     }
 
     /// Writes the cells to a file, a line for each, with tabs between the fields.
@@ -257,5 +300,14 @@ impl Table {
             );
         }
         fs::write(path, text)
+    }
+}
+
+/// A ratio with two places after the point, as `.98` or `1.02`.
+fn short(ratio: f64) -> String {
+    let text = format!("{ratio:.2}");
+    match text.strip_prefix('0') {
+        Some(rest) => rest.to_owned(),
+        None => text,
     }
 }
