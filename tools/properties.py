@@ -1,0 +1,140 @@
+#!/usr/bin/env python3
+"""Writes inputs of the program num_format_properties to standard output.
+
+    python3 tools/properties.py > crates/num_format_properties/stdin
+    python3 tools/properties.py --count 1000000 --seed 7 | crates/num_format_properties/out/num_format_properties
+
+The bytes follow from the count and the seed. The first command writes the inputs of the stored run.
+crates/num_format_properties/src/input.rt has the rule by which the program reads them. Most inputs are
+at an edge: limits of the types, powers of ten, texts of no byte and of as many as fit, digits and minus
+signs in separators, names of locales with a change, numerals of other scripts. The others are any bytes.
+"""
+import argparse
+import random
+import sys
+
+from locales import rows
+
+RECORD_LEN = 88
+TYPES = 18
+LONGEST_SIGN = 8
+LONGEST_TEXT = 47
+
+NAMES = sorted(row["name"] for row in rows())
+
+# The bits of the integer types.
+BITS = [8, 16, 32, 64, 128]
+
+# Texts for separators and minus signs.
+SIGNS = [
+    *["", ",", ".", "'", " ", "-", "--", "\u2212", "\u061c-", "\u200e-", "\u202f", "\u2019", "\u066c"],
+    *["0", "7", "-0", "5x", "9-", "x5", "12345678", "abcdefgh", "\0", '"', "\\", "\n", "\x7f"],
+    *["\u00e9\u00e9\u00e9\u00e9", "\U0001f600", "\U0001f600\U0001f600", "\U0002070e", "\u0663", "\u00b2"],
+    *["\u2167", "\u3007", "\U0001d7d9", "\u0f30", "\u4e00", "\u0300", "\ufeff", "1\u202f", "2,"],
+]
+
+# Pieces of texts.
+PIECES = [*SIGNS, "1", "9", "00", "000", "123", "255", "256", "1e3", "+", "one", "en", "_", "-"]
+
+
+def magnitudes():
+    """The absolute values at the limits of the types, and about the powers of ten and of two."""
+    edges = [2**bits for bits in BITS] + [2 ** (bits - 1) for bits in BITS]
+    edges += [10**power for power in range(39)] + [0, 5]
+    return sorted({edge + step for edge in edges for step in (-1, 0, 1) if edge + step >= 0})
+
+
+MAGNITUDES = magnitudes()
+
+
+def number(rng):
+    """An integer, of which a type has the low bits."""
+    if rng.random() < 0.6:
+        return rng.choice(MAGNITUDES) * rng.choice([1, -1])
+    return rng.getrandbits(rng.randint(1, 128)) * rng.choice([1, -1])
+
+
+def sign(rng):
+    """A separator or a minus sign, as bytes that may not be UTF-8."""
+    chance = rng.random()
+    if chance < 0.75:
+        return rng.choice(SIGNS).encode()
+    if chance < 0.9:
+        return "".join(rng.choices(PIECES, k=3)).encode()[:LONGEST_SIGN]
+    return rng.randbytes(rng.randint(0, LONGEST_SIGN))
+
+
+def name(rng):
+    """The name of a locale, or one with a change."""
+    text = rng.choice(NAMES)
+    change = rng.randrange(6)
+    if change == 1:
+        text = text.replace("-", "_")
+    elif change == 2:
+        text = text.replace("-", "_", 1)
+    elif change == 3:
+        text = text.swapcase()
+    elif change == 4:
+        text = text[: rng.randrange(len(text) + 1)]
+    elif change == 5:
+        text += rng.choice(PIECES)
+    return text
+
+
+def text(rng, value, separator, minus_sign):
+    """A text to parse or to find a locale by."""
+    chance = rng.random()
+    if chance < 0.25:
+        return name(rng).encode()
+    if chance < 0.5:
+        grouped = f"{abs(value):,}".encode().replace(b",", separator)
+        return (minus_sign if value < 0 else b"") + grouped
+    if chance < 0.55:
+        return b"0" * rng.randint(0, 20) + str(value).encode()
+    if chance < 0.65:
+        # With the next character, a minus sign.
+        return minus_sign.decode(errors="ignore")[:-1].encode()
+    if chance < 0.9:
+        return "".join(rng.choices(PIECES, k=rng.randint(0, 12))).encode()
+    return rng.randbytes(rng.randint(0, LONGEST_TEXT))
+
+
+def field(content, length):
+    """The bytes of a text: how many they are, these, and zeros up to the length."""
+    content = content[:length]
+    return bytes([len(content)]) + content.ljust(length, b"\0")
+
+
+def record(rng):
+    """One input."""
+    if rng.random() < 0.05:
+        return rng.randbytes(RECORD_LEN)
+    value = number(rng)
+    separator = sign(rng)
+    minus_sign = sign(rng) if rng.random() < 0.7 else b"-"
+    return b"".join(
+        [
+            bytes([rng.randrange(TYPES), rng.randrange(5), rng.randrange(4)]),
+            rng.randrange(len(NAMES)).to_bytes(2, "little"),
+            field(separator, LONGEST_SIGN),
+            field(minus_sign, LONGEST_SIGN),
+            (value % 2**128).to_bytes(16, "little"),
+            # Most texts stand once, some long enough for an error to truncate them.
+            bytes([rng.choice([0, 0, 0, 0, rng.randrange(8)])]),
+            field(text(rng, value, separator, minus_sign), LONGEST_TEXT),
+        ]
+    )
+
+
+def main():
+    parser = argparse.ArgumentParser(description=__doc__.splitlines()[0])
+    parser.add_argument("--count", type=int, default=3000, help="how many inputs")
+    parser.add_argument("--seed", type=int, default=1, help="which inputs")
+    arguments = parser.parse_args()
+    rng = random.Random(arguments.seed)
+    for _ in range(arguments.count):
+        sys.stdout.buffer.write(record(rng))
+
+
+if __name__ == "__main__":
+    main()
