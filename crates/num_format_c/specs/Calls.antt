@@ -1,5 +1,5 @@
 -- What the calls of C return and write.
-use Rattle.std.specs.Prelude.{◌≡◌, ℕ, ◌+◌, ◌*◌, ◌^◌, ◌<◌, ◌≤◌, ◌⊎◌, ◌==◌, ℤ, pos, negsuc, List, ◌++◌, length, drop, Option, Some, None, Result, Ok, Err, IfOk, IfErr, IfSome, MatchOption, MatchResult, IsUtf8, if◌then◌else◌}
+use Rattle.std.specs.Prelude.{◌≡◌, ℕ, ◌+◌, ◌*◌, ◌^◌, ◌<◌, ◌≤◌, ◌⊎◌, ◌==◌, ℤ, pos, negsuc, List, ◌++◌, length, drop, Option, Some, None, Result, Ok, Err, IfSome, MatchResult, IsUtf8, if◌then◌else◌}
 use Rattle.std.specs.Int.{cast_signed, w128}
 use Rattle.num_format.specs.Constants.{LEN}
 use Rattle.num_format.specs.Data.{locale_data}

@@ -1,4 +1,4 @@
-use Rattle.std.proofs.Common.{rules, refl, pos}
+use Rattle.std.proofs.Common.{rules, refl}
 use Rattle.num_format.specs.Kind.{kind_of, I128}
 use Rattle.num_format_c.specs.Calls.{signed_wide}
 use Rattle.num_format_c.proofs.CallLemmas.{kept}

@@ -1,4 +1,4 @@
-use Rattle.std.proofs.Common.{rules, pos}
+use Rattle.std.proofs.Common.{rules}
 use Rattle.num_format_c.specs.Calls.{signed_kind}
 use Rattle.num_format_c.proofs.CallLemmas.{stored_any, kept_any}
 use Rattle.num_format_c.proofs.num_format_parse_i64.Goals as goal
