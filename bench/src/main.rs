@@ -5,6 +5,7 @@
 //! two sides differ ends the run. The groupings that the original does not have are measured beside
 //! Standard.
 
+mod c;
 mod floor;
 mod groupings;
 mod line_tool;
@@ -26,6 +27,18 @@ use texts::Texts;
 
 /// The formats, in the order of their codes.
 const FORMATS: [&str; 6] = ["en", "en_IN", "fr", "en_US_POSIX", "constants", "built"];
+
+/// The codes of the formats that C has too.
+const C_FORMATS: [u8; 5] = [0, 1, 2, 3, BUILT];
+
+/// The code of the built format.
+const BUILT: u8 = 5;
+
+/// Printing through C, by the way that it is compared with, in the order of the ways' codes.
+pub const C_PRINTING: [&str; 2] = ["through C, used Buffer", "through C, new Buffer"];
+
+/// Reading through C, which is compared with reading.
+pub const C_READING: &str = "through C, read";
 
 /// The operation that groupings are compared by.
 const USED_BUFFER: &str = "used Buffer";
@@ -115,6 +128,19 @@ impl Run {
         });
     }
 
+    /// Measures calls through C.
+    fn measure_c(&mut self) {
+        let names = C_FORMATS.map(|format| FORMATS[format as usize]);
+        for (way, operation) in C_PRINTING.into_iter().enumerate() {
+            self.measure_sizes::<i64>(operation, &names, |name, sizes, place| {
+                measure_printing_through_c(name, &sizes.batch(), way as u8, C_FORMATS[place])
+            });
+        }
+        self.measure_sizes::<i64>(C_READING, &names, |name, sizes, place| {
+            measure_reading_through_c(name, &sizes.batch(), C_FORMATS[place])
+        });
+    }
+
     /// Measures an operation at all sizes of a type under formats, which are given by their names,
     /// and to `measure` by their places.
     fn measure_sizes<N: Number>(
@@ -200,7 +226,7 @@ fn measure_printing<N: Number>(name: &str, numbers: &[N], way: u8, format: u8) -
     Times {
         port,
         original: Some(original),
-        standard: None,
+        reference: None,
         floor: Some(floor),
     }
 }
@@ -225,7 +251,65 @@ fn measure_grouping<N: Number>(name: &str, numbers: &[N], grouping: &Grouping) -
     Times {
         port,
         original: None,
-        standard: Some(standard),
+        reference: Some(standard),
+        floor: None,
+    }
+}
+
+/// The format of a code, as C has it.
+fn c_format(format: u8) -> c::Format {
+    match format {
+        BUILT => c::Format::built(),
+        _ => c::Format::of_locale(FORMATS[format as usize]),
+    }
+}
+
+/// Measures printing through C beside a way of printing.
+fn measure_printing_through_c(name: &str, numbers: &[i64], way: u8, format: u8) -> Times {
+    let held = c_format(format);
+    let texts = rattle::texts(numbers, way, format);
+    assert_same_texts(name, &c::texts(numbers, &held), &texts);
+    let (mut through_c, mut own) = (0, 0);
+    let [port, reference] = best(
+        numbers.len(),
+        [
+            &mut || through_c = c::print(black_box(numbers), black_box(&held)),
+            &mut || own = rattle::print(black_box(numbers), way, black_box(format)),
+        ],
+    );
+    assert_eq!(through_c, own, "{name}");
+    Times {
+        port,
+        original: None,
+        reference: Some(reference),
+        floor: None,
+    }
+}
+
+/// Measures reading through C beside the port's own reading.
+fn measure_reading_through_c(name: &str, numbers: &[i64], format: u8) -> Times {
+    let held = c_format(format);
+    let Texts { text, lengths } = Texts::formatted(numbers, format);
+    let mut through_c = vec![0; numbers.len()];
+    let mut own = through_c.clone();
+    let [port, reference] = best(
+        numbers.len(),
+        [
+            &mut || {
+                let accepted = c::read(black_box(&text), &lengths, &held, &mut through_c);
+                assert_eq!(accepted, BATCH as u64, "{name}");
+            },
+            &mut || {
+                let accepted = rattle::read(black_box(&text), &lengths, format, &mut own);
+                assert_eq!(accepted, BATCH as u64, "{name}");
+            },
+        ],
+    );
+    assert!(through_c == numbers && own == numbers, "{name}");
+    Times {
+        port,
+        original: None,
+        reference: Some(reference),
         floor: None,
     }
 }
@@ -262,7 +346,7 @@ fn measure_reading<N: Number>(name: &str, numbers: &[N], format: u8) -> Times {
     Times {
         port,
         original: Some(original),
-        standard: None,
+        reference: None,
         floor: Some(floor),
     }
 }
@@ -289,7 +373,7 @@ fn measure_refusing<N: Number>(name: &str, texts: &Texts) -> Times {
     Times {
         port,
         original: Some(original),
-        standard: None,
+        reference: None,
         floor: None,
     }
 }
@@ -314,7 +398,7 @@ fn measure_names(name: &str, texts: &Texts) -> Times {
     Times {
         port,
         original: Some(original),
-        standard: None,
+        reference: None,
         floor: None,
     }
 }
@@ -355,6 +439,7 @@ fn main() -> Result<(), Box<dyn Error>> {
         run.measure_groupings::<i64>();
         run.measure_groupings::<u64>();
         run.measure_groupings::<u128>();
+        run.measure_c();
         run.measure_names();
     }
     assert!(!run.table.is_empty(), "no cell has such a name");

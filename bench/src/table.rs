@@ -1,5 +1,6 @@
 //! What was measured: a line for each cell, and the table by operation, digits and format.
 
+use crate::{C_PRINTING, C_READING};
 use std::collections::HashMap;
 use std::fs;
 use std::io;
@@ -35,8 +36,9 @@ pub struct Times {
     pub port: f64,
     /// The time of the original, where it has such a thing.
     pub original: Option<f64>,
-    /// The time of the port under Standard, where another grouping is compared with it.
-    pub standard: Option<f64>,
+    /// The time of the port that a cell is compared with: under Standard that of another grouping, by
+    /// its own call that of a call through C.
+    pub reference: Option<f64>,
     /// The time that plain digits take, where there is such a thing.
     pub floor: Option<f64>,
 }
@@ -47,9 +49,9 @@ impl Times {
         Some(self.port / self.original?)
     }
 
-    /// The time of the port over that under Standard.
-    fn ratio_to_standard(&self) -> Option<f64> {
-        Some(self.port / self.standard?)
+    /// The time of the port over that which it is compared with.
+    fn ratio_to_reference(&self) -> Option<f64> {
+        Some(self.port / self.reference?)
     }
 
     /// The time of the port over that of plain digits.
@@ -63,7 +65,7 @@ impl Times {
         Times {
             port: self.port.min(other.port),
             original: lower(self.original, other.original),
-            standard: lower(self.standard, other.standard),
+            reference: lower(self.reference, other.reference),
             floor: lower(self.floor, other.floor),
         }
     }
@@ -127,7 +129,7 @@ impl Table {
     /// Prints a line for each cell.
     pub fn print_cells(&self) {
         println!(
-            "| Operation | Format | Type | Digits | Port, ns | Original, ns | Standard, ns | Plain digits, ns | Port / original | Port / Standard | Port / plain |"
+            "| Operation | Format | Type | Digits | Port, ns | Original, ns | Reference, ns | Plain digits, ns | Port / original | Port / reference | Port / plain |"
         );
         println!("|---|---|---|---|---|---|---|---|---|---|---|");
         for (cell, times) in &self.rows {
@@ -142,17 +144,17 @@ impl Table {
                 cell.sizes,
                 shown(Some(times.port), 1),
                 shown(times.original, 1),
-                shown(times.standard, 1),
+                shown(times.reference, 1),
                 shown(times.floor, 1),
                 shown(times.ratio(), 2),
-                shown(times.ratio_to_standard(), 2),
+                shown(times.ratio_to_reference(), 2),
                 shown(times.ratio_to_floor(), 2),
             );
         }
     }
 
     /// Prints the median and the highest ratio to the original of each operation and each group, then
-    /// those to Standard, and then those to plain digits.
+    /// those to the port itself, and then those to plain digits.
     pub fn print_groups(&self) {
         println!("\nPort / original: median, highest");
         self.print_operations();
@@ -161,7 +163,11 @@ impl Table {
             self.print_ratios(operation, Times::ratio);
         }
         println!("\nPort / port under Standard: median, highest");
-        self.print_ratios("used Buffer", Times::ratio_to_standard);
+        self.print_ratios("used Buffer", Times::ratio_to_reference);
+        println!("\nPort through C / port: median, highest");
+        for operation in C_PRINTING.into_iter().chain([C_READING]) {
+            self.print_ratios(operation, Times::ratio_to_reference);
+        }
         println!("\nPort / plain digits: median, highest");
         for operation in ["used Buffer", "read"] {
             self.print_ratios(operation, Times::ratio_to_floor);
@@ -277,16 +283,16 @@ impl Table {
     /// Writes the cells to a file, a line for each, with tabs between the fields.
     pub fn write(&self, path: &str) -> io::Result<()> {
         let mut text = String::from(
-            "operation\tformat\ttype\tdigits\tgroup\tport\toriginal\tstandard\tplain\n",
+            "operation\tformat\ttype\tdigits\tgroup\tport\toriginal\treference\tplain\n",
         );
         for (cell, times) in &self.rows {
             let Times {
                 port,
                 original,
-                standard,
+                reference,
                 floor,
             } = times;
-            let [original, standard, floor] = [original, standard, floor]
+            let [original, reference, floor] = [original, reference, floor]
                 .map(|time| time.map_or(String::new(), |time| format!("{time:.2}")));
             let Cell {
                 operation,
@@ -296,7 +302,7 @@ impl Table {
                 group,
             } = cell;
             text += &format!(
-                "{operation}\t{format}\t{type_name}\t{sizes}\t{group}\t{port:.2}\t{original}\t{standard}\t{floor}\n"
+                "{operation}\t{format}\t{type_name}\t{sizes}\t{group}\t{port:.2}\t{original}\t{reference}\t{floor}\n"
             );
         }
         fs::write(path, text)
