@@ -1,8 +1,9 @@
-//! Writers that fail, and memory that is refused: what stands after an error.
+//! Writers and readers that fail, and memory that is refused: what stands after an error.
 //!
 //! [`Scripted`] is a writer that does what a list of steps says. Its contract tells the bytes that it
 //! received, the space that is left, and which step each call takes, so which writes fail or write
-//! nothing.
+//! nothing. [`ScriptedReader`] is such a reader: its contract tells the bytes that are left, and how many
+//! each call gives.
 //!
 //! std's contract of `write` does not say when a write fails. So no contract of code that is generic
 //! over a writer can say that it fails only after such a write, and these tests show it:
@@ -11,6 +12,7 @@
 //! |---|---|
 //! | `bytes` | numbers into writers of bytes that make short writes, fail, or write nothing |
 //! | `text` | numbers into writers of text that fail |
+//! | `lines` | lines from readers that give them in pieces, are interrupted or fail |
 //! | `program` | commands of `regroup` whose outputs fail at each of their writes |
 //! | `memory` | calls that take memory, where it is refused |
 #![tactic(auto)]
@@ -18,11 +20,15 @@
 #[cfg(test)]
 mod bytes;
 #[cfg(test)]
+mod lines;
+#[cfg(test)]
 mod memory;
 #[cfg(test)]
 mod program;
 mod scripted;
+mod scripted_reader;
 #[cfg(test)]
 mod text;
 
 pub use scripted::{Scripted, Step};
+pub use scripted_reader::{ReadStep, ScriptedReader};

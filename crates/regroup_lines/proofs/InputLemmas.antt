@@ -1,0 +1,175 @@
+-- The bytes that an input holds, read after read.
+use Rattle.std.proofs.Common.{◌≡◌, ℕ, ◌+◌, ◌-◌, ◌<◌, ◌≤◌, ◌==◌, true, false, Bool, List, [], ◌∷◌, ◌++◌, length, take, drop, get_or, slice_range, Option, Some, None, refl, sym, ap, subst, ◌∙◌, arith, append_assoc, append-nil, take-append-drop}
+use Rattle.std.specs.Prelude.{All, IfOk, MatchOption, Result, Ok, Err, is_some, not}
+use Rattle.std.specs.Io.KnownBytes.{Consumes, IsAtEnd, Keeps}
+use Rattle.std.proofs.KnownBytes.{Consumes-kept, Consumes-nil, Consumes-trans}
+use Rattle.std.proofs.lemmas.Bool.{false_from_ne_true, eqb-true}
+use Rattle.std.proofs.lemmas.List.{drop-append-le, drop-drop, drop_all, length-append, drop-take, drop_at, drop_more, get_or-drop, get_or-take, length-drop, length-take, length-take-le, take-append-le, take_all, take_at, take_rest}
+use Rattle.std.proofs.lemmas.List.Elements.{All-append, All-cons, All-from_get_or, All-nil}
+use borrow.Rule.Slice.PartMut.{put_mid, post_of}
+use lib.Seq.{take-add}
+use Rattle.memchr.specs.Find.{IsFirstByte, is_byte}
+use Rattle.regroup_lines.specs.Input.{EndsOrGoesOn, FindsNewline, FindsPiece, HasNoNewline, Reads}
+use Rattle.regroup_lines.specs.declared.input.Input.{Input}
+use Rattle.regroup_lines.specs.declared.input.Piece.{Piece}
+use Rattle.regroup_lines.specs.declared.input.Piece.TheVariants.{Line, Rest, TooLong}
+
+-- a range of an array without its first n bytes
+pub range-later : (xs : List ℕ) (start end n : ℕ) → start + n ≤ end → slice_range xs (start + n) end ≡ drop n (slice_range xs start end)
+range-later xs start end n inside =
+    let parts : end - start ≡ n + (end - (start + n)) = omega arith in
+    sym (ap (λ j. drop n (take j (drop start xs))) parts ∙ drop-take n _ (drop start xs) ∙ ap (take (end - (start + n))) (drop-drop n start xs))
+
+-- a range of an array, and n bytes that were written after its end
+pub range-more : (xs ys : List ℕ) (start end k n : ℕ) → start ≤ end → end ≤ length xs → n ≤ length ys →
+    slice_range (put_mid end k xs ys) start (end + n) ≡ slice_range xs start end ++ take n ys
+range-more xs ys start end k n ordered within fits =
+    let front = length-take-le end xs within in
+    let range = drop start (take end xs) in
+    let len : length range ≡ end - start = omega (arith, length-drop start (take end xs)) in
+    let sum : end + n - start ≡ (end - start) + n = omega arith in
+    let parts : end ≡ start + (end - start) = omega arith in
+    let same : range ≡ take (end - start) (drop start xs) = ap (λ j. drop start (take j xs)) parts ∙ drop-take start (end - start) xs in
+    let after = ys ++ post_of end k xs in
+    ap (take (end + n - start)) (drop-append-le start (take end xs) after (omega arith))
+    ∙ ap (λ j. take j (range ++ after)) sum ∙ take-add (end - start) n (range ++ after)
+    ∙ (rw (take_at range after _ len, drop_at range after _ len, take-append-le n ys (post_of end k xs) fits, same) refl)
+
+-- and where nothing was written
+pub range-same : (xs ys : List ℕ) (start end k : ℕ) → start ≤ end → end ≤ length xs → slice_range (put_mid end k xs ys) start end ≡ slice_range xs start end
+range-same xs ys start end k ordered within =
+    let none : end ≡ end + 0 = omega arith in
+    ap (slice_range (put_mid end k xs ys) start) none ∙ range-more xs ys start end k 0 ordered within (omega arith) ∙ append-nil _
+
+-- nothing was read yet
+pub Reads-none : (bytes : List ℕ) (a : Option (List ℕ)) → Reads bytes bytes a a
+Reads-none bytes a = record { given = []; joined = append-nil bytes; consumed = Consumes-nil a }
+
+-- the bytes of two reads
+pub Reads-trans : (xs ys zs : List ℕ) (a b c : Option (List ℕ)) → Reads xs ys a b → Reads ys zs b c → Reads xs zs a c
+Reads-trans xs ys zs a b c first second = record {
+  given = first.given ++ second.given;
+  joined = sym (append_assoc xs first.given second.given) ∙ ap (λ l. l ++ second.given) first.joined ∙ second.joined;
+  consumed = Consumes-trans a b c first.given second.given first.consumed second.consumed;
+}
+
+-- a read that gives these bytes
+pub Reads-more : (xs ys more : List ℕ) (a b c : Option (List ℕ)) → Reads xs ys a b → Consumes b c more → Reads xs (ys ++ more) a c
+Reads-more xs ys more a b c first second = Reads-trans xs ys (ys ++ more) a b c first (record { given = more; joined = refl; consumed = second })
+
+-- a read that fails
+pub Reads-kept : (xs ys : List ℕ) (a b c : Option (List ℕ)) → Reads xs ys a b → Keeps b c → Reads xs ys a c
+Reads-kept xs ys a b c first kept = record { given = first.given; joined = first.joined; consumed = Consumes-kept a b c first.given first.consumed kept }
+
+-- the same bytes in other words
+pub Reads-same : (xs ys zs : List ℕ) (a b : Option (List ℕ)) → Reads xs ys a b → zs ≡ ys → Reads xs zs a b
+Reads-same xs ys zs a b first same = subst (λ l. Reads xs l a b) (sym same) first
+
+-- a search that finds nothing
+newlines-none : (bytes : List ℕ) → IsFirstByte (is_byte 10) bytes None → HasNoNewline bytes
+newlines-none bytes nowhere = All-from_get_or (λ b. (b == 10) ≡ false) bytes 0 (λ k within. false_from_ne_true _ (nowhere k (omega arith) within))
+
+-- bytes without a newline, and a search after them that finds nothing
+pub newlines-none_after : (bytes : List ℕ) (n : ℕ) → HasNoNewline (take n bytes) → IsFirstByte (is_byte 10) (take (length bytes - n) (drop n bytes)) None → HasNoNewline bytes
+newlines-none_after bytes n before nowhere =
+    let after : IsFirstByte (is_byte 10) (drop n bytes) None = subst (λ l. IsFirstByte (is_byte 10) l None) (take_rest bytes n) nowhere in
+    subst HasNoNewline (take-append-drop n bytes) (All-append (λ b. (b == 10) ≡ false) (take n bytes) (drop n bytes) before (newlines-none (drop n bytes) after))
+
+-- no newline stands before the first one
+newlines-before : (bytes : List ℕ) (k : ℕ) → IsFirstByte (is_byte 10) bytes (Some k) → HasNoNewline (take k bytes)
+newlines-before bytes k found =
+    All-from_get_or (λ b. (b == 10) ≡ false) (take k bytes) 0 (λ j within.
+    let low : j < k = omega (arith, length-take k bytes) in
+    let same : get_or (take k bytes) j 0 ≡ get_or bytes j 0 = get_or-take k bytes j 0 low in
+    subst (λ b. (b == 10) ≡ false) (sym same) (false_from_ne_true _ (found.0.before j (omega arith) low)))
+
+-- bytes without a newline, and a search after them that finds one
+pub newlines-first_after : (bytes : List ℕ) (n k : ℕ) → HasNoNewline (take n bytes) → n ≤ length bytes →
+    IsFirstByte (is_byte 10) (take (length bytes - n) (drop n bytes)) (Some k) → FindsNewline bytes (Some (n + k))
+newlines-first_after bytes n k before within found =
+    let after : IsFirstByte (is_byte 10) (drop n bytes) (Some k) = subst (λ l. IsFirstByte (is_byte 10) l (Some k)) (take_rest bytes n) found in
+    let high : k < length (drop n bytes) = after.0.high in
+    let inside : n + k < length bytes = omega (arith, length-drop n bytes) in
+    let byte : get_or bytes (n + k) 0 ≡ 10 = sym (get_or-drop n bytes k 0) ∙ eqb-true _ _ after.1 in (
+      inside,
+      sym (take-append-drop (n + k) bytes) ∙ ap (λ l. take (n + k) bytes ++ l) (drop_more bytes (n + k) 0 inside ∙ ap (λ b. b ∷ drop (n + k + 1) bytes) byte),
+      subst HasNoNewline (sym (take-add n k bytes)) (All-append (λ b. (b == 10) ≡ false) (take n bytes) (take k (drop n bytes)) before (newlines-before (drop n bytes) k after)),
+    )
+
+-- after a read, the bytes that were held before it are those that were searched
+pub newlines-searched : (xs ys : List ℕ) (a b : Option (List ℕ)) (n : ℕ) → Reads xs ys a b → HasNoNewline xs → n ≡ length xs → HasNoNewline (take n ys)
+newlines-searched xs ys a b n read none searched =
+    subst HasNoNewline (sym (ap (take n) (sym read.joined) ∙ take_at xs read.given n (sym searched))) none
+
+-- whether a byte follows
+pub ends_or_goes_on : (bytes : List ℕ) (a b : Option (List ℕ)) (read : Option ℕ) (end : Bool) → bytes ≡ [] → is_some read ≡ not end →
+    MatchOption read (Consumes a b [] × IsAtEnd b) (λ byte. Consumes a b (byte ∷ [])) → EndsOrGoesOn bytes a b end
+ends_or_goes_on bytes a b None true empty is read = (record { given = []; joined = append-nil bytes ∙ empty; consumed = read.0 }, read.1)
+ends_or_goes_on bytes a b None false empty is read = absurd (cc)
+ends_or_goes_on bytes a b (Some byte) true empty is read = absurd (cc)
+ends_or_goes_on bytes a b (Some byte) false empty is read =
+    (byte ∷ [], record { given = byte ∷ []; joined = ap (λ l. l ++ byte ∷ []) empty; consumed = read }, omega arith)
+
+-- the line before the first newline
+pub line_found : (before bytes text left : List ℕ) (a b : Option (List ℕ)) (n : ℕ) → Reads before bytes a b → FindsNewline bytes (Some n) → text ≡ take n bytes →
+    left ≡ drop (n + 1) bytes → Reads before (text ++ 10 ∷ left) a b × HasNoNewline text
+line_found before bytes text left a b n read found is_text is_left = (
+  Reads-same before bytes (text ++ 10 ∷ left) a b read (rw (is_text, is_left) (sym found.1)),
+  subst HasNoNewline (sym is_text) found.2,
+)
+
+-- bytes without a newline, and one after them that is none
+pub newlines-none_push : (bytes : List ℕ) (byte : ℕ) → HasNoNewline bytes → (byte == 10) ≡ false → HasNoNewline (bytes ++ byte ∷ [])
+newlines-none_push bytes byte none other = All-append (λ b. (b == 10) ≡ false) bytes (byte ∷ []) none (All-cons (λ b. (b == 10) ≡ false) byte [] other (All-nil (λ b. (b == 10) ≡ false)))
+
+-- a read that gives nothing
+pub newlines-unread : (xs ys : List ℕ) (a b : Option (List ℕ)) → Reads xs ys a b → HasNoNewline xs → length ys ≤ length xs → HasNoNewline ys
+newlines-unread xs ys a b read none same = subst HasNoNewline (take_all (length xs) ys same) (newlines-searched xs ys a b (length xs) read none refl)
+
+-- the same of the slice that is searched, and the result of the search
+pub searched_none : (bytes shown : List ℕ) (n : ℕ) (r : Option ℕ) → shown ≡ bytes → HasNoNewline (take n bytes) →
+    IsFirstByte (is_byte 10) (take (length shown - n) (drop n shown)) r → r ≡ None → HasNoNewline bytes
+searched_none bytes shown n r same before search none =
+    newlines-none_after bytes n before (subst (λ l. IsFirstByte (is_byte 10) (take (length l - n) (drop n l)) None) same
+    (subst (IsFirstByte (is_byte 10) (take (length shown - n) (drop n shown))) none search))
+
+pub searched_first : (bytes shown : List ℕ) (n k : ℕ) (r : Option ℕ) → shown ≡ bytes → HasNoNewline (take n bytes) → n ≤ length bytes →
+    IsFirstByte (is_byte 10) (take (length shown - n) (drop n shown)) r → r ≡ Some k → FindsNewline bytes (Some (n + k))
+searched_first bytes shown n k r same before within search first =
+    newlines-first_after bytes n k before within (subst (λ l. IsFirstByte (is_byte 10) (take (length l - n) (drop n l)) (Some k)) same
+    (subst (IsFirstByte (is_byte 10) (take (length shown - n) (drop n shown))) first search))
+
+-- the first piece of bytes that were held is that of the bytes before them and those of the reads
+pub FindsPiece-after : (before bytes : List ℕ) (input : Input) (a b c : Option (List ℕ)) (piece : Piece) → Reads before bytes a b →
+    FindsPiece bytes input b c piece → FindsPiece before input a c piece
+FindsPiece-after before bytes input a b c (Line place) read found = (Reads-trans before bytes _ a b c read found.0, found.1, found.2)
+FindsPiece-after before bytes input a b c (Rest place) read found = (Reads-trans before bytes _ a b c read found.0, found.1, found.2, found.3)
+FindsPiece-after before bytes input a b c TooLong read found = (found.0, Reads-trans before bytes _ a b c read found.1, found.2, found.3)
+
+-- also where it is the result of a call
+pub FindsPiece-after_call : {E : Type 0} (before bytes : List ℕ) (input : Input) (a b c : Option (List ℕ)) (r : Result Piece E) → Reads before bytes a b →
+    IfOk r (FindsPiece bytes input b c) → IfOk r (FindsPiece before input a c)
+FindsPiece-after_call before bytes input a b c (Ok piece) read found = FindsPiece-after before bytes input a b c piece read found
+FindsPiece-after_call before bytes input a b c (Err e) read found = tt
+
+-- bytes that fill the array, and the next byte
+module _ (bytes : List ℕ) (a b : Option (List ℕ)) (read : Option ℕ) (full : length bytes ≡ 4096) (none : HasNoNewline bytes)
+    (next : MatchOption read (Consumes a b [] × IsAtEnd b) (λ byte. Consumes a b (byte ∷ []))) where
+  pub full_rest : (text : List ℕ) → read ≡ None → text ≡ take 4096 bytes → Reads bytes text a b × HasNoNewline text × (length text ≤ 4096) × IsAtEnd b
+  full_rest text is taken =
+      let end = subst (λ r. MatchOption r (Consumes a b [] × IsAtEnd b) (λ byte. Consumes a b (byte ∷ []))) is next in
+      let same : text ≡ bytes = taken ∙ take_all 4096 bytes (omega arith) in
+      rw same (record { given = []; joined = append-nil bytes; consumed = end.0 }, none, omega arith, end.1)
+
+  pub full_line : (text left : List ℕ) (byte : ℕ) → read ≡ Some byte → byte ≡ 10 → text ≡ take 4096 bytes → left ≡ drop 4096 bytes →
+      Reads bytes (text ++ 10 ∷ left) a b × HasNoNewline text × (length text ≤ 4096)
+  full_line text left byte is newline taken rest =
+      let given = subst (λ r. MatchOption r (Consumes a b [] × IsAtEnd b) (λ byte. Consumes a b (byte ∷ []))) (is ∙ ap Some newline) next in
+      let same : text ≡ bytes = taken ∙ take_all 4096 bytes (omega arith) in
+      let gone : left ≡ [] = rest ∙ drop_all 4096 bytes (omega arith) in
+      rw (same, gone) (record { given = 10 ∷ []; joined = refl; consumed = given }, none, omega arith)
+
+  pub full_too_long : (byte : ℕ) → read ≡ Some byte → (byte == 10) ≡ false → (text : List ℕ) × Reads bytes text a b × HasNoNewline text × (4096 < length text)
+  full_too_long byte is other =
+      let given = subst (λ r. MatchOption r (Consumes a b [] × IsAtEnd b) (λ byte. Consumes a b (byte ∷ []))) is next in
+      (bytes ++ byte ∷ [], record { given = byte ∷ []; joined = refl; consumed = given }, newlines-none_push bytes byte none other, omega (arith, length-append bytes (byte ∷ [])))

@@ -1,0 +1,6 @@
+-- The proofs of this crate.
+mod Examples
+mod InputLemmas
+mod LineLemmas
+mod ParsingLemmas
+mod TextLemmas

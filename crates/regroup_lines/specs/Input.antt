@@ -1,0 +1,50 @@
+-- What is read from the input, piece by piece.
+use Rattle.std.specs.Prelude.{◌≡◌, ◌≢◌, ℕ, ◌+◌, ◌<◌, ◌≤◌, ◌==◌, Bool, true, false, All, List, [], ◌∷◌, ◌++◌, length, take, drop, slice_range, Option, None, Some, ⊤}
+use Rattle.std.specs.Io.KnownBytes.{Consumes, IsAtEnd}
+use Rattle.std.specs.declared.ops.Range.{Range}
+use Rattle.regroup_lines.specs.declared.input.Input.{Input}
+use Rattle.regroup_lines.specs.declared.input.Piece.{Piece}
+use Rattle.regroup_lines.specs.declared.input.Piece.TheVariants.{Line, Rest, TooLong}
+
+-- the bytes that are held
+abbrev pub held : Input → List ℕ
+held input = slice_range input.array input.start input.end
+
+-- the bytes at a place of the array
+abbrev pub bytes_at : Input → Range ℕ → List ℕ
+bytes_at input place = slice_range input.array place.start place.end
+
+-- no byte is a newline
+abbrev pub HasNoNewline : List ℕ → Type 0
+HasNoNewline bytes = All (λ b. (b == 10) ≡ false) bytes
+
+-- how many bytes stand before the first newline, or nothing where there is none
+abbrev pub FindsNewline : List ℕ → Option ℕ → Type 0
+FindsNewline bytes None = HasNoNewline bytes
+FindsNewline bytes (Some len) = (len < length bytes) × (bytes ≡ take len bytes ++ 10 ∷ drop (len + 1) bytes) × HasNoNewline (take len bytes)
+
+-- the bytes that were held, and those that the reader gave, are these
+pub record Reads (held read : List ℕ) (old new : Option (List ℕ)) : Type 0 where
+  pub given : List ℕ
+  pub joined : held ++ given ≡ read
+  pub consumed : Consumes old new given
+
+-- the piece is the first of the bytes that were held and those that the reader gave
+abbrev pub FindsPiece : List ℕ → Input → Option (List ℕ) → Option (List ℕ) → Piece → Type 0
+FindsPiece before input old new (Line place) =
+    Reads before (bytes_at input place ++ 10 ∷ held input) old new × HasNoNewline (bytes_at input place) × (length (bytes_at input place) ≤ 4096)
+FindsPiece before input old new (Rest place) =
+    Reads before (bytes_at input place) old new × HasNoNewline (bytes_at input place) × (length (bytes_at input place) ≤ 4096) × IsAtEnd new
+FindsPiece before input old new TooLong =
+    (text : List ℕ) × Reads before text old new × HasNoNewline text × (4096 < length text)
+
+-- the place of the piece is in the array
+abbrev pub IsInArray : Piece → Type 0
+IsInArray (Line place) = (place.start ≤ place.end) × (place.end ≤ 4096)
+IsInArray (Rest place) = (place.start ≤ place.end) × (place.end ≤ 4096)
+IsInArray TooLong = ⊤
+
+-- no byte is held and the reader ends, or there is a byte
+abbrev pub EndsOrGoesOn : List ℕ → Option (List ℕ) → Option (List ℕ) → Bool → Type 0
+EndsOrGoesOn held old new true = Reads held [] old new × IsAtEnd new
+EndsOrGoesOn held old new false = (text : List ℕ) × Reads held text old new × (0 < length text)

@@ -1,0 +1,6 @@
+-- The definitions that the contracts of this crate use.
+pub mod Fault
+pub mod Input
+pub mod Lines
+pub mod Parsing
+pub mod Sending

@@ -1,0 +1,90 @@
+-- What regrouping the lines of an input writes and returns.
+use Rattle.std.specs.Prelude.{ℕ, ◌+◌, ◌==◌, nat_lt, ℤ, not, if◌then◌else◌, List, [], ◌∷◌, ◌++◌, length, Option, None, Some, Result, Ok, Err}
+use Rattle.std.specs.List.{slice_split}
+use Rattle.std.specs.Result.{result_map_both}
+use Rattle.std.specs.Str.{is_utf8}
+use Rattle.num_format.specs.Format.{FormatData}
+use Rattle.num_format.specs.Text.{text_of}
+use Rattle.regroup_lines.specs.Fault.{Fault}
+use Rattle.regroup_lines.specs.Fault.Fault.{TooMany, TooLong, Read, NotText, Line}
+use Rattle.regroup_lines.specs.Parsing.{number_read}
+
+-- how a reader stopped: at its end, by a failed read, or not at all, where no more was read
+pub data Stop : Type 0 where
+  Ended : Stop
+  Failed : Stop
+  Unread : Stop
+
+-- the bytes that are written, and what is returned, or nothing where that depends on bytes that were not read
+pub record Regrouped : Type 0 where
+  pub written : List ℕ
+  pub returned : Option (Result ℕ Fault)
+
+-- a text and a newline
+abbrev pub line : List ℕ → List ℕ
+line text = text ++ 10 ∷ []
+
+-- nothing more is written
+abbrev pub returning : Option (Result ℕ Fault) → Regrouped
+returning returned = record { written = []; returned = returned }
+
+-- the bytes, and after them what is written
+abbrev pub writing : List ℕ → Regrouped → Regrouped
+writing bytes rest = record { written = bytes ++ rest.written; returned = rest.returned }
+
+-- the line of a number, and after it what is written; a fault is returned
+abbrev pub writing_number : FormatData → Result ℤ Fault → Regrouped → Regrouped
+writing_number to (Ok number) rest = writing (line (text_of to number)) rest
+writing_number to (Err fault) rest = returning (Some (Err fault))
+
+-- the fault of so many bytes in a line of this number: it is one line too many, or too long
+abbrev pub size_fault : ℕ → List ℕ → Option Fault
+size_fault number bytes =
+    if nat_lt 1000000 number then Some TooMany else
+    if nat_lt 4096 (length bytes) then Some (TooLong number) else None
+
+-- the number that the text of a line parses as, or the fault of the text
+abbrev pub number_in_text : FormatData → ℕ → List ℕ → Result ℤ Fault
+number_in_text from number text =
+    if is_utf8 text then result_map_both (λ value. value) (Line number) (number_read from text) else Err (NotText number)
+
+-- the fault, or what there is without one
+abbrev pub unless_fault : Option Fault → Result ℤ Fault → Result ℤ Fault
+unless_fault (Some fault) other = Err fault
+unless_fault None other = other
+
+-- the number in the line of this number, or the line's first fault
+abbrev pub number_in_line : FormatData → ℕ → List ℕ → Result ℤ Fault
+number_in_line from number text = unless_fault (size_fault number text) (number_in_text from number text)
+
+-- the fault where the first is one, or else what the reader's stop returns: the fault of a failed read
+abbrev pub returned_unfinished : Option Fault → Stop → Option (Result ℕ Fault)
+returned_unfinished (Some fault) stop = Some (Err fault)
+returned_unfinished None Failed = Some (Err Read)
+returned_unfinished None _ = None
+
+-- the fault of bytes that no newline ends
+abbrev pub unfinished_fault : ℕ → List ℕ → Option Fault
+unfinished_fault number bytes = if length bytes == 0 then None else size_fault number bytes
+
+-- what stands after the last newline, with so many lines before it: at the end it is a line unless it is empty
+abbrev pub regrouped_rest : FormatData → FormatData → Stop → ℕ → List ℕ → Regrouped
+regrouped_rest from to Ended count rest =
+    if length rest == 0 then returning (Some (Ok count)) else
+    writing_number to (number_in_line from (count + 1) rest) (returning (Some (Ok (count + 1))))
+regrouped_rest from to stop count rest = returning (returned_unfinished (unfinished_fault (count + 1) rest) stop)
+
+-- the parts between newlines, with so many lines before them: each but the last is a line
+abbrev pub regrouped_parts : FormatData → FormatData → Stop → ℕ → List (List ℕ) → Regrouped
+regrouped_parts from to stop count [] = returning None
+regrouped_parts from to stop count (rest ∷ []) = regrouped_rest from to stop count rest
+regrouped_parts from to stop count (text ∷ next ∷ parts) =
+    writing_number to (number_in_line from (count + 1) text) (regrouped_parts from to stop (count + 1) (next ∷ parts))
+
+-- the bytes of an input, with so many lines before them
+abbrev pub regrouped_after : FormatData → FormatData → Stop → ℕ → List ℕ → Regrouped
+regrouped_after from to stop count bytes = regrouped_parts from to stop count (slice_split (λ b. b == 10) bytes)
+
+-- an input: the bytes that a reader gave, and how it stopped
+abbrev pub regrouped : FormatData → FormatData → Stop → List ℕ → Regrouped
+regrouped from to stop bytes = regrouped_after from to stop 0 bytes

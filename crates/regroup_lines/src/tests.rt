@@ -1,0 +1,124 @@
+//! Inputs and what is written of them. No reader fails here: those that fail are in
+//! `num_format_hostile`.
+
+use crate::{RegroupFault, regroup_lines};
+use num_format::error::cut;
+use num_format::{CustomFormat, Error, ErrorKind, Format, Grouping, Locale};
+use std::io;
+use std::process::Abort;
+use std::test::Fail;
+
+/// Asserts what regrouping from `en` returns, and what it writes into so much space.
+fn assert_lines<G: Format>(
+    rt: &impl Abort,
+    input: &[u8],
+    to: &G,
+    space: usize,
+    returned: Result<u64, RegroupFault>,
+    written: &[u8],
+) {
+    let mut out = [0; 64];
+    let mut rest = &mut out[..space.min(64)];
+    let mut reader = input;
+    let result = regroup_lines(&mut reader, &mut rest, &Locale::en, to);
+    let left = rest.len();
+    assert_eq!(rt; result, returned);
+    assert_eq!(rt; &out[..space.min(64).saturating_sub(left)], written);
+}
+
+/// Returns the fault of a line that does not parse.
+fn not_a_number(number: u64, text: &str) -> RegroupFault {
+    RegroupFault::Line(number, Error::from(ErrorKind::ParseNumber(cut(text))))
+}
+
+/// Asserts what is returned and written of an input under `en_IN`.
+fn assert_indian(rt: &impl Abort, input: &[u8], returned: Result<u64, RegroupFault>, out: &[u8]) {
+    assert_lines(rt, input, &Locale::en_IN, 64, returned, out);
+}
+
+#[test]
+fn lines_and_their_faults(rt: HostRuntime) -> Result<(), Fail> {
+    let third = Err(not_a_number(3, ""));
+    assert_indian(&rt, b"1,000000\n-5\n\n", third, b"10,00,000\n-5\n");
+    assert_indian(&rt, b"1000", Ok(1), b"1,000\n");
+    assert_indian(&rt, b"", Ok(0), b"");
+    assert_indian(&rt, b"\n", Err(not_a_number(1, "")), b"");
+    assert_indian(&rt, b"1\n\xff\n", Err(RegroupFault::NotText(2)), b"1\n");
+    assert_indian(&rt, b"1\n2\nx", Err(not_a_number(3, "x")), b"1\n2\n");
+    Ok(())
+}
+
+#[test]
+fn a_carriage_return_is_part_of_the_line(rt: HostRuntime) -> Result<(), Fail> {
+    let builder = CustomFormat::builder().grouping(Grouping::Sparse);
+    let sparse = builder.separator(".").minus_sign("-").build()?;
+    assert_lines(&rt, b"5\r\n12,345", &sparse, 64, Ok(2), b"5\n12.345\n");
+    Ok(())
+}
+
+#[test]
+fn a_writer_with_too_little_space(rt: HostRuntime) -> Result<(), Fail> {
+    let indian = &Locale::en_IN;
+    let failed = || Err(RegroupFault::Write);
+    assert_lines(&rt, b"1,000000\n-5\n", indian, 7, failed(), b"10,00,0");
+    assert_lines(&rt, b"1\n", indian, 0, failed(), b"");
+    Ok(())
+}
+
+/// A line of 4,096 bytes is the longest, with or without a newline after it.
+#[test]
+fn long_lines(rt: HostRuntime) -> Result<(), Fail> {
+    let mut input = [b' '; 4098];
+    input[4095] = b'1';
+    input[4096] = b'\n';
+    input[4097] = b'2';
+    assert_indian(&rt, &input, Ok(2), b"1\n2\n");
+    assert_indian(&rt, &input[..4097], Ok(1), b"1\n");
+    assert_indian(&rt, &input[..4096], Ok(1), b"1\n");
+    assert_indian(&rt, &input[1..], Ok(2), b"1\n2\n");
+    input[4096] = b'1';
+    assert_indian(&rt, &input, Err(RegroupFault::TooLong(1)), b"");
+    assert_indian(&rt, &input[..4097], Err(RegroupFault::TooLong(1)), b"");
+    Ok(())
+}
+
+#[test]
+fn blanks_without_end(rt: HostRuntime) -> Result<(), Fail> {
+    let mut blanks = io::repeat(b' ');
+    let result = regroup_lines(&mut blanks, &mut io::sink(), &Locale::en, &Locale::en_IN);
+    assert_eq!(rt; result, Err(RegroupFault::TooLong(1)));
+    Ok(())
+}
+
+#[test]
+fn a_million_lines(rt: HostRuntime) -> Result<(), Fail> {
+    let lines = b"1\n".repeat(rt.alloc(), 1_000_000)?;
+    for (more, returned) in [("", Ok(1_000_000)), ("1", Err(RegroupFault::TooMany))] {
+        let mut input = io::Read::chain(lines.as_slice(), more.as_bytes());
+        let result = regroup_lines(&mut input, &mut io::sink(), &Locale::en, &Locale::en_IN);
+        assert_eq!(rt; result, returned);
+    }
+    Ok(())
+}
+
+#[test]
+fn messages(rt: HostRuntime) -> Result<(), Fail> {
+    for (fault, message) in [
+        (
+            RegroupFault::TooMany,
+            "The input goes on after line 1000000.",
+        ),
+        (RegroupFault::TooLong(2), "line 2: More than 4096 bytes."),
+        (RegroupFault::Read, "Failed to read."),
+        (RegroupFault::NotText(2), "line 2: Not UTF-8."),
+        (
+            not_a_number(3, ""),
+            "line 3: Failed to parse  into a number.",
+        ),
+        (RegroupFault::Write, "Failed to write."),
+    ] {
+        let displayed = format!(in rt.alloc(); "{fault}")?;
+        assert_eq!(rt; displayed.as_str(), message);
+    }
+    Ok(())
+}
