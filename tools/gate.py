@@ -12,7 +12,8 @@ In this order:
 3. The program `regroup` runs with words of each status, and with outputs that are full or closed. So
    does num_format_streams, which tells how many of its writes failed. num_format_oracle runs with
    cases of each kind but one, and has to fail.
-4. `regroup` with the same words, and each test of memory, runs as often as it makes requests for
+4. tools/filter_checks.py runs `regroup-lines` on good, bad and long input.
+5. `regroup` with the same words, and each test of memory, runs as often as it makes requests for
    memory, each time with another one refused: by tools/refuse_memory.c, which the C compiler `cc`
    builds.
 
@@ -30,9 +31,10 @@ import sys
 import tempfile
 from pathlib import Path
 
+import filter_checks
 from locales import members, sections
+from tally import CLOSE, ROOT, Tally, heading, run
 
-ROOT = Path(__file__).resolve().parent.parent
 PROGRAM = ROOT / "crates" / "regroup"
 
 # The words of the program's stored run, which `rt ci` makes too.
@@ -46,6 +48,10 @@ STREAMS_WRITES = 2
 # The program that compares cases with their expected results, and its cases.
 ORACLE = ROOT / "crates" / "num_format_oracle"
 CASES = (ORACLE / "stdin").read_text(encoding="utf-8").splitlines(keepends=True)
+
+# The program of lines, and the words of its stored run.
+FILTER = ROOT / "crates" / "regroup_filter"
+FILTER_WORDS = (FILTER / "args").read_text(encoding="utf-8").splitlines()
 
 # How the name of a program ends as each of the two compilers builds it.
 COMPILERS = ["", ".by-rattle"]
@@ -65,9 +71,6 @@ FAILED = (3, b"", b"")
 # What refuses a request for memory, and more requests than the program or a test makes.
 REFUSE_MEMORY = ROOT / "tools" / "refuse_memory.c"
 MANY_REQUESTS = 100
-
-# The most seconds for a run.
-RUN_SECONDS = 60
 
 NAMES = "".join(f"{name}\n" for name, _ in members(sections()["families"]))
 USAGE = "usage: regroup COMMAND ARGUMENT...\n"
@@ -106,41 +109,6 @@ PRINTING = [
     (["custom"], "stderr"),
 ]
 
-# Closes an output, in the process that then becomes the program.
-CLOSE = {"stdout": lambda: os.close(1), "stderr": lambda: os.close(2)}
-
-
-class Tally:
-    """How many checks passed and failed."""
-
-    passed = 0
-    failed = 0
-
-    def add(self, name, problem=None):
-        """Counts a check, which failed if it has a problem, and shows it."""
-        print(f"FAILED {name}: {problem}" if problem else f"ok {name}", flush=True)
-        self.failed += bool(problem)
-        self.passed += not problem
-
-    def compare(self, name, found, expected):
-        """Counts a check that failed if the values differ."""
-        self.add(name, None if found == expected else f"{found!r} in place of {expected!r}")
-
-
-def heading(text):
-    print(f"== {text}", flush=True)
-
-
-def run(words, **how):
-    """Runs a command to its end. One that takes too long has the status None."""
-    how = {"timeout": RUN_SECONDS, **how}
-    if "input" not in how:
-        how["stdin"] = subprocess.DEVNULL
-    try:
-        return subprocess.run(words, check=False, **how)
-    except subprocess.TimeoutExpired as late:
-        return subprocess.CompletedProcess(words, None, late.stdout or b"", late.stderr or b"")
-
 
 def compare_code(tally):
     heading("the code in README.md and docs/")
@@ -169,6 +137,7 @@ def build(tally):
         (PROGRAM, STORED_WORDS, ""),
         (STREAMS, [], ""),
         (ORACLE, [], "".join(CASES)),
+        (FILTER, FILTER_WORDS, (FILTER / "stdin").read_text(encoding="utf-8")),
     ]:
         heading(f"rt run, in crates/{crate.name}")
         how = {"input": text.encode(), "stdout": subprocess.PIPE, "timeout": None}
@@ -326,6 +295,8 @@ def main():
         run_streams(tally, program)
     for program in builds(tally, ORACLE, compilers):
         run_oracle(tally, program)
+    for program in builds(tally, FILTER, compilers):
+        filter_checks.check_all(tally, program)
     refuse_memory(tally, programs)
     left_out = ", rt ci left out" if skips else ""
     print(f"{tally.passed} passed, {tally.failed} failed{left_out}")

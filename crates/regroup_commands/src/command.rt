@@ -191,7 +191,7 @@ impl<'a> Command<'a> {
 }
 
 /// Returns the grouping of that name.
-fn grouping_named(name: &str) -> Option<Grouping>
+pub fn grouping_named(name: &str) -> Option<Grouping>
     ensures { result ≡ grouping_named name.now }
 {
     match name {
@@ -217,7 +217,7 @@ fn number_in(text: &str) -> Option<i128>
 /// # Errors
 ///
 /// Returns the error of a field that is too long: of the minus sign before that of the separator.
-fn custom_format(
+pub fn custom_format(
     separator: &str,
     grouping: Grouping,
     minus_sign: &str,
@@ -238,7 +238,7 @@ fn custom_format(
 ///
 /// Returns an error if no locale has the name.
 #[tactic(auto, using(crate::proofs::LocaleLemmas::locale_named_from_LooksUp))]
-fn locale_named(name: &str) -> Result<Locale, Error>
+pub fn locale_named(name: &str) -> Result<Locale, Error>
     ensures { result_map_both locale_data refusal_of result ≡ locale_named name.now }
 {
     Locale::from_name(name)

@@ -29,7 +29,8 @@
 //! numbers of `check` and `alike` are those of all integer types. `check` prints `true` for every
 //! locale.
 //!
-//! Nothing here allocates.
+//! [`grouping_named`], [`custom_format`], [`locale_named`] and [`send`] are parts of these commands, for
+//! other programs. Nothing here allocates.
 #![tactic(auto)]
 
 mod command;
@@ -42,6 +43,8 @@ ghost use Rattle.regroup_commands.specs.Output.{output_of};
 ghost use Rattle.regroup_commands.specs.Sending.{IsSent, SendsOutput, StopsShort};
 
 use crate::command::Command;
+pub use crate::command::{custom_format, grouping_named, locale_named};
+pub use crate::sending::send;
 use crate::sending::send_line;
 use std::io;
 use std::io::Write;

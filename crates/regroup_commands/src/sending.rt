@@ -27,7 +27,7 @@ const MAX_LINE_LEN: usize = MAX_MESSAGE_LEN + 1;
 /// Returns the error of the first write that fails, also of one that was interrupted. A write of no
 /// bytes is an error of kind `WriteZero`.
 #[tactic(auto, using(num_format::proofs::WritingLemmas::HasReceivedUpTo_more))]
-fn send<W: Write>(bytes: &[u8], writer: &mut W) -> io::Result<()>
+pub fn send<W: Write>(bytes: &[u8], writer: &mut W) -> io::Result<()>
     ensures { Sends result (W.contents writer.old) (W.contents writer.new) bytes.now }
 {
     let mut rest = bytes;

@@ -1,0 +1,4 @@
+pub mod FirstLinesLemmas
+pub mod SplitLemmas
+pub mod StreamLemmas
+pub mod WordsLemmas

@@ -1,0 +1,4 @@
+-- The definitions that the contracts of this crate use.
+pub mod FirstLines
+pub mod Stream
+pub mod Words

@@ -1,0 +1,208 @@
+#!/usr/bin/env python3
+"""Runs the program `regroup-lines` on good and bad input, on long input, and with outputs that fail.
+
+    python3 tools/filter_checks.py [PROGRAM]    # crates/regroup_filter/out/regroup_filter
+
+Each check compares the exit status, standard output and standard error with what was worked out by
+hand. The last line says how many passed and failed. The exit status is 1 where one failed.
+"""
+import os
+import resource
+import subprocess
+import sys
+import tempfile
+from pathlib import Path
+
+from tally import CLOSE, ROOT, RUN_SECONDS, Tally, heading, run
+
+PROGRAM = ROOT / "crates" / "regroup_filter" / "out" / "regroup_filter"
+
+USAGE = b"usage: regroup-lines FROM TO, each a locale or custom:SEP:GROUPING:MINUS\n"
+TOO_LONG = b"More than 4096 bytes.\n"
+NOT_TEXT = b"Not UTF-8.\n"
+
+
+def unparsed(text):
+    """The message of a text that is no number."""
+    return b"Failed to parse " + text + b" into a number.\n"
+
+
+# FROM and TO, standard input, the status, standard output and standard error.
+INPUTS = [
+    ("en", "de", b"", 0, b"", b""),
+    ("en", "de", b"1,000,000\n-5\n", 0, b"1.000.000\n-5\n", b""),
+    ("en", "de", b"1000", 0, b"1.000\n", b""),
+    ("de", "en_IN", b"-10.000.000\n", 0, b"-1,00,00,000\n", b""),
+    ("en", "fr", b"1000\n", 0, "1\u202f000\n".encode(), b""),
+    ("en", "de", b"5\r\n12,345\r\n", 0, b"5\n12.345\n", b""),
+    ("en", "custom:':Standard:-", b"-1234567\n", 0, b"-1'234'567\n", b""),
+    ("en", "custom:::Standard:~", b"-1234567\n", 0, b"~1:234:567\n", b""),
+    ("en", "custom::Indian:", b"-100000\n", 0, b"100000\n", b""),
+    ("custom:.:Myriad:m", "en", b"m1.0000\n-7\n", 0, b"-10,000\n7\n", b""),
+    ("en", "custom: :Sparse:-", b"1,234\n12,345\n", 0, b"1234\n12 345\n", b""),
+    ("en", "de", b"\n", 1, b"", b"line 1: " + unparsed(b"")),
+    ("en", "de", b"1\n2\n\n4\n", 1, b"1\n2\n", b"line 3: " + unparsed(b"")),
+    ("en", "de", b"1\r\n\r\n", 1, b"1\n", b"line 2: " + unparsed(b"\r")),
+    ("en", "de", b"7,000\nabc\n9\n", 1, b"7.000\n", b"line 2: " + unparsed(b"abc")),
+    ("en", "de", b"7,000\nabc", 1, b"7.000\n", b"line 2: " + unparsed(b"abc")),
+    ("en", "de", b"1\n\xff\n", 1, b"1\n", b"line 2: " + NOT_TEXT),
+    ("en", "de", 300 * b"a", 1, b"", b"line 1: " + unparsed(256 * b"a")),
+    ("en", "de", 4095 * b" " + b"1\n", 0, b"1\n", b""),
+    ("en", "de", 4095 * b" " + b"1", 0, b"1\n", b""),
+    ("en", "de", 4096 * b" " + b"1\n", 1, b"", b"line 1: " + TOO_LONG),
+    ("en", "de", b"8\n" + 4096 * b" " + b"1", 1, b"8\n", b"line 2: " + TOO_LONG),
+    ("en", "de", 100_000 * b" ", 1, b"", b"line 1: " + TOO_LONG),
+]
+
+# Words that do not name two formats.
+MISUSES = [
+    [],
+    ["en"],
+    ["en", "de", "fr"],
+    ["xx", "de"],
+    ["en", "xx"],
+    ["en", ""],
+    ["en", "custom"],
+    ["en", "custom:"],
+    ["en", "custom:,:Standard"],
+    ["en", "custom:,:standard:-"],
+    ["en", "custom:123456789:Standard:-"],
+    ["en", "custom:,:Standard:123456789"],
+]
+
+# Standard input, the output that fails, and what the other output receives.
+FAILURES = [
+    (b"1000\n", "stdout", b""),
+    (100_000 * b"1000\n", "stdout", b""),
+    (b"1000\nx\n", "stdout", b""),
+    (b"1000\nx\n", "stderr", b"1.000\n"),
+]
+
+# The lines before a fault, each `1`, what stands after them, and the message.
+FAULTS = [
+    (999_999, b"x", b"line 1000000: " + unparsed(b"x")),
+    (1_000_000, b"x\n", b"line 1000001: " + unparsed(b"x")),
+    (1_000_000, b"\n", b"line 1000001: " + unparsed(b"")),
+    (1_000_000, b"\xff\n1\n", b"line 1000001: " + NOT_TEXT),
+    (2_000_000, 4096 * b" " + b"1\n", b"line 2000001: " + TOO_LONG),
+]
+
+# How many lines a long input has, and how many of them stand before the line at fault.
+LINES = 2_500_000
+SOUND_LINES = 2_400_000
+
+# The memory in bytes that the program may have, with its code: less than the long input.
+MEMORY = 8 * 1024 * 1024
+
+
+def shown(text):
+    return repr(text if len(text) <= 24 else text[:12] + b".." + text[-8:])
+
+
+def compare(tally, name, ended, status, out, err):
+    """Counts a check of a run. Long outputs are not shown."""
+    if ended.stdout != out:
+        tally.add(name, f"standard output {shown(ended.stdout)} in place of {shown(out)}")
+    else:
+        tally.compare(name, (ended.returncode, ended.stderr), (status, err))
+
+
+def regroup(program, words, text, **how):
+    """Runs the program over this input, which goes through a pipe."""
+    return run([program, *words], stdin=None, input=text, capture_output=True, **how)
+
+
+def check_inputs(tally, program):
+    heading("lines, and lines at fault")
+    for source, target, text, *expected in INPUTS:
+        name = f"{source} {target} {shown(text)}"
+        compare(tally, name, regroup(program, [source, target], text), *expected)
+
+
+def check_words(tally, program):
+    heading("words that do not name two formats")
+    for words in MISUSES:
+        compare(tally, repr(words), regroup(program, words, b"1\n"), 2, b"", USAGE)
+    compare(tally, "a word not in UTF-8", regroup(program, ["en", b"\xff"], b"1\n"), 3, b"", b"")
+
+
+def check_failures(tally, program):
+    heading("outputs and inputs that fail")
+    with open("/dev/full", "wb") as full:
+        for state, how in [("full", lambda _: full), ("closed", lambda _: None)]:
+            for text, output, other in FAILURES:
+                compare_failed(tally, program, ["en", "de"], text, output, state, how(output), other)
+            compare_failed(tally, program, [], b"", "stderr", state, how("stderr"), b"")
+    words = [program, "en", "de"]
+    ended = run(words, preexec_fn=lambda: os.close(0), capture_output=True)
+    compare(tally, "a closed input", ended, 3, b"", b"")
+    folder = os.open(ROOT, os.O_RDONLY)
+    ended = run(words, stdin=folder, capture_output=True)
+    os.close(folder)
+    compare(tally, "a folder as the input", ended, 3, b"", b"")
+
+
+def compare_failed(tally, program, words, text, output, state, stream, received):
+    """Runs the program with an output that fails, and compares what the other one received."""
+    other = "stderr" if output == "stdout" else "stdout"
+    how = {output: stream, other: subprocess.PIPE}
+    if state == "closed":
+        how["preexec_fn"] = CLOSE[output]
+    ended = run([program, *words], stdin=None, input=text, **how)
+    name = f"{shown(text)}, {output} {state}"
+    tally.compare(name, (ended.returncode, getattr(ended, other)), (3, received))
+
+
+def check_closed_pipe(tally, program):
+    """Reads one line of a long output, and closes it."""
+    heading("a pipe that is closed after one line")
+    with tempfile.TemporaryFile() as text:
+        text.write(LINES * b"1,000\n")
+        text.seek(0)
+        how = {"stdin": text, "stdout": subprocess.PIPE, "stderr": subprocess.PIPE}
+        with subprocess.Popen([program, "en", "de"], **how) as ended:
+            line = ended.stdout.readline()
+            ended.stdout.close()
+            found = (line, ended.wait(RUN_SECONDS), ended.stderr.read())
+    tally.compare("one line", found, (b"1.000\n", 3, b""))
+
+
+def check_long(tally, program):
+    heading("input of any length")
+    limited = {"preexec_fn": limit_memory}
+    for lines in [10, 1_000_000, LINES]:
+        name = f"{lines} lines in {MEMORY} bytes of memory"
+        ended = regroup(program, ["en", "de"], lines * b"1,000\n", **limited)
+        compare(tally, name, ended, 0, lines * b"1.000\n", b"")
+    text = SOUND_LINES * b"1,000\n" + b"x\n" + (LINES - SOUND_LINES - 1) * b"1,000\n"
+    message = b"line 2400001: " + unparsed(b"x")
+    ended = regroup(program, ["en", "de"], text, **limited)
+    compare(tally, "a fault in line 2400001", ended, 1, SOUND_LINES * b"1.000\n", message)
+    for sound, rest, message in FAULTS:
+        ended = regroup(program, ["en", "de"], sound * b"1\n" + rest)
+        compare(tally, message.decode().strip(), ended, 1, sound * b"1\n", message)
+
+
+def limit_memory():
+    resource.setrlimit(resource.RLIMIT_AS, (MEMORY, MEMORY))
+
+
+def check_all(tally, program):
+    """All checks of the program."""
+    check_inputs(tally, program)
+    check_words(tally, program)
+    check_failures(tally, program)
+    check_closed_pipe(tally, program)
+    check_long(tally, program)
+
+
+def main():
+    program = Path(sys.argv[1]).resolve() if len(sys.argv) > 1 else PROGRAM
+    tally = Tally()
+    check_all(tally, program)
+    print(f"{tally.passed} passed, {tally.failed} failed")
+    sys.exit(1 if tally.failed else 0)
+
+
+if __name__ == "__main__":
+    main()

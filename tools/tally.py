@@ -1,0 +1,44 @@
+"""Counts the checks of programs, and runs programs."""
+import os
+import subprocess
+from pathlib import Path
+
+ROOT = Path(__file__).resolve().parent.parent
+
+# The most seconds for a run.
+RUN_SECONDS = 60
+
+# Closes an output, in the process that then becomes the program.
+CLOSE = {"stdout": lambda: os.close(1), "stderr": lambda: os.close(2)}
+
+
+class Tally:
+    """How many checks passed and failed."""
+
+    passed = 0
+    failed = 0
+
+    def add(self, name, problem=None):
+        """Counts a check, which failed if it has a problem, and shows it."""
+        print(f"FAILED {name}: {problem}" if problem else f"ok {name}", flush=True)
+        self.failed += bool(problem)
+        self.passed += not problem
+
+    def compare(self, name, found, expected):
+        """Counts a check that failed if the values differ."""
+        self.add(name, None if found == expected else f"{found!r} in place of {expected!r}")
+
+
+def heading(text):
+    print(f"== {text}", flush=True)
+
+
+def run(words, **how):
+    """Runs a command to its end. One that takes too long has the status None."""
+    how = {"timeout": RUN_SECONDS, **how}
+    if "input" not in how:
+        how.setdefault("stdin", subprocess.DEVNULL)
+    try:
+        return subprocess.run(words, check=False, **how)
+    except subprocess.TimeoutExpired as late:
+        return subprocess.CompletedProcess(words, None, late.stdout or b"", late.stderr or b"")
