@@ -1,9 +1,9 @@
 -- What the first lines of an input are, after some of its bytes were read.
-use Rattle.std.proofs.Common.{◌≡◌, ℕ, ◌+◌, ◌-◌, ◌<◌, ◌≤◌, Bool, true, false, List, [], ◌∷◌, ◌++◌, None, Some, arith, length, take, refl, sym, ap, ◌∙◌, length-take-le}
+use Rattle.std.proofs.Common.{◌≡◌, ℕ, ◌+◌, ◌-◌, ◌<◌, ◌≤◌, Bool, true, false, List, [], ◌∷◌, ◌++◌, None, Some, arith, length, take, refl, ap, ◌∙◌, length-take-le}
 use Rattle.std.specs.Prelude.{Option, zero, suc, if◌then◌else◌}
 use Rattle.std.specs.Io.KnownBytes.{Consumes, IsAtEnd}
 use Rattle.std.specs.List.{count_by}
-use Rattle.std.proofs.lemmas.List.Sums.{count_by-le-length, sum_by-cons}
+use Rattle.std.proofs.lemmas.List.Sums.{sum_by-cons}
 use Rattle.regroup_stream.specs.FirstLines.{first_lines, first_lines_known, is_newline}
 
 -- no lines have no bytes, and no bytes have no lines

@@ -1,6 +1,6 @@
 -- Where a text is split at its last colon.
-use Rattle.std.proofs.Common.{◌≡◌, ℕ, ◌+◌, ◌<◌, ◌≤◌, Bool, true, false, List, [], ◌∷◌, ◌++◌, None, Some, arith, length, take, drop, get_or, refl, sym, ap, ◌∙◌}
-use Rattle.std.specs.Prelude.{◌≢◌, Option, suc, zero, ◌==◌}
+use Rattle.std.proofs.Common.{◌≡◌, ℕ, ◌<◌, Bool, true, false, List, [], ◌∷◌, ◌++◌, None, Some, arith, length, take, drop, get_or, refl, sym, ap, ◌∙◌}
+use Rattle.std.specs.Prelude.{◌≢◌, Option, suc, ◌==◌}
 use Rattle.std.specs.Borrow.{Bor}
 use Rattle.std.specs.Option.{option_map, MatchOption}
 use Rattle.std.specs.Str.Pattern.{RFindsChar, SplitsAroundMatch}

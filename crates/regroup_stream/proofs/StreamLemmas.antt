@@ -1,6 +1,6 @@
 -- Pieces of a million lines, one after another, and the piece after them.
-use Rattle.std.proofs.Common.{◌≡◌, ℕ, ◌+◌, ◌<◌, Bool, true, false, List, [], ◌∷◌, ◌++◌, All, arith, length, refl, sym, ap, ◌∙◌, length-append}
-use Rattle.std.specs.Prelude.{zero, suc, ◌≢◌, ◌*◌, Option, Some, None, Result, Ok, Err, IfOk}
+use Rattle.std.proofs.Common.{◌≡◌, ℕ, ◌+◌, true, List, [], ◌∷◌, ◌++◌, arith, length, refl, ap, length-append}
+use Rattle.std.specs.Prelude.{◌≢◌, ◌*◌, Option, Some, Result, Ok, Err, IfOk}
 use Rattle.std.specs.Io.KnownBytes.{Appends, Keeps}
 use Rattle.std.specs.List.{flat_map}
 use Rattle.std.specs.Result.{result_and}

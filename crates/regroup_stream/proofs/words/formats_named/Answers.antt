@@ -1,4 +1,4 @@
-use Rattle.std.proofs.Common.{rules, ◌<◌, length, arith}
+use Rattle.std.proofs.Common.{rules}
 use Rattle.regroup_stream.proofs.WordsLemmas.{formats_named_few, formats_named_many}
 use Rattle.regroup_stream.proofs.words.formats_named.Goals.{in_default-via-then-words-lt2, in_default-via-else-words-lt2+else-words-lt3}
 use Rattle.regroup_stream.proofs.words.formats_named.Goals as goal

@@ -1,7 +1,5 @@
-use Rattle.std.proofs.Common.{rules, arith, ◌≡◌, ◌<◌, ◌≤◌, take, length}
+use Rattle.std.proofs.Common.{rules, ◌<◌, ◌≤◌, length}
 use lib.Seq.{take-append-le}
-use Rattle.std.specs.List.{count_by}
-use Rattle.regroup_stream.specs.FirstLines.{is_newline}
 use Rattle.regroup_stream.proofs.FirstLinesLemmas.{first_lines_Consumes}
 use Rattle.regroup_stream.proofs.first_lines.FirstLinesRead.read.Goals as goal
 
@@ -13,4 +11,4 @@ returns-clause-bytes g c =
     let within : length part ≤ left = search rules in
     let room : 0 < left → 0 < length c.args.buf.now → 0 < length part = λ more some. search rules in
     first_lines_Consumes _ _ part _ left c.in_ok-count.count _ read.bound.0 within (λ more some. room more (search rules))
-      (take-append-le c.in_ok-count.count part _ read.bound.0) (search rules) read.bytes.0 read.bytes.1
+    (take-append-le c.in_ok-count.count part _ read.bound.0) (search rules) read.bytes.0 read.bytes.1
