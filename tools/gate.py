@@ -16,6 +16,7 @@ In this order:
 5. `regroup` with the same words, and each test of memory, runs as often as it makes requests for
    memory, each time with another one refused: by tools/refuse_memory.c, which the C compiler `cc`
    builds.
+6. examples/run builds the library for C, and runs the programs in C, Python and Rust that call it.
 
 The last line says how many passed and failed in all. The exit status is 1 where one failed.
 
@@ -278,6 +279,12 @@ def run_refused(library, number, words):
     return (ended.returncode, ended.stdout, ended.stderr), made
 
 
+def run_examples(tally):
+    heading("examples/run")
+    ended = run([ROOT / "examples" / "run"], timeout=None)
+    tally.compare("examples/run", ended.returncode, 0)
+
+
 def main():
     parser = argparse.ArgumentParser(description="Proves and tests everything.")
     parser.add_argument("--skip-proofs", action="store_true", help="leave out `rt ci`")
@@ -298,6 +305,7 @@ def main():
     for program in builds(tally, FILTER, compilers):
         filter_checks.check_all(tally, program)
     refuse_memory(tally, programs)
+    run_examples(tally)
     left_out = ", rt ci left out" if skips else ""
     print(f"{tally.passed} passed, {tally.failed} failed{left_out}")
     sys.exit(1 if tally.failed else 0)

@@ -17,8 +17,9 @@ use Rattle.serde_json.specs.Events.{items_len}
 use Rattle.serde_json.specs.View.{items_of}
 use Rattle.num_format_text.specs.declared.grouping.Grouping.{Grouping}
 use Rattle.num_format_text.specs.declared.grouping.Grouping.TheVariants.{Standard, Indian, Posix, Myriad, Sparse}
+use Rattle.num_format_text.specs.GroupingNames.{grouping_name, grouping_named}
 use Rattle.num_format_text.specs.Format.{FormatData, IsWithinCapacity}
-use Rattle.num_format.specs.Json.{buffer_in, buffer_json, bytes_in, format_in, format_json, grouping_name, grouping_named, locale_in, locale_json, locale_named}
+use Rattle.num_format.specs.Json.{buffer_in, buffer_json, bytes_in, format_in, format_json, locale_in, locale_json, locale_named}
 use Rattle.num_format_cldr.specs.declared.TheConstants.{LEN}
 use Rattle.num_format_cldr.specs.Table.{table_names}
 use Rattle.num_format_locale.specs.Names.{variant_name, variant_name_of}

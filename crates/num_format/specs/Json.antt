@@ -7,8 +7,8 @@ use Rattle.serde_json.specs.Events.{items_len}
 use Rattle.serde_json.specs.Find.{get, as_array, as_number, as_object, as_str, as_u64}
 use Rattle.serde_json.specs.View.{items_of}
 use Rattle.num_format_text.specs.declared.grouping.Grouping.{Grouping}
-use Rattle.num_format_text.specs.declared.grouping.Grouping.TheVariants.{Standard, Indian, Posix, Myriad, Sparse}
 use Rattle.num_format_text.specs.Format.{FormatData}
+use Rattle.num_format_text.specs.GroupingNames.{grouping_name, grouping_named}
 use Rattle.num_format_int.specs.declared.buffer.TheConstants.{MAX_BUF_LEN}
 use Rattle.num_format_cldr.specs.Table.{table_names}
 use Rattle.num_format_locale.specs.Names.{variant_name, variant_name_of}
@@ -84,18 +84,6 @@ buffer_in d =
     if nat_lt MAX_BUF_LEN (items_len items) then Err TooLarge else
     and_then (ok_or (bytes_in items) NotByte) (λ bytes.
     if is_utf8 bytes then Ok bytes else Err NotUtf8))
-
--- the name of a grouping
-abbrev pub grouping_name : Grouping → List ℕ
-grouping_name Standard = codes "Standard"
-grouping_name Indian = codes "Indian"
-grouping_name Posix = codes "Posix"
-grouping_name Myriad = codes "Myriad"
-grouping_name Sparse = codes "Sparse"
-
--- the grouping of a name
-abbrev pub grouping_named : List ℕ → Option Grouping
-grouping_named name = find (λ grouping. bytes_eq name (grouping_name grouping)) (Standard ∷ Indian ∷ Posix ∷ Myriad ∷ Sparse ∷ [])
 
 -- the JSON value of a format: an object with these seven keys, in the order of their bytes
 abbrev pub format_json : FormatData → Data

@@ -9,6 +9,7 @@ pub mod RoundTrips
 pub mod Writing
 pub use Rattle.num_format_text.specs.Cut
 pub use Rattle.num_format_text.specs.Format
+pub use Rattle.num_format_text.specs.GroupingNames
 pub use Rattle.num_format_text.specs.Refusal
 pub use Rattle.num_format_text.specs.declared.error.Error
 pub use Rattle.num_format_text.specs.declared.error_kind.ErrorKind

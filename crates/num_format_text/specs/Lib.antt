@@ -1,3 +1,4 @@
 pub mod Cut
 pub mod Format
+pub mod GroupingNames
 pub mod Refusal

@@ -1,4 +1,6 @@
 //! The ways to group the digits of a whole number.
+ghost use Rattle.std.specs.Prelude.{◌≡◌};
+ghost use Rattle.num_format_text.specs.GroupingNames.{grouping_name, grouping_named};
 
 use serde::{Deserialize, Serialize};
 
@@ -20,4 +22,38 @@ pub enum Grouping {
     /// Groups of three digits from five digits on, as in `1000` and `10,000`: the CLDR's minimum of
     /// two digits in the first group, which Spanish, Polish and European Portuguese have.
     Sparse,
+}
+
+impl Grouping {
+    /// Returns the name of the variant, as `Standard`.
+    pub fn name(self) -> &'static str
+        ensures { result.now ≡ grouping_name self }
+    {
+        match self {
+            Grouping::Standard => "Standard",
+            Grouping::Indian => "Indian",
+            Grouping::Posix => "Posix",
+            Grouping::Myriad => "Myriad",
+            Grouping::Sparse => "Sparse",
+        }
+    }
+
+    /// Returns the grouping of that name, or `None` if no grouping has it. Upper and lower case differ.
+    ///
+    /// ```text
+    /// Grouping::from_name("Indian")    // Some(Grouping::Indian)
+    /// Grouping::from_name("indian")    // None
+    /// ```
+    pub fn from_name(name: &str) -> Option<Grouping>
+        ensures { result ≡ grouping_named name.now }
+    {
+        match name {
+            "Standard" => Some(Grouping::Standard),
+            "Indian" => Some(Grouping::Indian),
+            "Posix" => Some(Grouping::Posix),
+            "Myriad" => Some(Grouping::Myriad),
+            "Sparse" => Some(Grouping::Sparse),
+            _ => None,
+        }
+    }
 }

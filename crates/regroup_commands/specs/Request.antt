@@ -6,7 +6,7 @@ use Rattle.std.specs.Option.{option_map}
 use Rattle.std.specs.Str.{bytes_eq}
 use Rattle.std.specs.Str.Parse.{signed_digits_value, without_leading_sign}
 use Rattle.num_format.specs.Grouping.{Grouping}
-use Rattle.num_format.specs.Grouping.TheVariants.{Standard, Indian, Posix, Myriad, Sparse}
+use Rattle.num_format.specs.GroupingNames.{grouping_named}
 
 -- a command with its arguments
 pub data Request : Type 0 where
@@ -16,15 +16,6 @@ pub data Request : Type 0 where
   Read : (locale text : List ℕ) → Request
   Check : (locale : List ℕ) → Request
   Alike : (first second : List ℕ) → Request
-
--- the grouping of that name
-abbrev pub grouping_named : List ℕ → Option Grouping
-grouping_named name =
-    if bytes_eq name (codes "Standard") then Some Standard
-    else (if bytes_eq name (codes "Indian") then Some Indian
-    else (if bytes_eq name (codes "Posix") then Some Posix
-    else (if bytes_eq name (codes "Myriad") then Some Myriad
-    else (if bytes_eq name (codes "Sparse") then Some Sparse else None))))
 
 -- one digit or more, and nothing else
 abbrev pub is_numeral : List ℕ → Bool

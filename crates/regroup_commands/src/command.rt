@@ -5,7 +5,7 @@ ghost use Rattle.std.specs.Result.{result_map_both};
 ghost use Rattle.num_format.specs.Data.{locale_data};
 ghost use Rattle.num_format.specs.Refusal.{refusal_of};
 ghost use Rattle.regroup_commands.specs.Output.{custom_format, is_alike, is_read_back, locale_named, number_read, output_of_request, result_of};
-ghost use Rattle.regroup_commands.specs.Request.{alike_with, check_with, custom_with, grouping_named, names_with, number_in, print_with, read_with, request_in};
+ghost use Rattle.regroup_commands.specs.Request.{alike_with, check_with, custom_with, names_with, number_in, print_with, read_with, request_in};
 ghost use Rattle.regroup_commands.specs.Sending.{SendsLines, SendsOutput};
 
 use crate::sending::{send_bool, send_decimal, send_error, send_lines, send_number};
@@ -80,7 +80,7 @@ impl<'a> Command<'a> {
         };
         Some(Command::Custom {
             separator,
-            grouping: grouping_named(grouping)?,
+            grouping: Grouping::from_name(grouping)?,
             minus_sign,
             number: number_in(number)?,
         })
@@ -187,20 +187,6 @@ impl<'a> Command<'a> {
                 Ok(send_bool(is_alike(&locale, &locale_named(second)?), out))
             }
         }
-    }
-}
-
-/// Returns the grouping of that name.
-pub fn grouping_named(name: &str) -> Option<Grouping>
-    ensures { result ≡ grouping_named name.now }
-{
-    match name {
-        "Standard" => Some(Grouping::Standard),
-        "Indian" => Some(Grouping::Indian),
-        "Posix" => Some(Grouping::Posix),
-        "Myriad" => Some(Grouping::Myriad),
-        "Sparse" => Some(Grouping::Sparse),
-        _ => None,
     }
 }
 

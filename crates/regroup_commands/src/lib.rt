@@ -29,7 +29,7 @@
 //! numbers of `check` and `alike` are those of all integer types. `check` prints `true` for every
 //! locale.
 //!
-//! [`grouping_named`], [`custom_format`], [`locale_named`] and [`send`] are parts of these commands, for
+//! [`custom_format`], [`locale_named`] and [`send`] are parts of these commands, for
 //! other programs. Nothing here allocates.
 #![tactic(auto)]
 
@@ -43,7 +43,7 @@ ghost use Rattle.regroup_commands.specs.Output.{output_of};
 ghost use Rattle.regroup_commands.specs.Sending.{IsSent, SendsOutput, StopsShort};
 
 use crate::command::Command;
-pub use crate::command::{custom_format, grouping_named, locale_named};
+pub use crate::command::{custom_format, locale_named};
 pub use crate::sending::send;
 use crate::sending::send_line;
 use std::io;

@@ -4,8 +4,8 @@ ghost use Rattle.std.specs.Option.{option_map};
 ghost use Rattle.regroup_commands.specs.Command.{texts};
 ghost use Rattle.regroup_stream.specs.Words.{custom_format_named, format_named, formats_named, split_last};
 
-use num_format::CustomFormat;
-use regroup_commands::{custom_format, grouping_named, locale_named};
+use num_format::{CustomFormat, Grouping};
+use regroup_commands::{custom_format, locale_named};
 
 /// Returns the two formats that the words name, or `None` where they are not two words, or one of them
 /// names no format.
@@ -36,7 +36,7 @@ fn custom_format_named(fields: &str) -> Option<CustomFormat>
 {
     let (fields, minus_sign) = split_last(fields)?;
     let (separator, grouping) = split_last(fields)?;
-    custom_format(separator, grouping_named(grouping)?, minus_sign).ok()
+    custom_format(separator, Grouping::from_name(grouping)?, minus_sign).ok()
 }
 
 /// Returns what stands before the last colon, and what stands after it.

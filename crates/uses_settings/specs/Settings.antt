@@ -9,19 +9,9 @@ use Rattle.num_format.specs.Cut.{cut_text}
 use Rattle.num_format.specs.English.{english}
 use Rattle.num_format.specs.Error.{Error}
 use Rattle.num_format.specs.Format.{FormatData}
-use Rattle.num_format.specs.Grouping.{Grouping}
-use Rattle.num_format.specs.Grouping.TheVariants.{Standard, Indian, Posix, Myriad, Sparse}
+use Rattle.num_format.specs.GroupingNames.{grouping_named}
 use Rattle.num_format.specs.Refusal.{Other, refusal_of}
 use Rattle.num_format.specs.RoundTrips.{RoundTrips}
-
--- the grouping of that name
-abbrev pub grouping_named : List ℕ → Option Grouping
-grouping_named name =
-    if bytes_eq name (codes "Standard") then Some Standard
-    else (if bytes_eq name (codes "Indian") then Some Indian
-    else (if bytes_eq name (codes "Posix") then Some Posix
-    else (if bytes_eq name (codes "Myriad") then Some Myriad
-    else (if bytes_eq name (codes "Sparse") then Some Sparse else None))))
 
 -- the call of a builder's method that a key and a value stand for
 abbrev pub call_of : (key value : List ℕ) → Option Call

@@ -4,7 +4,7 @@ ghost use Rattle.std.specs.Option.{option_map};
 ghost use Rattle.std.specs.Str.Lines.{lines};
 ghost use Rattle.num_format.specs.Building.{after_call, built};
 ghost use Rattle.num_format.specs.RoundTrips.{RoundTrips};
-ghost use Rattle.uses_settings.specs.Settings.{Refuses, call_in, choices_in, grouping_named};
+ghost use Rattle.uses_settings.specs.Settings.{Refuses, call_in, choices_in};
 
 use num_format::{CustomFormat, CustomFormatBuilder, Error, Grouping, reads_back};
 
@@ -53,23 +53,9 @@ fn with_setting(builder: CustomFormatBuilder, line: &str) -> Option<CustomFormat
     let (key, value) = line.split_once('=')?;
     match key {
         "decimal" => Some(builder.decimal(value)),
-        "grouping" => Some(builder.grouping(grouping_named(value)?)),
+        "grouping" => Some(builder.grouping(Grouping::from_name(value)?)),
         "minus_sign" => Some(builder.minus_sign(value)),
         "separator" => Some(builder.separator(value)),
-        _ => None,
-    }
-}
-
-/// Returns the grouping of that name.
-fn grouping_named(name: &str) -> Option<Grouping>
-    ensures { result ≡ grouping_named name.now }
-{
-    match name {
-        "Standard" => Some(Grouping::Standard),
-        "Indian" => Some(Grouping::Indian),
-        "Posix" => Some(Grouping::Posix),
-        "Myriad" => Some(Grouping::Myriad),
-        "Sparse" => Some(Grouping::Sparse),
         _ => None,
     }
 }
