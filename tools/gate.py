@@ -10,7 +10,7 @@ In this order:
 2. `rt ci` has every proof from nothing, the must-fail edits, the tests, and each program as two
    compilers build it.
 3. The program `regroup` runs with words of each status, and with outputs that are full or closed. So
-   does num_format_streams, which tells how many of its writes failed. num_format_oracle runs with
+   does num_format_streams, whose status is how many of its writes failed. num_format_oracle runs with
    cases of each kind but one, and has to fail.
 4. tools/filter_checks.py runs `regroup-lines` on good, bad and long input.
 5. `regroup` with the same words, and each test of memory, runs as often as it makes requests for
@@ -239,7 +239,7 @@ def refuse_to_program(tally, library, program):
 
 
 def refuse_to_tests(tally, library):
-    """A test of memory passes, and tells of each refused request."""
+    """A test of memory passes, and prints that a request was refused."""
     listed = run([MEMORY_TESTS, "--list"], capture_output=True) if MEMORY_TESTS.is_file() else None
     tests = MEMORY_TEST.findall(listed.stdout.decode()) if listed else []
     if not tests:

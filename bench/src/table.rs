@@ -77,7 +77,7 @@ pub struct Cell {
     pub operation: &'static str,
     pub format: &'static str,
     pub type_name: &'static str,
-    /// The lengths of the numbers, or what else tells the cell from others.
+    /// The lengths of the numbers, or what else distinguishes the cell.
     pub sizes: String,
     /// The row of the table.
     pub group: &'static str,

@@ -1,10 +1,10 @@
 //! Writers that numbers can be written to.
 //!
 //! [`WriteFormatted`] is implemented for strings, vectors, formatters and the writers of std. A
-//! contract tells which bytes a writer received where `held` names them: for `String`, `Vec<u8>`,
+//! contract states which bytes a writer received where `held` names them: for `String`, `Vec<u8>`,
 //! `Box<W>`, `BufWriter<W>`, `LineWriter<W>`, and a `&mut` of one of these. The impls for formatters,
 //! `&mut [u8]`, the cursors and `Sink` have clauses of their own. The contracts of files and of the
-//! standard streams tell the length of the text alone.
+//! standard streams state the returned length alone.
 //!
 //! A contract says when a call fails where std's says so of one write: exactly where the space is too
 //! short, for slices and for cursors over slices; only with an error of kind
@@ -41,7 +41,7 @@ use std::{fmt, io};
 /// line.write_formatted(&1000000, &Locale::en)?;    // Ok(9), and line is "1,000,000"
 /// ```
 pub trait WriteFormatted {
-    /// The bytes that the writer holds, where a contract can tell them.
+    /// The bytes that the writer holds, where a contract can name them.
     ghost held: { Self → Option (List ℕ) } = { λ _. None };
 
     /// Writes the text of the number to the writer. Returns the length of the text in bytes.
@@ -219,7 +219,7 @@ impl WriteFormatted for Cursor<Vec<u8>> {
 }
 
 impl WriteFormatted for Cursor<&mut Vec<u8>> {
-    /// Writes the text of the number as into a `Cursor<Vec<u8>>`. The contract tells the cursor's
+    /// Writes the text of the number as into a `Cursor<Vec<u8>>`. The contract states the cursor's
     /// position, and not the bytes of the vector.
     ///
     /// # Errors
@@ -279,7 +279,7 @@ impl WriteFormatted for Cursor<&mut [u8]> {
 }
 
 impl WriteFormatted for Cursor<BoxedSlice<u8>> {
-    /// Writes the text of the number as into a `Cursor<&mut [u8]>`. The contract tells the cursor's
+    /// Writes the text of the number as into a `Cursor<&mut [u8]>`. The contract states the cursor's
     /// position, and not the bytes of the slice.
     ///
     /// # Errors
@@ -316,7 +316,7 @@ impl WriteFormatted for &mut [u8] {
     /// Returns an error, of kind [`WriteZero`](io::ErrorKind::WriteZero), exactly if the text is
     /// longer than the slice. The slice received as much of the text as fits, and is then empty.
     ///
-    /// The contract tells the space that is left, and not the bytes before it.
+    /// The contract states the space that is left, and not the bytes before it.
     fn write_formatted<F: Format, N: ToFormattedString>(
         &mut self,
         n: &N,

@@ -1,9 +1,9 @@
-//! Writers and readers that fail, and memory that is refused: what stands after an error.
+//! Writers and readers that fail, and memory that is refused: what holds after an error.
 //!
-//! [`Scripted`] is a writer that does what a list of steps says. Its contract tells the bytes that it
+//! [`Scripted`] is a writer that does what a list of steps says. Its contract states the bytes that it
 //! received, the space that is left, and which step each call takes, so which writes fail or write
-//! nothing. [`ScriptedReader`] is such a reader: its contract tells the bytes that are left, and how many
-//! each call gives.
+//! nothing. [`ScriptedReader`] is such a reader: its contract states the bytes that are left, and how
+//! many each call gives.
 //!
 //! std's contract of `write` does not say when a write fails. So no contract of code that is generic
 //! over a writer can say that it fails only after such a write, and these tests show it:

@@ -110,7 +110,7 @@ impl Buffer {
         MAX_BUF_LEN - self.start
     }
 
-    /// Prepends a text to the one that stands. Both together have at most [`MAX_BUF_LEN`] bytes.
+    /// Prepends a text to that of the buffer. Both together have at most [`MAX_BUF_LEN`] bytes.
     ///
     /// The Rust crate has no such call.
     ///

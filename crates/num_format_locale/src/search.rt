@@ -36,7 +36,7 @@ fn find_hyphened(text: &[u8]) -> Option<usize>
 {
     let names = num_format_cldr::names();
     let (mut low, mut high) = narrowed(text);
-    // The first name with these letters is mostly a language alone, which is asked for most.
+    // The first name with these letters is mostly a language alone, which is looked up most.
     let mut middle = low;
     while low < high {
         match compare(text, names[middle].as_bytes()) {

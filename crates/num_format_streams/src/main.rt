@@ -1,7 +1,7 @@
 //! Writes a number to each type of a stream of the process, and exits with how many of these writes
 //! failed.
 //!
-//! No contract tells what a stream received. The stored output shows it of standard output.
+//! No contract states what a stream received. The stored output shows it of standard output.
 #![tactic(auto)]
 
 use num_format::{Locale, WriteFormatted};

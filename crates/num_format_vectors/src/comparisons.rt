@@ -53,7 +53,7 @@ pub fn compare_texts<S: Symbol>(a: &BoundedStr<'_, S>, b: &BoundedStr<'_, S>) ->
     a.cmp(b)
 }
 
-/// Returns whether a text stands before another one of its symbol.
+/// Returns whether a text is less than another one of its symbol.
 pub fn is_before<S: Symbol>(a: &BoundedStr<'_, S>, b: &BoundedStr<'_, S>) -> bool
     ensures { result ≡ is_lt (slice_cmp nat_cmp a.now b.now) }
 {

@@ -164,7 +164,7 @@ fn an_empty_minus_sign(rt: HostRuntime) -> Result<(), Fail> {
     assert_parses(&rt, rt.alloc(), "1,000", &WithoutMinus, None::<u32>)
 }
 
-/// Neither certificate asks more of a format than its methods.
+/// Both certificates take a format of one's own.
 #[test]
 fn certificates(rt: HostRuntime) {
     for grouping in [

@@ -1,4 +1,4 @@
-//! Formats from settings. Only formats under which every number reads back are handed out.
+//! Formats from settings. Only formats under which every number reads back are returned.
 #![tactic(auto)]
 
 mod settings;
