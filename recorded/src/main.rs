@@ -1,13 +1,13 @@
 //! Asks the Rust crate `num-format` 0.4.4 again what the repository has recorded of it.
 //!
 //! ```text
-//! cargo run -- cases        compares each case of crates/num_format_oracle/stdin
+//! cargo run -- cases        compares the cases of crates/num_format_oracle/stdin
 //! cargo run -- constants    writes crates/num_format_vectors/src/constants.rt
 //! ```
 //!
-//! A case whose result differs has to belong to a class of differences that `docs/DIFFERENCES.md`
-//! names, and to have the result that the class prescribes. The exit status is 1 where one does
-//! not.
+//! Cases on JSON, on builders and with a grouping that the Rust crate does not have are left out. A
+//! case whose result differs has to belong to a class of differences that `docs/DIFFERENCES.md` names,
+//! and to have the result that the class prescribes. The exit status is 1 where one does not.
 
 mod cases;
 mod constants;
