@@ -1,3 +1,2 @@
 mod CutLemmas
 mod Examples
-pub mod WriteLemmas

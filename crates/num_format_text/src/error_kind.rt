@@ -1,10 +1,16 @@
 //! The kinds of errors, with the messages that they print.
-ghost use Rattle.std.specs.Prelude.{Some};
-ghost use Rattle.num_format_text.specs.Refusal.{message_of, refusal_of};
+ghost use Rattle.std.specs.Prelude.{◌≡◌, ◌+◌, ◌≤◌, ◌++◌, Some, codes, length};
+ghost use Rattle.num_format_text.specs.Refusal.{Capacity, message_of, refusal_of};
 
 use crate::capacities::MAX_ERR_LEN;
 use arrayvec::ArrayString;
 use std::fmt;
+
+/// The most bytes that a message adds to the text that an error keeps.
+const MAX_ADDED_LEN: usize = 37;
+
+/// The most bytes of the message of an error.
+pub const MAX_MESSAGE_LEN: usize = MAX_ADDED_LEN + MAX_ERR_LEN;
 
 /// Why an input was refused.
 ///
@@ -33,33 +39,67 @@ pub enum ErrorKind {
     ParseNumber(ArrayString<MAX_ERR_LEN>),
 }
 
+impl ErrorKind {
+    /// Returns the message, which needs no memory and cannot fail.
+    ///
+    /// The Rust crate has no such function: there the message is only displayed.
+    pub fn message(&self) -> ArrayString<MAX_MESSAGE_LEN>
+        ensures { result.bytes ≡ message_of (refusal_of self.now) }
+    {
+        match self {
+            ErrorKind::Capacity { len, cap } => capacity_message(*len, *cap),
+            ErrorKind::Other(message) => other_message(message.as_str()),
+            ErrorKind::ParseLocale(name) => parse_message(name.as_str(), " into a valid locale."),
+            ErrorKind::ParseNumber(text) => parse_message(text.as_str(), " into a number."),
+        }
+    }
+}
+
+/// Returns the message for a text of `len` bytes where at most `cap` fit.
+fn capacity_message(len: usize, cap: usize) -> ArrayString<MAX_MESSAGE_LEN>
+    ensures { result.bytes ≡ message_of (Capacity len cap) }
+{
+    let mut digits = itoa::Buffer::new();
+    let mut message = ArrayString::new();
+    message.push_str("Attempted to write input of length ");
+    message.push_str(digits.format(len));
+    message.push_str(" bytes into a buffer with capacity ");
+    message.push_str(digits.format(cap));
+    message.push_str(" bytes.");
+    message
+}
+
+/// Returns a message that is kept as it is.
+fn other_message(text: &str) -> ArrayString<MAX_MESSAGE_LEN>
+    requires { length text.now ≤ MAX_ERR_LEN }
+    ensures { result.bytes ≡ text.now }
+{
+    let mut message = ArrayString::new();
+    message.push_str(text);
+    message
+}
+
+/// Returns the message for a text that does not parse.
+fn parse_message(text: &str, into: &str) -> ArrayString<MAX_MESSAGE_LEN>
+    requires kept { length text.now ≤ MAX_ERR_LEN }
+    requires fits { 16 + length into.now ≤ MAX_ADDED_LEN }
+    ensures { result.bytes ≡ codes "Failed to parse " ++ (text.now ++ into.now) }
+{
+    let mut message = ArrayString::new();
+    message.push_str("Failed to parse ");
+    message.push_str(text);
+    message.push_str(into);
+    message
+}
+
 impl fmt::Display for ErrorKind {
     ghost output = { λ kind. Some (message_of (refusal_of kind)) };
 
     ghost styled_output = { λ kind _. Some (message_of (refusal_of kind)) };
 
-    /// Writes the message alone, whatever width or fill is asked for.
-    #[tactic(auto, using(crate::proofs::WriteLemmas::three_writes, crate::proofs::WriteLemmas::five_writes))]
+    /// Writes the [message](ErrorKind::message) alone, by one write, whatever width or fill is asked
+    /// for.
     fn fmt<W: fmt::Write>(&self, f: &mut fmt::Formatter<W>) -> fmt::Result {
-        match self {
-            ErrorKind::Capacity { len, cap } => {
-                f.write_str("Attempted to write input of length ")?;
-                f.write_str(itoa::Buffer::new().format(*len))?;
-                f.write_str(" bytes into a buffer with capacity ")?;
-                f.write_str(itoa::Buffer::new().format(*cap))?;
-                f.write_str(" bytes.")
-            }
-            ErrorKind::Other(message) => f.write_str(message.as_str()),
-            ErrorKind::ParseLocale(input) => {
-                f.write_str("Failed to parse ")?;
-                f.write_str(input.as_str())?;
-                f.write_str(" into a valid locale.")
-            }
-            ErrorKind::ParseNumber(input) => {
-                f.write_str("Failed to parse ")?;
-                f.write_str(input.as_str())?;
-                f.write_str(" into a number.")
-            }
-        }
+        f.write_str(self.message().as_str())
     }
 }

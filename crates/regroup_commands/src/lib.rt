@@ -34,7 +34,6 @@
 #![tactic(auto)]
 
 mod command;
-mod message;
 mod sending;
 
 ghost use Rattle.std.specs.Prelude.{◌≡◌, ◌≢◌};

@@ -11,9 +11,9 @@ ghost use Rattle.regroup_commands.specs.Command.{texts};
 ghost use Rattle.regroup_commands.specs.Output.{bool_line, line, lines};
 ghost use Rattle.regroup_commands.specs.Sending.{Sends};
 
-use crate::message::{MAX_MESSAGE_LEN, message};
 use arrayvec::ArrayString;
 use num_format::{Buffer, Error, Format};
+use num_format_text::error_kind::MAX_MESSAGE_LEN;
 use std::io;
 use std::io::Write;
 
@@ -122,5 +122,5 @@ pub(crate) fn send_error<W: Write>(error: &Error, writer: &mut W) -> io::Result<
     ensures { Sends result (W.contents writer.old) (W.contents writer.new)
         (line (message_of (refusal_of error.now))) }
 {
-    send_line(message(error).as_str(), writer)
+    send_line(error.kind().message().as_str(), writer)
 }

@@ -1,5 +1,5 @@
 use Rattle.std.proofs.Common.{append_assoc}
-use Rattle.regroup_commands.proofs.message.capacity_message.Goals as goal
+use Rattle.num_format_text.proofs.error_kind.capacity_message.Goals as goal
 
 pub returns : goal.returns
 returns c = simp (
