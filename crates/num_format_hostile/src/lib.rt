@@ -12,13 +12,17 @@
 //! |---|---|
 //! | `bytes` | numbers into writers of bytes that make short writes, fail, or write nothing |
 //! | `text` | numbers into writers of text that fail |
+//! | `inputs` | lines that are regrouped, and those at fault |
 //! | `lines` | lines from readers that give them in pieces, are interrupted or fail |
+//! | `stream` | the program `regroup-lines` where its input or a flush fails |
 //! | `program` | commands of `regroup` whose outputs fail at each of their writes |
 //! | `memory` | calls that take memory, where it is refused |
 #![tactic(auto)]
 
 #[cfg(test)]
 mod bytes;
+#[cfg(test)]
+mod inputs;
 #[cfg(test)]
 mod lines;
 #[cfg(test)]
@@ -27,6 +31,8 @@ mod memory;
 mod program;
 mod scripted;
 mod scripted_reader;
+#[cfg(test)]
+mod stream;
 #[cfg(test)]
 mod text;
 

@@ -11,7 +11,7 @@ ghost use Rattle.regroup_commands.specs.Sending.{SendsLines, SendsOutput};
 use crate::sending::{send_bool, send_decimal, send_error, send_lines, send_number};
 use crate::{ANSWERED, REFUSED};
 use num_format::parsing::ParseFormatted;
-use num_format::{CustomFormat, Error, Grouping, Locale, laws, prints_alike, reads_back};
+use num_format::{CustomFormat, Error, Format, Grouping, Locale, laws, prints_alike, reads_back};
 use std::io;
 use std::io::Write;
 
@@ -230,17 +230,17 @@ pub fn locale_named(name: &str) -> Result<Locale, Error>
     Locale::from_name(name)
 }
 
-/// Returns the number that the text denotes under the locale.
+/// Returns the number that the text denotes under the format.
 ///
 /// # Errors
 ///
 /// Returns an error if the text does not parse as an `i128`.
 #[tactic(auto, using(crate::proofs::ReadingLemmas::number_read_from_parse))]
-fn number_read(text: &str, locale: &Locale) -> Result<i128, Error>
+pub fn number_read<F: Format>(text: &str, format: &F) -> Result<i128, Error>
     ensures { result_map_both (λ number. number) refusal_of result
-        ≡ number_read (locale_data locale.now) text.now }
+        ≡ number_read (F.answers format.now) text.now }
 {
-    text.parse_formatted(locale)
+    text.parse_formatted(format)
 }
 
 /// Returns whether every number, printed under the locale, parses as the same number again.

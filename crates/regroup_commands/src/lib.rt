@@ -29,8 +29,8 @@
 //! numbers of `check` and `alike` are those of all integer types. `check` prints `true` for every
 //! locale.
 //!
-//! [`custom_format`], [`locale_named`] and [`send`] are parts of these commands, for
-//! other programs. Nothing here allocates.
+//! [`custom_format`], [`locale_named`], [`number_read`], [`send`] and [`send_number`] are parts of these
+//! commands, for other programs. Nothing here allocates.
 #![tactic(auto)]
 
 mod command;
@@ -42,8 +42,8 @@ ghost use Rattle.regroup_commands.specs.Output.{output_of};
 ghost use Rattle.regroup_commands.specs.Sending.{IsSent, SendsOutput, StopsShort};
 
 use crate::command::Command;
-pub use crate::command::{custom_format, locale_named};
-pub use crate::sending::send;
+pub use crate::command::{custom_format, locale_named, number_read};
+pub use crate::sending::{send, send_number};
 use crate::sending::send_line;
 use std::io;
 use std::io::Write;

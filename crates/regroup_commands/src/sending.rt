@@ -71,12 +71,13 @@ pub(crate) fn send_lines<W: Write>(items: &[&str], writer: &mut W) -> io::Result
     Ok(())
 }
 
-/// Sends the text of the number under the format, and a newline.
+/// Sends the text of the number under the format and a newline together, by one write if that writes
+/// all of them.
 ///
 /// # Errors
 ///
 /// Returns the error of the first write that fails or writes no bytes.
-pub(crate) fn send_number<F: Format, W: Write>(
+pub fn send_number<F: Format, W: Write>(
     number: i128,
     format: &F,
     writer: &mut W,

@@ -2,5 +2,5 @@
 mod Examples
 mod InputLemmas
 mod LineLemmas
-mod ParsingLemmas
+pub mod MessageLemmas
 mod TextLemmas

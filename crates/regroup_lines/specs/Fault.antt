@@ -1,6 +1,7 @@
--- Faults as clauses compare them.
-use Rattle.std.specs.Prelude.{ℕ}
-use Rattle.num_format.specs.Refusal.{Refusal, refusal_of}
+-- Faults as clauses compare them, and their messages.
+use Rattle.std.specs.Prelude.{ℕ, List, ◌++◌, codes}
+use Rattle.std.specs.Fmt.{decimal}
+use Rattle.num_format.specs.Refusal.{Refusal, message_of, refusal_of}
 use Rattle.regroup_lines.specs.declared.fault.RegroupFault.{RegroupFault}
 use Rattle.regroup_lines.specs.declared.fault.RegroupFault.TheVariants as fault
 
@@ -21,3 +22,16 @@ fault_of fault.Read = Read
 fault_of (fault.NotText number) = NotText number
 fault_of (fault.Line number error) = Line number (refusal_of error)
 fault_of fault.Write = Write
+
+-- what stands before the message of a fault in the line of this number, which is in decimal
+abbrev pub line_prefix : ℕ → List ℕ
+line_prefix number = codes "line " ++ (decimal number ++ codes ": ")
+
+-- the message of a fault
+abbrev pub message_of_fault : Fault → List ℕ
+message_of_fault TooMany = codes "The input has more lines than are allowed."
+message_of_fault (TooLong number) = line_prefix number ++ codes "More than 4096 bytes."
+message_of_fault Read = codes "Failed to read."
+message_of_fault (NotText number) = line_prefix number ++ codes "Not UTF-8."
+message_of_fault (Line number refusal) = line_prefix number ++ message_of refusal
+message_of_fault Write = codes "Failed to write."

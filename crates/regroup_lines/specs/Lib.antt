@@ -2,5 +2,4 @@
 pub mod Fault
 pub mod Input
 pub mod Lines
-pub mod Parsing
 pub mod Sending

@@ -1,13 +1,13 @@
 -- What regrouping the lines of an input writes and returns.
-use Rattle.std.specs.Prelude.{ℕ, ◌+◌, ◌==◌, nat_lt, ℤ, not, if◌then◌else◌, List, [], ◌∷◌, ◌++◌, length, Option, None, Some, Result, Ok, Err}
+use Rattle.std.specs.Prelude.{ℕ, ◌+◌, ◌==◌, nat_lt, ℤ, if◌then◌else◌, List, [], ◌∷◌, ◌++◌, length, Option, None, Some, Result, Ok, Err}
 use Rattle.std.specs.List.{slice_split}
 use Rattle.std.specs.Result.{result_map_both}
 use Rattle.std.specs.Str.{is_utf8}
 use Rattle.num_format.specs.Format.{FormatData}
 use Rattle.num_format.specs.Text.{text_of}
+use Rattle.regroup_commands.specs.Output.{line, number_read}
 use Rattle.regroup_lines.specs.Fault.{Fault}
 use Rattle.regroup_lines.specs.Fault.Fault.{TooMany, TooLong, Read, NotText, Line}
-use Rattle.regroup_lines.specs.Parsing.{number_read}
 
 -- how a reader stopped: at its end, by a failed read, or not at all, where no more was read
 pub data Stop : Type 0 where
@@ -19,10 +19,6 @@ pub data Stop : Type 0 where
 pub record Regrouped : Type 0 where
   pub written : List ℕ
   pub returned : Option (Result ℕ Fault)
-
--- a text and a newline
-abbrev pub line : List ℕ → List ℕ
-line text = text ++ 10 ∷ []
 
 -- nothing more is written
 abbrev pub returning : Option (Result ℕ Fault) → Regrouped
@@ -37,10 +33,10 @@ abbrev pub writing_number : FormatData → Result ℤ Fault → Regrouped → Re
 writing_number to (Ok number) rest = writing (line (text_of to number)) rest
 writing_number to (Err fault) rest = returning (Some (Err fault))
 
--- the fault of so many bytes in a line of this number: it is one line too many, or too long
-abbrev pub size_fault : ℕ → List ℕ → Option Fault
-size_fault number bytes =
-    if nat_lt 1000000 number then Some TooMany else
+-- the fault of so many bytes in a line of this number, where there may be this many lines: it is one line too many, or too long
+abbrev pub size_fault : ℕ → ℕ → List ℕ → Option Fault
+size_fault most number bytes =
+    if nat_lt most number then Some TooMany else
     if nat_lt 4096 (length bytes) then Some (TooLong number) else None
 
 -- the number that the text of a line parses as, or the fault of the text
@@ -54,8 +50,8 @@ unless_fault (Some fault) other = Err fault
 unless_fault None other = other
 
 -- the number in the line of this number, or the line's first fault
-abbrev pub number_in_line : FormatData → ℕ → List ℕ → Result ℤ Fault
-number_in_line from number text = unless_fault (size_fault number text) (number_in_text from number text)
+abbrev pub number_in_line : ℕ → FormatData → ℕ → List ℕ → Result ℤ Fault
+number_in_line most from number text = unless_fault (size_fault most number text) (number_in_text from number text)
 
 -- the fault where the first is one, or else what the reader's stop returns: the fault of a failed read
 abbrev pub returned_unfinished : Option Fault → Stop → Option (Result ℕ Fault)
@@ -64,27 +60,27 @@ returned_unfinished None Failed = Some (Err Read)
 returned_unfinished None _ = None
 
 -- the fault of bytes that no newline ends
-abbrev pub unfinished_fault : ℕ → List ℕ → Option Fault
-unfinished_fault number bytes = if length bytes == 0 then None else size_fault number bytes
+abbrev pub unfinished_fault : ℕ → ℕ → List ℕ → Option Fault
+unfinished_fault most number bytes = if length bytes == 0 then None else size_fault most number bytes
 
 -- what stands after the last newline, with so many lines before it: at the end it is a line unless it is empty
-abbrev pub regrouped_rest : FormatData → FormatData → Stop → ℕ → List ℕ → Regrouped
-regrouped_rest from to Ended count rest =
+abbrev pub regrouped_rest : ℕ → FormatData → FormatData → Stop → ℕ → List ℕ → Regrouped
+regrouped_rest most from to Ended count rest =
     if length rest == 0 then returning (Some (Ok count)) else
-    writing_number to (number_in_line from (count + 1) rest) (returning (Some (Ok (count + 1))))
-regrouped_rest from to stop count rest = returning (returned_unfinished (unfinished_fault (count + 1) rest) stop)
+    writing_number to (number_in_line most from (count + 1) rest) (returning (Some (Ok (count + 1))))
+regrouped_rest most from to stop count rest = returning (returned_unfinished (unfinished_fault most (count + 1) rest) stop)
 
 -- the parts between newlines, with so many lines before them: each but the last is a line
-abbrev pub regrouped_parts : FormatData → FormatData → Stop → ℕ → List (List ℕ) → Regrouped
-regrouped_parts from to stop count [] = returning None
-regrouped_parts from to stop count (rest ∷ []) = regrouped_rest from to stop count rest
-regrouped_parts from to stop count (text ∷ next ∷ parts) =
-    writing_number to (number_in_line from (count + 1) text) (regrouped_parts from to stop (count + 1) (next ∷ parts))
+abbrev pub regrouped_parts : ℕ → FormatData → FormatData → Stop → ℕ → List (List ℕ) → Regrouped
+regrouped_parts most from to stop count [] = returning None
+regrouped_parts most from to stop count (rest ∷ []) = regrouped_rest most from to stop count rest
+regrouped_parts most from to stop count (text ∷ next ∷ parts) =
+    writing_number to (number_in_line most from (count + 1) text) (regrouped_parts most from to stop (count + 1) (next ∷ parts))
 
 -- the bytes of an input, with so many lines before them
-abbrev pub regrouped_after : FormatData → FormatData → Stop → ℕ → List ℕ → Regrouped
-regrouped_after from to stop count bytes = regrouped_parts from to stop count (slice_split (λ b. b == 10) bytes)
+abbrev pub regrouped_after : ℕ → FormatData → FormatData → Stop → ℕ → List ℕ → Regrouped
+regrouped_after most from to stop count bytes = regrouped_parts most from to stop count (slice_split (λ b. b == 10) bytes)
 
--- an input: the bytes that a reader gave, and how it stopped
-abbrev pub regrouped : FormatData → FormatData → Stop → List ℕ → Regrouped
-regrouped from to stop bytes = regrouped_after from to stop 0 bytes
+-- an input that may have this many lines: the bytes that a reader gave, and how it stopped
+abbrev pub regrouped : ℕ → FormatData → FormatData → Stop → List ℕ → Regrouped
+regrouped most from to stop bytes = regrouped_after most from to stop 0 bytes

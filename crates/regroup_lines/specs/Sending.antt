@@ -1,19 +1,14 @@
 -- What a writer received of the lines.
-use Rattle.std.specs.Prelude.{◌≡◌, ◌≢◌, ℕ, ℤ, List, Option, Some, Result, Ok, Err, OnOk, OnErr}
+use Rattle.std.specs.Prelude.{◌≡◌, ◌≢◌, ℕ, ℤ, List, Option, Some, Result, Ok, Err}
 use Rattle.std.specs.Io.KnownBytes.{Appends, Consumes, IsAtEnd}
 use Rattle.num_format.specs.Format.{FormatData}
 use Rattle.num_format.specs.Text.{text_of}
 use Rattle.num_format.specs.Writing.{StopsWithin}
+use Rattle.regroup_commands.specs.Output.{line}
 use Rattle.regroup_lines.specs.Fault.{Fault}
 use Rattle.regroup_lines.specs.Fault.Fault.{Write}
-use Rattle.regroup_lines.specs.Lines.{Stop, line, regrouped}
+use Rattle.regroup_lines.specs.Lines.{Stop, regrouped}
 use Rattle.regroup_lines.specs.Lines.Stop.{Ended}
-
--- what a call that sends a text does: on `Ok` the writer received all of the text; on `Err` it received a prefix of the text, and
--- not all of it
-pub record Sends {T E : Type 0} (result : Result T E) (old new : Option (List ℕ)) (text : List ℕ) : Type 0 where
-  pub whole : OnOk result (Appends old new text)
-  pub prefix : OnErr result (StopsWithin old new text)
 
 -- what a call that sends the line of a number does: a fault in place of the number is returned, and nothing is sent
 abbrev pub SendsNumber : {T : Type 0} → FormatData → Result ℤ Fault → Option (List ℕ) → Option (List ℕ) → Result T Fault → Type 0
@@ -22,13 +17,13 @@ SendsNumber to (Ok number) old new (Err fault) = (fault ≡ Write) × StopsWithi
 SendsNumber to (Err fault) old new (Ok sent) = ⊥
 SendsNumber to (Err fault) old new (Err returned) = (returned ≡ fault) × (new ≡ old)
 
--- what a call that regroups lines does: the result, and what the writer received, are those of the bytes that the reader gave, by how
--- it stopped; where the result is `Write`, the writer received a prefix, and not all
-pub record Regroups (from to : FormatData) (read_old read_new sent_old sent_new : Option (List ℕ)) (result : Result ℕ Fault) : Type 0 where
+-- what a call that regroups this many lines at most does: the result, and what the writer received, are those of the bytes that
+-- the reader gave, by how it stopped; where the result is `Write`, the writer received a prefix, and not all
+pub record Regroups (most : ℕ) (from to : FormatData) (read_old read_new sent_old sent_new : Option (List ℕ)) (result : Result ℕ Fault) : Type 0 where
   pub given : List ℕ
   pub stop : Stop
   pub consumed : Consumes read_old read_new given
   pub at_end : stop ≡ Ended → IsAtEnd read_new
-  pub returned : result ≢ Err Write → (regrouped from to stop given).returned ≡ Some result
-  pub written : result ≢ Err Write → Appends sent_old sent_new (regrouped from to stop given).written
-  pub prefix : result ≡ Err Write → StopsWithin sent_old sent_new (regrouped from to stop given).written
+  pub returned : result ≢ Err Write → (regrouped most from to stop given).returned ≡ Some result
+  pub written : result ≢ Err Write → Appends sent_old sent_new (regrouped most from to stop given).written
+  pub prefix : result ≡ Err Write → StopsWithin sent_old sent_new (regrouped most from to stop given).written

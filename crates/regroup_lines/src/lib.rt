@@ -14,9 +14,6 @@
 
 mod fault;
 mod input;
-mod sending;
-#[cfg(test)]
-mod tests;
 
 ghost use Rattle.std.specs.Result.{result_map_both};
 ghost use Rattle.regroup_lines.specs.Fault.{fault_of};
@@ -25,23 +22,22 @@ ghost use Rattle.regroup_lines.specs.Sending.{Regroups, SendsNumber};
 
 pub use crate::fault::RegroupFault;
 use crate::input::{Input, Piece};
-use crate::sending::send_number;
 use num_format::Format;
-use num_format::parsing::ParseFormatted;
+use regroup_commands::{number_read, send_number};
 use std::io::{Read, Write};
 use std::str;
 
 /// The most bytes of a line, without its newline.
 pub const MAX_LINE_LEN: usize = 4096;
 
-/// The most lines of an input.
+/// The most lines of an input of [`regroup_lines`].
 pub const MAX_LINES: u64 = 1_000_000;
 
 /// Parses each line of `r` as an `i128` under the format `from`, and writes the number under the format
 /// `to`, and a newline, to `w`. Returns the number of lines.
 ///
 /// Of each line, all digits and a minus sign at its start are parsed, and other characters are ignored,
-/// as [`parse_formatted`](ParseFormatted::parse_formatted) does. So a carriage return before the newline
+/// as [`parse_formatted`](num_format::parsing::ParseFormatted::parse_formatted) does. So a carriage return before the newline
 /// is ignored too, but counts as a byte of the line. A line and its newline leave together, by one write
 /// if that writes all of them.
 ///
@@ -66,12 +62,32 @@ pub fn regroup_lines<R: Read, W: Write, F: Format, G: Format>(
     from: &F,
     to: &G,
 ) -> Result<u64, RegroupFault>
-    ensures { Regroups (F.answers from.now) (G.answers to.now)
+    ensures { Regroups MAX_LINES (F.answers from.now) (G.answers to.now)
+        (R.remaining r.old) (R.remaining r.new) (W.contents w.old) (W.contents w.new)
+        (result_map_both (λ count. count) fault_of result) }
+{
+    regroup_at_most(MAX_LINES, r, w, from, to)
+}
+
+/// Does as [`regroup_lines`], but for an input of at most so many lines.
+///
+/// # Errors
+///
+/// Returns the first fault, of those of [`regroup_lines`].
+/// [`TooMany`](RegroupFault::TooMany) is that a byte follows the last of these lines.
+pub fn regroup_at_most<R: Read, W: Write, F: Format, G: Format>(
+    most: u64,
+    r: &mut R,
+    w: &mut W,
+    from: &F,
+    to: &G,
+) -> Result<u64, RegroupFault>
+    ensures { Regroups most (F.answers from.now) (G.answers to.now)
         (R.remaining r.old) (R.remaining r.new) (W.contents w.old) (W.contents w.new)
         (result_map_both (λ count. count) fault_of result) }
 {
     let mut input = Input::new();
-    for count in 0..MAX_LINES {
+    for count in 0..most {
         let number = count + 1;
         let Ok(piece) = input.next_piece(r) else {
             return Err(RegroupFault::Read);
@@ -90,7 +106,7 @@ pub fn regroup_lines<R: Read, W: Write, F: Format, G: Format>(
         }
     }
     match input.is_at_end(r) {
-        Ok(true) => Ok(MAX_LINES),
+        Ok(true) => Ok(most),
         Ok(false) => Err(RegroupFault::TooMany),
         Err(_) => Err(RegroupFault::Read),
     }
@@ -110,7 +126,7 @@ fn regroup_line<W: Write, F: Format, G: Format>(
     let Ok(text) = str::from_utf8(text) else {
         return Err(RegroupFault::NotText(number));
     };
-    match text.parse_formatted(from) {
+    match number_read(text, from) {
         Ok(value) => send_number(value, to, w).or(Err(RegroupFault::Write)),
         Err(error) => Err(RegroupFault::Line(number, error)),
     }

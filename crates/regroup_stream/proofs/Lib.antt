@@ -1,4 +1,3 @@
-pub mod FirstLinesLemmas
 pub mod SplitLemmas
 pub mod StreamLemmas
 pub mod WordsLemmas

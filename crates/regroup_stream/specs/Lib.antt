@@ -1,4 +1,3 @@
 -- The definitions that the contracts of this crate use.
-pub mod FirstLines
 pub mod Stream
 pub mod Words

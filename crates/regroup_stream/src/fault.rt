@@ -1,7 +1,9 @@
 //! The faults of lines, and their messages.
-ghost use Rattle.std.specs.Prelude.{◌≡◌};
-ghost use Rattle.regroup_lines.specs.Fault.{fault_of};
-ghost use Rattle.regroup_stream.specs.Stream.{after_lines, is_of_line};
+ghost use Rattle.std.specs.Prelude.{◌≡◌, IfOk};
+ghost use Rattle.regroup_commands.specs.Output.{line};
+ghost use Rattle.regroup_commands.specs.Sending.{Sends};
+ghost use Rattle.regroup_lines.specs.Fault.{fault_of, message_of_fault};
+ghost use Rattle.regroup_stream.specs.Stream.{is_of_line};
 
 use arrayvec::ArrayString;
 use regroup_commands::send;
@@ -22,26 +24,16 @@ pub(crate) fn is_of_line(fault: &RegroupFault) -> bool
     }
 }
 
-/// Returns the fault with so many lines more before its line. Numbers stop at `u64::MAX`.
-pub(crate) fn after_lines(fault: RegroupFault, lines: u64) -> RegroupFault
-    ensures { fault_of result ≡ after_lines lines (fault_of fault) }
-{
-    match fault {
-        RegroupFault::TooLong(number) => RegroupFault::TooLong(lines.saturating_add(number)),
-        RegroupFault::NotText(number) => RegroupFault::NotText(lines.saturating_add(number)),
-        RegroupFault::Line(number, error) => {
-            RegroupFault::Line(lines.saturating_add(number), error)
-        }
-        RegroupFault::TooMany | RegroupFault::Read | RegroupFault::Write => fault,
-    }
-}
-
 /// Sends the message of the fault and a newline.
 ///
 /// # Errors
 ///
 /// Returns the error of the first write that fails or writes no bytes.
-pub(crate) fn send_fault<W: io::Write>(fault: &RegroupFault, writer: &mut W) -> io::Result<()> {
+#[tactic(auto, using(crate::proofs::StreamLemmas::StopsWithin_no_line))]
+pub(crate) fn send_fault<W: io::Write>(fault: &RegroupFault, writer: &mut W) -> io::Result<()>
+    ensures { Sends result (W.contents writer.old) (W.contents writer.new)
+        (line (message_of_fault (fault_of fault.now))) }
+{
     let line = message_line(fault)?;
     send(line.as_str().as_bytes(), writer)
 }
@@ -50,8 +42,11 @@ pub(crate) fn send_fault<W: io::Write>(fault: &RegroupFault, writer: &mut W) -> 
 ///
 /// # Errors
 ///
-/// The message of every fault fits, but the contract of `Display` does not say so.
-fn message_line(fault: &RegroupFault) -> Result<ArrayString<MAX_MESSAGE_LEN>, fmt::Error> {
+/// The message of every fault fits, but the contract of `Display` does not say that no other error
+/// comes.
+fn message_line(fault: &RegroupFault) -> Result<ArrayString<MAX_MESSAGE_LEN>, fmt::Error>
+    ensures { IfOk result (λ text. text.bytes ≡ line (message_of_fault (fault_of fault.now))) }
+{
     let mut line = ArrayString::new();
     writeln!(line, "{fault}")?;
     Ok(line)

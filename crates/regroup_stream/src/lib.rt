@@ -1,5 +1,5 @@
-//! Lines of numbers from one format to another, however many: the program `regroup-lines` over any
-//! reader and any two writers.
+//! Lines of numbers from one format to another, as many as a `u64` counts: the program `regroup-lines`
+//! over any reader and any two writers.
 //!
 //! | Status | Output |
 //! |---|---|
@@ -10,25 +10,19 @@
 #![tactic(auto)]
 
 mod fault;
-mod first_lines;
-#[cfg(test)]
-mod tests;
 mod words;
 
 ghost use Rattle.std.specs.Prelude.{◌≡◌, ◌≢◌, [], Some, IfOk, OnOk};
 ghost use Rattle.std.specs.Io.Buffered.{writer_buffer, writer_contents};
-ghost use Rattle.std.specs.Result.{result_map_both};
 ghost use Rattle.regroup_commands.specs.Command.{texts};
-ghost use Rattle.regroup_lines.specs.Fault.{fault_of};
-ghost use Rattle.regroup_stream.specs.Stream.{Ends, RegroupsAll};
+ghost use Rattle.regroup_stream.specs.Stream.{Ends};
 ghost use Rattle.regroup_stream.specs.Words.{formats_named};
 
-use crate::fault::{after_lines, is_of_line, send_fault};
-use crate::first_lines::FirstLines;
+use crate::fault::{is_of_line, send_fault};
 use crate::words::formats_named;
 use num_format::CustomFormat;
 use regroup_commands::send;
-use regroup_lines::{MAX_LINES, RegroupFault, regroup_lines};
+use regroup_lines::regroup_at_most;
 use std::io;
 use std::io::{BufWriter, Read, Write};
 
@@ -71,6 +65,7 @@ pub fn run<R: Read + Drop, O: Write + Drop, E: Write>(
     err: &mut E,
 ) -> u8
     ensures ends { result ≢ FAILED → Ends (formats_named (texts args.now)) result
+        (R.remaining input)
         (writer_contents O.contents out.old) (writer_contents O.contents out.new)
         (E.contents err.old) (E.contents err.new) }
     ensures flushed { result ≢ FAILED → result ≢ MISUSED → writer_buffer out.new ≡ [] }
@@ -89,52 +84,24 @@ pub fn run<R: Read + Drop, O: Write + Drop, E: Write>(
 /// # Errors
 ///
 /// Returns the error of a flush, or of a write of the message of a fault, that failed.
-#[tactic(auto, using(crate::proofs::StreamLemmas::Ends_regrouped, crate::proofs::StreamLemmas::Ends_sent))]
 fn try_run<R: Read + Drop, O: Write + Drop, E: Write>(
     from: &CustomFormat,
     to: &CustomFormat,
-    input: R,
+    mut input: R,
     out: &mut BufWriter<O>,
     err: &mut E,
 ) -> io::Result<u8>
     ensures ends { IfOk result (λ status. status ≢ FAILED → Ends (Some (from.now, to.now)) status
+        (R.remaining input)
         (writer_contents O.contents out.old) (writer_contents O.contents out.new)
         (E.contents err.old) (E.contents err.new)) }
     ensures flushed { OnOk result (writer_buffer out.new ≡ []) }
 {
-    let regrouped = regroup_all(&mut FirstLines::new(input), out, from, to);
+    let regrouped = regroup_at_most(u64::MAX, &mut input, out, from, to);
     out.flush()?;
-    let Err(fault) = regrouped else {
-        return Ok(REGROUPED);
-    };
-    if !is_of_line(&fault) {
-        return Ok(FAILED);
+    match regrouped {
+        Ok(_) => Ok(REGROUPED),
+        Err(fault) if is_of_line(&fault) => send_fault(&fault, err).and(Ok(FAULTY)),
+        Err(_) => Ok(FAILED),
     }
-    send_fault(&fault, err).and(Ok(FAULTY))
-}
-
-/// Regroups all lines, a million at a time. The fault of a line has its number among all of them.
-///
-/// # Errors
-///
-/// Returns the first fault, and `TooMany` where there are more lines than a `u64` counts.
-#[tactic(auto, using(crate::proofs::StreamLemmas::ReceivedMillions_none, crate::proofs::StreamLemmas::ReceivedMillions_more, crate::proofs::StreamLemmas::RegroupsAll_last, crate::proofs::StreamLemmas::RegroupsAll_fault))]
-fn regroup_all<R: Read, W: Write>(
-    input: &mut FirstLines<R>,
-    out: &mut W,
-    from: &CustomFormat,
-    to: &CustomFormat,
-) -> Result<(), RegroupFault>
-    ensures { RegroupsAll from.now to.now (W.contents out.old) (W.contents out.new)
-        (result_map_both (λ done. done) fault_of result) }
-{
-    for millions in 0..u64::MAX / MAX_LINES {
-        input.set_lines(MAX_LINES as usize);
-        match regroup_lines(input, out, from, to) {
-            Ok(MAX_LINES) => {}
-            Ok(_) => return Ok(()),
-            Err(fault) => return Err(after_lines(fault, millions * MAX_LINES)),
-        }
-    }
-    Err(RegroupFault::TooMany)
 }

@@ -1,29 +1,11 @@
-//! Readers and writers that fail.
+//! The program `regroup-lines` where its input or a flush fails.
 
-use crate::{FAILED, FAULTY, REGROUPED, run};
+use crate::ReadStep::{Fail, Give};
+use crate::ScriptedReader;
+use regroup_stream::{FAILED, FAULTY, REGROUPED, run};
 use std::io;
-use std::io::{BufWriter, ErrorKind, Read, Write};
-use std::test::Fail;
-
-/// Gives one byte of the text a read, and then fails.
-#[derive(Drop)]
-struct Failing<'a> {
-    text: &'a [u8],
-}
-
-impl<'a> Read for Failing<'a> {
-    fn read(&mut self, buf: &mut [u8]) -> io::Result<usize> {
-        match (self.text.split_first(), buf.first_mut()) {
-            (Some((byte, rest)), Some(place)) => {
-                *place = *byte;
-                self.text = rest;
-                Ok(1)
-            }
-            (None, Some(_)) => Err(io::Error::from(ErrorKind::BrokenPipe)),
-            (_, None) => Ok(0),
-        }
-    }
-}
+use std::io::{BufWriter, ErrorKind, Write};
+use std::test;
 
 /// Accepts all bytes, and fails where it is flushed.
 #[derive(Drop)]
@@ -44,11 +26,16 @@ impl Write for Unflushed {
 
 /// A failed read is not the end: the lines before it are written, and the status is 3.
 #[test]
-fn a_read_fails(rt: HostRuntime) -> Result<(), Fail> {
+fn a_read_fails(rt: HostRuntime) -> Result<(), test::Fail> {
     for text in [b"1,000\n".as_slice(), b"1,000\n2", b"1,000\nx"] {
         let mut out = BufWriter::new(rt.alloc(), Vec::new(rt.alloc()))?;
         let mut err = Vec::new(rt.alloc());
-        let status = run(&["en", "de"], Failing { text }, &mut out, &mut err);
+        let reader = ScriptedReader {
+            rest: text,
+            steps: &[Give(3), Give(9), Fail],
+            calls: 0,
+        };
+        let status = run(&["en", "de"], reader, &mut out, &mut err);
         assert_eq!(rt; status, FAILED);
         assert_eq!(rt; out.get_ref().as_slice(), b"1.000\n".as_slice());
         assert!(rt; err.is_empty());
@@ -58,7 +45,7 @@ fn a_read_fails(rt: HostRuntime) -> Result<(), Fail> {
 
 /// A failed flush is a failed write, and no message follows it.
 #[test]
-fn a_flush_fails(rt: HostRuntime) -> Result<(), Fail> {
+fn a_flush_fails(rt: HostRuntime) -> Result<(), test::Fail> {
     for text in [b"".as_slice(), b"1,000\n", b"x\n"] {
         let mut out = BufWriter::new(rt.alloc(), Unflushed { calls: 0 })?;
         let mut err = Vec::new(rt.alloc());
@@ -70,7 +57,7 @@ fn a_flush_fails(rt: HostRuntime) -> Result<(), Fail> {
 
 /// The message of a line at fault goes to the other writer.
 #[test]
-fn a_line_is_at_fault(rt: HostRuntime) -> Result<(), Fail> {
+fn a_line_is_at_fault(rt: HostRuntime) -> Result<(), test::Fail> {
     let mut out = BufWriter::new(rt.alloc(), Vec::new(rt.alloc()))?;
     let mut err = Vec::new(rt.alloc());
     let words = ["en", "custom:::Indian:-"];

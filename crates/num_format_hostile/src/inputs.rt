@@ -1,9 +1,8 @@
-//! Inputs and what is written of them. No reader fails here: those that fail are in
-//! `num_format_hostile`.
+//! Inputs of lines, and what is written of them. No reader fails here.
 
-use crate::{RegroupFault, regroup_lines};
 use num_format::error::cut;
 use num_format::{CustomFormat, Error, ErrorKind, Format, Grouping, Locale};
+use regroup_lines::{RegroupFault, regroup_at_most, regroup_lines};
 use std::io;
 use std::process::Abort;
 use std::test::Fail;
@@ -109,12 +108,29 @@ fn a_million_lines(rt: HostRuntime) -> Result<(), Fail> {
     Ok(())
 }
 
+/// A limit of lines counts the last one too, with or without a newline after it.
+#[test]
+fn two_lines_at_most(rt: HostRuntime) -> Result<(), Fail> {
+    for (input, returned) in [
+        ("", Ok(0)),
+        ("1\n2", Ok(2)),
+        ("1\n2\n", Ok(2)),
+        ("1\n2\n\n", Err(RegroupFault::TooMany)),
+        ("1\n2\n3", Err(RegroupFault::TooMany)),
+    ] {
+        let (mut reader, mut out) = (input.as_bytes(), io::sink());
+        let result = regroup_at_most(2, &mut reader, &mut out, &Locale::en, &Locale::en_IN);
+        assert_eq!(rt; result, returned);
+    }
+    Ok(())
+}
+
 #[test]
 fn messages(rt: HostRuntime) -> Result<(), Fail> {
     for (fault, message) in [
         (
             RegroupFault::TooMany,
-            "The input goes on after line 1000000.",
+            "The input has more lines than are allowed.",
         ),
         (RegroupFault::TooLong(2), "line 2: More than 4096 bytes."),
         (RegroupFault::Read, "Failed to read."),
