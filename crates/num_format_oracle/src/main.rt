@@ -20,8 +20,8 @@
 //! - `changed`: results that are wrong, which show that a difference would be found.
 //!
 //! An error keeps the text truncated at a character within 256 bytes, as the port promises; that
-//! crate keeps the whole text. The cases below the comment on examples do not come from that crate:
-//! they were worked out by hand from the rules of grouping, of parsing and of names, and
+//! crate keeps the whole text. The cases below the comment on examples were not recorded: they were
+//! worked out by hand from the rules of grouping, of parsing, of names, of builders and of JSON, and
 //! `tools/examples.py` has them.
 //!
 //! The program prints the first results that differ from the expected ones, the first lines that

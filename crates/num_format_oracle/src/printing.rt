@@ -26,6 +26,9 @@ pub fn printed<N: ToFormattedString, F: Format>(
     let one_less = text.len().saturating_sub(1);
     let ways = [
         ("a used Buffer", printing.is_in_used_buffer()),
+        ("read_to_buffer", printing.is_read_to_buffer()),
+        ("read_to_fmt_writer", printing.is_read_to_fmt_writer()?),
+        ("read_to_io_writer", printing.is_read_to_io_writer()?),
         ("Display", shown.as_str() == text),
         ("to_formatted_string", printing.is_string()?),
         ("String", printing.is_appended_to_string()?),
@@ -61,6 +64,24 @@ impl<N: ToFormattedString, F: Format> Printing<'_, N, F> {
         buffer.write_formatted(&i128::MIN, self.format);
         let count = buffer.write_formatted(self.number, self.format);
         count == self.text.len() && buffer.as_str() == self.text
+    }
+
+    fn is_read_to_buffer(&self) -> bool {
+        let mut buffer = Buffer::new();
+        let count = self.number.read_to_buffer(&mut buffer, self.format);
+        count == self.text.len() && buffer.as_str() == self.text
+    }
+
+    fn is_read_to_fmt_writer(&self) -> Option<bool> {
+        let mut string = String::new(self.alloc);
+        let count = self.number.read_to_fmt_writer(&mut string, self.format);
+        Some(count.ok()? == self.text.len() && string.as_str() == self.text)
+    }
+
+    fn is_read_to_io_writer(&self) -> Option<bool> {
+        let mut bytes = Vec::new(self.alloc);
+        let count = self.number.read_to_io_writer(&mut bytes, self.format);
+        Some(count.ok()? == self.text.len() && bytes.as_slice() == self.text.as_bytes())
     }
 
     fn is_string(&self) -> Option<bool> {
