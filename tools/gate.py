@@ -11,7 +11,7 @@ In this order:
    compilers build it.
 3. The program `regroup` runs with words of each status, and with outputs that are full or closed. So
    does num_format_streams, whose status is how many of its writes failed. num_format_oracle runs with
-   cases of each kind but one, and has to fail.
+   cases of each kind but one, and has to fail, and num_format_properties with each property negated.
 4. tools/filter_checks.py runs `regroup-lines` on good, bad and long input.
 5. `regroup` with the same words, and each test of memory, runs as often as it makes requests for
    memory, each time with another one refused: by tools/refuse_memory.c, which the C compiler `cc`
@@ -50,6 +50,11 @@ STREAMS_WRITES = 2
 ORACLE = ROOT / "crates" / "num_format_oracle"
 CASES = (ORACLE / "stdin").read_text(encoding="utf-8").splitlines(keepends=True)
 
+# The program that checks properties, its inputs, and the length of one in bytes.
+PROPERTIES = ROOT / "crates" / "num_format_properties"
+INPUTS = (PROPERTIES / "stdin").read_bytes()
+INPUT_LEN = 88
+
 # The program of lines, and the words of its stored run.
 FILTER = ROOT / "crates" / "regroup_filter"
 FILTER_WORDS = (FILTER / "args").read_text(encoding="utf-8").splitlines()
@@ -75,15 +80,38 @@ MANY_REQUESTS = 100
 
 NAMES = "".join(f"{name}\n" for name, _ in members(sections()["families"]))
 USAGE = "usage: regroup COMMAND ARGUMENT...\n"
+UNKNOWN_LOCALE = "Failed to parse xx into a valid locale.\n"
+NO_NUMBER = "Failed to parse one into a number.\n"
+I128_MIN = "-170141183460469231731687303715884105728"
+
+# The longest text of a number: 191 bytes.
+LONGEST = "abcdefgh" + "12345678".join(
+    "17 01 41 18 34 60 46 92 31 73 16 87 30 37 15 88 41 05 728".split()
+)
+
+# Texts that are refused, and their longest prefixes of whole characters within 256 bytes.
+KEPT = [
+    (253 * "a" + "€", 253 * "a" + "€"),
+    (254 * "a" + "€", 254 * "a"),
+    (255 * "a" + "é", 255 * "a"),
+    (300 * "a", 256 * "a"),
+]
 
 # Words, the status, standard output and standard error.
 COMMANDS = [
     (["custom", ",", "Standard", "-", "-1000000"], 0, "-1,000,000\n", ""),
+    (["custom", "", "Indian", "", "-100000"], 0, "100000\n", ""),
+    (["custom", "12345678", "Indian", "abcdefgh", I128_MIN], 0, f"{LONGEST}\n", ""),
     (["print", "as", "-1234567"], 0, "-12,34,567\n", ""),
+    (["print", "en_IN", "100000"], 0, "1,00,000\n", ""),
     (["print", "fr", "-1000000"], 0, "-1\u202f000\u202f000\n", ""),
     (["read", "en", " -5"], 0, "5\n", ""),
+    (["read", "as", "-12,34,567"], 0, "-1234567\n", ""),
+    (["read", "en", I128_MIN], 0, f"{I128_MIN}\n", ""),
     (["check", "en"], 0, "true\n", ""),
+    (["check", "fa"], 0, "true\n", ""),
     (["alike", "ru", "xh"], 0, "true\n", ""),
+    (["alike", "af", "agq"], 0, "true\n", ""),
     (["alike", "en", "en_IN"], 0, "false\n", ""),
     (["names"], 0, NAMES, ""),
     (
@@ -92,13 +120,33 @@ COMMANDS = [
         "",
         "Attempted to write input of length 10 bytes into a buffer with capacity 8 bytes.\n",
     ),
-    (["print", "xx", "1"], 1, "", "Failed to parse xx into a valid locale.\n"),
-    (["print", 300 * "a", "1"], 1, "", f"Failed to parse {256 * 'a'} into a valid locale.\n"),
-    (["read", "en", "one"], 1, "", "Failed to parse one into a number.\n"),
-    (["alike", "en", "xx"], 1, "", "Failed to parse xx into a valid locale.\n"),
+    (["print", "xx", "1"], 1, "", UNKNOWN_LOCALE),
+    (["read", "xx", "one"], 1, "", UNKNOWN_LOCALE),
+    (["read", "en", "one"], 1, "", NO_NUMBER),
+    (["check", "xx"], 1, "", UNKNOWN_LOCALE),
+    (["alike", "en", "xx"], 1, "", UNKNOWN_LOCALE),
+    (["alike", "xx", "yy"], 1, "", UNKNOWN_LOCALE),
+    *[
+        (["print", text, "1"], 1, "", f"Failed to parse {kept} into a valid locale.\n")
+        for text, kept in KEPT
+    ],
+    *[
+        (["read", "en", text], 1, "", f"Failed to parse {kept} into a number.\n")
+        for text, kept in KEPT
+    ],
     ([], 2, "", USAGE),
     (["costume"], 2, "", USAGE),
+    (["costume", ",", "Posix", "-", "1"], 2, "", USAGE),
+    (["custom"], 2, "", USAGE),
+    (["custom", "123456789", "Chinese", "-", "1"], 2, "", USAGE),
+    (["custom", "123456789", "Standard", "-", "1e3"], 2, "", USAGE),
+    (["print", "en"], 2, "", USAGE),
     (["print", "en", "1e3"], 2, "", USAGE),
+    (["print", "xx", "1e3"], 2, "", USAGE),
+    (["names", "x"], 2, "", USAGE),
+    (["read", "en"], 2, "", USAGE),
+    (["check"], 2, "", USAGE),
+    (["alike", "en"], 2, "", USAGE),
     (["print", b"\xff", "1"], 3, "", ""),
 ]
 
@@ -134,14 +182,15 @@ def prove(tally):
 
 
 def build(tally):
-    for crate, words, text in [
-        (PROGRAM, STORED_WORDS, ""),
-        (STREAMS, [], ""),
-        (ORACLE, [], "".join(CASES)),
-        (FILTER, FILTER_WORDS, (FILTER / "stdin").read_text(encoding="utf-8")),
+    for crate, words, given in [
+        (PROGRAM, STORED_WORDS, b""),
+        (STREAMS, [], b""),
+        (ORACLE, [], "".join(CASES).encode()),
+        (PROPERTIES, [], INPUTS),
+        (FILTER, FILTER_WORDS, (FILTER / "stdin").read_bytes()),
     ]:
         heading(f"rt run, in crates/{crate.name}")
-        how = {"input": text.encode(), "stdout": subprocess.PIPE, "timeout": None}
+        how = {"input": given, "stdout": subprocess.PIPE, "timeout": None}
         ended = run(["rt", "run", "--", *words], cwd=crate, **how)
         expected = (0, (crate / "stdout").read_bytes())
         tally.compare("rt run", (ended.returncode, ended.stdout), expected)
@@ -194,6 +243,29 @@ def run_oracle(tally, program):
         ended = run([program], input=text.encode(), stdout=subprocess.DEVNULL)
         name = f"without cases of the kind {kind}" if kind else "a case of each kind"
         tally.compare(name, ended.returncode, 1 if kind else 0)
+
+
+def run_properties(tally, program):
+    """It fails without an input, and tells where a property fails: here, where it is negated."""
+    for name, given, status in [("no input", b"", 1), ("one input", b"\0", 0)]:
+        ended = run([program], input=given, stdout=subprocess.DEVNULL)
+        tally.compare(name, ended.returncode, status)
+    lines = (PROPERTIES / "stdout").read_text(encoding="utf-8").splitlines()
+    for number, line in enumerate(lines):
+        name = line.partition(":")[0]
+        ended = run([program, name], input=INPUTS, stdout=subprocess.PIPE)
+        told = ended.stdout.decode()
+        first = re.search(r"first input (\d+):", told)
+        expected = [*lines]
+        expected[number] = negated(line, int(first[1]) if first else 0)
+        tally.compare(f"{name}, negated", (ended.returncode, told.splitlines()), (1, expected))
+
+
+def negated(line, first):
+    """The line of a property, where it fails on each input, and on that one first."""
+    name, inputs = re.match(r"(.*): (\d+) inputs", line).groups()
+    record = INPUTS[first * INPUT_LEN : (first + 1) * INPUT_LEN].hex()
+    return f"{name}: {inputs} inputs, {inputs} failed, first input {first}: {record}"
 
 
 def other(output):
@@ -302,6 +374,8 @@ def main():
         run_streams(tally, program)
     for program in builds(tally, ORACLE, compilers):
         run_oracle(tally, program)
+    for program in builds(tally, PROPERTIES, compilers):
+        run_properties(tally, program)
     for program in builds(tally, FILTER, compilers):
         filter_checks.check_all(tally, program)
     refuse_memory(tally, programs)

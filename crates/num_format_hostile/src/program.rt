@@ -106,7 +106,9 @@ fn each_write_fails_in_turn(rt: HostRuntime) -> Result<(), test::Fail> {
 
 #[test]
 fn each_write_of_the_names_fails_in_turn(rt: HostRuntime) -> Result<(), test::Fail> {
-    fails_at_each_write(&rt, rt.alloc(), &["names"], SPACE, Fail)?;
+    for fault in [Fail, Zero] {
+        fails_at_each_write(&rt, rt.alloc(), &["names"], SPACE, fault)?;
+    }
     Ok(())
 }
 

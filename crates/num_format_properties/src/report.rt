@@ -9,15 +9,18 @@ use std::io;
 #[derive(Drop)]
 struct Tally {
     property: &'static str,
+    /// Whether the property fails where it holds.
+    is_negated: bool,
     inputs: usize,
     failed: usize,
     first_failed: Option<usize>,
 }
 
 impl Tally {
-    fn new(property: &'static str) -> Tally {
+    fn new(property: &'static str, negated: Option<&str>) -> Tally {
         Tally {
             property,
+            is_negated: negated == Some(property),
             inputs: 0,
             failed: 0,
             first_failed: None,
@@ -27,7 +30,7 @@ impl Tally {
     /// Counts one more input, at this index, on which the property holds or fails.
     fn add(&mut self, index: usize, holds: bool) {
         self.inputs = self.inputs.saturating_add(1);
-        if !holds {
+        if holds == self.is_negated {
             self.failed = self.failed.saturating_add(1);
             self.first_failed = self.first_failed.or(Some(index));
         }
@@ -67,20 +70,21 @@ pub struct Report {
 }
 
 impl Report {
-    pub fn new() -> Report {
+    /// Returns a report of no input, in which the property of that name is negated.
+    pub fn new(negated: Option<&str>) -> Report {
         Report {
-            ways: Tally::new("ways"),
-            length: Tally::new("length"),
-            reads_back: Tally::new("reads back"),
-            refused: Tally::new("refused"),
-            parses: Tally::new("parses"),
-            appended: Tally::new("appended"),
-            builds: Tally::new("builds"),
-            finds: Tally::new("finds"),
-            own_name: Tally::new("own name"),
-            json_buffer: Tally::new("json buffer"),
-            json_format: Tally::new("json format"),
-            json_locale: Tally::new("json locale"),
+            ways: Tally::new("ways", negated),
+            length: Tally::new("length", negated),
+            reads_back: Tally::new("reads back", negated),
+            refused: Tally::new("refused", negated),
+            parses: Tally::new("parses", negated),
+            appended: Tally::new("appended", negated),
+            builds: Tally::new("builds", negated),
+            finds: Tally::new("finds", negated),
+            own_name: Tally::new("own name", negated),
+            json_buffer: Tally::new("json buffer", negated),
+            json_format: Tally::new("json format", negated),
+            json_locale: Tally::new("json locale", negated),
         }
     }
 
