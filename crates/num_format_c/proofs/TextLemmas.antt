@@ -1,9 +1,18 @@
--- Texts of ASCII.
-use Rattle.std.proofs.Common.{ℕ, ◌<◌, List, All}
-use Rattle.std.specs.Prelude.{IsUtf8}
-use Rattle.std.proofs.lemmas.Str.{IsUtf8-from_ascii}
-use Rattle.std.proofs.lemmas.Str.Ascii.{IsAscii-from_all}
+-- Texts of at most one character.
+use Rattle.std.proofs.Common.{◌≡◌, ℕ, ◌∙◌, List, length, drop, ap, sym, subst, append-nil, Option, Some, IsUtf8, arith}
+use Rattle.std.proofs.lemmas.List.{nil_from_length}
+use Rattle.std.proofs.lemmas.Str.{IsUtf8-encode, IsUtf8-nil}
+use Rattle.std.proofs.Math.ListN.{drop_of_length-le}
+use Rattle.bstr.specs.Utf8.{decoded}
+use Rattle.bstr.proofs.lemmas.SoundLemmas.{SpellsChar-decoded}
 
--- bytes below 128 are characters
-pub ascii_text : (bytes : List ℕ) → All (λ byte. byte < 128) bytes → IsUtf8 bytes
-ascii_text bytes ascii = IsUtf8-from_ascii bytes (IsAscii-from_all bytes ascii)
+-- no bytes are a text
+pub empty_text : (bytes : List ℕ) → length bytes ≡ 0 → IsUtf8 bytes
+empty_text bytes empty = subst IsUtf8 (sym (nil_from_length bytes empty)) IsUtf8-nil
+
+-- a character that takes all bytes is a text
+pub one_character : (bytes : List ℕ) (c : ℕ) → (decoded bytes).char ≡ Some c → (decoded bytes).size ≡ length bytes → IsUtf8 bytes
+one_character bytes c char whole =
+    let spells = SpellsChar-decoded bytes c char in
+    let nothing = drop_of_length-le bytes {i = (decoded bytes).size} (omega arith) in
+    rw (spells.bytes, nothing, append-nil) (IsUtf8-encode c spells.scalar)

@@ -6,17 +6,18 @@ ghost use Rattle.num_format_c.specs.Calls.{FillsCustom, FillsLocale, Parses, Pri
 ghost use Rattle.num_format_c.specs.declared.status.Status.TheVariants.{BadBits};
 ghost use Rattle.num_format_c.specs.Held.{HasFormat, format_of};
 
-use crate::format::{Held, NumFormat, grouping_of, text_of};
+use crate::format::{Held, NumFormat, grouping_of};
 use crate::status::Status;
-use num_format::parsing::FromFormattedStr;
+use num_format::parsing::{FromFormattedStr, ParseBytesError};
 use num_format::utils::{MinusSignStr, SeparatorStr};
 use num_format::{Buffer, Locale, ToFormattedStr};
+use num_format_int::buffer::copy_bytes;
 
 /// Fills the struct with the format of the locale, and returns 0.
 pub fn fill_locale(format: &mut NumFormat, name: &[u8]) -> Result<i32, Status>
     ensures { FillsLocale name.now format.old format.new (returned result) }
 {
-    let Some(name) = text_of(name) else {
+    let Ok(name) = str::from_utf8(name) else {
         return Err(Status::NotUtf8);
     };
     let Ok(locale) = Locale::from_name(name) else {
@@ -51,12 +52,10 @@ pub fn parse<N: FromFormattedStr>(format: &NumFormat, text: &[u8]) -> Result<N, 
     let Some(format) = Held::new(format) else {
         return Err(Status::BadFormat);
     };
-    let Some(text) = text_of(text) else {
-        return Err(Status::NotUtf8);
-    };
-    match N::from_formatted_str(text, &format) {
+    match N::from_formatted_bytes(text, &format) {
         Ok(number) => Ok(number),
-        Err(_) => Err(Status::NotANumber),
+        Err(ParseBytesError::NotUtf8) => Err(Status::NotUtf8),
+        Err(ParseBytesError::NotANumber) => Err(Status::NotANumber),
     }
 }
 
@@ -98,7 +97,10 @@ pub fn fill_custom(
 ) -> Result<i32, Status>
     ensures { FillsCustom separator.now grouping minus_sign.now format.old format.new (returned result) }
 {
-    let (Some(separator), Some(minus_sign)) = (text_of(separator), text_of(minus_sign)) else {
+    let (Ok(separator), Ok(minus_sign)) = (
+        str::from_utf8(separator),
+        str::from_utf8(minus_sign),
+    ) else {
         return Err(Status::NotUtf8);
     };
     let (Ok(separator), Ok(minus_sign)) = (
@@ -128,41 +130,8 @@ fn write(text: &str, array: &mut [u8]) -> Result<i32, Status>
     if array.len() < len {
         return Err(Status::TooSmall);
     }
-    copy(text.as_bytes(), &mut array[..len]);
+    copy_bytes(text.as_bytes(), &mut array[..len]);
     Ok(len as i32)
-}
-
-/// Copies the bytes over as many others.
-///
-/// A copy whose length is known only at run time is a call. So texts of 4 to 32 bytes are copied by
-/// their two ends.
-#[inline(always)]
-fn copy(bytes: &[u8], target: &mut [u8])
-    requires { length target.old ≡ length bytes.now }
-    ensures { target.new ≡ bytes.now }
-{
-    match bytes.len() {
-        4..=7 => copy_ends::<4>(bytes, target),
-        8..=15 => copy_ends::<8>(bytes, target),
-        16..=32 => copy_ends::<16>(bytes, target),
-        _ => target.copy_from_slice(bytes),
-    }
-}
-
-/// Copies the first `HALF` bytes and the last, which together are all of them.
-#[inline(always)]
-fn copy_ends<const HALF: usize>(bytes: &[u8], target: &mut [u8])
-    requires same { length target.old ≡ length bytes.now }
-    requires all { (HALF ≤ length bytes.now) × (length bytes.now ≤ HALF + HALF) }
-    ensures { target.new ≡ bytes.now }
-{
-    let place = bytes.len() - HALF;
-    let mut first = [0; HALF];
-    let mut last = [0; HALF];
-    first.copy_from_slice(&bytes[..HALF]);
-    last.copy_from_slice(&bytes[place..]);
-    target[..HALF].copy_from_slice(&first);
-    target[place..].copy_from_slice(&last);
 }
 
 /// Writes the name of the locale at the place at the start of the array, and returns its length.

@@ -1,9 +1,10 @@
 //! A format in a struct that a C program owns.
-ghost use Rattle.std.specs.Prelude.{◌≡◌, ◌≤◌, take, drop, length, ◌++◌, ◌<◌, ◌↔◌, All, IsTrue, IsUtf8, MatchOption, Some};
+ghost use Rattle.std.specs.Prelude.{◌≡◌, ◌≤◌, take, drop, length, ◌++◌, IsTrue, IsUtf8, MatchOption, Some};
 ghost use Rattle.num_format_c.specs.Held.{Agrees, HasFormat, format_of, format_with, grouping_of};
 
 use num_format::utils::{DecimalStr, InfinityStr, MinusSignStr, NanStr, PlusSignStr, SeparatorStr};
 use num_format::{Format, Grouping};
+use num_format_int::utf8::first_char;
 
 /// The most bytes of a separator or a minus sign.
 const CAPACITY: usize = 8;
@@ -77,34 +78,30 @@ impl<'a> Held<'a> {
 }
 
 /// Returns the text of that length at the start of the array, if there is one.
+///
+/// Most are one character or empty, which takes less time to see than whether bytes are UTF-8.
 #[inline(always)]
+#[tactic(auto, using(crate::proofs::TextLemmas::empty_text))]
 fn text_at(bytes: &[u8; CAPACITY], len: u8) -> Option<&str>
     ensures { MatchOption result ((len ≤ CAPACITY) → ¬ (IsUtf8 (take len bytes.now)))
         (λ text. (len ≤ CAPACITY) × (text.now ≡ take len bytes.now) × (IsUtf8 (take len bytes.now))) }
 {
-    text_of(bytes.get(..len as usize)?)
-}
-
-/// Returns the text that the bytes are, if they are UTF-8.
-///
-/// Most are ASCII, which takes less time to see than whether bytes are UTF-8.
-#[inline(always)]
-#[tactic(auto, using(crate::proofs::TextLemmas::ascii_text))]
-pub fn text_of(bytes: &[u8]) -> Option<&str>
-    ensures { MatchOption result (¬ (IsUtf8 bytes.now)) (λ text. (text.now ≡ bytes.now) × IsUtf8 bytes.now) }
-{
-    if is_ascii(bytes) {
+    let bytes = bytes.get(..len as usize)?;
+    if bytes.is_empty() || is_one_character(bytes) {
         return Some(unsafe { str::from_utf8_unchecked(bytes) });
     }
     str::from_utf8(bytes).ok()
 }
 
-/// Returns whether each byte is a character of ASCII.
+/// Returns whether the bytes are one character in UTF-8.
 #[inline(always)]
-fn is_ascii(bytes: &[u8]) -> bool
-    ensures { IsTrue result ↔ All (λ byte. byte < 128) bytes.now }
+fn is_one_character(bytes: &[u8]) -> bool
+    ensures { IsTrue result → IsUtf8 bytes.now }
 {
-    bytes.iter().all(|&byte| byte < 128)
+    match first_char(bytes) {
+        (Some(_), len) => len == bytes.len(),
+        (None, _) => false,
+    }
 }
 
 /// Returns the grouping for which the number stands.

@@ -1,4 +1,5 @@
 pub mod BufferLemmas
+pub mod CharacterLemmas
 pub mod DigitLemmas
 pub mod GroupLemmas
 pub mod GroupedLemmas

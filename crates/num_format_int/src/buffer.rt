@@ -152,7 +152,7 @@ impl Buffer {
 /// and signs are, are copied in a few moves. All of their bytes are read before the first is written,
 /// so that the compiler may join the moves.
 #[inline(always)]
-fn copy_bytes(bytes: &[u8], target: &mut [u8])
+pub fn copy_bytes(bytes: &[u8], target: &mut [u8])
     requires { length target.old ≡ length bytes.now }
     ensures { target.new ≡ bytes.now }
 {

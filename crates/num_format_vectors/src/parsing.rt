@@ -19,3 +19,11 @@ fn any_text_as_any_type(rt: HostRuntime) -> Result<(), Fail> {
     assert_equal(&rt, parse::<_, u16>(&string)?, 1000);
     Ok(())
 }
+
+/// U+202F has three bytes.
+#[test]
+fn bytes(rt: HostRuntime) -> Result<(), Fail> {
+    let text = "-1\u{202F}000".as_bytes();
+    assert_equal(&rt, i32::from_formatted_bytes(text, &Locale::fr)?, -1000);
+    Ok(())
+}
