@@ -3,9 +3,8 @@
 use crate::ReadStep::{Fail, Give};
 use crate::ScriptedReader;
 use regroup_stream::{FAILED, FAULTY, REGROUPED, run};
-use std::io;
 use std::io::{BufWriter, ErrorKind, Write};
-use std::test;
+use std::{io, test};
 
 /// Accepts all bytes, and fails where it is flushed.
 #[derive(Drop)]

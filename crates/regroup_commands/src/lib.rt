@@ -43,8 +43,8 @@ ghost use Rattle.regroup_commands.specs.Sending.{IsSent, SendsOutput, StopsShort
 
 use crate::command::Command;
 pub use crate::command::{custom_format, locale_named, number_read};
-pub use crate::sending::{send, send_number};
 use crate::sending::send_line;
+pub use crate::sending::{send, send_number};
 use std::io;
 use std::io::Write;
 

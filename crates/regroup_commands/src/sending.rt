@@ -77,11 +77,7 @@ pub(crate) fn send_lines<W: Write>(items: &[&str], writer: &mut W) -> io::Result
 /// # Errors
 ///
 /// Returns the error of the first write that fails or writes no bytes.
-pub fn send_number<F: Format, W: Write>(
-    number: i128,
-    format: &F,
-    writer: &mut W,
-) -> io::Result<()>
+pub fn send_number<F: Format, W: Write>(number: i128, format: &F, writer: &mut W) -> io::Result<()>
     ensures { Sends result (W.contents writer.old) (W.contents writer.new)
         (line (text_of (F.answers format.now) number)) }
 {
