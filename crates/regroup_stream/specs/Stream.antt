@@ -1,7 +1,8 @@
 -- What the program writes of the lines of an input.
-use Rattle.std.specs.Prelude.{◌≡◌, ℕ, ◌-◌, ◌^◌, Bool, true, false, List, codes, Option, None, Some, Result, Ok, Err}
+use Rattle.std.specs.Prelude.{◌≡◌, ℕ, ◌-◌, ◌^◌, Bool, true, false, if◌then◌else◌, List, [], codes, Option, None, Some, Result, Ok, Err}
 use Rattle.std.specs.Io.KnownBytes.{Appends}
 use Rattle.num_format.specs.Format.{FormatData}
+use Rattle.num_format.specs.Writing.{HasReceivedUpTo, StopsWithin}
 use Rattle.regroup_commands.specs.Output.{line}
 use Rattle.regroup_lines.specs.Fault.{Fault, message_of_fault}
 use Rattle.regroup_lines.specs.Fault.Fault.{TooMany, TooLong, Read, NotText, Line, Write}
@@ -38,7 +39,26 @@ pub record RegroupsAll (from to : FormatData) (status : ℕ) (read_old out_old o
 abbrev pub usage : List ℕ
 usage = line (codes "usage: regroup-lines FROM TO, each a locale or custom:SEP:GROUPING:MINUS")
 
+-- the text for standard error: the message of a line at fault and a newline, or nothing
+abbrev pub report : Result ℕ Fault → List ℕ
+report (Ok count) = []
+report (Err fault) = if is_of_line fault then line (message_of_fault fault) else []
+
+-- what the program does with two formats where a read or a write fails: standard output receives what it receives without the
+-- failure, or a prefix where a write of it failed; standard error receives a prefix of the text for it
+pub record StopsAll (from to : FormatData) (read_old out_old out_new err_old err_new : Option (List ℕ)) : Type 0 where
+  pub result : Result ℕ Fault
+  pub read_new : Option (List ℕ)
+  pub unreported : List ℕ
+  pub lines : Regroups most_lines from to read_old read_new out_old out_new result
+  pub reported : HasReceivedUpTo err_old err_new (report result) unreported
+
 -- what the program does where no read and no write fails: without two formats it writes the usage, else the lines
 abbrev pub Ends : Option (FormatData × FormatData) → ℕ → (read_old out_old out_new err_old err_new : Option (List ℕ)) → Type 0
 Ends None status read_old out_old out_new err_old err_new = (status ≡ 2) × (out_new ≡ out_old) × Appends err_old err_new usage
 Ends (Some formats) status read_old out_old out_new err_old err_new = RegroupsAll formats.0 formats.1 status read_old out_old out_new err_old err_new
+
+-- what the program does where a read or a write fails
+abbrev pub Stops : Option (FormatData × FormatData) → (read_old out_old out_new err_old err_new : Option (List ℕ)) → Type 0
+Stops None read_old out_old out_new err_old err_new = (out_new ≡ out_old) × StopsWithin err_old err_new usage
+Stops (Some formats) read_old out_old out_new err_old err_new = StopsAll formats.0 formats.1 read_old out_old out_new err_old err_new

@@ -12,10 +12,10 @@
 mod fault;
 mod words;
 
-ghost use Rattle.std.specs.Prelude.{◌≡◌, ◌≢◌, [], Some, IfOk, OnOk};
+ghost use Rattle.std.specs.Prelude.{◌≡◌, ◌≢◌, [], Some, IfOk, OnOk, OnErr};
 ghost use Rattle.std.specs.Io.Buffered.{writer_buffer, writer_contents};
 ghost use Rattle.regroup_commands.specs.Command.{texts};
-ghost use Rattle.regroup_stream.specs.Stream.{Ends};
+ghost use Rattle.regroup_stream.specs.Stream.{Ends, Stops};
 ghost use Rattle.regroup_stream.specs.Words.{formats_named};
 
 use crate::fault::{is_of_line, send_fault};
@@ -53,7 +53,8 @@ const USAGE: &str = "usage: regroup-lines FROM TO, each a locale or custom:SEP:G
 ///   a newline. Lines are numbered from 1.
 /// - [`MISUSED`] (2): `err` received the usage, and `out` nothing. Nothing was read.
 /// - [`FAILED`] (3): a read failed, also one that was interrupted, or a write to `out`, a flush of it,
-///   or a write of the message or the usage. Nothing is said of it.
+///   or a write of the message or the usage. `out` and `err` each received a prefix of what they
+///   receive without the failure, and `out` no line at fault.
 ///
 /// ```text
 /// run(&["en", "de"], b"1,000\n".as_slice(), &mut out, &mut err)    // 0, and "1.000\n" in `out`
@@ -66,6 +67,9 @@ pub fn run<R: Read + Drop, O: Write + Drop, E: Write>(
 ) -> u8
     ensures ends { result ≢ FAILED → Ends (formats_named (texts args.now)) result
         (R.remaining input)
+        (writer_contents O.contents out.old) (writer_contents O.contents out.new)
+        (E.contents err.old) (E.contents err.new) }
+    ensures failed { result ≡ FAILED → Stops (formats_named (texts args.now)) (R.remaining input)
         (writer_contents O.contents out.old) (writer_contents O.contents out.new)
         (E.contents err.old) (E.contents err.new) }
     ensures flushed { result ≢ FAILED → result ≢ MISUSED → writer_buffer out.new ≡ [] }
@@ -93,6 +97,13 @@ fn try_run<R: Read + Drop, O: Write + Drop, E: Write>(
 ) -> io::Result<u8>
     ensures ends { IfOk result (λ status. status ≢ FAILED → Ends (Some (from.now, to.now)) status
         (R.remaining input)
+        (writer_contents O.contents out.old) (writer_contents O.contents out.new)
+        (E.contents err.old) (E.contents err.new)) }
+    ensures failed { IfOk result (λ status. status ≡ FAILED → Stops (Some (from.now, to.now))
+        (R.remaining input)
+        (writer_contents O.contents out.old) (writer_contents O.contents out.new)
+        (E.contents err.old) (E.contents err.new)) }
+    ensures broken { OnErr result (Stops (Some (from.now, to.now)) (R.remaining input)
         (writer_contents O.contents out.old) (writer_contents O.contents out.new)
         (E.contents err.old) (E.contents err.new)) }
     ensures flushed { OnOk result (writer_buffer out.new ≡ []) }
