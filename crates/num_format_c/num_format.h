@@ -14,7 +14,7 @@
  * have written is as it was. Where several errors apply, each call says which one it returns.
  *
  * The contracts of the functions are proved. They hold for any bytes of a struct `num_format` and
- * of a text. What a caller has to see to, since no call can test it:
+ * of a text. What a caller must ensure, since no call can test it:
  *
  * - No pointer is null, also where the length is 0.
  * - A pointer to a text or an array points to as many bytes as the length or capacity beside it

@@ -1,6 +1,6 @@
 //! num-format for C: a static library over `num_format`, whose header is `num_format.h`.
 //!
-//! The header says what a C program has to know, and what it has to see to. The contracts here say
+//! The header says what a C program has to know, and what it must ensure. The contracts here say
 //! what each call returns and writes, for any bytes of a struct and of a text.
 //!
 //! A call returns 0, a length in bytes, or 1 or 0 for yes and no. Where it fails it returns a

@@ -20,7 +20,7 @@ pub(crate) enum Piece {
 
 /// The bytes that were read and belong to no piece yet: those that are held.
 ///
-/// They are read into the array where the lines are found. They are moved once at most, to the front,
+/// They are read into the array where the lines are found. They are moved once at most, to the start,
 /// where more of their line has to be read.
 #[derive(Drop)]
 pub(crate) struct Input {
@@ -188,7 +188,7 @@ impl Input {
         Ok(count)
     }
 
-    /// Moves the bytes that are held to the front of the array.
+    /// Moves the bytes that are held to the start of the array.
     fn move_to_front(&mut self)
         ensures held { held self.new ≡ held self.old }
         ensures end { self.new.end ≡ length (held self.new) }

@@ -37,9 +37,9 @@ pub const MAX_LINES: u64 = 1_000_000;
 /// `to`, and a newline, to `w`. Returns the number of lines.
 ///
 /// Of each line, all digits and a minus sign at its start are parsed, and other characters are ignored,
-/// as [`parse_formatted`](num_format::parsing::ParseFormatted::parse_formatted) does. So a carriage return before the newline
-/// is ignored too, but counts as a byte of the line. A line and its newline leave together, by one write
-/// if that writes all of them.
+/// as [`parse_formatted`](num_format::parsing::ParseFormatted::parse_formatted) does. So a carriage
+/// return before the newline is ignored too, but counts as a byte of the line. A line and its newline
+/// are written together, by one write if that writes all of them.
 ///
 /// # Errors
 ///
