@@ -3,9 +3,9 @@
 
     python3 tools/readme_code.py
 
-Each block of the language `rust` has to stand in a file of num_format_examples or of a crate
-`uses_NAME`, line after line, and each of `c` and `python` in a file of examples/. README.md has to
-have a text block that is the stdout of num_format_examples. The exit status is 1 where one differs.
+Each block of the language `rust` has to stand in a file of num_format_examples, of a crate
+`uses_NAME` or of num_format_vectors, line after line, and each of `c` and `python` in a file of
+examples/. README.md has to have a text block that is the stdout of num_format_examples. The exit status is 1 where one differs.
 """
 import re
 import sys
@@ -14,7 +14,11 @@ from textwrap import dedent
 
 ROOT = Path(__file__).resolve().parent.parent
 EXAMPLES = ROOT / "crates" / "num_format_examples"
-CRATES = [EXAMPLES, *sorted((ROOT / "crates").glob("uses_*"))]
+CRATES = [
+    EXAMPLES,
+    *sorted((ROOT / "crates").glob("uses_*")),
+    ROOT / "crates" / "num_format_vectors",
+]
 
 # The files that a block of each language may stand in.
 FILES = {

@@ -1,4 +1,4 @@
-//! The program of `README.md`, word for word, and a caller with a contract of its own.
+//! The program of `README.md`, word for word.
 #![tactic(auto)]
 
 use anyhow::Result;
@@ -36,5 +36,3 @@ fn main(rt: HostRuntime) -> Result<()> {
     println!(rt; "{number}")?;
     Ok(())
 }
-
-mod callers;

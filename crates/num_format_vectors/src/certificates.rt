@@ -16,26 +16,28 @@ fn locales(rt: HostRuntime) -> Result<(), Fail> {
     Ok(())
 }
 
+/// A grouping, a separator, a minus sign, and whether each number parses again.
+const CASES: [(Grouping, &str, &str, bool); 12] = [
+    (Grouping::Standard, ",", "-", true),
+    (Grouping::Standard, ",", "-0", false),
+    (Grouping::Standard, ",", "", false),
+    (Grouping::Standard, ",", ",", true),
+    (Grouping::Posix, ",", "1", false),
+    (Grouping::Posix, "7", "-", true),
+    (Grouping::Indian, "7", "-", false),
+    (Grouping::Myriad, ",", "-", true),
+    (Grouping::Sparse, "0", "-", false),
+    // The Arabic-Indic digit three.
+    (Grouping::Standard, "\u{663}", "-", false),
+    (Grouping::Posix, "\u{663}", "-", true),
+    (Grouping::Posix, ",", "\u{663}", false),
+];
+
 #[test]
 fn built_formats(rt: HostRuntime) -> Result<(), Fail> {
-    let cases = [
-        (Grouping::Standard, ",", "-", true),
-        (Grouping::Standard, ",", "-0", false),
-        (Grouping::Standard, ",", "", false),
-        (Grouping::Standard, ",", ",", true),
-        (Grouping::Posix, ",", "1", false),
-        (Grouping::Posix, "7", "-", true),
-        (Grouping::Indian, "7", "-", false),
-        (Grouping::Myriad, ",", "-", true),
-        (Grouping::Sparse, "0", "-", false),
-        // The Arabic-Indic digit three.
-        (Grouping::Standard, "\u{663}", "-", false),
-        (Grouping::Posix, "\u{663}", "-", true),
-        (Grouping::Posix, ",", "\u{663}", false),
-    ];
-    for (grouping, separator, minus_sign, expected) in cases {
-        let format = built(grouping, separator, minus_sign)?;
-        assert_equal(&rt, reads_back(&format), expected);
+    for (grouping, separator, minus_sign, expected) in &CASES {
+        let format = built(*grouping, separator, minus_sign)?;
+        assert_equal(&rt, reads_back(&format), *expected);
     }
     Ok(())
 }

@@ -169,26 +169,36 @@ mod tests {
     use super::*;
     use crate::asserting::assert_equal;
     use num_format::utils::SeparatorStr;
+    use std::process::Abort;
     use std::test::Fail;
+
+    /// Asserts the message of an error.
+    fn assert_message(rt: &impl Abort, alloc: Global, text: &str, kept: &str) -> Result<(), Fail> {
+        let shown = message(alloc, &Error::new(text))?;
+        assert_equal(rt, shown.as_str(), kept);
+        Ok(())
+    }
 
     /// A message is truncated after 256 bytes, at a whole character.
     #[test]
     fn messages(rt: HostRuntime) -> Result<(), Fail> {
-        let alloc = rt.alloc();
-        let fits = "a".repeat(alloc, 256)?;
-        assert_equal(
-            &rt,
-            message(alloc, &Error::new(&fits))?.as_str(),
-            fits.as_str(),
-        );
-        let kept = &fits[..255];
-        let long = format!(in alloc; "{kept}é")?;
-        let error = Error::new(&long);
-        assert_equal(&rt, message(alloc, &error)?.as_str(), kept);
-        assert!(rt; hash_alike(&error, &Error::new(kept)));
-        assert!(rt; equal_errors(&cloned_error(&error), &Error::new(kept)));
-        assert!(rt; equal_kinds(&cloned_kind(error.kind()), Error::new(kept).kind()));
-        assert!(rt; !equal_errors(&error, &Error::new(&fits)));
+        let text = "a".repeat(rt.alloc(), 256)?;
+        assert_message(&rt, rt.alloc(), &text, &text)?;
+        let kept = &text[..255];
+        let long = format!(in rt.alloc(); "{kept}é")?;
+        assert_message(&rt, rt.alloc(), &long, kept)
+    }
+
+    /// Errors that keep the same prefix are equal.
+    #[test]
+    fn errors(rt: HostRuntime) -> Result<(), Fail> {
+        let kept = "a".repeat(rt.alloc(), 255)?;
+        let long = format!(in rt.alloc(); "{kept}é")?;
+        let (error, same) = (Error::new(&long), Error::new(&kept));
+        assert!(rt; hash_alike(&error, &same));
+        assert!(rt; equal_errors(&cloned_error(&error), &same));
+        assert!(rt; equal_kinds(&cloned_kind(error.kind()), same.kind()));
+        assert!(rt; !equal_errors(&error, &Error::new(&kept[..254])));
         Ok(())
     }
 
@@ -203,20 +213,31 @@ mod tests {
         Ok(())
     }
 
+    /// Asserts a text that was made.
+    fn assert_shown(rt: &impl Abort, shown: Result<String, AllocError>, expected: &str) {
+        assert!(rt;
+            shown.is_ok_and(|shown| shown.as_str() == expected),
+            "{expected}"
+        );
+    }
+
     /// The debug form of a text has quotation marks, and each other form is the text alone.
     #[test]
-    fn shown(rt: HostRuntime) -> Result<(), Fail> {
-        let alloc = rt.alloc();
+    fn shown_texts(rt: HostRuntime) -> Result<(), Fail> {
         let comma = SeparatorStr::new(",")?;
-        assert_equal(&rt, shown_text(alloc, &comma)?.as_str(), ",");
-        let text = format!(in alloc; "{comma:?} {comma:>9} {comma:*^9} {comma:.0}")?;
-        assert_equal(&rt, text.as_str(), "\",\" , , ,");
-        let error = Error::new("a");
-        let text = format!(in alloc; "{error:>9} {error:*^9} {error:.0}")?;
-        assert_equal(&rt, text.as_str(), "a a a");
-        let kind = error.kind();
-        let text = format!(in alloc; "{kind:>9} {kind:*^9} {kind:.0}")?;
-        assert_equal(&rt, text.as_str(), "a a a");
+        assert_shown(&rt, shown_text(rt.alloc(), &comma), ",");
+        let shown = format!(in rt.alloc(); "{comma:?} {comma:>9} {comma:*^9} {comma:.0}");
+        assert_shown(&rt, shown, "\",\" , , ,");
         Ok(())
+    }
+
+    #[test]
+    fn shown_errors(rt: HostRuntime) {
+        let error = Error::new("a");
+        let shown = format!(in rt.alloc(); "{error:>9} {error:*^9} {error:.0}");
+        assert_shown(&rt, shown, "a a a");
+        let kind = error.kind();
+        let shown = format!(in rt.alloc(); "{kind:>9} {kind:*^9} {kind:.0}");
+        assert_shown(&rt, shown, "a a a");
     }
 }

@@ -2,7 +2,6 @@
 
 use crate::asserting::assert_equal;
 use num_format::parsing::FromFormattedStr;
-use num_format::utils::SeparatorStr;
 use num_format::{Error, Locale};
 use num_format_text::strings::BoundedStr;
 use num_format_text::symbol::{Decimal, Infinity, MinusSign, Nan, PlusSign, Separator, Symbol};
@@ -27,13 +26,26 @@ pub fn message(alloc: Global, error: Option<Error>) -> Result<String, AllocError
 
 /// Asserts that an empty text and one of the capacity are kept, and that one byte more is an error.
 fn keeps_to<S: Symbol>(rt: &impl Abort, alloc: Global, capacity: usize) -> Result<(), Fail> {
-    assert_equal(rt, BoundedStr::<S>::new("")?.into_str(), "");
-    let text = "x".repeat(alloc, capacity)?;
-    assert_equal(rt, BoundedStr::<S>::new(&text)?.into_str(), text.as_str());
-    let len = capacity.saturating_add(1);
-    let text = "x".repeat(alloc, len)?;
-    let error = message(alloc, BoundedStr::<S>::new(&text).err())?;
-    let expected = too_long(alloc, len, capacity)?;
+    assert_kept::<S>(rt, "")?;
+    let mut text = "x".repeat(alloc, capacity)?;
+    assert_kept::<S>(rt, &text)?;
+    text.push('x')?;
+    assert_too_long::<S>(rt, alloc, &text, capacity)
+}
+
+fn assert_kept<S: Symbol>(rt: &impl Abort, text: &str) -> Result<(), Fail> {
+    assert_equal(rt, BoundedStr::<S>::new(text)?.into_str(), text);
+    Ok(())
+}
+
+fn assert_too_long<S: Symbol>(
+    rt: &impl Abort,
+    alloc: Global,
+    text: &str,
+    capacity: usize,
+) -> Result<(), Fail> {
+    let error = message(alloc, BoundedStr::<S>::new(text).err())?;
+    let expected = too_long(alloc, text.len(), capacity)?;
     assert_equal(rt, error.as_str(), expected.as_str());
     Ok(())
 }
@@ -52,11 +64,8 @@ fn capacities(rt: HostRuntime) -> Result<(), Fail> {
 /// A capacity counts bytes, here of six characters of two bytes each.
 #[test]
 fn bytes_and_not_characters(rt: HostRuntime) -> Result<(), Fail> {
-    let alloc = rt.alloc();
-    assert_equal(&rt, SeparatorStr::new("éééé")?.into_str(), "éééé");
-    let error = message(alloc, SeparatorStr::new("éééééé").err())?;
-    assert_equal(&rt, error.as_str(), too_long(alloc, 12, 8)?.as_str());
-    Ok(())
+    assert_kept::<Separator>(&rt, "éééé")?;
+    assert_too_long::<Separator>(&rt, rt.alloc(), "éééééé", 8)
 }
 
 #[test]

@@ -1,7 +1,7 @@
 //! One text by every way of printing.
 
 use crate::asserting::assert_equal;
-use num_format::{Buffer, CustomFormat, Format, ToFormattedString, WriteFormatted};
+use num_format::{Buffer, Format, ToFormattedString, WriteFormatted};
 use std::alloc::Global;
 use std::process::Abort;
 use std::test::Fail;
@@ -66,21 +66,5 @@ fn into_vectors<N: ToFormattedString, F: Format>(
     let mut written = Vec::new(alloc);
     let count = written.write_formatted(n, format)?;
     is_whole(rt, count, &written, text);
-    Ok(())
-}
-
-#[test]
-fn under_the_default_format(rt: HostRuntime) -> Result<(), Fail> {
-    let cases = [
-        (0i32, "0"),
-        (999, "999"),
-        (1000, "1,000"),
-        (1000000, "1,000,000"),
-        (-1000000, "-1,000,000"),
-    ];
-    let format = CustomFormat::default();
-    for (n, text) in cases {
-        prints(&rt, rt.alloc(), &n, &format, text)?;
-    }
     Ok(())
 }

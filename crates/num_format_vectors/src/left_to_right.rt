@@ -5,7 +5,7 @@ use crate::asserting::assert_equal;
 use crate::every_way::is_whole;
 use crate::texts::built;
 use num_format::{Buffer, CustomFormat, Grouping, ToFormattedString};
-use std::alloc::Global;
+use std::alloc::{AllocError, Global};
 use std::process::Abort;
 use std::test::Fail;
 
@@ -38,34 +38,43 @@ fn left_to_right(
     alloc: Global,
     is_negative: bool,
     magnitude: u128,
-    grouping: Grouping,
-    separator: &str,
-) -> Result<String, Fail> {
+    format: &CustomFormat,
+) -> Result<String, AllocError> {
     let mut text = String::from_str(alloc, if is_negative { MINUS_SIGN } else { "" })?;
     let digits = format!(in alloc; "{magnitude}")?;
     for (right, digit) in (0..digits.len()).rev().zip(digits.chars()) {
         text.push(digit)?;
-        let is_separated = match grouping {
-            Grouping::Standard => right > 0 && right % 3 == 0,
-            Grouping::Indian => right == 3 || right > 3 && right % 2 == 1,
-            Grouping::Posix => false,
-            Grouping::Myriad => right > 0 && right % 4 == 0,
-            Grouping::Sparse => digits.len() > 4 && right > 0 && right % 3 == 0,
-        };
-        if is_separated {
-            text.push_str(separator)?;
+        if is_separated(format.grouping(), digits.len(), right) {
+            text.push_str(format.separator())?;
         }
     }
     Ok(text)
 }
 
+/// Whether a separator follows the digit that has so many to its right, of this number of digits.
+fn is_separated(grouping: Grouping, digits: usize, right: usize) -> bool {
+    right > 0
+        && match grouping {
+            Grouping::Standard => right % 3 == 0,
+            Grouping::Indian => right == 3 || right > 3 && right % 2 == 1,
+            Grouping::Posix => false,
+            Grouping::Myriad => right % 4 == 0,
+            Grouping::Sparse => digits > 4 && right % 3 == 0,
+        }
+}
+
 #[test]
 fn each_number_of_digits(rt: HostRuntime) -> Result<(), Fail> {
-    for (length, separator) in (1..=8).zip(SEPARATORS) {
+    for (length, separator) in (1..=8).zip(&SEPARATORS) {
         assert_equal(&rt, separator.len(), length);
-        for grouping in GROUPINGS {
-            print_powers_of_ten(&rt, rt.alloc(), grouping, separator)?;
-        }
+        print_in_each_grouping(&rt, rt.alloc(), separator)?;
+    }
+    Ok(())
+}
+
+fn print_in_each_grouping(rt: &impl Abort, alloc: Global, separator: &str) -> Result<(), Fail> {
+    for grouping in &GROUPINGS {
+        print_powers_of_ten(rt, alloc, *grouping, separator)?;
     }
     Ok(())
 }
@@ -79,17 +88,25 @@ fn print_powers_of_ten(
 ) -> Result<(), Fail> {
     let format = built(grouping, separator, MINUS_SIGN)?;
     for exponent in 0..=38 {
-        let power = 10u128.checked_pow(exponent).ok_or("past 128 bits")?;
-        for magnitude in [power, power.saturating_sub(1)] {
-            let text = left_to_right(alloc, false, magnitude, grouping, separator)?;
-            prints(rt, &magnitude, &format, &text);
-            let negation = 0i128
-                .checked_sub_unsigned(magnitude)
-                .ok_or("past 127 bits")?;
-            let text = left_to_right(alloc, negation < 0, magnitude, grouping, separator)?;
-            prints(rt, &negation, &format, &text);
-        }
+        let power = 10u128.saturating_pow(exponent);
+        print_both_signs(rt, alloc, power, &format)?;
+        print_both_signs(rt, alloc, power.saturating_sub(1), &format)?;
     }
+    Ok(())
+}
+
+/// Asserts the texts of a number and of its negation.
+fn print_both_signs(
+    rt: &impl Abort,
+    alloc: Global,
+    magnitude: u128,
+    format: &CustomFormat,
+) -> Result<(), Fail> {
+    let text = left_to_right(alloc, false, magnitude, format)?;
+    prints(rt, &magnitude, format, &text);
+    let negation = 0i128.saturating_sub_unsigned(magnitude);
+    let text = left_to_right(alloc, negation < 0, magnitude, format)?;
+    prints(rt, &negation, format, &text);
     Ok(())
 }
 

@@ -1,7 +1,7 @@
 //! Numbers into strings and formatters.
 
 use crate::asserting::assert_equal;
-use crate::thousand::append_two_thousands;
+use crate::numbers::{append_numbers, assert_numbers};
 use num_format::{CustomFormat, ToFormattedString, WriteFormatted};
 use std::fmt;
 use std::test::Fail;
@@ -10,13 +10,17 @@ use std::test::Fail;
 #[test]
 fn after_a_text(rt: HostRuntime) -> Result<(), Fail> {
     let mut text = String::from_str(rt.alloc(), "x")?;
-    append_two_thousands(&rt, &mut text)?;
-    assert_equal(
-        &rt,
-        7u8.read_to_fmt_writer(&mut text, &CustomFormat::default())?,
-        1,
-    );
-    assert_equal(&rt, text.as_str(), "x1,0001,0007");
+    append_numbers(&rt, &mut text)?;
+    assert_numbers(&rt, text.as_bytes(), "x", "");
+    Ok(())
+}
+
+#[test]
+fn as_a_writer(rt: HostRuntime) -> Result<(), Fail> {
+    let mut text = String::from_str(rt.alloc(), "x")?;
+    let count = 7u8.read_to_fmt_writer(&mut text, &CustomFormat::default())?;
+    assert_equal(&rt, count, 1);
+    assert_equal(&rt, text.as_str(), "x7");
     Ok(())
 }
 

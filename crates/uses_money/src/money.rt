@@ -64,28 +64,3 @@ pub fn parse_money(text: &str, locale: Locale) -> Result<Money, Error>
         locale,
     })
 }
-
-#[cfg(test)]
-mod tests {
-    use super::*;
-    use std::test::Fail;
-
-    #[test]
-    fn amounts(rt: HostRuntime) -> Result<(), Fail> {
-        let table = [
-            (123_456_789, Locale::de, "1.234.567,89"),
-            (-5, Locale::en, "-0.05"),
-            (100_000, Locale::es, "1.000,00"),
-        ];
-        for (minor_units, locale, expected) in table {
-            let money = Money {
-                minor_units,
-                locale,
-            };
-            assert_eq!(rt; format!(in rt.alloc(); "{money}")?.as_str(), expected);
-            let parsed = parse_money(expected, locale)?;
-            assert_eq!(rt; parsed.minor_units, minor_units);
-        }
-        Ok(())
-    }
-}

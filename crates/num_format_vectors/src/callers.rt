@@ -32,6 +32,7 @@ pub fn write_both<N: ToFormattedString, F: Format, W: Write>(
 #[cfg(test)]
 mod tests {
     use super::*;
+    use crate::asserting::assert_equal;
     use num_format::Locale;
     use std::test::Fail;
 
@@ -39,7 +40,7 @@ mod tests {
     fn one_after_the_other(rt: HostRuntime) -> Result<(), Fail> {
         let mut bytes = Vec::new(rt.alloc());
         write_both(&mut bytes, &12_500, &-7, &Locale::en)?;
-        assert_eq!(rt; bytes.as_slice(), b"12,500-7".as_slice());
+        assert_equal(&rt, bytes.as_slice(), b"12,500-7".as_slice());
         Ok(())
     }
 }
