@@ -42,3 +42,24 @@ def run(words, **how):
         return subprocess.run(words, check=False, **how)
     except subprocess.TimeoutExpired as late:
         return subprocess.CompletedProcess(words, None, late.stdout or b"", late.stderr or b"")
+
+
+def shown(words):
+    """The words, the long ones truncated."""
+    return " ".join(repr(word[:20]) for word in words) or "no words"
+
+
+def other(output):
+    return "stderr" if output == "stdout" else "stdout"
+
+
+def compare_failed(tally, words, output, expected):
+    """Runs a program with an output that is full, then closed: its status, and the other output."""
+    with open("/dev/full", "wb") as full:
+        for state, how in [
+            ("full", {output: full}),
+            ("closed", {output: None, "preexec_fn": CLOSE[output]}),
+        ]:
+            ended = run(words, **{other(output): subprocess.PIPE, **how})
+            name = f"{shown(words[1:])}, {output} {state}"
+            tally.compare(name, (ended.returncode, getattr(ended, other(output))), expected)

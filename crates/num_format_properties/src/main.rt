@@ -9,7 +9,7 @@
 //! and the record of the first of these in hexadecimal. The exit status is 0 where there is an input
 //! and no property failed, and 1 otherwise.
 //!
-//! A word is the name of a property that is to fail where it holds. It shows that a failure is told.
+//! A word is the name of a property that is to fail where it holds. It shows that a failure is printed.
 //!
 //! `tools/properties.py` writes inputs, and any other bytes will do.
 #![tactic(auto)]

@@ -1,0 +1,92 @@
+"""Refuses each request for memory of `regroup` and of the tests of memory in turn.
+
+tools/refuse_memory.c refuses them. The C compiler `cc` builds it.
+"""
+import os
+import re
+import shutil
+import tempfile
+from pathlib import Path
+
+from regroup_checks import COMMANDS, FAILED
+from tally import ROOT, heading, run, shown
+
+# The crate that has the tests of memory, and these tests as its executable file lists them.
+CRATE = ROOT / "crates" / "num_format_hostile"
+TESTS = CRATE / "out" / "num_format_hostile_tests"
+TEST = re.compile(r"^(memory::\w+): test$", re.M)
+
+# How a test of memory ends, and how with any request refused: the status and both outputs.
+PASSED = (0, b"\ntest result: ok\n", b"")
+PASSED_REFUSED = (0, b"refused\n\ntest result: ok\n", b"")
+
+# What refuses a request for memory, and more requests than the program or a test makes.
+REFUSE_MEMORY = ROOT / "tools" / "refuse_memory.c"
+MANY_REQUESTS = 100
+
+
+def check_all(tally, programs):
+    """Refuses each request for memory of the programs and of the tests of memory in turn."""
+    heading("memory refused at each request in turn")
+    if shutil.which("cc") is None:
+        tally.add(REFUSE_MEMORY.name, "no C compiler `cc` was found to build it")
+        return
+    with tempfile.TemporaryDirectory() as folder:
+        library = Path(folder) / "refuse_memory.so"
+        flags = ["-shared", "-fPIC", "-Wall", "-Wextra", "-Werror"]
+        ended = run(["cc", *flags, "-o", library, REFUSE_MEMORY])
+        tally.compare(f"cc {REFUSE_MEMORY.name}", ended.returncode, 0)
+        if not library.is_file():
+            return
+        for program in programs:
+            refuse_to_program(tally, library, program)
+        refuse_to_tests(tally, library)
+
+
+def refuse_to_program(tally, library, program):
+    """The program ends as with memory, or prints nothing and ends with status 3."""
+    for words, status, out, err in COMMANDS:
+        whole = (status, out.encode(), err.encode())
+        name = f"{program.name} {shown(words)}"
+        refuse_each(tally, library, name, [program, *words], whole, [whole, FAILED])
+
+
+def refuse_to_tests(tally, library):
+    """A test of memory passes, and prints that a request was refused."""
+    listed = run([TESTS, "--list"], capture_output=True) if TESTS.is_file() else None
+    tests = TEST.findall(listed.stdout.decode()) if listed else []
+    if not tests:
+        tally.add(TESTS.name, "it was not built, or lists no tests of memory")
+    for test in tests:
+        refuse_each(tally, library, test, [TESTS, test], PASSED, [PASSED_REFUSED])
+
+
+def refuse_each(tally, library, name, words, whole, refused):
+    """Refuses no request of a command, then each in turn, and then the one after the last.
+
+    Where a request of the command is refused, it has to end in one of the ways `refused`, and else
+    as `whole` says.
+    """
+    ended, requests = run_refused(library, 0, words)
+    if not 0 < requests < MANY_REQUESTS:
+        tally.add(name, f"{requests} requests for memory, and it ended as {ended!r}")
+        return
+    problems = [f"none refused: {ended!r}"] if ended != whole else []
+    for number in range(1, requests + 2):
+        ended, _ = run_refused(library, number, words)
+        if ended not in (refused if number <= requests else [whole]):
+            problems.append(f"request {number}: {ended!r}")
+    tally.add(f"{name}, requests refused: {requests}", "; ".join(problems[:3]))
+
+
+def run_refused(library, number, words):
+    """Runs a command whose request for memory of that number is refused; at 0 none is.
+
+    Returns its status and outputs, and how many requests it made.
+    """
+    with tempfile.NamedTemporaryFile() as requests:
+        settings = {"REFUSED_REQUEST": str(number), "REQUESTS_FILE": requests.name}
+        env = {**os.environ, "LD_PRELOAD": str(library), **settings}
+        ended = run(words, capture_output=True, env=env)
+        made = os.stat(requests.name).st_size
+    return (ended.returncode, ended.stdout, ended.stderr), made
