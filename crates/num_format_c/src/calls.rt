@@ -97,10 +97,8 @@ pub fn fill_custom(
 ) -> Result<i32, Status>
     ensures { FillsCustom separator.now grouping minus_sign.now format.old format.new (returned result) }
 {
-    let (Ok(separator), Ok(minus_sign)) = (
-        str::from_utf8(separator),
-        str::from_utf8(minus_sign),
-    ) else {
+    let (Ok(separator), Ok(minus_sign)) = (str::from_utf8(separator), str::from_utf8(minus_sign))
+    else {
         return Err(Status::NotUtf8);
     };
     let (Ok(separator), Ok(minus_sign)) = (
