@@ -1,5 +1,5 @@
 -- Texts of at most one character.
-use Rattle.std.proofs.Common.{◌≡◌, ℕ, ◌∙◌, List, length, drop, ap, sym, subst, append-nil, Option, Some, IsUtf8, arith}
+use Rattle.std.proofs.Common.{◌≡◌, ℕ, List, length, sym, subst, append-nil, Some, IsUtf8, arith}
 use Rattle.std.proofs.lemmas.List.{nil_from_length}
 use Rattle.std.proofs.lemmas.Str.{IsUtf8-encode, IsUtf8-nil}
 use Rattle.std.proofs.Math.ListN.{drop_of_length-le}

@@ -45,7 +45,9 @@ pub fn print<N: ToFormattedStr>(
 }
 
 /// Parses the text as a number of the type.
-#[inline(always)]
+///
+/// It is not inlined, so that the code for one type does not lie among that for others.
+#[inline(never)]
 pub fn parse<N: FromFormattedStr>(format: &NumFormat, text: &[u8]) -> Result<N, Status>
     ensures { Parses N.kind N.value format.now text.now result }
 {

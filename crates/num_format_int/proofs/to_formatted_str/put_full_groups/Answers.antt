@@ -1,4 +1,4 @@
-use Rattle.std.proofs.Common.{◌≡◌, ℕ, ◌+◌, ◌*◌, ◌/◌, ◌%◌, ◌^◌, ◌<◌, ◌≤◌, List, ◌++◌, ◌∙◌, length, ap, arith}
+use Rattle.std.proofs.Common.{◌≡◌, ℕ, ◌+◌, ◌*◌, ◌/◌, ◌%◌, ◌^◌, ◌≤◌, List, ◌++◌, ◌∙◌, length, ap, arith}
 use Rattle.num_format_int.specs.Digits.{digits}
 use Rattle.num_format_int.specs.Groups.{last_digits, plain, PrependsGroups}
 use Rattle.num_format_int.proofs.DigitLemmas.{length-digits-split, length-put_group}

@@ -1,6 +1,5 @@
-use Rattle.std.proofs.Common.{◌≡◌, ℕ, ◌+◌, ◌*◌, ◌^◌, ◌<◌, ◌≤◌, ◌∙◌, length, arith}
+use Rattle.std.proofs.Common.{◌≡◌, ℕ, ◌+◌, ◌^◌, ◌<◌, ◌∙◌, length, arith}
 use Rattle.num_format_int.specs.Digits.{digits}
-use Rattle.num_format_int.specs.Groups.{PrependsGroups}
 use Rattle.num_format_int.proofs.DigitLemmas.{digits-leading_one, digits_given, length-last_digits}
 use Rattle.num_format_int.proofs.GroupLemmas.{prepends-middle}
 use Rattle.num_format_int.proofs.to_formatted_str.put_middle.Goals as goal
