@@ -45,9 +45,7 @@ pub fn print<N: ToFormattedStr>(
 }
 
 /// Parses the text as a number of the type.
-///
-/// It is not inlined, so that the code for one type does not lie among that for others.
-#[inline(never)]
+#[inline(always)]
 pub fn parse<N: FromFormattedStr>(format: &NumFormat, text: &[u8]) -> Result<N, Status>
     ensures { Parses N.kind N.value format.now text.now result }
 {
