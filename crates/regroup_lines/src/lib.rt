@@ -69,7 +69,7 @@ pub fn regroup_lines<R: Read, W: Write, F: Format, G: Format>(
     regroup_at_most(MAX_LINES, r, w, from, to)
 }
 
-/// Does as [`regroup_lines`], but for an input of at most so many lines.
+/// Does what [`regroup_lines`] does, for an input of at most this many lines.
 ///
 /// # Errors
 ///

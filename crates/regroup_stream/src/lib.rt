@@ -53,8 +53,8 @@ const USAGE: &str = "usage: regroup-lines FROM TO, each a locale or custom:SEP:G
 ///   a newline. Lines are numbered from 1.
 /// - [`MISUSED`] (2): `err` received the usage, and `out` nothing. Nothing was read.
 /// - [`FAILED`] (3): a read failed, also one that was interrupted, or a write to `out`, a flush of it,
-///   or a write of the message or the usage. `out` and `err` each received a prefix of what they
-///   receive without the failure, and `out` no line at fault.
+///   or a write of the message or the usage; or there are more lines than a `u64` counts. `out` and
+///   `err` each received a prefix of what they receive otherwise.
 ///
 /// ```text
 /// run(&["en", "de"], b"1,000\n".as_slice(), &mut out, &mut err)    // 0, and "1.000\n" in `out`
