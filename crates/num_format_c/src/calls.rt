@@ -1,7 +1,8 @@
 //! What the calls do, with Rust's types.
-ghost use Rattle.std.specs.Prelude.{◌≡◌, ◌+◌, ◌≤◌, length, pos, Err, MatchOption, if◌then◌else◌};
+ghost use Rattle.std.specs.Prelude.{◌≡◌, ◌≢◌, ◌+◌, ◌≤◌, length, pos, Err, MatchOption, if◌then◌else◌};
 ghost use Rattle.num_format.specs.Alike.{Alike};
 ghost use Rattle.num_format.specs.RoundTrips.{RoundTrips};
+ghost use Rattle.num_format.specs.Text.{text_of};
 ghost use Rattle.num_format_c.specs.Calls.{FillsCustom, FillsLocale, Parses, Prints, Tells, Writes, WritesName, returned, signed_kind, unsigned_kind};
 ghost use Rattle.num_format_c.specs.declared.status.Status.TheVariants.{BadBits};
 ghost use Rattle.num_format_c.specs.Held.{HasFormat, format_of};
@@ -10,7 +11,7 @@ use crate::format::{Held, NumFormat, grouping_of};
 use crate::status::Status;
 use num_format::parsing::{FromFormattedStr, ParseBytesError};
 use num_format::utils::{MinusSignStr, SeparatorStr};
-use num_format::{Buffer, Locale, ToFormattedStr};
+use num_format::{Buffer, Format, Locale, ToFormattedStr};
 use num_format_int::buffer::copy_bytes;
 
 /// Fills the struct with the format of the locale, and returns 0.
@@ -39,8 +40,23 @@ pub fn print<N: ToFormattedStr>(
     let Some(format) = Held::new(format) else {
         return Err(Status::BadFormat);
     };
+    print_under(&format, number, text)
+}
+
+/// Prints the number under a format, and returns the length of the text.
+///
+/// A function clears the space of its locals where it begins. The buffer is a local of this one, so
+/// that its space is cleared once, where it is filled with zeros at once.
+#[inline(always)]
+fn print_under<F: Format, N: ToFormattedStr>(
+    format: &F,
+    number: &N,
+    text: &mut [u8],
+) -> Result<i32, Status>
+    ensures { Writes (text_of (F.answers format.now) (N.value number.now)) text.old text.new (returned result) }
+{
     let mut buffer = Buffer::new();
-    buffer.write_formatted(number, &format);
+    buffer.write_formatted(number, format);
     write(buffer.as_str(), text)
 }
 
@@ -64,11 +80,25 @@ pub fn parse_signed(format: &NumFormat, bits: u32, text: &[u8]) -> Result<i64, S
     ensures { MatchOption (signed_kind bits) (result ≡ Err BadBits)
         (λ k. Parses k (λ n. n) format.now text.now result) }
 {
+    if bits == 64 {
+        parse::<i64>(format, text)
+    } else {
+        parse_narrow_signed(format, bits, text)
+    }
+}
+
+/// Parses the text as a signed number of fewer than 64 bits. It is not inlined, so that the code for
+/// 64 bits stands alone where it is called.
+#[inline(never)]
+fn parse_narrow_signed(format: &NumFormat, bits: u32, text: &[u8]) -> Result<i64, Status>
+    requires { bits ≢ 64 }
+    ensures { MatchOption (signed_kind bits) (result ≡ Err BadBits)
+        (λ k. Parses k (λ n. n) format.now text.now result) }
+{
     match bits {
         8 => Ok(parse::<i8>(format, text)? as i64),
         16 => Ok(parse::<i16>(format, text)? as i64),
         32 => Ok(parse::<i32>(format, text)? as i64),
-        64 => parse::<i64>(format, text),
         _ => Err(Status::BadBits),
     }
 }
@@ -78,11 +108,25 @@ pub fn parse_unsigned(format: &NumFormat, bits: u32, text: &[u8]) -> Result<u64,
     ensures { MatchOption (unsigned_kind bits) (result ≡ Err BadBits)
         (λ k. Parses k (λ n. pos n) format.now text.now result) }
 {
+    if bits == 64 {
+        parse::<u64>(format, text)
+    } else {
+        parse_narrow_unsigned(format, bits, text)
+    }
+}
+
+/// Parses the text as an unsigned number of fewer than 64 bits, as [`parse_narrow_signed`] does a
+/// signed one.
+#[inline(never)]
+fn parse_narrow_unsigned(format: &NumFormat, bits: u32, text: &[u8]) -> Result<u64, Status>
+    requires { bits ≢ 64 }
+    ensures { MatchOption (unsigned_kind bits) (result ≡ Err BadBits)
+        (λ k. Parses k (λ n. pos n) format.now text.now result) }
+{
     match bits {
         8 => Ok(parse::<u8>(format, text)? as u64),
         16 => Ok(parse::<u16>(format, text)? as u64),
         32 => Ok(parse::<u32>(format, text)? as u64),
-        64 => parse::<u64>(format, text),
         _ => Err(Status::BadBits),
     }
 }
