@@ -1,6 +1,6 @@
 -- The bytes that an input holds, read after read.
 use Rattle.std.proofs.Common.{◌≡◌, ℕ, ◌+◌, ◌-◌, ◌<◌, ◌≤◌, ◌==◌, true, false, Bool, List, [], ◌∷◌, ◌++◌, length, take, drop, get_or, slice_range, Option, Some, None, refl, sym, ap, subst, ◌∙◌, arith, append_assoc, append-nil, take-append-drop}
-use Rattle.std.specs.Prelude.{All, IfOk, MatchOption, Result, Ok, Err, is_some, not}
+use Rattle.std.specs.Prelude.{IfOk, MatchOption, Result, Ok, Err, is_some, not}
 use Rattle.std.specs.Io.KnownBytes.{Consumes, IsAtEnd, Keeps}
 use Rattle.std.proofs.KnownBytes.{Consumes-kept, Consumes-nil, Consumes-trans}
 use Rattle.std.proofs.lemmas.Bool.{false_from_ne_true, eqb-true}

@@ -1,17 +1,16 @@
 -- What regrouping writes and returns, line after line.
 use Rattle.std.proofs.Common.{◌≡◌, ◌≢◌, ℕ, ◌+◌, ◌<◌, ◌≤◌, ◌==◌, Bool, true, false, List, [], ◌∷◌, ◌++◌, length, Option, Some, None, Result, Ok, Err, if◌then◌else◌, refl, sym, ap, subst, ◌∙◌, arith, append_assoc, append-nil}
-use Rattle.std.specs.Prelude.{ℤ, IfOk, IfErr, IsUtf8, MatchResult, nat_lt}
+use Rattle.std.specs.Prelude.{ℤ, nat_lt}
 use Rattle.std.specs.List.{slice_split, onto_first}
-use Rattle.std.specs.Result.{result_map_both, result_or}
+use Rattle.std.specs.Result.{result_map_both}
 use Rattle.std.specs.Str.{is_utf8}
 use Rattle.std.specs.Io.KnownBytes.{Appends, Consumes, IsAtEnd, Keeps}
 use Rattle.std.proofs.KnownBytes.{Appends-nil, Appends-trans, Consumes-kept, Consumes-nil, Consumes-trans}
 use Rattle.std.proofs.lemmas.Bool.{eqb-true, false_from_ne_true}
 use Rattle.std.proofs.lemmas.Bool.Decides.{Decides-ltb}
 use Rattle.std.proofs.lemmas.List.Splits.{length-slice_split, slice_split_at, slice_split_none}
-use Rattle.std.proofs.lemmas.Str.{IsUtf8-from_is_utf8, is_utf8-from_IsUtf8}
 use Rattle.num_format.specs.Format.{FormatData}
-use Rattle.num_format.specs.Refusal.{Refusal, refusal_of}
+use Rattle.num_format.specs.Refusal.{Refusal}
 use Rattle.num_format.specs.Text.{text_of}
 use Rattle.num_format.specs.Writing.{StopsWithin}
 use Rattle.num_format.proofs.WritingLemmas.{StopsWithin_prefix, StopsWithin_suffix}
@@ -19,7 +18,7 @@ use Rattle.regroup_commands.specs.Output.{line, number_read}
 use Rattle.regroup_lines.specs.Fault.{Fault}
 use Rattle.regroup_lines.specs.Fault.Fault.{Line, NotText, Read, TooLong, TooMany, Write}
 use Rattle.regroup_lines.specs.Input.{HasNoNewline, Reads}
-use Rattle.regroup_lines.specs.Lines.{Regrouped, Stop, number_in_line, number_in_text, regrouped, regrouped_after, regrouped_parts, regrouped_rest, returned_unfinished, returning, size_fault, unfinished_fault, unless_fault, writing, writing_number}
+use Rattle.regroup_lines.specs.Lines.{Regrouped, Stop, number_in_line, number_in_text, regrouped, regrouped_after, regrouped_parts, regrouped_rest, returned_unfinished, returning, size_fault, unless_fault, writing, writing_number}
 use Rattle.regroup_lines.specs.Lines.Stop.{Ended, Failed, Unread}
 use Rattle.regroup_lines.specs.Sending.{Regroups, SendsNumber}
 

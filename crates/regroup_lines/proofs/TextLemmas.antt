@@ -12,7 +12,7 @@ use Rattle.num_format.specs.Text.{text_of}
 use Rattle.regroup_commands.specs.Output.{line, number_read}
 use Rattle.regroup_commands.specs.Sending.{Sends}
 use Rattle.regroup_lines.specs.Fault.{fault_of}
-use Rattle.regroup_lines.specs.Fault.Fault.{Line, NotText, Write}
+use Rattle.regroup_lines.specs.Fault.Fault.{Line, NotText}
 use Rattle.regroup_lines.specs.Lines.{number_in_text}
 use Rattle.regroup_lines.specs.Sending.{SendsNumber}
 use Rattle.regroup_lines.specs.declared.fault.RegroupFault.{RegroupFault}

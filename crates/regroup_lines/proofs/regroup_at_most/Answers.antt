@@ -1,4 +1,4 @@
-use Rattle.std.proofs.Common.{rules, true, false, ◌==◌, ap, ◌∙◌, ℕ, ◌+◌, ◌<◌, ◌≤◌, ◌≡◌, List, length, slice_range, refl, subst, sym, arith, Err, Ok}
+use Rattle.std.proofs.Common.{rules, true, false, ◌==◌, ap, ◌∙◌, ℕ, ◌+◌, ◌<◌, ◌≤◌, ◌≡◌, List, length, refl, subst, sym, arith, Err, Ok}
 use Rattle.std.proofs.lemmas.List.{length-drop, length-take}
 use Rattle.std.proofs.lemmas.Result.{err_from_is_err_and}
 use Rattle.regroup_lines.specs.Fault.{fault_of}

@@ -1,4 +1,4 @@
-use Rattle.std.proofs.Common.{ℕ, ◌+◌, ◌<◌, ◌≤◌, length, take, drop, slice_range, subst, ap, ◌∙◌, arith}
+use Rattle.std.proofs.Common.{ℕ, ◌+◌, ◌≤◌, length, drop, subst, ap, ◌∙◌, arith}
 use Rattle.std.proofs.lemmas.List.{drop-drop, length-drop, length-take}
 use Rattle.regroup_lines.specs.Input.{FindsNewline, held}
 use Rattle.regroup_lines.proofs.InputLemmas.{FindsPiece-after_call, line_found, range-later}
