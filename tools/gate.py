@@ -16,7 +16,6 @@ In this order:
 5. tools/filter_checks.py runs `regroup-lines` on good, bad and long input.
 6. tools/memory_checks.py runs `regroup` and each test of memory as often as it makes requests for
    memory, each time with another one refused.
-7. examples/run builds the library for C, and runs the programs in C, Python and Rust that call it.
 
 The last line says how many passed and failed in all. The exit status is 1 where one failed.
 
@@ -100,12 +99,6 @@ def builds(tally, crate, compilers):
             tally.add(program.name, "it was not built")
 
 
-def run_examples(tally):
-    heading("examples/run")
-    ended = run([ROOT / "examples" / "run"], timeout=None)
-    tally.compare("examples/run", ended.returncode, 0)
-
-
 def main():
     parser = argparse.ArgumentParser(description="Proves and tests everything.")
     parser.add_argument("--skip-proofs", action="store_true", help="leave out `rt ci`")
@@ -128,7 +121,6 @@ def main():
     for program in builds(tally, FILTER, compilers):
         filter_checks.check_all(tally, program)
     memory_checks.check_all(tally, programs)
-    run_examples(tally)
     left_out = ", rt ci left out" if skips else ""
     print(f"{tally.passed} passed, {tally.failed} failed{left_out}")
     sys.exit(1 if tally.failed else 0)
