@@ -4,7 +4,7 @@
     python3 tools/properties.py > crates/num_format_properties/stdin
     python3 tools/properties.py --count 1000000 --seed 7 | crates/num_format_properties/out/num_format_properties
 
-The bytes follow from the count and the seed. The first command writes the inputs of the stored run.
+The bytes follow from `--count` and `--seed`. The first command writes the inputs of the stored run.
 crates/num_format_properties/src/input.rt has the rule by which the program reads them. Most inputs are
 at an edge: limits of the types, powers of ten, texts of no byte and of as many as fit, digits and minus
 signs in separators, names of locales with a change, numerals of other scripts. The others are any bytes.
