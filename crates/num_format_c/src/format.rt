@@ -1,10 +1,10 @@
 //! A format in a struct that a C program owns.
-ghost use Rattle.std.specs.Prelude.{◌≡◌, ◌≤◌, take, drop, length, ◌++◌, IsTrue, IsUtf8, MatchOption, Some};
+ghost use Rattle.std.specs.Prelude.{◌≡◌, ◌≤◌, take, drop, length, ◌++◌, IsTrue, IsUtf8, MatchOption, Some, ◌↔◌};
+ghost use Rattle.bstr.specs.Utf8.{continues};
 ghost use Rattle.num_format_c.specs.Held.{Agrees, HasFormat, format_of, format_with, grouping_of};
 
 use num_format::utils::{DecimalStr, InfinityStr, MinusSignStr, NanStr, PlusSignStr, SeparatorStr};
 use num_format::{Format, Grouping};
-use num_format_int::utf8::first_char;
 
 /// The most bytes of a separator or a minus sign.
 const CAPACITY: usize = 8;
@@ -78,30 +78,52 @@ impl<'a> Held<'a> {
 }
 
 /// Returns the text of that length at the start of the array, if there is one.
-///
-/// Most are one character or empty, which takes less time to see than whether bytes are UTF-8.
 #[inline(always)]
-#[tactic(auto, using(crate::proofs::TextLemmas::empty_text))]
 fn text_at(bytes: &[u8; CAPACITY], len: u8) -> Option<&str>
     ensures { MatchOption result ((len ≤ CAPACITY) → ¬ (IsUtf8 (take len bytes.now)))
         (λ text. (len ≤ CAPACITY) × (text.now ≡ take len bytes.now) × (IsUtf8 (take len bytes.now))) }
 {
     let bytes = bytes.get(..len as usize)?;
-    if bytes.is_empty() || is_one_character(bytes) {
+    if is_short_text(bytes) || is_utf8(bytes) {
         return Some(unsafe { str::from_utf8_unchecked(bytes) });
     }
-    str::from_utf8(bytes).ok()
+    None
 }
 
-/// Returns whether the bytes are one character in UTF-8.
+/// Returns whether there are no bytes, or one character of up to three. It leaves out a few characters,
+/// whose bytes depend on one another.
+///
+/// Most separators and minus signs are such a text, which takes less time to see than whether bytes
+/// are UTF-8. `&` leaves it to the compiler where to branch.
 #[inline(always)]
-fn is_one_character(bytes: &[u8]) -> bool
+fn is_short_text(bytes: &[u8]) -> bool
     ensures { IsTrue result → IsUtf8 bytes.now }
 {
-    match first_char(bytes) {
-        (Some(_), len) => len == bytes.len(),
-        (None, _) => false,
+    match *bytes {
+        [] => true,
+        [a] => a < 0x80,
+        [a, b] => (0xC2 <= a) & (a <= 0xDF) & continues(b),
+        [a, b, c] => (0xE1 <= a) & (a <= 0xEC) & continues(b) & continues(c),
+        _ => false,
     }
+}
+
+/// Returns whether the byte may continue a character.
+#[inline(always)]
+fn continues(byte: u8) -> bool
+    ensures { result ≡ continues byte }
+{
+    (0x80 <= byte) & (byte <= 0xBF)
+}
+
+/// Returns whether the bytes are UTF-8. It is not inlined, so that the calls that need no such test have
+/// no local for its result.
+#[cold]
+#[inline(never)]
+fn is_utf8(bytes: &[u8]) -> bool
+    ensures { IsTrue result ↔ IsUtf8 bytes.now }
+{
+    str::from_utf8(bytes).is_ok()
 }
 
 /// Returns the grouping for which the number stands.

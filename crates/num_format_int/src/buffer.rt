@@ -148,30 +148,55 @@ impl Buffer {
 
 /// Copies the bytes over as many others.
 ///
-/// A copy whose length is known only at run time is a call. So texts of up to 32 bytes, which digits
-/// and signs are, are copied in a few moves. All of their bytes are read before the first is written,
-/// so that the compiler may join the moves.
+/// A copy whose length is known only at run time is a call. So texts of up to 64 bytes are copied in
+/// a few moves. All of their bytes are read before the first is written, so that the compiler may
+/// join the moves.
 #[inline(always)]
 pub fn copy_bytes(bytes: &[u8], target: &mut [u8])
     requires { length target.old ≡ length bytes.now }
     ensures { target.new ≡ bytes.now }
 {
-    match bytes {
-        [a] => target[0] = *a,
+    if bytes.len() < 4 {
+        copy_few(bytes, target);
+    } else {
+        copy_many(bytes, target);
+    }
+}
+
+/// Copies up to three bytes.
+#[inline(always)]
+fn copy_few(bytes: &[u8], target: &mut [u8])
+    requires same { length target.old ≡ length bytes.now }
+    requires few { length bytes.now < 4 }
+    ensures { target.new ≡ bytes.now }
+{
+    match *bytes {
+        [a] => target[0] = a,
         [a, b] => {
-            let (a, b) = (*a, *b);
             target[0] = a;
             target[1] = b;
         }
         [a, b, c] => {
-            let (a, b, c) = (*a, *b, *c);
             target[0] = a;
             target[1] = b;
             target[2] = c;
         }
-        [_, _, _, _, ..] if bytes.len() < 8 => copy_ends::<4>(bytes, target),
-        [_, _, _, _, ..] if bytes.len() < 16 => copy_ends::<8>(bytes, target),
-        [_, _, _, _, ..] if bytes.len() <= 32 => copy_ends::<16>(bytes, target),
+        _ => {}
+    }
+}
+
+/// Copies four bytes or more. The lengths that most texts of numbers have come first.
+#[inline(always)]
+fn copy_many(bytes: &[u8], target: &mut [u8])
+    requires same { length target.old ≡ length bytes.now }
+    requires many { 4 ≤ length bytes.now }
+    ensures { target.new ≡ bytes.now }
+{
+    match bytes.len() {
+        17..=32 => copy_ends::<16>(bytes, target),
+        9..=16 => copy_ends::<8>(bytes, target),
+        4..=8 => copy_ends::<4>(bytes, target),
+        33..=64 => copy_ends::<32>(bytes, target),
         _ => target.copy_from_slice(bytes),
     }
 }

@@ -8,7 +8,7 @@ ghost use Rattle.bstr.specs.Utf8.{decoded};
 /// A call takes longer than to put a character together. So this one is inlined, and calls only for
 /// the characters whose bytes depend on one another, and for bytes that are no character.
 #[inline(always)]
-pub fn first_char(bytes: &[u8]) -> (Option<char>, usize)
+pub(crate) fn first_char(bytes: &[u8]) -> (Option<char>, usize)
     ensures char { result.0 ≡ (decoded bytes.now).char }
     ensures size { result.1 ≡ (decoded bytes.now).size }
 {
