@@ -34,8 +34,12 @@ const C_FORMATS: [u8; 5] = [0, 1, 2, 3, BUILT];
 /// The code of the built format.
 const BUILT: u8 = 5;
 
-/// Printing through C, by the way that it is compared with, in the order of the ways' codes.
-pub const C_PRINTING: [&str; 2] = ["through C, used Buffer", "through C, new Buffer"];
+/// Printing through C, by the way that it is compared with, and that way's code.
+pub const C_PRINTING: [(&str, u8); 3] = [
+    ("through C, array", 4),
+    ("through C, used Buffer", 0),
+    ("through C, new Buffer", 1),
+];
 
 /// Reading through C, which is compared with reading.
 pub const C_READING: &str = "through C, read";
@@ -131,9 +135,9 @@ impl Run {
     /// Measures calls through C.
     fn measure_c(&mut self) {
         let names = C_FORMATS.map(|format| FORMATS[format as usize]);
-        for (way, operation) in C_PRINTING.into_iter().enumerate() {
+        for (operation, way) in C_PRINTING {
             self.measure_sizes::<i64>(operation, &names, |name, sizes, place| {
-                measure_printing_through_c(name, &sizes.batch(), way as u8, C_FORMATS[place])
+                measure_printing_through_c(name, &sizes.batch(), way, C_FORMATS[place])
             });
         }
         self.measure_sizes::<i64>(C_READING, &names, |name, sizes, place| {

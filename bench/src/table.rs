@@ -165,9 +165,10 @@ impl Table {
         println!("\nPort / port under Standard: median, highest");
         self.print_ratios("used Buffer", Times::ratio_to_reference);
         println!("\nPort through C / port: median, highest");
-        for operation in C_PRINTING.into_iter().chain([C_READING]) {
+        for (operation, _) in C_PRINTING {
             self.print_ratios(operation, Times::ratio_to_reference);
         }
+        self.print_ratios(C_READING, Times::ratio_to_reference);
         println!("\nPort / plain digits: median, highest");
         for operation in ["used Buffer", "read"] {
             self.print_ratios(operation, Times::ratio_to_floor);

@@ -14,9 +14,9 @@ impl Checksum {
         Checksum { sum: 0 }
     }
 
-    /// Adds a text.
-    pub fn add(&mut self, text: &str) {
-        let last = text.as_bytes().last().copied().unwrap_or(0);
+    /// Adds the bytes of a text.
+    pub fn add(&mut self, text: &[u8]) {
+        let last = text.last().copied().unwrap_or(0);
         self.sum = self
             .sum
             .wrapping_mul(31)
@@ -29,7 +29,7 @@ impl Checksum {
         match error.kind() {
             ErrorKind::Capacity { .. } => {}
             ErrorKind::Other(text) | ErrorKind::ParseLocale(text) | ErrorKind::ParseNumber(text) =>
-                { self.add(text.as_str()) }
+                { self.add(text.as_str().as_bytes()) }
         }
     }
 

@@ -15,13 +15,19 @@ const NEW_BUFFER: u8 = 1;
 /// The code of printing into a new `String`.
 const NEW_STRING: u8 = 2;
 
+/// The code of printing into an array of bytes.
+const ARRAY: u8 = 4;
+
+/// The length in bytes of the longest text of a number.
+const MAX: usize = 191;
+
 /// What numbers are printed into, which keeps the text of the last one.
 trait Printer {
     /// Prints the number in place of the last one, and returns whether memory sufficed.
     fn print<N: ToFormattedStr, F: Format>(&mut self, n: &N, format: &F) -> bool;
 
-    /// The text of the last number.
-    fn text(&self) -> &str;
+    /// The bytes of the text of the last number.
+    fn text(&self) -> &[u8];
 }
 
 /// A buffer that is used again.
@@ -36,8 +42,8 @@ impl Printer for UsedBuffer {
         self.buffer.write_formatted(n, format) > 0
     }
 
-    fn text(&self) -> &str {
-        self.buffer.as_str()
+    fn text(&self) -> &[u8] {
+        self.buffer.as_bytes()
     }
 }
 
@@ -54,8 +60,8 @@ impl Printer for NewBuffer {
         self.buffer.write_formatted(n, format) > 0
     }
 
-    fn text(&self) -> &str {
-        self.buffer.as_str()
+    fn text(&self) -> &[u8] {
+        self.buffer.as_bytes()
     }
 }
 
@@ -78,8 +84,8 @@ impl Printer for NewString {
         }
     }
 
-    fn text(&self) -> &str {
-        self.text.as_str()
+    fn text(&self) -> &[u8] {
+        self.text.as_bytes()
     }
 }
 
@@ -96,28 +102,56 @@ impl Printer for UsedString {
         self.line.write_formatted(n, format).is_ok()
     }
 
-    fn text(&self) -> &str {
-        self.line.as_str()
+    fn text(&self) -> &[u8] {
+        self.line.as_bytes()
+    }
+}
+
+/// An array, at whose start each number is printed.
+#[derive(Drop)]
+struct Array {
+    bytes: [u8; MAX],
+    len: usize,
+}
+
+impl Printer for Array {
+    #[inline(never)]
+    fn print<N: ToFormattedStr, F: Format>(&mut self, n: &N, format: &F) -> bool {
+        let mut space = &mut self.bytes[..];
+        match space.write_formatted(n, format) {
+            Ok(len) => {
+                self.len = len;
+                true
+            }
+            Err(_) => false,
+        }
+    }
+
+    fn text(&self) -> &[u8] {
+        match self.bytes.get(..self.len) {
+            Some(text) => text,
+            None => &[],
+        }
     }
 }
 
 /// What receives each text.
 trait Sink {
     /// Receives a text, and returns whether memory sufficed.
-    fn receive(&mut self, text: &str) -> bool;
+    fn receive(&mut self, text: &[u8]) -> bool;
 }
 
 impl Sink for Checksum {
-    fn receive(&mut self, text: &str) -> bool {
+    fn receive(&mut self, text: &[u8]) -> bool {
         self.add(text);
         true
     }
 }
 
 /// The texts, with a line feed after each.
-impl Sink for String {
-    fn receive(&mut self, text: &str) -> bool {
-        self.push_str(text).is_ok() && self.push('\n').is_ok()
+impl Sink for Vec<u8> {
+    fn receive(&mut self, text: &[u8]) -> bool {
+        self.extend_from_slice(text).is_ok() && self.push(b'\n').is_ok()
     }
 }
 
@@ -178,6 +212,10 @@ where
             let text = String::new(alloc);
             print_under::<N, _, _, _>(numbers, format, &mut NewString { alloc, text }, sink)
         }
+        ARRAY => {
+            let (bytes, len) = ([0; MAX], 0);
+            print_under::<N, _, _, _>(numbers, format, &mut Array { bytes, len }, sink)
+        }
         _ => {
             let line = String::new(alloc);
             print_under::<N, _, _, _>(numbers, format, &mut UsedString { line }, sink)
@@ -205,13 +243,13 @@ where
     N: ToFormattedStr + From<S> + Drop,
     S: Copy,
 {
-    let mut lines = String::new(alloc);
+    let mut lines = Vec::new(alloc);
     if !print_by::<N, _, _>(alloc, numbers, way, format, &mut lines) {
         return 0;
     }
     let Some(target) = texts.get_mut(..lines.len()) else {
         return 0;
     };
-    target.copy_from_slice(lines.as_bytes());
+    target.copy_from_slice(&lines);
     lines.len()
 }

@@ -24,12 +24,16 @@ separator_of s = take s.separator_len s.separator
 abbrev pub minus_sign_of : NumFormat → List ℕ
 minus_sign_of s = take s.minus_sign_len s.minus_sign
 
--- the struct has a format: its texts are UTF-8 within their arrays, and its number stands for a grouping
-pub record HasFormat (s : NumFormat) : Type 0 where
+-- the texts of the struct are UTF-8 within their arrays
+pub record HasTexts (s : NumFormat) : Type 0 where
   pub separator_fits : s.separator_len ≤ 8
   pub separator : IsUtf8 (separator_of s)
   pub minus_sign_fits : s.minus_sign_len ≤ 8
   pub minus_sign : IsUtf8 (minus_sign_of s)
+
+-- the struct has a format: it has texts, and its number stands for a grouping
+pub record HasFormat (s : NumFormat) : Type 0 where
+  pub texts : HasTexts s
   pub grouping : IsSome (grouping_of s.grouping)
 
 -- the format that a struct has

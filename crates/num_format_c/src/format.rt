@@ -1,7 +1,7 @@
 //! A format in a struct that a C program owns.
 ghost use Rattle.std.specs.Prelude.{◌≡◌, ◌≤◌, take, drop, length, ◌++◌, IsTrue, IsUtf8, MatchOption, Some, ◌↔◌};
 ghost use Rattle.bstr.specs.Utf8.{continues};
-ghost use Rattle.num_format_c.specs.Held.{Agrees, HasFormat, format_of, format_with, grouping_of};
+ghost use Rattle.num_format_c.specs.Held.{Agrees, HasFormat, HasTexts, format_of, format_with, grouping_of};
 
 use num_format::utils::{DecimalStr, InfinityStr, MinusSignStr, NanStr, PlusSignStr, SeparatorStr};
 use num_format::{Format, Grouping};
@@ -39,6 +39,28 @@ impl NumFormat {
             grouping: number_of(format.grouping()),
         }
     }
+
+    /// Returns whether both texts are short. Those of most formats are.
+    ///
+    /// It calls no function, so that printing and parsing save no registers before it.
+    #[inline(always)]
+    fn has_short_texts(&self) -> bool
+        ensures { IsTrue result → HasTexts self.now }
+    {
+        has_short_text(&self.separator, self.separator_len)
+            && has_short_text(&self.minus_sign, self.minus_sign_len)
+    }
+
+    /// Returns whether both texts are UTF-8 within their arrays. It is not inlined, since few calls need
+    /// it.
+    #[cold]
+    #[inline(never)]
+    fn has_texts(&self) -> bool
+        ensures { IsTrue result ↔ HasTexts self.now }
+    {
+        has_text(&self.separator, self.separator_len)
+            && has_text(&self.minus_sign, self.minus_sign_len)
+    }
 }
 
 /// Returns the bytes of a text, and zeros after them.
@@ -67,44 +89,56 @@ impl<'a> Held<'a> {
         ensures { MatchOption result (¬ (HasFormat format.now))
             (λ h. (HasFormat format.now) × (format_with h.separator h.grouping h.minus_sign ≡ format_of format.now)) }
     {
-        let separator = text_at(&format.separator, format.separator_len)?;
-        let minus_sign = text_at(&format.minus_sign, format.minus_sign_len)?;
+        let grouping = grouping_of(format.grouping as u32)?;
+        if !format.has_short_texts() && !format.has_texts() {
+            return None;
+        }
+        let separator = text_at(&format.separator, format.separator_len);
+        let minus_sign = text_at(&format.minus_sign, format.minus_sign_len);
         Some(Held {
-            separator: SeparatorStr::new(separator).ok()?,
-            grouping: grouping_of(format.grouping as u32)?,
-            minus_sign: MinusSignStr::new(minus_sign).ok()?,
+            separator: SeparatorStr::new(separator).unwrap(),
+            grouping,
+            minus_sign: MinusSignStr::new(minus_sign).unwrap(),
         })
     }
 }
 
-/// Returns the text of that length at the start of the array, if there is one.
-#[inline(always)]
-fn text_at(bytes: &[u8; CAPACITY], len: u8) -> Option<&str>
-    ensures { MatchOption result ((len ≤ CAPACITY) → ¬ (IsUtf8 (take len bytes.now)))
-        (λ text. (len ≤ CAPACITY) × (text.now ≡ take len bytes.now) × (IsUtf8 (take len bytes.now))) }
+/// Returns the text of that length at the start of the array.
+fn text_at(bytes: &[u8; CAPACITY], len: u8) -> &str
+    requires fits { len ≤ CAPACITY }
+    requires utf8 { IsUtf8 (take len bytes.now) }
+    ensures { result.now ≡ take len bytes.now }
 {
-    let bytes = bytes.get(..len as usize)?;
-    if is_short_text(bytes) || is_utf8(bytes) {
-        return Some(unsafe { str::from_utf8_unchecked(bytes) });
-    }
-    None
+    unsafe { str::from_utf8_unchecked(&bytes[..len as usize]) }
 }
 
-/// Returns whether there are no bytes, or one character of up to three. It leaves out a few characters,
-/// whose bytes depend on one another.
+/// Returns whether there is a text of that length at the start of the array.
+fn has_text(bytes: &[u8; CAPACITY], len: u8) -> bool
+    ensures { IsTrue result ↔ (len ≤ CAPACITY) × IsUtf8 (take len bytes.now) }
+{
+    match bytes.get(..len as usize) {
+        Some(bytes) => str::from_utf8(bytes).is_ok(),
+        None => false,
+    }
+}
+
+/// Returns whether a text of that length, empty or of one character of up to three bytes, is at the start
+/// of the array. It leaves out a few characters, whose bytes depend on one another.
 ///
 /// Most separators and minus signs are such a text, which takes less time to see than whether bytes
 /// are UTF-8. `&` leaves it to the compiler where to branch.
 #[inline(always)]
-fn is_short_text(bytes: &[u8]) -> bool
-    ensures { IsTrue result → IsUtf8 bytes.now }
+fn has_short_text(bytes: &[u8; CAPACITY], len: u8) -> bool
+    ensures { IsTrue result → (len ≤ CAPACITY) × IsUtf8 (take len bytes.now) }
 {
-    match *bytes {
-        [] => true,
-        [a] => a < 0x80,
-        [a, b] => (0xC2 <= a) & (a <= 0xDF) & continues(b),
-        [a, b, c] => (0xE1 <= a) & (a <= 0xEC) & continues(b) & continues(c),
-        _ => false,
+    let (a, b, c) = (bytes[0], bytes[1], bytes[2]);
+    if len <= 1 {
+        // Where a call has filled the struct, the byte after an empty text is zero.
+        a < 0x80
+    } else if len == 3 {
+        (0xE1 <= a) & (a <= 0xEC) & continues(b) & continues(c)
+    } else {
+        (len == 2) & (0xC2 <= a) & (a <= 0xDF) & continues(b)
     }
 }
 
@@ -114,16 +148,6 @@ fn continues(byte: u8) -> bool
     ensures { result ≡ continues byte }
 {
     (0x80 <= byte) & (byte <= 0xBF)
-}
-
-/// Returns whether the bytes are UTF-8. It is not inlined, so that the calls that need no such test have
-/// no local for its result.
-#[cold]
-#[inline(never)]
-fn is_utf8(bytes: &[u8]) -> bool
-    ensures { IsTrue result ↔ IsUtf8 bytes.now }
-{
-    str::from_utf8(bytes).is_ok()
 }
 
 /// Returns the grouping for which the number stands.

@@ -3,7 +3,7 @@
 //! A [`Buffer`] is an array of [`MAX_BUF_LEN`] bytes, which no number outgrows under any format. Its
 //! text ends where the array ends and grows to the left, since the digits of a number are found from
 //! the last to the first.
-ghost use Rattle.std.specs.Prelude.{◌≡◌, ◌+◌, ◌<◌, ◌≤◌, ◌==◌, [], ◌∷◌, ◌++◌, length, Some};
+ghost use Rattle.std.specs.Prelude.{◌≡◌, ◌+◌, ◌*◌, ◌<◌, ◌≤◌, ◌==◌, [], ◌∷◌, ◌++◌, length, Some};
 
 use std::marker::Model;
 use std::{fmt, str};
@@ -17,6 +17,9 @@ const SHORT_LEN: usize = 32;
 
 /// Where these bytes begin.
 const SHORT_START: usize = MAX_BUF_LEN - SHORT_LEN;
+
+/// The most bytes that one move copies.
+const BLOCK: usize = 16;
 
 /// The text of a number, kept in place. A contract sees its bytes.
 ///
@@ -148,9 +151,8 @@ impl Buffer {
 
 /// Copies the bytes over as many others.
 ///
-/// A copy whose length is known only at run time is a call. So texts of up to 64 bytes are copied in
-/// a few moves. All of their bytes are read before the first is written, so that the compiler may
-/// join the moves.
+/// A copy whose length is known only at run time is a call. So texts of up to 48 bytes are copied in
+/// a few moves.
 #[inline(always)]
 pub fn copy_bytes(bytes: &[u8], target: &mut [u8])
     requires { length target.old ≡ length bytes.now }
@@ -185,20 +187,45 @@ fn copy_few(bytes: &[u8], target: &mut [u8])
     }
 }
 
-/// Copies four bytes or more. The lengths that most texts of numbers have come first.
+/// Copies four bytes or more.
+///
+/// Where texts of many lengths follow one another, the processor mistakes a branch on the length now and
+/// then, which takes longer than a move. So one to three blocks are copied without such a branch.
 #[inline(always)]
 fn copy_many(bytes: &[u8], target: &mut [u8])
     requires same { length target.old ≡ length bytes.now }
     requires many { 4 ≤ length bytes.now }
     ensures { target.new ≡ bytes.now }
 {
-    match bytes.len() {
-        17..=32 => copy_ends::<16>(bytes, target),
-        9..=16 => copy_ends::<8>(bytes, target),
-        4..=8 => copy_ends::<4>(bytes, target),
-        33..=64 => copy_ends::<32>(bytes, target),
-        _ => target.copy_from_slice(bytes),
+    if bytes.len() >= BLOCK {
+        if bytes.len() <= 3 * BLOCK {
+            copy_blocks(bytes, target);
+        } else {
+            target.copy_from_slice(bytes);
+        }
+    } else if bytes.len() >= 8 {
+        copy_ends::<8>(bytes, target);
+    } else {
+        copy_ends::<4>(bytes, target);
     }
+}
+
+/// Copies one to three blocks of bytes: the first, the last, and the one after the first, or the last
+/// again. They overlap.
+#[inline(always)]
+fn copy_blocks(bytes: &[u8], target: &mut [u8])
+    requires same { length target.old ≡ length bytes.now }
+    requires blocks { (BLOCK ≤ length bytes.now) × (length bytes.now ≤ 3 * BLOCK) }
+    ensures { target.new ≡ bytes.now }
+{
+    let last = bytes.len() - BLOCK;
+    let end = if last < BLOCK {
+        last + BLOCK
+    } else {
+        2 * BLOCK
+    };
+    copy_ends::<BLOCK>(&bytes[..end], &mut target[..end]);
+    target[last..].copy_from_slice(&bytes[last..]);
 }
 
 /// Copies the first `HALF` bytes and the last, which together are all of them.
