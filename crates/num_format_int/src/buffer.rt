@@ -210,21 +210,17 @@ fn copy_many(bytes: &[u8], target: &mut [u8])
     }
 }
 
-/// Copies one to three blocks of bytes: the first, the last, and the one after the first, or the last
-/// again. They overlap.
+/// Copies one to three blocks of bytes, of which the last ones may overlap: the first, the one after it
+/// or as much of it as there is, and the last.
 #[inline(always)]
 fn copy_blocks(bytes: &[u8], target: &mut [u8])
     requires same { length target.old ≡ length bytes.now }
     requires blocks { (BLOCK ≤ length bytes.now) × (length bytes.now ≤ 3 * BLOCK) }
     ensures { target.new ≡ bytes.now }
 {
-    let last = bytes.len() - BLOCK;
-    let end = if last < BLOCK {
-        last + BLOCK
-    } else {
-        2 * BLOCK
-    };
+    let end = bytes.len().min(2 * BLOCK);
     copy_ends::<BLOCK>(&bytes[..end], &mut target[..end]);
+    let last = bytes.len() - BLOCK;
     target[last..].copy_from_slice(&bytes[last..]);
 }
 
