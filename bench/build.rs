@@ -1,5 +1,5 @@
 //! Links the static libraries of `crates/num_format_bench` and `crates/num_format_c`, which `run`
-//! builds and names.
+//! builds and names, after as many bytes as `BENCH_SHIFT` says, which shift the addresses of their code.
 
 use std::env;
 
@@ -10,4 +10,7 @@ fn main() {
         println!("cargo:rerun-if-changed={library}");
         println!("cargo:rustc-link-arg={library}");
     }
+    println!("cargo:rerun-if-env-changed=BENCH_SHIFT");
+    let shift = env::var("BENCH_SHIFT").unwrap_or_else(|_| String::from("0"));
+    println!("cargo:rustc-env=BENCH_SHIFT={shift}");
 }

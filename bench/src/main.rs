@@ -19,11 +19,19 @@ mod texts;
 use groupings::Grouping;
 use num_format::Locale;
 use numbers::{BATCH, Number, Random, Sizes};
+use std::arch::global_asm;
 use std::error::Error;
 use std::hint::black_box;
 use std::time::{Duration, Instant};
 use table::{Cell, Table, Times};
 use texts::Texts;
+
+// Unused bytes, which the linker keeps and places before the code of the libraries.
+global_asm!(
+    r#".pushsection .text.shift, "axR", @progbits"#,
+    concat!(".skip ", env!("BENCH_SHIFT")),
+    ".popsection"
+);
 
 /// The formats, in the order of their codes.
 const FORMATS: [&str; 6] = ["en", "en_IN", "fr", "en_US_POSIX", "constants", "built"];
