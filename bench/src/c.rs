@@ -82,8 +82,9 @@ impl Format {
 #[inline(never)]
 fn print_one<'a>(number: i64, format: &Format, array: &'a mut [u8; MAX]) -> &'a str {
     let length = unsafe { num_format_print_i64(format, number, array.as_mut_ptr(), MAX) };
-    // SAFETY: The first bytes of the array are the text of the number.
-    unsafe { str::from_utf8_unchecked(&array[..length as usize]) }
+    // SAFETY: The first bytes of the array are the text of the number, and it has at most `MAX`. The
+    // port's own text is not checked either.
+    unsafe { str::from_utf8_unchecked(array.get_unchecked(..length as usize)) }
 }
 
 /// Prints numbers, and returns a sum over their texts.
