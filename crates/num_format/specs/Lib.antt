@@ -1,13 +1,7 @@
 -- The definitions that the contracts of this crate use. Those of the crates below are passed on.
-pub mod Alike
-pub mod Building
 pub mod Constants
-pub mod English
-pub mod Json
-pub mod Laws
-pub mod RoundTrips
-pub mod Writing
 pub use Rattle.num_format_text.specs.Cut
+pub use Rattle.num_format_text.specs.English
 pub use Rattle.num_format_text.specs.Format
 pub use Rattle.num_format_text.specs.GroupingNames
 pub use Rattle.num_format_text.specs.Refusal
@@ -28,3 +22,8 @@ pub use Rattle.num_format_cldr.specs.Table
 pub use Rattle.num_format_locale.specs.Data
 pub use Rattle.num_format_locale.specs.Names
 pub use Rattle.num_format_locale.specs.Search
+pub use Rattle.num_format_certificates.specs.Alike
+pub use Rattle.num_format_certificates.specs.RoundTrips
+pub use Rattle.num_format_custom.specs.Building
+pub use Rattle.num_format_json.specs.Json
+pub use Rattle.num_format_writers.specs.Writing

@@ -30,30 +30,26 @@
 //! The names are those of the Rust crate `num-format` 0.4.4.
 #![tactic(auto)]
 
-mod bounded_string;
-pub mod certificates;
-mod choice;
-pub mod custom_format;
-pub mod custom_format_builder;
-pub mod json;
 pub mod laws;
-pub mod to_formatted_string;
-pub mod write_formatted;
 
-pub use certificates::{prints_alike, reads_back};
-pub use custom_format::CustomFormat;
-pub use custom_format_builder::CustomFormatBuilder;
+pub use num_format_certificates::certificates;
+pub use num_format_certificates::certificates::{prints_alike, reads_back};
+pub use num_format_custom::custom_format::CustomFormat;
+pub use num_format_custom::custom_format_builder::CustomFormatBuilder;
+pub use num_format_custom::{custom_format, custom_format_builder};
 pub use num_format_int::buffer::Buffer;
 pub use num_format_int::parsing;
 pub use num_format_int::to_formatted_str::ToFormattedStr;
+pub use num_format_json::json;
 pub use num_format_locale::locale::Locale;
 pub use num_format_text::error;
 pub use num_format_text::error::Error;
 pub use num_format_text::error_kind::ErrorKind;
 pub use num_format_text::format::Format;
 pub use num_format_text::grouping::Grouping;
-pub use to_formatted_string::ToFormattedString;
-pub use write_formatted::WriteFormatted;
+pub use num_format_writers::to_formatted_string::ToFormattedString;
+pub use num_format_writers::write_formatted::WriteFormatted;
+pub use num_format_writers::{to_formatted_string, write_formatted};
 
 /// The texts of a format, one type for each. A text has at most its capacity in bytes.
 pub mod utils {

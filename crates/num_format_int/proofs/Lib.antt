@@ -6,3 +6,5 @@ pub mod GroupedLemmas
 pub mod PairLemmas
 pub mod ReadingLemmas
 pub mod ReadingExamples
+mod TextExamples
+pub mod TextLemmas

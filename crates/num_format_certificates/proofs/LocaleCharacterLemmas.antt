@@ -1,0 +1,51 @@
+-- The minus signs and separators of locales have no digit and no other numeric character.
+use Rattle.std.proofs.Common.{◌≡◌, ℕ, ◌-◌, List, [], ◌∷◌, map, refl, sym, ap, ◌∙◌, Bool, true, false, Contains}
+use Rattle.std.specs.Prelude.{filter}
+use Rattle.std.specs.Char.{is_ascii_digit}
+use Rattle.std.specs.List.{list_any}
+use Rattle.std.specs.Str.{chars}
+use Rattle.std.proofs.lemmas.Bool.{or_parts}
+use Rattle.std.proofs.lemmas.List.Elements.{All-weaker}
+use Rattle.std.proofs.lemmas.List.Folds.{list_any_at, list_any_none}
+use Rattle.num_format_cldr.specs.Characters.{HasOnly, minus_sign_characters, separator_characters}
+use Rattle.num_format_cldr.specs.Entry.{Entry, IsWellFormed}
+use Rattle.num_format_int.specs.Reading.{is_other_numeral}
+use Rattle.num_format_int.proofs.ReadingLemmas.{ucd_category}
+use Rattle.num_format_certificates.specs.RoundTrips.{HasNoNumeral}
+
+-- a test that no element passes, an element does not pass
+fails_at : (p : ℕ → Bool) (xs : List ℕ) → list_any p xs ≡ false → (c : ℕ) → Contains xs c → p c ≡ false
+fails_at p xs none c at =
+    elim (p c) as (λ b. p c ≡ b → b ≡ false) [
+      | true ↦ λ yes. sym (list_any_at p xs at.0 c at.1 (ap p at.2 ∙ yes)) ∙ none
+      | false ↦ λ no. refl
+    ] refl
+
+-- a test that none of the characters passes, none of a text with only these characters passes
+pub fails_in : (p : ℕ → Bool) (characters text : List ℕ) → list_any p characters ≡ false → HasOnly characters text → list_any p (chars text) ≡ false
+fails_in p characters text none only =
+    list_any_none p (chars text) (All-weaker (Contains characters) (λ c. p c ≡ false) (fails_at p characters none) (chars text) only)
+
+-- what no element passes, leaves none
+filter_none : (p : ℕ → Bool) (xs : List ℕ) → list_any p xs ≡ false → filter p xs ≡ []
+filter_none p [] none = refl
+filter_none p (x ∷ xs) none =
+    let parts = or_parts (p x) (list_any p xs) none in
+    rw (parts.0, filter_none p xs parts.1)
+
+-- a text has no numeral, if none of the characters that it may have is a digit or another numeral
+has_no_numeral : (characters text : List ℕ) → list_any is_ascii_digit characters ≡ false → list_any is_other_numeral characters ≡ false → HasOnly characters text → HasNoNumeral text
+has_no_numeral characters text no_digit no_other only = record {
+  no_digit = ap (map (λ c. c - 48)) (filter_none is_ascii_digit (chars text) (fails_in is_ascii_digit characters text no_digit only));
+  no_other = fails_in is_other_numeral characters text no_other only;
+}
+
+-- so no minus sign of a locale has one
+pub minus_sign_plain : (e : Entry) → IsWellFormed e → HasNoNumeral e.min
+unfolding ucd_category
+minus_sign_plain e well = has_no_numeral minus_sign_characters e.min refl refl well.min_characters
+
+-- and no separator
+pub separator_plain : (e : Entry) → IsWellFormed e → HasNoNumeral e.sep
+unfolding ucd_category
+separator_plain e well = has_no_numeral separator_characters e.sep refl refl well.sep_characters

@@ -1,0 +1,46 @@
+//! Laws of the checks of a format, for callers' proofs.
+//!
+//! The contract of each function is a law. There is nothing to compute, so the bodies are empty,
+//! but for that of [`locale_round_trips`], which calls getters for what their contracts say.
+//! A caller that needs a law in a proof calls its function.
+ghost use Rattle.num_format_locale.specs.Data.{locale_data};
+ghost use Rattle.num_format_certificates.specs.Laws.{AlikeLaw, DistinctTextsLaw, RoundTripLaw};
+ghost use Rattle.num_format_certificates.specs.RoundTrips.{RoundTrips};
+
+use num_format_locale::Locale;
+
+/// Two formats print all numbers alike exactly if they print 1000, 100000, 1000000 and -1 alike.
+///
+/// -1 shows the minus sign. 1000 has a separator under `Standard` and `Indian` alone. 100000 has one
+/// under `Standard` and two under `Indian`, and one under `Myriad` and `Sparse`, of which 1000000 has
+/// one and two. None of the four has one under `Posix`.
+pub fn alike()
+    ensures { AlikeLaw }
+{}
+
+/// Every number of every integer type parses again from its text under a format exactly if the
+/// `i128` values 1 and `i128::MIN` do. And this is so exactly if the minus sign is not empty, and
+/// neither it nor a separator that is printed has a digit or another numeric character. A separator
+/// is printed under each grouping but [`Grouping::Posix`](num_format_text::Grouping::Posix).
+///
+/// The law is about data whose minus sign and separator are UTF-8, as those of every
+/// [`Format`](num_format_text::Format) are.
+pub fn round_trips()
+    ensures { RoundTripLaw }
+{}
+
+/// Every number of every integer type parses again from its text under the locale.
+pub fn locale_round_trips(locale: Locale)
+    ensures { RoundTrips (locale_data locale) }
+{
+    // Their contracts say that the locale is in the table, and their types that both texts are UTF-8.
+    locale.name();
+    locale.minus_sign();
+    locale.separator();
+}
+
+/// Under a format by which every number reads back, two numbers of one integer type that have the
+/// same text are equal.
+pub fn distinct_texts()
+    ensures { DistinctTextsLaw }
+{}

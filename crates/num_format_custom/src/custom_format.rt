@@ -1,0 +1,194 @@
+//! A format with seven fields of the caller's choice.
+ghost use Rattle.std.specs.Prelude.{◌≡◌, ◌≤◌, length};
+ghost use Rattle.num_format_custom.specs.Building.{choices_of};
+ghost use Rattle.num_format_text.specs.English.{english};
+ghost use Rattle.num_format_locale.specs.Data.{locale_data};
+
+use crate::bounded_string::BoundedString;
+use crate::custom_format_builder::CustomFormatBuilder;
+use num_format_locale::Locale;
+use num_format_text::capacities::{
+    MAX_DEC_LEN, MAX_INF_LEN, MAX_MIN_LEN, MAX_NAN_LEN, MAX_PLUS_LEN, MAX_SEP_LEN,
+};
+use num_format_text::strings::{
+    DecimalStr, InfinityStr, MinusSignStr, NanStr, PlusSignStr, SeparatorStr,
+};
+use num_format_text::{Format, Grouping};
+use std::marker::Model;
+
+/// A format with seven fields of the caller's choice. A contract sees them as `FormatData`.
+///
+/// A [`CustomFormatBuilder`] builds one:
+///
+/// ```text
+/// let format = CustomFormat::builder()
+///     .grouping(Grouping::Indian)
+///     .separator("'")
+///     .build()?;
+/// buffer.write_formatted(&1000000, &format);    // buffer.as_str() is "10'00'000"
+/// ```
+///
+/// Two formats are equal exactly if all seven fields are. The seven getters return the fields as they
+/// are. The methods of [`Format`] return the texts as
+/// the types of [`utils`](crate::utils).
+#[derive(Clone, Debug, Drop, PartialEq, Eq, Hash)]
+pub struct CustomFormat {
+    pub(crate) decimal: BoundedString<MAX_DEC_LEN>,
+    pub(crate) grouping: Grouping,
+    pub(crate) infinity: BoundedString<MAX_INF_LEN>,
+    pub(crate) minus_sign: BoundedString<MAX_MIN_LEN>,
+    pub(crate) nan: BoundedString<MAX_NAN_LEN>,
+    pub(crate) plus_sign: BoundedString<MAX_PLUS_LEN>,
+    pub(crate) separator: BoundedString<MAX_SEP_LEN>,
+}
+
+impl Model for CustomFormat {
+    ghost use Rattle.num_format_text.specs.Format.{FormatData};
+
+    ghost Value = { FormatData };
+
+    ghost view = { λ f. record {
+      decimal = f.decimal;
+      grouping = f.grouping;
+      infinity = f.infinity;
+      minus_sign = f.minus_sign;
+      nan = f.nan;
+      plus_sign = f.plus_sign;
+      separator = f.separator;
+    } };
+
+    ghost inverse = { λ f. record {
+      decimal = f.decimal;
+      grouping = f.grouping;
+      infinity = f.infinity;
+      minus_sign = f.minus_sign;
+      nan = f.nan;
+      plus_sign = f.plus_sign;
+      separator = f.separator;
+    } };
+}
+
+impl CustomFormat {
+    /// Returns a builder that starts with the data of the locale `en`.
+    pub fn builder() -> CustomFormatBuilder
+        ensures { result ≡ choices_of english }
+    {
+        CustomFormatBuilder::new()
+    }
+
+    /// Returns a builder that starts with the data of this format.
+    ///
+    /// ```text
+    /// CustomFormat::from(Locale::fr).into_builder().separator(".").build()  is fr, but for the separator
+    /// ```
+    pub fn into_builder(self) -> CustomFormatBuilder
+        ensures { result ≡ choices_of self }
+    {
+        CustomFormatBuilder::from(self)
+    }
+
+    /// Returns the decimal mark, of at most 8 bytes.
+    pub fn decimal(&self) -> &str
+        ensures same { result.now ≡ self.now.decimal }
+        ensures fits { length result.now ≤ MAX_DEC_LEN }
+    {
+        self.decimal.as_str()
+    }
+
+    /// Returns the grouping of the digits.
+    pub fn grouping(&self) -> Grouping
+        ensures { result ≡ self.now.grouping }
+    {
+        self.grouping
+    }
+
+    /// Returns the text for infinity, of at most 128 bytes.
+    pub fn infinity(&self) -> &str
+        ensures same { result.now ≡ self.now.infinity }
+        ensures fits { length result.now ≤ MAX_INF_LEN }
+    {
+        self.infinity.as_str()
+    }
+
+    /// Returns the minus sign, of at most 8 bytes.
+    pub fn minus_sign(&self) -> &str
+        ensures same { result.now ≡ self.now.minus_sign }
+        ensures fits { length result.now ≤ MAX_MIN_LEN }
+    {
+        self.minus_sign.as_str()
+    }
+
+    /// Returns the text for NaN, of at most 64 bytes.
+    pub fn nan(&self) -> &str
+        ensures same { result.now ≡ self.now.nan }
+        ensures fits { length result.now ≤ MAX_NAN_LEN }
+    {
+        self.nan.as_str()
+    }
+
+    /// Returns the plus sign, of at most 8 bytes.
+    pub fn plus_sign(&self) -> &str
+        ensures same { result.now ≡ self.now.plus_sign }
+        ensures fits { length result.now ≤ MAX_PLUS_LEN }
+    {
+        self.plus_sign.as_str()
+    }
+
+    /// Returns the separator between groups of digits, of at most 8 bytes.
+    pub fn separator(&self) -> &str
+        ensures same { result.now ≡ self.now.separator }
+        ensures fits { length result.now ≤ MAX_SEP_LEN }
+    {
+        self.separator.as_str()
+    }
+}
+
+impl Default for CustomFormat {
+    ghost is_default = { λ f. f ≡ english };
+
+    /// Returns the format with the data of the locale `en`.
+    fn default() -> CustomFormat {
+        CustomFormat::builder().build().unwrap()
+    }
+}
+
+impl From<Locale> for CustomFormat {
+    ghost from_gives = { λ locale format. format ≡ locale_data locale };
+
+    /// Returns the format with the data of the locale.
+    fn from(locale: Locale) -> CustomFormat {
+        CustomFormatBuilder::from(locale).build().unwrap()
+    }
+}
+
+impl Format for CustomFormat {
+    ghost answers = { λ f. f };
+
+    fn decimal(&self) -> DecimalStr<'_> {
+        DecimalStr::new(self.decimal()).unwrap()
+    }
+
+    fn grouping(&self) -> Grouping {
+        CustomFormat::grouping(self)
+    }
+
+    fn infinity(&self) -> InfinityStr<'_> {
+        InfinityStr::new(self.infinity()).unwrap()
+    }
+
+    fn minus_sign(&self) -> MinusSignStr<'_> {
+        MinusSignStr::new(self.minus_sign()).unwrap()
+    }
+
+    fn nan(&self) -> NanStr<'_> {
+        NanStr::new(self.nan()).unwrap()
+    }
+
+    fn plus_sign(&self) -> PlusSignStr<'_> {
+        PlusSignStr::new(self.plus_sign()).unwrap()
+    }
+
+    fn separator(&self) -> SeparatorStr<'_> {
+        SeparatorStr::new(self.separator()).unwrap()
+    }
+}

@@ -1,0 +1,234 @@
+//! A builder of custom formats.
+ghost use Rattle.std.specs.Prelude.{◌≡◌};
+ghost use Rattle.num_format_custom.specs.Building.{SetDecimal, SetFormat, SetGrouping, SetInfinity, SetMinusSign, SetNan, SetPlusSign, SetSeparator, after_call, built, choices_of};
+ghost use Rattle.num_format_text.specs.English.{english};
+ghost use Rattle.num_format_locale.specs.Data.{locale_data};
+
+use crate::choice::Choice;
+use crate::custom_format::CustomFormat;
+use num_format_locale::Locale;
+use num_format_text::capacities::{
+    MAX_DEC_LEN, MAX_INF_LEN, MAX_MIN_LEN, MAX_NAN_LEN, MAX_PLUS_LEN, MAX_SEP_LEN,
+};
+use num_format_text::{Error, Format, Grouping};
+use std::marker::Model;
+
+/// The decimal mark of the locale `en`.
+const DECIMAL: &str = ".";
+
+/// The grouping of the locale `en`.
+const GROUPING: Grouping = Grouping::Standard;
+
+/// The text for infinity of the locale `en`.
+const INFINITY: &str = "∞";
+
+/// The minus sign of the locale `en`.
+const MINUS_SIGN: &str = "-";
+
+/// The text for NaN of the locale `en`.
+const NAN: &str = "NaN";
+
+/// The plus sign of the locale `en`.
+const PLUS_SIGN: &str = "+";
+
+/// The separator of the locale `en`.
+const SEPARATOR: &str = ",";
+
+/// A builder of a [`CustomFormat`]. A contract sees in each field a value, or the length of a text
+/// that is too long.
+///
+/// [`CustomFormat::builder`] starts with the data of the locale `en`, and
+/// [`CustomFormat::into_builder`] with those of a format. A setter replaces the value of its field,
+/// and never fails: where its text is longer than the field's capacity,
+/// [`build`](CustomFormatBuilder::build) returns the error, unless a later call replaces that text.
+///
+/// Two builders are equal exactly if they have the same in each field.
+///
+/// ```text
+/// CustomFormat::builder().separator("").build()           is Ok, with no separator
+/// CustomFormat::builder().separator("123456789").build()  is Err, of kind Capacity { len: 9, cap: 8 }
+/// ```
+#[derive(Clone, Debug, Drop, PartialEq, Eq, Hash)]
+pub struct CustomFormatBuilder {
+    decimal: Choice<MAX_DEC_LEN>,
+    grouping: Grouping,
+    infinity: Choice<MAX_INF_LEN>,
+    minus_sign: Choice<MAX_MIN_LEN>,
+    nan: Choice<MAX_NAN_LEN>,
+    plus_sign: Choice<MAX_PLUS_LEN>,
+    separator: Choice<MAX_SEP_LEN>,
+}
+
+impl Model for CustomFormatBuilder {
+    ghost use Rattle.num_format_custom.specs.Building.{Choices};
+
+    ghost Value = { Choices };
+
+    ghost view = { λ b. record {
+      decimal = b.decimal;
+      grouping = b.grouping;
+      infinity = b.infinity;
+      minus_sign = b.minus_sign;
+      nan = b.nan;
+      plus_sign = b.plus_sign;
+      separator = b.separator;
+    } };
+
+    ghost inverse = { λ b. record {
+      decimal = b.decimal;
+      grouping = b.grouping;
+      infinity = b.infinity;
+      minus_sign = b.minus_sign;
+      nan = b.nan;
+      plus_sign = b.plus_sign;
+      separator = b.separator;
+    } };
+}
+
+impl CustomFormatBuilder {
+    /// Returns a builder that starts with the data of the locale `en`.
+    pub(crate) fn new() -> CustomFormatBuilder
+        ensures { result ≡ choices_of english }
+    {
+        CustomFormatBuilder {
+            decimal: Choice::new(DECIMAL),
+            grouping: GROUPING,
+            infinity: Choice::new(INFINITY),
+            minus_sign: Choice::new(MINUS_SIGN),
+            nan: Choice::new(NAN),
+            plus_sign: Choice::new(PLUS_SIGN),
+            separator: Choice::new(SEPARATOR),
+        }
+    }
+
+    /// Sets the decimal mark, of at most 8 bytes.
+    pub fn decimal(self, text: &str) -> CustomFormatBuilder
+        ensures { result ≡ after_call self (SetDecimal text.now) }
+    {
+        CustomFormatBuilder {
+            decimal: Choice::new(text),
+            ..self
+        }
+    }
+
+    /// Sets the grouping of the digits.
+    pub fn grouping(self, grouping: Grouping) -> CustomFormatBuilder
+        ensures { result ≡ after_call self (SetGrouping grouping) }
+    {
+        CustomFormatBuilder { grouping, ..self }
+    }
+
+    /// Sets the text for infinity, of at most 128 bytes.
+    pub fn infinity(self, text: &str) -> CustomFormatBuilder
+        ensures { result ≡ after_call self (SetInfinity text.now) }
+    {
+        CustomFormatBuilder {
+            infinity: Choice::new(text),
+            ..self
+        }
+    }
+
+    /// Sets the minus sign, of at most 8 bytes.
+    pub fn minus_sign(self, text: &str) -> CustomFormatBuilder
+        ensures { result ≡ after_call self (SetMinusSign text.now) }
+    {
+        CustomFormatBuilder {
+            minus_sign: Choice::new(text),
+            ..self
+        }
+    }
+
+    /// Sets the text for NaN, of at most 64 bytes.
+    pub fn nan(self, text: &str) -> CustomFormatBuilder
+        ensures { result ≡ after_call self (SetNan text.now) }
+    {
+        CustomFormatBuilder {
+            nan: Choice::new(text),
+            ..self
+        }
+    }
+
+    /// Sets the plus sign, of at most 8 bytes.
+    pub fn plus_sign(self, text: &str) -> CustomFormatBuilder
+        ensures { result ≡ after_call self (SetPlusSign text.now) }
+    {
+        CustomFormatBuilder {
+            plus_sign: Choice::new(text),
+            ..self
+        }
+    }
+
+    /// Sets the separator between groups of digits, of at most 8 bytes.
+    pub fn separator(self, text: &str) -> CustomFormatBuilder
+        ensures { result ≡ after_call self (SetSeparator text.now) }
+    {
+        CustomFormatBuilder {
+            separator: Choice::new(text),
+            ..self
+        }
+    }
+
+    /// Sets all seven fields to the data of a format.
+    ///
+    /// ```text
+    /// CustomFormat::builder().format(&Locale::fr).build()  is Ok(CustomFormat::from(Locale::fr))
+    /// ```
+    pub fn format<F: Format>(self, format: &F) -> CustomFormatBuilder
+        ensures { result ≡ after_call self (SetFormat (F.answers format.now)) }
+    {
+        self.decimal(format.decimal().into_str())
+            .grouping(format.grouping())
+            .infinity(format.infinity().into_str())
+            .minus_sign(format.minus_sign().into_str())
+            .nan(format.nan().into_str())
+            .plus_sign(format.plus_sign().into_str())
+            .separator(format.separator().into_str())
+    }
+
+    /// Returns the format with the last value of each field.
+    ///
+    /// # Errors
+    ///
+    /// Returns the error of the first field whose last text was refused, in the order decimal
+    /// mark, infinity, minus sign, NaN, plus sign, separator. It is an
+    /// [`ErrorKind::Capacity`](crate::ErrorKind::Capacity), with both lengths in bytes.
+    pub fn build(self) -> Result<CustomFormat, Error>
+        ensures { result ≡ built self }
+    {
+        Ok(CustomFormat {
+            decimal: self.decimal.into_text()?,
+            grouping: self.grouping,
+            infinity: self.infinity.into_text()?,
+            minus_sign: self.minus_sign.into_text()?,
+            nan: self.nan.into_text()?,
+            plus_sign: self.plus_sign.into_text()?,
+            separator: self.separator.into_text()?,
+        })
+    }
+}
+
+impl From<CustomFormat> for CustomFormatBuilder {
+    ghost from_gives = { λ format builder. builder ≡ choices_of format };
+
+    /// Returns a builder that starts with the data of the format.
+    fn from(format: CustomFormat) -> CustomFormatBuilder {
+        CustomFormatBuilder {
+            decimal: Choice::from(format.decimal),
+            grouping: format.grouping,
+            infinity: Choice::from(format.infinity),
+            minus_sign: Choice::from(format.minus_sign),
+            nan: Choice::from(format.nan),
+            plus_sign: Choice::from(format.plus_sign),
+            separator: Choice::from(format.separator),
+        }
+    }
+}
+
+impl From<Locale> for CustomFormatBuilder {
+    ghost from_gives = { λ locale builder. builder ≡ choices_of (locale_data locale) };
+
+    /// Returns a builder that starts with the data of the locale.
+    fn from(locale: Locale) -> CustomFormatBuilder {
+        CustomFormatBuilder::new().format(&locale)
+    }
+}

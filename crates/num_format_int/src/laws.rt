@@ -1,0 +1,29 @@
+//! Laws of the digits and the text of a number, for callers' proofs.
+//!
+//! The contract of each function is a law. There is nothing to compute, so the bodies are empty.
+//! A caller that needs a law in a proof calls its function.
+ghost use Rattle.num_format_int.specs.Laws.{BoundLaw, DigitsLaw, EndsLaw, LengthLaw};
+
+/// The digits of a number: `n` alone below ten, and else the digits of `n / 10` and then `n % 10`.
+/// They write the number, and a leading zero does not change which number digits write.
+pub fn digits()
+    ensures { DigitsLaw }
+{}
+
+/// The length of a text in bytes: that of the minus sign of a negative number, the number of
+/// digits, and the number of separators times the length of one.
+pub fn text_length()
+    ensures { LengthLaw }
+{}
+
+/// No text of a number from `i128::MIN` to `u128::MAX` has more than 191 bytes. That of `i128::MIN`
+/// has as many where the grouping is Indian, and the separator and the minus sign have 8 bytes
+/// each.
+pub fn text_bound()
+    ensures { BoundLaw }
+{}
+
+/// After the minus sign, a text begins and ends with a digit: no separator leads or trails.
+pub fn text_ends()
+    ensures { EndsLaw }
+{}

@@ -1,0 +1,2 @@
+mod JsonExamples
+pub mod JsonLemmas

@@ -1,0 +1,2 @@
+-- What a call did to its writer.
+pub mod Writing

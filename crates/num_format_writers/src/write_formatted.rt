@@ -1,0 +1,425 @@
+//! Writers that numbers can be written to.
+//!
+//! [`WriteFormatted`] is implemented for strings, vectors, formatters and the writers of std. A
+//! contract states which bytes a writer received where `held` names them: for `String`, `Vec<u8>`,
+//! `Box<W>`, `BufWriter<W>`, `LineWriter<W>`, and a `&mut` of one of these. The impls for formatters,
+//! `&mut [u8]`, the cursors and `Sink` have clauses of their own. The contracts of files and of the
+//! standard streams state the returned length alone.
+//!
+//! A contract says when a call fails where std's says so of one write: exactly where the space is too
+//! short, for slices and for cursors over slices; only with an error of kind
+//! [`OutOfMemory`](io::ErrorKind::OutOfMemory), for strings, vectors and cursors over vectors; never,
+//! for `Sink`.
+//!
+//! Code that is generic over std's [`Write`] calls
+//! [`read_to_io_writer`](ToFormattedString::read_to_io_writer), whose contract is about the
+//! writer's `contents`.
+ghost use Rattle.std.specs.Prelude.{◌≡◌, ◌+◌, ◌-◌, ◌++◌, ◌<◌, ◌≤◌, ◌↔◌, ℕ, List, Option, Some, None, length, take, drop, IsOk, IfOk, IfErr, OnOk, OnErr, string_bytes, string_len, vec_len, vec_capacity};
+ghost use Rattle.std.specs.String.{string_capacity};
+ghost use Rattle.std.specs.Io.Iter.{u64_saturate};
+ghost use Rattle.std.specs.Io.Cursor.{cursor_inner, cursor_position};
+ghost use Rattle.std.specs.IoError.{error_kind};
+ghost use Rattle.std.specs.declared.io.ErrorKind.TheVariants.{OutOfMemory};
+ghost use Rattle.std.specs.Result.{OkIff};
+ghost use Rattle.std.specs.Box.{boxed_slice_items};
+ghost use Rattle.std.specs.Fmt.{HasWritten, IsPlainFormatter};
+ghost use Rattle.std.specs.List.{replace_range};
+ghost use Rattle.num_format_int.specs.Text.{text_of};
+ghost use Rattle.num_format_writers.specs.Writing.{Writes};
+
+use crate::to_formatted_string::ToFormattedString;
+use num_format_int::{Buffer, ToFormattedStr};
+use num_format_text::Format;
+use std::boxed::BoxedSlice;
+use std::fs::File;
+use std::io::{BufWriter, Cursor, LineWriter, Sink, Stderr, StderrLock, Stdout, StdoutLock, Write};
+use std::{fmt, io};
+
+/// A writer that numbers can be written to.
+///
+/// ```text
+/// let mut line = String::new(alloc);
+/// line.write_formatted(&1000000, &Locale::en)?;    // Ok(9), and line is "1,000,000"
+/// ```
+pub trait WriteFormatted {
+    /// The bytes that the writer holds, where a contract can name them.
+    ghost held: { Self → Option (List ℕ) } = { λ _. None };
+
+    /// Writes the text of the number to the writer. Returns the length of the text in bytes.
+    ///
+    /// # Errors
+    ///
+    /// Returns the error of the first write that fails. A write of no bytes is an error of kind
+    /// [`WriteZero`](io::ErrorKind::WriteZero). The writer then received a prefix of the text, and
+    /// not all of it.
+    fn write_formatted<F: Format, N: ToFormattedString>(
+        &mut self,
+        n: &N,
+        format: &F,
+    ) -> Result<usize, io::Error>
+        ensures { Writes result (held self.old) (held self.new)
+            (text_of (F.answers format.now) (N.value n.now)) };
+}
+
+impl<W: WriteFormatted> WriteFormatted for &mut W {
+    ghost held = { λ w. W.held w.now };
+
+    fn write_formatted<F: Format, N: ToFormattedString>(
+        &mut self,
+        n: &N,
+        format: &F,
+    ) -> Result<usize, io::Error> {
+        (**self).write_formatted(n, format)
+    }
+}
+
+impl WriteFormatted for String {
+    ghost held = { λ s. Some (string_bytes s) };
+
+    /// Appends the text of the number to the string. Returns the length of the text in bytes.
+    ///
+    /// # Errors
+    ///
+    /// Returns an error, of kind [`OutOfMemory`](io::ErrorKind::OutOfMemory), if the string has to
+    /// grow and there is no memory. The string is then unchanged. The clause `beyond_capacity` says
+    /// that the text did not fit in the capacity. No clause says that the string tried to grow.
+    fn write_formatted<F: Format, N: ToFormattedString>(
+        &mut self,
+        n: &N,
+        format: &F,
+    ) -> Result<usize, io::Error>
+        ensures writes { Writes result (Some (string_bytes self.old)) (Some (string_bytes self.new))
+            (text_of (F.answers format.now) (N.value n.now)) }
+        ensures unchanged { OnErr result (string_bytes self.new ≡ string_bytes self.old) }
+        ensures beyond_capacity { OnErr result (string_capacity self.old
+            < string_len self.old + length (text_of (F.answers format.now) (N.value n.now))) }
+        ensures kind { IfErr result (λ error. error_kind error ≡ OutOfMemory) }
+    {
+        let mut buffer = Buffer::new();
+        let count = n.read_to_buffer(&mut buffer, format);
+        self.push_str(buffer.as_str())?;
+        Ok(count)
+    }
+}
+
+impl WriteFormatted for Vec<u8> {
+    ghost held = { λ v. Some v.items };
+
+    /// Appends the text of the number to the vector. Returns the length of the text in bytes.
+    ///
+    /// # Errors
+    ///
+    /// Returns an error, of kind [`OutOfMemory`](io::ErrorKind::OutOfMemory), if the vector has to
+    /// grow and there is no memory. The vector is then unchanged. The clause `beyond_capacity` says
+    /// that the text did not fit in the capacity. No clause says that the vector tried to grow.
+    fn write_formatted<F: Format, N: ToFormattedString>(
+        &mut self,
+        n: &N,
+        format: &F,
+    ) -> Result<usize, io::Error>
+        ensures writes { Writes result (Some self.old.items) (Some self.new.items)
+            (text_of (F.answers format.now) (N.value n.now)) }
+        ensures unchanged { OnErr result (self.new.items ≡ self.old.items) }
+        ensures beyond_capacity { OnErr result (vec_capacity self.old
+            < vec_len self.old + length (text_of (F.answers format.now) (N.value n.now))) }
+        ensures kind { IfErr result (λ error. error_kind error ≡ OutOfMemory) }
+    {
+        let mut buffer = Buffer::new();
+        let count = n.read_to_buffer(&mut buffer, format);
+        self.extend_from_slice(buffer.as_bytes())?;
+        Ok(count)
+    }
+}
+
+impl<W: fmt::Write> WriteFormatted for fmt::Formatter<W> {
+    /// Writes the text of the number by one call of `write_str`, whatever width or fill is asked
+    /// for. Returns the length of the text in bytes.
+    ///
+    /// # Errors
+    ///
+    /// Returns an error if that call fails. The contract does not say what was written by then.
+    fn write_formatted<F: Format, N: ToFormattedString>(
+        &mut self,
+        n: &N,
+        format: &F,
+    ) -> Result<usize, io::Error>
+        ensures writes { Writes result None None
+            (text_of (F.answers format.now) (N.value n.now)) }
+        ensures written { OnOk result (IsPlainFormatter self.old → HasWritten W.write_str_gives
+            self.old (text_of (F.answers format.now) (N.value n.now)) self.new) }
+    {
+        Ok(n.read_to_fmt_writer(self, format)?)
+    }
+}
+
+impl<W: Write> WriteFormatted for Box<W> {
+    ghost held = { λ w. W.contents w.value };
+
+    fn write_formatted<F: Format, N: ToFormattedString>(
+        &mut self,
+        n: &N,
+        format: &F,
+    ) -> Result<usize, io::Error> {
+        n.read_to_io_writer(self, format)
+    }
+}
+
+impl<W: Write + Drop> WriteFormatted for BufWriter<W> {
+    ghost held = { λ w. ⟦<BufWriter<W> as Write>⟧.contents w };
+
+    fn write_formatted<F: Format, N: ToFormattedString>(
+        &mut self,
+        n: &N,
+        format: &F,
+    ) -> Result<usize, io::Error> {
+        n.read_to_io_writer(self, format)
+    }
+}
+
+impl<W: Write + Drop> WriteFormatted for LineWriter<W> {
+    ghost held = { λ w. ⟦<LineWriter<W> as Write>⟧.contents w };
+
+    fn write_formatted<F: Format, N: ToFormattedString>(
+        &mut self,
+        n: &N,
+        format: &F,
+    ) -> Result<usize, io::Error> {
+        n.read_to_io_writer(self, format)
+    }
+}
+
+impl WriteFormatted for Cursor<Vec<u8>> {
+    /// Writes the text of the number at the cursor's position, over the bytes that the vector has
+    /// there, and moves the cursor to the end of the text. A cursor at the end of the vector
+    /// appends the text. Returns the length of the text in bytes.
+    ///
+    /// # Errors
+    ///
+    /// Returns an error, of kind [`OutOfMemory`](io::ErrorKind::OutOfMemory), if the vector has to
+    /// grow and there is no memory. The cursor is then where it was.
+    fn write_formatted<F: Format, N: ToFormattedString>(
+        &mut self,
+        n: &N,
+        format: &F,
+    ) -> Result<usize, io::Error>
+        ensures writes { Writes result None None
+            (text_of (F.answers format.now) (N.value n.now)) }
+        ensures at_end { OnOk result (cursor_position self.old ≡ length (cursor_inner self.old).items
+            → (cursor_inner self.new).items ≡ (cursor_inner self.old).items
+            ++ text_of (F.answers format.now) (N.value n.now)) }
+        ensures position { IfOk result (λ count. cursor_position self.new
+            ≡ u64_saturate (cursor_position self.old + count)) }
+        ensures unmoved { OnErr result (cursor_position self.new ≡ cursor_position self.old) }
+        ensures kind { IfErr result (λ error. error_kind error ≡ OutOfMemory) }
+    {
+        let mut buffer = Buffer::new();
+        let count = n.read_to_buffer(&mut buffer, format);
+        self.write(buffer.as_bytes())?;
+        Ok(count)
+    }
+}
+
+impl WriteFormatted for Cursor<&mut Vec<u8>> {
+    /// Writes the text of the number as into a `Cursor<Vec<u8>>`. The contract states the cursor's
+    /// position, and not the bytes of the vector.
+    ///
+    /// # Errors
+    ///
+    /// Returns an error, of kind [`OutOfMemory`](io::ErrorKind::OutOfMemory), if the vector has to
+    /// grow and there is no memory. The cursor is then where it was.
+    fn write_formatted<F: Format, N: ToFormattedString>(
+        &mut self,
+        n: &N,
+        format: &F,
+    ) -> Result<usize, io::Error>
+        ensures writes { Writes result None None
+            (text_of (F.answers format.now) (N.value n.now)) }
+        ensures position { IfOk result (λ count. cursor_position self.new
+            ≡ u64_saturate (cursor_position self.old + count)) }
+        ensures unmoved { OnErr result (cursor_position self.new ≡ cursor_position self.old) }
+        ensures kind { IfErr result (λ error. error_kind error ≡ OutOfMemory) }
+    {
+        let mut buffer = Buffer::new();
+        let count = n.read_to_buffer(&mut buffer, format);
+        self.write(buffer.as_bytes())?;
+        Ok(count)
+    }
+}
+
+impl WriteFormatted for Cursor<&mut [u8]> {
+    /// Writes the text of the number over the bytes of the slice from the cursor's position on,
+    /// and moves the cursor to the end of the text. Returns the length of the text in bytes.
+    ///
+    /// # Errors
+    ///
+    /// Returns an error, of kind [`WriteZero`](io::ErrorKind::WriteZero), exactly if the slice has
+    /// fewer bytes than the text from that position on. It received as much of the text as fits.
+    fn write_formatted<F: Format, N: ToFormattedString>(
+        &mut self,
+        n: &N,
+        format: &F,
+    ) -> Result<usize, io::Error>
+        ensures writes { Writes result None None
+            (text_of (F.answers format.now) (N.value n.now)) }
+        ensures fits { IsOk result ↔ (length (text_of (F.answers format.now) (N.value n.now))
+            ≤ length (cursor_inner self.old).now - cursor_position self.old) }
+        ensures position { let space = length (cursor_inner self.old).now - cursor_position self.old in
+            let prefix = take space (text_of (F.answers format.now) (N.value n.now)) in
+            cursor_position self.new ≡ u64_saturate (cursor_position self.old + length prefix) }
+        ensures written { let space = length (cursor_inner self.old).now - cursor_position self.old in
+            let prefix = take space (text_of (F.answers format.now) (N.value n.now)) in
+            cursor_position self.old ≤ length (cursor_inner self.old).now
+            → (cursor_inner self.new).now ≡ replace_range (cursor_inner self.old).now
+            (cursor_position self.old) (cursor_position self.old + length prefix) prefix }
+    {
+        let mut buffer = Buffer::new();
+        let count = n.read_to_buffer(&mut buffer, format);
+        let written = self.write(buffer.as_bytes())?;
+        all_written(written, count)
+    }
+}
+
+impl WriteFormatted for Cursor<BoxedSlice<u8>> {
+    /// Writes the text of the number as into a `Cursor<&mut [u8]>`. The contract states the cursor's
+    /// position, and not the bytes of the slice.
+    ///
+    /// # Errors
+    ///
+    /// Returns an error, of kind [`WriteZero`](io::ErrorKind::WriteZero), exactly if the slice has
+    /// fewer bytes than the text from that position on. It received as much of the text as fits.
+    fn write_formatted<F: Format, N: ToFormattedString>(
+        &mut self,
+        n: &N,
+        format: &F,
+    ) -> Result<usize, io::Error>
+        ensures writes { Writes result None None
+            (text_of (F.answers format.now) (N.value n.now)) }
+        ensures fits { IsOk result ↔ (length (text_of (F.answers format.now) (N.value n.now))
+            ≤ length (boxed_slice_items (cursor_inner self.old)) - cursor_position self.old) }
+        ensures position { let space = length (boxed_slice_items (cursor_inner self.old))
+            - cursor_position self.old in
+            let prefix = take space (text_of (F.answers format.now) (N.value n.now)) in
+            cursor_position self.new ≡ u64_saturate (cursor_position self.old + length prefix) }
+    {
+        let mut buffer = Buffer::new();
+        let count = n.read_to_buffer(&mut buffer, format);
+        let written = self.write(buffer.as_bytes())?;
+        all_written(written, count)
+    }
+}
+
+impl WriteFormatted for &mut [u8] {
+    /// Writes the text of the number to the start of the slice, and shortens the slice to the
+    /// space after the text. Returns the length of the text in bytes.
+    ///
+    /// # Errors
+    ///
+    /// Returns an error, of kind [`WriteZero`](io::ErrorKind::WriteZero), exactly if the text is
+    /// longer than the slice. The slice received as much of the text as fits, and is then empty.
+    ///
+    /// The contract states the space that is left, and not the bytes before it.
+    fn write_formatted<F: Format, N: ToFormattedString>(
+        &mut self,
+        n: &N,
+        format: &F,
+    ) -> Result<usize, io::Error>
+        ensures writes { Writes result None None
+            (text_of (F.answers format.now) (N.value n.now)) }
+        ensures fits { IsOk result
+            ↔ (length (text_of (F.answers format.now) (N.value n.now)) ≤ length self.old.now) }
+        ensures remaining_space { self.new.now
+            ≡ drop (length (text_of (F.answers format.now) (N.value n.now))) self.old.now }
+    {
+        let mut buffer = Buffer::new();
+        let count = n.read_to_buffer(&mut buffer, format);
+        let written = self.write(buffer.as_bytes())?;
+        all_written(written, count)
+    }
+}
+
+/// Returns the length of a text in bytes if as many bytes were written, and else an error.
+fn all_written(written: usize, count: usize) -> io::Result<usize>
+    ensures { OkIff result (count ≤ written) count }
+{
+    if written < count {
+        return Err(io::Error::from(io::ErrorKind::WriteZero));
+    }
+    Ok(count)
+}
+
+impl WriteFormatted for File {
+    fn write_formatted<F: Format, N: ToFormattedString>(
+        &mut self,
+        n: &N,
+        format: &F,
+    ) -> Result<usize, io::Error> {
+        n.read_to_io_writer(self, format)
+    }
+}
+
+impl WriteFormatted for &File {
+    fn write_formatted<F: Format, N: ToFormattedString>(
+        &mut self,
+        n: &N,
+        format: &F,
+    ) -> Result<usize, io::Error> {
+        n.read_to_io_writer(self, format)
+    }
+}
+
+impl WriteFormatted for Sink {
+    /// Returns the length of the text in bytes, and keeps nothing of the text. It never fails.
+    fn write_formatted<F: Format, N: ToFormattedString>(
+        &mut self,
+        n: &N,
+        format: &F,
+    ) -> Result<usize, io::Error>
+        ensures writes { Writes result None None
+            (text_of (F.answers format.now) (N.value n.now)) }
+        ensures ok { IsOk result }
+    {
+        let mut buffer = Buffer::new();
+        n.read_to_buffer(&mut buffer, format);
+        self.write(buffer.as_bytes())
+    }
+}
+
+impl WriteFormatted for Stdout {
+    fn write_formatted<F: Format, N: ToFormattedString>(
+        &mut self,
+        n: &N,
+        format: &F,
+    ) -> Result<usize, io::Error> {
+        n.read_to_io_writer(self, format)
+    }
+}
+
+impl WriteFormatted for StdoutLock<'_> {
+    fn write_formatted<F: Format, N: ToFormattedString>(
+        &mut self,
+        n: &N,
+        format: &F,
+    ) -> Result<usize, io::Error> {
+        n.read_to_io_writer(self, format)
+    }
+}
+
+impl WriteFormatted for Stderr {
+    fn write_formatted<F: Format, N: ToFormattedString>(
+        &mut self,
+        n: &N,
+        format: &F,
+    ) -> Result<usize, io::Error> {
+        n.read_to_io_writer(self, format)
+    }
+}
+
+impl WriteFormatted for StderrLock<'_> {
+    fn write_formatted<F: Format, N: ToFormattedString>(
+        &mut self,
+        n: &N,
+        format: &F,
+    ) -> Result<usize, io::Error> {
+        n.read_to_io_writer(self, format)
+    }
+}
