@@ -20,7 +20,7 @@ use crate::strings::{DecimalStr, InfinityStr, MinusSignStr, NanStr, PlusSignStr,
 ///     }
 ///
 ///     fn separator(&self) -> SeparatorStr<'_> {
-///         SeparatorStr::new(" ").unwrap()
+///         SeparatorStr::of(" ")
 ///     }
 ///
 ///     // and five more

@@ -8,6 +8,7 @@
 //! The names are those of the Rust crate `num-format` 0.4.4.
 #![tactic(auto)]
 
+pub mod bounded_string;
 pub mod capacities;
 pub mod error;
 pub mod error_kind;
@@ -17,6 +18,7 @@ pub mod laws;
 pub mod strings;
 pub mod symbol;
 
+pub use bounded_string::BoundedString;
 pub use error::Error;
 pub use error_kind::ErrorKind;
 pub use format::Format;

@@ -75,10 +75,33 @@ impl<'a, S: Symbol> BoundedStr<'a, S> {
         if len > cap {
             return Err(Error::from(ErrorKind::Capacity { len, cap }));
         }
-        Ok(BoundedStr {
+        Ok(BoundedStr::of(text))
+    }
+
+    /// Returns `text` as the text of this symbol, where the caller knows that it has at most
+    /// [`Symbol::CAPACITY`] bytes. [`new`](BoundedStr::new) tests that.
+    ///
+    /// ```text
+    /// SeparatorStr::of(",")
+    /// ```
+    pub fn of(text: &'a str) -> BoundedStr<'a, S>
+        requires { length text.now ≤ S.CAPACITY }
+        ensures { result ≡ text.now }
+    {
+        BoundedStr {
             text,
             symbol: PhantomData,
-        })
+        }
+    }
+
+    /// Returns the same text. Unlike a clone, it is not wrapped in a `Result`.
+    ///
+    /// The Rust crate's types are `Copy`. Rattle has no `Copy` yet for a type that has both a
+    /// lifetime and a [`Model`].
+    pub fn copied(&self) -> BoundedStr<'a, S>
+        ensures { result ≡ self.now }
+    {
+        BoundedStr::of(self.text)
     }
 
     /// Returns the text that [`new`](BoundedStr::new) was given. It has at most
@@ -99,10 +122,7 @@ impl<'a, S: Symbol> Clone for BoundedStr<'a, S> {
 
     /// Returns the same text. This is never an error.
     fn clone(&self) -> Result<Self, AllocError> {
-        Ok(BoundedStr {
-            text: self.text,
-            symbol: PhantomData,
-        })
+        Ok(self.copied())
     }
 }
 
