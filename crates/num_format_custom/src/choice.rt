@@ -2,8 +2,7 @@
 ghost use Rattle.std.specs.Prelude.{◌≡◌, ⊤, Ok};
 ghost use Rattle.num_format_custom.specs.Building.{and_then, chosen};
 
-use crate::bounded_string::BoundedString;
-use num_format_text::{Error, ErrorKind};
+use num_format_text::{BoundedString, Error, ErrorKind};
 use std::alloc::AllocError;
 use std::marker::Model;
 

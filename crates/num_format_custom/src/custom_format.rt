@@ -4,7 +4,6 @@ ghost use Rattle.num_format_custom.specs.Building.{choices_of};
 ghost use Rattle.num_format_text.specs.English.{english};
 ghost use Rattle.num_format_locale.specs.Data.{locale_data};
 
-use crate::bounded_string::BoundedString;
 use crate::custom_format_builder::CustomFormatBuilder;
 use num_format_locale::Locale;
 use num_format_text::capacities::{
@@ -13,7 +12,7 @@ use num_format_text::capacities::{
 use num_format_text::strings::{
     DecimalStr, InfinityStr, MinusSignStr, NanStr, PlusSignStr, SeparatorStr,
 };
-use num_format_text::{Format, Grouping};
+use num_format_text::{BoundedString, Format, Grouping};
 use std::marker::Model;
 
 /// A format with seven fields of the caller's choice. A contract sees them as `FormatData`.
@@ -69,6 +68,27 @@ impl Model for CustomFormat {
 }
 
 impl CustomFormat {
+    /// Returns a format with the data of any format. It needs no memory and cannot fail.
+    ///
+    /// The Rust crate has no such call.
+    ///
+    /// ```text
+    /// CustomFormat::of(&Locale::fr).separator()    // a narrow no-break space, U+202F
+    /// ```
+    pub fn of<F: Format>(format: &F) -> CustomFormat
+        ensures { result ≡ F.answers format.now }
+    {
+        CustomFormat {
+            decimal: BoundedString::of(format.decimal().into_str()),
+            grouping: format.grouping(),
+            infinity: BoundedString::of(format.infinity().into_str()),
+            minus_sign: BoundedString::of(format.minus_sign().into_str()),
+            nan: BoundedString::of(format.nan().into_str()),
+            plus_sign: BoundedString::of(format.plus_sign().into_str()),
+            separator: BoundedString::of(format.separator().into_str()),
+        }
+    }
+
     /// Returns a builder that starts with the data of the locale `en`.
     pub fn builder() -> CustomFormatBuilder
         ensures { result ≡ choices_of english }
@@ -157,7 +177,7 @@ impl From<Locale> for CustomFormat {
 
     /// Returns the format with the data of the locale.
     fn from(locale: Locale) -> CustomFormat {
-        CustomFormatBuilder::from(locale).build().unwrap()
+        CustomFormat::of(&locale)
     }
 }
 
@@ -165,7 +185,7 @@ impl Format for CustomFormat {
     ghost answers = { λ f. f };
 
     fn decimal(&self) -> DecimalStr<'_> {
-        DecimalStr::new(self.decimal()).unwrap()
+        DecimalStr::of(self.decimal())
     }
 
     fn grouping(&self) -> Grouping {
@@ -173,22 +193,22 @@ impl Format for CustomFormat {
     }
 
     fn infinity(&self) -> InfinityStr<'_> {
-        InfinityStr::new(self.infinity()).unwrap()
+        InfinityStr::of(self.infinity())
     }
 
     fn minus_sign(&self) -> MinusSignStr<'_> {
-        MinusSignStr::new(self.minus_sign()).unwrap()
+        MinusSignStr::of(self.minus_sign())
     }
 
     fn nan(&self) -> NanStr<'_> {
-        NanStr::new(self.nan()).unwrap()
+        NanStr::of(self.nan())
     }
 
     fn plus_sign(&self) -> PlusSignStr<'_> {
-        PlusSignStr::new(self.plus_sign()).unwrap()
+        PlusSignStr::of(self.plus_sign())
     }
 
     fn separator(&self) -> SeparatorStr<'_> {
-        SeparatorStr::new(self.separator()).unwrap()
+        SeparatorStr::of(self.separator())
     }
 }

@@ -1,7 +1,6 @@
 //! Formats with seven fields of the caller's choice, and their builder.
 #![tactic(auto)]
 
-mod bounded_string;
 mod choice;
 pub mod custom_format;
 pub mod custom_format_builder;
