@@ -45,7 +45,7 @@ fn read(settings: &str) -> Result<NumFormat, &'static str> {
 
 fn main() {
     for path in env::args().skip(1) {
-        let Ok(settings) = fs::read_to_string(&path) else { process::exit(1) };
+        let settings = fs::read_to_string(&path).unwrap_or_else(|_| process::exit(1));
         match read(&settings) {
             Ok(format) => {
                 let mut text = [0; 191];

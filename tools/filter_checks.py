@@ -15,7 +15,8 @@ from pathlib import Path
 
 from tally import CLOSE, ROOT, RUN_SECONDS, Tally, heading, run
 
-PROGRAM = ROOT / "crates" / "regroup_filter" / "out" / "regroup_filter"
+CRATE = ROOT / "crates" / "regroup_filter"
+PROGRAM = CRATE / "out" / CRATE.name
 
 USAGE = b"usage: regroup-lines FROM TO, each a locale or custom:SEP:GROUPING:MINUS\n"
 TOO_LONG = b"More than 4096 bytes.\n"
@@ -200,8 +201,7 @@ def main():
     program = Path(sys.argv[1]).resolve() if len(sys.argv) > 1 else PROGRAM
     tally = Tally()
     check_all(tally, program)
-    print(f"{tally.passed} passed, {tally.failed} failed")
-    sys.exit(1 if tally.failed else 0)
+    tally.end()
 
 
 if __name__ == "__main__":

@@ -1,19 +1,17 @@
 """Refuses each request for memory of `regroup` and of the tests of memory in turn.
 
-tools/refuse_memory.c refuses them. The C compiler `cc` builds it.
+tools/refuse_memory.c refuses them. A C compiler builds it: where there is none, the checks are skipped.
 """
 import os
 import re
-import shutil
 import tempfile
 from pathlib import Path
 
 from regroup_checks import COMMANDS, FAILED
-from tally import ROOT, heading, run, shown
+from tally import CC, ROOT, heading, run, shown
 
-# The crate that has the tests of memory, and these tests as its executable file lists them.
-CRATE = ROOT / "crates" / "num_format_hostile"
-TESTS = CRATE / "out" / "num_format_hostile_tests"
+# The crate that has the tests of memory, and how its executable file lists them.
+CRATE = "num_format_hostile"
 TEST = re.compile(r"^(memory::\w+): test$", re.M)
 
 # How a test of memory ends, and how with any request refused: the status and both outputs.
@@ -25,22 +23,21 @@ REFUSE_MEMORY = ROOT / "tools" / "refuse_memory.c"
 MANY_REQUESTS = 100
 
 
-def check_all(tally, programs):
-    """Refuses each request for memory of the programs and of the tests of memory in turn."""
+def check_all(tally, programs, tests):
+    """Refuses each request for memory of the programs, and of the tests of memory of that file, in turn."""
     heading("memory refused at each request in turn")
-    if shutil.which("cc") is None:
-        tally.add(REFUSE_MEMORY.name, "no C compiler `cc` was found to build it")
+    if tally.lacks(CC, "memory refused"):
         return
     with tempfile.TemporaryDirectory() as folder:
         library = Path(folder) / "refuse_memory.so"
         flags = ["-shared", "-fPIC", "-Wall", "-Wextra", "-Werror"]
-        ended = run(["cc", *flags, "-o", library, REFUSE_MEMORY])
-        tally.compare(f"cc {REFUSE_MEMORY.name}", ended.returncode, 0)
+        ended = run([CC, *flags, "-o", library, REFUSE_MEMORY])
+        tally.compare(f"{CC} {REFUSE_MEMORY.name}", ended.returncode, 0)
         if not library.is_file():
             return
         for program in programs:
             refuse_to_program(tally, library, program)
-        refuse_to_tests(tally, library)
+        refuse_to_tests(tally, library, tests)
 
 
 def refuse_to_program(tally, library, program):
@@ -51,14 +48,14 @@ def refuse_to_program(tally, library, program):
         refuse_each(tally, library, name, [program, *words], whole, [whole, FAILED])
 
 
-def refuse_to_tests(tally, library):
+def refuse_to_tests(tally, library, tests):
     """A test of memory passes, and prints that a request was refused."""
-    listed = run([TESTS, "--list"], capture_output=True) if TESTS.is_file() else None
-    tests = TEST.findall(listed.stdout.decode()) if listed else []
-    if not tests:
-        tally.add(TESTS.name, "it was not built, or lists no tests of memory")
-    for test in tests:
-        refuse_each(tally, library, test, [TESTS, test], PASSED, [PASSED_REFUSED])
+    listed = run([tests, "--list"], capture_output=True) if tests.is_file() else None
+    names = TEST.findall(listed.stdout.decode()) if listed else []
+    if not names:
+        tally.add(tests.name, "it was not built, or lists no tests of memory")
+    for name in names:
+        refuse_each(tally, library, name, [tests, name], PASSED, [PASSED_REFUSED])
 
 
 def refuse_each(tally, library, name, words, whole, refused):

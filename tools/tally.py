@@ -1,6 +1,9 @@
 """Counts the checks of programs, and runs programs."""
 import os
+import shutil
 import subprocess
+import sys
+import time
 from pathlib import Path
 
 ROOT = Path(__file__).resolve().parent.parent
@@ -8,15 +11,22 @@ ROOT = Path(__file__).resolve().parent.parent
 # The most seconds for a run.
 RUN_SECONDS = 60
 
+# The C compiler.
+CC = os.environ.get("CC", "cc")
+
 # Closes an output, in the process that then becomes the program.
 CLOSE = {"stdout": lambda: os.close(1), "stderr": lambda: os.close(2)}
 
+STARTED = time.monotonic()
+
 
 class Tally:
-    """How many checks passed and failed."""
+    """How many checks passed and failed, and why each skipped one was."""
 
-    passed = 0
-    failed = 0
+    def __init__(self):
+        self.passed = 0
+        self.failed = 0
+        self.skipped = []
 
     def add(self, name, problem=None):
         """Counts a check, which failed if it has a problem, and shows it."""
@@ -28,9 +38,34 @@ class Tally:
         """Counts a check that failed if the values differ."""
         self.add(name, None if found == expected else f"{found!r} in place of {expected!r}")
 
+    def skip(self, name, why):
+        """Counts a check that is not made."""
+        self.skipped.append(f"skipped {name}: {why}")
+
+    def lacks(self, command, name):
+        """Whether a command is missing, and counts the check that needs it as skipped if so."""
+        is_missing = shutil.which(command) is None
+        if is_missing:
+            self.skip(name, f"there is no `{command}`")
+        return is_missing
+
+    def end(self):
+        """Shows what was skipped, and how many checks passed and failed. Ends this process."""
+        for line in self.skipped:
+            print(line)
+        skipped = f", {len(self.skipped)} skipped" if self.skipped else ""
+        print(f"{self.passed} passed, {self.failed} failed{skipped}")
+        sys.exit(1 if self.failed else 0)
+
+
+def elapsed():
+    """The minutes and seconds since this process began."""
+    minutes, seconds = divmod(int(time.monotonic() - STARTED), 60)
+    return f"{minutes}:{seconds:02}"
+
 
 def heading(text):
-    print(f"== {text}", flush=True)
+    print(f"== {elapsed()} {text}", flush=True)
 
 
 def run(words, **how):

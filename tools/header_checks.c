@@ -1,0 +1,239 @@
+/* Holds the library for C to its header: constants, types, layout and calls, against values written
+ * by hand.
+ *
+ *     cc -I crates/num_format_c tools/header_checks.c crates/num_format_c/out/libnum_format_c.a
+ *
+ * The program prints each check that fails. The exit status is 1 where one failed.
+ */
+#include "num_format.h"
+
+#include <stdio.h>
+#include <stdlib.h>
+#include <string.h>
+
+/* Each call once more: this file does not compile with a header where one has another type. */
+int32_t num_format_locale(num_format *, const char *, size_t);
+int32_t num_format_custom(num_format *, const char *, size_t, uint32_t, const char *, size_t);
+int32_t num_format_print_i64(const num_format *, int64_t, char *, size_t);
+int32_t num_format_print_u64(const num_format *, uint64_t, char *, size_t);
+int32_t num_format_print_u128(const num_format *, uint64_t, uint64_t, char *, size_t);
+int32_t num_format_print_i128(const num_format *, uint64_t, uint64_t, char *, size_t);
+int32_t num_format_parse_i64(const num_format *, uint32_t, const char *, size_t, int64_t *);
+int32_t num_format_parse_u64(const num_format *, uint32_t, const char *, size_t, uint64_t *);
+int32_t num_format_parse_u128(const num_format *, const char *, size_t, uint64_t *, uint64_t *);
+int32_t num_format_parse_i128(const num_format *, const char *, size_t, uint64_t *, uint64_t *);
+int32_t num_format_reads_back(const num_format *);
+int32_t num_format_prints_alike(const num_format *, const num_format *);
+int32_t num_format_names(size_t, char *, size_t);
+
+/* The longest text: -2^127 under Indian, with a separator and a minus sign of 8 bytes. */
+static const char longest[] =
+    "abcdefgh17" "1234567801" "1234567841" "1234567818" "1234567834" "1234567860" "1234567846"
+    "1234567892" "1234567831" "1234567873" "1234567816" "1234567887" "1234567830" "1234567837"
+    "1234567815" "1234567888" "1234567841" "1234567805" "12345678728";
+
+static int status;
+
+/* Shows a value that is not the one written by hand. */
+static void compare(const char *name, long long found, long long expected) {
+    if (found != expected) {
+        printf("%s: %lld in place of %lld\n", name, found, expected);
+        status = 1;
+    }
+}
+
+#define CHECK(value, expected) compare(#value, (long long)(value), expected)
+
+/* Shows bytes that are not those written by hand. */
+static void check_bytes(const char *name, const void *found, const char *expected) {
+    compare(name, memcmp(found, expected, strlen(expected)), 0);
+}
+
+/* Prints a number, and compares its text. */
+static void check_text(const num_format *format, int64_t number, const char *expected) {
+    char text[NUM_FORMAT_MAX];
+    compare(expected, num_format_print_i64(format, number, text, sizeof text), (int)strlen(expected));
+    check_bytes(expected, text, expected);
+}
+
+static void check_constants(void) {
+    CHECK(NUM_FORMAT_MAX, 191);
+    CHECK(NUM_FORMAT_LOCALES, 542);
+    CHECK(NUM_FORMAT_BAD_FORMAT, -1);
+    CHECK(NUM_FORMAT_TOO_SMALL, -2);
+    CHECK(NUM_FORMAT_NOT_UTF8, -3);
+    CHECK(NUM_FORMAT_NOT_A_NUMBER, -4);
+    CHECK(NUM_FORMAT_UNKNOWN_LOCALE, -5);
+    CHECK(NUM_FORMAT_TOO_LONG, -6);
+    CHECK(NUM_FORMAT_BAD_GROUPING, -7);
+    CHECK(NUM_FORMAT_BAD_BITS, -8);
+    CHECK(NUM_FORMAT_STANDARD, 1);
+    CHECK(NUM_FORMAT_INDIAN, 2);
+    CHECK(NUM_FORMAT_POSIX, 3);
+    CHECK(NUM_FORMAT_MYRIAD, 4);
+    CHECK(NUM_FORMAT_SPARSE, 5);
+}
+
+static void check_layout(void) {
+    CHECK(sizeof(num_format), 19);
+    CHECK(_Alignof(num_format), 1);
+    CHECK(offsetof(num_format, separator), 0);
+    CHECK(offsetof(num_format, minus_sign), 8);
+    CHECK(offsetof(num_format, separator_length), 16);
+    CHECK(offsetof(num_format, minus_sign_length), 17);
+    CHECK(offsetof(num_format, grouping), 18);
+}
+
+/* What a call writes into a struct, and nothing past it. */
+static void check_filled(void) {
+    struct {
+        uint8_t before[8];
+        num_format format;
+        uint8_t after[8];
+    } held;
+    memset(&held, 'x', sizeof held);
+    CHECK(num_format_custom(&held.format, "'", 1, 4, "\xe2\x88\x92", 3), 0);
+    check_bytes("separator", held.format.separator, "'");
+    check_bytes("minus_sign", held.format.minus_sign, "\xe2\x88\x92");
+    CHECK(held.format.separator_length, 1);
+    CHECK(held.format.minus_sign_length, 3);
+    CHECK(held.format.grouping, 4);
+    check_text(&held.format, -12345678, "\xe2\x88\x92" "1234'5678");
+    CHECK(num_format_locale(&held.format, "en-IN", 5), 0);
+    check_bytes("separator of en-IN", held.format.separator, ",");
+    check_bytes("minus_sign of en-IN", held.format.minus_sign, "-");
+    CHECK(held.format.separator_length, 1);
+    CHECK(held.format.minus_sign_length, 1);
+    CHECK(held.format.grouping, 2);
+    check_text(&held.format, -1234567, "-12,34,567");
+    check_bytes("before the struct", held.before, "xxxxxxxx");
+    check_bytes("after the struct", held.after, "xxxxxxxx");
+}
+
+/* How a call reads a struct whose fields were written here. */
+static void check_read(void) {
+    num_format format = {"::", "~~~", 2, 3, 1};
+    static const struct {
+        const char *four_digits, *seven_digits;
+    } texts[] = {
+        {"~~~1::234", "1::234::567"}, {"~~~1::234", "12::34::567"}, {"~~~1234", "1234567"},
+        {"~~~1234", "123::4567"},     {"~~~1234", "1::234::567"},
+    };
+    for (int grouping = 1; grouping <= 5; grouping++) {
+        format.grouping = (uint8_t)grouping;
+        check_text(&format, -1234, texts[grouping - 1].four_digits);
+        check_text(&format, 1234567, texts[grouping - 1].seven_digits);
+    }
+    CHECK(num_format_reads_back(&format), 1);
+    CHECK(num_format_prints_alike(&format, &format), 1);
+    format.separator_length = 9;
+    CHECK(num_format_reads_back(&format), -1);
+    format.separator_length = 8;
+    format.minus_sign_length = 9;
+    CHECK(num_format_reads_back(&format), -1);
+    format.minus_sign_length = 8;
+    CHECK(num_format_reads_back(&format), 1);
+}
+
+/* Numbers whose low byte alone would be taken. */
+static void check_groupings(void) {
+    static const uint32_t refused[] = {0, 6, 255, 256, 257, 258, 261, 65537, 0x80000001, UINT32_MAX};
+    num_format format;
+    CHECK(num_format_custom(&format, ",", 1, 1, "-", 1), 0);
+    for (size_t i = 0; i < sizeof refused / sizeof *refused; i++) {
+        CHECK(num_format_custom(&format, ".", 1, refused[i], "-", 1), -7);
+        check_text(&format, 1000, "1,000");
+        format.grouping = (uint8_t)refused[i];
+        int is_read = 1 <= format.grouping && format.grouping <= 5;
+        CHECK(num_format_reads_back(&format), is_read ? 1 : -1);
+        format.grouping = 1;
+    }
+}
+
+/* Each error, by its number. */
+static void check_errors(void) {
+    const num_format zeros = {{0}, {0}, 0, 0, 0};
+    num_format en;
+    char text[NUM_FORMAT_MAX];
+    int64_t number;
+    CHECK(num_format_locale(&en, "en", 2), 0);
+    CHECK(num_format_print_i64(&zeros, 1, text, sizeof text), -1);
+    CHECK(num_format_prints_alike(&en, &zeros), -1);
+    CHECK(num_format_print_i64(&en, 1000, text, 4), -2);
+    CHECK(num_format_locale(&en, "\xff", 1), -3);
+    CHECK(num_format_parse_i64(&en, 64, "\xff", 1, &number), -3);
+    CHECK(num_format_parse_i64(&en, 64, "x", 1, &number), -4);
+    CHECK(num_format_locale(&en, "xx", 2), -5);
+    CHECK(num_format_custom(&en, "123456789", 9, 1, "-", 1), -6);
+    CHECK(num_format_custom(&en, ",", 1, 1, "123456789", 9), -6);
+    CHECK(num_format_custom(&en, ",", 1, 6, "-", 1), -7);
+    CHECK(num_format_parse_i64(&en, 7, "1", 1, &number), -8);
+    CHECK(num_format_parse_i64(&en, 256 + 64, "1", 1, &number), -8);
+    CHECK(num_format_parse_i64(&en, 65536 + 8, "1", 1, &number), -8);
+}
+
+/* The numbers at the ends of each type. */
+static void check_ends(void) {
+    num_format en;
+    char text[NUM_FORMAT_MAX];
+    int64_t number = 0;
+    uint64_t low = 0, high = 0;
+    CHECK(num_format_locale(&en, "en", 2), 0);
+    check_text(&en, INT64_MIN, "-9,223,372,036,854,775,808");
+    CHECK(num_format_parse_i64(&en, 64, "-9,223,372,036,854,775,808", 26, &number), 0);
+    CHECK(number == INT64_MIN, 1);
+    CHECK(num_format_print_u64(&en, UINT64_MAX, text, sizeof text), 26);
+    check_bytes("UINT64_MAX", text, "18,446,744,073,709,551,615");
+    CHECK(num_format_parse_u64(&en, 64, text, 26, &low), 0);
+    CHECK(low == UINT64_MAX, 1);
+    CHECK(num_format_print_u128(&en, 3, 1, text, sizeof text), 26);
+    check_bytes("2^64 + 3", text, "18,446,744,073,709,551,619");
+    CHECK(num_format_parse_u128(&en, text, 26, &low, &high), 0);
+    CHECK(low, 3);
+    CHECK(high, 1);
+    CHECK(num_format_print_i128(&en, UINT64_MAX - 1, UINT64_MAX, text, sizeof text), 2);
+    check_bytes("-2", text, "-2");
+    CHECK(num_format_parse_i128(&en, text, 2, &low, &high), 0);
+    CHECK(low == UINT64_MAX - 1 && high == UINT64_MAX, 1);
+}
+
+/* An array of exactly as many bytes as the longest text, and of one less. */
+static void check_longest(void) {
+    num_format format;
+    char *text = malloc(NUM_FORMAT_MAX);
+    if (text == NULL)
+        exit(2);
+    memset(text, '.', NUM_FORMAT_MAX);
+    CHECK(num_format_custom(&format, "12345678", 8, 2, "abcdefgh", 8), 0);
+    CHECK(num_format_print_i128(&format, 0, (uint64_t)1 << 63, text, NUM_FORMAT_MAX - 1), -2);
+    for (int i = 0; i < NUM_FORMAT_MAX; i++)
+        CHECK(text[i], '.');
+    CHECK(strlen(longest), NUM_FORMAT_MAX);
+    CHECK(num_format_print_i128(&format, 0, (uint64_t)1 << 63, text, NUM_FORMAT_MAX), NUM_FORMAT_MAX);
+    check_bytes("the longest text", text, longest);
+    free(text);
+}
+
+static void check_names(void) {
+    char name[NUM_FORMAT_MAX];
+    CHECK(num_format_names(0, name, sizeof name), 2);
+    check_bytes("the first name", name, "af");
+    CHECK(num_format_names(NUM_FORMAT_LOCALES - 1, name, sizeof name), 2);
+    check_bytes("the last name", name, "zu");
+    CHECK(num_format_names(NUM_FORMAT_LOCALES, name, sizeof name), -5);
+    CHECK(num_format_names((size_t)1 << 32, name, sizeof name), -5);
+    CHECK(num_format_names(0, name, 1), -2);
+}
+
+int main(void) {
+    check_constants();
+    check_layout();
+    check_filled();
+    check_read();
+    check_groupings();
+    check_errors();
+    check_ends();
+    check_longest();
+    check_names();
+    return status;
+}

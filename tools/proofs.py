@@ -1,0 +1,85 @@
+"""Runs `rt ci` on a copy of the repository, and builds the library for C over what it proved."""
+import contextlib
+import os
+import re
+import shutil
+import subprocess
+import tempfile
+from pathlib import Path
+
+from tally import ROOT, elapsed, heading, run
+
+# What a copy leaves out: what git has, and what programs made.
+MADE = [".git", "out", "target", "__pycache__"]
+
+# What `rt ci` says of a must-fail edit that the prover refused, and its last line.
+REFUSED = re.compile(r"rt: must-fail (\S+): refused, as it must be(?:: (.*))?\n")
+COUNTED = re.compile(r"(\d+) passed, (\d+) failed\n")
+
+
+@contextlib.contextmanager
+def copied(has_edits):
+    """Gives the folder of a copy of the repository, with or without the folders `must-fail`."""
+    left_out = MADE if has_edits else [*MADE, "must-fail"]
+    with tempfile.TemporaryDirectory(prefix="num-format-") as folder:
+        copy = Path(folder) / "copy"
+        shutil.copytree(ROOT, copy, symlinks=True, ignore=shutil.ignore_patterns(*left_out))
+        # The top of a repository, also where the folder is below that of another.
+        (copy / ".git").mkdir()
+        yield copy
+
+
+def prove(tally, copy):
+    """Runs `rt ci`, and adds what its last line counts."""
+    heading("rt ci")
+    how = {"env": {**os.environ, "PYTHONUNBUFFERED": "1"}, "errors": "replace"}
+    line = ""
+    with subprocess.Popen(["rt", "ci"], cwd=copy, stdout=subprocess.PIPE, text=True, **how) as ci:
+        for line in ci.stdout:
+            print(tidy(line), end="", flush=True)
+    counted = COUNTED.fullmatch(line)
+    passed, failed = map(int, counted.groups()) if counted else (0, 0)
+    tally.passed += passed
+    tally.failed += failed
+    if not passed or bool(ci.returncode) != bool(failed):
+        tally.add("rt ci", f"status {ci.returncode} after the line {line!r}")
+
+
+def tidy(line):
+    """A line of `rt ci`: with the time, or what refused an edit."""
+    refused = REFUSED.fullmatch(line)
+    if refused:
+        edit, error = refused.groups()
+        return f"refused: {edit}: {error or 'no error has a place'}\n"
+    if COUNTED.fullmatch(line):
+        return f"{elapsed()} rt ci: {line}"
+    return f"{elapsed()} {line}" if line.startswith("rt: ") else line
+
+
+def build_library(tally, copy):
+    """Builds the library for C, and returns its file. `rt ci` proves that crate, but builds nothing of it."""
+    heading("the library for C")
+    listed = read_crates(copy)
+    crate = copy / "crates" / "num_format_c"
+    library = crate / "out" / "libnum_format_c.a"
+    kit = Path(run(["rt", "doc"], stdout=subprocess.PIPE, text=True).stdout).parent
+    words = ["rattle", "build", "--crate-name", crate.name, "src/lib.rt", "--crate-type", "staticlib"]
+    words += ["-L", f"dependency={kit}/rlibs"]
+    for name in listed:
+        words += ["-L", f"dependency={copy}/crates/{name}/out/rlib"]
+    for name in ["std", *listed[crate.name]]:
+        folder = copy / "crates" / name / "out" / "rlib" if name in listed else kit / "rlibs"
+        words += ["--extern", f"{name}={folder}/{name}.rlib"]
+    words += ["--antt-project", f"{kit}/rattle/logic/antt-project.json"]
+    words += ["--logic-built", f"{kit}/logic_built", "--toolchain", f"{kit}/toolchain"]
+    words += ["--jobs", str(len(os.sched_getaffinity(0))), "-o", library]
+    ended = run(words, cwd=crate, timeout=None)
+    tally.compare("rattle build", ended.returncode, 0)
+    return library
+
+
+def read_crates(top):
+    """What each crate stands on, as crates.txt says."""
+    lines = (top / "crates.txt").read_text(encoding="utf-8").splitlines()
+    pairs = (line.split(":") for line in lines if line and not line.startswith("#"))
+    return {head.split()[0]: below.split() for head, below in pairs}

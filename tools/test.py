@@ -1,0 +1,130 @@
+#!/usr/bin/env python3
+"""Proves and tests everything.
+
+    python3 tools/test.py                  # all but the must-fail edits
+    python3 tools/test.py --edits          # all
+    python3 tools/test.py --skip-proofs    # all but `rt ci`
+
+In this order:
+
+1. tools/readme_code.py compares the code in README.md and docs/ with the crate that has it.
+2. `rt ci` has every proof from nothing, the tests, and each program as two compilers build it. It works
+   on a copy of the repository, which with --edits has the must-fail edits. The log has the time at which
+   each crate was proved, and for each edit the error that refused it.
+3. tools/regroup_checks.py runs `regroup` with words of each status, and with outputs that are full or
+   closed.
+4. tools/program_checks.py runs num_format_streams with such outputs, num_format_oracle with cases of
+   each kind but one, and num_format_properties with each property negated.
+5. tools/filter_checks.py runs `regroup-lines` on good, bad and long input.
+6. tools/memory_checks.py runs `regroup` and each test of memory as often as it makes requests for
+   memory, each time with another one refused.
+7. tools/library_checks.py runs the programs of examples/ over the library for C, and holds it to its
+   header.
+
+The last lines name each check that was skipped and why, and say how many passed and failed in all.
+The exit status is 1 where one failed.
+
+With --skip-proofs, `rt run`, `rt test` and `rt lib` build the programs, the tests and the library, and
+prove what they need of what changed.
+"""
+import argparse
+import subprocess
+import sys
+
+import filter_checks
+import library_checks
+import memory_checks
+import program_checks
+import regroup_checks
+from proofs import build_library, copied, prove
+from tally import ROOT, Tally, heading, run
+
+# The checks of each program, by its crate.
+CHECKS = {
+    "regroup": regroup_checks.check_all,
+    program_checks.STREAMS.name: program_checks.check_streams,
+    program_checks.ORACLE.name: program_checks.check_oracle,
+    program_checks.PROPERTIES.name: program_checks.check_properties,
+    filter_checks.CRATE.name: filter_checks.check_all,
+}
+
+# How the name of a program ends as each of the two compilers builds it.
+COMPILERS = ["", ".by-rattle"]
+
+
+def compare_code(tally):
+    heading("the code in README.md and docs/")
+    ended = run([sys.executable, ROOT / "tools" / "readme_code.py"])
+    tally.compare("tools/readme_code.py", ended.returncode, 0)
+
+
+def build(tally):
+    """Builds what `rt ci` would build, but for the programs by the second compiler."""
+    for name in CHECKS:
+        crate = ROOT / "crates" / name
+        heading(f"rt run, in crates/{name}")
+        args = crate / "args"
+        words = args.read_text(encoding="utf-8").splitlines() if args.is_file() else []
+        given = (crate / "stdin").read_bytes() if (crate / "stdin").is_file() else b""
+        how = {"input": given, "stdout": subprocess.PIPE, "timeout": None}
+        ended = run(["rt", "run", "--", *words], cwd=crate, **how)
+        expected = (0, (crate / "stdout").read_bytes())
+        tally.compare("rt run", (ended.returncode, ended.stdout), expected)
+    for name, words in {
+        memory_checks.CRATE: ["rt", "test", "--", "memory::"],
+        library_checks.CRATE.name: ["rt", "lib"],
+    }.items():
+        heading(f"{words[0]} {words[1]}, in crates/{name}")
+        ended = run(words, cwd=ROOT / "crates" / name, timeout=None)
+        tally.compare(f"{words[0]} {words[1]}", ended.returncode, 0)
+
+
+def check_programs(tally, top, compilers):
+    """Runs the programs and tests that were built in that copy of the repository."""
+    crates = top / "crates"
+    built = {name: builds(tally, crates / name, compilers) for name in CHECKS}
+    for name, check in CHECKS.items():
+        for program in built[name]:
+            heading(program.name)
+            check(tally, program)
+    tests = crates / memory_checks.CRATE / "out" / f"{memory_checks.CRATE}_tests"
+    memory_checks.check_all(tally, built["regroup"], tests)
+
+
+def builds(tally, crate, compilers):
+    """The program of a crate as each of the compilers built it."""
+    found = []
+    for ending in compilers:
+        program = crate / "out" / f"{crate.name}{ending}"
+        if program.is_file():
+            found.append(program)
+        else:
+            tally.add(program.name, "it was not built")
+    return found
+
+
+def main():
+    parser = argparse.ArgumentParser(description="Proves and tests everything.")
+    parser.add_argument("--edits", action="store_true", help="try the must-fail edits too")
+    parser.add_argument("--skip-proofs", action="store_true", help="leave out `rt ci`")
+    given = parser.parse_args()
+    tally = Tally()
+    compare_code(tally)
+    if given.skip_proofs:
+        build(tally)
+        # `rt run` has one compiler.
+        check_programs(tally, ROOT, COMPILERS[:1])
+        library_checks.check_all(tally, library_checks.LIBRARY)
+        tally.skip("rt ci", "--skip-proofs leaves it out")
+    else:
+        with copied(given.edits) as copy:
+            prove(tally, copy)
+            check_programs(tally, copy, COMPILERS)
+            library_checks.check_all(tally, build_library(tally, copy))
+    if not given.edits:
+        print("the must-fail edits were not tried: python3 tools/test.py --edits tries them too")
+    tally.end()
+
+
+if __name__ == "__main__":
+    main()
