@@ -1,4 +1,4 @@
-//! Links the static libraries of `crates/num_format_bench` and `crates/num_format_c`, which `run`
+//! Links the static libraries of `crates/test_bench` and `crates/num_format_c`, which `run`
 //! builds and names, after as many bytes as `BENCH_SHIFT` says, which shift the addresses of their code.
 
 use std::env;

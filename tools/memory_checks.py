@@ -11,7 +11,7 @@ from regroup_checks import COMMANDS, FAILED
 from tally import CC, ROOT, heading, run, shown
 
 # The crate that has the tests of memory, and how its executable file lists them.
-CRATE = "num_format_hostile"
+CRATE = "test_hostile"
 TEST = re.compile(r"^(memory::\w+): test$", re.M)
 
 # How a test of memory ends, and how with any request refused: the status and both outputs.

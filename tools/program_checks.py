@@ -1,4 +1,4 @@
-"""Runs the programs num_format_streams, num_format_oracle and num_format_properties.
+"""Runs the programs test_streams, test_oracle and test_properties.
 
 Each has a stored run that passes. Here are runs that have to fail.
 """
@@ -8,16 +8,16 @@ import subprocess
 from tally import ROOT, compare_failed, other, run, shown
 
 # The program of two writes to each output, and what they are. The status is how many of them failed.
-STREAMS = ROOT / "crates" / "num_format_streams"
+STREAMS = ROOT / "crates" / "test_streams"
 STREAMS_OUTPUTS = {"stdout": (STREAMS / "stdout").read_bytes(), "stderr": b"3,0004,000"}
 STREAMS_WRITES = 2
 
 # The program that compares cases with their expected results, and its cases.
-ORACLE = ROOT / "crates" / "num_format_oracle"
+ORACLE = ROOT / "crates" / "test_oracle"
 CASES = (ORACLE / "stdin").read_text(encoding="utf-8").splitlines(keepends=True)
 
 # The program that checks properties, its inputs, and the length of one in bytes.
-PROPERTIES = ROOT / "crates" / "num_format_properties"
+PROPERTIES = ROOT / "crates" / "test_properties"
 INPUTS = (PROPERTIES / "stdin").read_bytes()
 INPUT_LEN = 88
 

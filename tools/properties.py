@@ -1,11 +1,11 @@
 #!/usr/bin/env python3
-"""Writes inputs of the program num_format_properties to standard output.
+"""Writes inputs of the program test_properties to standard output.
 
-    python3 tools/properties.py > crates/num_format_properties/stdin
-    python3 tools/properties.py --count 1000000 --seed 7 | crates/num_format_properties/out/num_format_properties
+    python3 tools/properties.py > crates/test_properties/stdin
+    python3 tools/properties.py --count 1000000 --seed 7 | crates/test_properties/out/test_properties
 
 The bytes follow from `--count` and `--seed`. The first command writes the inputs of the stored run.
-crates/num_format_properties/src/input.rt has the rule by which the program reads them. Most inputs are
+crates/test_properties/src/input.rt has the rule by which the program reads them. Most inputs are
 at an edge: limits of the types, powers of ten, texts of no byte and of as many as fit, digits and minus
 signs in separators, names of locales with a change, numerals of other scripts. The others are any bytes.
 """

@@ -3,9 +3,9 @@
 
     python3 tools/readme_code.py
 
-Each block of the language `rust` has to stand in a file of num_format_examples, of a crate
+Each block of the language `rust` has to stand in a file of test_readme, of a crate
 `uses_NAME` or of num_format_vectors, line after line, and each of `c` and `python` in a file of
-examples/. README.md has to have a text block that is the stdout of num_format_examples. The exit status is 1 where one differs.
+examples/. README.md has to have a text block that is the stdout of test_readme. The exit status is 1 where one differs.
 """
 import re
 import sys
@@ -13,7 +13,7 @@ from pathlib import Path
 from textwrap import dedent
 
 ROOT = Path(__file__).resolve().parent.parent
-EXAMPLES = ROOT / "crates" / "num_format_examples"
+EXAMPLES = ROOT / "crates" / "test_readme"
 CRATES = [
     EXAMPLES,
     *sorted((ROOT / "crates").glob("uses_*")),
@@ -51,7 +51,7 @@ def main():
                 if not any(is_part(block, source) for source in sources):
                     different.append(f"{path.relative_to(ROOT)}: no file has:\n{block}")
     if (EXAMPLES / "stdout").read_text(encoding="utf-8") not in blocks(readme, "text"):
-        different.append("README.md: no block has the stdout of num_format_examples")
+        different.append("README.md: no block has the stdout of test_readme")
     print("\n".join(different), end="")
     sys.exit(1 if different else 0)
 

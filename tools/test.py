@@ -13,8 +13,8 @@ In this order:
    each crate was proved, and for each edit the error that refused it.
 3. tools/regroup_checks.py runs `regroup` with words of each status, and with outputs that are full or
    closed.
-4. tools/program_checks.py runs num_format_streams with such outputs, num_format_oracle with cases of
-   each kind but one, and num_format_properties with each property negated.
+4. tools/program_checks.py runs test_streams with such outputs, test_oracle with cases of
+   each kind but one, and test_properties with each property negated.
 5. tools/filter_checks.py runs `regroup-lines` on good, bad and long input.
 6. tools/memory_checks.py runs `regroup` and each test of memory as often as it makes requests for
    memory, each time with another one refused.

@@ -101,7 +101,7 @@ pub fn measure(path: &str) -> io::Result<()> {
 /// Compares what programs write for the lines, and prints a row for each, the first of which the
 /// others are compared with.
 fn compare(label: &str, lines: &str, programs: &[&Program]) -> io::Result<()> {
-    let input = std::env::temp_dir().join(format!("num_format_bench_{}", std::process::id()));
+    let input = std::env::temp_dir().join(format!("test_bench_{}", std::process::id()));
     fs::write(&input, lines)?;
     let written = programs[0].output(&input)?;
     for program in &programs[1..] {

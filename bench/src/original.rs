@@ -1,4 +1,4 @@
-//! The original crate, called by the same loops as those of `crates/num_format_bench`.
+//! The original crate, called by the same loops as those of `crates/test_bench`.
 
 use num_format::parsing::FromFormattedStr;
 use num_format::utils::{DecimalStr, InfinityStr, MinusSignStr, NanStr, PlusSignStr, SeparatorStr};

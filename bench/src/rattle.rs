@@ -1,4 +1,4 @@
-//! The Rattle crate, called through the static library `num_format_bench`.
+//! The Rattle crate, called through the static library `test_bench`.
 
 /// The library's functions for an integer type.
 pub struct Functions<N> {

@@ -1,6 +1,6 @@
 //! The recorded cases, one a line, and how they compare.
 //!
-//! The fields of a line are described in `crates/num_format_oracle/src/case.rt`. Cases with a
+//! The fields of a line are described in `crates/test_oracle/src/case.rt`. Cases with a
 //! changed result are left out, and so are those with a grouping that the original does not have,
 //! and those on JSON and on builders.
 

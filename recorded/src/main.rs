@@ -1,7 +1,7 @@
 //! Asks the Rust crate `num-format` 0.4.4 again what the repository has recorded of it.
 //!
 //! ```text
-//! cargo run -- cases        compares the cases of crates/num_format_oracle/stdin
+//! cargo run -- cases        compares the cases of crates/test_oracle/stdin
 //! cargo run -- constants    writes crates/num_format_vectors/src/constants.rt
 //! ```
 //!
@@ -38,7 +38,7 @@ fn main() -> io::Result<ExitCode> {
 
 /// Compares the recorded cases, and prints what differs.
 fn compare() -> io::Result<ExitCode> {
-    let data = fs::read_to_string(repository().join("crates/num_format_oracle/stdin"))?;
+    let data = fs::read_to_string(repository().join("crates/test_oracle/stdin"))?;
     let differences = fs::read_to_string(repository().join("docs/DIFFERENCES.md"))?;
     let report = cases::compare(&data, &differences);
     print!("{report}");

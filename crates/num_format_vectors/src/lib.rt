@@ -6,7 +6,7 @@
 //! function; all else was worked out by hand from the rules of grouping and of parsing.
 //!
 //! A number to print, a text to parse, a name to find, the calls of a builder or a JSON text needs no
-//! test of its own: it is a test case of `num_format_oracle`.
+//! test of its own: it is a test case of `test_oracle`.
 //!
 //! | Module | What is tested |
 //! |---|---|
@@ -30,7 +30,7 @@
 //! | `users` | the crates `uses_money` and `uses_settings` |
 //!
 //! `asserting`, `every_way`, `numbers` and `texts` serve these tests. Writers that fail, and memory that is
-//! refused, are tested in `num_format_hostile`.
+//! refused, are tested in `test_hostile`.
 #![tactic(auto)]
 
 #[cfg(test)]

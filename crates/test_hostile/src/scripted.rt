@@ -66,7 +66,7 @@ impl<'a> Scripted<'a> {
 }
 
 impl io::Write for Scripted<'_> {
-    ghost use Rattle.num_format_hostile.specs.Scripted.{accepted};
+    ghost use Rattle.test_hostile.specs.Scripted.{accepted};
 
     ghost contents = { λ w. Some w.received.items };
 
@@ -113,7 +113,7 @@ impl io::Write for Scripted<'_> {
 }
 
 impl fmt::Write for Scripted<'_> {
-    ghost use Rattle.num_format_hostile.specs.Scripted.{accepted};
+    ghost use Rattle.test_hostile.specs.Scripted.{accepted};
 
     ghost write_str_gives = { λ w text v. v.received.items ≡ w.received.items ++ text };
 

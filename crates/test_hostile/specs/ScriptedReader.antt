@@ -1,8 +1,8 @@
 -- What one call does to a `ScriptedReader`.
 use Rattle.std.specs.Prelude.{ℕ, min, max, length, Option, None, Some, slice_get}
-use Rattle.num_format_hostile.specs.declared.scripted_reader.ReadStep.{ReadStep}
-use Rattle.num_format_hostile.specs.declared.scripted_reader.ReadStep.TheVariants.{Give, Interrupt, Fail}
-use Rattle.num_format_hostile.specs.declared.scripted_reader.ScriptedReader.{ScriptedReader}
+use Rattle.test_hostile.specs.declared.scripted_reader.ReadStep.{ReadStep}
+use Rattle.test_hostile.specs.declared.scripted_reader.ReadStep.TheVariants.{Give, Interrupt, Fail}
+use Rattle.test_hostile.specs.declared.scripted_reader.ScriptedReader.{ScriptedReader}
 
 -- how many bytes a step gives where so many are left and fit, or none where it is an error; past the last step all are given
 abbrev pub given_by : Option ReadStep → ℕ → ℕ → Option ℕ

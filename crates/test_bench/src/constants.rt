@@ -1,5 +1,5 @@
 //! A format of a user's own, whose texts are constants.
-ghost use Rattle.num_format_bench.specs.Constants.{constants};
+ghost use Rattle.test_bench.specs.Constants.{constants};
 
 use num_format::utils::{DecimalStr, InfinityStr, MinusSignStr, NanStr, PlusSignStr, SeparatorStr};
 use num_format::{Format, Grouping};

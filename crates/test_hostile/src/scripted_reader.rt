@@ -29,7 +29,7 @@ pub struct ScriptedReader<'a> {
 }
 
 impl io::Read for ScriptedReader<'_> {
-    ghost use Rattle.num_format_hostile.specs.ScriptedReader.{given};
+    ghost use Rattle.test_hostile.specs.ScriptedReader.{given};
 
     ghost remaining = { λ r. Some r.rest.now };
 

@@ -1,8 +1,8 @@
 -- What one call does to a `Scripted`.
 use Rattle.std.specs.Prelude.{ℕ, min, Option, None, Some, if◌then◌else◌, nat_lt, slice_get}
-use Rattle.num_format_hostile.specs.declared.scripted.Scripted.{Scripted}
-use Rattle.num_format_hostile.specs.declared.scripted.Step.{Step}
-use Rattle.num_format_hostile.specs.declared.scripted.Step.TheVariants.{Take, Zero, Interrupt, Fail}
+use Rattle.test_hostile.specs.declared.scripted.Scripted.{Scripted}
+use Rattle.test_hostile.specs.declared.scripted.Step.{Step}
+use Rattle.test_hostile.specs.declared.scripted.Step.TheVariants.{Take, Zero, Interrupt, Fail}
 
 -- how many of the offered bytes a step accepts, or none where it is an error; past the last step all are accepted
 abbrev pub accepted_by : Option Step → ℕ → Option ℕ

@@ -1,6 +1,6 @@
 use denote.Text.{Utf8}
 use denote.Shadow.{shadow}
-use Rattle.num_format_bench.proofs.reading.read_each.Given as goal
+use Rattle.test_bench.proofs.reading.read_each.Given as goal
 
 -- says that each `&str` the loop changes is text: keep it, and add clauses with ×
 abbrev pub invariant-loop-number : goal.invariant-loop-number
