@@ -278,7 +278,7 @@ impl Format for Locale {
     ghost answers = { locale_data };
 
     fn decimal(&self) -> DecimalStr<'_> {
-        DecimalStr::new(self.decimal()).unwrap()
+        DecimalStr::of(self.decimal())
     }
 
     fn grouping(&self) -> Grouping {
@@ -286,22 +286,22 @@ impl Format for Locale {
     }
 
     fn infinity(&self) -> InfinityStr<'_> {
-        InfinityStr::new(self.infinity()).unwrap()
+        InfinityStr::of(self.infinity())
     }
 
     fn minus_sign(&self) -> MinusSignStr<'_> {
-        MinusSignStr::new(self.minus_sign()).unwrap()
+        MinusSignStr::of(self.minus_sign())
     }
 
     fn nan(&self) -> NanStr<'_> {
-        NanStr::new(self.nan()).unwrap()
+        NanStr::of(self.nan())
     }
 
     fn plus_sign(&self) -> PlusSignStr<'_> {
-        PlusSignStr::new(self.plus_sign()).unwrap()
+        PlusSignStr::of(self.plus_sign())
     }
 
     fn separator(&self) -> SeparatorStr<'_> {
-        SeparatorStr::new(self.separator()).unwrap()
+        SeparatorStr::of(self.separator())
     }
 }

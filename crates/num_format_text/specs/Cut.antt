@@ -1,4 +1,5 @@
 -- How much an error keeps of the text that was refused.
+use Rattle.num_format_text.specs.declared.capacities.TheConstants.{MAX_ERR_LEN}
 use Rattle.std.specs.Prelude.{ℕ, zero, suc, nat_le, nat_lt, Bool, not, ◌&&◌, List, length, take, slice_index, if◌then◌else◌}
 
 -- whether a byte of UTF-8 continues a character: its two highest bits are 10
@@ -14,6 +15,6 @@ abbrev pub last_boundary : List ℕ → ℕ → ℕ
 last_boundary text zero = 0
 last_boundary text (suc n) = if is_boundary text (suc n) then suc n else last_boundary text n
 
--- the longest prefix of whole characters that has at most 256 bytes
+-- the longest prefix of whole characters that has at most `MAX_ERR_LEN` bytes
 unfoldable pub cut_text : List ℕ → List ℕ
-cut_text text = take (last_boundary text 256) text
+cut_text text = take (last_boundary text MAX_ERR_LEN) text

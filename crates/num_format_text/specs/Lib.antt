@@ -1,5 +1,6 @@
 pub mod Cut
 pub mod English
+pub mod Equality
 pub mod Format
 pub mod GroupingNames
 pub mod Refusal
