@@ -13,8 +13,13 @@ from tally import ROOT, elapsed, heading, run
 MADE = [".git", "out", "target", "__pycache__"]
 
 # What `rt ci` says of a must-fail edit that the prover refused, and its last line.
-REFUSED = re.compile(r"rt: must-fail (\S+): refused, as it must be(?:: (.*))?\n")
+REFUSED = re.compile(r"rt: must-fail (\S+)/(\S+)\.edit: refused, as it must be: (.*)\n")
 COUNTED = re.compile(r"(\d+) passed, (\d+) failed\n")
+
+# Where the error of a refused edit is: in a function, or in the proof of one; and the goal that is not proved.
+IN_CODE = re.compile(r"(?:note: )?(?:\./)?src/(\S+)\.rt:(\d+):.*?\(`([^`]*)")
+IN_PROOF = re.compile(r"(?:\./)?proofs/(\S+)\.antt:\d+:\d+: error: `([^`]*)")
+FUNCTION = re.compile(r"\bfn (\w+)")
 
 
 @contextlib.contextmanager
@@ -36,7 +41,7 @@ def prove(tally, copy):
     line = ""
     with subprocess.Popen(["rt", "ci"], cwd=copy, stdout=subprocess.PIPE, text=True, **how) as ci:
         for line in ci.stdout:
-            print(tidy(line), end="", flush=True)
+            print(tidy(line, copy / "crates"), end="", flush=True)
     counted = COUNTED.fullmatch(line)
     passed, failed = map(int, counted.groups()) if counted else (0, 0)
     tally.passed += passed
@@ -45,18 +50,40 @@ def prove(tally, copy):
         tally.add("rt ci", f"status {ci.returncode} after the line {line!r}")
 
 
-def tidy(line):
-    """A line of `rt ci`: with the time, or what refused an edit."""
+def tidy(line, crates):
+    """A line of `rt ci`: with the time, or the function and the goal for which an edit was refused."""
     refused = REFUSED.fullmatch(line)
     if refused:
-        edit, error = refused.groups()
-        return f"refused: {edit}: {error or 'no error has a place'}\n"
+        crate, edit, error = refused.groups()
+        return f"refused: {crate}/{edit}: {goal(error, crates / crate / 'src')}\n"
     if COUNTED.fullmatch(line):
         return f"{elapsed()} rt ci: {line}"
     return f"{elapsed()} {line}" if line.startswith("rt: ") else line
 
 
-def build_library(tally, copy):
+def goal(error, source):
+    """The function and the goal of an error, or the error itself where it has none."""
+    in_code, in_proof = IN_CODE.match(error), IN_PROOF.match(error)
+    if in_code:
+        module, number, name = in_code.groups()
+        lines = (source / f"{module}.rt").read_text(encoding="utf-8").splitlines()
+        prefix = "" if module in ("lib", "main") else f"{module}::"
+        return f"{prefix}{function_at(lines, int(number) - 1)}: {name}"
+    if in_proof:
+        path, name = in_proof.groups()
+        return f"{path.removesuffix('/Answers')}: {name}".replace("/", "::")
+    return error
+
+
+def function_at(lines, place):
+    """The name of the function that has the line at that place."""
+    is_attribute = lines[place].lstrip().startswith("#[")
+    part = lines[place:] if is_attribute else reversed(lines[: place + 1])
+    found = (FUNCTION.search(line) for line in part if not line.lstrip().startswith("//"))
+    return next((match[1] for match in found if match), "?")
+
+
+def build_library(copy):
     """Builds the library for C, and returns its file. `rt ci` proves that crate, but builds nothing of it."""
     heading("the library for C")
     listed = read_crates(copy)
@@ -73,8 +100,10 @@ def build_library(tally, copy):
     words += ["--antt-project", f"{kit}/rattle/logic/antt-project.json"]
     words += ["--logic-built", f"{kit}/logic_built", "--toolchain", f"{kit}/toolchain"]
     words += ["--jobs", str(len(os.sched_getaffinity(0))), "-o", library]
-    ended = run(words, cwd=crate, timeout=None)
-    tally.compare("rattle build", ended.returncode, 0)
+    library.parent.mkdir(exist_ok=True)
+    ended = run(words, cwd=crate, timeout=None, stdout=subprocess.PIPE, stderr=subprocess.STDOUT)
+    if ended.returncode:
+        print(ended.stdout.decode(errors="replace"), end="")
     return library
 
 

@@ -105,8 +105,9 @@ def builds(tally, crate, compilers):
 
 def main():
     parser = argparse.ArgumentParser(description="Proves and tests everything.")
-    parser.add_argument("--edits", action="store_true", help="try the must-fail edits too")
-    parser.add_argument("--skip-proofs", action="store_true", help="leave out `rt ci`")
+    either = parser.add_mutually_exclusive_group()
+    either.add_argument("--edits", action="store_true", help="try the must-fail edits too")
+    either.add_argument("--skip-proofs", action="store_true", help="leave out `rt ci`")
     given = parser.parse_args()
     tally = Tally()
     compare_code(tally)
@@ -120,7 +121,7 @@ def main():
         with copied(given.edits) as copy:
             prove(tally, copy)
             check_programs(tally, copy, COMPILERS)
-            library_checks.check_all(tally, build_library(tally, copy))
+            library_checks.check_all(tally, build_library(copy))
     if not given.edits:
         print("the must-fail edits were not tried: python3 tools/test.py --edits tries them too")
     tally.end()
