@@ -12,6 +12,9 @@ from tally import ROOT, elapsed, heading, run
 # What a copy leaves out: what git has, and what programs made.
 MADE = [".git", "out", "target", "__pycache__"]
 
+# The crate of the library for C.
+LIBRARY = "num_format_c"
+
 # What `rt ci` says of a must-fail edit that the prover refused, and its last line.
 REFUSED = re.compile(r"rt: must-fail (\S+)/(\S+)\.edit: refused, as it must be: (.*)\n")
 COUNTED = re.compile(r"(\d+) passed, (\d+) failed\n")
@@ -35,19 +38,24 @@ def copied(has_edits):
 
 
 def prove(tally, copy):
-    """Runs `rt ci`, and adds what its last line counts."""
+    """Runs `rt ci`, and adds what its last line counts. Builds the library for C meanwhile."""
     heading("rt ci")
     how = {"env": {**os.environ, "PYTHONUNBUFFERED": "1"}, "errors": "replace"}
-    line = ""
+    line, building = "", None
     with subprocess.Popen(["rt", "ci"], cwd=copy, stdout=subprocess.PIPE, text=True, **how) as ci:
         for line in ci.stdout:
             print(tidy(line, copy / "crates"), end="", flush=True)
+            if line == f"rt: {LIBRARY} proved\n":
+                building = start_library(copy, stdout=subprocess.DEVNULL)
     counted = COUNTED.fullmatch(line)
     passed, failed = map(int, counted.groups()) if counted else (0, 0)
     tally.passed += passed
     tally.failed += failed
     if not passed or bool(ci.returncode) != bool(failed):
         tally.add("rt ci", f"status {ci.returncode} after the line {line!r}")
+    # A build that was killed for want of memory has more of it now.
+    if building and building.wait():
+        start_library(copy).wait()
 
 
 def tidy(line, crates):
@@ -83,28 +91,22 @@ def function_at(lines, place):
     return next((match[1] for match in found if match), "?")
 
 
-def build_library(copy):
-    """Builds the library for C, and returns its file. `rt ci` proves that crate, but builds nothing of it."""
-    heading("the library for C")
+def start_library(copy, **how):
+    """Starts to build the library for C, of whose crate `rt ci` builds nothing, over what that built."""
     listed = read_crates(copy)
-    crate = copy / "crates" / "num_format_c"
-    library = crate / "out" / "libnum_format_c.a"
+    crate = copy / "crates" / LIBRARY
     kit = Path(run(["rt", "doc"], stdout=subprocess.PIPE, text=True).stdout).parent
-    words = ["rattle", "build", "--crate-name", crate.name, "src/lib.rt", "--crate-type", "staticlib"]
+    words = ["rattle", "build", "--crate-name", LIBRARY, "src/lib.rt", "--crate-type", "staticlib"]
     words += ["-L", f"dependency={kit}/rlibs"]
     for name in listed:
         words += ["-L", f"dependency={copy}/crates/{name}/out/rlib"]
-    for name in ["std", *listed[crate.name]]:
+    for name in ["std", *listed[LIBRARY]]:
         folder = copy / "crates" / name / "out" / "rlib" if name in listed else kit / "rlibs"
         words += ["--extern", f"{name}={folder}/{name}.rlib"]
     words += ["--antt-project", f"{kit}/rattle/logic/antt-project.json"]
     words += ["--logic-built", f"{kit}/logic_built", "--toolchain", f"{kit}/toolchain"]
-    words += ["--jobs", str(len(os.sched_getaffinity(0))), "-o", library]
-    library.parent.mkdir(exist_ok=True)
-    ended = run(words, cwd=crate, timeout=None, stdout=subprocess.PIPE, stderr=subprocess.STDOUT)
-    if ended.returncode:
-        print(ended.stdout.decode(errors="replace"), end="")
-    return library
+    words += ["--jobs", "1", "-o", f"out/lib{LIBRARY}.a"]
+    return subprocess.Popen(words, cwd=crate, stdin=subprocess.DEVNULL, **how)
 
 
 def read_crates(top):

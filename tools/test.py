@@ -10,7 +10,7 @@ In this order:
 1. tools/readme_code.py compares the code in README.md and docs/ with the crate that has it.
 2. `rt ci` has every proof from nothing, the tests, and each program as two compilers build it. It works
    on a copy of the repository, which with --edits has the must-fail edits. The log has the time at which
-   each crate was proved, and for each edit the error that refused it.
+   each crate was proved, and for each edit the function and the goal that refused it.
 3. tools/regroup_checks.py runs `regroup` with words of each status, and with outputs that are full or
    closed.
 4. tools/program_checks.py runs test_streams with such outputs, test_oracle with cases of
@@ -18,8 +18,8 @@ In this order:
 5. tools/filter_checks.py runs `regroup-lines` on good, bad and long input.
 6. tools/memory_checks.py runs `regroup` and each test of memory as often as it makes requests for
    memory, each time with another one refused.
-7. tools/library_checks.py runs the programs of examples/ over the library for C, and holds it to its
-   header.
+7. tools/library_checks.py runs the programs of examples/ over the library for C, which was built beside
+   `rt ci`, and holds it to its header.
 
 The last lines name each check that was skipped and why, and say how many passed and failed in all.
 The exit status is 1 where one failed.
@@ -36,7 +36,7 @@ import library_checks
 import memory_checks
 import program_checks
 import regroup_checks
-from proofs import build_library, copied, prove
+from proofs import copied, prove
 from tally import ROOT, Tally, heading, run
 
 # The checks of each program, by its crate.
@@ -121,7 +121,7 @@ def main():
         with copied(given.edits) as copy:
             prove(tally, copy)
             check_programs(tally, copy, COMPILERS)
-            library_checks.check_all(tally, build_library(copy))
+            library_checks.check_all(tally, copy / library_checks.LIBRARY.relative_to(ROOT))
     if not given.edits:
         print("the must-fail edits were not tried: python3 tools/test.py --edits tries them too")
     tally.end()
