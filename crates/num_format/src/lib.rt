@@ -44,7 +44,7 @@ pub use num_format_json::json;
 pub use num_format_locale::locale::Locale;
 pub use num_format_text::error;
 pub use num_format_text::error::Error;
-pub use num_format_text::error_kind::ErrorKind;
+pub use num_format_text::error_kind::{ErrorKind, MAX_MESSAGE_LEN};
 pub use num_format_text::format::Format;
 pub use num_format_text::grouping::Grouping;
 pub use num_format_writers::to_formatted_string::ToFormattedString;

@@ -101,10 +101,21 @@ impl<N: ToFormattedStr> ToFormattedString for N {
 
 /// Writes the bytes, in as many writes as it takes, and returns their number.
 ///
-/// The contract of std's `write_all` does not say what the writer received before an error, and
-/// `write_all` repeats an interrupted write.
+/// This is the one loop that sends bytes, of this library and of programs on it. The contract of
+/// std's `write_all` does not say what the writer received before an error, and `write_all` repeats
+/// an interrupted write.
+///
+/// ```text
+/// write_whole(b"1,000\n", &mut writer)?    // 6
+/// ```
+///
+/// # Errors
+///
+/// Returns the error of the first write that fails, also of one that was interrupted. A write of no
+/// bytes is an error of kind [`WriteZero`](io::ErrorKind::WriteZero). The writer then received a
+/// prefix of the bytes, and not all of them. No write follows an error.
 #[tactic(auto, using(crate::proofs::WritingLemmas::HasReceivedUpTo_more))]
-fn write_whole<W: io::Write>(bytes: &[u8], w: &mut W) -> Result<usize, io::Error>
+pub fn write_whole<W: io::Write>(bytes: &[u8], w: &mut W) -> io::Result<usize>
     ensures { Writes result (W.contents w.old) (W.contents w.new) bytes.now }
 {
     let mut rest = bytes;
