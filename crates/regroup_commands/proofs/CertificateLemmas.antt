@@ -10,10 +10,10 @@ use Rattle.num_format.specs.Kind.{I128, kind_of}
 use Rattle.num_format.specs.Reading.{denoted}
 use Rattle.num_format.specs.RoundTrips.{ReadsBack, RoundTrips}
 use Rattle.num_format.specs.Text.{text_of}
-use Rattle.num_format.proofs.AlikeLemmas.{decided_alike, alike_thousand, alike_hundred_thousand, alike_million, alike_minus_one}
-use Rattle.num_format.proofs.RoundTripLemmas.{one_of_i128, lowest_of_i128}
-use Rattle.regroup_commands.specs.Output.{is_alike, is_read_back, is_readable}
-use Rattle.regroup_commands.proofs.ReadingLemmas.{readable-from_accepted}
+use Rattle.num_format.specs.Laws.{AlikeLaw}
+use Rattle.regroup_shared.specs.Reading.{is_readable}
+use Rattle.regroup_shared.proofs.ReadingLemmas.{readable-from_accepted, value-from_fits}
+use Rattle.regroup_commands.specs.Output.{is_alike, is_read_back}
 
 -- a number that reads back passes the test
 passes-from_ReadsBack : (f : FormatData) (z : ℤ) → ReadsBack (kind_of I128) f z →
@@ -25,20 +25,16 @@ passes-from_ReadsBack f z back =
 -- the definition is what `reads_back` returns, under a format by which every number reads back
 pub is_read_back_from_reads_back : (f : FormatData) (r : Bool) → RoundTrips f → IsTrue r ↔ RoundTrips f → r ≡ is_read_back f
 is_read_back_from_reads_back f r all returned =
-    let one = passes-from_ReadsBack f (pos 1) (all I128 (pos 1) one_of_i128) in
-    let lowest = passes-from_ReadsBack f (negsuc (2 ^ 127 - 1)) (all I128 (negsuc (2 ^ 127 - 1)) lowest_of_i128) in
+    let one = passes-from_ReadsBack f (pos 1) (all I128 (pos 1) (value-from_fits (pos 1) refl)) in
+    let lowest = passes-from_ReadsBack f (negsuc (2 ^ 127 - 1)) (all I128 (negsuc (2 ^ 127 - 1)) (value-from_fits (negsuc (2 ^ 127 - 1)) refl)) in
     returned.1 all ∙ sym ((Decides-and _ _ (λ yes. yes, λ yes. yes) (Decides-and _ _ (λ yes. yes, λ yes. yes) (λ yes. yes, λ yes. yes))).1 (one, (lowest, refl)))
 
--- the test decides whether two formats print all numbers alike
-is_alike-Decides : (f g : FormatData) → Decides (is_alike f g) (Alike f g)
-is_alike-Decides f g =
-    Decides-like _ (λ same. decided_alike f g same.0 same.1.0 same.1.1.0 same.1.1.1.0)
-    (λ alike. (alike_thousand f g alike, (alike_hundred_thousand f g alike, (alike_million f g alike, (alike_minus_one f g alike, refl)))))
+-- the definition is what `prints_alike` returns, by the law on the four numbers
+pub is_alike_from_prints_alike : (f g : FormatData) (r : Bool) → AlikeLaw → IsTrue r ↔ Alike f g → r ≡ is_alike f g
+is_alike_from_prints_alike f g r law returned = same_from_decides r (is_alike f g) returned (
+    Decides-like _ (λ same. (law f g).1 (same.0, same.1.0, same.1.1.0, same.1.1.1.0))
+    (λ alike. let same = (law f g).0 alike in (same.0, (same.1, (same.2, (same.3, refl)))))
     (Decides-and _ _ (bytes_eq-Decides (text_of f (pos 1000)) (text_of g (pos 1000)))
     (Decides-and _ _ (bytes_eq-Decides (text_of f (pos 100000)) (text_of g (pos 100000)))
     (Decides-and _ _ (bytes_eq-Decides (text_of f (pos 1000000)) (text_of g (pos 1000000)))
-    (Decides-and _ _ (bytes_eq-Decides (text_of f (negsuc 0)) (text_of g (negsuc 0))) (λ yes. yes, λ yes. yes)))))
-
--- the definition is what `prints_alike` returns
-pub is_alike_from_prints_alike : (f g : FormatData) (r : Bool) → IsTrue r ↔ Alike f g → r ≡ is_alike f g
-is_alike_from_prints_alike f g r returned = same_from_decides r (is_alike f g) returned (is_alike-Decides f g)
+    (Decides-and _ _ (bytes_eq-Decides (text_of f (negsuc 0)) (text_of g (negsuc 0))) (λ yes. yes, λ yes. yes))))))

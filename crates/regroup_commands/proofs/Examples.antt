@@ -1,14 +1,8 @@
 -- The output for some command lines; 10 is the newline.
-use Rattle.std.proofs.Common.{◌≡◌, [], ◌∷◌, ◌++◌, None, Some, refl, arith}
+use Rattle.std.proofs.Common.{◌≡◌, [], ◌∷◌, ◌++◌, None, Some, refl}
 use Rattle.std.specs.Prelude.{codes, pos, negsuc, ◌-◌, ◌^◌}
 use Rattle.std.specs.Fmt.{digits as printed_digits}
-use lib.Utf8.{encode}
-use Rattle.std.specs.Str.{chars}
-use Rattle.num_format.specs.Families.{families}
-use Rattle.num_format.specs.Table.{members, table, table_names}
 use Rattle.num_format.specs.Digits.{digits}
-use Rattle.num_format_int.proofs.ReadingLemmas.{is_other_numeral-ascii}
-use Rattle.num_format.specs.Cut.{cut_text}
 use Rattle.regroup_commands.specs.Output.{output_of}
 use Rattle.regroup_commands.specs.Request.{number_in}
 
@@ -47,16 +41,6 @@ no_arguments = refl
 no_words : output_of [] ≡ record { status = 2; stdout = []; stderr = codes "usage: regroup COMMAND ARGUMENT..." ++ 10 ∷ [] }
 no_words = refl
 
-indian_locale : output_of (codes "print" ∷ codes "as" ∷ codes "-1234567" ∷ [])
-    ≡ record { status = 0; stdout = codes "-12,34,567" ++ 10 ∷ []; stderr = [] }
-unfolding digits encode families members table table_names
-indian_locale = refl
-
-unknown_locale : output_of (codes "print" ∷ codes "xx" ∷ codes "1" ∷ [])
-    ≡ record { status = 1; stdout = []; stderr = codes "Failed to parse xx into a valid locale." ++ 10 ∷ [] }
-unfolding cut_text encode families members table_names
-unknown_locale = refl
-
 no_number_under_a_locale : output_of (codes "print" ∷ codes "en" ∷ codes "1e3" ∷ [])
     ≡ record { status = 2; stdout = []; stderr = codes "usage: regroup COMMAND ARGUMENT..." ++ 10 ∷ [] }
 no_number_under_a_locale = refl
@@ -64,13 +48,6 @@ no_number_under_a_locale = refl
 names_with_an_argument : output_of (codes "names" ∷ codes "x" ∷ [])
     ≡ record { status = 2; stdout = []; stderr = codes "usage: regroup COMMAND ARGUMENT..." ++ 10 ∷ [] }
 names_with_an_argument = refl
-
--- the minus sign does not begin the text
-sign_after_a_space : output_of (codes "read" ∷ codes "en" ∷ codes " -5" ∷ [])
-    ≡ record { status = 0; stdout = codes "5" ++ 10 ∷ []; stderr = [] }
-unfolding chars encode families members printed_digits table table_names
-sign_after_a_space =
-    rw (is_other_numeral-ascii 32 (omega arith), is_other_numeral-ascii 45 (omega arith), is_other_numeral-ascii 53 (omega arith)) refl
 
 lowest : number_in (codes "-170141183460469231731687303715884105728") ≡ Some (negsuc (2 ^ 127 - 1))
 lowest = refl

@@ -1,6 +1,5 @@
 pub mod CertificateLemmas
 mod Examples
-pub mod LocaleLemmas
-pub mod ReadingLemmas
+pub mod NameLemmas
 pub mod RequestLemmas
 pub mod SendingLemmas

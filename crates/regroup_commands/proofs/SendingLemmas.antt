@@ -7,10 +7,11 @@ use Rattle.std.proofs.KnownBytes.{Appends-nil, Appends-trans}
 use Rattle.std.specs.Io.KnownBytes.{Appends}
 use Rattle.num_format.specs.Refusal.{Refusal, message_of}
 use Rattle.num_format.specs.Writing.{HasReceivedUpTo, StopsWithin}
-use Rattle.num_format.proofs.WritingLemmas.{HasReceivedUpTo-none, StopsWithin_prefix, StopsWithin_suffix}
-use Rattle.regroup_commands.specs.Output.{line, lines, output_of_result, output_or_usage, usage_output}
+use Rattle.regroup_shared.specs.Sending.{Sends, line}
+use Rattle.regroup_shared.proofs.SendingLemmas.{HasReceivedUpTo-none, StopsWithin_prefix, StopsWithin_suffix}
+use Rattle.regroup_commands.specs.Output.{lines, output_of_result, output_or_usage, usage_output}
 use Rattle.regroup_commands.specs.Request.{Request}
-use Rattle.regroup_commands.specs.Sending.{Sends, SendsLines, SendsOutput}
+use Rattle.regroup_commands.specs.Sending.{SendsLines, SendsOutput}
 
 -- a call that sends the lines of a result, and then returns 0, sends the result's output
 pub SendsOutput_lines : {E : Type 0} (r : Result ℕ E) (result : Result (List ℕ) Refusal) (a b c : Option (List ℕ)) (sent : Result (Unit {0}) E) →

@@ -1,14 +1,8 @@
 -- The request that a `Command` is.
-use Rattle.std.specs.Prelude.{ℕ, List, map}
-use Rattle.std.specs.Borrow.{Bor}
 use Rattle.regroup_commands.specs.Request.{Request}
 use Rattle.regroup_commands.specs.Request.Request.{Alike, Check, Custom, Names, Print, Read}
 use Rattle.regroup_commands.specs.declared.command.Command.{Command}
 use Rattle.regroup_commands.specs.declared.command.Command.TheVariants as command
-
--- the bytes of each word
-abbrev pub texts : List (Bor (List ℕ)) → List (List ℕ)
-texts words = map (λ word. word.now) words
 
 -- the same command, with the bytes of its texts
 abbrev pub request_of : Command → Request

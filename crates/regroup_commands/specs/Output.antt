@@ -1,51 +1,19 @@
 -- The output of the program: its exit status, and the bytes for standard output and standard error.
-use Rattle.std.specs.Prelude.{ℕ, ◌+◌, ◌-◌, ◌^◌, nat_le, nat_lt, ℤ, pos, negsuc, Bool, not, ◌&&◌, ◌||◌, if◌then◌else◌, List, [], ◌∷◌, ◌++◌, length, map, codes, Option, Some, None, Result, Ok, Err}
+use Rattle.std.specs.Prelude.{ℕ, ◌-◌, ◌^◌, ℤ, pos, negsuc, Bool, ◌&&◌, if◌then◌else◌, List, [], ◌∷◌, codes, Option, Some, None, Result, Ok, Err}
 use Rattle.std.specs.Fmt.{signed_decimal}
-use Rattle.std.specs.List.{flat_map, list_all, list_any, position}
-use Rattle.std.specs.Option.{ok_or, option_map}
+use Rattle.std.specs.List.{flat_map, list_all}
 use Rattle.std.specs.Ordering.{int_eq}
-use Rattle.std.specs.Result.{result_map_both}
-use Rattle.std.specs.Str.{bytes_eq, chars}
-use Rattle.num_format.specs.Building.{built, choices_of, chosen}
-use Rattle.num_format.specs.Cut.{cut_text}
-use Rattle.num_format.specs.Data.{locale_data}
-use Rattle.num_format.specs.English.{english}
+use Rattle.std.specs.Str.{bytes_eq}
 use Rattle.num_format.specs.Format.{FormatData}
-use Rattle.num_format.specs.Grouping.{Grouping}
-use Rattle.num_format.specs.Names.{underscore_for_hyphen}
-use Rattle.num_format.specs.Reading.{denoted, figures, is_negative_text, is_other_numeral}
-use Rattle.num_format.specs.Refusal.{Refusal, ParseLocale, ParseNumber, message_of, refusal_of}
+use Rattle.num_format.specs.Reading.{denoted}
+use Rattle.num_format.specs.Refusal.{Refusal, message_of}
 use Rattle.num_format.specs.Table.{table_names}
 use Rattle.num_format.specs.Text.{text_of}
-use Rattle.regroup_commands.specs.Request.{Request, fits_i128, request_in}
+use Rattle.regroup_shared.specs.Formats.{custom_format, locale_named}
+use Rattle.regroup_shared.specs.Reading.{is_readable, number_read}
+use Rattle.regroup_shared.specs.Sending.{line}
+use Rattle.regroup_commands.specs.Request.{Request, request_in}
 use Rattle.regroup_commands.specs.Request.Request.{Alike, Check, Custom, Names, Print, Read}
-
--- en's format with these three fields, or the error of a field that is too long
-abbrev pub custom_format : List ℕ → Grouping → List ℕ → Result FormatData Refusal
-custom_format separator grouping minus_sign = result_map_both (λ format. format) refusal_of (built (record (choices_of english) {
-  separator = chosen 8 separator;
-  grouping = grouping;
-  minus_sign = chosen 8 minus_sign;
-}))
-
--- whether the text is the name, or the name with every hyphen an underscore
-abbrev pub is_spelling : List ℕ → List ℕ → Bool
-is_spelling text name = bytes_eq text name || bytes_eq text (map underscore_for_hyphen name)
-
--- the data of the locale whose name the text spells, or the error of a text that spells none
-abbrev pub locale_named : List ℕ → Result FormatData Refusal
-locale_named text = ok_or (option_map locale_data (position (is_spelling text) table_names)) (ParseLocale (cut_text text))
-
--- whether the text parses as an i128 under the format: it has a digit 0 to 9 and no other numeral, at most 40 digits, a minus sign
--- counted as one, and denotes a number that fits
-abbrev pub is_readable : FormatData → List ℕ → Bool
-is_readable format text =
-    nat_lt 0 (length (figures text)) && (not (list_any is_other_numeral (chars text))
-    && (nat_le (length (figures text) + (if is_negative_text format text then 1 else 0)) 40 && fits_i128 (denoted format text)))
-
--- the number that the text denotes under the format, or the error of a text that does not parse
-abbrev pub number_read : FormatData → List ℕ → Result ℤ Refusal
-number_read format text = if is_readable format text then Ok (denoted format text) else Err (ParseNumber (cut_text text))
 
 -- whether 1 and -2 ^ 127 parse as i128 values from their texts under the format, and as themselves; by the law `round_trips` of
 -- num_format, these two decide it for every number of every integer type
@@ -57,10 +25,6 @@ is_read_back format =
 -- decide it for every number from -2 ^ 127 to 2 ^ 128 - 1
 abbrev pub is_alike : FormatData → FormatData → Bool
 is_alike f g = list_all (λ z. bytes_eq (text_of f z) (text_of g z)) (pos 1000 ∷ pos 100000 ∷ pos 1000000 ∷ negsuc 0 ∷ [])
-
--- a text and a newline
-abbrev pub line : List ℕ → List ℕ
-line text = text ++ 10 ∷ []
 
 -- each text and a newline after it
 abbrev pub lines : List (List ℕ) → List ℕ

@@ -1,5 +1,5 @@
 -- What the words of a command line ask for.
-use Rattle.std.specs.Prelude.{ℕ, ◌^◌, nat_lt, ℤ, pos, negsuc, Bool, ◌&&◌, if◌then◌else◌, List, [], ◌∷◌, length, codes, Option, Some, None, option_and_then}
+use Rattle.std.specs.Prelude.{ℕ, nat_lt, ℤ, Bool, ◌&&◌, if◌then◌else◌, List, [], ◌∷◌, length, codes, Option, Some, None, option_and_then}
 use Rattle.std.specs.Char.{is_digit}
 use Rattle.std.specs.List.{list_all}
 use Rattle.std.specs.Option.{option_map}
@@ -7,6 +7,7 @@ use Rattle.std.specs.Str.{bytes_eq}
 use Rattle.std.specs.Str.Parse.{signed_digits_value, without_leading_sign}
 use Rattle.num_format.specs.Grouping.{Grouping}
 use Rattle.num_format.specs.GroupingNames.{grouping_named}
+use Rattle.regroup_shared.specs.Reading.{fits_i128}
 
 -- a command with its arguments
 pub data Request : Type 0 where
@@ -20,11 +21,6 @@ pub data Request : Type 0 where
 -- one digit or more, and nothing else
 abbrev pub is_numeral : List ℕ → Bool
 is_numeral text = nat_lt 0 (length text) && list_all (λ c. is_digit c 10) text
-
--- whether an i128 can be the number; `negsuc n` is -n - 1
-abbrev pub fits_i128 : ℤ → Bool
-fits_i128 (pos n) = nat_lt n (2 ^ 127)
-fits_i128 (negsuc n) = nat_lt n (2 ^ 127)
 
 -- what std's `parse::<i128>` returns: the number of a numeral, which may have a sign before it, if that number fits
 abbrev pub number_in : List ℕ → Option ℤ

@@ -2,14 +2,9 @@
 use Rattle.std.specs.Prelude.{◌≡◌, ℕ, ◌<◌, List, ◌++◌, length, Option, Result, Ok, IfOk, OnOk, OnErr}
 use Rattle.std.specs.Io.KnownBytes.{Appends}
 use Rattle.num_format.specs.Refusal.{Refusal}
-use Rattle.num_format.specs.Writing.{HasReceivedUpTo, StopsWithin}
+use Rattle.num_format.specs.Writing.{HasReceivedUpTo}
+use Rattle.regroup_shared.specs.Sending.{Sends}
 use Rattle.regroup_commands.specs.Output.{Output}
-
--- what a call that sends a text does: on `Ok` the writer received all of the text; on `Err` it received a prefix of the text, and
--- not all of it
-pub record Sends {T E : Type 0} (result : Result T E) (old new : Option (List ℕ)) (text : List ℕ) : Type 0 where
-  pub whole : OnOk result (Appends old new text)
-  pub prefix : OnErr result (StopsWithin old new text)
 
 -- a call sent the lines of a request that has no error
 pub record SendsLines {T E : Type 0} (result : Result T E) (old new : Option (List ℕ)) (lines : Result (List ℕ) Refusal) : Type 0 where

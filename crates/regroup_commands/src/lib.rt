@@ -29,22 +29,19 @@
 //! numbers of `check` and `alike` are those of all integer types. `check` prints `true` for every
 //! locale.
 //!
-//! [`custom_format`], [`locale_named`], [`number_read`], [`send`] and [`send_number`] are parts of these
-//! commands, for other programs. Nothing here allocates.
+//! Nothing here allocates.
 #![tactic(auto)]
 
 mod command;
 mod sending;
 
 ghost use Rattle.std.specs.Prelude.{◌≡◌, ◌≢◌};
-ghost use Rattle.regroup_commands.specs.Command.{texts};
+ghost use Rattle.regroup_shared.specs.Words.{texts};
 ghost use Rattle.regroup_commands.specs.Output.{output_of};
 ghost use Rattle.regroup_commands.specs.Sending.{IsSent, SendsOutput, StopsShort};
 
 use crate::command::Command;
-pub use crate::command::{custom_format, locale_named, number_read};
-use crate::sending::send_line;
-pub use crate::sending::{send, send_number};
+use regroup_shared::send_line;
 use std::io;
 use std::io::Write;
 

@@ -1,59 +1,18 @@
-//! Sends lines to a writer.
+//! Sends the lines of a command to a writer.
 //!
 //! After each call here, on `Ok` the writer received all the bytes. On `Err` it received a prefix
-//! of them, and not all: nothing was sent twice or left out. An error comes only from a write: a
-//! line is put together first, in an array that the longest line fits.
+//! of them, and not all: nothing was sent twice or left out. An error comes only from a write.
 ghost use Rattle.std.specs.Prelude.{◌<◌, length, All};
 ghost use Rattle.std.specs.Fmt.{signed_decimal};
 ghost use Rattle.num_format.specs.Refusal.{message_of, refusal_of};
-ghost use Rattle.num_format.specs.Text.{text_of};
-ghost use Rattle.regroup_commands.specs.Command.{texts};
-ghost use Rattle.regroup_commands.specs.Output.{bool_line, line, lines};
-ghost use Rattle.regroup_commands.specs.Sending.{Sends};
+ghost use Rattle.regroup_shared.specs.Sending.{Sends, line};
+ghost use Rattle.regroup_shared.specs.Words.{texts};
+ghost use Rattle.regroup_commands.specs.Output.{bool_line, lines};
 
-use arrayvec::ArrayString;
-use num_format::{Buffer, Error, Format};
-use num_format_text::error_kind::MAX_MESSAGE_LEN;
+use num_format::Error;
+use regroup_shared::{MAX_SENT_LINE_LEN, send_line};
 use std::io;
 use std::io::Write;
-
-/// The most bytes of a line with its newline. No line is longer than the longest message.
-const MAX_LINE_LEN: usize = MAX_MESSAGE_LEN + 1;
-
-/// Sends the bytes, in as many writes as it takes.
-///
-/// # Errors
-///
-/// Returns the error of the first write that fails, also of one that was interrupted. A write of no
-/// bytes is an error of kind `WriteZero`.
-#[tactic(auto, using(num_format::proofs::WritingLemmas::HasReceivedUpTo_more))]
-pub fn send<W: Write>(bytes: &[u8], writer: &mut W) -> io::Result<()>
-    ensures { Sends result (W.contents writer.old) (W.contents writer.new) bytes.now }
-{
-    let mut rest = bytes;
-    while !rest.is_empty() {
-        match writer.write(rest)? {
-            0 => return Err(io::Error::from(io::ErrorKind::WriteZero)),
-            count => rest = &rest[count..],
-        }
-    }
-    Ok(())
-}
-
-/// Sends the text and a newline together, by one write if that writes all of them.
-///
-/// # Errors
-///
-/// Returns the error of the first write that fails or writes no bytes.
-pub(crate) fn send_line<W: Write>(text: &str, writer: &mut W) -> io::Result<()>
-    requires { length text.now < MAX_LINE_LEN }
-    ensures { Sends result (W.contents writer.old) (W.contents writer.new) (line text.now) }
-{
-    let mut line = ArrayString::<MAX_LINE_LEN>::new();
-    line.push_str(text);
-    line.push('\n');
-    send(line.as_str().as_bytes(), writer)
-}
 
 /// Sends each text and a newline after it.
 ///
@@ -62,28 +21,13 @@ pub(crate) fn send_line<W: Write>(text: &str, writer: &mut W) -> io::Result<()>
 /// Returns the error of the first write that fails or writes no bytes.
 #[tactic(auto, using(crate::proofs::SendingLemmas::HasReceivedUpTo_line, crate::proofs::SendingLemmas::StopsWithin_line))]
 pub(crate) fn send_lines<W: Write>(items: &[&str], writer: &mut W) -> io::Result<()>
-    requires { All (λ text. length text.now < MAX_LINE_LEN) items.now }
+    requires { All (λ text. length text.now < MAX_SENT_LINE_LEN) items.now }
     ensures { Sends result (W.contents writer.old) (W.contents writer.new) (lines (texts items.now)) }
 {
     for text in items {
         send_line(text, writer)?;
     }
     Ok(())
-}
-
-/// Sends the text of the number under the format and a newline together, by one write if that writes
-/// all of them.
-///
-/// # Errors
-///
-/// Returns the error of the first write that fails or writes no bytes.
-pub fn send_number<F: Format, W: Write>(number: i128, format: &F, writer: &mut W) -> io::Result<()>
-    ensures { Sends result (W.contents writer.old) (W.contents writer.new)
-        (line (text_of (F.answers format.now) number)) }
-{
-    let mut buffer = Buffer::new();
-    buffer.write_formatted(&number, format);
-    send_line(buffer.as_str(), writer)
 }
 
 /// Sends the number in plain decimal, and a newline.

@@ -13,6 +13,7 @@ use Rattle.regroup_lines.specs.Input.{EndsOrGoesOn, FindsNewline, FindsPiece, Ha
 use Rattle.regroup_lines.specs.declared.input.Input.{Input}
 use Rattle.regroup_lines.specs.declared.input.Piece.{Piece}
 use Rattle.regroup_lines.specs.declared.input.Piece.TheVariants.{Line, Rest, TooLong}
+use Rattle.regroup_lines.specs.declared.TheConstants.{MAX_LINE_LEN}
 
 -- a range of an array without its first n bytes
 pub range-later : (xs : List ℕ) (start end n : ℕ) → start + n ≤ end → slice_range xs (start + n) end ≡ drop n (slice_range xs start end)
@@ -153,23 +154,23 @@ FindsPiece-after_call before bytes input a b c (Ok piece) read found = FindsPiec
 FindsPiece-after_call before bytes input a b c (Err e) read found = tt
 
 -- bytes that fill the array, and the next byte
-module _ (bytes : List ℕ) (a b : Option (List ℕ)) (read : Option ℕ) (full : length bytes ≡ 4096) (none : HasNoNewline bytes)
+module _ (bytes : List ℕ) (a b : Option (List ℕ)) (read : Option ℕ) (full : length bytes ≡ MAX_LINE_LEN) (none : HasNoNewline bytes)
     (next : MatchOption read (Consumes a b [] × IsAtEnd b) (λ byte. Consumes a b (byte ∷ []))) where
-  pub full_rest : (text : List ℕ) → read ≡ None → text ≡ take 4096 bytes → Reads bytes text a b × HasNoNewline text × (length text ≤ 4096) × IsAtEnd b
+  pub full_rest : (text : List ℕ) → read ≡ None → text ≡ take MAX_LINE_LEN bytes → Reads bytes text a b × HasNoNewline text × (length text ≤ MAX_LINE_LEN) × IsAtEnd b
   full_rest text is taken =
       let end = subst (λ r. MatchOption r (Consumes a b [] × IsAtEnd b) (λ byte. Consumes a b (byte ∷ []))) is next in
-      let same : text ≡ bytes = taken ∙ take_all 4096 bytes (omega arith) in
+      let same : text ≡ bytes = taken ∙ take_all MAX_LINE_LEN bytes (omega arith) in
       rw same (record { given = []; joined = append-nil bytes; consumed = end.0 }, none, omega arith, end.1)
 
-  pub full_line : (text left : List ℕ) (byte : ℕ) → read ≡ Some byte → byte ≡ 10 → text ≡ take 4096 bytes → left ≡ drop 4096 bytes →
-      Reads bytes (text ++ 10 ∷ left) a b × HasNoNewline text × (length text ≤ 4096)
+  pub full_line : (text left : List ℕ) (byte : ℕ) → read ≡ Some byte → byte ≡ 10 → text ≡ take MAX_LINE_LEN bytes → left ≡ drop MAX_LINE_LEN bytes →
+      Reads bytes (text ++ 10 ∷ left) a b × HasNoNewline text × (length text ≤ MAX_LINE_LEN)
   full_line text left byte is newline taken rest =
       let given = subst (λ r. MatchOption r (Consumes a b [] × IsAtEnd b) (λ byte. Consumes a b (byte ∷ []))) (is ∙ ap Some newline) next in
-      let same : text ≡ bytes = taken ∙ take_all 4096 bytes (omega arith) in
-      let gone : left ≡ [] = rest ∙ drop_all 4096 bytes (omega arith) in
+      let same : text ≡ bytes = taken ∙ take_all MAX_LINE_LEN bytes (omega arith) in
+      let gone : left ≡ [] = rest ∙ drop_all MAX_LINE_LEN bytes (omega arith) in
       rw (same, gone) (record { given = 10 ∷ []; joined = refl; consumed = given }, none, omega arith)
 
-  pub full_too_long : (byte : ℕ) → read ≡ Some byte → (byte == 10) ≡ false → (text : List ℕ) × Reads bytes text a b × HasNoNewline text × (4096 < length text)
+  pub full_too_long : (byte : ℕ) → read ≡ Some byte → (byte == 10) ≡ false → (text : List ℕ) × Reads bytes text a b × HasNoNewline text × (MAX_LINE_LEN < length text)
   full_too_long byte is other =
       let given = subst (λ r. MatchOption r (Consumes a b [] × IsAtEnd b) (λ byte. Consumes a b (byte ∷ []))) is next in
       (bytes ++ byte ∷ [], record { given = byte ∷ []; joined = refl; consumed = given }, newlines-none_push bytes byte none other, omega (arith, length-append bytes (byte ∷ [])))

@@ -2,5 +2,4 @@
 mod Examples
 mod InputLemmas
 mod LineLemmas
-pub mod MessageLemmas
 mod TextLemmas

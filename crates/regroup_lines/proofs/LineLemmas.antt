@@ -13,14 +13,16 @@ use Rattle.num_format.specs.Format.{FormatData}
 use Rattle.num_format.specs.Refusal.{Refusal}
 use Rattle.num_format.specs.Text.{text_of}
 use Rattle.num_format.specs.Writing.{StopsWithin}
-use Rattle.num_format.proofs.WritingLemmas.{StopsWithin_prefix, StopsWithin_suffix}
-use Rattle.regroup_commands.specs.Output.{line, number_read}
+use Rattle.regroup_shared.specs.Reading.{number_read}
+use Rattle.regroup_shared.specs.Sending.{line}
+use Rattle.regroup_shared.proofs.SendingLemmas.{StopsWithin_prefix, StopsWithin_suffix}
 use Rattle.regroup_lines.specs.Fault.{Fault}
 use Rattle.regroup_lines.specs.Fault.Fault.{Line, NotText, Read, TooLong, TooMany, Write}
 use Rattle.regroup_lines.specs.Input.{HasNoNewline, Reads}
 use Rattle.regroup_lines.specs.Lines.{Regrouped, Stop, number_in_line, number_in_text, regrouped, regrouped_after, regrouped_parts, regrouped_rest, returned_unfinished, returning, size_fault, unless_fault, writing, writing_number}
 use Rattle.regroup_lines.specs.Lines.Stop.{Ended, Failed, Unread}
 use Rattle.regroup_lines.specs.Sending.{Regroups, SendsNumber}
+use Rattle.regroup_lines.specs.declared.TheConstants.{MAX_LINE_LEN}
 
 not_less : (a b : ℕ) → b ≤ a → nat_lt a b ≡ false
 not_less a b le = false_from_ne_true (nat_lt a b) (λ yes. let less = (Decides-ltb a b).0 yes in omega arith)
@@ -29,12 +31,12 @@ not_zero : (n : ℕ) → 0 < n → (n == 0) ≡ false
 not_zero n some = false_from_ne_true (n == 0) (λ yes. let none = eqb-true n 0 yes in omega arith)
 
 -- a line that is within both bounds
-size_fault-none : (most number : ℕ) (text : List ℕ) → number ≤ most → length text ≤ 4096 → size_fault most number text ≡ None
-size_fault-none most number text few short = rw (not_less most number few, not_less 4096 (length text) short) refl
+size_fault-none : (most number : ℕ) (text : List ℕ) → number ≤ most → length text ≤ MAX_LINE_LEN → size_fault most number text ≡ None
+size_fault-none most number text few short = rw (not_less most number few, not_less MAX_LINE_LEN (length text) short) refl
 
 -- a line that is too long
-size_fault-long : (most number : ℕ) (text : List ℕ) → number ≤ most → 4096 < length text → size_fault most number text ≡ Some (TooLong number)
-size_fault-long most number text few long = rw (not_less most number few, (Decides-ltb 4096 (length text)).1 long) refl
+size_fault-long : (most number : ℕ) (text : List ℕ) → number ≤ most → MAX_LINE_LEN < length text → size_fault most number text ≡ Some (TooLong number)
+size_fault-long most number text few long = rw (not_less most number few, (Decides-ltb MAX_LINE_LEN (length text)).1 long) refl
 
 -- a line more than are allowed
 size_fault-many : (most : ℕ) (text : List ℕ) → size_fault most (most + 1) text ≡ Some TooMany
@@ -51,7 +53,7 @@ number_in_text-fault : (from : FormatData) (number : ℕ) (text : List ℕ) → 
 number_in_text-fault from number text = text_fault number (is_utf8 text) (number_read from text)
 
 module _ (most : ℕ) (from to : FormatData) where
-  number_in_line-text : (number : ℕ) (text : List ℕ) → number ≤ most → length text ≤ 4096 → number_in_line most from number text ≡ number_in_text from number text
+  number_in_line-text : (number : ℕ) (text : List ℕ) → number ≤ most → length text ≤ MAX_LINE_LEN → number_in_line most from number text ≡ number_in_text from number text
   number_in_line-text number text few short = ap (λ fault. unless_fault fault (number_in_text from number text)) (size_fault-none most number text few short)
 
   -- a part that others follow is a line
@@ -76,14 +78,14 @@ module _ (most : ℕ) (from to : FormatData) where
       after-rest Ended count text none
       ∙ ap (λ b. if b then returning (Some (Ok count)) else writing_number to (number_in_line most from (count + 1) text) (returning (Some (Ok (count + 1))))) empty
 
-  pub rest-line : (count : ℕ) (text : List ℕ) → HasNoNewline text → (length text == 0) ≡ false → count + 1 ≤ most → length text ≤ 4096 →
+  pub rest-line : (count : ℕ) (text : List ℕ) → HasNoNewline text → (length text == 0) ≡ false → count + 1 ≤ most → length text ≤ MAX_LINE_LEN →
       regrouped_after most from to Ended count text ≡ writing_number to (number_in_text from (count + 1) text) (returning (Some (Ok (count + 1))))
   rest-line count text none some few short =
       after-rest Ended count text none
       ∙ ap (λ b. if b then returning (Some (Ok count)) else writing_number to (number_in_line most from (count + 1) text) (returning (Some (Ok (count + 1))))) some
       ∙ ap (λ number. writing_number to number (returning (Some (Ok (count + 1))))) (number_in_line-text (count + 1) text few short)
 
-  pub line-next : (stop : Stop) (count : ℕ) (text bytes : List ℕ) → HasNoNewline text → count + 1 ≤ most → length text ≤ 4096 →
+  pub line-next : (stop : Stop) (count : ℕ) (text bytes : List ℕ) → HasNoNewline text → count + 1 ≤ most → length text ≤ MAX_LINE_LEN →
       regrouped_after most from to stop count (text ++ 10 ∷ bytes) ≡ writing_number to (number_in_text from (count + 1) text) (regrouped_after most from to stop (count + 1) bytes)
   line-next stop count text bytes none few short =
       after-line stop count text bytes none
@@ -94,14 +96,14 @@ module _ (most : ℕ) (from to : FormatData) where
   either_none false fault none = none
 
   -- a failed read
-  pub rest-failed : (count : ℕ) (text : List ℕ) → HasNoNewline text → count + 1 ≤ most → length text ≤ 4096 →
+  pub rest-failed : (count : ℕ) (text : List ℕ) → HasNoNewline text → count + 1 ≤ most → length text ≤ MAX_LINE_LEN →
       regrouped_after most from to Failed count text ≡ returning (Some (Err Read))
   rest-failed count text none few short =
       after-rest Failed count text none
       ∙ ap (λ fault. returning (returned_unfinished fault Failed)) (either_none (length text == 0) (size_fault most (count + 1) text) (size_fault-none most (count + 1) text few short))
 
   -- a line that is too long
-  pub rest-long : (count : ℕ) (text : List ℕ) → HasNoNewline text → count + 1 ≤ most → 4096 < length text →
+  pub rest-long : (count : ℕ) (text : List ℕ) → HasNoNewline text → count + 1 ≤ most → MAX_LINE_LEN < length text →
       regrouped_after most from to Unread count text ≡ returning (Some (Err (TooLong (count + 1))))
   rest-long count text none few long =
       after-rest Unread count text none
@@ -166,7 +168,7 @@ module _ (most : ℕ) (from to : FormatData) (r0 s0 : Option (List ℕ)) where
 
     -- the line of a number is sent
     Progress-line : (text left : List ℕ) (n : ℤ) (s2 : Option (List ℕ)) → Progress most from to count (text ++ 10 ∷ left) r0 r1 s0 s1 → HasNoNewline text →
-        count + 1 ≤ most → length text ≤ 4096 → number_in_text from (count + 1) text ≡ Ok n → Appends s1 s2 (line (text_of to n)) → Progress most from to (count + 1) left r0 r1 s0 s2
+        count + 1 ≤ most → length text ≤ MAX_LINE_LEN → number_in_text from (count + 1) text ≡ Ok n → Appends s1 s2 (line (text_of to n)) → Progress most from to (count + 1) left r0 r1 s0 s2
     Progress-line text left n s2 so_far none few short is sent = record {
       given = so_far.given;
       written = so_far.written ++ line (text_of to n);
@@ -181,7 +183,7 @@ module _ (most : ℕ) (from to : FormatData) (r0 s0 : Option (List ℕ)) where
     }
 
     Progress-line_sent : {T : Type 0} (number : Result ℤ Fault) (text left : List ℕ) (sent : T) (s2 : Option (List ℕ)) → Progress most from to count (text ++ 10 ∷ left) r0 r1 s0 s1 →
-        HasNoNewline text → count + 1 ≤ most → length text ≤ 4096 → number_in_text from (count + 1) text ≡ number → SendsNumber to number s1 s2 (Ok sent) →
+        HasNoNewline text → count + 1 ≤ most → length text ≤ MAX_LINE_LEN → number_in_text from (count + 1) text ≡ number → SendsNumber to number s1 s2 (Ok sent) →
         Progress most from to (count + 1) left r0 r1 s0 s2
     Progress-line_sent (Ok n) text left sent s2 so_far none few short is sends = Progress-line text left n s2 so_far none few short is sends
     Progress-line_sent (Err fault) text left sent s2 so_far none few short is sends = absurd sends
@@ -235,7 +237,7 @@ module _ (most : ℕ) (from to : FormatData) (r0 s0 : Option (List ℕ)) where
   -- what the next piece of the input gives, where so many lines were sent
   module _ (count : ℕ) (few : count < most) (r1 r2 s1 s2 : Option (List ℕ)) (held : List ℕ) (so_far : Progress most from to count held r0 r1 s0 s1) where
     -- a line
-    module _ (text left : List ℕ) (read : Reads held (text ++ 10 ∷ left) r1 r2) (none : HasNoNewline text) (short : length text ≤ 4096) where
+    module _ (text left : List ℕ) (read : Reads held (text ++ 10 ∷ left) r1 r2) (none : HasNoNewline text) (short : length text ≤ MAX_LINE_LEN) where
       pub Progress-next : {T : Type 0} (sent : T) → SendsNumber to (number_in_text from (count + 1) text) s1 s2 (Ok sent) → Progress most from to (count + 1) left r0 r2 s0 s2
       Progress-next sent sends =
           Progress-line_sent count r2 s1 (number_in_text from (count + 1) text) text left sent s2 (Progress-reads count r1 s1 held (text ++ 10 ∷ left) r2 so_far read)
@@ -265,23 +267,23 @@ module _ (most : ℕ) (from to : FormatData) (r0 s0 : Option (List ℕ)) where
           (subst (Appends s1 s2) (sym (append-nil (line (text_of to n)))) sends)
       last_sent (Err fault) sent end is sends = absurd sends
 
-      pub Regroups-last : {T : Type 0} (sent : T) → IsAtEnd r2 → (length text == 0) ≡ false → length text ≤ 4096 →
+      pub Regroups-last : {T : Type 0} (sent : T) → IsAtEnd r2 → (length text == 0) ≡ false → length text ≤ MAX_LINE_LEN →
           SendsNumber to (number_in_text from (count + 1) text) s1 s2 (Ok sent) → Regroups most from to r0 r2 s0 s2 (Ok (count + 1))
       Regroups-last sent end some short sends =
           last_sent (number_in_text from (count + 1) text) sent end (rest-line most from to count text none some (omega arith) short) sends
 
-      pub Regroups-last_fault : (fault : Fault) → IsAtEnd r2 → (length text == 0) ≡ false → length text ≤ 4096 →
+      pub Regroups-last_fault : (fault : Fault) → IsAtEnd r2 → (length text == 0) ≡ false → length text ≤ MAX_LINE_LEN →
           SendsNumber {T = Unit {0}} to (number_in_text from (count + 1) text) s1 s2 (Err fault) → Regroups most from to r0 r2 s0 s2 (Err fault)
       Regroups-last_fault fault end some short sends =
           Regroups-stopped count r2 s1 text Ended (number_in_text from (count + 1) text) (returning (Some (Ok (count + 1)))) fault s2 reached (λ _. end)
           (rest-line most from to count text none some (omega arith) short) (number_in_text-fault from (count + 1) text) sends
 
-      pub Regroups-read : length text ≤ 4096 → s2 ≡ s1 → Regroups most from to r0 r2 s0 s2 (Err Read)
+      pub Regroups-read : length text ≤ MAX_LINE_LEN → s2 ≡ s1 → Regroups most from to r0 r2 s0 s2 (Err Read)
       Regroups-read short same =
           Regroups-returned count r2 s1 text [] Failed (Err Read) s2 reached (λ e. absurd (cc)) (rest-failed most from to count text none (omega arith) short) (λ e. cc)
           (subst (λ s. Appends s1 s []) (sym same) (Appends-nil s1))
 
-      pub Regroups-long : 4096 < length text → s2 ≡ s1 → Regroups most from to r0 r2 s0 s2 (Err (TooLong (count + 1)))
+      pub Regroups-long : MAX_LINE_LEN < length text → s2 ≡ s1 → Regroups most from to r0 r2 s0 s2 (Err (TooLong (count + 1)))
       Regroups-long long same =
           Regroups-returned count r2 s1 text [] Unread (Err (TooLong (count + 1))) s2 reached (λ e. absurd (cc)) (rest-long most from to count text none (omega arith) long) (λ e. cc)
           (subst (λ s. Appends s1 s []) (sym same) (Appends-nil s1))

@@ -5,6 +5,7 @@ use Rattle.std.specs.declared.ops.Range.{Range}
 use Rattle.regroup_lines.specs.declared.input.Input.{Input}
 use Rattle.regroup_lines.specs.declared.input.Piece.{Piece}
 use Rattle.regroup_lines.specs.declared.input.Piece.TheVariants.{Line, Rest, TooLong}
+use Rattle.regroup_lines.specs.declared.TheConstants.{MAX_LINE_LEN}
 
 -- the bytes that are held
 abbrev pub held : Input → List ℕ
@@ -32,16 +33,16 @@ pub record Reads (held read : List ℕ) (old new : Option (List ℕ)) : Type 0 w
 -- the piece is the first of the bytes that were held and those that the reader gave
 abbrev pub FindsPiece : List ℕ → Input → Option (List ℕ) → Option (List ℕ) → Piece → Type 0
 FindsPiece before input old new (Line place) =
-    Reads before (bytes_at input place ++ 10 ∷ held input) old new × HasNoNewline (bytes_at input place) × (length (bytes_at input place) ≤ 4096)
+    Reads before (bytes_at input place ++ 10 ∷ held input) old new × HasNoNewline (bytes_at input place) × (length (bytes_at input place) ≤ MAX_LINE_LEN)
 FindsPiece before input old new (Rest place) =
-    Reads before (bytes_at input place) old new × HasNoNewline (bytes_at input place) × (length (bytes_at input place) ≤ 4096) × IsAtEnd new
+    Reads before (bytes_at input place) old new × HasNoNewline (bytes_at input place) × (length (bytes_at input place) ≤ MAX_LINE_LEN) × IsAtEnd new
 FindsPiece before input old new TooLong =
-    (text : List ℕ) × Reads before text old new × HasNoNewline text × (4096 < length text)
+    (text : List ℕ) × Reads before text old new × HasNoNewline text × (MAX_LINE_LEN < length text)
 
 -- the place of the piece is in the array
 abbrev pub IsInArray : Piece → Type 0
-IsInArray (Line place) = (place.start ≤ place.end) × (place.end ≤ 4096)
-IsInArray (Rest place) = (place.start ≤ place.end) × (place.end ≤ 4096)
+IsInArray (Line place) = (place.start ≤ place.end) × (place.end ≤ MAX_LINE_LEN)
+IsInArray (Rest place) = (place.start ≤ place.end) × (place.end ≤ MAX_LINE_LEN)
 IsInArray TooLong = ⊤
 
 -- no byte is held and the reader ends, or there is a byte

@@ -5,9 +5,11 @@ use Rattle.std.specs.Result.{result_map_both}
 use Rattle.std.specs.Str.{is_utf8}
 use Rattle.num_format.specs.Format.{FormatData}
 use Rattle.num_format.specs.Text.{text_of}
-use Rattle.regroup_commands.specs.Output.{line, number_read}
+use Rattle.regroup_shared.specs.Reading.{number_read}
+use Rattle.regroup_shared.specs.Sending.{line}
 use Rattle.regroup_lines.specs.Fault.{Fault}
 use Rattle.regroup_lines.specs.Fault.Fault.{TooMany, TooLong, Read, NotText, Line}
+use Rattle.regroup_lines.specs.declared.TheConstants.{MAX_LINE_LEN}
 
 -- how a reader stopped: at its end, by a failed read, or not at all, where no more was read
 pub data Stop : Type 0 where
@@ -37,7 +39,7 @@ writing_number to (Err fault) rest = returning (Some (Err fault))
 abbrev pub size_fault : ℕ → ℕ → List ℕ → Option Fault
 size_fault most number bytes =
     if nat_lt most number then Some TooMany else
-    if nat_lt 4096 (length bytes) then Some (TooLong number) else None
+    if nat_lt MAX_LINE_LEN (length bytes) then Some (TooLong number) else None
 
 -- the number that the text of a line parses as, or the fault of the text
 abbrev pub number_in_text : FormatData → ℕ → List ℕ → Result ℤ Fault

@@ -4,7 +4,7 @@ use Rattle.std.specs.Io.KnownBytes.{Appends, Consumes, IsAtEnd}
 use Rattle.num_format.specs.Format.{FormatData}
 use Rattle.num_format.specs.Text.{text_of}
 use Rattle.num_format.specs.Writing.{StopsWithin}
-use Rattle.regroup_commands.specs.Output.{line}
+use Rattle.regroup_shared.specs.Sending.{line}
 use Rattle.regroup_lines.specs.Fault.{Fault}
 use Rattle.regroup_lines.specs.Fault.Fault.{Write}
 use Rattle.regroup_lines.specs.Lines.{Stop, regrouped}

@@ -1,9 +1,10 @@
 //! Why lines were not regrouped to the end.
-ghost use Rattle.std.specs.Prelude.{◌++◌, Some};
-ghost use Rattle.std.specs.Fmt.{WritesStyledOnOk};
+ghost use Rattle.std.specs.Prelude.{◌≡◌, ◌≤◌, ◌++◌, Some, length};
 ghost use Rattle.regroup_lines.specs.Fault.{fault_of, line_prefix, message_of_fault};
 
-use num_format::Error;
+use arrayvec::ArrayString;
+use num_format::{Error, MAX_MESSAGE_LEN};
+use regroup_shared::MAX_SENT_LEN;
 use std::fmt;
 
 /// Why [`regroup_lines`](crate::regroup_lines) or [`regroup_at_most`](crate::regroup_at_most) stopped.
@@ -29,50 +30,62 @@ pub enum RegroupFault {
     Write,
 }
 
+impl RegroupFault {
+    /// Returns the message, which needs no memory and cannot fail.
+    ///
+    /// ```text
+    /// TooLong(2).message()    // "line 2: More than 4096 bytes."
+    /// ```
+    pub fn message(&self) -> ArrayString<MAX_SENT_LEN>
+        ensures { result.bytes ≡ message_of_fault (fault_of self.now) }
+    {
+        match self {
+            RegroupFault::TooMany => whole_message("The input has more lines than are allowed."),
+            RegroupFault::TooLong(number) => line_message(*number, "More than 4096 bytes."),
+            RegroupFault::Read => whole_message("Failed to read."),
+            RegroupFault::NotText(number) => line_message(*number, "Not UTF-8."),
+            RegroupFault::Line(number, error) => {
+                line_message(*number, error.kind().message().as_str())
+            }
+            RegroupFault::Write => whole_message("Failed to write."),
+        }
+    }
+}
+
+/// Returns the message of a fault that no line has.
+fn whole_message(text: &str) -> ArrayString<MAX_SENT_LEN>
+    requires { length text.now ≤ MAX_MESSAGE_LEN }
+    ensures { result.bytes ≡ text.now }
+{
+    let mut message = ArrayString::new();
+    message.push_str(text);
+    message
+}
+
+/// Returns the message of a line: its number, and then the text.
+fn line_message(number: u64, text: &str) -> ArrayString<MAX_SENT_LEN>
+    requires { length text.now ≤ MAX_MESSAGE_LEN }
+    ensures { result.bytes ≡ line_prefix number ++ text.now }
+{
+    let mut digits = itoa::Buffer::new();
+    let mut message = ArrayString::new();
+    message.push_str("line ");
+    message.push_str(digits.format(number));
+    message.push_str(": ");
+    message.push_str(text);
+    message
+}
+
 impl fmt::Display for RegroupFault {
     ghost output = { λ fault. Some (message_of_fault (fault_of fault)) };
 
     ghost styled_output = { λ fault _. Some (message_of_fault (fault_of fault)) };
 
-    /// Writes the message alone, whatever width or fill is asked for.
-    #[tactic(auto, using(crate::proofs::MessageLemmas::two_writes))]
+    /// Writes the [message](RegroupFault::message) alone, by one write, whatever width or fill is
+    /// asked for.
     fn fmt<W: fmt::Write>(&self, f: &mut fmt::Formatter<W>) -> fmt::Result {
-        match self {
-            RegroupFault::TooMany => f.write_str("The input has more lines than are allowed."),
-            RegroupFault::TooLong(number) => write_of_line(*number, "More than 4096 bytes.", f),
-            RegroupFault::Read => f.write_str("Failed to read."),
-            RegroupFault::NotText(number) => write_of_line(*number, "Not UTF-8.", f),
-            RegroupFault::Line(number, error) => {
-                write_line_prefix(*number, f)?;
-                error.fmt(f)
-            }
-            RegroupFault::Write => f.write_str("Failed to write."),
-        }
+        f.write_str(self.message().as_str())
     }
-}
-
-/// Writes the message of a line.
-#[tactic(auto, using(crate::proofs::MessageLemmas::two_writes))]
-fn write_of_line<W: fmt::Write>(
-    number: u64,
-    message: &str,
-    f: &mut fmt::Formatter<W>,
-) -> fmt::Result
-    ensures { WritesStyledOnOk W.write_str_gives f.old result (line_prefix number ++ message.now)
-        f.new }
-{
-    write_line_prefix(number, f)?;
-    f.write_str(message)
-}
-
-/// Writes what stands before the message of a line: its number.
-#[tactic(auto, using(crate::proofs::MessageLemmas::three_writes))]
-fn write_line_prefix<W: fmt::Write>(number: u64, f: &mut fmt::Formatter<W>) -> fmt::Result
-    ensures { WritesStyledOnOk W.write_str_gives f.old result (line_prefix number) f.new }
-{
-    f.write_str("line ")?;
-    f.write_str(itoa::Buffer::new().format(number))?;
-    f.write_str(": ")
 }
 
 impl std::error::Error for RegroupFault {}

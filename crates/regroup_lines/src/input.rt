@@ -1,6 +1,7 @@
 //! The input, piece by piece.
 ghost use Rattle.std.specs.Prelude.{◌≡◌, ◌+◌, ◌≤◌, ◌<◌, ◌++◌, [], ◌∷◌, length, take, drop, IfOk, OnErr, IsNone, MatchOption};
 ghost use Rattle.std.specs.Io.KnownBytes.{Consumes, IsAtEnd, Keeps};
+ghost use Rattle.regroup_lines.specs.declared.TheConstants.{MAX_LINE_LEN};
 
 use crate::MAX_LINE_LEN;
 use memchr::memchr;
@@ -28,7 +29,7 @@ pub(crate) struct Input {
     start: usize,
     end: usize,
     ghost ordered: { start ≤ end },
-    ghost within: { end ≤ 4096 },
+    ghost within: { end ≤ MAX_LINE_LEN },
 }
 
 impl Input {
@@ -48,7 +49,7 @@ impl Input {
     /// Returns the bytes at a place of the array.
     pub(crate) fn bytes(&self, place: Range<usize>) -> &[u8]
         requires ordered { place.start ≤ place.end }
-        requires within { place.end ≤ 4096 }
+        requires within { place.end ≤ MAX_LINE_LEN }
         ensures { result.now ≡ bytes_at self.now place }
     {
         &self.array[place]
@@ -86,7 +87,7 @@ impl Input {
     ///
     /// Returns the error of a read that fails.
     fn next_full_piece<R: Read>(&mut self, reader: &mut R) -> io::Result<Piece>
-        requires full { length (held self.old) ≡ 4096 }
+        requires full { length (held self.old) ≡ MAX_LINE_LEN }
         requires newline { HasNoNewline (held self.old) }
         ensures piece { IfOk result (FindsPiece (held self.old) self.new
             (R.remaining reader.old) (R.remaining reader.new)) }
@@ -121,7 +122,7 @@ impl Input {
     /// Returns the bytes that are held.
     fn held(&self) -> &[u8]
         ensures value { result.now ≡ held self.now }
-        ensures fits { length result.now ≤ 4096 }
+        ensures fits { length result.now ≤ MAX_LINE_LEN }
     {
         &self.array[self.start..self.end]
     }
@@ -130,7 +131,7 @@ impl Input {
     fn take(&mut self, len: usize) -> Range<usize>
         requires { len ≤ length (held self.old) }
         ensures ordered { result.start ≤ result.end }
-        ensures within { result.end ≤ 4096 }
+        ensures within { result.end ≤ MAX_LINE_LEN }
         ensures taken { bytes_at self.new result ≡ take len (held self.old) }
         ensures left { held self.new ≡ drop len (held self.old) }
     {
@@ -149,7 +150,7 @@ impl Input {
         ensures read { Reads (held self.old) (held self.new)
             (R.remaining reader.old) (R.remaining reader.new) }
         ensures found { IfOk result (FindsNewline (held self.new)) }
-        ensures end { IfOk result (λ found. IsNone found → length (held self.new) < 4096
+        ensures end { IfOk result (λ found. IsNone found → length (held self.new) < MAX_LINE_LEN
             → IsAtEnd (R.remaining reader.new)) }
         ensures failed { OnErr result (HasNoNewline (held self.new)) }
     {
@@ -174,7 +175,7 @@ impl Input {
     ///
     /// Returns the error of the read.
     fn read_more<R: Read>(&mut self, reader: &mut R) -> io::Result<usize>
-        requires { length (held self.old) < 4096 }
+        requires { length (held self.old) < MAX_LINE_LEN }
         ensures read { Reads (held self.old) (held self.new)
             (R.remaining reader.old) (R.remaining reader.new) }
         ensures count { IfOk result (λ count. length (held self.new) ≡ length (held self.old) + count) }

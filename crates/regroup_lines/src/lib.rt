@@ -15,15 +15,21 @@
 mod fault;
 mod input;
 
+ghost use Rattle.std.specs.Prelude.{◌≡◌, IsUtf8};
 ghost use Rattle.std.specs.Result.{result_map_both};
+ghost use Rattle.num_format.specs.Cut.{cut_text};
+ghost use Rattle.num_format.specs.Refusal.{ParseNumber};
+ghost use Rattle.regroup_lines.specs.Fault.Fault.{Line, NotText};
 ghost use Rattle.regroup_lines.specs.Fault.{fault_of};
 ghost use Rattle.regroup_lines.specs.Lines.{number_in_text};
 ghost use Rattle.regroup_lines.specs.Sending.{Regroups, SendsNumber};
 
 pub use crate::fault::RegroupFault;
 use crate::input::{Input, Piece};
-use num_format::Format;
-use regroup_commands::{number_read, send_number};
+use num_format::error::cut;
+use num_format::parsing::FromFormattedStr;
+use num_format::{Error, ErrorKind, Format};
+use regroup_shared::send_number;
 use std::io::{Read, Write};
 use std::str;
 
@@ -123,11 +129,23 @@ fn regroup_line<W: Write, F: Format, G: Format>(
     ensures { SendsNumber (G.answers to.now) (number_in_text (F.answers from.now) number text.now)
         (W.contents w.old) (W.contents w.new) (result_map_both (λ sent. sent) fault_of result) }
 {
-    let Ok(text) = str::from_utf8(text) else {
-        return Err(RegroupFault::NotText(number));
-    };
-    match number_read(text, from) {
+    match i128::from_formatted_bytes(text, from) {
         Ok(value) => send_number(value, to, w).or(Err(RegroupFault::Write)),
-        Err(error) => Err(RegroupFault::Line(number, error)),
+        Err(_) => Err(text_fault(text, number)),
+    }
+}
+
+/// Returns the fault of a text that does not parse. It keeps a prefix of the text, so it is made
+/// where nothing else waits for it.
+#[cold]
+#[inline(never)]
+fn text_fault(text: &[u8], number: u64) -> RegroupFault
+    ensures not_text { ¬ (IsUtf8 text.now) → fault_of result ≡ NotText number }
+    ensures refused { IsUtf8 text.now
+        → fault_of result ≡ Line number (ParseNumber (cut_text text.now)) }
+{
+    match str::from_utf8(text) {
+        Ok(text) => RegroupFault::Line(number, Error::from(ErrorKind::ParseNumber(cut(text)))),
+        Err(_) => RegroupFault::NotText(number),
     }
 }

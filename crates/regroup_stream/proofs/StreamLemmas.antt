@@ -1,21 +1,16 @@
 -- What the program ends with, after the lines were sent.
-use Rattle.std.proofs.Common.{◌≡◌, ℕ, Bool, true, List, [], ◌∷◌, Result, Ok, Err, if◌then◌else◌, refl, sym, subst, arith, length-append}
+use Rattle.std.proofs.Common.{◌≡◌, ℕ, Bool, true, List, [], ◌∷◌, Result, Ok, Err, if◌then◌else◌, refl, sym, subst, arith}
 use Rattle.std.specs.Prelude.{◌≢◌, Option, Some, IfOk, OnErr}
 use Rattle.std.specs.Io.KnownBytes.{Keeps}
 use Rattle.std.specs.Result.{result_and}
 use Rattle.std.proofs.KnownBytes.{Appends-kept}
 use Rattle.num_format.specs.Format.{FormatData}
 use Rattle.num_format.specs.Writing.{HasReceivedUpTo, StopsWithin}
-use Rattle.num_format.proofs.WritingLemmas.{HasReceivedUpTo-none, StopsWithin-none}
-use Rattle.regroup_commands.specs.Output.{line}
-use Rattle.regroup_commands.specs.Sending.{Sends}
+use Rattle.regroup_shared.specs.Sending.{Sends, line}
+use Rattle.regroup_shared.proofs.SendingLemmas.{HasReceivedUpTo-none}
 use Rattle.regroup_lines.specs.Fault.{Fault, message_of_fault}
 use Rattle.regroup_lines.specs.Sending.{Regroups}
 use Rattle.regroup_stream.specs.Stream.{Ends, Stops, is_of_line, most_lines, report}
-
--- a writer that nothing was written to stops within any line
-pub StopsWithin_no_line : (a : Option (List ℕ)) (text : List ℕ) → StopsWithin a a (line text)
-StopsWithin_no_line a text = StopsWithin-none a (line text) (omega (arith, length-append text (10 ∷ [])))
 
 -- what a writer received, after a flush
 StopsWithin-kept : (a b c : Option (List ℕ)) (text : List ℕ) → StopsWithin a b text → Keeps b c → StopsWithin a c text

@@ -1,7 +1,7 @@
 -- Words that are not two name no formats.
 use Rattle.std.proofs.Common.{◌≡◌, ℕ, ◌<◌, List, [], ◌∷◌, None, arith, length, refl}
 use Rattle.std.specs.Borrow.{Bor}
-use Rattle.regroup_commands.specs.Command.{texts}
+use Rattle.regroup_shared.specs.Words.{texts}
 use Rattle.regroup_stream.specs.Words.{formats_named}
 
 pub formats_named_few : (words : List (Bor (List ℕ))) → length words < 2 → None ≡ formats_named (texts words)

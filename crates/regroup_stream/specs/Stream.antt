@@ -3,7 +3,7 @@ use Rattle.std.specs.Prelude.{◌≡◌, ℕ, ◌-◌, ◌^◌, Bool, true, fals
 use Rattle.std.specs.Io.KnownBytes.{Appends}
 use Rattle.num_format.specs.Format.{FormatData}
 use Rattle.num_format.specs.Writing.{HasReceivedUpTo, StopsWithin}
-use Rattle.regroup_commands.specs.Output.{line}
+use Rattle.regroup_shared.specs.Sending.{line}
 use Rattle.regroup_lines.specs.Fault.{Fault, message_of_fault}
 use Rattle.regroup_lines.specs.Fault.Fault.{TooMany, TooLong, Read, NotText, Line, Write}
 use Rattle.regroup_lines.specs.Sending.{Regroups}

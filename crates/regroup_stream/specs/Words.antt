@@ -5,7 +5,7 @@ use Rattle.std.specs.Option.{option_map}
 use Rattle.std.specs.Result.{result_ok}
 use Rattle.num_format.specs.Format.{FormatData}
 use Rattle.num_format.specs.GroupingNames.{grouping_named}
-use Rattle.regroup_commands.specs.Output.{custom_format, locale_named}
+use Rattle.regroup_shared.specs.Formats.{custom_format, locale_named}
 
 -- the split before the first byte of a text: that of the bytes after it, or else that at the byte itself if it is a colon
 abbrev pub split_before : ℕ → List ℕ → Option (List ℕ × List ℕ) → Option (List ℕ × List ℕ)

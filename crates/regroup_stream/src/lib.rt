@@ -14,15 +14,15 @@ mod words;
 
 ghost use Rattle.std.specs.Prelude.{◌≡◌, ◌≢◌, [], Some, IfOk, OnOk, OnErr};
 ghost use Rattle.std.specs.Io.Buffered.{writer_buffer, writer_contents};
-ghost use Rattle.regroup_commands.specs.Command.{texts};
+ghost use Rattle.regroup_shared.specs.Words.{texts};
 ghost use Rattle.regroup_stream.specs.Stream.{Ends, Stops};
 ghost use Rattle.regroup_stream.specs.Words.{formats_named};
 
 use crate::fault::{is_of_line, send_fault};
 use crate::words::formats_named;
 use num_format::CustomFormat;
-use regroup_commands::send;
 use regroup_lines::regroup_at_most;
+use regroup_shared::send_line;
 use std::io;
 use std::io::{BufWriter, Read, Write};
 
@@ -39,7 +39,7 @@ pub const MISUSED: u8 = 2;
 pub const FAILED: u8 = 3;
 
 /// The message for words that do not name two formats.
-const USAGE: &str = "usage: regroup-lines FROM TO, each a locale or custom:SEP:GROUPING:MINUS\n";
+const USAGE: &str = "usage: regroup-lines FROM TO, each a locale or custom:SEP:GROUPING:MINUS";
 
 /// Regroups the lines of `input` from the format that the first word names to the one that the second
 /// names, and returns the exit status. `out` is flushed before it returns, but for [`MISUSED`].
@@ -76,7 +76,7 @@ pub fn run<R: Read + Drop, O: Write + Drop, E: Write>(
 {
     match formats_named(args) {
         Some((from, to)) => try_run(&from, &to, input, out, err).unwrap_or(FAILED),
-        None => match send(USAGE.as_bytes(), err) {
+        None => match send_line(USAGE, err) {
             Ok(()) => MISUSED,
             Err(_) => FAILED,
         },

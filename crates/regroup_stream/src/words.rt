@@ -1,11 +1,11 @@
 //! The formats that words name.
 ghost use Rattle.std.specs.Prelude.{◌≡◌};
 ghost use Rattle.std.specs.Option.{option_map};
-ghost use Rattle.regroup_commands.specs.Command.{texts};
+ghost use Rattle.regroup_shared.specs.Words.{texts};
 ghost use Rattle.regroup_stream.specs.Words.{custom_format_named, format_named, formats_named, split_last};
 
 use num_format::{CustomFormat, Grouping};
-use regroup_commands::{custom_format, locale_named};
+use regroup_shared::{custom_format, locale_named};
 
 /// Returns the two formats that the words name, or `None` where they are not two words, or one of them
 /// names no format.

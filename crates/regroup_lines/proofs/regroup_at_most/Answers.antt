@@ -6,6 +6,7 @@ use Rattle.regroup_lines.specs.Input.{EndsOrGoesOn, FindsPiece, IsInArray, held}
 use Rattle.regroup_lines.specs.Lines.{number_in_text}
 use Rattle.regroup_lines.specs.Sending.{SendsNumber}
 use Rattle.regroup_lines.proofs.LineLemmas.{Progress-next, Progress-none, Regroups-all, Regroups-empty, Regroups-last, Regroups-last_fault, Regroups-line, Regroups-long, Regroups-many, Regroups-read, Regroups-unread}
+use Rattle.regroup_lines.specs.declared.TheConstants.{MAX_LINE_LEN}
 use Rattle.regroup_lines.proofs.regroup_at_most.Goals as goal
 
 pub loop-count-init : goal.loop-count-init
@@ -16,7 +17,7 @@ returns-in_default g c =
     let few : c.loop-count.count < c.args.most = omega arith in
     let failed = c.in_default.ensures.failed in
     let input = c.next_piece.new.self in
-    let short : length (held input) ≤ 4096 = omega (arith, length-take {A = ℕ}, length-drop {A = ℕ}) in
+    let short : length (held input) ≤ MAX_LINE_LEN = omega (arith, length-take {A = ℕ}, length-drop {A = ℕ}) in
     Regroups-read _ _ _ _ _ _ few _ _ _ _ _ c.loop-count.invariant _ failed.0 failed.1 short refl
 
 pub bytes-requires-clause-ordered : goal.bytes-requires-clause-ordered

@@ -1,5 +1,5 @@
 use Rattle.std.proofs.Common.{rules}
-use Rattle.num_format.proofs.WritingLemmas.{OnErr-always}
+use Rattle.regroup_shared.proofs.SendingLemmas.{OnErr-always}
 use Rattle.regroup_stream.proofs.StreamLemmas.{Ends_regrouped, Ends_sent, Stops_sent, Stops_unreported, sent_without_failure}
 use Rattle.regroup_stream.proofs.try_run.Goals as goal
 

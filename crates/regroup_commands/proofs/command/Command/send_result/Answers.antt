@@ -1,4 +1,4 @@
-use Rattle.regroup_commands.proofs.LocaleLemmas.{names_fit}
+use Rattle.regroup_commands.proofs.NameLemmas.{names_fit}
 use Rattle.regroup_commands.proofs.command.Command.send_result.Goals as goal
 
 pub send_lines-requires : goal.send_lines-requires

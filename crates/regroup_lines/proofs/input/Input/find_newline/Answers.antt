@@ -1,5 +1,5 @@
 use Rattle.std.proofs.Common.{length, ap, arith, subst, sym}
-use Rattle.num_format.proofs.WritingLemmas.{OnErr-always}
+use Rattle.regroup_shared.proofs.SendingLemmas.{OnErr-always}
 use Rattle.regroup_lines.specs.Input.{HasNoNewline}
 use Rattle.regroup_lines.proofs.InputLemmas.{Reads-trans, newlines-searched, newlines-unread, searched_first, searched_none}
 use Rattle.regroup_lines.proofs.input.Input.find_newline.Goals as goal

@@ -13,15 +13,14 @@ use Rattle.num_format.specs.Cut.{cut_text}
 use Rattle.num_format.specs.Format.{FormatData}
 use Rattle.num_format.specs.Refusal.{ParseNumber, refusal_of}
 use Rattle.num_format.specs.Error.{Error}
-use Rattle.regroup_commands.specs.Output.{is_readable, number_read}
-use Rattle.regroup_commands.specs.Request.{fits_i128}
+use Rattle.regroup_shared.specs.Reading.{fits_i128, is_readable, number_read}
 
 -- the values of an i128 are the numbers that pass the test
 fits-from_value : (z : ℤ) → IsValueOf (signed 127 40) z → fits_i128 z ≡ true
 fits-from_value (pos n) value = (Decides-ltb n (2 ^ 127)).1 (let below = value.below in omega (arith, ints))
 fits-from_value (negsuc n) value = (Decides-ltb n (2 ^ 127)).1 (let above = value.above in omega (arith, ints))
 
-value-from_fits : (z : ℤ) → fits_i128 z ≡ true → IsValueOf (signed 127 40) z
+pub value-from_fits : (z : ℤ) → fits_i128 z ≡ true → IsValueOf (signed 127 40) z
 value-from_fits (pos n) fits = let within = (Decides-ltb n (2 ^ 127)).0 fits in record { above = omega (arith, ints); below = omega (arith, ints); zero = λ _. refl }
 value-from_fits (negsuc n) fits = let within = (Decides-ltb n (2 ^ 127)).0 fits in record { above = omega (arith, ints); below = omega (arith, ints); zero = λ _. refl }
 
@@ -54,7 +53,7 @@ module _ (format : FormatData) (text : List ℕ) where
       )
 
   -- a text that is refused does not
-  unreadable-from_refused : Refused (signed 127 40) format text → is_readable format text ≡ true → ⊥
+  pub unreadable-from_refused : Refused (signed 127 40) format text → is_readable format text ≡ true → ⊥
   unreadable-from_refused (Refused.no_digit none) readable = let some = (readable-Decides.0 readable).0 in absurd (omega (arith, ap length none))
   unreadable-from_refused (Refused.other_numeral some) readable = both_ways _ (not-true _ (readable-Decides.0 readable).1.0) some
   unreadable-from_refused (Refused.too_many_figures many) readable = let few = (readable-Decides.0 readable).1.1.0 in omega arith

@@ -1,0 +1,3 @@
+pub mod LocaleLemmas
+pub mod ReadingLemmas
+pub mod SendingLemmas

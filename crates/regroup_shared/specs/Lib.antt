@@ -1,0 +1,5 @@
+-- The definitions that the contracts of the programs share.
+pub mod Formats
+pub mod Reading
+pub mod Sending
+pub mod Words

@@ -1,0 +1,11 @@
+//! What the programs `regroup` and `regroup-lines` share: the formats that words name, and lines that
+//! are sent to a writer.
+//!
+//! Nothing here allocates.
+#![tactic(auto)]
+
+mod formats;
+mod sending;
+
+pub use crate::formats::{custom_format, locale_named};
+pub use crate::sending::{MAX_SENT_LEN, MAX_SENT_LINE_LEN, send_line, send_number};
