@@ -1,5 +1,6 @@
 -- The definitions that the contracts of this crate use.
 pub mod Command
+pub mod Laws
 pub mod Output
 pub mod Request
 pub mod Sending

@@ -33,6 +33,7 @@
 #![tactic(auto)]
 
 mod command;
+pub mod laws;
 mod sending;
 
 ghost use Rattle.std.specs.Prelude.{◌≡◌, ◌≢◌};

@@ -23,7 +23,7 @@ unfolding families members table_names
 length-table_names = refl
 
 -- the test decides whether the text spells the name
-is_spelling-Decides : (text name : List ℕ) → Decides (is_spelling text name) (Spells text name)
+pub is_spelling-Decides : (text name : List ℕ) → Decides (is_spelling text name) (Spells text name)
 is_spelling-Decides text name = Decides-or _ _ (bytes_eq-Decides text name) (bytes_eq-Decides text _)
 
 -- a result has one place

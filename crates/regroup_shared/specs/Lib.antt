@@ -1,5 +1,6 @@
 -- The definitions that the contracts of the programs share.
 pub mod Formats
+pub mod Laws
 pub mod Reading
 pub mod Sending
 pub mod Words

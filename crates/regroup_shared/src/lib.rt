@@ -5,6 +5,7 @@
 #![tactic(auto)]
 
 mod formats;
+pub mod laws;
 mod sending;
 
 pub use crate::formats::{custom_format, locale_named};

@@ -29,15 +29,19 @@ unfolding split_last
 split_last-at [] back without = ap (split_before 58 back) (split_last-none back without)
 split_last-at (b ∷ front) back without = ap (split_before b (front ++ 58 ∷ back)) (split_last-at front back without)
 
+-- a colon is in ASCII
+colon_ascii : 58 < 128
+colon_ascii = omega arith
+
 -- the definition is what `rsplit_once` returns
 pub split_last_from_rsplit_once : (text : List ℕ) (r : Option (Bor (List ℕ) × Bor (List ℕ))) →
     MatchOption r (RFindsChar 58 text None) (λ x. SplitsAroundMatch (RFindsChar 58) text x.0.now x.1.now) →
     option_map (λ parts. (parts.0.now, parts.1.now)) r ≡ split_last text
-split_last_from_rsplit_once text None none = sym (split_last-none text (λ i within is. NoCharPasses-char 58 text i none (omega arith) within is))
+split_last_from_rsplit_once text None none = sym (split_last-none text (λ i within is. NoCharPasses-char 58 text i none colon_ascii within is))
 split_last_from_rsplit_once text (Some x) splits =
-    let at : drop splits.0 text ≡ 58 ∷ drop splits.1 text = drop_at_char 58 text splits.0 splits.1 splits.2.1 (omega arith) in
+    let at : drop splits.0 text ≡ 58 ∷ drop splits.1 text = drop_at_char 58 text splits.0 splits.1 splits.2.1 colon_ascii in
     let without : (i : ℕ) → i < length (drop splits.1 text) → get_or (drop splits.1 text) i 0 ≢ 58 =
-    λ i within is. NoCharPasses-char 58 (drop splits.1 text) i splits.2.0 (omega arith) within is in
+    λ i within is. NoCharPasses-char 58 (drop splits.1 text) i splits.2.0 colon_ascii within is in
     let whole : take splits.0 text ++ 58 ∷ drop splits.1 text ≡ text =
     ap (λ l. take splits.0 text ++ l) (sym at) ∙ take-append-drop splits.0 text in
     let split : split_last text ≡ Some (take splits.0 text, drop splits.1 text) =

@@ -40,7 +40,6 @@ fn custom_format_named(fields: &str) -> Option<CustomFormat>
 }
 
 /// Returns what stands before the last colon, and what stands after it.
-#[tactic(auto, using(crate::proofs::SplitLemmas::split_last_from_rsplit_once))]
 fn split_last(text: &str) -> Option<(&str, &str)>
     ensures { option_map (λ parts. (parts.0.now, parts.1.now)) result ≡ split_last text.now }
 {
