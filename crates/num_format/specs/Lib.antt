@@ -2,6 +2,7 @@
 pub mod Constants
 pub use Rattle.num_format_text.specs.Cut
 pub use Rattle.num_format_text.specs.English
+pub use Rattle.num_format_text.specs.Equality
 pub use Rattle.num_format_text.specs.Format
 pub use Rattle.num_format_text.specs.GroupingNames
 pub use Rattle.num_format_text.specs.Refusal

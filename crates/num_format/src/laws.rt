@@ -10,4 +10,4 @@ pub use num_format_json::laws::json;
 pub use num_format_locale::laws::{
     found_by_name, name_order, spelled_once, variants_differ, well_formed_data,
 };
-pub use num_format_text::laws::symbol_capacities;
+pub use num_format_text::laws::{errors, groupings, stored_texts, symbol_capacities, texts};

@@ -55,9 +55,7 @@ fn print_under<F: Format, N: ToFormattedStr>(
 ) -> Result<i32, Status>
     ensures { Writes (text_of (F.answers format.now) (N.value number.now)) text.old text.new (returned result) }
 {
-    let mut buffer = Buffer::new();
-    buffer.write_formatted(number, format);
-    write(buffer.as_str(), text)
+    write(Buffer::of(number, format).as_str(), text)
 }
 
 /// Parses the text as a number of the type.

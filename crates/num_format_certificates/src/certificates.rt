@@ -47,8 +47,7 @@ fn number_reads_back<F: Format>(n: i128, format: &F) -> bool
     ensures same { IsTrue result ↔ ReadsBack (kind_of I128) (F.answers format.now) n }
     ensures utf8 { IsUtf8 (text_of (F.answers format.now) n) }
 {
-    let mut buffer = Buffer::new();
-    buffer.write_formatted(&n, format);
+    let buffer = Buffer::of(&n, format);
     let parsed: Result<i128, Error> = buffer.as_str().parse_formatted(format);
     parsed.is_ok_and(|number| number == n)
 }
@@ -84,9 +83,5 @@ pub fn prints_alike<F: Format, G: Format>(f: &F, g: &G) -> bool
 fn prints_same<F: Format, G: Format>(n: i32, f: &F, g: &G) -> bool
     ensures { IsTrue result ↔ (text_of (F.answers f.now) n ≡ text_of (G.answers g.now) n) }
 {
-    let mut first = Buffer::new();
-    let mut second = Buffer::new();
-    first.write_formatted(&n, f);
-    second.write_formatted(&n, g);
-    first.as_str() == second.as_str()
+    Buffer::of(&n, f).as_str() == Buffer::of(&n, g).as_str()
 }

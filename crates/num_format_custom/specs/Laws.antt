@@ -1,5 +1,5 @@
 -- Laws of formats of one's own and of their builder.
-use Rattle.std.specs.Prelude.{◌≡◌, codes, List, ◌↔◌, Bool, IsTrue, fold, ℤ, Ok}
+use Rattle.std.specs.Prelude.{◌≡◌, codes, List, fold, ℤ, Ok}
 use Rattle.num_format_text.specs.English.{english}
 use Rattle.num_format_text.specs.Format.{FormatData}
 use Rattle.num_format_int.specs.Text.{text_of}
@@ -21,8 +21,3 @@ pub record BuildingLaw : Type 0 where
 pub record CustomFormatLaw : Type 0 where
   pub same : (f : FormatData) → built (choices_of f) ≡ Ok f
   pub alike : (f g : FormatData) → f.grouping ≡ g.grouping → f.minus_sign ≡ g.minus_sign → f.separator ≡ g.separator → (z : ℤ) → text_of f z ≡ text_of g z
-
--- what a type's `==` and `clone` say: values are equal exactly if a contract sees the same, and a clone equals its source
-pub record EqualityLaw {X : Type 0} (eq : X → X → Bool) (is_clone : X → X → Type 0) : Type 0 where
-  pub equal : (x y : X) → IsTrue (eq x y) ↔ (x ≡ y)
-  pub clone : (x y : X) → is_clone x y → y ≡ x

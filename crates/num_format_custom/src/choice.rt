@@ -30,8 +30,12 @@ impl<const CAP: usize> Choice<CAP> {
     pub(crate) fn new(text: &str) -> Choice<CAP>
         ensures { result ≡ chosen CAP text.now }
     {
-        Choice {
-            text: BoundedString::new(text).map_err(|_| text.len()),
+        if text.len() <= CAP {
+            Choice::from(BoundedString::of(text))
+        } else {
+            Choice {
+                text: Err(text.len()),
+            }
         }
     }
 

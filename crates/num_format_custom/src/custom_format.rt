@@ -93,7 +93,7 @@ impl CustomFormat {
     pub fn builder() -> CustomFormatBuilder
         ensures { result ≡ choices_of english }
     {
-        CustomFormatBuilder::new()
+        CustomFormatBuilder::from(CustomFormat::default())
     }
 
     /// Returns a builder that starts with the data of this format.
@@ -107,7 +107,7 @@ impl CustomFormat {
         CustomFormatBuilder::from(self)
     }
 
-    /// Returns the decimal mark, of at most 8 bytes.
+    /// Returns the decimal mark, of at most [`MAX_DEC_LEN`] bytes.
     pub fn decimal(&self) -> &str
         ensures same { result.now ≡ self.now.decimal }
         ensures fits { length result.now ≤ MAX_DEC_LEN }
@@ -122,7 +122,7 @@ impl CustomFormat {
         self.grouping
     }
 
-    /// Returns the text for infinity, of at most 128 bytes.
+    /// Returns the text for infinity, of at most [`MAX_INF_LEN`] bytes.
     pub fn infinity(&self) -> &str
         ensures same { result.now ≡ self.now.infinity }
         ensures fits { length result.now ≤ MAX_INF_LEN }
@@ -130,7 +130,7 @@ impl CustomFormat {
         self.infinity.as_str()
     }
 
-    /// Returns the minus sign, of at most 8 bytes.
+    /// Returns the minus sign, of at most [`MAX_MIN_LEN`] bytes.
     pub fn minus_sign(&self) -> &str
         ensures same { result.now ≡ self.now.minus_sign }
         ensures fits { length result.now ≤ MAX_MIN_LEN }
@@ -138,7 +138,7 @@ impl CustomFormat {
         self.minus_sign.as_str()
     }
 
-    /// Returns the text for NaN, of at most 64 bytes.
+    /// Returns the text for NaN, of at most [`MAX_NAN_LEN`] bytes.
     pub fn nan(&self) -> &str
         ensures same { result.now ≡ self.now.nan }
         ensures fits { length result.now ≤ MAX_NAN_LEN }
@@ -146,7 +146,7 @@ impl CustomFormat {
         self.nan.as_str()
     }
 
-    /// Returns the plus sign, of at most 8 bytes.
+    /// Returns the plus sign, of at most [`MAX_PLUS_LEN`] bytes.
     pub fn plus_sign(&self) -> &str
         ensures same { result.now ≡ self.now.plus_sign }
         ensures fits { length result.now ≤ MAX_PLUS_LEN }
@@ -154,7 +154,7 @@ impl CustomFormat {
         self.plus_sign.as_str()
     }
 
-    /// Returns the separator between groups of digits, of at most 8 bytes.
+    /// Returns the separator between groups of digits, of at most [`MAX_SEP_LEN`] bytes.
     pub fn separator(&self) -> &str
         ensures same { result.now ≡ self.now.separator }
         ensures fits { length result.now ≤ MAX_SEP_LEN }
@@ -168,7 +168,15 @@ impl Default for CustomFormat {
 
     /// Returns the format with the data of the locale `en`.
     fn default() -> CustomFormat {
-        CustomFormat::builder().build().unwrap()
+        CustomFormat {
+            decimal: BoundedString::of("."),
+            grouping: Grouping::Standard,
+            infinity: BoundedString::of("∞"),
+            minus_sign: BoundedString::of("-"),
+            nan: BoundedString::of("NaN"),
+            plus_sign: BoundedString::of("+"),
+            separator: BoundedString::of(","),
+        }
     }
 }
 
@@ -185,7 +193,7 @@ impl Format for CustomFormat {
     ghost answers = { λ f. f };
 
     fn decimal(&self) -> DecimalStr<'_> {
-        DecimalStr::of(self.decimal())
+        self.decimal.as_bounded()
     }
 
     fn grouping(&self) -> Grouping {
@@ -193,22 +201,22 @@ impl Format for CustomFormat {
     }
 
     fn infinity(&self) -> InfinityStr<'_> {
-        InfinityStr::of(self.infinity())
+        self.infinity.as_bounded()
     }
 
     fn minus_sign(&self) -> MinusSignStr<'_> {
-        MinusSignStr::of(self.minus_sign())
+        self.minus_sign.as_bounded()
     }
 
     fn nan(&self) -> NanStr<'_> {
-        NanStr::of(self.nan())
+        self.nan.as_bounded()
     }
 
     fn plus_sign(&self) -> PlusSignStr<'_> {
-        PlusSignStr::of(self.plus_sign())
+        self.plus_sign.as_bounded()
     }
 
     fn separator(&self) -> SeparatorStr<'_> {
-        SeparatorStr::of(self.separator())
+        self.separator.as_bounded()
     }
 }

@@ -1,7 +1,6 @@
 //! A builder of custom formats.
 ghost use Rattle.std.specs.Prelude.{◌≡◌};
 ghost use Rattle.num_format_custom.specs.Building.{SetDecimal, SetFormat, SetGrouping, SetInfinity, SetMinusSign, SetNan, SetPlusSign, SetSeparator, after_call, built, choices_of};
-ghost use Rattle.num_format_text.specs.English.{english};
 ghost use Rattle.num_format_locale.specs.Data.{locale_data};
 
 use crate::choice::Choice;
@@ -12,27 +11,6 @@ use num_format_text::capacities::{
 };
 use num_format_text::{Error, Format, Grouping};
 use std::marker::Model;
-
-/// The decimal mark of the locale `en`.
-const DECIMAL: &str = ".";
-
-/// The grouping of the locale `en`.
-const GROUPING: Grouping = Grouping::Standard;
-
-/// The text for infinity of the locale `en`.
-const INFINITY: &str = "∞";
-
-/// The minus sign of the locale `en`.
-const MINUS_SIGN: &str = "-";
-
-/// The text for NaN of the locale `en`.
-const NAN: &str = "NaN";
-
-/// The plus sign of the locale `en`.
-const PLUS_SIGN: &str = "+";
-
-/// The separator of the locale `en`.
-const SEPARATOR: &str = ",";
 
 /// A builder of a [`CustomFormat`]. A contract sees in each field a value, or the length of a text
 /// that is too long.
@@ -86,22 +64,7 @@ impl Model for CustomFormatBuilder {
 }
 
 impl CustomFormatBuilder {
-    /// Returns a builder that starts with the data of the locale `en`.
-    pub(crate) fn new() -> CustomFormatBuilder
-        ensures { result ≡ choices_of english }
-    {
-        CustomFormatBuilder {
-            decimal: Choice::new(DECIMAL),
-            grouping: GROUPING,
-            infinity: Choice::new(INFINITY),
-            minus_sign: Choice::new(MINUS_SIGN),
-            nan: Choice::new(NAN),
-            plus_sign: Choice::new(PLUS_SIGN),
-            separator: Choice::new(SEPARATOR),
-        }
-    }
-
-    /// Sets the decimal mark, of at most 8 bytes.
+    /// Sets the decimal mark, of at most [`MAX_DEC_LEN`] bytes.
     pub fn decimal(self, text: &str) -> CustomFormatBuilder
         ensures { result ≡ after_call self (SetDecimal text.now) }
     {
@@ -118,7 +81,7 @@ impl CustomFormatBuilder {
         CustomFormatBuilder { grouping, ..self }
     }
 
-    /// Sets the text for infinity, of at most 128 bytes.
+    /// Sets the text for infinity, of at most [`MAX_INF_LEN`] bytes.
     pub fn infinity(self, text: &str) -> CustomFormatBuilder
         ensures { result ≡ after_call self (SetInfinity text.now) }
     {
@@ -128,7 +91,7 @@ impl CustomFormatBuilder {
         }
     }
 
-    /// Sets the minus sign, of at most 8 bytes.
+    /// Sets the minus sign, of at most [`MAX_MIN_LEN`] bytes.
     pub fn minus_sign(self, text: &str) -> CustomFormatBuilder
         ensures { result ≡ after_call self (SetMinusSign text.now) }
     {
@@ -138,7 +101,7 @@ impl CustomFormatBuilder {
         }
     }
 
-    /// Sets the text for NaN, of at most 64 bytes.
+    /// Sets the text for NaN, of at most [`MAX_NAN_LEN`] bytes.
     pub fn nan(self, text: &str) -> CustomFormatBuilder
         ensures { result ≡ after_call self (SetNan text.now) }
     {
@@ -148,7 +111,7 @@ impl CustomFormatBuilder {
         }
     }
 
-    /// Sets the plus sign, of at most 8 bytes.
+    /// Sets the plus sign, of at most [`MAX_PLUS_LEN`] bytes.
     pub fn plus_sign(self, text: &str) -> CustomFormatBuilder
         ensures { result ≡ after_call self (SetPlusSign text.now) }
     {
@@ -158,7 +121,7 @@ impl CustomFormatBuilder {
         }
     }
 
-    /// Sets the separator between groups of digits, of at most 8 bytes.
+    /// Sets the separator between groups of digits, of at most [`MAX_SEP_LEN`] bytes.
     pub fn separator(self, text: &str) -> CustomFormatBuilder
         ensures { result ≡ after_call self (SetSeparator text.now) }
     {
@@ -176,13 +139,7 @@ impl CustomFormatBuilder {
     pub fn format<F: Format>(self, format: &F) -> CustomFormatBuilder
         ensures { result ≡ after_call self (SetFormat (F.answers format.now)) }
     {
-        self.decimal(format.decimal().into_str())
-            .grouping(format.grouping())
-            .infinity(format.infinity().into_str())
-            .minus_sign(format.minus_sign().into_str())
-            .nan(format.nan().into_str())
-            .plus_sign(format.plus_sign().into_str())
-            .separator(format.separator().into_str())
+        CustomFormatBuilder::from(CustomFormat::of(format))
     }
 
     /// Returns the format with the last value of each field.
@@ -191,7 +148,7 @@ impl CustomFormatBuilder {
     ///
     /// Returns the error of the first field whose last text was refused, in the order decimal
     /// mark, infinity, minus sign, NaN, plus sign, separator. It is an
-    /// [`ErrorKind::Capacity`](crate::ErrorKind::Capacity), with both lengths in bytes.
+    /// [`ErrorKind::Capacity`](num_format_text::ErrorKind::Capacity), with both lengths in bytes.
     pub fn build(self) -> Result<CustomFormat, Error>
         ensures { result ≡ built self }
     {
@@ -229,6 +186,6 @@ impl From<Locale> for CustomFormatBuilder {
 
     /// Returns a builder that starts with the data of the locale.
     fn from(locale: Locale) -> CustomFormatBuilder {
-        CustomFormatBuilder::new().format(&locale)
+        CustomFormatBuilder::from(CustomFormat::of(&locale))
     }
 }

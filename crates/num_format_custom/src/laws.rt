@@ -2,7 +2,8 @@
 //!
 //! The contract of each function is a law. There is nothing to compute, so the bodies are empty.
 //! A caller that needs a law in a proof calls its function.
-ghost use Rattle.num_format_custom.specs.Laws.{BuildingLaw, CustomFormatLaw, EnglishLaw, EqualityLaw};
+ghost use Rattle.num_format_custom.specs.Laws.{BuildingLaw, CustomFormatLaw, EnglishLaw};
+ghost use Rattle.num_format_text.specs.Equality.{EqualityLaw};
 
 use crate::custom_format::CustomFormat;
 use crate::custom_format_builder::CustomFormatBuilder;
@@ -25,8 +26,8 @@ pub fn custom_formats()
 {}
 
 /// By `==`, two formats are equal exactly if all their data are, and two builders exactly if they have
-/// the same in each field. A clone is equal to its source.
+/// the same in each field. A clone is equal to its source, and needs no memory.
 pub fn equality()
-    ensures formats { EqualityLaw ⟦<CustomFormat as PartialEq>⟧.eq ⟦<CustomFormat as Clone>⟧.is_clone }
-    ensures builders { EqualityLaw ⟦<CustomFormatBuilder as PartialEq>⟧.eq ⟦<CustomFormatBuilder as Clone>⟧.is_clone }
+    ensures formats { EqualityLaw (λ x. x) ⟦<CustomFormat as PartialEq>⟧.eq ⟦<CustomFormat as Clone>⟧.is_clone ⟦<CustomFormat as Clone>⟧.is_infallible }
+    ensures builders { EqualityLaw (λ x. x) ⟦<CustomFormatBuilder as PartialEq>⟧.eq ⟦<CustomFormatBuilder as Clone>⟧.is_clone ⟦<CustomFormatBuilder as Clone>⟧.is_infallible }
 {}

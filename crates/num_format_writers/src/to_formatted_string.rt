@@ -72,10 +72,9 @@ impl<N: ToFormattedStr> ToFormattedString for N {
         w: &mut W,
         format: &F,
     ) -> Result<usize, fmt::Error> {
-        let mut buffer = Buffer::new();
-        let count = self.read_to_buffer(&mut buffer, format);
+        let buffer = Buffer::of(self, format);
         w.write_str(buffer.as_str())?;
-        Ok(count)
+        Ok(buffer.len())
     }
 
     fn read_to_io_writer<F: Format, W: io::Write>(
@@ -83,8 +82,7 @@ impl<N: ToFormattedStr> ToFormattedString for N {
         w: &mut W,
         format: &F,
     ) -> Result<usize, io::Error> {
-        let mut buffer = Buffer::new();
-        self.read_to_buffer(&mut buffer, format);
+        let buffer = Buffer::of(self, format);
         write_whole(buffer.as_bytes(), w)
     }
 
@@ -93,8 +91,7 @@ impl<N: ToFormattedStr> ToFormattedString for N {
         alloc: Global,
         format: &F,
     ) -> Result<String, AllocError> {
-        let mut buffer = Buffer::new();
-        self.read_to_buffer(&mut buffer, format);
+        let buffer = Buffer::of(self, format);
         String::from_str(alloc, buffer.as_str())
     }
 }

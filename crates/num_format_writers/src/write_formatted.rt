@@ -28,7 +28,7 @@ ghost use Rattle.num_format_int.specs.Text.{text_of};
 ghost use Rattle.num_format_writers.specs.Writing.{Writes};
 
 use crate::to_formatted_string::ToFormattedString;
-use num_format_int::{Buffer, ToFormattedStr};
+use num_format_int::Buffer;
 use num_format_text::Format;
 use std::boxed::BoxedSlice;
 use std::fs::File;
@@ -95,10 +95,9 @@ impl WriteFormatted for String {
             < string_len self.old + length (text_of (F.answers format.now) (N.value n.now))) }
         ensures kind { IfErr result (λ error. error_kind error ≡ OutOfMemory) }
     {
-        let mut buffer = Buffer::new();
-        let count = n.read_to_buffer(&mut buffer, format);
+        let buffer = Buffer::of(n, format);
         self.push_str(buffer.as_str())?;
-        Ok(count)
+        Ok(buffer.len())
     }
 }
 
@@ -124,10 +123,9 @@ impl WriteFormatted for Vec<u8> {
             < vec_len self.old + length (text_of (F.answers format.now) (N.value n.now))) }
         ensures kind { IfErr result (λ error. error_kind error ≡ OutOfMemory) }
     {
-        let mut buffer = Buffer::new();
-        let count = n.read_to_buffer(&mut buffer, format);
+        let buffer = Buffer::of(n, format);
         self.extend_from_slice(buffer.as_bytes())?;
-        Ok(count)
+        Ok(buffer.len())
     }
 }
 
@@ -212,10 +210,9 @@ impl WriteFormatted for Cursor<Vec<u8>> {
         ensures unmoved { OnErr result (cursor_position self.new ≡ cursor_position self.old) }
         ensures kind { IfErr result (λ error. error_kind error ≡ OutOfMemory) }
     {
-        let mut buffer = Buffer::new();
-        let count = n.read_to_buffer(&mut buffer, format);
+        let buffer = Buffer::of(n, format);
         self.write(buffer.as_bytes())?;
-        Ok(count)
+        Ok(buffer.len())
     }
 }
 
@@ -239,10 +236,9 @@ impl WriteFormatted for Cursor<&mut Vec<u8>> {
         ensures unmoved { OnErr result (cursor_position self.new ≡ cursor_position self.old) }
         ensures kind { IfErr result (λ error. error_kind error ≡ OutOfMemory) }
     {
-        let mut buffer = Buffer::new();
-        let count = n.read_to_buffer(&mut buffer, format);
+        let buffer = Buffer::of(n, format);
         self.write(buffer.as_bytes())?;
-        Ok(count)
+        Ok(buffer.len())
     }
 }
 
@@ -272,10 +268,9 @@ impl WriteFormatted for Cursor<&mut [u8]> {
             → (cursor_inner self.new).now ≡ replace_range (cursor_inner self.old).now
             (cursor_position self.old) (cursor_position self.old + length prefix) prefix }
     {
-        let mut buffer = Buffer::new();
-        let count = n.read_to_buffer(&mut buffer, format);
+        let buffer = Buffer::of(n, format);
         let written = self.write(buffer.as_bytes())?;
-        all_written(written, count)
+        all_written(written, buffer.len())
     }
 }
 
@@ -301,10 +296,9 @@ impl WriteFormatted for Cursor<BoxedSlice<u8>> {
             let prefix = take space (text_of (F.answers format.now) (N.value n.now)) in
             cursor_position self.new ≡ u64_saturate (cursor_position self.old + length prefix) }
     {
-        let mut buffer = Buffer::new();
-        let count = n.read_to_buffer(&mut buffer, format);
+        let buffer = Buffer::of(n, format);
         let written = self.write(buffer.as_bytes())?;
-        all_written(written, count)
+        all_written(written, buffer.len())
     }
 }
 
@@ -330,10 +324,9 @@ impl WriteFormatted for &mut [u8] {
         ensures remaining_space { self.new.now
             ≡ drop (length (text_of (F.answers format.now) (N.value n.now))) self.old.now }
     {
-        let mut buffer = Buffer::new();
-        let count = n.read_to_buffer(&mut buffer, format);
+        let buffer = Buffer::of(n, format);
         let written = self.write(buffer.as_bytes())?;
-        all_written(written, count)
+        all_written(written, buffer.len())
     }
 }
 
@@ -378,9 +371,7 @@ impl WriteFormatted for Sink {
             (text_of (F.answers format.now) (N.value n.now)) }
         ensures ok { IsOk result }
     {
-        let mut buffer = Buffer::new();
-        n.read_to_buffer(&mut buffer, format);
-        self.write(buffer.as_bytes())
+        self.write(Buffer::of(n, format).as_bytes())
     }
 }
 

@@ -35,8 +35,7 @@ impl fmt::Display for Money {
             ""
         };
         let magnitude = self.minor_units.unsigned_abs();
-        let mut units = Buffer::new();
-        units.write_formatted(&(magnitude / 100), &self.locale);
+        let units = Buffer::of(&(magnitude / 100), &self.locale);
         let mark = self.locale.decimal();
         let rest = magnitude % 100;
         let (tens, ones) = (rest / 10, rest % 10);

@@ -57,6 +57,7 @@ returns-clause-formats c = record {
     λ p. search (rules, text_same-itself),
   );
   clone = λ x y k. search rules;
+  never_refused = λ x. search rules depth 12;
 }
 
 pub returns-clause-builders : goal.returns-clause-builders
@@ -82,4 +83,5 @@ returns-clause-builders c = record {
     λ p. search (rules, same-itself),
   );
   clone = λ x y k. search rules;
+  never_refused = λ x. search rules depth 12;
 }
