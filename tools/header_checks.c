@@ -141,7 +141,9 @@ static void check_groupings(void) {
     num_format format;
     CHECK(num_format_custom(&format, ",", 1, 1, "-", 1), 0);
     for (size_t i = 0; i < sizeof refused / sizeof *refused; i++) {
-        CHECK(num_format_custom(&format, ".", 1, refused[i], "-", 1), -7);
+        char name[32];
+        snprintf(name, sizeof name, "grouping %lu", (unsigned long)refused[i]);
+        compare(name, num_format_custom(&format, ".", 1, refused[i], "-", 1), -7);
         check_text(&format, 1000, "1,000");
         format.grouping = (uint8_t)refused[i];
         int is_read = 1 <= format.grouping && format.grouping <= 5;

@@ -15,7 +15,8 @@ MADE = [".git", "out", "target", "__pycache__"]
 # The crate of the library for C.
 LIBRARY = "num_format_c"
 
-# What `rt ci` says of a must-fail edit that the prover refused, and its last line.
+# What `rt ci` says of a crate that is proved, of a must-fail edit that the prover refused, and its last line.
+PROVED = re.compile(r"rt: (\w+) proved\n")
 REFUSED = re.compile(r"rt: must-fail (\S+)/(\S+)\.edit: refused, as it must be: (.*)\n")
 COUNTED = re.compile(r"(\d+) passed, (\d+) failed\n")
 
@@ -41,11 +42,16 @@ def prove(tally, copy):
     """Runs `rt ci`, and adds what its last line counts. Builds the library for C meanwhile."""
     heading("rt ci")
     how = {"env": {**os.environ, "PYTHONUNBUFFERED": "1"}, "errors": "replace"}
+    crates = read_crates(copy)
+    lacking = set(crates[LIBRARY]) & set(crates)
     line, building = "", None
     with subprocess.Popen(["rt", "ci"], cwd=copy, stdout=subprocess.PIPE, text=True, **how) as ci:
         for line in ci.stdout:
             print(tidy(line, copy / "crates"), end="", flush=True)
-            if line == f"rt: {LIBRARY} proved\n":
+            proved = PROVED.fullmatch(line)
+            if proved:
+                lacking.discard(proved[1])
+            if not lacking and not building:
                 building = start_library(copy, stdout=subprocess.DEVNULL)
     counted = COUNTED.fullmatch(line)
     passed, failed = map(int, counted.groups()) if counted else (0, 0)
