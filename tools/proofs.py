@@ -44,6 +44,7 @@ def prove(tally, copy):
     how = {"env": {**os.environ, "PYTHONUNBUFFERED": "1"}, "errors": "replace"}
     crates = read_crates(copy)
     lacking = set(crates[LIBRARY]) & set(crates)
+    quiet = {"stdout": subprocess.DEVNULL, "stderr": subprocess.DEVNULL}
     line, building = "", None
     with subprocess.Popen(["rt", "ci"], cwd=copy, stdout=subprocess.PIPE, text=True, **how) as ci:
         for line in ci.stdout:
@@ -52,7 +53,7 @@ def prove(tally, copy):
             if proved:
                 lacking.discard(proved[1])
             if not lacking and not building:
-                building = start_library(copy, stdout=subprocess.DEVNULL)
+                building = start_library(copy, **quiet)
     counted = COUNTED.fullmatch(line)
     passed, failed = map(int, counted.groups()) if counted else (0, 0)
     tally.passed += passed
