@@ -79,7 +79,7 @@ def tidy(line, crates):
 def goal(error, source):
     """The function and the goal of an error, or the error itself where it has none."""
     in_code, in_proof = IN_CODE.match(error), IN_PROOF.match(error)
-    if in_code:
+    if in_code and (source / f"{in_code[1]}.rt").is_file():
         module, number, name = in_code.groups()
         lines = (source / f"{module}.rt").read_text(encoding="utf-8").splitlines()
         prefix = "" if module in ("lib", "main") else f"{module}::"
