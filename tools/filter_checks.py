@@ -60,6 +60,8 @@ MISUSES = [
     [],
     ["en"],
     ["en", "de", "fr"],
+    ["", "en", "de"],
+    ["--", "en", "de"],
     ["xx", "de"],
     ["en", "xx"],
     ["en", ""],
@@ -82,6 +84,7 @@ FAILURES = [
 # The lines before a fault, each `1`, what stands after them, and the message.
 FAULTS = [
     (999_999, b"x", b"line 1000000: " + unparsed(b"x")),
+    (999_999, 300 * b"a", b"line 1000000: " + unparsed(256 * b"a")),
     (1_000_000, b"x\n", b"line 1000001: " + unparsed(b"x")),
     (1_000_000, b"\n", b"line 1000001: " + unparsed(b"")),
     (1_000_000, b"\xff\n1\n", b"line 1000001: " + NOT_TEXT),
@@ -125,6 +128,15 @@ def check_words(tally, program):
     for words in MISUSES:
         compare(tally, repr(words), regroup(program, words, b"1\n"), 2, b"", USAGE)
     compare(tally, "a word not in UTF-8", regroup(program, ["en", b"\xff"], b"1\n"), 3, b"", b"")
+    check_open_input(tally, program)
+
+
+def check_open_input(tally, program):
+    """Words that do not name two formats end the program before it reads, so an open input is no matter."""
+    how = {"stdin": subprocess.PIPE, "stdout": subprocess.PIPE, "stderr": subprocess.PIPE}
+    with subprocess.Popen([program, "en"], **how) as ended:
+        found = (ended.stderr.read(), ended.stdout.read(), ended.wait(RUN_SECONDS))
+    tally.compare("an input that stays open", found, (USAGE, b"", 2))
 
 
 def check_failures(tally, program):

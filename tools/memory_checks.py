@@ -1,4 +1,4 @@
-"""Refuses each request for memory of `regroup` and of the tests of memory in turn.
+"""Refuses each request for memory of the programs and of the tests of memory in turn.
 
 tools/refuse_memory.c refuses them. A C compiler builds it: where there is none, the checks are skipped.
 """
@@ -7,6 +7,7 @@ import re
 import tempfile
 from pathlib import Path
 
+import filter_checks
 from regroup_checks import COMMANDS, FAILED
 from tally import CC, ROOT, heading, run, shown
 
@@ -23,8 +24,16 @@ REFUSE_MEMORY = ROOT / "tools" / "refuse_memory.c"
 MANY_REQUESTS = 100
 
 
-def check_all(tally, programs, tests):
-    """Refuses each request for memory of the programs, and of the tests of memory of that file, in turn."""
+# Words of `regroup-lines`, without input, the status, standard output and standard error.
+FILTER_COMMANDS = [
+    (["en", "de"], 0, "", ""),
+    (["en", "custom:,:Indian:-"], 0, "", ""),
+    (["en"], 2, "", filter_checks.USAGE.decode()),
+]
+
+
+def check_all(tally, programs, filters, tests):
+    """Refuses each request for memory of `regroup`, of `regroup-lines` and of the tests of that file in turn."""
     heading("memory refused at each request in turn")
     if tally.lacks(CC, "memory refused"):
         return
@@ -36,13 +45,15 @@ def check_all(tally, programs, tests):
         if not library.is_file():
             return
         for program in programs:
-            refuse_to_program(tally, library, program)
+            refuse_to_program(tally, library, program, COMMANDS)
+        for program in filters:
+            refuse_to_program(tally, library, program, FILTER_COMMANDS)
         refuse_to_tests(tally, library, tests)
 
 
-def refuse_to_program(tally, library, program):
+def refuse_to_program(tally, library, program, commands):
     """The program ends as with memory, or prints nothing and ends with status 3."""
-    for words, status, out, err in COMMANDS:
+    for words, status, out, err in commands:
         whole = (status, out.encode(), err.encode())
         name = f"{program.name} {shown(words)}"
         refuse_each(tally, library, name, [program, *words], whole, [whole, FAILED])

@@ -16,8 +16,8 @@ In this order:
 4. tools/program_checks.py runs test_streams with such outputs, test_oracle with cases of
    each kind but one, and test_properties with each property negated.
 5. tools/filter_checks.py runs `regroup-lines` on good, bad and long input.
-6. tools/memory_checks.py runs `regroup` and each test of memory as often as it makes requests for
-   memory, each time with another one refused.
+6. tools/memory_checks.py runs `regroup`, `regroup-lines` and each test of memory as often as it makes
+   requests for memory, each time with another one refused.
 7. tools/library_checks.py runs the programs of examples/ over the library for C, which was built beside
    `rt ci`, and holds it to its header.
 
@@ -88,7 +88,8 @@ def check_programs(tally, top, compilers):
             heading(program.name)
             check(tally, program)
     tests = crates / memory_checks.CRATE / "out" / f"{memory_checks.CRATE}_tests"
-    memory_checks.check_all(tally, built["regroup"], tests)
+    filters = built[filter_checks.CRATE.name]
+    memory_checks.check_all(tally, built["regroup"], filters, tests)
 
 
 def builds(tally, crate, compilers):

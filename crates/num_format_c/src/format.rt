@@ -96,9 +96,9 @@ impl<'a> Held<'a> {
         let separator = text_at(&format.separator, format.separator_len);
         let minus_sign = text_at(&format.minus_sign, format.minus_sign_len);
         Some(Held {
-            separator: SeparatorStr::new(separator).unwrap(),
+            separator: SeparatorStr::of(separator),
             grouping,
-            minus_sign: MinusSignStr::new(minus_sign).unwrap(),
+            minus_sign: MinusSignStr::of(minus_sign),
         })
     }
 }
@@ -181,7 +181,7 @@ impl<'a> Format for Held<'a> {
     ghost answers = { λ h. format_with h.separator h.grouping h.minus_sign };
 
     fn decimal(&self) -> DecimalStr<'_> {
-        DecimalStr::new(".").unwrap()
+        DecimalStr::of(".")
     }
 
     fn grouping(&self) -> Grouping {
@@ -189,22 +189,22 @@ impl<'a> Format for Held<'a> {
     }
 
     fn infinity(&self) -> InfinityStr<'_> {
-        InfinityStr::new("∞").unwrap()
+        InfinityStr::of("∞")
     }
 
     fn minus_sign(&self) -> MinusSignStr<'_> {
-        self.minus_sign.clone().unwrap()
+        self.minus_sign.copied()
     }
 
     fn nan(&self) -> NanStr<'_> {
-        NanStr::new("NaN").unwrap()
+        NanStr::of("NaN")
     }
 
     fn plus_sign(&self) -> PlusSignStr<'_> {
-        PlusSignStr::new("+").unwrap()
+        PlusSignStr::of("+")
     }
 
     fn separator(&self) -> SeparatorStr<'_> {
-        self.separator.clone().unwrap()
+        self.separator.copied()
     }
 }

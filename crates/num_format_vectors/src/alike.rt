@@ -68,7 +68,7 @@ fn built_formats(rt: HostRuntime) -> Result<(), Fail> {
 
 /// Writes a number under the second format, if both print alike. The text is that under the first,
 /// which is proved from the contracts, as for any caller.
-#[tactic(auto, using(num_format::proofs::AlikeLemmas::alike_texts))]
+#[tactic(auto, using(num_format_certificates::proofs::AlikeLemmas::alike_texts))]
 fn written_under_second<F: Format, G: Format>(
     n: u64,
     first: &F,

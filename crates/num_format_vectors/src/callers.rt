@@ -10,7 +10,7 @@ use std::io::Write;
 
 /// Writes two numbers, one after the other. On an error the writer received a prefix of both texts
 /// together, and not all of it.
-#[tactic(auto, using(num_format::proofs::WritingLemmas::StopsWithin_prefix, num_format::proofs::WritingLemmas::StopsWithin_suffix))]
+#[tactic(auto, using(num_format_writers::proofs::WritingLemmas::StopsWithin_prefix, num_format_writers::proofs::WritingLemmas::StopsWithin_suffix))]
 pub fn write_both<N: ToFormattedString, F: Format, W: Write>(
     w: &mut W,
     first: &N,

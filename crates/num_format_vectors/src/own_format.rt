@@ -23,7 +23,7 @@ impl Format for Sevens {
     ghost answers = { λ f. sevens f.grouping };
 
     fn decimal(&self) -> DecimalStr<'_> {
-        DecimalStr::new(".").unwrap()
+        DecimalStr::of(".")
     }
 
     fn grouping(&self) -> Grouping {
@@ -31,23 +31,23 @@ impl Format for Sevens {
     }
 
     fn infinity(&self) -> InfinityStr<'_> {
-        InfinityStr::new("∞").unwrap()
+        InfinityStr::of("∞")
     }
 
     fn minus_sign(&self) -> MinusSignStr<'_> {
-        MinusSignStr::new("17").unwrap()
+        MinusSignStr::of("17")
     }
 
     fn nan(&self) -> NanStr<'_> {
-        NanStr::new("NaN").unwrap()
+        NanStr::of("NaN")
     }
 
     fn plus_sign(&self) -> PlusSignStr<'_> {
-        PlusSignStr::new("+").unwrap()
+        PlusSignStr::of("+")
     }
 
     fn separator(&self) -> SeparatorStr<'_> {
-        SeparatorStr::new("7").unwrap()
+        SeparatorStr::of("7")
     }
 }
 
@@ -59,7 +59,7 @@ impl Format for WithoutMinus {
     ghost answers = { λ _. without_minus };
 
     fn decimal(&self) -> DecimalStr<'_> {
-        DecimalStr::new(".").unwrap()
+        DecimalStr::of(".")
     }
 
     fn grouping(&self) -> Grouping {
@@ -67,23 +67,23 @@ impl Format for WithoutMinus {
     }
 
     fn infinity(&self) -> InfinityStr<'_> {
-        InfinityStr::new("∞").unwrap()
+        InfinityStr::of("∞")
     }
 
     fn minus_sign(&self) -> MinusSignStr<'_> {
-        MinusSignStr::new("").unwrap()
+        MinusSignStr::of("")
     }
 
     fn nan(&self) -> NanStr<'_> {
-        NanStr::new("NaN").unwrap()
+        NanStr::of("NaN")
     }
 
     fn plus_sign(&self) -> PlusSignStr<'_> {
-        PlusSignStr::new("+").unwrap()
+        PlusSignStr::of("+")
     }
 
     fn separator(&self) -> SeparatorStr<'_> {
-        SeparatorStr::new(",").unwrap()
+        SeparatorStr::of(",")
     }
 }
 

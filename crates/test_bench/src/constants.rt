@@ -11,7 +11,7 @@ impl Format for Constants {
     ghost answers = { λ _. constants };
 
     fn decimal(&self) -> DecimalStr<'_> {
-        DecimalStr::new(".").unwrap()
+        DecimalStr::of(".")
     }
 
     fn grouping(&self) -> Grouping {
@@ -19,22 +19,22 @@ impl Format for Constants {
     }
 
     fn infinity(&self) -> InfinityStr<'_> {
-        InfinityStr::new("∞").unwrap()
+        InfinityStr::of("∞")
     }
 
     fn minus_sign(&self) -> MinusSignStr<'_> {
-        MinusSignStr::new("-").unwrap()
+        MinusSignStr::of("-")
     }
 
     fn nan(&self) -> NanStr<'_> {
-        NanStr::new("NaN").unwrap()
+        NanStr::of("NaN")
     }
 
     fn plus_sign(&self) -> PlusSignStr<'_> {
-        PlusSignStr::new("+").unwrap()
+        PlusSignStr::of("+")
     }
 
     fn separator(&self) -> SeparatorStr<'_> {
-        SeparatorStr::new(" . , . |").unwrap()
+        SeparatorStr::of(" . , . |")
     }
 }

@@ -2,7 +2,7 @@
 //!
 //! `tools/memory_checks.py` runs each of these tests without a refusal, and then as often as it makes
 //! requests for memory, each time with another one refused. A test passes in every run: it asserts what
-//! holds after an error, and prints `refused`. The gate compares what is printed, so a call returns an
+//! holds after an error, and prints `refused`. The test command compares what is printed, so a call returns an
 //! error where a request is refused, and nowhere else.
 
 use num_format::json::{
