@@ -1,5 +1,5 @@
 -- What two certificates of num_format return.
-use Rattle.std.proofs.Common.{◌≡◌, true, refl, sym, ◌∙◌, Decides}
+use Rattle.std.proofs.Common.{◌≡◌, refl, sym, ◌∙◌, Decides}
 use Rattle.std.specs.Prelude.{ℤ, pos, negsuc, ◌-◌, ◌^◌, Bool, ◌&&◌, ◌↔◌, IsTrue, IsUtf8}
 use Rattle.std.specs.Ordering.{int_eq}
 use Rattle.std.proofs.lemmas.Bool.Decides.{Decides-and, Decides-int_eq, Decides-like, same_from_decides}

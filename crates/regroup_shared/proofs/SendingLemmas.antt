@@ -1,5 +1,5 @@
 -- What writers received, text after text.
-use Rattle.std.proofs.Common.{ℕ, ◌<◌, List, [], ◌++◌, length, ap, refl, sym, ◌∙◌, append_assoc, length-append, arith}
+use Rattle.std.proofs.Common.{ℕ, List, [], ◌++◌, ap, refl, sym, ◌∙◌, append_assoc, length-append, arith}
 use Rattle.std.specs.Prelude.{Option, Result, Ok, Err, OnErr}
 use Rattle.std.proofs.KnownBytes.{Appends-nil, Appends-trans}
 use Rattle.std.specs.Io.KnownBytes.{Appends}
