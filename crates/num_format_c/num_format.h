@@ -127,7 +127,8 @@ int32_t num_format_parse_i128(const num_format *format, const char *text, size_t
                               uint64_t *high);
 
 /* Returns 1 if every number, printed under the format, parses as the same number again, as any type
- * that has it; else 0. It is 1 for each locale, and 0 for the separator "0" or an empty minus sign.
+ * that has it; else 0. It is 1 for each locale, and 0 for an empty minus sign, or for the separator "0"
+ * under a grouping that prints one.
  *
  * Error: NUM_FORMAT_BAD_FORMAT. */
 int32_t num_format_reads_back(const num_format *format);

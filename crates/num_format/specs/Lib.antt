@@ -1,5 +1,6 @@
 -- The definitions that the contracts of this crate use. Those of the crates below are passed on.
 pub mod Constants
+pub mod Laws
 pub use Rattle.num_format_text.specs.Cut
 pub use Rattle.num_format_text.specs.English
 pub use Rattle.num_format_text.specs.Equality
