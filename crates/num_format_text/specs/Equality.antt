@@ -2,7 +2,7 @@
 use Rattle.std.specs.Prelude.{◌≡◌, ◌↔◌, Bool, IsTrue}
 use Rattle.std.specs.Hash.{HashWrites}
 
--- two values are equal exactly if a clause sees the same of both; a clone shows the same as its source, and is never refused for want of memory
+-- two values are equal exactly if a clause sees the same of both; a clone shows the same as its source, and never fails
 pub record EqualityLaw {X Y : Type 0} (seen : X → Y) (eq : X → X → Bool) (is_clone : X → X → Type 0) (is_infallible : X → Type 0) : Type 0 where
   pub equal : (x y : X) → IsTrue (eq x y) ↔ (seen x ≡ seen y)
   pub clone : (x y : X) → is_clone x y → seen y ≡ seen x
