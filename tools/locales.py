@@ -7,6 +7,7 @@
 import bisect
 import re
 import sys
+import textwrap
 import unicodedata
 from itertools import product
 from pathlib import Path
@@ -20,6 +21,7 @@ DATA = HERE / "locales.txt"
 MARK = "Written by tools/locales.py from tools/locales.txt; do not edit."
 PIECE = 64  # rows in one module at most
 GROUPINGS = {"Standard": 0, "Indian": 1, "Posix": 2}
+LINE_LENGTH = 100  # columns of a line with several names
 
 
 def unescaped(text):
@@ -36,6 +38,13 @@ def is_plain(character):
 def literal(text):
     """A string of Rust, with an escape for each character that is not plain."""
     return '"' + "".join(c if is_plain(c) else f"\\u{{{ord(c):x}}}" for c in text) + '"'
+
+
+def filled(texts):
+    """The lines of an array of strings, as many of them on a line as fit."""
+    entries = " ".join(f"{literal(text)}," for text in texts)
+    indent = " " * 4
+    return textwrap.fill(entries, LINE_LENGTH, initial_indent=indent, subsequent_indent=indent, break_on_hyphens=False) + "\n"
 
 
 def sections():
@@ -169,13 +178,12 @@ pub fn rows_of_piece(number: usize) -> &'static [Row]
 
 
 def names_source(names):
-    lines = "".join(f"    {literal(name)},\n" for name in names)
     return f"""//! The names of all rows. {MARK}
 
 /// The names, in rising byte order.
 #[rattlefmt::skip]
 pub static NAMES: [&str; {len(names)}] = [
-{lines}];
+{filled(names)}];
 """
 
 
@@ -215,7 +223,6 @@ def constants_source(names):
     lines = "".join(
         f"    pub const {constant_name(name)}: Locale = Locale {{ place: {place} }};\n" for place, name in enumerate(names)
     )
-    constants = "".join(f"    {literal(constant_name(name))},\n" for name in names)
     return f"""//! The locales as constants, and the names of the constants. {MARK}
 use crate::Locale;
 
@@ -229,7 +236,7 @@ impl Locale {{
 /// The names of the constants, in the order of their places.
 #[rattlefmt::skip]
 pub static VARIANT_NAMES: [&str; {len(names)}] = [
-{constants}];
+{filled(map(constant_name, names))}];
 """
 
 

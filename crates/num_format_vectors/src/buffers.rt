@@ -27,15 +27,6 @@ fn a_second_text_replaces_the_first(rt: HostRuntime) {
 }
 
 #[test]
-fn displays_the_text_alone(rt: HostRuntime) -> Result<(), Fail> {
-    let mut buffer = Buffer::new();
-    buffer.write_formatted(&1000, &CustomFormat::default());
-    let shown = format!(in rt.alloc(); "{buffer} {buffer:>9} {buffer:.2} {buffer:?}")?;
-    assert_equal(&rt, shown.as_str(), "1,000 1,000 1,000 1,000");
-    Ok(())
-}
-
-#[test]
 fn a_text_is_prepended(rt: HostRuntime) {
     let mut buffer = Buffer::new();
     buffer.put_front("5");

@@ -212,32 +212,4 @@ mod tests {
         assert!(rt; hash_alike(&a, &b));
         Ok(())
     }
-
-    /// Asserts a text that was made.
-    fn assert_shown(rt: &impl Abort, shown: Result<String, AllocError>, expected: &str) {
-        assert!(rt;
-            shown.is_ok_and(|shown| shown.as_str() == expected),
-            "{expected}"
-        );
-    }
-
-    /// The debug form of a text has quotation marks, and each other form is the text alone.
-    #[test]
-    fn shown_texts(rt: HostRuntime) -> Result<(), Fail> {
-        let comma = SeparatorStr::new(",")?;
-        assert_shown(&rt, shown_text(rt.alloc(), &comma), ",");
-        let shown = format!(in rt.alloc(); "{comma:?} {comma:>9} {comma:*^9} {comma:.0}");
-        assert_shown(&rt, shown, "\",\" , , ,");
-        Ok(())
-    }
-
-    #[test]
-    fn shown_errors(rt: HostRuntime) {
-        let error = Error::new("a");
-        let shown = format!(in rt.alloc(); "{error:>9} {error:*^9} {error:.0}");
-        assert_shown(&rt, shown, "a a a");
-        let kind = error.kind();
-        let shown = format!(in rt.alloc(); "{kind:>9} {kind:*^9} {kind:.0}");
-        assert_shown(&rt, shown, "a a a");
-    }
 }

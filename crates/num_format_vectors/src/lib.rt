@@ -12,9 +12,10 @@
 //! |---|---|
 //! | `left_to_right` | powers of ten and one less, under separators of each length |
 //! | `own_format` | types of its own that implement `Format` |
-//! | `buffers` | a `Buffer`: new, written twice, copied, displayed, prepended to |
+//! | `buffers` | a `Buffer`: new, written twice, copied, prepended to |
 //! | `strings` | numbers, also the longest text of one, into strings and formatters |
 //! | `writers` | the same into std's writers of bytes: vectors, cursors, buffers, the sink, standard output |
+//! | `shown` | what `{}` and `{:?}` write of the shortest and longest values |
 //! | `slices` | slices of bytes, too short and long enough |
 //! | `files` | a file, written and read back |
 //! | `parsing` | texts parsed by generic code |
@@ -23,7 +24,7 @@
 //! | `comparisons` | errors, texts, formats and builders compared, cloned, hashed and displayed |
 //! | `callers` | two numbers into one writer |
 //! | `json` | buffers, formats and locales to JSON |
-//! | `locales` | the list of names, and a locale found by its name and shown |
+//! | `locales` | the list of names, and a locale found by its name |
 //! | `certificates` | which formats print each number so that it parses again |
 //! | `alike` | pairs of formats that print all numbers alike, and pairs that do not |
 //! | `constants` | the name of each constant of `Locale` |
@@ -66,6 +67,8 @@ mod own_format;
 #[cfg(test)]
 mod parsing;
 pub mod settings;
+#[cfg(test)]
+mod shown;
 #[cfg(test)]
 mod slices;
 #[cfg(test)]

@@ -1,5 +1,5 @@
-//! The list of the names of locales, a locale found by its own name or by that of its variant, the
-//! places that are compared on the way, and the `Debug` text.
+//! The list of the names of locales, a locale found by its own name or by that of its variant, and the
+//! places that are compared on the way.
 ghost use Rattle.std.specs.Prelude.{◌≡◌, ◌<◌, ◌↔◌, IsTrue, Ok};
 
 use crate::asserting::assert_equal;
@@ -97,11 +97,4 @@ fn a_variant_is_found_by_its_name_alone(rt: HostRuntime) {
     ] {
         assert_equal(&rt, Locale::from_variant_name(text), variant);
     }
-}
-
-#[test]
-fn debug_shows_the_variant(rt: HostRuntime) -> Result<(), Fail> {
-    let shown = format!(in rt.alloc(); "{:?} {:?}", Locale::en_IN, Locale::as_)?;
-    assert_equal(&rt, shown.as_str(), "en_IN as_");
-    Ok(())
 }

@@ -1,0 +1,147 @@
+//! What `{}` and `{:?}` write, for the shortest and the longest values of each type.
+//!
+//! The contracts say what is written where a call succeeds. These tests show that it does: a string is
+//! a writer that does not fail. No width, fill or precision changes a text.
+
+use crate::asserting::assert_equal;
+use num_format::json::JsonFault;
+use num_format::parsing::ParseBytesError;
+use num_format::utils::{InfinityStr, SeparatorStr};
+use num_format::{Buffer, Error, Locale};
+use std::alloc::Global;
+use std::fmt::{Debug, Display};
+use std::process::Abort;
+use std::test::Fail;
+
+/// Asserts what `{}` writes of a value.
+fn assert_displayed<T: Display>(
+    rt: &impl Abort,
+    alloc: Global,
+    value: &T,
+    text: &str,
+) -> Result<(), Fail> {
+    let shown = format!(in alloc; "{value}|{value:*^400}|{value:.0}")?;
+    let expected = format!(in alloc; "{text}|{text}|{text}")?;
+    assert_equal(rt, shown.as_str(), expected.as_str());
+    Ok(())
+}
+
+/// Asserts what `{:?}` writes of a value.
+fn assert_debugged<T: Debug>(
+    rt: &impl Abort,
+    alloc: Global,
+    value: &T,
+    text: &str,
+) -> Result<(), Fail> {
+    let shown = format!(in alloc; "{value:?}|{value:*^400?}")?;
+    let expected = format!(in alloc; "{text}|{text}")?;
+    assert_equal(rt, shown.as_str(), expected.as_str());
+    Ok(())
+}
+
+/// A buffer shows its text alone.
+#[test]
+fn buffers(rt: HostRuntime) -> Result<(), Fail> {
+    let alloc = rt.alloc();
+    let longest = "0".repeat(alloc, 191)?;
+    for text in ["", "5", "1\u{202f}000", longest.as_str()] {
+        let buffer = Buffer::from_text(text);
+        assert_displayed(&rt, alloc, &buffer, text)?;
+        assert_debugged(&rt, alloc, &buffer, text)?;
+    }
+    Ok(())
+}
+
+/// The debug form of a bounded text has quotation marks and escapes, as that of a `str`.
+#[test]
+fn bounded_texts(rt: HostRuntime) -> Result<(), Fail> {
+    let alloc = rt.alloc();
+    for (text, debugged) in [
+        ("", "\"\""),
+        (",", "\",\""),
+        ("\u{202f}\u{e9}", "\"\\u{202f}\u{e9}\""),
+        ("\"\n\\", "\"\\\"\\n\\\\\""),
+    ] {
+        let separator = SeparatorStr::new(text)?;
+        assert_displayed(&rt, alloc, &separator, text)?;
+        assert_debugged(&rt, alloc, &separator, debugged)?;
+    }
+    let longest = "\u{221e}x".repeat(alloc, 32)?;
+    assert_displayed(&rt, alloc, &InfinityStr::new(&longest)?, &longest)
+}
+
+/// A locale shows the name of its variant.
+#[test]
+fn locales(rt: HostRuntime) -> Result<(), Fail> {
+    for name in Locale::available_names() {
+        let variant = match *name {
+            "as" => String::from_str(rt.alloc(), "as_")?,
+            _ => name.replace(rt.alloc(), "-", "_")?,
+        };
+        assert_debugged(&rt, rt.alloc(), &Locale::from_name(name)?, &variant)?;
+    }
+    Ok(())
+}
+
+/// Asserts what an error and its kind display.
+fn assert_message(
+    rt: &impl Abort,
+    alloc: Global,
+    error: Option<Error>,
+    message: &str,
+) -> Result<(), Fail> {
+    let Some(error) = error else {
+        return Err(Fail::from("no error"));
+    };
+    assert_displayed(rt, alloc, &error, message)?;
+    assert_displayed(rt, alloc, error.kind(), message)
+}
+
+#[test]
+fn errors(rt: HostRuntime) -> Result<(), Fail> {
+    let alloc = rt.alloc();
+    let kept = "a".repeat(alloc, 256)?;
+    assert_message(&rt, alloc, Some(Error::new("")), "")?;
+    assert_message(&rt, alloc, Some(Error::new(&kept)), &kept)?;
+    let debugged = format!(in alloc; "{:?}", Error::new(&kept).kind())?;
+    let expected = format!(in alloc; "Other(\"{kept}\")")?;
+    assert_equal(&rt, debugged.as_str(), expected.as_str());
+    let message = format!(in alloc; "Failed to parse {kept} into a valid locale.")?;
+    assert_message(&rt, alloc, Locale::from_name(&kept).err(), &message)?;
+    let message =
+        "Attempted to write input of length 256 bytes into a buffer with capacity 8 bytes.";
+    assert_message(&rt, alloc, SeparatorStr::new(&kept).err(), message)
+}
+
+#[test]
+fn errors_of_bytes(rt: HostRuntime) -> Result<(), Fail> {
+    let (bytes, number) = (ParseBytesError::NotUtf8, ParseBytesError::NotANumber);
+    assert_displayed(&rt, rt.alloc(), &bytes, "The bytes are not UTF-8.")?;
+    let message = "The text is no number of the type.";
+    assert_displayed(&rt, rt.alloc(), &number, message)
+}
+
+#[test]
+fn faults_of_json(rt: HostRuntime) -> Result<(), Fail> {
+    for (fault, message) in [
+        (JsonFault::NotArray, "the value is no array"),
+        (JsonFault::TooLarge, "the array has more than 191 items"),
+        (JsonFault::NotByte, "an item of the array is no byte"),
+        (JsonFault::NotUtf8, "the bytes in the array are not UTF-8"),
+        (JsonFault::NotObject, "the value is no object"),
+        (JsonFault::Missing("dec"), "the object lacks the key dec"),
+        (
+            JsonFault::WrongKind("grp"),
+            "the value has the wrong kind at the key grp",
+        ),
+        (
+            JsonFault::TooLong("sep"),
+            "the text is too long at the key sep",
+        ),
+        (JsonFault::NotText, "the value is no text"),
+        (JsonFault::NoSuchLocale, "the text is the name of no locale"),
+    ] {
+        assert_displayed(&rt, rt.alloc(), &fault, message)?;
+    }
+    Ok(())
+}
