@@ -3,7 +3,6 @@
 
 use crate::asserting::assert_equal;
 use crate::every_way::is_whole;
-use crate::texts::built;
 use num_format::{Buffer, CustomFormat, Grouping, ToFormattedString};
 use std::alloc::{AllocError, Global};
 use std::process::Abort;
@@ -86,7 +85,11 @@ fn print_powers_of_ten(
     grouping: Grouping,
     separator: &str,
 ) -> Result<(), Fail> {
-    let format = built(grouping, separator, MINUS_SIGN)?;
+    let format = CustomFormat::builder()
+        .grouping(grouping)
+        .separator(separator)
+        .minus_sign(MINUS_SIGN)
+        .build()?;
     for exponent in 0..=38 {
         let power = 10u128.saturating_pow(exponent);
         print_both_signs(rt, alloc, power, &format)?;

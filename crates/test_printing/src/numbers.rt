@@ -1,7 +1,6 @@
 //! Numbers written to any writer.
 
 use crate::asserting::assert_equal;
-use crate::texts::built;
 use num_format::{CustomFormat, Error, Grouping, WriteFormatted};
 use std::io;
 use std::process::Abort;
@@ -19,7 +18,11 @@ pub const LEN: usize = 201;
 
 /// Returns the format under which a text is longest.
 pub fn longest_format() -> Result<CustomFormat, Error> {
-    built(Grouping::Indian, "12345678", "abcdefgh")
+    CustomFormat::builder()
+        .grouping(Grouping::Indian)
+        .separator("12345678")
+        .minus_sign("abcdefgh")
+        .build()
 }
 
 /// Writes 1000 under the format of `en`, and returns the length of its text in bytes.

@@ -1,6 +1,6 @@
 use Rattle.std.proofs.lemmas.Result.{err_from_is_err_and}
 use Rattle.num_format_writers.proofs.WritingLemmas.{StopsWithin_suffix}
-use Rattle.num_format_vectors.proofs.callers.write_both.Goals as goal
+use Rattle.test_printing.proofs.callers.write_both.Goals as goal
 
 pub returns-in_err-read_to_io_writer-2-clause-prefix : goal.returns-in_err-read_to_io_writer-2-clause-prefix
 returns-in_err-read_to_io_writer-2-clause-prefix g c =

@@ -1,6 +1,6 @@
 -- The data of the formats that the test module own_format defines.
 use Rattle.std.specs.Prelude.{[], codes}
-use Rattle.num_format_text.specs.declared.grouping.Grouping.{Grouping}
+use Rattle.num_format.specs.Grouping.{Grouping}
 use Rattle.num_format.specs.English.{english}
 use Rattle.num_format.specs.Format.{FormatData}
 

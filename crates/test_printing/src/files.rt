@@ -5,7 +5,7 @@ use std::fs;
 use std::fs::File;
 use std::test::Fail;
 
-const PATH: &str = "num_format_vectors_files.txt";
+const PATH: &str = "test_printing_files.txt";
 
 /// A file has the bytes that were written to it and to a reference to it, and a file that is open for
 /// reading alone returns an error.

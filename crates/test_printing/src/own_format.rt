@@ -1,8 +1,7 @@
 //! Types of the tests' own that implement [`Format`], and numbers under them.
-ghost use Rattle.num_format_vectors.specs.OwnFormat.{sevens, without_minus};
+ghost use Rattle.test_printing.specs.OwnFormat.{sevens, without_minus};
 
 use crate::asserting::assert_equal;
-use crate::errors::message;
 use crate::every_way;
 use num_format::parsing::{FromFormattedStr, ParseFormatted};
 use num_format::utils::{DecimalStr, InfinityStr, MinusSignStr, NanStr, PlusSignStr, SeparatorStr};
@@ -103,7 +102,8 @@ where
         Ok(number) => assert_equal(rt, Some(number), parsed),
         Err(error) => {
             let expected = format!(in alloc; "Failed to parse {text} into a number.")?;
-            assert_equal(rt, message(alloc, Some(error))?.as_str(), expected.as_str());
+            let message = format!(in alloc; "{error}")?;
+            assert_equal(rt, message.as_str(), expected.as_str());
         }
     }
     Ok(())

@@ -1,0 +1,42 @@
+//! Tests of printing: one text by every way, into each writer, under each grouping.
+//!
+//! No expected value comes from the code under test: `left_to_right` has a plain function, and all else was
+//! worked out by hand from the rules of grouping. A number to print under a locale or a built format needs
+//! no test of its own: it is a test case of `test_oracle`.
+//!
+//! | Module | What is tested |
+//! |---|---|
+//! | `left_to_right` | powers of ten and one less, under separators of each length |
+//! | `own_format` | types of its own that implement `Format` |
+//! | `buffers` | a `Buffer`: new, written twice, copied, prepended to |
+//! | `strings` | numbers, also the longest text of one, into strings and formatters |
+//! | `writers` | the same into std's writers of bytes: vectors, cursors, buffers, the sink, standard output |
+//! | `slices` | slices of bytes, too short and long enough |
+//! | `files` | a file, written and read back |
+//! | `callers` | two numbers into one writer |
+//!
+//! `asserting`, `every_way` and `numbers` serve these tests. Writers that fail, and memory that is refused,
+//! are tested in `test_hostile`.
+#![tactic(auto)]
+
+#[cfg(test)]
+mod asserting;
+#[cfg(test)]
+mod buffers;
+pub mod callers;
+#[cfg(test)]
+mod every_way;
+#[cfg(test)]
+mod files;
+#[cfg(test)]
+mod left_to_right;
+#[cfg(test)]
+mod numbers;
+#[cfg(test)]
+mod own_format;
+#[cfg(test)]
+mod slices;
+#[cfg(test)]
+mod strings;
+#[cfg(test)]
+mod writers;
