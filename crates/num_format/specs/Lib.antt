@@ -10,13 +10,13 @@ pub use Rattle.num_format_text.specs.Refusal
 pub use Rattle.num_format_text.specs.declared.error.Error
 pub use Rattle.num_format_text.specs.declared.error_kind.ErrorKind
 pub use Rattle.num_format_text.specs.declared.grouping.Grouping
-pub use Rattle.num_format_int.specs.BytesError
 pub use Rattle.num_format_int.specs.Digits
 pub use Rattle.num_format_int.specs.Grouped
 pub use Rattle.num_format_int.specs.Kind
-pub use Rattle.num_format_int.specs.Reading
 pub use Rattle.num_format_int.specs.Text
-pub use Rattle.num_format_int.specs.declared.parsing.ParseBytesError
+pub use Rattle.num_format_parsing.specs.BytesError
+pub use Rattle.num_format_parsing.specs.Reading
+pub use Rattle.num_format_parsing.specs.declared.parsing.ParseBytesError
 pub use Rattle.num_format_cldr.specs.Entry
 pub use Rattle.num_format_cldr.specs.Families
 pub use Rattle.num_format_cldr.specs.Groupings

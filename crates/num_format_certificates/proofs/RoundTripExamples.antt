@@ -5,8 +5,8 @@ use Rattle.std.specs.Str.{chars}
 use Rattle.num_format_text.specs.Format.{FormatData}
 use Rattle.num_format_int.specs.Digits.{digits}
 use Rattle.num_format_int.specs.Kind.{kind_of, I128}
-use Rattle.num_format_int.specs.Reading.{too_many_figures}
-use Rattle.num_format_int.proofs.ReadingLemmas.{ucd_category}
+use Rattle.num_format_parsing.specs.Reading.{too_many_figures}
+use Rattle.num_format_parsing.proofs.ReadingLemmas.{ucd_category}
 use Rattle.num_format_text.specs.English.{english}
 use Rattle.num_format_certificates.specs.RoundTrips.{ReadsBack}
 use Rattle.num_format_certificates.proofs.RoundTripLemmas.{reads_back-from_tells, one_of_i128, lowest_of_i128}

@@ -18,13 +18,13 @@ use Rattle.num_format_int.specs.Digits.{digits}
 use Rattle.num_format_int.specs.Grouped.{grouped, separated, stands}
 use Rattle.num_format_int.specs.Groups.{plain}
 use Rattle.num_format_int.specs.Kind.{Kind, IsValueOf, IntegerType, kind_of, unsigned, nonzero, signed, U8, U16, U32, U64, U128, Usize, I8, I16, I32, I64, I128, Isize, NonZeroU8, NonZeroU16, NonZeroU32, NonZeroU64, NonZeroU128, NonZeroUsize}
-use Rattle.num_format_int.specs.Reading.{denoted, figures, is_negative_text, is_other_numeral, magnitude_of, signed_number, Refused, no_digit, other_numeral, too_many_figures, no_value}
+use Rattle.num_format_parsing.specs.Reading.{denoted, figures, is_negative_text, is_other_numeral, magnitude_of, signed_number, Refused, no_digit, other_numeral, too_many_figures, no_value}
 use Rattle.num_format_int.specs.Text.{body_of, text_of}
-use Rattle.num_format_int.proofs.DigitLemmas.{digits_given, length-digits-le, number_from_digits-digits}
-use Rattle.num_format_int.proofs.GroupedLemmas.{grouped-Posix}
-use Rattle.num_format_int.proofs.ReadingLemmas.{digits_among, digits_among-append}
+use Rattle.num_format_int.proofs.DigitLemmas.{AreDigits, digits-below_ten, digits_given, length-digits-le, number_from_digits-digits}
+use Rattle.num_format_int.proofs.GroupedLemmas.{grouped-Posix, of_either}
+use Rattle.num_format_parsing.proofs.ReadingLemmas.{digits_among, digits_among-append, digits_among-first, digits_among-separated}
 use Rattle.num_format_certificates.specs.RoundTrips.{ReadsBack, RoundTrips, HasNoNumeral, IsUnambiguous, printed_separator}
-use Rattle.num_format_certificates.proofs.TextCharacterLemmas.{AreDigits, digits-below_ten, chars-ascii_byte, separator_chars, chars-text_of, of_either, digits_among-first, digits_among-separated, digits_among-separated-ge, no_other-separated, lowest_separates, printed-chars, utf8-text_of}
+use Rattle.num_format_certificates.proofs.TextCharacterLemmas.{chars-ascii_byte, separator_chars, chars-text_of, digits_among-separated-ge, no_other-separated, lowest_separates, printed-chars, utf8-text_of}
 use Rattle.num_format_int.proofs.TextLemmas.{length-digits-i128-MIN}
 
 -- the values of a kind have at most that many digits, which are within its limit, a minus sign counted as one

@@ -17,24 +17,13 @@ use Rattle.num_format_text.specs.declared.grouping.Grouping.{Grouping}
 use Rattle.num_format_text.specs.declared.grouping.Grouping.TheVariants.{Standard, Indian, Posix, Myriad, Sparse}
 use Rattle.num_format_text.specs.Format.{FormatData}
 use Rattle.num_format_int.specs.Digits.{digits}
-use Rattle.num_format_int.specs.Grouped.{grouped, separated, stands}
+use Rattle.num_format_int.specs.Grouped.{grouped, separated, stands, printed_separator}
 use Rattle.num_format_int.specs.Groups.{plain}
-use Rattle.num_format_int.specs.Reading.{is_other_numeral}
+use Rattle.num_format_parsing.specs.Reading.{is_other_numeral}
 use Rattle.num_format_int.specs.Text.{body_of, text_of}
-use Rattle.num_format_int.proofs.DigitLemmas.{by_digits, digits-small, digits-more}
-use Rattle.num_format_int.proofs.GroupedLemmas.{grouped-Posix}
-use Rattle.num_format_int.proofs.ReadingLemmas.{digits_among, digits_among-append, digits_among-digit, is_other_numeral-digit}
-use Rattle.num_format_certificates.specs.RoundTrips.{printed_separator}
-
--- numbers below ten
-abbrev pub AreDigits : List ℕ → Type 0
-AreDigits ds = All (λ d. d < 10) ds
-
--- the digits of a number are below ten
-pub digits-below_ten : (n : ℕ) → AreDigits (digits n)
-digits-below_ten = by_digits (λ n. AreDigits (digits n))
-    (λ n small. rw (digits-small n small) (All-cons (λ d. d < 10) n [] small (All-nil (λ d. d < 10))))
-    (λ n large less. rw (digits-more n large) (All-push (λ d. d < 10) (digits (n / 10)) (n % 10) less (omega arith)))
+use Rattle.num_format_int.proofs.DigitLemmas.{AreDigits, digits-below_ten}
+use Rattle.num_format_int.proofs.GroupedLemmas.{grouped-printed, of_either}
+use Rattle.num_format_parsing.proofs.ReadingLemmas.{digits_among, digits_among-append, digits_among-first, is_ascii_digit-digit, is_other_numeral-digit}
 
 -- a byte of ASCII is a character
 pub chars-ascii_byte : (b : ℕ) (rest : List ℕ) → b < 128 → chars (b ∷ rest) ≡ b ∷ chars rest
@@ -56,11 +45,6 @@ chars-separated is_due s (d ∷ ds) utf8 below =
     ∙ ap (λ cs. (48 + d) ∷ cs) (chars-when (is_due (length ds)) s (separated is_due s ds) utf8
     ∙ ap (λ cs. (if is_due (length ds) then chars s else []) ++ cs) rest)
 
--- a separator that is never printed may as well be empty
-grouped-printed : (g : Grouping) (s ds : List ℕ) → grouped g s ds ≡ grouped g (printed_separator g s) ds
-grouped-printed Posix s ds = grouped-Posix s ds ∙ sym (grouped-Posix [] ds)
-grouped-printed _ s ds = refl
-
 -- what holds of a separator and of the empty text, holds of the separator as far as it is printed
 pub of_printed : (P : List ℕ → Type 0) → P [] → (g : Grouping) (s : List ℕ) → P s → P (printed_separator g s)
 of_printed P empty Posix s whole = empty
@@ -78,30 +62,6 @@ chars-text_of f z sign separator =
     ∙ ap (λ cs. (if is_negative z then chars f.minus_sign else []) ++ cs)
     (ap chars (grouped-printed f.grouping f.separator (digits (unsigned_abs z)))
     ∙ chars-separated (stands f.grouping (length (digits (unsigned_abs z)))) (printed_separator f.grouping f.separator) (digits (unsigned_abs z)) separator (digits-below_ten (unsigned_abs z)))
-
--- what holds of a text and of the empty text, holds of the one of them that is taken
-pub of_either : (P : List ℕ → Type 0) → P [] → (b : Bool) (s : List ℕ) → P s → P (if b then s else [])
-of_either P empty true s whole = whole
-of_either P empty false s whole = empty
-
--- the character of a digit
-is_ascii_digit-digit : (d : ℕ) → d < 10 → is_ascii_digit (48 + d) ≡ true
-is_ascii_digit-digit d small = grind (arith, nat_tests)
-
-pub digits_among-first : (d : ℕ) (rest : List ℕ) → d < 10 → digits_among ((48 + d) ∷ rest) ≡ d ∷ digits_among rest
-digits_among-first d rest small =
-    let value : 48 + d - 48 ≡ d = omega arith in
-    digits_among-digit [] rest (48 + d) (is_ascii_digit-digit d small) ∙ ap (λ x. x ∷ digits_among rest) value
-
--- with a separator that has no digit, the digits among the characters are those that were separated
-pub digits_among-separated : (is_due : ℕ → Bool) (s ds : List ℕ) → digits_among s ≡ [] → AreDigits ds → digits_among (separated is_due s ds) ≡ ds
-digits_among-separated is_due s [] none below = refl
-digits_among-separated is_due s (d ∷ ds) none below =
-    let separator : List ℕ = if is_due (length ds) then s else [] in
-    digits_among-first d (separator ++ separated is_due s ds) (All-head (λ x. x < 10) d ds below)
-    ∙ ap (λ rest. d ∷ rest) (digits_among-append separator (separated is_due s ds)
-    ∙ ap (λ xs. xs ++ digits_among (separated is_due s ds)) (of_either (λ cs. digits_among cs ≡ []) refl (is_due (length ds)) s none)
-    ∙ digits_among-separated is_due s ds none (All-tail (λ x. x < 10) d ds below))
 
 -- with any separator, they are as many at least
 pub digits_among-separated-ge : (is_due : ℕ → Bool) (s ds : List ℕ) → AreDigits ds → length ds ≤ length (digits_among (separated is_due s ds))

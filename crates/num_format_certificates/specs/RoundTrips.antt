@@ -2,11 +2,10 @@
 use Rattle.std.specs.Prelude.{◌≡◌, ℕ, ℤ, false, List, []}
 use Rattle.std.specs.List.{list_any}
 use Rattle.std.specs.Str.{chars}
-use Rattle.num_format_text.specs.declared.grouping.Grouping.{Grouping}
-use Rattle.num_format_text.specs.declared.grouping.Grouping.TheVariants.{Posix}
 use Rattle.num_format_text.specs.Format.{FormatData}
+pub use Rattle.num_format_int.specs.Grouped.{printed_separator}
 use Rattle.num_format_int.specs.Kind.{Kind, IsValueOf, IntegerType, kind_of}
-use Rattle.num_format_int.specs.Reading.{denoted, figures, is_other_numeral, Refused}
+use Rattle.num_format_parsing.specs.Reading.{denoted, figures, is_other_numeral, Refused}
 use Rattle.num_format_int.specs.Text.{text_of}
 
 -- z reads back as a number of the kind: the text of z is accepted, and denotes z
@@ -17,11 +16,6 @@ pub record ReadsBack (k : Kind) (f : FormatData) (z : ℤ) : Type 0 where
 -- every value of every integer type reads back
 abbrev pub RoundTrips : FormatData → Type 0
 RoundTrips f = (t : IntegerType) (z : ℤ) → IsValueOf (kind_of t) z → ReadsBack (kind_of t) f z
-
--- the separator as far as a grouping prints it: nothing under Posix
-abbrev pub printed_separator : Grouping → List ℕ → List ℕ
-printed_separator Posix separator = []
-printed_separator _ separator = separator
 
 -- a text without digits and other numeric characters
 pub record HasNoNumeral (text : List ℕ) : Type 0 where

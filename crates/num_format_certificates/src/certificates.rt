@@ -6,7 +6,7 @@ ghost use Rattle.num_format_certificates.specs.RoundTrips.{ReadsBack, RoundTrips
 ghost use Rattle.num_format_int.specs.Text.{text_of};
 
 use num_format_int::Buffer;
-use num_format_int::parsing::ParseFormatted;
+use num_format_parsing::parsing::ParseFormatted;
 use num_format_text::{Error, Format};
 
 /// Returns whether every number of every integer type, printed under the format, parses as the same

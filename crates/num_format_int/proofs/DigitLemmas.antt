@@ -1,12 +1,13 @@
 -- Laws of the digits of a number.
 use Rattle.std.proofs.Common.{◌≡◌, ℕ, zero, suc, ◌+◌, ◌/◌, ◌*◌, ◌%◌, ◌^◌, ◌<◌, ◌≤◌, true, false, ◌⊎◌, inl, inr, List, [], ◌∷◌, ◌++◌, length, refl, ap, append-nil, append_assoc, ◌∙◌, sym, arith, length-append}
-use Rattle.std.specs.Prelude.{nat_lt}
+use Rattle.std.specs.Prelude.{nat_lt, All}
 use Rattle.std.specs.Fmt.{decimal}
 use Rattle.std.specs.Int.Digits.{number_from_digits}
 use Rattle.std.proofs.lemmas.Bool.Decides.{nat_tests}
 use Rattle.std.proofs.lemmas.Fmt.{decimal_by_steps_wide}
 use Rattle.std.proofs.lemmas.Int.Digits.{number_push}
 use Rattle.std.proofs.lemmas.List.{map-append, length-map}
+use Rattle.std.proofs.lemmas.List.Elements.{All-nil, All-cons, All-push}
 use Rattle.std.proofs.Math.Nat.{pow-suc, pow-succ', div-div-eq-div-mul, add-mod_left}
 use Rattle.std.proofs.lemmas.Nat.{div-mul-add}
 use Rattle.std.proofs.Math.Arith.{mod-mul}
@@ -171,3 +172,13 @@ digits-leading_one k part below =
     let rest : (10 ^ k + part) % 10 ^ k ≡ part % 10 ^ k = add-mod_left (10 ^ k) part in
     digits-split k (10 ^ k + part) (omega arith)
     ∙ rw (one, digits-small 1 (omega arith), ← last_digits-mod k (10 ^ k + part), rest, last_digits-mod k part)
+
+-- numbers below ten
+abbrev pub AreDigits : List ℕ → Type 0
+AreDigits ds = All (λ d. d < 10) ds
+
+-- the digits of a number are below ten
+pub digits-below_ten : (n : ℕ) → AreDigits (digits n)
+digits-below_ten = by_digits (λ n. AreDigits (digits n))
+    (λ n small. rw (digits-small n small) (All-cons (λ d. d < 10) n [] small (All-nil (λ d. d < 10))))
+    (λ n large less. rw (digits-more n large) (All-push (λ d. d < 10) (digits (n / 10)) (n % 10) less (omega arith)))

@@ -6,7 +6,7 @@ use Rattle.std.proofs.lemmas.List.{nil_from_length}
 use Rattle.std.proofs.Math.Nat.{mul-le-mul}
 use Rattle.num_format_text.specs.declared.grouping.Grouping.{Grouping}
 use Rattle.num_format_text.specs.declared.grouping.Grouping.TheVariants.{Standard, Indian, Posix, Myriad, Sparse}
-use Rattle.num_format_int.specs.Grouped.{stands, separated, grouped, separators}
+use Rattle.num_format_int.specs.Grouped.{stands, separated, grouped, separators, printed_separator}
 use Rattle.num_format_int.specs.Groups.{plain}
 
 -- from five digits on, Sparse is Standard
@@ -128,3 +128,13 @@ separated-none is_due (d ∷ ds) = ap (λ right. (48 + d) ∷ right) (empty_eith
 -- the empty separator does not show
 pub grouped-empty : (g : Grouping) (s ds : List ℕ) → length s ≡ 0 → grouped g s ds ≡ plain ds
 grouped-empty g s ds empty = ap (λ t. grouped g t ds) (nil_from_length s empty) ∙ separated-none (stands g (length ds)) ds
+
+-- a separator that is never printed may as well be empty
+pub grouped-printed : (g : Grouping) (s ds : List ℕ) → grouped g s ds ≡ grouped g (printed_separator g s) ds
+grouped-printed Posix s ds = grouped-Posix s ds ∙ sym (grouped-Posix [] ds)
+grouped-printed _ s ds = refl
+
+-- what holds of a text and of the empty text, holds of the one of them that is taken
+pub of_either : (P : List ℕ → Type 0) → P [] → (b : Bool) (s : List ℕ) → P s → P (if b then s else [])
+of_either P empty true s whole = whole
+of_either P empty false s whole = empty

@@ -1,5 +1,5 @@
 use Rattle.std.proofs.Common.{ap, sym, ◌∙◌}
-use Rattle.num_format_int.specs.Reading.{denoted}
+use Rattle.num_format_parsing.specs.Reading.{denoted}
 use Rattle.num_format_certificates.proofs.laws.distinct_texts.Goals as goal
 
 pub returns : goal.returns

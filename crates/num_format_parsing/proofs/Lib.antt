@@ -1,0 +1,3 @@
+pub mod CharacterLemmas
+mod ReadingExamples
+pub mod ReadingLemmas

@@ -1,0 +1,3 @@
+pub mod BytesError
+pub mod Figures
+pub mod Reading
