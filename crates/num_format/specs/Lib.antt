@@ -16,7 +16,9 @@ pub use Rattle.num_format_int.specs.Kind
 pub use Rattle.num_format_int.specs.Text
 pub use Rattle.num_format_parsing.specs.BytesError
 pub use Rattle.num_format_parsing.specs.Reading
+pub use Rattle.num_format_parsing.specs.Strict
 pub use Rattle.num_format_parsing.specs.declared.parsing.ParseBytesError
+pub use Rattle.num_format_parsing.specs.declared.strict.StrictError
 pub use Rattle.num_format_cldr.specs.Entry
 pub use Rattle.num_format_cldr.specs.Families
 pub use Rattle.num_format_cldr.specs.Groupings

@@ -1,3 +1,5 @@
 pub mod BytesError
 pub mod Figures
 pub mod Reading
+pub mod Shapes
+pub mod Strict

@@ -2,6 +2,8 @@
 #![tactic(auto)]
 
 pub mod parsing;
+pub mod strict;
 mod utf8;
 
 pub use parsing::{FromFormattedStr, ParseFormatted};
+pub use strict::StrictError;

@@ -1,0 +1,147 @@
+-- Laws of the digits among bytes.
+use Rattle.std.proofs.Common.{◌≡◌, ℕ, suc, ◌+◌, ◌-◌, ◌*◌, ◌/◌, ◌%◌, ◌<◌, ◌≤◌, ◌⊎◌, inl, inr, true, false, List, [], ◌∷◌, ◌++◌, length, refl, ap, ◌∙◌, sym, arith, take, drop, get_or, append_assoc, append-nil, take-append-drop, lit<, IsUtf8}
+use Rattle.std.specs.Prelude.{filter, map, All, encode_utf8}
+use Rattle.std.specs.Char.{is_ascii_digit}
+use Rattle.std.specs.Int.Digits.{number_from_digits, number_from_digits_after}
+use Rattle.std.specs.Str.{chars, encode_utf8_all}
+use Rattle.std.proofs.lemmas.Bool.{cases_Bool}
+use Rattle.std.proofs.lemmas.Bool.Decides.{nat_tests}
+use Rattle.std.proofs.lemmas.Int.Digits.{number_push, number_after_append, number_after_ge}
+use Rattle.std.proofs.lemmas.List.{drop_more, take_more}
+use Rattle.std.proofs.lemmas.List.Elements.{All-nil, All-cons, All-head, All-tail, filter-append}
+use Rattle.std.proofs.lemmas.Str.{chars-encodes, encode_ascii, inside_one}
+use Rattle.num_format_int.specs.Digits.{digits}
+use Rattle.num_format_parsing.specs.Reading.{figures}
+use Rattle.num_format_int.proofs.DigitLemmas.{digits-more, digits-small}
+use Rattle.num_format_parsing.proofs.ReadingLemmas.{digits_among-append, digits_among-digit, digits_among-other}
+use Rattle.num_format_parsing.specs.Shapes.{byte_figures, BeginsWithDigit}
+
+-- a digit as a character, and back
+pub digit_char : (b : ℕ) → is_ascii_digit b ≡ true → 48 + (b - 48) ≡ b
+digit_char b digit = grind (arith, nat_tests)
+
+pub figures-digit : (b : ℕ) (t : List ℕ) → is_ascii_digit b ≡ true → byte_figures (b ∷ t) ≡ (b - 48) ∷ byte_figures t
+figures-digit b t digit = rw digit
+
+pub figures-other : (b : ℕ) (t : List ℕ) → is_ascii_digit b ≡ false → byte_figures (b ∷ t) ≡ byte_figures t
+figures-other b t other = rw other
+
+pub figures-drop-digit : (xs : List ℕ) (i : ℕ) → i < length xs → is_ascii_digit (get_or xs i 0) ≡ true →
+    byte_figures (drop i xs) ≡ (get_or xs i 0 - 48) ∷ byte_figures (drop (i + 1) xs)
+figures-drop-digit xs i inside digit = ap byte_figures (drop_more xs i 0 inside) ∙ figures-digit (get_or xs i 0) (drop (i + 1) xs) digit
+
+-- bytes of which none is ASCII have no digit
+no_digit_above : (xs : List ℕ) → ((k : ℕ) → k < length xs → 128 ≤ get_or xs k 0) → filter is_ascii_digit xs ≡ []
+no_digit_above [] high = refl
+no_digit_above (x ∷ xs) high =
+    let first : 128 ≤ x = high 0 (omega arith) in
+    let other : is_ascii_digit x ≡ false = grind (arith, nat_tests) in
+    rw other (no_digit_above xs (λ k below. high (suc k) (omega arith)))
+
+filter-encode : (c : ℕ) → filter is_ascii_digit (encode_utf8 c) ≡ filter is_ascii_digit (c ∷ [])
+filter-encode c =
+    let either : (c < 128) ⊎ (128 ≤ c) = grind arith in
+    elim either [
+      | inl ascii ↦ ap (filter is_ascii_digit) (encode_ascii c ascii)
+      | inr high ↦
+          let other : is_ascii_digit c ≡ false = grind (arith, nat_tests) in
+          no_digit_above (encode_utf8 c) (λ k below. wide c k high below) ∙ rw other
+    ]
+  where
+    wide : (c k : ℕ) → 128 ≤ c → k < length (encode_utf8 c) → 128 ≤ get_or (encode_utf8 c) k 0
+    wide c k high below =
+        let either : (get_or (encode_utf8 c) k 0 < 128) ⊎ (128 ≤ get_or (encode_utf8 c) k 0) = grind arith in
+        elim either [
+          | inl low ↦ (let same = inside_one c [] (encode_utf8 c) k (sym (append-nil (encode_utf8 c))) below low in absurd (omega arith))
+          | inr fine ↦ fine
+        ]
+
+filter-encodes : (cs : List ℕ) → filter is_ascii_digit (encode_utf8_all cs) ≡ filter is_ascii_digit cs
+filter-encodes [] = refl
+filter-encodes (c ∷ cs) =
+    filter-append is_ascii_digit (encode_utf8 c) (encode_utf8_all cs)
+    ∙ ap (λ ds. ds ++ filter is_ascii_digit (encode_utf8_all cs)) (filter-encode c)
+    ∙ ap (λ ds. filter is_ascii_digit (c ∷ []) ++ ds) (filter-encodes cs)
+    ∙ sym (filter-append is_ascii_digit (c ∷ []) cs)
+
+-- in UTF-8 the digits among the bytes are those among the characters
+pub figures-bytes : (t : List ℕ) → IsUtf8 t → figures t ≡ byte_figures t
+figures-bytes t (cs, (scalars, same)) =
+    ap (map (λ c. c - 48)) (ap (filter is_ascii_digit) (ap chars (sym same) ∙ chars-encodes cs scalars) ∙ sym (filter-encodes cs) ∙ ap (filter is_ascii_digit) same)
+
+-- numbers below ten after a number that is not zero are its further digits
+digits-after : (m : ℕ) (ds : List ℕ) → 0 < m → All (λ d. d < 10) ds → digits (number_from_digits_after 10 m ds) ≡ digits m ++ ds
+digits-after m [] some below = sym (append-nil (digits m))
+digits-after m (d ∷ ds) some below =
+    let small : d < 10 = All-head (λ x. x < 10) d ds below in
+    let high : (m * 10 + d) / 10 ≡ m = omega arith in
+    let low : (m * 10 + d) % 10 ≡ d = omega arith in
+    digits-after (m * 10 + d) ds (omega arith) (All-tail (λ x. x < 10) d ds below)
+    ∙ ap (λ xs. xs ++ ds) (digits-more (m * 10 + d) (omega arith) ∙ rw (high, low))
+    ∙ append_assoc (digits m) (d ∷ []) ds
+
+-- the figures of bytes are below ten
+pub figures-below : (t : List ℕ) → All (λ d. d < 10) (byte_figures t)
+figures-below [] = All-nil (λ d. d < 10)
+figures-below (b ∷ t) =
+    elim (cases_Bool (is_ascii_digit b)) [
+      | inl digit ↦ let small : b - 48 < 10 = grind (arith, nat_tests) in
+          rw (figures-digit b t digit) (All-cons (λ d. d < 10) (b - 48) (byte_figures t) small (figures-below t))
+      | inr other ↦ rw (figures-other b t other) (figures-below t)
+    ]
+
+-- bytes that begin with a digit other than zero write a number with these digits
+pub record Writes (ds : List ℕ) : Type 0 where
+  pub some : 0 < number_from_digits 10 ds
+  pub same : digits (number_from_digits 10 ds) ≡ ds
+
+pub writes : (t : List ℕ) → BeginsWithDigit t → Writes (byte_figures t)
+writes t begin =
+    let d = begin.digit in
+    let rest = byte_figures begin.rest in
+    let digit : is_ascii_digit (48 + d) ≡ true = let small = begin.small in grind (arith, nat_tests) in
+    let value : 48 + d - 48 ≡ d = omega arith in
+    let split : byte_figures t ≡ d ∷ rest = ap byte_figures begin.same ∙ figures-digit (48 + d) begin.rest digit ∙ ap (λ x. x ∷ rest) value in
+    let first : number_from_digits 10 (d ∷ rest) ≡ number_from_digits_after 10 d rest = ap (λ n. number_from_digits_after 10 n rest) (let e : 0 * 10 + d ≡ d = omega arith in e) in
+    rw split (record {
+      some = omega (arith, first, number_after_ge 10 d rest (lit< tt), begin.some);
+      same = ap digits first ∙ digits-after d rest begin.some (figures-below begin.rest) ∙ ap (λ xs. xs ++ rest) (digits-small d begin.small);
+    })
+
+-- zeros in front don't change the number
+pub number-after_zeros : (t : List ℕ) (i : ℕ) → number_from_digits 10 (byte_figures (take i t)) ≡ 0 → number_from_digits 10 (byte_figures t) ≡ number_from_digits 10 (byte_figures (drop i t))
+number-after_zeros t i zeros =
+    ap (λ xs. number_from_digits 10 (byte_figures xs)) (sym (take-append-drop i t))
+    ∙ ap (number_from_digits 10) (digits_among-append (take i t) (drop i t))
+    ∙ number_after_append 10 0 (byte_figures (take i t)) (byte_figures (drop i t))
+    ∙ ap (λ n. number_from_digits_after 10 n (byte_figures (drop i t))) zeros
+
+-- the first digit that is not zero
+pub begins-at : (t : List ℕ) (i : ℕ) → i < length t → is_ascii_digit (get_or t i 0) ≡ true → ¬ (get_or t i 0 ≡ 48) → BeginsWithDigit (drop i t)
+begins-at t i inside digit other =
+    let b = get_or t i 0 in
+    let same = digit_char b digit in
+    record {
+      digit = b - 48;
+      rest = drop (i + 1) t;
+      some = grind (arith, nat_tests);
+      small = grind (arith, nat_tests);
+      same = drop_more t i 0 inside ∙ ap (λ c. c ∷ drop (i + 1) t) (sym same);
+    }
+
+-- a zero more
+pub zeros-digit : (t : List ℕ) (i : ℕ) → i < length t → number_from_digits 10 (byte_figures (take i t)) ≡ 0 → is_ascii_digit (get_or t i 0) ≡ true → get_or t i 0 ≡ 48 →
+    number_from_digits 10 (byte_figures (take (i + 1) t)) ≡ 0
+zeros-digit t i inside zeros digit zero_here =
+    ap (λ xs. number_from_digits 10 (byte_figures xs)) (take_more t i 0 inside)
+    ∙ ap (number_from_digits 10) (digits_among-digit (take i t) [] (get_or t i 0) digit)
+    ∙ number_push 10 (byte_figures (take i t)) (get_or t i 0 - 48)
+    ∙ omega (arith, zeros, zero_here)
+
+-- a byte more that is no digit
+pub zeros-other : (t : List ℕ) (i : ℕ) → i < length t → number_from_digits 10 (byte_figures (take i t)) ≡ 0 → is_ascii_digit (get_or t i 0) ≡ false →
+    number_from_digits 10 (byte_figures (take (i + 1) t)) ≡ 0
+zeros-other t i inside zeros other =
+    ap (λ xs. number_from_digits 10 (byte_figures xs)) (take_more t i 0 inside)
+    ∙ ap (number_from_digits 10) (digits_among-other (take i t) (get_or t i 0) other)
+    ∙ zeros

@@ -1,0 +1,169 @@
+-- Bytes that are digits in groups, found from the right.
+use Rattle.std.proofs.Common.{◌⊎◌, inl, inr, Bool, ◌≡◌, ℕ, ◌+◌, ◌-◌, ◌*◌, ◌/◌, ◌<◌, ◌≤◌, true, false, List, [], ◌∷◌, ◌++◌, length, refl, ap, ◌∙◌, sym, arith, take, drop, get_or, length-append, length-take-le, take-append-drop, drop-drop, subst, IsUtf8}
+use Rattle.std.specs.Prelude.{nat_eq}
+use Rattle.std.specs.Char.{is_ascii_digit}
+use Rattle.std.specs.Int.Digits.{number_from_digits}
+use Rattle.std.specs.List.{starts_with}
+use Rattle.std.proofs.lemmas.Bool.Decides.{Decides-eqb}
+use Rattle.std.proofs.lemmas.List.{map-append, length-map, nil_from_length, take_at, take_more}
+use Rattle.std.proofs.lemmas.List.Elements.{All-append}
+use Rattle.std.proofs.Math.Nat.{mul-le-mul_right}
+use Rattle.std.proofs.lemmas.Slice.Eq.{starts_is}
+use Rattle.std.proofs.lemmas.Str.{IsUtf8-nil, IsUtf8-append}
+use Rattle.num_format_text.specs.declared.grouping.Grouping.TheVariants.{Standard, Posix}
+use Rattle.num_format_text.specs.Format.{FormatData}
+use Rattle.num_format_int.specs.Grouped.{grouped, separated, stands}
+use Rattle.num_format_int.specs.Groups.{plain, HasLastGroup, HasGroups}
+use Rattle.num_format_parsing.specs.Reading.{denoted, is_negative_text}
+use Rattle.num_format_int.proofs.DigitLemmas.{AreDigits}
+use Rattle.num_format_int.proofs.GroupLemmas.{put-group, put-first_group, last_group-Standard, groups-Standard}
+use Rattle.num_format_int.proofs.GroupedLemmas.{separated-plain, grouped-Posix, length-grouped}
+use Rattle.num_format_parsing.proofs.ReadingLemmas.{digits_among-digit}
+use Rattle.num_format_parsing.proofs.ReadingLemmas.{digits_among-separated}
+use Rattle.num_format_parsing.specs.Strict.{SpellsNumber}
+use Rattle.num_format_parsing.specs.Shapes.{byte_figures, BeginsWithDigit, EndsSeparator, HasGroupsFrom, IsInGroups, IsPlainStart}
+use Rattle.num_format_parsing.proofs.FigureLemmas.{digit_char, figures-below, number-after_zeros, writes}
+use Rattle.num_format_parsing.proofs.SpellingLemmas.{spells-more, utf8-separated}
+
+-- one digit more
+pub plain-more : (t : List ℕ) (i : ℕ) → i < length t → take i t ≡ plain (byte_figures (take i t)) → is_ascii_digit (get_or t i 0) ≡ true →
+    take (i + 1) t ≡ plain (byte_figures (take (i + 1) t))
+plain-more t i inside before digit =
+    let b = get_or t i 0 in
+    let figures = digits_among-digit (take i t) [] b digit in
+    take_more t i 0 inside
+    ∙ ap (λ xs. xs ++ b ∷ []) before
+    ∙ ap (λ c. plain (byte_figures (take i t)) ++ c ∷ []) (sym (digit_char b digit))
+    ∙ sym (map-append (λ d. 48 + d) (byte_figures (take i t)) ((b - 48) ∷ []))
+    ∙ ap plain (sym figures)
+    ∙ ap (λ xs. plain (byte_figures xs)) (sym (take_more t i 0 inside))
+
+-- a separator that stands where the bytes start with it
+pub separator-found : (s body : List ℕ) (end : ℕ) → length s ≤ end → starts_with nat_eq (drop (end - length s) body) s ≡ true → EndsSeparator s body (end - length s) end
+separator-found s body end fits starts =
+    let start = end - length s in
+    let after : start + length s ≡ end = omega arith in
+    record {
+      within = omega arith;
+      text = (starts_is Decides-eqb (drop start body) s (starts_with nat_eq (drop start body) s) refl).0 starts
+          ∙ ap (λ xs. s ++ xs) (drop-drop (length s) start body ∙ ap (λ k. drop k body) after);
+    }
+
+-- bytes before a place, and those from it on
+slice-split : (body : List ℕ) (start end : ℕ) → start ≤ end → drop start body ≡ take (end - start) (drop start body) ++ drop end body
+slice-split body start end order =
+    let after : start + (end - start) ≡ end = omega arith in
+    sym (take-append-drop (end - start) (drop start body)) ∙ ap (λ xs. take (end - start) (drop start body) ++ xs) (drop-drop (end - start) start body ∙ ap (λ k. drop k body) after)
+
+long-plain : (t : List ℕ) → t ≡ plain (byte_figures t) → length t ≡ length (byte_figures t)
+long-plain t same = ap length same ∙ simp length-map refl
+
+-- the last group, with the separator before it
+pub groups-last : (last size : ℕ) (s body tail : List ℕ) (place start : ℕ) → tail ≡ drop start body → length tail ≡ last → start ≤ length body → tail ≡ plain (byte_figures tail) →
+    EndsSeparator s body place start → HasGroupsFrom last size s body place
+groups-last last size s body tail place start is_tail long inside digits found =
+    let right = byte_figures tail in
+    let count : length right ≡ last = omega (arith, long-plain tail digits, long) in
+    record {
+      right = right;
+      below = figures-below tail;
+      within = omega (arith, found.within);
+      text = λ is_due last_group groups. record {
+        due = ap is_due count ∙ last_group.before;
+        same = found.text ∙ ap (λ xs. s ++ xs) (sym is_tail ∙ digits ∙ sym (separated-plain is_due s right (λ k below. last_group.within k (omega arith))));
+      };
+    }
+
+-- one group more, with the separator before it
+pub groups-more : (last size : ℕ) (s body group : List ℕ) (place start end : ℕ) → HasGroupsFrom last size s body end → 0 < size → start + size ≡ end → group ≡ take (end - start) (drop start body) →
+    length group ≡ size → group ≡ plain (byte_figures group) → EndsSeparator s body place start → HasGroupsFrom last size s body place
+groups-more last size s body group place start end before some is_start is_group long digits found =
+    let ds = byte_figures group in
+    let split : drop start body ≡ plain ds ++ drop end body = slice-split body start end (omega arith) ∙ ap (λ xs. xs ++ drop end body) (sym is_group ∙ digits) in
+    let count : length ds ≡ size = omega (arith, long-plain group digits, long) in
+    record {
+      right = ds ++ before.right;
+      below = All-append (λ d. d < 10) ds before.right (figures-below group) before.below;
+      within = omega (arith, found.within, before.within);
+      text = λ is_due last_group groups.
+          rw (found.text, split) (put-group is_due s ds before.right (drop end body) size groups some count (before.text is_due last_group groups));
+    }
+
+-- the first group
+pub groups-all : (last size : ℕ) (s body group : List ℕ) (end : ℕ) → HasGroupsFrom last size s body end → 0 < end → end ≤ size → group ≡ take end body → group ≡ plain (byte_figures group) → IsInGroups last size s body
+groups-all last size s body group end before some few is_group digits =
+    let ds = byte_figures group in
+    let long : length group ≡ end = ap length is_group ∙ length-take-le end body before.within in
+    let count : length ds ≡ end = omega (arith, long-plain group digits, long) in
+    record {
+      ds = ds ++ before.right;
+      below = All-append (λ d. d < 10) ds before.right (figures-below group) before.below;
+      text = λ is_due last_group groups.
+          sym (take-append-drop end body) ∙ ap (λ xs. xs ++ drop end body) (sym is_group ∙ digits)
+          ∙ put-first_group is_due s ds before.right (drop end body) size groups (omega arith) (omega arith) (before.text is_due last_group groups);
+    }
+
+-- the figures of a text whose sign has none
+figures-behind : (f : FormatData) (t : List ℕ) (start : ℕ) → byte_figures (take start t) ≡ [] → number_from_digits 10 (byte_figures t) ≡ number_from_digits 10 (byte_figures (drop start t))
+figures-behind f t start none = number-after_zeros t start (ap (number_from_digits 10) none)
+
+-- a text whose first part is UTF-8, and the rest is separated digits
+utf8-start : (t : List ℕ) (start : ℕ) (is_due : ℕ → Bool) (s ds : List ℕ) → IsUtf8 (take start t) → drop start t ≡ separated is_due s ds → IsUtf8 s → AreDigits ds → IsUtf8 t
+utf8-start t start is_due s ds front same separator below =
+    subst IsUtf8 (take-append-drop start t)
+    (IsUtf8-append (take start t) (drop start t) front (subst IsUtf8 (sym same) (utf8-separated is_due s ds separator below)))
+
+-- digits after a sign that has none spell a number
+pub spells-digits : (f : FormatData) (t : List ℕ) (start : ℕ) → IsPlainStart f t start → BeginsWithDigit (drop start t) →
+    drop start t ≡ plain (byte_figures (drop start t)) → IsUtf8 t × SpellsNumber f t (denoted f t)
+spells-digits f t start sign begin digits =
+    let ds = byte_figures (drop start t) in
+    let utf8 : IsUtf8 t = utf8-start t start (stands Posix (length ds)) [] ds sign.utf8 (digits ∙ sym (grouped-Posix [] ds)) IsUtf8-nil (figures-below (drop start t)) in
+    let same = ap (λ k. drop k t) (sym sign.sign) ∙ digits ∙ sym (grouped-Posix f.separator ds) in
+    (utf8, (spells-more f t ds utf8 (figures-behind f t start sign.plain) (writes (drop start t) begin)).0 (inr same))
+
+-- and so do groups of them
+pub spells-groups : (f : FormatData) (t s : List ℕ) (start last size : ℕ) → IsPlainStart f t start → s ≡ f.separator → IsUtf8 s → byte_figures s ≡ [] → BeginsWithDigit (drop start t) →
+    (found : IsInGroups last size s (drop start t)) → HasLastGroup (stands f.grouping (length found.ds)) last → HasGroups (stands f.grouping (length found.ds)) size →
+    IsUtf8 t × SpellsNumber f t (denoted f t)
+spells-groups f t s start last size sign separator separator_utf8 plain_separator begin found last_group groups =
+    let ds = found.ds in
+    let is_due = stands f.grouping (length ds) in
+    let body = drop start t in
+    let text : body ≡ separated is_due s ds = found.text is_due last_group groups in
+    let utf8 : IsUtf8 t = utf8-start t start is_due s ds sign.utf8 text separator_utf8 found.below in
+    let figures : byte_figures body ≡ ds = ap byte_figures text ∙ digits_among-separated is_due s ds plain_separator found.below in
+    let same = ap (λ k. drop k t) (sym sign.sign) ∙ text ∙ ap (λ x. separated is_due x ds) separator in
+    (utf8, (spells-more f t ds utf8 (figures-behind f t start sign.plain ∙ ap (number_from_digits 10) figures) (rw figures at (writes body begin))).0 (inl same))
+
+-- a text without the minus sign
+pub plain-unsigned : (f : FormatData) (t : List ℕ) → is_negative_text f t ≡ false → IsPlainStart f t 0
+plain-unsigned f t positive = record { utf8 = IsUtf8-nil; within = omega arith; sign = rw positive refl; plain = refl }
+
+-- and with it
+pub plain-signed : (f : FormatData) (t : List ℕ) → IsUtf8 f.minus_sign → is_negative_text f t ≡ true → length (byte_figures f.minus_sign) ≡ 0 → IsPlainStart f t (length f.minus_sign)
+plain-signed f t utf8 negative none =
+    let split = (starts_is Decides-eqb t f.minus_sign (is_negative_text f t) refl).0 negative in
+    let front : take (length f.minus_sign) t ≡ f.minus_sign = ap (take (length f.minus_sign)) split ∙ take_at f.minus_sign (drop (length f.minus_sign) t) (length f.minus_sign) refl in
+    record {
+      utf8 = subst IsUtf8 (sym front) utf8;
+      within = omega (arith, ap length split, length-append f.minus_sign (drop (length f.minus_sign) t));
+      sign = rw negative refl;
+      plain = ap byte_figures front ∙ nil_from_length (byte_figures f.minus_sign) none;
+    }
+
+-- groups that are longer than four digits and a separator have five digits at least
+pub many-digits : (s body : List ℕ) (found : IsInGroups 3 3 s body) → 4 + length s < length body → 5 ≤ length found.ds
+many-digits s body found long =
+    let ds = found.ds in
+    let d = length ds in
+    let text : body ≡ grouped Standard s ds = found.text (stands Standard d) (last_group-Standard d) (groups-Standard d) in
+    let count : length body ≡ d + (d - 1) / 3 * length s = ap length text ∙ length-grouped Standard s ds in
+    let either : (5 ≤ d) ⊎ (d ≤ 4) = grind arith in
+    elim either [
+      | inl many ↦ many
+      | inr few ↦
+          let one : (d - 1) / 3 ≤ 1 = omega arith in
+          let least : (d - 1) / 3 * length s ≤ 1 * length s = mul-le-mul_right (length s) one in
+          absurd (omega (arith, count, least, long, few))
+    ]

@@ -1,0 +1,94 @@
+-- What strict parsing returns, and when it refuses a text for which cause.
+use Rattle.std.specs.Prelude.{◌≡◌, ℕ, zero, suc, ◌-◌, ◌<◌, ℤ, nat_eq, Bool, false, List, [], ◌∷◌, length, drop, if◌then◌else◌, IsUtf8, codes}
+use Rattle.std.specs.Char.{is_ascii_digit}
+use Rattle.std.specs.List.{starts_with}
+use Rattle.num_format_text.specs.declared.grouping.Grouping.TheVariants.{Posix}
+use Rattle.num_format_text.specs.Format.{FormatData}
+use Rattle.num_format_int.specs.Grouped.{printed_separator}
+use Rattle.num_format_int.specs.Kind.{Kind}
+use Rattle.num_format_int.specs.Text.{text_of}
+use Rattle.num_format_parsing.specs.Reading.{denoted, figures, is_negative_text, Refused}
+use Rattle.num_format_parsing.specs.declared.strict.StrictError.{StrictError}
+use Rattle.num_format_parsing.specs.declared.strict.StrictError.TheVariants.{NotUtf8, Unexpected, NoDigit, Misspelled, OutOfRange}
+
+-- the format without grouping
+abbrev pub ungrouped : FormatData → FormatData
+ungrouped f = record f { grouping = Posix }
+
+-- a text spells z: it is the text of z, or the text of z without grouping
+pub data SpellsNumber (f : FormatData) (t : List ℕ) (z : ℤ) : Type 0 where
+  with_separators : t ≡ text_of f z → SpellsNumber f t z
+  without_separators : t ≡ text_of (ungrouped f) z → SpellsNumber f t z
+
+-- a text begins with a separator that is not empty
+abbrev pub begins : List ℕ → List ℕ → Bool
+begins [] t = false
+begins (b ∷ separator) t = starts_with nat_eq t (b ∷ separator)
+
+-- what is left of a text after whole separators and digits, a separator tried first; `inside` bytes of a separator are still to come
+abbrev pub unread : List ℕ → ℕ → List ℕ → List ℕ
+unread separator inside [] = []
+unread separator (suc inside) (b ∷ t) = unread separator inside t
+unread separator zero (b ∷ t) =
+    if begins separator (b ∷ t) then unread separator (length separator - 1) t
+    else if is_ascii_digit b then unread separator 0 t
+    else b ∷ t
+
+-- the length of the minus sign if it is the prefix of a text, and else 0
+abbrev pub sign_len : FormatData → List ℕ → ℕ
+sign_len f t = if is_negative_text f t then length f.minus_sign else 0
+
+-- what is left of a text after its minus sign, digits and whole separators of the kind that the grouping prints
+abbrev pub unexpected : FormatData → List ℕ → List ℕ
+unexpected f t = unread (printed_separator f.grouping f.separator) 0 (drop (sign_len f t) t)
+
+-- the first byte of a text that is unexpected is the one at that place
+pub record StopsAt (f : FormatData) (t : List ℕ) (at : ℕ) : Type 0 where
+  pub utf8 : IsUtf8 t
+  pub inside : at < length t
+  pub rest : unexpected f t ≡ drop at t
+
+-- no byte of a text is unexpected
+pub record IsExpected (f : FormatData) (t : List ℕ) : Type 0 where
+  pub utf8 : IsUtf8 t
+  pub rest : unexpected f t ≡ []
+
+-- no byte is unexpected, and there is no digit
+pub record LacksDigit (f : FormatData) (t : List ℕ) : Type 0 where
+  pub expected : IsExpected f t
+  pub none : figures t ≡ []
+
+-- no byte is unexpected, there is a digit, and the text does not spell the number that it denotes
+pub record IsMisspelled (f : FormatData) (t : List ℕ) : Type 0 where
+  pub expected : IsExpected f t
+  pub some : ¬ (figures t ≡ [])
+  pub wrong : ¬ (SpellsNumber f t (denoted f t))
+
+-- the text spells the number that it denotes, and lenient parsing refuses it
+pub record IsOutOfRange (k : Kind) (f : FormatData) (t : List ℕ) : Type 0 where
+  pub utf8 : IsUtf8 t
+  pub spelled : SpellsNumber f t (denoted f t)
+  pub refused : Refused k f t
+
+-- a text spells z, and lenient parsing returns z
+pub record IsStrictly (k : Kind) (f : FormatData) (t : List ℕ) (z : ℤ) : Type 0 where
+  pub utf8 : IsUtf8 t
+  pub spelled : SpellsNumber f t z
+  pub number : z ≡ denoted f t
+  pub accepted : ¬ (Refused k f t)
+
+-- when a text is refused for a cause
+abbrev pub IsCause : Kind → FormatData → List ℕ → StrictError → Type 0
+IsCause k f t NotUtf8 = ¬ (IsUtf8 t)
+IsCause k f t (Unexpected at) = StopsAt f t at
+IsCause k f t NoDigit = LacksDigit f t
+IsCause k f t Misspelled = IsMisspelled f t
+IsCause k f t OutOfRange = IsOutOfRange k f t
+
+-- the message of an error
+abbrev pub strict_message_of : StrictError → List ℕ
+strict_message_of NotUtf8 = codes "The bytes are not UTF-8."
+strict_message_of (Unexpected at) = codes "The text has an unexpected byte."
+strict_message_of NoDigit = codes "The text has no digit."
+strict_message_of Misspelled = codes "The text is not as the number is printed."
+strict_message_of OutOfRange = codes "The number is no value of the type."

@@ -1,0 +1,360 @@
+//! Strict parsing: a text that is exactly as a number is printed, or the cause of its refusal.
+//!
+//! A text *spells* a number if it is the text of the number under the format, or that text without
+//! separators. Strict parsing returns the number that a text spells, and refuses every other text.
+ghost use Rattle.std.specs.Prelude.{◌≡◌, ◌↔◌, ◌<◌, ◌≤◌, IsTrue, take, drop, length, Some, IfSome, IsUtf8, MatchOption, MatchResult};
+ghost use Rattle.std.specs.Int.Digits.{number_from_digits};
+ghost use Rattle.num_format_int.specs.Grouped.{stands, grouped, printed_separator};
+ghost use Rattle.num_format_int.specs.Groups.{plain};
+ghost use Rattle.num_format_int.specs.Kind.{Kind};
+ghost use Rattle.num_format_parsing.specs.Reading.{denoted};
+ghost use Rattle.num_format_parsing.specs.Strict.{SpellsNumber, IsStrictly, IsCause, unread, sign_len, strict_message_of};
+ghost use Rattle.num_format_parsing.specs.Shapes.{BeginsWithDigit, EndsSeparator, IsInGroups, IsPlainStart, byte_figures};
+
+use crate::parsing::parse;
+use num_format_int::sealed::Sealed;
+use num_format_text::{Format, Grouping};
+use std::fmt;
+
+/// Why a text was refused by strict parsing. The causes are tried in this order.
+///
+/// It takes 16 bytes, and does not keep the text.
+#[derive(Clone, Copy, Debug, PartialEq, Eq, Hash)]
+pub enum StrictError {
+    /// The bytes are not UTF-8.
+    NotUtf8,
+    /// The byte at this place, counted from 0, is the first one that belongs to no digit and to no
+    /// separator. The minus sign is looked for only at the start of the text, and a separator only if
+    /// the grouping prints one.
+    Unexpected {
+        /// The bytes before it.
+        at: usize,
+    },
+    /// No byte is unexpected, and the text has no digit.
+    NoDigit,
+    /// No byte is unexpected, and the text is not that of the number that its digits write: it has a
+    /// leading zero, a separator elsewhere than where the format prints one, or is a negative zero.
+    Misspelled,
+    /// The text spells a number that is no value of the type, or that parsing refuses for its digits.
+    OutOfRange,
+}
+
+impl fmt::Display for StrictError {
+    ghost output = { λ error. Some (strict_message_of error) };
+
+    ghost styled_output = { λ error _. Some (strict_message_of error) };
+
+    /// Writes the message alone, whatever width or fill is asked for.
+    fn fmt<W: fmt::Write>(&self, f: &mut fmt::Formatter<W>) -> fmt::Result {
+        f.write_str(match self {
+            StrictError::NotUtf8 => "The bytes are not UTF-8.",
+            StrictError::Unexpected { .. } => "The text has an unexpected byte.",
+            StrictError::NoDigit => "The text has no digit.",
+            StrictError::Misspelled => "The text is not as the number is printed.",
+            StrictError::OutOfRange => "The number is no value of the type.",
+        })
+    }
+}
+
+impl std::error::Error for StrictError {}
+
+/// Returns the number that the text of the bytes spells, or the first cause for which it is refused.
+pub(crate) fn parse_strict<N: Sealed, F: Format>(bytes: &[u8], format: &F) -> Result<N, StrictError>
+    ensures { MatchResult result
+        (λ n. IsStrictly N.kind (F.answers format.now) bytes.now (N.value n))
+        (λ e. IsCause N.kind (F.answers format.now) bytes.now e) }
+{
+    if let Some(error) = misspelling(bytes, format) {
+        return Err(error);
+    }
+    match parse(bytes, format) {
+        Some(number) => Ok(number),
+        None => Err(StrictError::OutOfRange),
+    }
+}
+
+/// Returns why the bytes are no text that spells the number that it denotes, or `None` if they are one.
+///
+/// Most texts have no leading zero, and a minus sign and a separator without digits. Groups of digits
+/// that are found from the right then settle that a text spells its number. All else is judged step by
+/// step.
+fn misspelling<F: Format>(bytes: &[u8], format: &F) -> Option<StrictError>
+    ensures { MatchOption result
+        (IsUtf8 bytes.now
+        × SpellsNumber (F.answers format.now) bytes.now (denoted (F.answers format.now) bytes.now))
+        (λ e. (k : Kind) → IsCause k (F.answers format.now) bytes.now e) }
+{
+    if is_surely_spelled(bytes, format) {
+        None
+    } else {
+        judge(bytes, format)
+    }
+}
+
+/// Returns whether the bytes surely are a text that spells the number that it denotes. Where it returns
+/// `false`, they may be one too.
+fn is_surely_spelled<F: Format>(text: &[u8], format: &F) -> bool
+    ensures { IsTrue result → IsUtf8 text.now
+        × SpellsNumber (F.answers format.now) text.now (denoted (F.answers format.now) text.now) }
+{
+    let Some(start) = plain_start(text, format) else {
+        return false;
+    };
+    let separator = format.separator().into_str().as_bytes();
+    let body = &text[start..];
+    if !begins_with_digit(body) {
+        return false;
+    }
+    if are_digits(body) {
+        return true;
+    }
+    if count_digits(separator) != 0 {
+        return false;
+    }
+    match format.grouping() {
+        Grouping::Standard => are_groups(body, separator, 3, 3),
+        Grouping::Indian => are_groups(body, separator, 3, 2),
+        Grouping::Myriad => are_groups(body, separator, 4, 4),
+        Grouping::Sparse => {
+            // Four digits have no separator.
+            if body.len() <= 4 + separator.len() {
+                return false;
+            }
+            are_groups(body, separator, 3, 3)
+        }
+        Grouping::Posix => false,
+    }
+}
+
+/// Returns the length of the minus sign at the start of a text, or `None` if that sign has a digit.
+#[inline]
+fn plain_start<F: Format>(text: &[u8], format: &F) -> Option<usize>
+    ensures { IfSome result (λ start. IsPlainStart (F.answers format.now) text.now start) }
+{
+    let minus_sign = format.minus_sign().into_str().as_bytes();
+    if !text.starts_with(minus_sign) {
+        return Some(0);
+    }
+    if count_digits(minus_sign) != 0 {
+        return None;
+    }
+    Some(minus_sign.len())
+}
+
+/// Returns whether the first byte is a digit other than zero.
+fn begins_with_digit(text: &[u8]) -> bool
+    ensures { IsTrue result → BeginsWithDigit text.now }
+{
+    if text.is_empty() {
+        return false;
+    }
+    let first = text[0];
+    first.is_ascii_digit() && first != b'0'
+}
+
+/// Returns whether all bytes are digits.
+#[inline]
+fn are_digits(text: &[u8]) -> bool
+    ensures { IsTrue result → text.now ≡ plain (byte_figures text.now) }
+{
+    for byte in text {
+        if !byte.is_ascii_digit() {
+            return false;
+        }
+    }
+    true
+}
+
+/// Returns where the separator begins that ends before the place `end`, if one does.
+#[inline]
+fn separator_start(body: &[u8], end: usize, separator: &[u8]) -> Option<usize>
+    requires { end ≤ length body.now }
+    ensures { IfSome result (λ start. EndsSeparator separator.now body.now start end) }
+{
+    if end < separator.len() {
+        return None;
+    }
+    let start = end - separator.len();
+    if body[start..].starts_with(separator) {
+        Some(start)
+    } else {
+        None
+    }
+}
+
+/// Returns whether the body is a last group of `last` digits, and before it groups of `size` digits, the
+/// first of which may have fewer, with the separator between any two.
+#[inline]
+fn are_groups(body: &[u8], separator: &[u8], last: usize, size: usize) -> bool
+    requires { 0 < size }
+    ensures { IsTrue result → IsInGroups last size separator.now body.now }
+{
+    if body.len() <= last {
+        return false;
+    }
+    let start = body.len() - last;
+    if !are_digits(&body[start..]) {
+        return false;
+    }
+    let Some(place) = separator_start(body, start, separator) else {
+        return false;
+    };
+    let mut end = place;
+    while end > size {
+        let start = end - size;
+        if !are_digits(&body[start..end]) {
+            return false;
+        }
+        let Some(place) = separator_start(body, start, separator) else {
+            return false;
+        };
+        end = place;
+    }
+    end > 0 && are_digits(&body[..end])
+}
+
+/// Returns the same as [`misspelling`], by going over the bytes a few times.
+#[cold]
+#[inline(never)]
+fn judge<F: Format>(bytes: &[u8], format: &F) -> Option<StrictError>
+    ensures { MatchOption result
+        (IsUtf8 bytes.now
+        × SpellsNumber (F.answers format.now) bytes.now (denoted (F.answers format.now) bytes.now))
+        (λ e. (k : Kind) → IsCause k (F.answers format.now) bytes.now e) }
+{
+    if str::from_utf8(bytes).is_err() {
+        return Some(StrictError::NotUtf8);
+    }
+    let minus_sign = format.minus_sign().into_str();
+    let is_negative = bytes.starts_with(minus_sign.as_bytes());
+    let start = if is_negative { minus_sign.len() } else { 0 };
+    let at = expected_end(bytes, start, printed_separator(format));
+    if at < bytes.len() {
+        return Some(StrictError::Unexpected { at });
+    }
+    if count_digits(bytes) == 0 {
+        return Some(StrictError::NoDigit);
+    }
+    if !is_spelled(bytes, start, format) {
+        return Some(StrictError::Misspelled);
+    }
+    None
+}
+
+/// Returns the separator, or nothing where the grouping prints none.
+fn printed_separator<F: Format>(format: &F) -> &[u8]
+    ensures { result.now ≡ printed_separator
+        (F.answers format.now).grouping (F.answers format.now).separator }
+{
+    match format.grouping() {
+        Grouping::Posix => &[],
+        _ => format.separator().into_str().as_bytes(),
+    }
+}
+
+/// Returns the place after digits and whole separators, from the start on. A separator is tried first.
+fn expected_end(text: &[u8], start: usize, separator: &[u8]) -> usize
+    requires { start ≤ length text.now }
+    ensures within { result ≤ length text.now }
+    ensures rest { unread separator.now 0 (drop start text.now) ≡ drop result text.now }
+{
+    let mut place = start;
+    while place < text.len() {
+        if !separator.is_empty() && text[place..].starts_with(separator) {
+            place += separator.len();
+        } else if text[place].is_ascii_digit() {
+            place += 1;
+        } else {
+            return place;
+        }
+    }
+    place
+}
+
+/// Returns how many digits stand among the bytes.
+fn count_digits(text: &[u8]) -> usize
+    ensures { result ≡ length (byte_figures text.now) }
+{
+    let mut count = 0;
+    for byte in text {
+        if byte.is_ascii_digit() {
+            count += 1;
+        }
+    }
+    count
+}
+
+/// Returns whether a text spells the number that it denotes. `start` is the length of its minus sign.
+fn is_spelled<F: Format>(text: &[u8], start: usize, format: &F) -> bool
+    requires utf8 { IsUtf8 text.now }
+    requires start { start ≡ sign_len (F.answers format.now) text.now }
+    requires within { start ≤ length text.now }
+    ensures { IsTrue result
+        ↔ SpellsNumber (F.answers format.now) text.now (denoted (F.answers format.now) text.now) }
+{
+    let first = leading_zeros_end(text);
+    if first == text.len() {
+        return text.len() == 1 && text[0] == b'0';
+    }
+    let separator = format.separator().into_str().as_bytes();
+    let digits = &text[first..];
+    let body = &text[start..];
+    is_grouped(body, digits, separator, format.grouping())
+        || is_grouped(body, digits, separator, Grouping::Posix)
+}
+
+/// Returns the place of the first digit that is not zero, or the length.
+fn leading_zeros_end(text: &[u8]) -> usize
+    ensures within { result ≤ length text.now }
+    ensures zeros { number_from_digits 10 (byte_figures (take result text.now)) ≡ 0 }
+    ensures digit { result < length text.now → BeginsWithDigit (drop result text.now) }
+{
+    let mut place = 0;
+    for byte in text {
+        if byte.is_ascii_digit() && *byte != b'0' {
+            return place;
+        }
+        place += 1;
+    }
+    place
+}
+
+/// Returns whether a separator stands after a digit that has `right` digits to its right, in a number
+/// of `digits` digits.
+fn is_due(grouping: Grouping, digits: usize, right: usize) -> bool
+    ensures { result ≡ stands grouping digits right }
+{
+    match grouping {
+        Grouping::Standard => right > 0 && right % 3 == 0,
+        Grouping::Indian => right >= 3 && right % 2 == 1,
+        Grouping::Posix => false,
+        Grouping::Myriad => right > 0 && right % 4 == 0,
+        Grouping::Sparse => digits >= 5 && (right > 0 && right % 3 == 0),
+    }
+}
+
+/// Returns whether the body is the digits among the bytes of `digits`, with the separators of the
+/// grouping.
+fn is_grouped(body: &[u8], digits: &[u8], separator: &[u8], grouping: Grouping) -> bool
+    ensures { IsTrue result ↔ (body.now ≡ grouped grouping separator.now (byte_figures digits.now)) }
+{
+    let count = count_digits(digits);
+    let mut place = 0;
+    let mut right = count;
+    for byte in digits {
+        if byte.is_ascii_digit() {
+            if place == body.len() || body[place] != *byte {
+                return false;
+            }
+            place += 1;
+            right -= 1;
+            if is_due(grouping, count, right) {
+                if !body[place..].starts_with(separator) {
+                    return false;
+                }
+                place += separator.len();
+            }
+        }
+    }
+    place == body.len()
+}
