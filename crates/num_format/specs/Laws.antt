@@ -1,5 +1,5 @@
 -- The laws that the functions of `laws` state.
 pub use Rattle.num_format_int.specs.Laws.{BoundLaw, DigitsLaw, EndsLaw, LengthLaw}
 pub use Rattle.num_format_custom.specs.Laws.{BuildingLaw, CustomFormatLaw, EnglishLaw}
-pub use Rattle.num_format_certificates.specs.Laws.{AlikeLaw, DistinctTextsLaw, RoundTripLaw}
+pub use Rattle.num_format_certificates.specs.Laws.{AlikeLaw, DistinctTextsLaw, IsExact, RoundTripLaw, StrictLaw}
 pub use Rattle.num_format_json.specs.Laws.{JsonLaw}

@@ -3,7 +3,9 @@
 //! The contract of each function states a law. There is nothing to compute, so the bodies are
 //! empty. A caller that needs a law in a proof calls its function.
 
-pub use num_format_certificates::laws::{alike, distinct_texts, locale_round_trips, round_trips};
+pub use num_format_certificates::laws::{
+    alike, distinct_texts, locale_round_trips, round_trips, strict,
+};
 pub use num_format_custom::laws::{building, custom_formats, english, equality};
 pub use num_format_int::laws::{digits, text_bound, text_ends, text_length};
 pub use num_format_json::laws::json;

@@ -106,7 +106,7 @@ signed_number-unsigned_abs (pos n) = rw (is_negative-pos n)
 signed_number-unsigned_abs (negsuc n) = refl
 
 -- it denotes z
-tells-same : (f : FormatData) (z : ℤ) (text : List ℕ) → Tells f z text → denoted f text ≡ z
+pub tells-same : (f : FormatData) (z : ℤ) (text : List ℕ) → Tells f z text → denoted f text ≡ z
 tells-same f z text tells =
     ap (λ b. signed_number b (magnitude_of text)) tells.sign
     ∙ ap (signed_number (is_negative z)) (ap (number_from_digits 10) tells.figures ∙ number_from_digits-digits (unsigned_abs z))
@@ -128,11 +128,15 @@ tells-accepted most k f z text within value tells refused =
       })
     ]
 
+-- as a number of an integer type
+pub accepted-from_tells : (t : IntegerType) (f : FormatData) (z : ℤ) (text : List ℕ) → IsValueOf (kind_of t) z → Tells f z text → ¬ (Refused (kind_of t) f text)
+accepted-from_tells t f z text value tells =
+    let limit = within_limit t in
+    tells-accepted limit.0 (kind_of t) f z text limit.1 value tells
+
 -- so a value reads back, if its text tells it
 pub reads_back-from_tells : (t : IntegerType) (f : FormatData) (z : ℤ) → IsValueOf (kind_of t) z → Tells f z (text_of f z) → ReadsBack (kind_of t) f z
-reads_back-from_tells t f z value tells =
-    let limit = within_limit t in
-    record { accepted = tells-accepted limit.0 (kind_of t) f z (text_of f z) limit.1 value tells; same = tells-same f z (text_of f z) tells }
+reads_back-from_tells t f z value tells = record { accepted = accepted-from_tells t f z (text_of f z) value tells; same = tells-same f z (text_of f z) tells }
 
 -- a minus sign without digits is no prefix of a text that begins with a digit
 no_prefix : (sign rest tail : List ℕ) (d : ℕ) → d < 10 → ¬ (sign ≡ []) → digits_among (chars sign) ≡ [] → ¬ ((48 + d) ∷ rest ≡ sign ++ tail)
@@ -158,7 +162,7 @@ sign-text_of f (pos n) plain =
 sign-text_of f (negsuc n) plain = (starts_is Decides-eqb (text_of f (negsuc n)) f.minus_sign (is_negative_text f (text_of f (negsuc n))) refl).1 (body_of f (suc n)) refl
 
 -- and it tells z
-tells-text_of : (f : FormatData) (z : ℤ) → IsUtf8 f.minus_sign → IsUtf8 (printed_separator f.grouping f.separator) → IsUnambiguous f → Tells f z (text_of f z)
+pub tells-text_of : (f : FormatData) (z : ℤ) → IsUtf8 f.minus_sign → IsUtf8 (printed_separator f.grouping f.separator) → IsUnambiguous f → Tells f z (text_of f z)
 tells-text_of f z sign separator plain =
     let n = unsigned_abs z in
     let sign_chars : List ℕ = if is_negative z then chars f.minus_sign else [] in

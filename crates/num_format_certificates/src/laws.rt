@@ -4,7 +4,7 @@
 //! but for that of [`locale_round_trips`], which calls getters for what their contracts say.
 //! A caller that needs a law in a proof calls its function.
 ghost use Rattle.num_format_locale.specs.Data.{locale_data};
-ghost use Rattle.num_format_certificates.specs.Laws.{AlikeLaw, DistinctTextsLaw, RoundTripLaw};
+ghost use Rattle.num_format_certificates.specs.Laws.{AlikeLaw, DistinctTextsLaw, RoundTripLaw, StrictLaw};
 ghost use Rattle.num_format_certificates.specs.RoundTrips.{RoundTrips};
 
 use num_format_locale::Locale;
@@ -43,4 +43,17 @@ pub fn locale_round_trips(locale: Locale)
 /// same text are equal.
 pub fn distinct_texts()
     ensures { DistinctTextsLaw }
+{}
+
+/// Under a format by which every number reads back:
+///
+/// - strict parsing returns a value of a type exactly if the text spells it;
+/// - a text spells one number at most;
+/// - each printed text is parsed to its number;
+/// - a text is out of range for a type exactly if it spells a number that is no value of the type.
+///
+/// The law is about data whose minus sign and separator are UTF-8, as those of every
+/// [`Format`](num_format_text::Format) are.
+pub fn strict()
+    ensures { StrictLaw }
 {}
