@@ -4,7 +4,7 @@
     python3 tools/readme_code.py
 
 Each block of the language `rust` has to stand in a file of test_readme, of a crate
-`uses_NAME` or of num_format_vectors, line after line, and each of `c` and `python` in a file of
+`uses_NAME`, of num_format_vectors or of test_printing, line after line, and each of `c` and `python` in a file of
 examples/. README.md has to have a text block that is the stdout of test_readme. The exit status is 1 where one differs.
 """
 import re
@@ -18,6 +18,7 @@ CRATES = [
     EXAMPLES,
     *sorted((ROOT / "crates").glob("uses_*")),
     ROOT / "crates" / "num_format_vectors",
+    ROOT / "crates" / "test_printing",
 ]
 
 # The files that a block of each language may stand in.
