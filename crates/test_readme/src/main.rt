@@ -31,8 +31,8 @@ fn main(rt: HostRuntime) -> Result<()> {
     line.write_formatted(&1_234_567u64, &Locale::de)?;
     println!(rt; "{line}")?;
 
-    // And back into a number.
-    let number: i64 = "-1,000,000".parse_formatted(&Locale::en)?;
+    // And back into a number: exactly as it is printed, or an error with the cause.
+    let number: i64 = "-1,000,000".parse_strict(&Locale::en)?;
     println!(rt; "{number}")?;
     Ok(())
 }
