@@ -4,7 +4,7 @@ use Rattle.std.specs.Prelude.{Result, MatchResult, IsOk, ◌↔◌}
 use Rattle.num_format_text.specs.Format.{FormatData}
 use Rattle.num_format_int.specs.Kind.{Kind}
 use Rattle.num_format_parsing.specs.Reading.{denoted, no_digit}
-use Rattle.num_format_parsing.specs.Strict.{SpellsNumber, StopsAt, IsExpected, IsOutOfRange, IsStrictly, IsCause}
+use Rattle.num_format_parsing.specs.Strict.{SpellsNumber, StopsAt, IsExpected, IsOutOfRange, ParsesStrictly, IsCause}
 use Rattle.num_format_parsing.specs.declared.strict.StrictError.{StrictError}
 use Rattle.num_format_parsing.specs.declared.strict.StrictError.TheVariants.{NotUtf8, Unexpected, NoDigit, Misspelled, OutOfRange}
 use Rattle.num_format_parsing.proofs.SpellingLemmas.{figures-spelled}
@@ -49,7 +49,7 @@ only_cause k f t OutOfRange Misspelled p q = absurd (q.wrong p.spelled)
 only_cause k f t OutOfRange OutOfRange p q = refl
 
 -- what is read is refused for no cause
-pub no_cause : (k : Kind) (f : FormatData) (t : List ℕ) (z : ℤ) (e : StrictError) → IsStrictly k f t z → IsCause k f t e → ⊥
+pub no_cause : (k : Kind) (f : FormatData) (t : List ℕ) (z : ℤ) (e : StrictError) → ParsesStrictly k f t z → IsCause k f t e → ⊥
 no_cause k f t z NotUtf8 read p = p read.utf8
 no_cause k f t z (Unexpected a) read p = stops-not f t a p (record { utf8 = read.utf8; rest = unexpected-none f t read.utf8 (subst (SpellsNumber f t) read.number read.spelled) })
 no_cause k f t z NoDigit read p = read.accepted (no_digit p.none)
@@ -58,7 +58,7 @@ no_cause k f t z OutOfRange read p = read.accepted p.refused
 
 -- a result that is judged
 abbrev pub Judged : {X : Type 0} → (X → ℤ) → Kind → FormatData → List ℕ → Result X StrictError → Type 0
-Judged value k f t r = MatchResult r (λ n. IsStrictly k f t (value n)) (λ e. IsCause k f t e)
+Judged value k f t r = MatchResult r (λ n. ParsesStrictly k f t (value n)) (λ e. IsCause k f t e)
 
 -- it is an error exactly if that is the cause
 pub exactly : {X : Type 0} (value : X → ℤ) (k : Kind) (f : FormatData) (t : List ℕ) (r : Result X StrictError) (e : StrictError) → Judged value k f t r → (r ≡ Err e) ↔ IsCause k f t e
@@ -66,6 +66,6 @@ exactly value k f t (Ok n) e judged = (λ wrong. cc, λ cause. absurd (no_cause 
 exactly value k f t (Err d) e judged = (λ same. let error : d ≡ e = cc in subst (IsCause k f t) error judged, λ cause. ap Err (only_cause k f t d e judged cause))
 
 -- and a number exactly if the text is read
-pub is_ok-exactly : {X : Type 0} (value : X → ℤ) (k : Kind) (f : FormatData) (t : List ℕ) (r : Result X StrictError) → Judged value k f t r → IsOk r ↔ IsStrictly k f t (denoted f t)
-is_ok-exactly value k f t (Ok n) judged = (λ ok. subst (IsStrictly k f t) judged.number judged, λ read. refl)
+pub is_ok-exactly : {X : Type 0} (value : X → ℤ) (k : Kind) (f : FormatData) (t : List ℕ) (r : Result X StrictError) → Judged value k f t r → IsOk r ↔ ParsesStrictly k f t (denoted f t)
+is_ok-exactly value k f t (Ok n) judged = (λ ok. subst (ParsesStrictly k f t) judged.number judged, λ read. refl)
 is_ok-exactly value k f t (Err e) judged = (λ wrong. cc, λ read. absurd (no_cause k f t (denoted f t) e read judged))

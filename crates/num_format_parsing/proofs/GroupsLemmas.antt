@@ -1,11 +1,12 @@
 -- Bytes that are digits in groups, found from the right.
-use Rattle.std.proofs.Common.{◌⊎◌, inl, inr, Bool, ◌≡◌, ℕ, ◌+◌, ◌-◌, ◌*◌, ◌/◌, ◌<◌, ◌≤◌, true, false, List, [], ◌∷◌, ◌++◌, length, refl, ap, ◌∙◌, sym, arith, take, drop, get_or, length-append, length-take-le, take-append-drop, drop-drop, subst, IsUtf8}
+use Rattle.std.proofs.Common.{◌⊎◌, inl, inr, Bool, ◌≡◌, ℕ, ◌+◌, ◌-◌, ◌*◌, ◌/◌, ◌<◌, ◌≤◌, true, false, List, [], ◌∷◌, ◌++◌, length, refl, ap, ◌∙◌, sym, arith, take, drop, length-append, length-take-le, take-append-drop, drop-drop, subst, IsUtf8}
 use Rattle.std.specs.Prelude.{nat_eq}
 use Rattle.std.specs.Char.{is_ascii_digit}
 use Rattle.std.specs.Int.Digits.{number_from_digits}
-use Rattle.std.specs.List.{starts_with}
+use Rattle.std.specs.List.{list_all, starts_with}
+use Rattle.std.proofs.lemmas.Bool.{and_parts}
 use Rattle.std.proofs.lemmas.Bool.Decides.{Decides-eqb}
-use Rattle.std.proofs.lemmas.List.{map-append, length-map, nil_from_length, take_at, take_more}
+use Rattle.std.proofs.lemmas.List.{length-map, nil_from_length, take_at}
 use Rattle.std.proofs.lemmas.List.Elements.{All-append}
 use Rattle.std.proofs.Math.Nat.{mul-le-mul_right}
 use Rattle.std.proofs.lemmas.Slice.Eq.{starts_is}
@@ -18,25 +19,20 @@ use Rattle.num_format_parsing.specs.Reading.{denoted, is_negative_text}
 use Rattle.num_format_int.proofs.DigitLemmas.{AreDigits}
 use Rattle.num_format_int.proofs.GroupLemmas.{put-group, put-first_group, last_group-Standard, groups-Standard}
 use Rattle.num_format_int.proofs.GroupedLemmas.{separated-plain, grouped-Posix, length-grouped}
-use Rattle.num_format_parsing.proofs.ReadingLemmas.{digits_among-digit}
 use Rattle.num_format_parsing.proofs.ReadingLemmas.{digits_among-separated}
 use Rattle.num_format_parsing.specs.Strict.{SpellsNumber}
 use Rattle.num_format_parsing.specs.Shapes.{byte_figures, BeginsWithDigit, EndsSeparator, HasGroupsFrom, IsInGroups, IsPlainStart}
-use Rattle.num_format_parsing.proofs.FigureLemmas.{digit_char, figures-below, number-after_zeros, writes}
+use Rattle.num_format_parsing.proofs.FigureLemmas.{digit_char, figures-digit, figures-below, number-after_zeros, writes}
 use Rattle.num_format_parsing.proofs.SpellingLemmas.{spells-more, utf8-separated}
 
--- one digit more
-pub plain-more : (t : List ℕ) (i : ℕ) → i < length t → take i t ≡ plain (byte_figures (take i t)) → is_ascii_digit (get_or t i 0) ≡ true →
-    take (i + 1) t ≡ plain (byte_figures (take (i + 1) t))
-plain-more t i inside before digit =
-    let b = get_or t i 0 in
-    let figures = digits_among-digit (take i t) [] b digit in
-    take_more t i 0 inside
-    ∙ ap (λ xs. xs ++ b ∷ []) before
-    ∙ ap (λ c. plain (byte_figures (take i t)) ++ c ∷ []) (sym (digit_char b digit))
-    ∙ sym (map-append (λ d. 48 + d) (byte_figures (take i t)) ((b - 48) ∷ []))
-    ∙ ap plain (sym figures)
-    ∙ ap (λ xs. plain (byte_figures xs)) (sym (take_more t i 0 inside))
+-- bytes that are digits are their figures as text
+pub plain-all : (t : List ℕ) → list_all is_ascii_digit t ≡ true → t ≡ plain (byte_figures t)
+plain-all [] all = refl
+plain-all (b ∷ t) all =
+    let both = and_parts (is_ascii_digit b) (list_all is_ascii_digit t) all in
+    ap (λ x. b ∷ x) (plain-all t both.1)
+    ∙ ap (λ c. c ∷ plain (byte_figures t)) (sym (digit_char b both.0))
+    ∙ ap plain (sym (figures-digit b t both.0))
 
 -- a separator that stands where the bytes start with it
 pub separator-found : (s body : List ℕ) (end : ℕ) → length s ≤ end → starts_with nat_eq (drop (end - length s) body) s ≡ true → EndsSeparator s body (end - length s) end

@@ -71,7 +71,7 @@ pub record IsOutOfRange (k : Kind) (f : FormatData) (t : List ℕ) : Type 0 wher
   pub refused : Refused k f t
 
 -- a text spells z, and lenient parsing returns z
-pub record IsStrictly (k : Kind) (f : FormatData) (t : List ℕ) (z : ℤ) : Type 0 where
+pub record ParsesStrictly (k : Kind) (f : FormatData) (t : List ℕ) (z : ℤ) : Type 0 where
   pub utf8 : IsUtf8 t
   pub spelled : SpellsNumber f t z
   pub number : z ≡ denoted f t

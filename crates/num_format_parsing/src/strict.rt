@@ -3,12 +3,13 @@
 //! A text *spells* a number if it is the text of the number under the format, or that text without
 //! separators. Strict parsing returns the number that a text spells, and refuses every other text.
 ghost use Rattle.std.specs.Prelude.{◌≡◌, ◌↔◌, ◌<◌, ◌≤◌, IsTrue, take, drop, length, Some, IfSome, IsUtf8, MatchOption, MatchResult};
+ghost use Rattle.std.specs.Char.{is_ascii_digit};
 ghost use Rattle.std.specs.Int.Digits.{number_from_digits};
+ghost use Rattle.std.specs.List.{list_all};
 ghost use Rattle.num_format_int.specs.Grouped.{stands, grouped, printed_separator};
-ghost use Rattle.num_format_int.specs.Groups.{plain};
 ghost use Rattle.num_format_int.specs.Kind.{Kind};
 ghost use Rattle.num_format_parsing.specs.Reading.{denoted};
-ghost use Rattle.num_format_parsing.specs.Strict.{SpellsNumber, IsStrictly, IsCause, unread, sign_len, strict_message_of};
+ghost use Rattle.num_format_parsing.specs.Strict.{SpellsNumber, ParsesStrictly, IsCause, unread, sign_len, strict_message_of};
 ghost use Rattle.num_format_parsing.specs.Shapes.{BeginsWithDigit, EndsSeparator, IsInGroups, IsPlainStart, byte_figures};
 
 use crate::parsing::parse;
@@ -23,11 +24,10 @@ use std::fmt;
 pub enum StrictError {
     /// The bytes are not UTF-8.
     NotUtf8,
-    /// The byte at this place, counted from 0, is the first one that belongs to no digit and to no
-    /// separator. The minus sign is looked for only at the start of the text, and a separator only if
-    /// the grouping prints one.
+    /// The first `at` bytes are the minus sign, if the text begins with it, and then digits and whole
+    /// separators. The next byte belongs to neither. A separator counts only if the grouping prints one.
     Unexpected {
-        /// The bytes before it.
+        /// The number of bytes before the unexpected one.
         at: usize,
     },
     /// No byte is unexpected, and the text has no digit.
@@ -35,7 +35,8 @@ pub enum StrictError {
     /// No byte is unexpected, and the text is not that of the number that its digits write: it has a
     /// leading zero, a separator elsewhere than where the format prints one, or is a negative zero.
     Misspelled,
-    /// The text spells a number that is no value of the type, or that parsing refuses for its digits.
+    /// The text spells the number that it denotes, and parsing refuses it: under most formats, since the
+    /// number is no value of the type.
     OutOfRange,
 }
 
@@ -61,7 +62,7 @@ impl std::error::Error for StrictError {}
 /// Returns the number that the text of the bytes spells, or the first cause for which it is refused.
 pub(crate) fn parse_strict<N: Sealed, F: Format>(bytes: &[u8], format: &F) -> Result<N, StrictError>
     ensures { MatchResult result
-        (λ n. IsStrictly N.kind (F.answers format.now) bytes.now (N.value n))
+        (λ n. ParsesStrictly N.kind (F.answers format.now) bytes.now (N.value n))
         (λ e. IsCause N.kind (F.answers format.now) bytes.now e) }
 {
     if let Some(error) = misspelling(bytes, format) {
@@ -155,14 +156,9 @@ fn begins_with_digit(text: &[u8]) -> bool
 /// Returns whether all bytes are digits.
 #[inline]
 fn are_digits(text: &[u8]) -> bool
-    ensures { IsTrue result → text.now ≡ plain (byte_figures text.now) }
+    ensures { result ≡ list_all is_ascii_digit text.now }
 {
-    for byte in text {
-        if !byte.is_ascii_digit() {
-            return false;
-        }
-    }
-    true
+    text.iter().all(|byte| byte.is_ascii_digit())
 }
 
 /// Returns where the separator begins that ends before the place `end`, if one does.

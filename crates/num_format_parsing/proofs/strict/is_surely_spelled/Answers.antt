@@ -4,7 +4,7 @@ use Rattle.num_format_int.specs.Grouped.{stands}
 use Rattle.num_format_int.specs.Groups.{plain, HasGroups, HasLastGroup}
 use Rattle.num_format_int.proofs.GroupLemmas.{last_group-Standard, groups-Standard, last_group-Indian, groups-Indian, last_group-Myriad, groups-Myriad, last_group-Sparse, groups-Sparse}
 use Rattle.num_format_parsing.specs.Shapes.{byte_figures, BeginsWithDigit, IsInGroups}
-use Rattle.num_format_parsing.proofs.GroupsLemmas.{spells-digits, spells-groups, many-digits}
+use Rattle.num_format_parsing.proofs.GroupsLemmas.{plain-all, spells-digits, spells-groups, many-digits}
 use Rattle.num_format_parsing.proofs.strict.is_surely_spelled.Goals as goal
 
 pub returns-then-are_digits : goal.returns-then-are_digits
@@ -15,7 +15,7 @@ returns-then-are_digits g c = λ _.
     let plain_start = c.in-Some.ensures in
     let same = take_rest t start in
     let begin = subst BeginsWithDigit same (c.begins_with_digit.ensures c.if-not-begins_with_digit.false) in
-    spells-digits f t start plain_start begin (subst (λ xs. xs ≡ plain (byte_figures xs)) same (c.are_digits.ensures c.if-are_digits.true))
+    spells-digits f t start plain_start begin (subst (λ xs. xs ≡ plain (byte_figures xs)) same (plain-all _ (sym c.are_digits.ensures ∙ c.if-are_digits.true)))
 
 pub returns-in-Standard : goal.returns-in-Standard
 returns-in-Standard g c = λ test.
