@@ -63,7 +63,10 @@ enum {
  *
  * Each call that is given a format tests it, and refuses with NUM_FORMAT_BAD_FORMAT one that cannot
  * be a format: a length above 8, a text that is not UTF-8, a number of no grouping. A struct of
- * zeros is refused. */
+ * zeros is refused.
+ *
+ * The calls that fill a struct set the bytes after each text to zero. So the formats of two filled
+ * structs have the same separator, minus sign and grouping exactly if memcmp finds the structs equal. */
 typedef struct num_format {
     uint8_t separator[8];
     uint8_t minus_sign[8];

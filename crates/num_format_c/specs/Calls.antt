@@ -8,7 +8,7 @@ use Rattle.num_format.specs.Kind.{Kind, kind_of, U8, U16, U32, U64, I8, I16, I32
 use Rattle.num_format.specs.Names.{Spells, name_of}
 use Rattle.num_format.specs.Reading.{Refused, denoted}
 use Rattle.num_format.specs.Text.{text_of}
-use Rattle.num_format_c.specs.Held.{Agrees, HasFormat, format_of, format_with, grouping_of}
+use Rattle.num_format_c.specs.Held.{Agrees, HasFormat, IsPadded, format_of, format_with, grouping_of}
 use Rattle.num_format_c.specs.declared.format.NumFormat.{NumFormat}
 use Rattle.num_format_c.specs.declared.status.Status.{Status}
 use Rattle.num_format_c.specs.declared.status.Status.TheVariants.{BadFormat, TooSmall, NotUtf8, NotANumber, UnknownLocale, TooLong, BadGrouping, BadBits}
@@ -81,11 +81,12 @@ abbrev pub unsigned_kind : ℕ → Option Kind
 unsigned_kind bits = if bits == 8 then Some (kind_of U8) else (if bits == 16 then Some (kind_of U16) else
     (if bits == 32 then Some (kind_of U32) else (if bits == 64 then Some (kind_of U64) else None)))
 
--- a struct is filled with the format
+-- a struct is filled with the format, and has zeros after its texts, so that the format alone determines its bytes
 pub record Fills (f : FormatData) (new : NumFormat) (result : ℤ) : Type 0 where
   pub ok : result ≡ pos 0
   pub given : HasFormat new
   pub same : Agrees (format_of new) f
+  pub padded : IsPadded new
 
 -- a struct is filled with the format of the locale that a name spells
 pub record FillsLocale (name : List ℕ) (old new : NumFormat) (result : ℤ) : Type 0 where

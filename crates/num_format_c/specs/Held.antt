@@ -1,5 +1,5 @@
 -- The format that a struct of a C program has.
-use Rattle.std.specs.Prelude.{ℕ, ◌≡◌, ◌≤◌, ◌==◌, List, take, Option, Some, None, unwrap_or, IsSome, IsUtf8, if◌then◌else◌}
+use Rattle.std.specs.Prelude.{ℕ, ◌≡◌, ◌≤◌, ◌-◌, ◌==◌, List, ◌++◌, length, replicate, take, Option, Some, None, unwrap_or, IsSome, IsUtf8, if◌then◌else◌}
 use Rattle.num_format.specs.English.{english}
 use Rattle.num_format.specs.Format.{FormatData}
 use Rattle.num_format.specs.Grouping.{Grouping}
@@ -23,6 +23,15 @@ separator_of s = take s.separator_len s.separator
 -- the minus sign of a struct
 abbrev pub minus_sign_of : NumFormat → List ℕ
 minus_sign_of s = take s.minus_sign_len s.minus_sign
+
+-- a text in an array of 8 bytes, with zeros after it
+abbrev pub padded : List ℕ → List ℕ
+padded text = text ++ replicate (8 - length text) 0
+
+-- in both arrays of the struct, the bytes after the text are zero
+pub record IsPadded (s : NumFormat) : Type 0 where
+  pub separator : s.separator ≡ padded (separator_of s)
+  pub minus_sign : s.minus_sign ≡ padded (minus_sign_of s)
 
 -- the texts of the struct are UTF-8 within their arrays
 pub record HasTexts (s : NumFormat) : Type 0 where

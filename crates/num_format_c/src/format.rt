@@ -1,7 +1,7 @@
 //! A format in a struct that a C program owns.
 ghost use Rattle.std.specs.Prelude.{◌≡◌, ◌≤◌, take, drop, length, ◌++◌, IsTrue, IsUtf8, MatchOption, Some, ◌↔◌};
 ghost use Rattle.bstr.specs.Utf8.{continues};
-ghost use Rattle.num_format_c.specs.Held.{Agrees, HasFormat, HasTexts, format_of, format_with, grouping_of};
+ghost use Rattle.num_format_c.specs.Held.{Agrees, HasFormat, HasTexts, IsPadded, format_of, format_with, grouping_of, padded};
 
 use num_format::utils::{DecimalStr, InfinityStr, MinusSignStr, NanStr, PlusSignStr, SeparatorStr};
 use num_format::{Format, Grouping};
@@ -28,6 +28,7 @@ impl NumFormat {
     pub fn new<F: Format>(format: &F) -> NumFormat
         ensures given { HasFormat result }
         ensures same { Agrees (format_of result) (F.answers format.now) }
+        ensures padded { IsPadded result }
     {
         let separator = format.separator().into_str();
         let minus_sign = format.minus_sign().into_str();
@@ -66,7 +67,8 @@ impl NumFormat {
 /// Returns the bytes of a text, and zeros after them.
 fn padded(text: &str) -> [u8; CAPACITY]
     requires { length text.now ≤ CAPACITY }
-    ensures { take (length text.now) result ≡ text.now }
+    ensures text { take (length text.now) result ≡ text.now }
+    ensures zeros { result ≡ padded text.now }
 {
     let mut bytes = [0; CAPACITY];
     bytes[..text.len()].copy_from_slice(text.as_bytes());
