@@ -14,6 +14,7 @@
 
 mod fault;
 mod input;
+pub mod laws;
 
 ghost use Rattle.std.specs.Prelude.{◌≡◌, IsUtf8};
 ghost use Rattle.std.specs.Result.{result_map_both};
