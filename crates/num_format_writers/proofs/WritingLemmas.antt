@@ -1,11 +1,15 @@
 -- How much of a text writers received, write after write.
-use Rattle.std.proofs.Common.{ℕ, ◌-◌, ◌<◌, List, [], ◌++◌, length, take, drop, ap, refl, sym, ◌∙◌, append_assoc, length-append, take-append-drop, arith}
+use Rattle.std.proofs.Common.{◌≡◌, ℕ, ◌-◌, ◌^◌, ◌<◌, List, [], ◌++◌, length, take, drop, ap, refl, sym, ◌∙◌, append_assoc, length-append, take-append-drop, arith}
 use Rattle.std.specs.Prelude.{ℤ, Option, None, Result, Ok, Err, IsErr, OnErr}
 use Rattle.std.specs.Io.KnownBytes.{Appends}
 use Rattle.std.proofs.KnownBytes.{Appends-nil, Appends-trans}
 use Rattle.std.proofs.lemmas.List.{take_rest}
+use Rattle.std.specs.IoError.{error_kind}
+use Rattle.std.specs.declared.io.Error.{Error}
+use Rattle.std.specs.declared.io.ErrorKind.TheVariants.{WriteZero}
 use Rattle.num_format_text.specs.Format.{FormatData}
 use Rattle.num_format_int.specs.Text.{text_of}
+use Rattle.num_format_writers.specs.Writers.{WritesInSlice}
 use Rattle.num_format_writers.specs.Writing.{HasReceivedUpTo, StopsWithin, Writes}
 use Rattle.num_format_int.proofs.TextLemmas.{text_of-nonempty}
 
@@ -52,10 +56,29 @@ HasReceivedUpTo-none a whole = record { received = []; split = refl; appended = 
 pub StopsWithin-none : (a : Option (List ℕ)) (whole : List ℕ) → 0 < length whole → StopsWithin a a whole
 StopsWithin-none a whole nonempty = record { rest = whole; unfinished = nonempty; received = HasReceivedUpTo-none a whole }
 
--- a call that fails, and wrote to a writer whose bytes are not known
+-- a call that returns an error, and wrote to a writer whose bytes are not known
+pub Writes_failed : {E : Type 0} (e : E) (f : FormatData) (z : ℤ) → Writes {E = E} (Err e) None None (text_of f z)
+Writes_failed e f z = record { whole = tt; count = tt; prefix = StopsWithin-none None (text_of f z) (text_of-nonempty f z) }
+
+-- the same of a result that is an error
 pub Writes_err : {E : Type 0} (r : Result ℕ E) (f : FormatData) (z : ℤ) → IsErr r → Writes r None None (text_of f z)
 Writes_err (Ok n) f z fails = absurd (cc)
-Writes_err (Err e) f z fails = record { whole = tt; count = tt; prefix = StopsWithin-none None (text_of f z) (text_of-nonempty f z) }
+Writes_err (Err e) f z fails = Writes_failed e f z
+
+-- a call that fails since the cursor is past the end of its slice
+pub WritesInSlice_past_end : (old : List ℕ) (from : ℕ) (f : FormatData) (z : ℤ) (e : Error) → length old < from → from < 2 ^ 64 → error_kind e ≡ WriteZero →
+    WritesInSlice old from (text_of f z) (Err e) old from
+WritesInSlice_past_end old from f z e past small kind =
+    let none : length old - from ≡ 0 = omega arith in
+    let longer = text_of-nonempty f z in
+    record {
+      moves = record {
+        space = record { fits = ((λ ok. absurd (cc)), (λ fits. absurd (omega (arith, fits, none, longer)))); kind = kind };
+        position = rw none (omega arith);
+      };
+      written = λ within. absurd (omega arith);
+      past_end = λ _. (refl, refl);
+    }
 
 -- what holds anyway holds on an error
 pub OnErr-always : {T E : Type 0} (r : Result T E) (P : Type 0) → P → OnErr r P

@@ -2,29 +2,33 @@
 //!
 //! [`WriteFormatted`] is implemented for strings, vectors, formatters and the writers of std. A
 //! contract states which bytes a writer received where `held` names them: for `String`, `Vec<u8>`,
-//! `Box<W>`, `BufWriter<W>`, `LineWriter<W>`, and a `&mut` of one of these. The impls for formatters,
-//! `&mut [u8]`, the cursors and `Sink` have clauses of their own. The contracts of files and of the
-//! standard streams state the returned length alone.
+//! `Box<W>`, `BufWriter<W>`, `LineWriter<W>`, and a `&mut` of one of these. `write_formatted_gives` says
+//! what else a call does: for strings, vectors, formatters, slices, cursors, `Sink`, and a `&mut` of one
+//! of these. Each has a record in `specs/Writers.antt`.
 //!
 //! A contract says when a call fails where std's says so of one write: exactly where the space is too
 //! short, for slices and for cursors over slices; only with an error of kind
 //! [`OutOfMemory`](io::ErrorKind::OutOfMemory), for strings, vectors and cursors over vectors; never,
 //! for `Sink`.
 //!
+//! Std's contracts leave open, and so do these: which bytes a `&mut [u8]` or a cursor over a boxed slice
+//! received; those of a cursor over a vector that is not at its end, or that it borrows; what a formatter
+//! received before an error, or while it indents; and all but the returned length for files and the
+//! standard streams.
+//!
 //! Code that is generic over std's [`Write`] calls
 //! [`read_to_io_writer`](ToFormattedString::read_to_io_writer), whose contract is about the
 //! writer's `contents`.
-ghost use Rattle.std.specs.Prelude.{◌≡◌, ◌+◌, ◌-◌, ◌++◌, ◌<◌, ◌≤◌, ◌↔◌, ℕ, List, Option, Some, None, length, take, drop, IsOk, IfOk, IfErr, OnOk, OnErr, string_bytes, string_len, vec_len, vec_capacity};
+ghost use Rattle.std.specs.Prelude.{◌≡◌, ◌≤◌, ⊤, ℕ, List, Option, Some, None, Result, length, IsOk, IfErr, string_bytes, vec_capacity};
 ghost use Rattle.std.specs.String.{string_capacity};
-ghost use Rattle.std.specs.Io.Iter.{u64_saturate};
 ghost use Rattle.std.specs.Io.Cursor.{cursor_inner, cursor_position};
 ghost use Rattle.std.specs.IoError.{error_kind};
-ghost use Rattle.std.specs.declared.io.ErrorKind.TheVariants.{OutOfMemory};
+ghost use Rattle.std.specs.declared.io.Error.{Error};
+ghost use Rattle.std.specs.declared.io.ErrorKind.TheVariants.{WriteZero};
 ghost use Rattle.std.specs.Result.{OkIff};
 ghost use Rattle.std.specs.Box.{boxed_slice_items};
-ghost use Rattle.std.specs.Fmt.{HasWritten, IsPlainFormatter};
-ghost use Rattle.std.specs.List.{replace_range};
 ghost use Rattle.num_format_int.specs.Text.{text_of};
+ghost use Rattle.num_format_writers.specs.Writers.{KeepsOnError, WritesToFormatter, WritesInVector, MovesInVector, WritesInSlice, MovesInSlice, WritesToSlice};
 ghost use Rattle.num_format_writers.specs.Writing.{Writes};
 
 use crate::to_formatted_string::ToFormattedString;
@@ -45,6 +49,10 @@ pub trait WriteFormatted {
     /// The bytes that the writer holds, where a contract can name them.
     ghost held: { Self → Option (List ℕ) } = { λ _. None };
 
+    /// What else a call does: a relation of the writer before it, the text of the number, the
+    /// result, and the writer after it.
+    ghost write_formatted_gives: { Self → List ℕ → Result ℕ Error → Self → Type 0 } = { λ _ _ _ _. ⊤ };
+
     /// Writes the text of the number to the writer. Returns the length of the text in bytes.
     ///
     /// # Errors
@@ -57,12 +65,17 @@ pub trait WriteFormatted {
         n: &N,
         format: &F,
     ) -> Result<usize, io::Error>
-        ensures { Writes result (held self.old) (held self.new)
-            (text_of (F.answers format.now) (N.value n.now)) };
+        ensures writes { Writes result (held self.old) (held self.new)
+            (text_of (F.answers format.now) (N.value n.now)) }
+        ensures gives { write_formatted_gives self.old
+            (text_of (F.answers format.now) (N.value n.now)) result self.new };
 }
 
 impl<W: WriteFormatted> WriteFormatted for &mut W {
     ghost held = { λ w. W.held w.now };
+
+    ghost write_formatted_gives = { λ w text result v. W.write_formatted_gives w.now text result v.now
+        × (v.ghost_name ≡ w.ghost_name) };
 
     fn write_formatted<F: Format, N: ToFormattedString>(
         &mut self,
@@ -76,6 +89,9 @@ impl<W: WriteFormatted> WriteFormatted for &mut W {
 impl WriteFormatted for String {
     ghost held = { λ s. Some (string_bytes s) };
 
+    ghost write_formatted_gives = { λ s text result t. KeepsOnError (string_capacity s)
+        (string_bytes s) text result (string_bytes t) };
+
     /// Appends the text of the number to the string. Returns the length of the text in bytes.
     ///
     /// # Errors
@@ -87,14 +103,7 @@ impl WriteFormatted for String {
         &mut self,
         n: &N,
         format: &F,
-    ) -> Result<usize, io::Error>
-        ensures writes { Writes result (Some (string_bytes self.old)) (Some (string_bytes self.new))
-            (text_of (F.answers format.now) (N.value n.now)) }
-        ensures unchanged { OnErr result (string_bytes self.new ≡ string_bytes self.old) }
-        ensures beyond_capacity { OnErr result (string_capacity self.old
-            < string_len self.old + length (text_of (F.answers format.now) (N.value n.now))) }
-        ensures kind { IfErr result (λ error. error_kind error ≡ OutOfMemory) }
-    {
+    ) -> Result<usize, io::Error> {
         let buffer = Buffer::of(n, format);
         self.push_str(buffer.as_str())?;
         Ok(buffer.len())
@@ -103,6 +112,9 @@ impl WriteFormatted for String {
 
 impl WriteFormatted for Vec<u8> {
     ghost held = { λ v. Some v.items };
+
+    ghost write_formatted_gives = { λ v text result w. KeepsOnError (vec_capacity v) v.items text
+        result w.items };
 
     /// Appends the text of the number to the vector. Returns the length of the text in bytes.
     ///
@@ -115,14 +127,7 @@ impl WriteFormatted for Vec<u8> {
         &mut self,
         n: &N,
         format: &F,
-    ) -> Result<usize, io::Error>
-        ensures writes { Writes result (Some self.old.items) (Some self.new.items)
-            (text_of (F.answers format.now) (N.value n.now)) }
-        ensures unchanged { OnErr result (self.new.items ≡ self.old.items) }
-        ensures beyond_capacity { OnErr result (vec_capacity self.old
-            < vec_len self.old + length (text_of (F.answers format.now) (N.value n.now))) }
-        ensures kind { IfErr result (λ error. error_kind error ≡ OutOfMemory) }
-    {
+    ) -> Result<usize, io::Error> {
         let buffer = Buffer::of(n, format);
         self.extend_from_slice(buffer.as_bytes())?;
         Ok(buffer.len())
@@ -130,8 +135,11 @@ impl WriteFormatted for Vec<u8> {
 }
 
 impl<W: fmt::Write> WriteFormatted for fmt::Formatter<W> {
-    /// Writes the text of the number by one call of `write_str`, whatever width or fill is asked
-    /// for. Returns the length of the text in bytes.
+    ghost write_formatted_gives = { λ f text result g. WritesToFormatter W.write_str_gives f text
+        result g };
+
+    /// Writes the text of the number by one call of `write_str`, whatever width, fill or other
+    /// option is asked for. Returns the length of the text in bytes.
     ///
     /// # Errors
     ///
@@ -140,13 +148,10 @@ impl<W: fmt::Write> WriteFormatted for fmt::Formatter<W> {
         &mut self,
         n: &N,
         format: &F,
-    ) -> Result<usize, io::Error>
-        ensures writes { Writes result None None
-            (text_of (F.answers format.now) (N.value n.now)) }
-        ensures written { OnOk result (IsPlainFormatter self.old → HasWritten W.write_str_gives
-            self.old (text_of (F.answers format.now) (N.value n.now)) self.new) }
-    {
-        Ok(n.read_to_fmt_writer(self, format)?)
+    ) -> Result<usize, io::Error> {
+        let buffer = Buffer::of(n, format);
+        self.write_str(buffer.as_str())?;
+        Ok(buffer.len())
     }
 }
 
@@ -187,6 +192,9 @@ impl<W: Write + Drop> WriteFormatted for LineWriter<W> {
 }
 
 impl WriteFormatted for Cursor<Vec<u8>> {
+    ghost write_formatted_gives = { λ c text result d. WritesInVector (cursor_inner c).items
+        (cursor_position c) text result (cursor_inner d).items (cursor_position d) };
+
     /// Writes the text of the number at the cursor's position, over the bytes that the vector has
     /// there, and moves the cursor to the end of the text. A cursor at the end of the vector
     /// appends the text. Returns the length of the text in bytes.
@@ -199,17 +207,7 @@ impl WriteFormatted for Cursor<Vec<u8>> {
         &mut self,
         n: &N,
         format: &F,
-    ) -> Result<usize, io::Error>
-        ensures writes { Writes result None None
-            (text_of (F.answers format.now) (N.value n.now)) }
-        ensures at_end { OnOk result (cursor_position self.old ≡ length (cursor_inner self.old).items
-            → (cursor_inner self.new).items ≡ (cursor_inner self.old).items
-            ++ text_of (F.answers format.now) (N.value n.now)) }
-        ensures position { IfOk result (λ count. cursor_position self.new
-            ≡ u64_saturate (cursor_position self.old + count)) }
-        ensures unmoved { OnErr result (cursor_position self.new ≡ cursor_position self.old) }
-        ensures kind { IfErr result (λ error. error_kind error ≡ OutOfMemory) }
-    {
+    ) -> Result<usize, io::Error> {
         let buffer = Buffer::of(n, format);
         self.write(buffer.as_bytes())?;
         Ok(buffer.len())
@@ -217,6 +215,9 @@ impl WriteFormatted for Cursor<Vec<u8>> {
 }
 
 impl WriteFormatted for Cursor<&mut Vec<u8>> {
+    ghost write_formatted_gives = { λ c _ result d. MovesInVector (cursor_position c) result
+        (cursor_position d) };
+
     /// Writes the text of the number as into a `Cursor<Vec<u8>>`. The contract states the cursor's
     /// position, and not the bytes of the vector.
     ///
@@ -228,14 +229,7 @@ impl WriteFormatted for Cursor<&mut Vec<u8>> {
         &mut self,
         n: &N,
         format: &F,
-    ) -> Result<usize, io::Error>
-        ensures writes { Writes result None None
-            (text_of (F.answers format.now) (N.value n.now)) }
-        ensures position { IfOk result (λ count. cursor_position self.new
-            ≡ u64_saturate (cursor_position self.old + count)) }
-        ensures unmoved { OnErr result (cursor_position self.new ≡ cursor_position self.old) }
-        ensures kind { IfErr result (λ error. error_kind error ≡ OutOfMemory) }
-    {
+    ) -> Result<usize, io::Error> {
         let buffer = Buffer::of(n, format);
         self.write(buffer.as_bytes())?;
         Ok(buffer.len())
@@ -243,31 +237,27 @@ impl WriteFormatted for Cursor<&mut Vec<u8>> {
 }
 
 impl WriteFormatted for Cursor<&mut [u8]> {
+    ghost write_formatted_gives = { λ c text result d. WritesInSlice (cursor_inner c).now
+        (cursor_position c) text result (cursor_inner d).now (cursor_position d) };
+
     /// Writes the text of the number over the bytes of the slice from the cursor's position on,
     /// and moves the cursor to the end of the text. Returns the length of the text in bytes.
     ///
     /// # Errors
     ///
     /// Returns an error, of kind [`WriteZero`](io::ErrorKind::WriteZero), exactly if the slice has
-    /// fewer bytes than the text from that position on. It received as much of the text as fits.
+    /// fewer bytes than the text from that position on. It received as much of the text as fits. Past
+    /// its end it is unchanged, and so is the position.
+    #[tactic(auto, using(crate::proofs::WritingLemmas::WritesInSlice_past_end))]
     fn write_formatted<F: Format, N: ToFormattedString>(
         &mut self,
         n: &N,
         format: &F,
-    ) -> Result<usize, io::Error>
-        ensures writes { Writes result None None
-            (text_of (F.answers format.now) (N.value n.now)) }
-        ensures fits { IsOk result ↔ (length (text_of (F.answers format.now) (N.value n.now))
-            ≤ length (cursor_inner self.old).now - cursor_position self.old) }
-        ensures position { let space = length (cursor_inner self.old).now - cursor_position self.old in
-            let prefix = take space (text_of (F.answers format.now) (N.value n.now)) in
-            cursor_position self.new ≡ u64_saturate (cursor_position self.old + length prefix) }
-        ensures written { let space = length (cursor_inner self.old).now - cursor_position self.old in
-            let prefix = take space (text_of (F.answers format.now) (N.value n.now)) in
-            cursor_position self.old ≤ length (cursor_inner self.old).now
-            → (cursor_inner self.new).now ≡ replace_range (cursor_inner self.old).now
-            (cursor_position self.old) (cursor_position self.old + length prefix) prefix }
-    {
+    ) -> Result<usize, io::Error> {
+        // Std's contract does not say that a write past the end leaves the slice as it was.
+        if self.position() > self.get_ref().len() as u64 {
+            return Err(io::Error::from(io::ErrorKind::WriteZero));
+        }
         let buffer = Buffer::of(n, format);
         let written = self.write(buffer.as_bytes())?;
         all_written(written, buffer.len())
@@ -275,6 +265,9 @@ impl WriteFormatted for Cursor<&mut [u8]> {
 }
 
 impl WriteFormatted for Cursor<BoxedSlice<u8>> {
+    ghost write_formatted_gives = { λ c text result d. MovesInSlice
+        (length (boxed_slice_items (cursor_inner c))) (cursor_position c) text result (cursor_position d) };
+
     /// Writes the text of the number as into a `Cursor<&mut [u8]>`. The contract states the cursor's
     /// position, and not the bytes of the slice.
     ///
@@ -286,16 +279,7 @@ impl WriteFormatted for Cursor<BoxedSlice<u8>> {
         &mut self,
         n: &N,
         format: &F,
-    ) -> Result<usize, io::Error>
-        ensures writes { Writes result None None
-            (text_of (F.answers format.now) (N.value n.now)) }
-        ensures fits { IsOk result ↔ (length (text_of (F.answers format.now) (N.value n.now))
-            ≤ length (boxed_slice_items (cursor_inner self.old)) - cursor_position self.old) }
-        ensures position { let space = length (boxed_slice_items (cursor_inner self.old))
-            - cursor_position self.old in
-            let prefix = take space (text_of (F.answers format.now) (N.value n.now)) in
-            cursor_position self.new ≡ u64_saturate (cursor_position self.old + length prefix) }
-    {
+    ) -> Result<usize, io::Error> {
         let buffer = Buffer::of(n, format);
         let written = self.write(buffer.as_bytes())?;
         all_written(written, buffer.len())
@@ -303,6 +287,8 @@ impl WriteFormatted for Cursor<BoxedSlice<u8>> {
 }
 
 impl WriteFormatted for &mut [u8] {
+    ghost write_formatted_gives = { λ s text result t. WritesToSlice s.now text result t.now };
+
     /// Writes the text of the number to the start of the slice, and shortens the slice to the
     /// space after the text. Returns the length of the text in bytes.
     ///
@@ -316,14 +302,7 @@ impl WriteFormatted for &mut [u8] {
         &mut self,
         n: &N,
         format: &F,
-    ) -> Result<usize, io::Error>
-        ensures writes { Writes result None None
-            (text_of (F.answers format.now) (N.value n.now)) }
-        ensures fits { IsOk result
-            ↔ (length (text_of (F.answers format.now) (N.value n.now)) ≤ length self.old.now) }
-        ensures remaining_space { self.new.now
-            ≡ drop (length (text_of (F.answers format.now) (N.value n.now))) self.old.now }
-    {
+    ) -> Result<usize, io::Error> {
         let buffer = Buffer::of(n, format);
         let written = self.write(buffer.as_bytes())?;
         all_written(written, buffer.len())
@@ -332,7 +311,8 @@ impl WriteFormatted for &mut [u8] {
 
 /// Returns the length of a text in bytes if as many bytes were written, and else an error.
 fn all_written(written: usize, count: usize) -> io::Result<usize>
-    ensures { OkIff result (count ≤ written) count }
+    ensures value { OkIff result (count ≤ written) count }
+    ensures kind { IfErr result (λ error. error_kind error ≡ WriteZero) }
 {
     if written < count {
         return Err(io::Error::from(io::ErrorKind::WriteZero));
@@ -361,16 +341,14 @@ impl WriteFormatted for &File {
 }
 
 impl WriteFormatted for Sink {
+    ghost write_formatted_gives = { λ _ _ result _. IsOk result };
+
     /// Returns the length of the text in bytes, and keeps nothing of the text. It never fails.
     fn write_formatted<F: Format, N: ToFormattedString>(
         &mut self,
         n: &N,
         format: &F,
-    ) -> Result<usize, io::Error>
-        ensures writes { Writes result None None
-            (text_of (F.answers format.now) (N.value n.now)) }
-        ensures ok { IsOk result }
-    {
+    ) -> Result<usize, io::Error> {
         self.write(Buffer::of(n, format).as_bytes())
     }
 }

@@ -1,10 +1,12 @@
-//! A caller of `num_format` whose contract cites its definitions.
-ghost use Rattle.std.specs.Prelude.{◌++◌, OnOk, OnErr};
+//! Callers of `num_format` whose contracts cite its definitions.
+ghost use Rattle.std.specs.Prelude.{◌≡◌, ◌++◌, IfErr, OnOk, OnErr, string_bytes};
 ghost use Rattle.std.specs.Io.KnownBytes.{Appends};
+ghost use Rattle.std.specs.IoError.{error_kind};
+ghost use Rattle.std.specs.declared.io.ErrorKind.TheVariants.{OutOfMemory};
 ghost use Rattle.num_format.specs.Text.{text_of};
 ghost use Rattle.num_format.specs.Writing.{StopsWithin};
 
-use num_format::{Format, ToFormattedString};
+use num_format::{Format, ToFormattedString, WriteFormatted};
 use std::io;
 use std::io::Write;
 
@@ -29,6 +31,31 @@ pub fn write_both<N: ToFormattedString, F: Format, W: Write>(
     Ok(())
 }
 
+/// Writes a number to any writer, as generic code does.
+fn write_to<W: WriteFormatted, N: ToFormattedString, F: Format>(
+    writer: &mut W,
+    n: &N,
+    format: &F,
+) -> io::Result<usize>
+    ensures { W.write_formatted_gives writer.old
+        (text_of (F.answers format.now) (N.value n.now)) result writer.new }
+{
+    writer.write_formatted(n, format)
+}
+
+/// Appends a number to a borrowed string by code that takes any writer. What the contract of `String`
+/// says of an error holds through the reference.
+pub fn append<N: ToFormattedString, F: Format>(
+    mut line: &mut String,
+    n: &N,
+    format: &F,
+) -> io::Result<usize>
+    ensures unchanged { OnErr result (string_bytes line.new ≡ string_bytes line.old) }
+    ensures kind { IfErr result (λ error. error_kind error ≡ OutOfMemory) }
+{
+    write_to(&mut line, n, format)
+}
+
 #[cfg(test)]
 mod tests {
     use super::*;
@@ -41,6 +68,14 @@ mod tests {
         let mut bytes = Vec::new(rt.alloc());
         write_both(&mut bytes, &12_500, &-7, &Locale::en)?;
         assert_equal(&rt, bytes.as_slice(), b"12,500-7".as_slice());
+        Ok(())
+    }
+
+    #[test]
+    fn through_a_reference(rt: HostRuntime) -> Result<(), Fail> {
+        let mut line = "x".to_string(rt.alloc())?;
+        assert_equal(&rt, append(&mut line, &12_500, &Locale::en)?, 6);
+        assert_equal(&rt, line.as_str(), "x12,500");
         Ok(())
     }
 }

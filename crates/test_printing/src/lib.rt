@@ -13,7 +13,7 @@
 //! | `writers` | the same into std's writers of bytes: vectors, cursors, buffers, the sink, standard output |
 //! | `slices` | slices of bytes, too short and long enough |
 //! | `files` | a file, written and read back |
-//! | `callers` | two numbers into one writer |
+//! | `callers` | two numbers into one writer, and a number through a reference to a string |
 //!
 //! `asserting`, `every_way` and `numbers` serve these tests. Writers that fail, and memory that is refused,
 //! are tested in `test_hostile`.
