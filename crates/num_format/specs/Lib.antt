@@ -30,5 +30,6 @@ pub use Rattle.num_format_certificates.specs.Alike
 pub use Rattle.num_format_certificates.specs.RoundTrips
 pub use Rattle.num_format_custom.specs.Building
 pub use Rattle.num_format_json.specs.Json
+pub use Rattle.num_format_writers.specs.Columns
 pub use Rattle.num_format_writers.specs.Writers
 pub use Rattle.num_format_writers.specs.Writing

@@ -10,6 +10,12 @@
 //! line.write_formatted(&1000000, &Locale::en)?;           // a String, a Vec<u8>, a File ..
 //! ```
 //!
+//! or displayed in a column:
+//!
+//! ```text
+//! println!(rt; "{:>12}", 1000000.formatted(&Locale::en))  // "   1,000,000"
+//! ```
+//!
 //! It is parsed under a format too:
 //!
 //! ```text
@@ -47,9 +53,10 @@ pub use num_format_text::error::Error;
 pub use num_format_text::error_kind::{ErrorKind, MAX_MESSAGE_LEN};
 pub use num_format_text::format::Format;
 pub use num_format_text::grouping::Grouping;
+pub use num_format_writers::formatted::{Formatted, text_len, text_width};
 pub use num_format_writers::to_formatted_string::ToFormattedString;
 pub use num_format_writers::write_formatted::WriteFormatted;
-pub use num_format_writers::{to_formatted_string, write_formatted};
+pub use num_format_writers::{formatted, to_formatted_string, write_formatted};
 
 /// The texts of a format, one type for each. A text has at most its capacity in bytes.
 pub mod utils {

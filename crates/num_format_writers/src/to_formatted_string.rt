@@ -3,6 +3,7 @@ ghost use Rattle.std.specs.Prelude.{◌≡◌, length, IfOk, OnOk, string_bytes}
 ghost use Rattle.num_format_int.specs.Text.{text_of};
 ghost use Rattle.num_format_writers.specs.Writing.{Writes};
 
+use crate::formatted::Formatted;
 use num_format_int::{Buffer, ToFormattedStr};
 use num_format_text::Format;
 use std::alloc::{AllocError, Global};
@@ -47,6 +48,15 @@ pub trait ToFormattedString: ToFormattedStr {
         ensures { Writes result (W.contents w.old) (W.contents w.new)
             (text_of (F.answers format.now) (Self.value self.now)) };
 
+    /// Returns the number, to be displayed under the format. It needs no memory, and a width counts:
+    /// see [`Formatted`].
+    ///
+    /// ```text
+    /// println!(rt; "{:>12}", 1000000.formatted(&Locale::en))    // "   1,000,000"
+    /// ```
+    fn formatted<'a, F: Format>(&'a self, format: &'a F) -> Formatted<'a, Self, F>
+        ensures { result ≡ text_of (F.answers format.now) (Self.value self.now) };
+
     /// Returns the text of the number as a new string.
     ///
     /// ```text
@@ -84,6 +94,10 @@ impl<N: ToFormattedStr> ToFormattedString for N {
     ) -> Result<usize, io::Error> {
         let buffer = Buffer::of(self, format);
         write_whole(buffer.as_bytes(), w)
+    }
+
+    fn formatted<'a, F: Format>(&'a self, format: &'a F) -> Formatted<'a, Self, F> {
+        Formatted::new(self, format)
     }
 
     fn to_formatted_string<F: Format>(

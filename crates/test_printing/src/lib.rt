@@ -11,6 +11,7 @@
 //! | `buffers` | a `Buffer`: new, written twice, copied, prepended to |
 //! | `strings` | numbers, also the longest text of one, into strings and formatters |
 //! | `writers` | the same into std's writers of bytes: vectors, cursors, buffers, the sink, standard output |
+//! | `columns` | numbers filled up to a width, and the lengths of texts |
 //! | `slices` | slices of bytes, too short and long enough |
 //! | `files` | a file, written and read back |
 //! | `callers` | two numbers into one writer, and a number through a reference to a string |
@@ -24,6 +25,8 @@ mod asserting;
 #[cfg(test)]
 mod buffers;
 pub mod callers;
+#[cfg(test)]
+mod columns;
 #[cfg(test)]
 mod every_way;
 #[cfg(test)]
