@@ -24,6 +24,7 @@ pub use Rattle.num_format_cldr.specs.Families
 pub use Rattle.num_format_cldr.specs.Groupings
 pub use Rattle.num_format_cldr.specs.Table
 pub use Rattle.num_format_locale.specs.Data
+pub use Rattle.num_format_locale.specs.Lookup
 pub use Rattle.num_format_locale.specs.Names
 pub use Rattle.num_format_locale.specs.Search
 pub use Rattle.num_format_certificates.specs.Alike

@@ -1,11 +1,12 @@
 -- Laws of the names and the data of locales, over the definitions alone.
-use Rattle.std.specs.Prelude.{◌≡◌, ℕ, ◌<◌, List, Result, Ok}
+use Rattle.std.specs.Prelude.{◌≡◌, ℕ, ◌<◌, List, Option, Some, Result, Ok}
 use Rattle.std.specs.Ordering.{nat_cmp}
 use Rattle.std.specs.Cmp.Lexicographic.{slice_cmp}
 use Rattle.num_format_cldr.specs.declared.TheConstants.{LEN}
 use Rattle.num_format_cldr.specs.Entry.{IsWellFormed}
 use Rattle.num_format_cldr.specs.Table.{entry}
 use Rattle.num_format_text.specs.declared.error.Error.{Error}
+use Rattle.num_format_locale.specs.Lookup.{IsSameIgnoringCase, LooksUpTag}
 use Rattle.num_format_locale.specs.Names.{LooksUp, Spells, name_of, variant_name_of}
 
 -- a text spells the name of at most one locale
@@ -29,3 +30,8 @@ OrderLaw = (p q : ℕ) → p < LEN → q < LEN → slice_cmp nat_cmp (name_of p)
 -- the data of each locale are well formed
 abbrev pub WellFormedLaw : Type 0
 WellFormedLaw = (place : ℕ) → place < LEN → IsWellFormed (entry place)
+
+-- a tag that is a locale's name, in any case, looked up, gives that locale
+abbrev pub FoundByTagLaw : Type 0
+FoundByTagLaw = (tag : List ℕ) (place : ℕ) (result : Option ℕ) → place < LEN →
+    IsSameIgnoringCase tag (name_of place) → LooksUpTag tag result → result ≡ Some place

@@ -1,5 +1,6 @@
 pub mod Names
 pub mod Search
+pub mod Lookup
 pub mod Data
 pub mod Laws
 pub mod Pairs

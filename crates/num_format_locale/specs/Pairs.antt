@@ -30,4 +30,5 @@ IsListed begins place (first ∷ second ∷ rest) = IsOfPair begins place first 
 pub record ListsPairs (begins : List ℕ) : Type 0 where
   pub count : length begins ≡ pairs + 1
   pub within : All (λ place. place ≤ LEN) begins
+  pub rising : (pair : ℕ) → pair < pairs → slice_index begins pair ≤ slice_index begins (pair + 1)
   pub listed : (place : ℕ) → place < LEN → IsListed begins place (name_of place)

@@ -3,7 +3,7 @@
 //! The contract of each function is a law: a fact about all texts and all places, over the
 //! definitions alone. The bodies are empty, since there is nothing to compute. A caller that needs
 //! a law in a proof calls its function.
-ghost use Rattle.num_format_locale.specs.Laws.{FoundByNameLaw, OrderLaw, UniqueLaw, VariantLaw, WellFormedLaw};
+ghost use Rattle.num_format_locale.specs.Laws.{FoundByNameLaw, FoundByTagLaw, OrderLaw, UniqueLaw, VariantLaw, WellFormedLaw};
 
 /// A text spells the name of at most one locale.
 pub fn spelled_once()
@@ -13,6 +13,11 @@ pub fn spelled_once()
 /// A locale's name, looked up, gives that locale.
 pub fn found_by_name()
     ensures { FoundByNameLaw }
+{}
+
+/// A tag that is a locale's name, in any case, looked up, gives that locale.
+pub fn found_by_tag()
+    ensures { FoundByTagLaw }
 {}
 
 /// Two locales have different variants.

@@ -15,7 +15,8 @@
 //! `ca-ES-VALENCIA`. A `Locale` is the place of its name in that order, and a contract sees it as
 //! that number. A name is found by its first two letters and binary search, with no copy of the text.
 //! [`Locale::from_name_traced`] searches all names, and also returns the places of those compared,
-//! which show that the result is right.
+//! which show that the result is right. [`Locale::lookup`] takes what an environment or a browser names,
+//! such as `de_DE.UTF-8`.
 //!
 //! The Rust crate has an enum of 542 variants. Here `Locale` is a struct with 542 associated
 //! constants of the variants' names, such as `Locale::ca_ES_VALENCIA`. A `match` on a locale has
@@ -31,6 +32,7 @@
 
 pub mod laws;
 pub mod locale;
+mod lookup;
 mod search;
 
 pub use locale::Locale;

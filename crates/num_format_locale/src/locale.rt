@@ -5,11 +5,13 @@ ghost use Rattle.std.specs.Prelude.{◌≡◌, ◌≢◌, ℕ, ◌<◌, ◌≤�
 ghost use Rattle.num_format_cldr.specs.Entry.{IsWellFormed, Rises, Shows};
 ghost use Rattle.num_format_cldr.specs.Table.{entry, table_names};
 ghost use Rattle.num_format_locale.specs.Data.{locale_data};
+ghost use Rattle.num_format_locale.specs.Lookup.{LooksUpTag};
 ghost use Rattle.num_format_locale.specs.Names.{LooksUp, name_of, variant_name, variant_name_of};
 ghost use Rattle.num_format_locale.specs.Search.{Settles};
 ghost use Rattle.num_format_text.specs.Cut.{cut_text};
 ghost use Rattle.num_format_text.specs.Refusal.{ParseLocale, refusal_of};
 
+use crate::lookup::{language, longest_match};
 use crate::search::{find, search};
 use arrayvec::ArrayVec;
 use num_format_cldr::{LEN, Row};
@@ -98,6 +100,39 @@ impl Locale {
             (Some(place), places) => (Ok(Locale::at(place)), places),
             (None, places) => (Err(unknown_name(name)), places),
         }
+    }
+
+    /// Returns the locale for a language tag, as an environment or a browser gives one: that of the
+    /// longest name with which the tag begins, as RFC 4647 looks a tag up.
+    ///
+    /// What follows the first `.` or `@` does not count, an underscore counts as a hyphen, and the
+    /// case of ASCII letters does not count. `C` and `POSIX` are the locale en-US-POSIX. Any other tag
+    /// is the longest name that is equal to it, or that is followed by a hyphen in it. There is `None`
+    /// where no name is.
+    ///
+    /// A tag is compared with names alone. No code is replaced by another, such as the old `iw` by
+    /// `he`, and no script or region is added: `zh-TW` is `zh`, and not `zh-Hant`.
+    ///
+    /// The Rust crate has no such function.
+    ///
+    /// ```text
+    /// Locale::lookup("de_DE.UTF-8")   is Some(Locale::de)
+    /// Locale::lookup("en-us")         is Some(Locale::en)
+    /// Locale::lookup("zh-hant-TW")    is Some(Locale::zh_Hant)
+    /// Locale::lookup("sr_RS@latin")   is Some(Locale::sr)
+    /// Locale::lookup("C")             is Some(Locale::en_US_POSIX)
+    /// Locale::lookup("no")            is None, and so is
+    /// Locale::lookup("english")
+    /// ```
+    pub fn lookup(tag: &str) -> Option<Locale>
+        ensures { LooksUpTag tag.now result }
+    {
+        let language = language(tag.as_bytes());
+        if language.eq_ignore_ascii_case(b"C") || language.eq_ignore_ascii_case(b"POSIX") {
+            return Some(Locale::en_US_POSIX);
+        }
+        let place = longest_match(language)?;
+        Some(Locale::at(place))
     }
 
     /// Returns the locale whose [variant](Locale::variant_name) has this name, if there is one.

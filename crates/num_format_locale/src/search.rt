@@ -5,6 +5,7 @@ ghost use Rattle.std.specs.Prelude.{◌≡◌, ℕ, ◌<◌, ◌≤◌, ◌↔�
 ghost use Rattle.std.specs.Ordering.{nat_cmp};
 ghost use Rattle.std.specs.Cmp.Lexicographic.{slice_cmp};
 ghost use Rattle.num_format_cldr.specs.declared.TheConstants.{LEN};
+ghost use Rattle.num_format_locale.specs.Lookup.{IsSameIgnoringCase};
 ghost use Rattle.num_format_locale.specs.Names.{Spells, name_of};
 ghost use Rattle.num_format_locale.specs.Pairs.{ListsPairs};
 ghost use Rattle.num_format_locale.specs.Search.{Finds, IsBetween, IsLast, IsMixed, RulesOut, hyphen_for_underscore, hyphened};
@@ -50,15 +51,17 @@ fn find_hyphened(text: &[u8]) -> Option<usize>
 }
 
 /// Returns the first of the places whose names begin with the same two letters as the text, and the
-/// place after the last of them.
-fn narrowed(text: &[u8]) -> (usize, usize)
+/// place after the last of them. The case of letters does not count.
+pub(crate) fn narrowed(text: &[u8]) -> (usize, usize)
+    ensures ordered { result.0 ≤ result.1 }
     ensures within { result.1 ≤ LEN }
-    ensures kept { (place : ℕ) → place < LEN → hyphened text.now ≡ name_of place → (result.0 ≤ place) × (place < result.1) }
+    ensures kept { (place : ℕ) → place < LEN → IsSameIgnoringCase (hyphened text.now) (name_of place) → (result.0 ≤ place) × (place < result.1) }
 {
     let places = first_places();
     let [first, second, ..] = text else {
         return (0, 0);
     };
+    let (first, second) = (first.to_ascii_lowercase(), second.to_ascii_lowercase());
     if !first.is_ascii_lowercase() || !second.is_ascii_lowercase() {
         return (0, 0);
     }
@@ -121,7 +124,7 @@ fn compare(text: &[u8], name: &[u8]) -> Ordering
 }
 
 /// Returns the byte, but a hyphen for an underscore.
-fn with_hyphen(byte: u8) -> u8
+pub(crate) fn with_hyphen(byte: u8) -> u8
     ensures { result ≡ hyphen_for_underscore byte }
 {
     if byte == b'_' { b'-' } else { byte }

@@ -98,3 +98,91 @@ fn a_variant_is_found_by_its_name_alone(rt: HostRuntime) {
         assert_equal(&rt, Locale::from_variant_name(text), variant);
     }
 }
+
+/// Language tags, and the name of the locale as which each is looked up.
+const TAGS: [(&str, Option<&str>); 64] = [
+    ("en", Some("en")),
+    ("en-US", Some("en")),
+    ("en_US", Some("en")),
+    ("en_US.UTF-8", Some("en")),
+    ("en-GB", Some("en-GB")),
+    ("en_GB.UTF-8", Some("en-GB")),
+    ("EN-gb", Some("en-GB")),
+    ("en-GB-oed", Some("en-GB")),
+    ("en-us-posix", Some("en-US-POSIX")),
+    ("EN_US_POSIX.UTF-8", Some("en-US-POSIX")),
+    ("C", Some("en-US-POSIX")),
+    ("c", Some("en-US-POSIX")),
+    ("C.UTF-8", Some("en-US-POSIX")),
+    ("C@euro", Some("en-US-POSIX")),
+    ("POSIX", Some("en-US-POSIX")),
+    ("posix.utf8", Some("en-US-POSIX")),
+    ("C-UTF-8", None),
+    ("CS", Some("cs")),
+    ("de_DE.UTF-8", Some("de")),
+    ("de_DE@euro", Some("de")),
+    ("de-AT", Some("de-AT")),
+    ("DE_ch", Some("de-CH")),
+    ("de-CH-1901", Some("de-CH")),
+    ("de-DE-u-co-phonebk", Some("de")),
+    ("zh-hant-TW", Some("zh-Hant")),
+    ("zh_Hant_TW.Big5@x", Some("zh-Hant")),
+    ("zh-TW", Some("zh")),
+    ("ZH_HANS_hk", Some("zh-Hans-HK")),
+    ("zh-cmn-Hans-CN", Some("zh")),
+    ("sr_RS@latin", Some("sr")),
+    ("sr-Latn-RS", Some("sr-Latn")),
+    ("sr-latn_me-x-a", Some("sr-Latn-ME")),
+    ("ca-ES-VALENCIA", Some("ca-ES-VALENCIA")),
+    ("ca_es_valencia", Some("ca-ES-VALENCIA")),
+    ("ca-ES-VALENCIA-x", Some("ca-ES-VALENCIA")),
+    ("ca-ES-VALENCIAN", Some("ca")),
+    ("ca-ES", Some("ca")),
+    ("as_IN", Some("as")),
+    ("es-419", Some("es-419")),
+    ("pt-BR", Some("pt")),
+    ("pt_PT", Some("pt-PT")),
+    ("nb-NO", Some("nb")),
+    ("no", None),
+    ("iw-IL", None),
+    ("", None),
+    ("-", None),
+    ("_", None),
+    (".UTF-8", None),
+    ("@en", None),
+    ("e", None),
+    ("eng", None),
+    ("english", None),
+    ("x-private", None),
+    ("i-klingon", None),
+    ("-en", None),
+    (" en", None),
+    ("en US", None),
+    ("en-", Some("en")),
+    ("en--US", Some("en")),
+    ("en.GB", Some("en")),
+    ("en@x-GB", Some("en")),
+    ("en-é", Some("en")),
+    ("é", None),
+    ("enÉ", None),
+];
+
+#[test]
+fn a_tag_is_looked_up_as_its_longest_name(rt: HostRuntime) {
+    for (tag, name) in &TAGS {
+        assert_equal(&rt, Locale::lookup(tag).map(|locale| locale.name()), *name);
+    }
+}
+
+#[test]
+fn each_name_is_looked_up_in_upper_case(rt: HostRuntime) -> Result<(), Fail> {
+    for name in Locale::available_names() {
+        let tag = name.to_ascii_uppercase(rt.alloc())?;
+        assert_equal(
+            &rt,
+            Locale::lookup(&tag).map(|locale| locale.name()),
+            Some(*name),
+        );
+    }
+    Ok(())
+}

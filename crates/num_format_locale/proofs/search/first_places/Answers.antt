@@ -7,4 +7,4 @@ use Rattle.num_format_locale.proofs.search.first_places.Goals as goal
 
 pub returns : goal.returns
 unfolding encode families members table_names
-returns c = lists_pairs _ refl refl refl
+returns c = lists_pairs _ refl refl refl refl
