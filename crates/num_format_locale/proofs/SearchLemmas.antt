@@ -1,5 +1,5 @@
 -- Lemmas on the search among names, and on what the compared names show.
-use Rattle.std.proofs.Common.{◌≡◌, ℕ, zero, suc, ◌+◌, ◌-◌, ◌*◌, ◌/◌, ◌^◌, ◌<◌, ◌≤◌, inl, inr, List, [], ◌∷◌, ◌++◌, length, length-append, arith, refl, sym, ap, subst, ◌∙◌, Contains, Option, Some, None, Ok, Err}
+use Rattle.std.proofs.Common.{◌≡◌, ℕ, zero, suc, ◌+◌, ◌-◌, ◌*◌, ◌/◌, ◌^◌, ◌<◌, ◌≤◌, inl, inr, List, [], ◌∷◌, ◌++◌, length, length-append, append_assoc, append-nil, arith, refl, sym, ap, subst, ◌∙◌, Contains, Option, Some, None, Ok, Err}
 use Rattle.std.specs.Prelude.{IfNone, IfSome}
 use Rattle.std.specs.Ordering.{nat_cmp, ordering_reverse}
 use Rattle.std.specs.declared.cmp.Ordering.TheVariants.{Less, Equal, Greater}
@@ -14,7 +14,7 @@ use Rattle.num_format_text.specs.declared.error.Error.{Error}
 use Rattle.num_format_text.specs.Cut.{cut_text}
 use Rattle.num_format_text.specs.Refusal.{ParseLocale, refusal_of}
 use Rattle.num_format_locale.specs.Names.{LooksUp, Spells, name_of}
-use Rattle.num_format_locale.specs.Search.{Finds, IsBetween, IsLast, IsMixed, RulesOut, hyphened}
+use Rattle.num_format_locale.specs.Search.{Finds, Halves, IsBetween, IsLast, IsMixed, RulesOut, hyphened}
 use Rattle.num_format_locale.proofs.NameLemmas.{no_underscore, order, spelled_name, unique}
 use Rattle.num_format_locale.proofs.SpellingLemmas.{spells, unmixed}
 
@@ -29,6 +29,8 @@ pub record IsHalved (text places : List ℕ) (low high : ℕ) : Type 0 where
   pub listed_above : high < LEN → Contains places high
   pub above : 0 < low → slice_cmp nat_cmp (name_of (low - 1)) (hyphened text) ≡ Less
   pub below : high < LEN → slice_cmp nat_cmp (hyphened text) (name_of high) ≡ Less
+  -- with those that halving compares from here on, they are those that it compares from the start on
+  pub halved : (more : List ℕ) → Halves text more low high → Halves text (places ++ more) 0 LEN
 
 -- half of a number below a power of two is below the power before it
 halves : (m width : ℕ) → width < 2 ^ m → 0 < width → (p : ℕ) × ((m ≡ suc p) × (width / 2 < 2 ^ p))
@@ -61,6 +63,7 @@ module _ (text places : List ℕ) (low high middle : ℕ) where
     listed_above = λ h. Contains-push places middle;
     above = so.above;
     below = λ h. less;
+    halved = λ rest left. rw append_assoc (so.halved (middle ∷ rest) (more, mid, (λ _. left), (λ equal. absurd (cc less)), (λ greater. absurd (cc less))));
   }
 
   -- after a comparison where it is greater
@@ -74,7 +77,18 @@ module _ (text places : List ℕ) (low high middle : ℕ) where
     listed_above = λ h. Contains-append_left places (middle ∷ []) high (so.listed_above h);
     above = λ h. let e : middle + 1 - 1 ≡ middle = omega arith in rw e (nat_list_cmp_total.antisymm (name_of middle) (hyphened text) ∙ ap ordering_reverse greater);
     below = so.below;
+    halved = λ rest left. rw append_assoc (so.halved (middle ∷ rest) (more, mid, (λ less. absurd (cc greater)), (λ equal. absurd (cc greater)), (λ _. left)));
   }
+
+  -- where it is equal, no place follows
+  pub ends : IsHalved text places low high → low < high → middle ≡ low + (high - low) / 2 → slice_cmp nat_cmp (hyphened text) (name_of middle) ≡ Equal → Halves text (places ++ middle ∷ []) 0 LEN
+  ends so more mid equal = so.halved (middle ∷ []) (more, mid, (λ less. absurd (cc equal)), (λ _. refl), (λ greater. absurd (cc equal)))
+
+-- where no place is left, none follows
+pub ends_without : (text places : List ℕ) (low high : ℕ) → IsHalved text places low high → high ≤ low → Halves text places 0 LEN
+ends_without text places low high so done =
+    let none : low ≡ high = (let o = so.ordered in omega arith) in
+    subst (λ ps. Halves text ps 0 LEN) (append-nil places) (so.halved [] none)
 
 -- texts that compare as equal are the same
 pub same_text : (x y : List ℕ) → slice_cmp nat_cmp x y ≡ Equal → x ≡ y

@@ -1,8 +1,8 @@
 -- Which comparisons with names settle the result of looking a text up.
 use Rattle.num_format_cldr.specs.declared.TheConstants.{LEN}
-use Rattle.std.specs.Prelude.{ℕ, ◌-◌, ◌<◌, ◌≤◌, ◌==◌, ◌≡◌, ◌⊎◌, List, [], ◌∷◌, ◌++◌, map, Contains, Result, IfOk, OnErr, if◌then◌else◌}
+use Rattle.std.specs.Prelude.{ℕ, ◌+◌, ◌-◌, ◌/◌, ◌<◌, ◌≤◌, ◌==◌, ◌≡◌, ◌⊎◌, List, [], ◌∷◌, ◌++◌, map, Contains, Result, IfOk, OnErr, if◌then◌else◌}
 use Rattle.std.specs.Ordering.{nat_cmp}
-use Rattle.std.specs.declared.cmp.Ordering.TheVariants.{Less}
+use Rattle.std.specs.declared.cmp.Ordering.TheVariants.{Less, Equal, Greater}
 use Rattle.std.specs.Cmp.Lexicographic.{slice_cmp}
 use Rattle.std.specs.Str.{byte}
 use Rattle.num_format_text.specs.declared.error.Error.{Error}
@@ -47,3 +47,15 @@ RulesOut text places = IsMixed text ⊎ ((k : ℕ) × IsBetween text places k)
 pub record Settles (text places : List ℕ) (result : Result ℕ Error) : Type 0 where
   pub found : IfOk result (λ place. Finds text places place)
   pub refused : OnErr result (RulesOut text places)
+
+-- the places are those that halving compares, where the name may be at a place from `low` on and before
+-- `high`: the place in the middle, and then those in the half that this comparison leaves, which is
+-- below or above it; none follows where the text is equal to the name, or where no place is left
+abbrev pub Halves : List ℕ → List ℕ → ℕ → ℕ → Type 0
+Halves text [] low high = low ≡ high
+Halves text (place ∷ places) low high =
+    (low < high)
+    × (place ≡ low + (high - low) / 2)
+    × (slice_cmp nat_cmp (hyphened text) (name_of place) ≡ Less → Halves text places low place)
+    × (slice_cmp nat_cmp (hyphened text) (name_of place) ≡ Equal → places ≡ [])
+    × (slice_cmp nat_cmp (hyphened text) (name_of place) ≡ Greater → Halves text places (place + 1) high)

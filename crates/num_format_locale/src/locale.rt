@@ -7,7 +7,7 @@ ghost use Rattle.num_format_cldr.specs.Table.{entry, table_names};
 ghost use Rattle.num_format_locale.specs.Data.{locale_data};
 ghost use Rattle.num_format_locale.specs.Lookup.{LooksUpTag};
 ghost use Rattle.num_format_locale.specs.Names.{LooksUp, name_of, variant_name, variant_name_of};
-ghost use Rattle.num_format_locale.specs.Search.{Settles};
+ghost use Rattle.num_format_locale.specs.Search.{Halves, Settles};
 ghost use Rattle.num_format_text.specs.Cut.{cut_text};
 ghost use Rattle.num_format_text.specs.Refusal.{ParseLocale, refusal_of};
 
@@ -86,6 +86,9 @@ impl Locale {
     /// places have two neighbors, and the text lies strictly between their names, with hyphens for
     /// underscores. A text below the first name or above the last has only one neighbor.
     ///
+    /// Each place is in the middle of those that are left, which are at first all 542: the first is 271,
+    /// the next 135 or 407. The search ends where the text is equal to a name, or where no place is left.
+    ///
     /// The Rust crate has no such function.
     ///
     /// ```text
@@ -95,6 +98,7 @@ impl Locale {
     pub fn from_name_traced(name: &str) -> (Result<Locale, Error>, ArrayVec<usize, 10>)
         ensures looked_up { LooksUp name.now result.0 }
         ensures settled { Settles name.now result.1.items result.0 }
+        ensures halved { Halves name.now result.1.items 0 LEN }
     {
         match search(name.as_bytes()) {
             (Some(place), places) => (Ok(Locale::at(place)), places),

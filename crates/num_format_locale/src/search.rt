@@ -8,7 +8,7 @@ ghost use Rattle.num_format_cldr.specs.declared.TheConstants.{LEN};
 ghost use Rattle.num_format_locale.specs.Lookup.{IsSameIgnoringCase};
 ghost use Rattle.num_format_locale.specs.Names.{Spells, name_of};
 ghost use Rattle.num_format_locale.specs.Pairs.{ListsPairs};
-ghost use Rattle.num_format_locale.specs.Search.{Finds, IsBetween, IsLast, IsMixed, RulesOut, hyphen_for_underscore, hyphened};
+ghost use Rattle.num_format_locale.specs.Search.{Finds, Halves, IsBetween, IsLast, IsMixed, RulesOut, hyphen_for_underscore, hyphened};
 
 use arrayvec::ArrayVec;
 use std::cmp::Ordering;
@@ -82,6 +82,7 @@ pub(crate) fn search(text: &[u8]) -> (Option<usize>, ArrayVec<usize, 10>)
     ensures found { IfSome result.0 (λ place. Finds text.now result.1.items place) }
     ensures within { IfSome result.0 (λ place. place < LEN) }
     ensures missing { IfNone result.0 (RulesOut text.now result.1.items) }
+    ensures halved { Halves text.now result.1.items 0 LEN }
 {
     let (place, places) = halve(text);
     // Only a text that is found is scanned: it is as short as a name.
@@ -97,6 +98,7 @@ fn halve(text: &[u8]) -> (Option<usize>, ArrayVec<usize, 10>)
     ensures found { IfSome result.0 (λ place. (hyphened text.now ≡ name_of place) × IsLast result.1.items place) }
     ensures within { IfSome result.0 (λ place. place < LEN) }
     ensures missing { IfNone result.0 ((k : ℕ) × IsBetween text.now result.1.items k) }
+    ensures halved { Halves text.now result.1.items 0 LEN }
 {
     let names = num_format_cldr::names();
     let mut places = ArrayVec::new();
