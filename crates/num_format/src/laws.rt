@@ -10,6 +10,7 @@ pub use num_format_custom::laws::{building, custom_formats, english, equality};
 pub use num_format_int::laws::{digits, text_bound, text_ends, text_length};
 pub use num_format_json::laws::json;
 pub use num_format_locale::laws::{
-    found_by_name, found_by_tag, name_order, spelled_once, variants_differ, well_formed_data,
+    found_by_name, found_by_tag, locales, name_order, spelled_once, variants_differ,
+    well_formed_data,
 };
 pub use num_format_text::laws::{errors, groupings, stored_texts, symbol_capacities, texts};
