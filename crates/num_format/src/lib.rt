@@ -24,7 +24,12 @@
 //!
 //! Every call writes the same text for a number and a format. Parsing reads the digits of a text,
 //! and the minus sign at its start. It ignores every other character: under the locale `en`,
-//! `12.50` is 1250 and `(7)` is 7.
+//! `12.50` is 1250 and `(7)` is 7. Strict parsing takes a text only as the number is printed, with its
+//! separators or without any, and says of any other what is wrong:
+//!
+//! ```text
+//! let number: Result<i64, StrictError> = "12.50".parse_strict(&Locale::en);   // Unexpected { at: 2 }
+//! ```
 //!
 //! [`json`] has a buffer, a custom format and a locale as JSON values. [`reads_back`] and
 //! [`prints_alike`] check a format once, for all numbers.

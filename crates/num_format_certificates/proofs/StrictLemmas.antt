@@ -11,7 +11,7 @@ use Rattle.num_format_int.specs.Text.{text_of}
 use Rattle.num_format_int.proofs.DigitLemmas.{digits-below_ten}
 use Rattle.num_format_int.proofs.GroupedLemmas.{of_either}
 use Rattle.num_format_parsing.specs.Reading.{denoted, no_value}
-use Rattle.num_format_parsing.specs.Strict.{SpellsNumber, with_separators, without_separators, ungrouped, IsStrictly, IsOutOfRange}
+use Rattle.num_format_parsing.specs.Strict.{SpellsNumber, with_separators, without_separators, ungrouped, ParsesStrictly, IsOutOfRange}
 use Rattle.num_format_parsing.proofs.SpellingLemmas.{utf8-separated}
 use Rattle.num_format_certificates.specs.Laws.{IsExact}
 use Rattle.num_format_certificates.specs.RoundTrips.{RoundTrips, IsUnambiguous}
@@ -44,7 +44,7 @@ tells-spelled f text z sign separator plain spells = elim spells [
 ]
 
 -- strict parsing returns a value that a text spells
-strictly-spelled : (t : IntegerType) (f : FormatData) (text : List ℕ) (z : ℤ) → IsUtf8 text → Tells f z text → IsValueOf (kind_of t) z → SpellsNumber f text z → IsStrictly (kind_of t) f text z
+strictly-spelled : (t : IntegerType) (f : FormatData) (text : List ℕ) (z : ℤ) → IsUtf8 text → Tells f z text → IsValueOf (kind_of t) z → SpellsNumber f text z → ParsesStrictly (kind_of t) f text z
 strictly-spelled t f text z utf8 tells value spells =
     record {
       utf8 = utf8;

@@ -3,7 +3,7 @@ use Rattle.std.specs.Prelude.{◌≡◌, ◌-◌, ◌^◌, ℕ, ℤ, pos, negsuc
 use Rattle.num_format_text.specs.Format.{FormatData}
 use Rattle.num_format_int.specs.Kind.{kind_of, I128, IntegerType, IsValueOf}
 use Rattle.num_format_int.specs.Text.{text_of}
-use Rattle.num_format_parsing.specs.Strict.{SpellsNumber, IsStrictly, IsOutOfRange}
+use Rattle.num_format_parsing.specs.Strict.{SpellsNumber, ParsesStrictly, IsOutOfRange}
 use Rattle.num_format_certificates.specs.Alike.{Alike}
 use Rattle.num_format_certificates.specs.RoundTrips.{ReadsBack, RoundTrips, IsUnambiguous}
 
@@ -26,9 +26,9 @@ DistinctTextsLaw = (f : FormatData) → RoundTrips f →
 -- strict parsing returns a value exactly if the text spells it; a text spells one number at most; each printed text is parsed to its
 -- number; and out of range is exactly what spells a number that is no value of the type
 pub record IsExact (f : FormatData) : Type 0 where
-  pub returned : (t : IntegerType) (text : List ℕ) (z : ℤ) → IsValueOf (kind_of t) z → IsStrictly (kind_of t) f text z ↔ SpellsNumber f text z
+  pub returned : (t : IntegerType) (text : List ℕ) (z : ℤ) → IsValueOf (kind_of t) z → ParsesStrictly (kind_of t) f text z ↔ SpellsNumber f text z
   pub once : (text : List ℕ) (y z : ℤ) → SpellsNumber f text y → SpellsNumber f text z → y ≡ z
-  pub printed : (t : IntegerType) (z : ℤ) → IsValueOf (kind_of t) z → IsStrictly (kind_of t) f (text_of f z) z
+  pub printed : (t : IntegerType) (z : ℤ) → IsValueOf (kind_of t) z → ParsesStrictly (kind_of t) f (text_of f z) z
   pub out_of_range : (t : IntegerType) (text : List ℕ) → IsOutOfRange (kind_of t) f text ↔ ((z : ℤ) × SpellsNumber f text z × ¬ (IsValueOf (kind_of t) z))
 
 -- strict parsing is exact under a format by which every number reads back, whose minus sign and separator are UTF-8
