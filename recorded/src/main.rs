@@ -5,9 +5,10 @@
 //! cargo run -- constants    writes crates/num_format_vectors/src/constants.rt
 //! ```
 //!
-//! Cases on JSON, on builders and with a grouping that the Rust crate does not have are left out. A
-//! case whose result differs has to belong to a class of differences that `docs/DIFFERENCES.md` names,
-//! and to have the result that the class prescribes. The exit status is 1 where one does not.
+//! Cases on strict parsing, on JSON, on builders and with a grouping that the Rust crate does not have
+//! are left out. A case whose result differs has to belong to a class of differences that
+//! `docs/DIFFERENCES.md` names, and to have the result that the class prescribes. The exit status is 1
+//! where one does not.
 
 mod cases;
 mod constants;

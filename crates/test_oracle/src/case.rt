@@ -9,6 +9,7 @@
 //! |---|---|---|
 //! | `print` | TYPE FORMAT NUMBER | the text of the number, as a value of an integer type |
 //! | `read` | TYPE FORMAT TEXT | the number that the text is parsed to: `ok NUMBER`, or `err ParseNumber LENGTH` |
+//! | `strict` | TYPE FORMAT TEXT | the number that the text spells: `ok NUMBER`, or `err` and a `StrictError` as `Debug` writes it |
 //! | `names` | TEXT | the name of the locale that the text finds: `ok NAME`, or `err ParseLocale LENGTH` |
 //! | `locale` | NAME | GROUPING DECIMAL INFINITY MINUS NAN PLUS SEPARATOR, the data of the locale |
 //! | `json` | `buffer` TEXT | the text of the buffer that the JSON holds: `ok TEXT`, or `err FAULT` |
@@ -27,7 +28,7 @@
 //! text with `=TEXT`, as `minus_sign=2d`.
 //!
 //! Most cases stand for several calls: [`printing`](crate::printing) has the ways of printing, a
-//! text is parsed as a `&str` and as a `String`, a name is looked up by `from_name`, `parse` and
+//! text is parsed as a `&str` and as a `String`, strictly also as bytes, a name is looked up by `from_name`, `parse` and
 //! `from_name_traced`, and the data of a locale are read by its getters, as a format, and from the
 //! [`CustomFormat`] made of it. Where these differ, the result says so, and is not the expected one.
 
@@ -53,6 +54,7 @@ pub enum Call<'a> {
         type_name: &'a str,
         format: NamedFormat,
         text: String,
+        is_strict: bool,
     },
     FindLocale {
         text: String,
@@ -105,7 +107,8 @@ impl<'a> Call<'a> {
     fn parse(alloc: Global, kind: &str, arguments: &'a str) -> Option<Call<'a>> {
         match kind {
             "print" => Call::parse_print(alloc, arguments),
-            "read" => Call::parse_read(alloc, arguments),
+            "read" => Call::parse_read(alloc, arguments, false),
+            "strict" => Call::parse_read(alloc, arguments, true),
             "names" => Some(Call::FindLocale {
                 text: text(alloc, arguments)?,
             }),
@@ -128,13 +131,14 @@ impl<'a> Call<'a> {
         })
     }
 
-    fn parse_read(alloc: Global, arguments: &'a str) -> Option<Call<'a>> {
+    fn parse_read(alloc: Global, arguments: &'a str, is_strict: bool) -> Option<Call<'a>> {
         let (type_name, arguments) = arguments.split_once('\t')?;
         let (format, hexadecimal) = arguments.split_once('\t')?;
         Some(Call::Parse {
             type_name,
             format: NamedFormat::parse(alloc, format)?,
             text: text(alloc, hexadecimal)?,
+            is_strict,
         })
     }
 

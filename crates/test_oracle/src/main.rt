@@ -17,6 +17,8 @@
 //!   grouping is `Myriad`, which that crate does not have. Further cases, which were not recorded,
 //!   have the keys of an object in reverse order.
 //! - `build`: the formats that a builder builds, and the error of a text that is too long.
+//! - `strict`: the numbers that texts spell, and the causes of refusal, worked out by hand, since that
+//!   crate has no such call.
 //! - `changed`: results that are wrong, which show that a difference would be found.
 //!
 //! An error keeps the text truncated at a character within 256 bytes, as the port promises; that

@@ -65,6 +65,7 @@ pub struct Report {
     locales: Tally,
     json: Tally,
     building: Tally,
+    strict: Tally,
     changed: Tally,
     unreadable: usize,
 }
@@ -78,6 +79,7 @@ impl Report {
             locales: Tally::new("locale"),
             json: Tally::new("json"),
             building: Tally::new("build"),
+            strict: Tally::new("strict"),
             changed: Tally::new("changed"),
             unreadable: 0,
         }
@@ -103,6 +105,10 @@ impl Report {
         }
         match case.call {
             Call::Print { .. } => self.printing.add(rt, line, expected, &returned),
+            Call::Parse {
+                is_strict: true,
+                ..
+            } => { self.strict.add(rt, line, expected, &returned) }
             Call::Parse { .. } => self.reading.add(rt, line, expected, &returned),
             Call::FindLocale { .. } => self.names.add(rt, line, expected, &returned),
             Call::DescribeLocale { .. } => self.locales.add(rt, line, expected, &returned),
@@ -129,6 +135,7 @@ impl Report {
             && self.locales.is_passed()
             && self.json.is_passed()
             && self.building.is_passed()
+            && self.strict.is_passed()
             && self.changed.cases > 0
             && self.changed.different == self.changed.cases
             && self.unreadable == 0
@@ -142,6 +149,7 @@ impl Report {
         self.locales.print(rt)?;
         self.json.print(rt)?;
         self.building.print(rt)?;
+        self.strict.print(rt)?;
         self.changed.print(rt)?;
         println!(rt; "unreadable: {} lines", self.unreadable)
     }

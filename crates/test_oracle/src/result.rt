@@ -3,7 +3,7 @@
 use crate::building::{built, from_json};
 use crate::case::{Call, NamedFormat};
 use crate::printing::printed;
-use num_format::parsing::{FromFormattedStr, ParseFormatted};
+use num_format::parsing::{FromFormattedStr, ParseFormatted, StrictError};
 use num_format::{CustomFormat, Error, ErrorKind, Format, Grouping, Locale, ToFormattedString};
 use std::alloc::Global;
 use std::fmt::Display;
@@ -15,6 +15,7 @@ use std::str::FromStr;
 enum Operation<'a> {
     Print(&'a str),
     Parse(&'a str),
+    ParseStrict(&'a str),
 }
 
 impl Call<'_> {
@@ -31,7 +32,15 @@ impl Call<'_> {
                 type_name,
                 format,
                 text,
-            } => under_format(alloc, type_name, Operation::Parse(text), format),
+                is_strict,
+            } => {
+                let operation = if *is_strict {
+                    Operation::ParseStrict(text)
+                } else {
+                    Operation::Parse(text)
+                };
+                under_format(alloc, type_name, operation, format)
+            }
             Call::FindLocale { text } => {
                 let by_name = agreed(
                     found(alloc, text, Locale::from_name(text))?,
@@ -120,6 +129,17 @@ where
                 parsed::<N>(alloc, text, string.parse_formatted(format))?,
             )
         }
+        Operation::ParseStrict(text) => {
+            let string = String::from_str(alloc, text).ok()?;
+            let of_str = agreed(
+                parsed_strictly::<N>(alloc, N::from_strict_bytes(text.as_bytes(), format))?,
+                parsed_strictly::<N>(alloc, text.parse_strict(format))?,
+            )?;
+            agreed(
+                of_str,
+                parsed_strictly::<N>(alloc, string.parse_strict(format))?,
+            )
+        }
     }
 }
 
@@ -132,6 +152,17 @@ fn parsed<N: Display + Drop>(
     match parsing {
         Ok(number) => format!(in alloc; "ok {number}").ok(),
         Err(error) => described_error(alloc, text, &error),
+    }
+}
+
+/// Returns the number that a text was parsed to strictly, or the error.
+fn parsed_strictly<N: Display + Drop>(
+    alloc: Global,
+    parsing: Result<N, StrictError>,
+) -> Option<String> {
+    match parsing {
+        Ok(number) => format!(in alloc; "ok {number}").ok(),
+        Err(error) => format!(in alloc; "err {error:?}").ok(),
     }
 }
 
