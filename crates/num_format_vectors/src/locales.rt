@@ -1,5 +1,5 @@
-//! The list of the names of locales, a locale found by its own name or by that of its variant, and the
-//! places that are compared on the way.
+//! The list of the names of locales, a locale found by its own name or by that of its variant, the
+//! places that are compared on the way, and the locales as which tags are looked up.
 ghost use Rattle.std.specs.Prelude.{◌≡◌, ◌<◌, ◌↔◌, IsTrue, Ok};
 
 use crate::asserting::assert_equal;
