@@ -1,7 +1,7 @@
 -- What texts spell, and where they stop, each shown by computing it.
 use Rattle.std.proofs.Common.{◌≡◌, refl, pos, negsuc, []}
 use Rattle.std.specs.Prelude.{codes}
-use Rattle.num_format_text.specs.declared.grouping.Grouping.TheVariants.{Indian, Myriad, Sparse}
+use Rattle.num_format_text.specs.declared.grouping.Grouping.TheVariants.{Indian, Myriad, Posix, Sparse}
 use Rattle.num_format_int.specs.Digits.{digits}
 use Rattle.num_format_text.specs.English.{english}
 use Rattle.num_format_parsing.specs.Strict.{SpellsNumber, with_separators, without_separators, unexpected}
@@ -43,3 +43,6 @@ hyphen = refl
 
 separators_anywhere : unexpected english (codes "-,1,,2345,") ≡ []
 separators_anywhere = refl
+
+separator_never_printed : unexpected (record english { grouping = Posix }) (codes "1,234") ≡ codes ",234"
+separator_never_printed = refl
