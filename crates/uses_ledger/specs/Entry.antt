@@ -1,5 +1,5 @@
 -- The entry of a line, and why a line is refused.
-use Rattle.std.specs.Prelude.{◌≡◌, ℕ, ℤ, ◌==◌, List, length}
+use Rattle.std.specs.Prelude.{◌≡◌, ◌<◌, ℕ, ℤ, ◌==◌, List, length}
 use Rattle.std.specs.List.{after_first, before_first, position_or_len}
 use Rattle.num_format.specs.Cut.{cut_text}
 use Rattle.num_format.specs.Format.{FormatData}
@@ -30,6 +30,11 @@ amount_in line = after_first (λ b. b == 9) line
 -- the item of a line: its name, and the number that its amount denotes
 abbrev pub item_in : FormatData → List ℕ → Item
 item_in f line = record { name = name_in line; amount = denoted f (amount_in line) }
+
+-- the line has a tab, and its amount parses
+pub record IsAccepted (f : FormatData) (line : List ℕ) : Type 0 where
+  pub tab : position_or_len (λ b. b == 9) line < length line
+  pub amount : ¬ (Refused (kind_of I64) f (amount_in line))
 
 -- the line is refused with that error: it has no tab, or its amount does not parse
 abbrev pub Refuses : FormatData → List ℕ → LedgerError → Type 0

@@ -1,7 +1,7 @@
 //! The entries of a ledger, and how they are read from its lines.
-ghost use Rattle.std.specs.Prelude.{◌≡◌, ◌⊎◌, map, Any, IfOk, IfErr};
+ghost use Rattle.std.specs.Prelude.{◌≡◌, ◌⊎◌, map, All, Any, IfOk, IfErr, OnOk};
 ghost use Rattle.std.specs.Str.Lines.{lines};
-ghost use Rattle.uses_ledger.specs.Entry.{Refuses, item_in, item_of};
+ghost use Rattle.uses_ledger.specs.Entry.{IsAccepted, Refuses, item_in, item_of};
 ghost use Rattle.uses_ledger.specs.declared.entry.LedgerError.TheVariants.{NoMemory};
 
 use num_format::parsing::ParseFormatted;
@@ -38,6 +38,7 @@ pub enum LedgerError {
 /// Returns [`LedgerError::NoTab`], or the error of an amount that does not parse.
 pub fn parse_entry<'a, F: Format>(line: &'a str, format: &F) -> Result<Entry<'a>, LedgerError>
     ensures entry { IfOk result (λ e. item_of e ≡ item_in (F.answers format.now) line.now) }
+    ensures accepted { OnOk result (IsAccepted (F.answers format.now) line.now) }
     ensures refused { IfErr result (Refuses (F.answers format.now) line.now) }
 {
     let (name, amount) = line.split_once('\t').ok_or(LedgerError::NoTab)?;
@@ -57,6 +58,7 @@ pub fn read_entries<'a, F: Format>(
 ) -> Result<Vec<Entry<'a>>, LedgerError>
     ensures entries { IfOk result (λ entries.
         map item_of entries.items ≡ map (item_in (F.answers format.now)) (lines text.now)) }
+    ensures accepted { OnOk result (All (IsAccepted (F.answers format.now)) (lines text.now)) }
     ensures refused { IfErr result (λ e.
         (e ≡ NoMemory) ⊎ Any (λ line. Refuses (F.answers format.now) line e) (lines text.now)) }
 {

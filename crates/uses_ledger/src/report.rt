@@ -1,10 +1,12 @@
 //! A ledger printed, with its total.
-ghost use Rattle.std.specs.Prelude.{◌≡◌, IfOk, IfErr, OnOk, OnErr};
+ghost use Rattle.std.specs.Prelude.{◌≡◌, Err, IfOk, IfErr, OnOk, OnErr};
 ghost use Rattle.std.specs.Io.KnownBytes.{Appends};
+ghost use Rattle.num_format.specs.Writing.{StopsWithin};
 ghost use Rattle.uses_ledger.specs.Report.{Fails, HasLargeSum, line_of, report_of, sum_of};
 ghost use Rattle.uses_ledger.specs.declared.entry.LedgerError.TheVariants.{TotalTooLarge};
 
 use crate::entry::{Entry, LedgerError};
+use num_format::to_formatted_string::write_whole;
 use num_format::{Format, ToFormattedString};
 use std::io;
 use std::io::Write;
@@ -19,6 +21,7 @@ pub fn total(entries: &[Entry]) -> Result<i64, LedgerError>
     ensures sum { IfOk result (λ sum. sum ≡ sum_of entries.now) }
     ensures error { IfErr result (λ e. e ≡ TotalTooLarge) }
     ensures too_large { OnErr result (HasLargeSum entries.now) }
+    ensures fits { OnOk result (¬ (HasLargeSum entries.now)) }
 {
     let mut sum = 0i64;
     for entry in entries {
@@ -33,8 +36,9 @@ pub fn total(entries: &[Entry]) -> Result<i64, LedgerError>
 ///
 /// # Errors
 ///
-/// Returns the error of [`total`], before anything is written, or that of the first write that fails.
-/// The contract does not say what the writer received by then.
+/// Returns the error of [`total`] before anything is written, or else that of the first write that
+/// fails, also of one that was interrupted, or that writes no bytes. The writer then received a prefix
+/// of the report, and not all of it.
 pub fn write_report<F: Format, W: Write>(
     entries: &[Entry],
     format: &F,
@@ -42,6 +46,10 @@ pub fn write_report<F: Format, W: Write>(
 ) -> Result<(), LedgerError>
     ensures written { OnOk result (Appends (W.contents w.old) (W.contents w.new)
         (report_of (F.answers format.now) entries.now)) }
+    ensures prefix { OnErr result (StopsWithin (W.contents w.old) (W.contents w.new)
+        (report_of (F.answers format.now) entries.now)) }
+    ensures too_large { HasLargeSum entries.now →
+        (result ≡ Err TotalTooLarge) × (W.contents w.new ≡ W.contents w.old) }
     ensures failed { IfErr result (Fails entries.now) }
 {
     let sum = total(entries)?;
@@ -53,11 +61,14 @@ pub fn write_report<F: Format, W: Write>(
 
 /// Writes a name, a tab, the amount and a newline.
 fn write_line<F: Format, W: Write>(name: &str, amount: i64, format: &F, w: &mut W) -> io::Result<()>
-    ensures { OnOk result (Appends (W.contents w.old) (W.contents w.new)
+    ensures whole { OnOk result (Appends (W.contents w.old) (W.contents w.new)
+        (line_of (F.answers format.now) name.now amount)) }
+    ensures prefix { OnErr result (StopsWithin (W.contents w.old) (W.contents w.new)
         (line_of (F.answers format.now) name.now amount)) }
 {
-    w.write_all(name.as_bytes())?;
-    w.write_all(b"\t")?;
+    write_whole(name.as_bytes(), w)?;
+    write_whole(b"\t", w)?;
     amount.read_to_io_writer(w, format)?;
-    w.write_all(b"\n")
+    write_whole(b"\n", w)?;
+    Ok(())
 }

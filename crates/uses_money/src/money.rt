@@ -54,6 +54,7 @@ impl fmt::Display for Money {
 pub fn parse_money(text: &str, locale: Locale) -> Result<Money, Error>
     ensures number { IfOk result (λ m. m.minor_units ≡ denoted (locale_data locale) text.now) }
     ensures locale { IfOk result (λ m. m.locale ≡ locale) }
+    ensures accepted { IfOk result (λ _. ¬ (Refused (kind_of I64) (locale_data locale) text.now)) }
     ensures refused { IfErr result (λ _. Refused (kind_of I64) (locale_data locale) text.now) }
     ensures error { IfErr result (λ e. refusal_of e ≡ ParseNumber (cut_text text.now)) }
 {

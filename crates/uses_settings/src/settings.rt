@@ -1,10 +1,9 @@
 //! How the lines of a text set the data of a format.
-ghost use Rattle.std.specs.Prelude.{◌≡◌, All, IfOk, IfErr, IsSome, Ok, OnOk};
+ghost use Rattle.std.specs.Prelude.{◌≡◌, IfOk, IfErr, Ok, OnOk};
 ghost use Rattle.std.specs.Option.{option_map};
-ghost use Rattle.std.specs.Str.Lines.{lines};
 ghost use Rattle.num_format.specs.Building.{after_call, built};
 ghost use Rattle.num_format.specs.RoundTrips.{RoundTrips};
-ghost use Rattle.uses_settings.specs.Settings.{Refuses, call_in, choices_in};
+ghost use Rattle.uses_settings.specs.Settings.{HasSettings, Refuses, call_in, choices_in};
 
 use num_format::{CustomFormat, CustomFormatBuilder, Error, Grouping, reads_back};
 
@@ -18,9 +17,9 @@ use num_format::{CustomFormat, CustomFormatBuilder, Error, Grouping, reads_back}
 ///
 /// # Errors
 ///
-/// Returns the error of the library for a text that is too long. Returns an error of kind
-/// [`ErrorKind::Other`](num_format::ErrorKind::Other) for a line that is no setting, and for a format
-/// under which a number does not read back.
+/// Returns an error of kind [`ErrorKind::Other`](num_format::ErrorKind::Other) if a line is no setting.
+/// Else returns the error of the library for a text that is too long, and else again one of kind `Other`
+/// for a format under which a number does not read back.
 ///
 /// ```text
 /// parse_format("separator='\ngrouping=Indian")  is Ok: -1234567 is printed as -12'34'567
@@ -29,7 +28,7 @@ use num_format::{CustomFormat, CustomFormatBuilder, Error, Grouping, reads_back}
 pub fn parse_format(text: &str) -> Result<CustomFormat, Error>
     ensures reads_back { IfOk result RoundTrips }
     ensures format { IfOk result (λ f. built (choices_in text.now) ≡ Ok f) }
-    ensures settings { OnOk result (All (λ line. IsSome (call_in line)) (lines text.now)) }
+    ensures settings { OnOk result (HasSettings text.now) }
     ensures refused { IfErr result (Refuses text.now) }
 {
     let mut builder = CustomFormat::builder();

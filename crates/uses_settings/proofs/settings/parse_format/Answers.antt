@@ -1,14 +1,13 @@
-use Rattle.std.proofs.Common.{◌≡◌, ap, sym, ◌∙◌, length, All, None, Some, rules}
+use Rattle.std.proofs.Common.{◌≡◌, ap, sym, ◌∙◌, length, None, Some, rules}
 use Rattle.std.proofs.lemmas.Iterator.Consumers.{YieldsList-end, YieldsList-turn}
 use Rattle.std.proofs.lemmas.Iterator.Splits.{YieldsList-from_lines}
 use Rattle.std.proofs.lemmas.List.{map-append}
 use Rattle.std.proofs.lemmas.List.Elements.{All-push}
 use Rattle.std.proofs.lemmas.Result.{err_from_is_err_and}
 use Rattle.std.specs.Prelude.{fold, IsSome}
-use Rattle.std.specs.Str.Lines.{lines}
 use Rattle.num_format.specs.Building.{built, choices_of}
 use Rattle.num_format.specs.English.{english}
-use Rattle.uses_settings.specs.Settings.{after_line, call_in, no_setting, too_long, ambiguous}
+use Rattle.uses_settings.specs.Settings.{HasSettings, after_line, call_in, no_setting, too_long, ambiguous}
 use Rattle.uses_settings.proofs.SettingsLemmas.{after_more, IsSome-call, None-call}
 use Rattle.uses_settings.proofs.settings.parse_format.Goals as goal
 
@@ -30,13 +29,15 @@ returns-in_err-format-clause-refused c =
     let t = YieldsList-end (YieldsList-from_lines c.args.text.now (cc)) c.loop-line.yielded _ c.loop-line.yielded_by _ _ c.in-None.is c.next.ensures.steps in
     let done = c.loop-line.invariant.0 ∙ ap (fold after_line (choices_of english)) t.0 in
     let p = err_from_is_err_and c.from_residual.result c.from_residual.ensures.1 in
-    rw (p.1, p.2) (too_long (ap built (sym done) ∙ (sym c.build.ensures ∙ c.in_err-format.was)))
+    let all : HasSettings c.args.text.now = rw (← t.0) c.loop-line.invariant.1 in
+    rw (p.1, p.2) (too_long all (ap built (sym done) ∙ (sym c.build.ensures ∙ c.in_err-format.was)))
 
 pub returns-then-not-reads_back-clause-refused : goal.returns-then-not-reads_back-clause-refused
 returns-then-not-reads_back-clause-refused c =
     let t = YieldsList-end (YieldsList-from_lines c.args.text.now (cc)) c.loop-line.yielded _ c.loop-line.yielded_by _ _ c.in-None.is c.next.ensures.steps in
     let done = c.loop-line.invariant.0 ∙ ap (fold after_line (choices_of english)) t.0 in
-    ambiguous c.in_ok-format.format (ap built (sym done) ∙ (sym c.build.ensures ∙ c.in_ok-format.was))
+    let all : HasSettings c.args.text.now = rw (← t.0) c.loop-line.invariant.1 in
+    ambiguous all c.in_ok-format.format (ap built (sym done) ∙ (sym c.build.ensures ∙ c.in_ok-format.was))
     (λ every. let wrong = sym c.if-not-reads_back.true ∙ c.reads_back.ensures.1 every in cc) c.new-then-not-reads_back.ensures
 
 pub returns-clause-format : goal.returns-clause-format
@@ -48,5 +49,5 @@ returns-clause-format c =
 pub returns-clause-settings : goal.returns-clause-settings
 returns-clause-settings c =
     let t = YieldsList-end (YieldsList-from_lines c.args.text.now (cc)) c.loop-line.yielded _ c.loop-line.yielded_by _ _ c.in-None.is c.next.ensures.steps in
-    let all : All (λ line. IsSome (call_in line)) (lines c.args.text.now) = rw (← t.0) c.loop-line.invariant.1 in
+    let all : HasSettings c.args.text.now = rw (← t.0) c.loop-line.invariant.1 in
     all
