@@ -6,9 +6,9 @@
 pub use num_format_certificates::laws::{
     alike, distinct_texts, locale_round_trips, round_trips, strict,
 };
-pub use num_format_custom::laws::{building, custom_formats, english, equality};
+pub use num_format_custom::laws::{building, custom_formats, english, equality, hashes};
 pub use num_format_int::laws::{digits, text_bound, text_ends, text_length};
-pub use num_format_json::laws::json;
+pub use num_format_json::laws::{json, json_faults};
 pub use num_format_locale::laws::{
     found_by_name, found_by_tag, locales, name_order, spelled_once, variants_differ,
     well_formed_data,

@@ -1,12 +1,14 @@
 //! Laws of formats of one's own and of their builder, for callers' proofs.
 //!
-//! The contract of each function is a law. There is nothing to compute, so the bodies are empty.
-//! A caller that needs a law in a proof calls its function.
+//! The contract of each function is a law. There is nothing to compute: the bodies are empty, or call
+//! another law. A caller that needs a law in a proof calls its function.
 ghost use Rattle.num_format_custom.specs.Laws.{BuildingLaw, CustomFormatLaw, EnglishLaw};
-ghost use Rattle.num_format_text.specs.Equality.{EqualityLaw};
+ghost use Rattle.num_format_text.specs.Equality.{EqualityLaw, HashLaw};
 
 use crate::custom_format::CustomFormat;
 use crate::custom_format_builder::CustomFormatBuilder;
+use num_format_text::laws::groupings;
+use std::hash::Hash;
 
 /// A builder starts with the data of the locale `en`.
 pub fn english()
@@ -31,3 +33,10 @@ pub fn equality()
     ensures formats { EqualityLaw (λ x. x) ⟦<CustomFormat as PartialEq>⟧.eq ⟦<CustomFormat as Clone>⟧.is_clone ⟦<CustomFormat as Clone>⟧.is_infallible }
     ensures builders { EqualityLaw (λ x. x) ⟦<CustomFormatBuilder as PartialEq>⟧.eq ⟦<CustomFormatBuilder as Clone>⟧.is_clone ⟦<CustomFormatBuilder as Clone>⟧.is_infallible }
 {}
+
+/// Different formats are hashed differently, and equal ones alike.
+pub fn hashes()
+    ensures { HashLaw (λ x. x) ⟦<CustomFormat as Hash>⟧.hash_input }
+{
+    groupings();
+}

@@ -19,6 +19,7 @@ use Rattle.num_format_text.specs.declared.grouping.Grouping.{Grouping}
 use Rattle.num_format_text.specs.declared.grouping.Grouping.TheVariants.{Standard, Indian, Posix, Myriad, Sparse}
 use Rattle.num_format_text.specs.GroupingNames.{grouping_name, grouping_named}
 use Rattle.num_format_text.specs.Format.{FormatData, IsWithinCapacity}
+use Rattle.num_format_int.specs.declared.buffer.TheConstants.{MAX_BUF_LEN}
 use Rattle.num_format_json.specs.Json.{buffer_in, buffer_json, bytes_in, format_in, format_json, locale_in, locale_json, locale_named}
 use Rattle.num_format_cldr.specs.declared.TheConstants.{LEN}
 use Rattle.num_format_cldr.specs.Table.{table_names}
@@ -72,9 +73,9 @@ chars_held : (cs : List ℕ) → scalars cs ≡ true → AreHeld (encodes cs)
 chars_held [] valid = refl
 chars_held (c ∷ cs) valid = let parts = and_parts (scalar c) (scalars cs) valid in char_held c (encodes cs) parts.0 (chars_held cs parts.1)
 
-pub buffer_in-buffer_json : (text : List ℕ) → IsUtf8 text → length text ≤ 191 → buffer_in (buffer_json text) ≡ Ok text
+pub buffer_in-buffer_json : (text : List ℕ) → IsUtf8 text → length text ≤ MAX_BUF_LEN → buffer_in (buffer_json text) ≡ Ok text
 buffer_in-buffer_json text utf8 fits =
-    let few : nat_lt 191 (length text) ≡ false = le-ltb 191 (length text) fits in
+    let few : nat_lt MAX_BUF_LEN (length text) ≡ false = le-ltb MAX_BUF_LEN (length text) fits in
     let held : AreHeld text = subst AreHeld utf8.1.1 (chars_held utf8.0 utf8.1.0) in
     rw (items_len-items_of, few, held, is_utf8-from_IsUtf8 text utf8)
 

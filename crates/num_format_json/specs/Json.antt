@@ -1,6 +1,7 @@
 -- Buffers, formats and locales as JSON values: the value of each, and what any value holds.
 use Rattle.num_format_text.specs.declared.capacities.TheConstants.{MAX_DEC_LEN, MAX_INF_LEN, MAX_MIN_LEN, MAX_NAN_LEN, MAX_PLUS_LEN, MAX_SEP_LEN}
 use Rattle.std.specs.Prelude.{ℕ, nat_lt, nat_le, bytes_eq, codes, List, [], ◌∷◌, ◌++◌, map, find, position, length, is_some, Option, Some, None, ok_or, option_map, option_and_then, Result, Ok, Err, if◌then◌else◌}
+use Rattle.std.specs.Fmt.{decimal}
 use Rattle.std.specs.Str.{is_utf8}
 use Rattle.serde_json.specs.Data.{Data, number, unsigned, string, array, object, Items, no_items, item, member, no_members}
 use Rattle.serde_json.specs.Events.{items_len}
@@ -44,7 +45,7 @@ fault_of fault.NoSuchLocale = NoSuchLocale
 -- the message of a fault
 abbrev pub message_of : Fault → List ℕ
 message_of NotArray = codes "the value is no array"
-message_of TooLarge = codes "the array has more than 191 items"
+message_of TooLarge = codes "the array has more than " ++ (decimal MAX_BUF_LEN ++ codes " items")
 message_of NotByte = codes "an item of the array is no byte"
 message_of NotUtf8 = codes "the bytes in the array are not UTF-8"
 message_of NotObject = codes "the value is no object"
