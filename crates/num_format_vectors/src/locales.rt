@@ -167,10 +167,16 @@ const TAGS: [(&str, Option<&str>); 64] = [
     ("enÉ", None),
 ];
 
+/// Asserts the name of the locale as which a tag is looked up.
+fn assert_looked_up(rt: &impl Abort, case: &(&str, Option<&str>)) {
+    let (tag, name) = *case;
+    assert_equal(rt, Locale::lookup(tag).map(|locale| locale.name()), name);
+}
+
 #[test]
 fn a_tag_is_looked_up_as_its_longest_name(rt: HostRuntime) {
-    for (tag, name) in &TAGS {
-        assert_equal(&rt, Locale::lookup(tag).map(|locale| locale.name()), *name);
+    for case in &TAGS {
+        assert_looked_up(&rt, case);
     }
 }
 
