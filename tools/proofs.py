@@ -15,8 +15,8 @@ MADE = [".git", "out", "target", "__pycache__"]
 # The crate of the library for C.
 LIBRARY = "num_format_c"
 
-# What `rt ci` says of a crate that is proved, of a must-fail edit that the prover refused, and its last line.
-PROVED = re.compile(r"rt: (\w+) proved\n")
+# What `rt ci` says of a crate that is proved, now or by an earlier run, of a must-fail edit that the prover refused, and its last line.
+PROVED = re.compile(r"rt: (\w+) (?:proved|is kept: .*)\n")
 REFUSED = re.compile(r"rt: must-fail (\S+)/(\S+)\.edit: refused, as it must be: (.*)\n")
 COUNTED = re.compile(r"(\d+) passed, (\d+) failed\n")
 
@@ -61,7 +61,7 @@ def prove(tally, copy):
     if not passed or bool(ci.returncode) != bool(failed):
         tally.add("rt ci", f"status {ci.returncode} after the line {line!r}")
     # A build that was killed for want of memory has more of it now.
-    if building and building.wait():
+    if not building or building.wait():
         start_library(copy).wait()
 
 
