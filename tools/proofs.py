@@ -15,7 +15,8 @@ MADE = [".git", "out", "target", "__pycache__"]
 # The crate of the library for C.
 LIBRARY = "num_format_c"
 
-# What `rt ci` says of a crate that is proved, now or by an earlier run, of a must-fail edit that the prover refused, and its last line.
+# What `rt ci` says of a crate that is proved, now or by an earlier run, of a must-fail edit that the prover
+# refused, and its last line.
 PROVED = re.compile(r"rt: (\w+) (?:proved|is kept: .*)\n")
 REFUSED = re.compile(r"rt: must-fail (\S+)/(\S+)\.edit: refused, as it must be: (.*)\n")
 COUNTED = re.compile(r"(\d+) passed, (\d+) failed\n")
