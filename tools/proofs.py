@@ -103,6 +103,8 @@ def start_library(copy, **how):
     """Starts to build the library for C, of whose crate `rt ci` builds nothing, over what that built."""
     listed = read_crates(copy)
     crate = copy / "crates" / LIBRARY
+    # `rt ci` makes it once it comes to the crate, which may be later.
+    (crate / "out").mkdir(exist_ok=True)
     kit = Path(run(["rt", "doc"], stdout=subprocess.PIPE, text=True).stdout).parent
     words = ["rattle", "build", "--crate-name", LIBRARY, "src/lib.rt", "--crate-type", "staticlib"]
     words += ["-L", f"dependency={kit}/rlibs"]
