@@ -1,2 +1,3 @@
 mod CutLemmas
 mod Examples
+pub mod HashLemmas

@@ -1,5 +1,5 @@
 -- The data of a format.
-use Rattle.std.specs.Prelude.{ℕ, ◌≤◌, List, length}
+use Rattle.std.specs.Prelude.{ℕ, ◌≤◌, List, length, IsUtf8}
 use Rattle.num_format_text.specs.declared.grouping.Grouping.{Grouping}
 
 -- what the seven methods of a format return; each text is the list of its bytes
@@ -33,3 +33,12 @@ pub record IsWithinCapacity (f : FormatData) : Type 0 where
   pub nan : length f.nan ≤ capacities.nan
   pub plus_sign : length f.plus_sign ≤ capacities.plus_sign
   pub separator : length f.separator ≤ capacities.separator
+
+-- each text is UTF-8
+pub record HasUtf8Texts (f : FormatData) : Type 0 where
+  pub decimal : IsUtf8 f.decimal
+  pub infinity : IsUtf8 f.infinity
+  pub minus_sign : IsUtf8 f.minus_sign
+  pub nan : IsUtf8 f.nan
+  pub plus_sign : IsUtf8 f.plus_sign
+  pub separator : IsUtf8 f.separator

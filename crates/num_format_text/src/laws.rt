@@ -3,6 +3,7 @@
 //! The contract of each function is a law. The bodies are empty, since there is nothing to compute.
 //! A caller that needs a law in a proof calls its function.
 ghost use Rattle.std.specs.Prelude.{◌≡◌};
+ghost use Rattle.num_format_text.specs.Cut.{CutLaw};
 ghost use Rattle.num_format_text.specs.Equality.{EqualityLaw, HashLaw};
 ghost use Rattle.num_format_text.specs.Format.{capacities};
 ghost use Rattle.num_format_text.specs.Refusal.{refusal_of};
@@ -24,6 +25,13 @@ pub fn symbol_capacities()
     ensures nan { ⟦<Nan as Symbol>⟧.CAPACITY ≡ capacities.nan }
     ensures plus_sign { ⟦<PlusSign as Symbol>⟧.CAPACITY ≡ capacities.plus_sign }
     ensures separator { ⟦<Separator as Symbol>⟧.CAPACITY ≡ capacities.separator }
+{}
+
+/// What an error keeps of a text, as [`cut`](crate::error::cut) returns it, is the longest of its
+/// prefixes that are whole characters and have at most
+/// [`MAX_ERR_LEN`](crate::capacities::MAX_ERR_LEN) bytes.
+pub fn cut_texts()
+    ensures { CutLaw }
 {}
 
 /// Two groupings are equal by `==` exactly if they are the same variant, a clone is the same variant,
