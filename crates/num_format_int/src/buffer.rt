@@ -4,6 +4,7 @@
 //! text ends where the array ends and grows to the left, since the digits of a number are found from
 //! the last to the first.
 ghost use Rattle.std.specs.Prelude.{◌≡◌, ◌+◌, ◌*◌, ◌<◌, ◌≤◌, ◌==◌, [], ◌∷◌, ◌++◌, length, Some};
+ghost use Rattle.std.specs.Fmt.{WritesOnOk, WritesStyledOnOk};
 
 use std::marker::Model;
 use std::{fmt, str};
@@ -263,8 +264,12 @@ impl fmt::Display for Buffer {
 impl fmt::Debug for Buffer {
     ghost debug_output = { λ b. Some b };
 
-    /// Writes the bare text, with no quotes, as the Rust crate does.
-    fn fmt<W: fmt::Write>(&self, f: &mut fmt::Formatter<W>) -> fmt::Result {
+    /// Writes the bare text, with no quotes, as the Rust crate does, whatever width or fill is asked
+    /// for.
+    fn fmt<W: fmt::Write>(&self, f: &mut fmt::Formatter<W>) -> fmt::Result
+        ensures writes { WritesOnOk W.write_str_gives f.old result self.now f.new }
+        ensures styled { WritesStyledOnOk W.write_str_gives f.old result self.now f.new }
+    {
         fmt::Display::fmt(self, f)
     }
 }

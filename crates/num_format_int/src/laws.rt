@@ -1,8 +1,12 @@
 //! Laws of the digits and the text of a number, for callers' proofs.
 //!
-//! The contract of each function is a law. There is nothing to compute, so the bodies are empty.
-//! A caller that needs a law in a proof calls its function.
+//! The contract of each function is a law. There is nothing to compute, so the bodies are empty, but
+//! for that of [`number_in_range`], which calls a method for what its contract says. A caller that needs
+//! a law in a proof calls its function.
+ghost use Rattle.num_format_int.specs.Kind.{IsValueOf};
 ghost use Rattle.num_format_int.specs.Laws.{BoundLaw, DigitsLaw, EndsLaw, LengthLaw};
+
+use crate::to_formatted_str::ToFormattedStr;
 
 /// The digits of a number: `n` alone below ten, and else the digits of `n / 10` and then `n % 10`.
 /// They write the number, and a leading zero does not change which number digits write.
@@ -27,3 +31,10 @@ pub fn text_bound()
 pub fn text_ends()
     ensures { EndsLaw }
 {}
+
+/// A number is a value of the kind of its type, whatever type it is of.
+pub fn number_in_range<N: ToFormattedStr>(n: &N)
+    ensures { IsValueOf N.kind (N.value n.now) }
+{
+    n.magnitude();
+}
