@@ -1,5 +1,6 @@
 pub mod BytesError
 pub mod Figures
+pub mod Laws
 pub mod Reading
 pub mod Shapes
 pub mod Strict

@@ -1,6 +1,7 @@
 //! Texts as whole numbers.
 #![tactic(auto)]
 
+pub mod laws;
 pub mod parsing;
 pub mod strict;
 mod utf8;

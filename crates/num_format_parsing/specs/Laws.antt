@@ -1,0 +1,23 @@
+-- Laws of parsing and of its errors.
+use Rattle.std.specs.Prelude.{◌≡◌, ◌↔◌, ℕ, ◌^◌, ◌<◌, List}
+use Rattle.std.specs.Hash.{HashWrites}
+use Rattle.num_format_text.specs.Equality.{HashLaw}
+use Rattle.num_format_text.specs.Format.{FormatData}
+use Rattle.num_format_int.specs.Kind.{Kind}
+use Rattle.num_format_parsing.specs.Reading.{denoted, Refused}
+use Rattle.num_format_parsing.specs.declared.strict.StrictError.{StrictError}
+use Rattle.num_format_parsing.specs.declared.strict.StrictError.TheVariants.{Unexpected}
+
+-- of the data of a format, the minus sign alone decides which number a text denotes, and whether the text is refused
+pub record MinusSignLaw : Type 0 where
+  pub number : (f g : FormatData) (text : List ℕ) → f.minus_sign ≡ g.minus_sign → denoted f text ≡ denoted g text
+  pub refused : (k : Kind) (f g : FormatData) (text : List ℕ) → f.minus_sign ≡ g.minus_sign → Refused k f text ↔ Refused k g text
+
+-- the place in an error is a `usize`
+abbrev pub HasUsize : StrictError → Type 0
+HasUsize (Unexpected at) = at < 2 ^ 64
+HasUsize _ = Unit {0}
+
+-- a hasher is given the same for two errors exactly if they are the same
+abbrev pub StrictErrorHashLaw : (StrictError → HashWrites) → Type 0
+StrictErrorHashLaw hash_input = HashLaw {X = (error : StrictError) × HasUsize error} (λ error. error.0) (λ error. hash_input error.0)
