@@ -4,7 +4,7 @@
 //! to the width that is asked for. [`text_len`] and [`text_width`] return how long the text is, without
 //! printing it.
 ghost use Rattle.std.specs.Prelude.{◌≡◌, ◌≤◌, length, Some};
-ghost use Rattle.std.specs.Fmt.{char_count, is_char_start, WritesStyledOnOk, formatter_spec, spec_width, spec_align, spec_fill};
+ghost use Rattle.std.specs.Fmt.{char_count, is_char_start, WritesOnOk, WritesStyledOnOk, formatter_spec, spec_width, spec_align, spec_fill};
 ghost use Rattle.num_format_int.specs.Digits.{digits};
 ghost use Rattle.num_format_int.specs.Grouped.{separators};
 ghost use Rattle.num_format_int.specs.Text.{text_of};
@@ -70,7 +70,12 @@ impl<'a, N: ToFormattedStr, F: Format> fmt::Debug for Formatted<'a, N, F> {
     ghost debug_output = { λ text. Some text };
 
     /// Writes the bare text, as a [`Buffer`] does, filled up to the width.
-    fn fmt<W: fmt::Write>(&self, f: &mut fmt::Formatter<W>) -> fmt::Result {
+    fn fmt<W: fmt::Write>(&self, f: &mut fmt::Formatter<W>) -> fmt::Result
+        ensures writes { WritesOnOk W.write_str_gives f.old result self.now f.new }
+        ensures styled { let spec = formatter_spec f.old in
+            WritesStyledOnOk W.write_str_gives f.old result
+            (filled (spec_width spec) (spec_align spec) (spec_fill spec) self.now) f.new }
+    {
         fmt::Display::fmt(self, f)
     }
 }

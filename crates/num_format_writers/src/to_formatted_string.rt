@@ -1,9 +1,10 @@
 //! Numbers into strings and writers.
-ghost use Rattle.std.specs.Prelude.{◌≡◌, length, IfOk, OnOk, string_bytes};
+ghost use Rattle.std.specs.Prelude.{◌≡◌, ◌≤◌, length, IfOk, OnOk, string_bytes};
 ghost use Rattle.num_format_int.specs.Text.{text_of};
 ghost use Rattle.num_format_writers.specs.Writing.{Writes};
 
 use crate::formatted::Formatted;
+use num_format_int::buffer::MAX_BUF_LEN;
 use num_format_int::{Buffer, ToFormattedStr};
 use num_format_text::Format;
 use std::alloc::{AllocError, Global};
@@ -13,7 +14,7 @@ use std::{fmt, io};
 /// into a [`Buffer`].
 pub trait ToFormattedString: ToFormattedStr {
     /// Writes the text of the number to a writer of text, by one call of `write_str`. Returns the
-    /// length of the text in bytes.
+    /// length of the text in bytes, at most [`MAX_BUF_LEN`].
     ///
     /// # Errors
     ///
@@ -26,10 +27,11 @@ pub trait ToFormattedString: ToFormattedStr {
         ensures whole { OnOk result
             (W.write_str_gives w.old (text_of (F.answers format.now) (Self.value self.now)) w.new) }
         ensures count { IfOk result
-            (λ count. count ≡ length (text_of (F.answers format.now) (Self.value self.now))) };
+            (λ count. count ≡ length (text_of (F.answers format.now) (Self.value self.now))) }
+        ensures fits { IfOk result (λ count. count ≤ MAX_BUF_LEN) };
 
     /// Writes the text of the number to a writer of bytes, in as many writes as it takes. Returns
-    /// the length of the text in bytes.
+    /// the length of the text in bytes, at most [`MAX_BUF_LEN`].
     ///
     /// Code that is generic over [`io::Write`] calls this method: its contract is about the
     /// writer's `contents`.
@@ -45,8 +47,9 @@ pub trait ToFormattedString: ToFormattedStr {
         w: &mut W,
         format: &F,
     ) -> Result<usize, io::Error>
-        ensures { Writes result (W.contents w.old) (W.contents w.new)
-            (text_of (F.answers format.now) (Self.value self.now)) };
+        ensures writes { Writes result (W.contents w.old) (W.contents w.new)
+            (text_of (F.answers format.now) (Self.value self.now)) }
+        ensures fits { IfOk result (λ count. count ≤ MAX_BUF_LEN) };
 
     /// Returns the number, to be displayed under the format. It needs no memory, and a width counts:
     /// see [`Formatted`].

@@ -19,7 +19,7 @@
 //! Code that is generic over std's [`Write`] calls
 //! [`read_to_io_writer`](ToFormattedString::read_to_io_writer), whose contract is about the
 //! writer's `contents`.
-ghost use Rattle.std.specs.Prelude.{◌≡◌, ◌≤◌, ⊤, ℕ, List, Option, Some, None, Result, length, IsOk, IfErr, string_bytes, vec_capacity};
+ghost use Rattle.std.specs.Prelude.{◌≡◌, ◌≤◌, ⊤, ℕ, List, Option, Some, None, Result, length, IsOk, IfOk, IfErr, string_bytes, vec_capacity};
 ghost use Rattle.std.specs.String.{string_capacity};
 ghost use Rattle.std.specs.Io.Cursor.{cursor_inner, cursor_position};
 ghost use Rattle.std.specs.IoError.{error_kind};
@@ -33,6 +33,7 @@ ghost use Rattle.num_format_writers.specs.Writing.{Writes};
 
 use crate::to_formatted_string::ToFormattedString;
 use num_format_int::Buffer;
+use num_format_int::buffer::MAX_BUF_LEN;
 use num_format_text::Format;
 use std::boxed::BoxedSlice;
 use std::fs::File;
@@ -53,7 +54,8 @@ pub trait WriteFormatted {
     /// result, and the writer after it.
     ghost write_formatted_gives: { Self → List ℕ → Result ℕ Error → Self → Type 0 } = { λ _ _ _ _. ⊤ };
 
-    /// Writes the text of the number to the writer. Returns the length of the text in bytes.
+    /// Writes the text of the number to the writer. Returns the length of the text in bytes, at most
+    /// [`MAX_BUF_LEN`].
     ///
     /// # Errors
     ///
@@ -68,7 +70,8 @@ pub trait WriteFormatted {
         ensures writes { Writes result (held self.old) (held self.new)
             (text_of (F.answers format.now) (N.value n.now)) }
         ensures gives { write_formatted_gives self.old
-            (text_of (F.answers format.now) (N.value n.now)) result self.new };
+            (text_of (F.answers format.now) (N.value n.now)) result self.new }
+        ensures fits { IfOk result (λ count. count ≤ MAX_BUF_LEN) };
 }
 
 impl<W: WriteFormatted> WriteFormatted for &mut W {

@@ -41,7 +41,7 @@ returns-in_err-read_to_io_writer-clause-prefix g c =
     let same : c.as_bytes.result.now ≡ c.args.name.now = cc in
     let name : Appends old named c.args.name.now = subst (Appends old named) same c.in_ok-write_whole.ensures.whole in
     let stops : StopsWithin tabbed counted amount =
-    subst (λ z. StopsWithin tabbed counted (text_of f z)) (to_z-of_z w64 c.args.amount c.ranges.amount) c.in_err-read_to_io_writer.ensures.prefix in
+    subst (λ z. StopsWithin tabbed counted (text_of f z)) (to_z-of_z w64 c.args.amount c.ranges.amount) c.in_err-read_to_io_writer.ensures.writes.prefix in
     let p = err_from_is_err_and c.from_residual-in_err-read_to_io_writer.result c.from_residual-in_err-read_to_io_writer.ensures.1 in
     rw p.1 (StopsWithin_suffix old named counted c.args.name.now (9 ∷ (amount ++ (10 ∷ []))) name
     (StopsWithin_suffix named tabbed counted (9 ∷ []) (amount ++ (10 ∷ [])) c.in_ok-write_whole-2.ensures.whole
@@ -59,7 +59,7 @@ returns-in_err-write_whole-3-clause-prefix g c =
     let same : c.as_bytes.result.now ≡ c.args.name.now = cc in
     let name : Appends old named c.args.name.now = subst (Appends old named) same c.in_ok-write_whole.ensures.whole in
     let number : Appends tabbed counted amount =
-    subst (λ z. Appends tabbed counted (text_of f z)) (to_z-of_z w64 c.args.amount c.ranges.amount) c.in_ok-read_to_io_writer.ensures.whole in
+    subst (λ z. Appends tabbed counted (text_of f z)) (to_z-of_z w64 c.args.amount c.ranges.amount) c.in_ok-read_to_io_writer.ensures.writes.whole in
     let p = err_from_is_err_and c.from_residual-in_err-write_whole-3.result c.from_residual-in_err-write_whole-3.ensures.1 in
     rw p.1 (StopsWithin_suffix old named last c.args.name.now (9 ∷ (amount ++ (10 ∷ []))) name
     (StopsWithin_suffix named tabbed last (9 ∷ []) (amount ++ (10 ∷ [])) c.in_ok-write_whole-2.ensures.whole
