@@ -2,6 +2,7 @@
 //!
 //! The data of a locale are a row of `num_format_cldr`. A name is looked up by binary search.
 ghost use Rattle.std.specs.Prelude.{◌≡◌, ◌≢◌, ℕ, ◌<◌, ◌≤◌, [], length, map, All, Contains, Some, IfSome};
+ghost use Rattle.std.specs.Fmt.{WritesOnOk, WritesStyledOnOk};
 ghost use Rattle.num_format_cldr.specs.Entry.{IsWellFormed, Rises, Shows};
 ghost use Rattle.num_format_cldr.specs.Table.{entry, table_names};
 ghost use Rattle.num_format_locale.specs.Data.{locale_data};
@@ -308,7 +309,11 @@ impl FromStr for Locale {
 impl fmt::Debug for Locale {
     ghost debug_output = { λ locale. Some (variant_name_of locale) };
 
-    fn fmt<W: fmt::Write>(&self, f: &mut fmt::Formatter<W>) -> fmt::Result {
+    /// Writes the name alone, whatever width or fill is asked for.
+    fn fmt<W: fmt::Write>(&self, f: &mut fmt::Formatter<W>) -> fmt::Result
+        ensures writes { WritesOnOk W.write_str_gives f.old result (variant_name_of self.now) f.new }
+        ensures styled { WritesStyledOnOk W.write_str_gives f.old result (variant_name_of self.now) f.new }
+    {
         f.write_str(self.variant_name())
     }
 }
