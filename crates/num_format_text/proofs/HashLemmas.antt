@@ -1,5 +1,5 @@
 -- When different values are hashed differently.
-use Rattle.std.proofs.Common.{◌≡◌, ◌∙◌, ℕ, List, [], ◌∷◌, sym, ap}
+use Rattle.std.proofs.Common.{◌≡◌, ◌∙◌, ℕ, [], ◌∷◌, sym, ap}
 use Rattle.std.specs.Hash.{HashWrites}
 use Rattle.num_format_text.specs.Equality.{HashLaw}
 

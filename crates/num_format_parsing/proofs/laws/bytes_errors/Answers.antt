@@ -1,4 +1,4 @@
-use Rattle.std.proofs.Common.{◌≡◌, ℕ, zero, suc, refl}
+use Rattle.std.proofs.Common.{ℕ, zero, suc, refl}
 use Rattle.std.specs.Hash.{le_bytes}
 use Rattle.num_format_text.proofs.HashLemmas.{first_byte, hashed_apart}
 use Rattle.num_format_parsing.specs.declared.parsing.ParseBytesError.{ParseBytesError}
