@@ -19,7 +19,7 @@ use Rattle.num_format_certificates.proofs.RoundTripLemmas.{Tells, tells-text_of,
 use Rattle.num_format_certificates.proofs.TextCharacterLemmas.{of_printed}
 
 -- the text of a number is UTF-8, if the minus sign and the separator are
-text_of-utf8 : (f : FormatData) (z : ℤ) → IsUtf8 f.minus_sign → IsUtf8 f.separator → IsUtf8 (text_of f z)
+pub text_of-utf8 : (f : FormatData) (z : ℤ) → IsUtf8 f.minus_sign → IsUtf8 f.separator → IsUtf8 (text_of f z)
 text_of-utf8 f z sign separator =
     let ds = digits (unsigned_abs z) in
     IsUtf8-append (if is_negative z then f.minus_sign else []) (separated (stands f.grouping (length ds)) f.separator ds)

@@ -22,7 +22,7 @@ use num_format_text::{Error, Format};
 /// A format with none of these flaws has no other: the law
 /// [`round_trips`](crate::laws::round_trips) says that every number then parses again. Neither number
 /// decides it alone: under the minus sign `-0` only `i128::MIN` fails, of the two, and under the empty
-/// minus sign only 1.
+/// minus sign only 1. The law [`both_needed`](crate::laws::both_needed) says so.
 ///
 /// Check a format once, where it is read from settings, and then rely on it for all numbers:
 ///
@@ -61,7 +61,8 @@ fn number_reads_back<F: Format>(n: i128, format: &F) -> bool
 ///
 /// Four texts are compared: those of -1, 1000, 100000 and 1000000. That of -1 shows the minus sign,
 /// and the others how many separators each grouping has among four, six and seven digits. That these
-/// four decide is the law [`laws::alike`](crate::laws::alike).
+/// four decide is the law [`alike`](crate::laws::alike), and that none can be left out the law
+/// [`four_needed`](crate::laws::four_needed).
 ///
 /// The Rust crate has no such call.
 ///

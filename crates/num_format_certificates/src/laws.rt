@@ -1,13 +1,36 @@
 //! Laws of the checks of a format, for callers' proofs.
 //!
 //! The contract of each function is a law. There is nothing to compute, so the bodies are empty,
-//! but for that of [`locale_round_trips`], which calls getters for what their contracts say.
-//! A caller that needs a law in a proof calls its function.
+//! but for those of [`format_data`] and [`locale_round_trips`], which call getters for what their
+//! contracts say. A caller that needs a law in a proof calls its function.
 ghost use Rattle.num_format_locale.specs.Data.{locale_data};
-ghost use Rattle.num_format_certificates.specs.Laws.{AlikeLaw, DistinctTextsLaw, RoundTripLaw, StrictLaw};
+ghost use Rattle.num_format_certificates.specs.Laws.{AlikeLaw, BothNeededLaw, DistinctTextsLaw, FourNeededLaw, RoundTripLaw, StrictLaw, Utf8Law};
 ghost use Rattle.num_format_certificates.specs.RoundTrips.{RoundTrips};
+ghost use Rattle.num_format_text.specs.Format.{HasUtf8Texts, IsWithinCapacity};
 
 use num_format_locale::Locale;
+use num_format_text::Format;
+
+/// The texts of a format of any type are within their capacities, and are UTF-8.
+///
+/// So other laws, which have these as premises, hold of each [`Format`].
+pub fn format_data<F: Format>(format: &F)
+    ensures within { IsWithinCapacity (F.answers format.now) }
+    ensures utf8 { HasUtf8Texts (F.answers format.now) }
+{
+    // The contract of `into_str` says that a text is within its capacity, and its type that it is UTF-8.
+    format.decimal().into_str();
+    format.infinity().into_str();
+    format.minus_sign().into_str();
+    format.nan().into_str();
+    format.plus_sign().into_str();
+    format.separator().into_str();
+}
+
+/// The text of a number is UTF-8, if the minus sign and the separator are.
+pub fn utf8_texts()
+    ensures { Utf8Law }
+{}
 
 /// Two formats print all numbers alike exactly if they print 1000, 100000, 1000000 and -1 alike.
 ///
@@ -16,6 +39,12 @@ use num_format_locale::Locale;
 /// one and two. None of the four has one under `Posix`.
 pub fn alike()
     ensures { AlikeLaw }
+{}
+
+/// None of these four numbers can be left out: for each there are two formats that print it
+/// differently, and the other three alike.
+pub fn four_needed()
+    ensures { FourNeededLaw }
 {}
 
 /// Every number of every integer type parses again from its text under a format exactly if the
@@ -27,6 +56,13 @@ pub fn alike()
 /// [`Format`](num_format_text::Format) are.
 pub fn round_trips()
     ensures { RoundTripLaw }
+{}
+
+/// Neither the `i128` value 1 nor `i128::MIN` decides this alone. With the data of `en` and the minus sign
+/// `-0`, 1 parses again and `i128::MIN` does not; with the empty minus sign, `i128::MIN` does and 1 does
+/// not.
+pub fn both_needed()
+    ensures { BothNeededLaw }
 {}
 
 /// Every number of every integer type parses again from its text under the locale.
