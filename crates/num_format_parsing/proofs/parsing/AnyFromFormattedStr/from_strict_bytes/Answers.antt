@@ -16,3 +16,6 @@ returns-clause-misspelled g c = exactly g.N.Sealed.value g.N.Sealed.kind _ _ c.p
 
 pub returns-clause-out_of_range : goal.returns-clause-out_of_range
 returns-clause-out_of_range g c = exactly g.N.Sealed.value g.N.Sealed.kind _ _ c.parse_strict.result OutOfRange c.parse_strict.ensures
+
+pub returns-clause-refused : goal.returns-clause-refused
+returns-clause-refused g c = λ e. exactly g.N.Sealed.value g.N.Sealed.kind _ _ c.parse_strict.result e c.parse_strict.ensures
