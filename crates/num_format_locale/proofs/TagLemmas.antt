@@ -98,3 +98,51 @@ module _ (tag : List ℕ) (place : ℕ) (within : place < LEN) (same : IsSameIgn
 -- a tag that is a name in any case is looked up as that locale
 pub found_by_tag : FoundByTagLaw
 found_by_tag tag place result within same so = found_here tag place within same result so
+
+-- a byte is its own part of a language too, if it is plain with a hyphen for an underscore
+stays_hyphened : (x : ℕ) → is_plain (to_ascii_lowercase (hyphen_for_underscore x)) ≡ true → not (ends_language x) ≡ true
+stays_hyphened x plain = grind (arith, nat_tests)
+
+own_language_hyphened : (text : List ℕ) → list_all is_plain (lower (hyphened text)) ≡ true → language_of text ≡ text
+own_language_hyphened [] _ = refl
+own_language_hyphened (x ∷ xs) whole_plain =
+    let stays : ℕ → Bool = λ each. not (ends_language each) in
+    take_while-cons stays x xs
+    ∙ ap (λ b. cond b (x ∷ take_while stays xs) []) (stays_hyphened x (first_so _ _ whole_plain))
+    ∙ ap (λ t. x ∷ t) (own_language_hyphened xs (second_so _ _ whole_plain))
+
+-- a tag that is a name, with hyphens or with underscores
+module _ (tag : List ℕ) (place : ℕ) (within : place < LEN) (same : hyphened tag ≡ name_of place) where
+  its_language : language_of tag ≡ tag
+  its_language = own_language_hyphened tag (subst (λ t. list_all is_plain (lower t) ≡ true) (sym same) (first_so _ _ (ordinary place within)))
+
+  -- it is no word that is not ordinary
+  other_word : (word : List ℕ) → list_all is_plain word ≡ true → not (bytes_eq (lower (name_of place)) word) ≡ true → lower tag ≡ word → ⊥
+  other_word word plain fails is =
+      let itself : hyphened tag ≡ tag = own_hyphens tag (subst (λ t. list_all is_plain t ≡ true) (sym is) plain) in
+      differs (lower (name_of place)) word fails (ap lower (sym same ∙ itself) ∙ is)
+
+  its_word : ¬ IsPosix tag
+  its_word (inl c) = other_word (codes "c") refl (first_so _ _ (second_so _ _ (ordinary place within))) c
+  its_word (inr posix) = other_word (codes "posix") refl (second_so _ _ (second_so _ _ (ordinary place within))) posix
+
+  longest_here : IsLongestMatch (name_of place) place
+  longest_here = record {
+    within = within;
+    matches = inl refl;
+    longest = λ other bound matches.
+        let at = beginning (name_of place) (name_of other) matches in
+        let long : length (name_of other) ≡ at.0 = length-name (name_of place) (name_of other) at.0 at.1 in
+        let inside : at.0 ≤ length (name_of place) = at.1.within in
+        omega arith;
+  }
+
+  -- it is looked up as the locale of this name
+  pub name_looked_up : LooksUpTag tag (Some place)
+  name_looked_up = record {
+    within = within;
+    posix = λ posix. absurd (its_word (subst IsPosix its_language posix));
+    longest = λ _. subst (λ t. IsLongestMatch t place) (sym (ap hyphened its_language ∙ same)) longest_here;
+    other = tt;
+    missing = tt;
+  }

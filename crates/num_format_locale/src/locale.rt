@@ -13,7 +13,7 @@ ghost use Rattle.num_format_text.specs.Cut.{cut_text};
 ghost use Rattle.num_format_text.specs.Refusal.{ParseLocale, refusal_of};
 
 use crate::lookup::{language, longest_match};
-use crate::search::{find, search};
+use crate::search::{find, find_hyphened, search};
 use arrayvec::ArrayVec;
 use num_format_cldr::{LEN, Row};
 use num_format_text::capacities::{
@@ -132,7 +132,12 @@ impl Locale {
     pub fn lookup(tag: &str) -> Option<Locale>
         ensures { LooksUpTag tag.now result }
     {
-        let language = language(tag.as_bytes());
+        let bytes = tag.as_bytes();
+        // A tag that is a name as it is written needs no other step.
+        if let Some(place) = find_hyphened(bytes) {
+            return Some(Locale::at(place));
+        }
+        let language = language(bytes);
         if language.eq_ignore_ascii_case(b"C") || language.eq_ignore_ascii_case(b"POSIX") {
             return Some(Locale::en_US_POSIX);
         }

@@ -30,7 +30,7 @@ pub(crate) fn find(text: &[u8]) -> Option<usize>
 }
 
 /// Returns the place of the name that the text is, with hyphens for underscores, if there is one.
-fn find_hyphened(text: &[u8]) -> Option<usize>
+pub(crate) fn find_hyphened(text: &[u8]) -> Option<usize>
     ensures found { IfSome result (λ place. hyphened text.now ≡ name_of place) }
     ensures within { IfSome result (λ place. place < LEN) }
     ensures missing { IfNone result ((place : ℕ) → place < LEN → ¬ (hyphened text.now ≡ name_of place)) }
