@@ -3,6 +3,7 @@
 use crate::asserting::assert_equal;
 use num_format::{Buffer, Format, ToFormattedString, WriteFormatted};
 use std::alloc::Global;
+use std::io::Cursor;
 use std::process::Abort;
 use std::test::Fail;
 
@@ -17,7 +18,8 @@ pub fn prints<N: ToFormattedString, F: Format>(
 ) -> Result<(), Fail> {
     into_buffers(rt, n, format, text);
     into_strings(rt, alloc, n, format, text)?;
-    into_vectors(rt, alloc, n, format, text)
+    into_vectors(rt, alloc, n, format, text)?;
+    into_slices(rt, n, format, text)
 }
 
 /// Asserts that these bytes are the whole text, and that the count is its length in bytes.
@@ -66,5 +68,23 @@ fn into_vectors<N: ToFormattedString, F: Format>(
     let mut written = Vec::new(alloc);
     let count = written.write_formatted(n, format)?;
     is_whole(rt, count, &written, text);
+    Ok(())
+}
+
+/// Into slices that have more space than the longest text takes.
+fn into_slices<N: ToFormattedString, F: Format>(
+    rt: &impl Abort,
+    n: &N,
+    format: &F,
+    text: &str,
+) -> Result<(), Fail> {
+    let mut bytes = [0; 200];
+    let mut slice = bytes.as_mut_slice();
+    let count = slice.write_formatted(n, format)?;
+    is_whole(rt, count, &bytes[..count.min(200)], text);
+    let mut bytes = [0; 200];
+    let mut cursor = Cursor::new(bytes.as_mut_slice());
+    let count = cursor.write_formatted(n, format)?;
+    is_whole(rt, count, &bytes[..count.min(200)], text);
     Ok(())
 }

@@ -7,7 +7,7 @@
 //! | Module | What is tested |
 //! |---|---|
 //! | `left_to_right` | powers of ten and one less, under separators of each length |
-//! | `own_format` | types of its own that implement `Format` |
+//! | `under_own_format` | numbers under the types of `own_format`, which implement `Format` |
 //! | `buffers` | a `Buffer`: new, written twice, copied, prepended to |
 //! | `strings` | numbers, also the longest text of one, into strings and formatters |
 //! | `writers` | the same into std's writers of bytes: vectors, cursors, buffers, the sink, standard output |
@@ -35,11 +35,12 @@ mod files;
 mod left_to_right;
 #[cfg(test)]
 mod numbers;
-#[cfg(test)]
-mod own_format;
+pub mod own_format;
 #[cfg(test)]
 mod slices;
 #[cfg(test)]
 mod strings;
+#[cfg(test)]
+mod under_own_format;
 #[cfg(test)]
 mod writers;
