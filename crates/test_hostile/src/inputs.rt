@@ -6,6 +6,7 @@ use regroup_lines::{RegroupFault, regroup_at_most, regroup_lines};
 use std::io;
 use std::process::Abort;
 use std::test::Fail;
+use test_printing::own_format::{Sevens, WithoutMinus};
 
 /// Asserts what regrouping from `en` returns, and what it writes into so much space.
 fn assert_lines<G: Format>(
@@ -53,6 +54,55 @@ fn a_carriage_return_is_part_of_the_line(rt: HostRuntime) -> Result<(), Fail> {
     let sparse = builder.separator(".").minus_sign("-").build()?;
     assert_lines(&rt, b"5\r\n12,345", &sparse, 64, Ok(2), b"5\n12.345\n");
     Ok(())
+}
+
+/// Asserts what is written of lines that all parse.
+fn assert_written<F: Format, G: Format>(
+    rt: &impl Abort,
+    from: &F,
+    to: &G,
+    input: &[u8],
+    written: &[u8],
+) {
+    let mut out = [0; 64];
+    let mut rest = out.as_mut_slice();
+    let mut reader = input;
+    let result = regroup_lines(&mut reader, &mut rest, from, to);
+    let left = rest.len();
+    assert!(rt; result.is_ok());
+    assert_eq!(rt; &out[..64usize.saturating_sub(left)], written);
+}
+
+/// The separator is `7` and the minus sign `17`, or the minus sign is empty, so a text may be parsed as
+/// another number than the one that it was printed for.
+#[test]
+fn formats_of_ones_own(rt: HostRuntime) {
+    let sevens = Sevens {
+        grouping: Grouping::Standard,
+    };
+    assert_written(
+        &rt,
+        &Locale::en,
+        &sevens,
+        b"1,000\n-1000\n",
+        b"17000\n1717000\n",
+    );
+    assert_written(&rt, &sevens, &Locale::en, b"17000\n5\n", b"-17,000\n5\n");
+    assert_written(&rt, &sevens, &sevens, b"17000\n", b"17177000\n");
+    assert_written(
+        &rt,
+        &WithoutMinus,
+        &Locale::en,
+        b"5\n1,000",
+        b"-5\n-1,000\n",
+    );
+    assert_written(
+        &rt,
+        &Locale::en,
+        &WithoutMinus,
+        b"-1000\n1000\n",
+        b"1,000\n1,000\n",
+    );
 }
 
 #[test]

@@ -14,7 +14,8 @@
 //! | `text` | numbers into writers of text that fail |
 //! | `inputs` | lines that are regrouped, and those at fault |
 //! | `lines` | lines from readers that give them in pieces, are interrupted or fail |
-//! | `stream` | the program `regroup-lines` where its input or a flush fails |
+//! | `outputs` | lines from readers to writers that both do what a list says |
+//! | `stream` | the program `regroup-lines` where its input, an output or a flush fails |
 //! | `program` | commands of `regroup` whose outputs fail at each of their writes |
 //! | `memory` | calls that take memory, where it is refused |
 #![tactic(auto)]
@@ -27,6 +28,8 @@ mod inputs;
 mod lines;
 #[cfg(test)]
 mod memory;
+#[cfg(test)]
+mod outputs;
 #[cfg(test)]
 mod program;
 mod scripted;

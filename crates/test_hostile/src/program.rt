@@ -112,19 +112,23 @@ fn each_write_of_the_names_fails_in_turn(rt: HostRuntime) -> Result<(), test::Fa
     Ok(())
 }
 
-/// Returns how many writes a command makes to outputs that accept all bytes.
-fn writes(alloc: Global, words: &[&str]) -> Result<usize, AllocError> {
+/// Returns how many writes and flushes a command makes, of outputs that accept all bytes.
+fn calls(alloc: Global, words: &[&str]) -> Result<(usize, usize), AllocError> {
     let mut out = Scripted::new(alloc, SPACE, &[])?;
     let mut err = Scripted::new(alloc, SPACE, &[])?;
     run(words, &mut out, &mut err);
-    Ok(out.calls.saturating_add(err.calls))
+    Ok((
+        out.calls.saturating_add(err.calls),
+        out.flushes.saturating_add(err.flushes),
+    ))
 }
 
+/// Nothing is flushed: the streams of the process have no buffer.
 #[test]
 fn each_line_is_one_write(rt: HostRuntime) -> Result<(), test::Fail> {
     for words in COMMANDS {
-        assert_eq!(rt; writes(rt.alloc(), words)?, 1);
+        assert_eq!(rt; calls(rt.alloc(), words)?, (1, 0));
     }
-    assert_eq!(rt; writes(rt.alloc(), &["names"])?, 542);
+    assert_eq!(rt; calls(rt.alloc(), &["names"])?, (542, 0));
     Ok(())
 }

@@ -1,25 +1,31 @@
-//! The program `regroup-lines` where its input or a flush fails.
+//! The program `regroup-lines` where its input, an output or a flush fails.
 
 use crate::ReadStep::{Fail, Give};
-use crate::ScriptedReader;
-use regroup_stream::{FAILED, FAULTY, REGROUPED, run};
+use crate::Step::{Interrupt, Take, Zero};
+use crate::{Scripted, ScriptedReader, Step};
+use regroup_stream::{FAILED, FAULTY, MISUSED, REGROUPED, run};
+use std::alloc::Global;
 use std::io::{BufWriter, ErrorKind, Write};
+use std::process::Abort;
 use std::{io, test};
 
-/// Accepts all bytes, and fails where it is flushed.
+/// Accepts all bytes, and fails the first time that it is flushed.
 #[derive(Drop)]
 struct Unflushed {
-    calls: usize,
+    flushes: usize,
 }
 
 impl Write for Unflushed {
     fn write(&mut self, buf: &[u8]) -> io::Result<usize> {
-        self.calls = self.calls.saturating_add(1);
         Ok(buf.len())
     }
 
     fn flush(&mut self) -> io::Result<()> {
-        Err(io::Error::from(ErrorKind::BrokenPipe))
+        self.flushes = self.flushes.saturating_add(1);
+        if self.flushes == 1 {
+            return Err(io::Error::from(ErrorKind::BrokenPipe));
+        }
+        Ok(())
     }
 }
 
@@ -42,14 +48,73 @@ fn a_read_fails(rt: HostRuntime) -> Result<(), test::Fail> {
     Ok(())
 }
 
-/// A failed flush is a failed write, and no message follows it.
+/// A failed flush is a failed write. No message follows it, and it is not tried again.
 #[test]
 fn a_flush_fails(rt: HostRuntime) -> Result<(), test::Fail> {
     for text in [b"".as_slice(), b"1,000\n", b"x\n"] {
-        let mut out = BufWriter::new(rt.alloc(), Unflushed { calls: 0 })?;
+        let mut out = BufWriter::new(rt.alloc(), Unflushed { flushes: 0 })?;
         let mut err = Vec::new(rt.alloc());
         assert_eq!(rt; run(&["en", "de"], text, &mut out, &mut err), FAILED);
+        assert_eq!(rt; out.get_ref().flushes, 1);
         assert!(rt; err.is_empty());
+    }
+    Ok(())
+}
+
+/// Asserts the status, and how often each output is written to and flushed.
+fn assert_calls(
+    rt: &impl Abort,
+    alloc: Global,
+    words: &[&str],
+    text: &[u8],
+    err_steps: &[Step],
+    status: u8,
+    calls: [usize; 4],
+) -> Result<(), test::Fail> {
+    let mut out = BufWriter::new(alloc, Scripted::new(alloc, 64, &[])?)?;
+    let mut err = Scripted::new(alloc, 128, err_steps)?;
+    assert_eq!(rt; run(words, text, &mut out, &mut err), status);
+    let written = out.get_ref();
+    assert_eq!(rt;
+        [written.calls, written.flushes, err.calls, err.flushes],
+        calls
+    );
+    Ok(())
+}
+
+/// The buffered lines are one write and a flush after it, also where a line is at fault. A message is
+/// one write, if that writes all of it, and is not flushed.
+#[test]
+fn writes_and_flushes(rt: HostRuntime) -> Result<(), test::Fail> {
+    let alloc = rt.alloc();
+    let words = ["en", "de"];
+    assert_calls(&rt, alloc, &words, b"", &[], REGROUPED, [0, 1, 0, 0])?;
+    assert_calls(
+        &rt,
+        alloc,
+        &words,
+        b"1,000\n-5\n",
+        &[],
+        REGROUPED,
+        [1, 1, 0, 0],
+    )?;
+    assert_calls(&rt, alloc, &words, b"5\nx\n", &[], FAULTY, [1, 1, 1, 0])?;
+    assert_calls(&rt, alloc, &words, b"x\n", &[Take(8)], FAULTY, [0, 1, 2, 0])?;
+    assert_calls(&rt, alloc, &["en"], b"5\n", &[], MISUSED, [0, 0, 1, 0])
+}
+
+/// A message that fails is not tried again.
+#[test]
+fn a_message_fails(rt: HostRuntime) -> Result<(), test::Fail> {
+    for fault in [Step::Fail, Interrupt, Zero] {
+        for words in [["en", "de"], ["en", "xx"]] {
+            let flushes = if words[1] == "de" { 1 } else { 0 };
+            let whole = [0, flushes, 1, 0];
+            assert_calls(&rt, rt.alloc(), &words, b"x\n", &[fault], FAILED, whole)?;
+            let steps = [Take(5), fault];
+            let cut = [0, flushes, 2, 0];
+            assert_calls(&rt, rt.alloc(), &words, b"x\n", &steps, FAILED, cut)?;
+        }
     }
     Ok(())
 }
