@@ -8,11 +8,15 @@ The bytes follow from `--count` and `--seed`. The first command writes the input
 crates/test_properties/src/input.rt has the rule by which the program reads them. Most inputs are
 at an edge: limits of the types, powers of ten, texts of no byte and of as many as fit, digits and minus
 signs in separators, names of locales with a change, numerals of other scripts. The others are any bytes.
+After them come numbers whose texts have each length from 1 to the longest, under each grouping, and
+with them each locale.
 """
 import argparse
+import itertools
 import random
 import sys
 
+import lengths
 from locales import rows
 
 RECORD_LEN = 88
@@ -21,6 +25,10 @@ LONGEST_SIGN = 8
 LONGEST_TEXT = 47
 
 NAMES = sorted(row["name"] for row in rows())
+
+# The groupings and the type `i128`, by their places.
+GROUPINGS = ["Standard", "Indian", "Posix", "Myriad", "Sparse"]
+I128 = 10
 
 # The bits of the integer types.
 BITS = [8, 16, 32, 64, 128]
@@ -112,28 +120,49 @@ def record(rng):
     value = number(rng)
     separator = sign(rng)
     minus_sign = sign(rng) if rng.random() < 0.7 else b"-"
+    places = [rng.randrange(TYPES), rng.randrange(len(GROUPINGS)), rng.randrange(4)]
+    locale = rng.randrange(len(NAMES))
+    # Most texts stand once, some long enough for an error to truncate them.
+    repeated = rng.choice([0, 0, 0, 0, rng.randrange(8)])
+    content = text(rng, value, separator, minus_sign)
+    return packed(places, locale, separator, minus_sign, value, repeated, content)
+
+
+def packed(places, locale, separator, minus_sign, value, repeated, content):
+    """The bytes of an input."""
     return b"".join(
         [
-            bytes([rng.randrange(TYPES), rng.randrange(5), rng.randrange(4)]),
-            rng.randrange(len(NAMES)).to_bytes(2, "little"),
+            bytes(places),
+            locale.to_bytes(2, "little"),
             field(separator, LONGEST_SIGN),
             field(minus_sign, LONGEST_SIGN),
             (value % 2**128).to_bytes(16, "little"),
-            # Most texts stand once, some long enough for an error to truncate them.
-            bytes([rng.choice([0, 0, 0, 0, rng.randrange(8)])]),
-            field(text(rng, value, separator, minus_sign), LONGEST_TEXT),
+            bytes([repeated]),
+            field(content, LONGEST_TEXT),
         ]
     )
 
 
+def of_each_length():
+    """The inputs whose numbers have a text of each length, under custom formats."""
+    locales = itertools.cycle(range(len(NAMES)))
+    for place, grouping in enumerate(GROUPINGS):
+        for separator, minus_sign, value, _ in lengths.under(grouping):
+            signs = [separator.encode(), minus_sign.encode()]
+            content = str(value).encode()
+            yield packed([I128, place, 1], next(locales), *signs, value, 0, content)
+
+
 def main():
     parser = argparse.ArgumentParser(description=__doc__.splitlines()[0])
-    parser.add_argument("--count", type=int, default=3000, help="how many inputs")
+    parser.add_argument("--count", type=int, default=3000, help="how many of the first inputs")
     parser.add_argument("--seed", type=int, default=1, help="which inputs")
     arguments = parser.parse_args()
     rng = random.Random(arguments.seed)
     for _ in range(arguments.count):
         sys.stdout.buffer.write(record(rng))
+    for input_of_length in of_each_length():
+        sys.stdout.buffer.write(input_of_length)
 
 
 if __name__ == "__main__":
