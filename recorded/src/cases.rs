@@ -2,7 +2,7 @@
 //!
 //! The fields of a line are described in `crates/test_oracle/src/case.rt`. Cases with a
 //! changed result are left out, and so are those with a grouping that the original does not have,
-//! and those on JSON and on builders.
+//! those on JSON and on builders, and all on strict parsing.
 
 use crate::differences::{Class, Outcome, classes_of};
 use crate::original;
@@ -13,7 +13,7 @@ use std::fmt;
 const OWN_GROUPINGS: [&str; 2] = [":Myriad:", ":Sparse:"];
 
 /// The kinds of cases that the module [`original`] has no calls for, at the start of a line.
-const OTHER_KINDS: [&str; 2] = ["build\t", "json\t"];
+const OTHER_KINDS: [&str; 3] = ["build\t", "json\t", "strict\t"];
 
 /// The most cases without a named difference that are printed.
 const MOST_PRINTED: usize = 20;
@@ -102,7 +102,8 @@ fn comparison(line: &str) -> Option<(&str, Comparison)> {
             recorded,
             &hexadecimal(&original::printed(type_name, format, number)?),
         ),
-        ("read", [type_name, format, hexadecimal, recorded]) => {
+        ("read", [type_name, format, hexadecimal, results]) => {
+            let (recorded, _strict) = results.split_once(" / ")?;
             let text = text_of(hexadecimal)?;
             let parsed = original::parsed(type_name, format, &text)?;
             of_outcome(recorded, &text, &parsed)

@@ -8,7 +8,7 @@
 //! | Kind | Further fields | Result |
 //! |---|---|---|
 //! | `print` | TYPE FORMAT NUMBER | the text of the number, as a value of an integer type |
-//! | `read` | TYPE FORMAT TEXT | the number that the text is parsed to: `ok NUMBER`, or `err ParseNumber LENGTH` |
+//! | `read` | TYPE FORMAT TEXT | the number that the text is parsed to: `ok NUMBER`, or `err ParseNumber LENGTH`. Then ` / ` and the result that a case `strict` has |
 //! | `strict` | TYPE FORMAT TEXT | the number that the text spells: `ok NUMBER`, or `err` and a `StrictError` as `Debug` writes it |
 //! | `names` | TEXT | the name of the locale that the text finds: `ok NAME`, or `err ParseLocale LENGTH` |
 //! | `locale` | NAME | GROUPING DECIMAL INFINITY MINUS NAN PLUS SEPARATOR, the data of the locale |

@@ -7,7 +7,9 @@
 //! - `print`: the texts in the `Buffer` of that crate, unchanged.
 //! - `read`: the numbers that it returned, and `ParseNumber` where it returned none. Where it
 //!   returned `ParseLocale`, panicked, or used a numeral of another script as a digit, the port
-//!   differs on purpose, and the data has the error of the port.
+//!   differs on purpose, and the data has the error of the port. After them the data has what strict
+//!   parsing is to return, which that crate does not have: `tools/spelling.py` works it out from the
+//!   text of the number.
 //! - `names`: the locales that it found, and `ParseLocale` where it found none.
 //! - `locale`: the table of locales, as written down from the CLDR data of that crate.
 //! - `json`: the buffers, formats and locales that it deserialized with its feature `with-serde`,
@@ -17,8 +19,8 @@
 //!   grouping is `Myriad`, which that crate does not have. Further cases, which were not recorded,
 //!   have the keys of an object in reverse order.
 //! - `build`: the formats that a builder builds, and the error of a text that is too long.
-//! - `strict`: the numbers that texts spell, and the causes of refusal, worked out by hand, since that
-//!   crate has no such call.
+//! - `strict`: the numbers that texts spell, and the causes of refusal. The texts are those that Python
+//!   and GNU tools print for numbers, and others that were worked out by hand.
 //! - `changed`: results that are wrong, which show that a difference would be found.
 //!
 //! An error keeps the text truncated at a character within 256 bytes, as the port promises; that

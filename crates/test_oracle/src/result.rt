@@ -119,28 +119,46 @@ where
             printed(alloc, &number, format)
         }
         Operation::Parse(text) => {
-            let string = String::from_str(alloc, text).ok()?;
-            let of_str = agreed(
-                parsed::<N>(alloc, text, N::from_formatted_str(text, format))?,
-                parsed::<N>(alloc, text, text.parse_formatted(format))?,
-            )?;
-            agreed(
-                of_str,
-                parsed::<N>(alloc, text, string.parse_formatted(format))?,
-            )
+            let leniently = leniently::<N, F>(alloc, text, format)?;
+            let strictly = strictly::<N, F>(alloc, text, format)?;
+            format!(in alloc; "{leniently} / {strictly}").ok()
         }
-        Operation::ParseStrict(text) => {
-            let string = String::from_str(alloc, text).ok()?;
-            let of_str = agreed(
-                parsed_strictly::<N>(alloc, N::from_strict_bytes(text.as_bytes(), format))?,
-                parsed_strictly::<N>(alloc, text.parse_strict(format))?,
-            )?;
-            agreed(
-                of_str,
-                parsed_strictly::<N>(alloc, string.parse_strict(format))?,
-            )
-        }
+        Operation::ParseStrict(text) => strictly::<N, F>(alloc, text, format),
     }
+}
+
+/// Returns the result of parsing a text, as a `&str` and as a `String`.
+fn leniently<N, F>(alloc: Global, text: &str, format: &F) -> Option<String>
+where
+    N: FromFormattedStr + Display + Drop,
+    F: Format,
+{
+    let string = String::from_str(alloc, text).ok()?;
+    let of_str = agreed(
+        parsed::<N>(alloc, text, N::from_formatted_str(text, format))?,
+        parsed::<N>(alloc, text, text.parse_formatted(format))?,
+    )?;
+    agreed(
+        of_str,
+        parsed::<N>(alloc, text, string.parse_formatted(format))?,
+    )
+}
+
+/// Returns the result of parsing a text strictly, as bytes, as a `&str` and as a `String`.
+fn strictly<N, F>(alloc: Global, text: &str, format: &F) -> Option<String>
+where
+    N: FromFormattedStr + Display + Drop,
+    F: Format,
+{
+    let string = String::from_str(alloc, text).ok()?;
+    let of_str = agreed(
+        parsed_strictly::<N>(alloc, N::from_strict_bytes(text.as_bytes(), format))?,
+        parsed_strictly::<N>(alloc, text.parse_strict(format))?,
+    )?;
+    agreed(
+        of_str,
+        parsed_strictly::<N>(alloc, string.parse_strict(format))?,
+    )
 }
 
 /// Returns the number that a text was parsed to, or the error.
