@@ -8,6 +8,9 @@
 //! | refused | whose printed number is refused, or parses as another number | `reads_back` is false of the format |
 //! | parses | all | the text is parsed as a number, or refused with an error that keeps its longest prefix within 256 bytes |
 //! | appended | all | with a character appended that is not numeric, the text is parsed as the same number, or refused as before, unless it begins with the minus sign only now |
+//! | strict | whose bytes are parsed strictly as a number | the bytes are parsed as the same number |
+//! | spelled | the same | printed, grouped or not, this number has the bytes |
+//! | strict again | with a format of which `reads_back` is true | the printed number, grouped or not, is parsed strictly as the same number |
 //! | builds | all | the custom format has the texts and the grouping that the builder received |
 //! | finds | all | the text is a locale's name, with hyphens or with underscores, or is refused with such an error |
 //! | own name | all | the locale is found by the name at its place, and has this name |
@@ -19,7 +22,8 @@ ghost use Rattle.std.specs.Prelude.{◌≤◌};
 use crate::input::Input;
 use crate::properties::{
     are_ways_alike, finds_or_refuses, has_length, ignores_appended, is_buffer_alike_in_json,
-    is_format_alike_in_json, is_found_by_its_name, is_locale_alike_in_json, parses_or_refuses,
+    is_format_alike_in_json, is_found_by_its_name, is_locale_alike_in_json, is_parsed_strictly,
+    is_parsed_too, is_spelled, parses_or_refuses,
 };
 use crate::report::Report;
 use num_format::parsing::FromFormattedStr;
@@ -49,6 +53,9 @@ pub struct Printing {
     pub refused: Option<bool>,
     pub parses: bool,
     pub appended: bool,
+    pub strict: Option<bool>,
+    pub spelled: Option<bool>,
+    pub strict_again: Option<bool>,
     pub json_buffer: bool,
 }
 
@@ -89,6 +96,7 @@ fn under<F: Format>(alloc: Global, input: &Input, format: &F) -> io::Result<Prin
         alloc,
         format,
         text: &input.text,
+        bytes: &input.bytes,
     };
     match input.type_place {
         0 => check.number(bytes[0]),
@@ -118,6 +126,7 @@ struct Check<'a, F> {
     alloc: Global,
     format: &'a F,
     text: &'a str,
+    bytes: &'a [u8],
 }
 
 impl<F: Format> Check<'_, F> {
@@ -126,7 +135,7 @@ impl<F: Format> Check<'_, F> {
     where
         N: ToFormattedString + FromFormattedStr + PartialEq + Display + Copy,
     {
-        let (alloc, format, text) = (self.alloc, self.format, self.text);
+        let (alloc, format, text, bytes) = (self.alloc, self.format, self.text, self.bytes);
         let mut buffer = Buffer::new();
         let count = buffer.write_formatted(&number, format);
         let printed = buffer.as_str();
@@ -140,6 +149,9 @@ impl<F: Format> Check<'_, F> {
             refused: (!is_same).then_some(!reads_back),
             parses: parses_or_refuses(text, N::from_formatted_str(text, format).err()),
             appended: ignores_appended::<N, F>(alloc, text, format)?,
+            strict: is_parsed_too::<N, F>(bytes, format),
+            spelled: is_spelled::<N, F>(bytes, format),
+            strict_again: reads_back.then_some(is_parsed_strictly(number, format)),
             json_buffer: is_buffer_alike_in_json(alloc, &buffer)?,
         })
     }

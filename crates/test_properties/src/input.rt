@@ -16,8 +16,9 @@
 //! | 40 to 87 | a text. Repeated, it is the input's text |
 //!
 //! Numbers are in little-endian order. The first of a text's bytes says how many of the others count:
-//! the remainder by the number of all. The text is their longest prefix that is UTF-8. The other
-//! texts of the custom format are the longest prefixes of the input's text that fit.
+//! the remainder by the number of all. The text is their longest prefix that is UTF-8. Those of the last
+//! text that count are the input's bytes, whether they are UTF-8 or not. The other texts of the custom
+//! format are the longest prefixes of the input's text that fit.
 
 use num_format::{CustomFormat, Grouping, Locale};
 use std::alloc::Global;
@@ -42,6 +43,7 @@ pub struct Input {
     pub separator: String,
     pub minus_sign: String,
     pub text: String,
+    pub bytes: Vec<u8>,
 }
 
 impl Input {
@@ -67,6 +69,7 @@ impl Input {
             separator: String::from_str(alloc, text_in(&bytes[5..14]))?,
             minus_sign: String::from_str(alloc, text_in(&bytes[14..23]))?,
             text: text_in(&bytes[40..]).repeat(alloc, repetitions)?,
+            bytes: counted(&bytes[40..]).to_vec(alloc)?,
         })
     }
 
@@ -130,10 +133,14 @@ fn name_at(number: u16) -> &'static str {
 
 /// Returns the text that the bytes are, by the rule for texts.
 fn text_in(bytes: &[u8]) -> &str {
-    let Some((len, bytes)) = bytes.split_first() else {
-        return "";
-    };
-    let len = *len as usize % (bytes.len() + 1);
-    let chunk = bytes[..len].utf8_chunks().next();
+    let chunk = counted(bytes).utf8_chunks().next();
     chunk.map_or("", |chunk| chunk.valid())
+}
+
+/// Returns the bytes that count, by the rule for texts.
+fn counted(bytes: &[u8]) -> &[u8] {
+    let Some((len, bytes)) = bytes.split_first() else {
+        return &[];
+    };
+    &bytes[..*len as usize % (bytes.len() + 1)]
 }

@@ -6,8 +6,8 @@ use num_format::json::{
 };
 use num_format::parsing::FromFormattedStr;
 use num_format::{
-    Buffer, CustomFormat, Error, ErrorKind, Format, Grouping, Locale, ToFormattedString,
-    WriteFormatted,
+    Buffer, CustomFormat, Error, ErrorKind, Format, Grouping, Locale, ToFormattedStr,
+    ToFormattedString, WriteFormatted,
 };
 use std::alloc::Global;
 use std::fmt::Display;
@@ -116,6 +116,50 @@ where
         }
     }
     Ok(true)
+}
+
+/// Returns whether a number that the bytes are parsed to strictly is the one that they are parsed to. None
+/// where they are refused strictly.
+pub fn is_parsed_too<N, F>(bytes: &[u8], format: &F) -> Option<bool>
+where
+    N: FromFormattedStr + PartialEq + Copy,
+    F: Format,
+{
+    let number: N = N::from_strict_bytes(bytes, format).ok()?;
+    Some(N::from_formatted_bytes(bytes, format) == Ok(number))
+}
+
+/// Returns whether a number that the bytes are parsed to strictly is printed as the bytes, grouped or
+/// not. None where they are refused strictly.
+pub fn is_spelled<N, F>(bytes: &[u8], format: &F) -> Option<bool>
+where
+    N: FromFormattedStr + ToFormattedStr + Copy,
+    F: Format,
+{
+    let number: N = N::from_strict_bytes(bytes, format).ok()?;
+    let [grouped, ungrouped] = spellings(&number, format);
+    Some(grouped.as_bytes() == bytes || ungrouped.as_bytes() == bytes)
+}
+
+/// Returns whether the printed number, grouped or not, is parsed strictly as this number.
+pub fn is_parsed_strictly<N, F>(number: N, format: &F) -> bool
+where
+    N: FromFormattedStr + ToFormattedStr + PartialEq + Copy,
+    F: Format,
+{
+    let [grouped, ungrouped] = spellings(&number, format);
+    N::from_strict_str(grouped.as_str(), format) == Ok(number)
+        && N::from_strict_str(ungrouped.as_str(), format) == Ok(number)
+}
+
+/// Returns the texts of a number under a format, and under that format without grouping.
+fn spellings<N: ToFormattedStr, F: Format>(number: &N, format: &F) -> [Buffer; 2] {
+    let ungrouped = CustomFormat::of(format)
+        .into_builder()
+        .grouping(Grouping::Posix)
+        .build()
+        .unwrap_or_default();
+    [Buffer::of(number, format), Buffer::of(number, &ungrouped)]
 }
 
 /// Returns whether the text finds a locale of that name, or is refused with an error that keeps it,

@@ -61,6 +61,9 @@ pub struct Report {
     refused: Tally,
     parses: Tally,
     appended: Tally,
+    strict: Tally,
+    spelled: Tally,
+    strict_again: Tally,
     builds: Tally,
     finds: Tally,
     own_name: Tally,
@@ -79,6 +82,9 @@ impl Report {
             refused: Tally::new("refused", negated),
             parses: Tally::new("parses", negated),
             appended: Tally::new("appended", negated),
+            strict: Tally::new("strict", negated),
+            spelled: Tally::new("spelled", negated),
+            strict_again: Tally::new("strict again", negated),
             builds: Tally::new("builds", negated),
             finds: Tally::new("finds", negated),
             own_name: Tally::new("own name", negated),
@@ -101,6 +107,15 @@ impl Report {
         }
         self.parses.add(index, printing.parses);
         self.appended.add(index, printing.appended);
+        if let Some(holds) = printing.strict {
+            self.strict.add(index, holds);
+        }
+        if let Some(holds) = printing.spelled {
+            self.spelled.add(index, holds);
+        }
+        if let Some(holds) = printing.strict_again {
+            self.strict_again.add(index, holds);
+        }
         self.builds.add(index, outcomes.builds);
         self.finds.add(index, outcomes.finds);
         self.own_name.add(index, outcomes.own_name);
@@ -123,7 +138,7 @@ impl Report {
         Ok(lines)
     }
 
-    fn tallies(&self) -> [&Tally; 12] {
+    fn tallies(&self) -> [&Tally; 15] {
         [
             &self.ways,
             &self.length,
@@ -131,6 +146,9 @@ impl Report {
             &self.refused,
             &self.parses,
             &self.appended,
+            &self.strict,
+            &self.spelled,
+            &self.strict_again,
             &self.builds,
             &self.finds,
             &self.own_name,
