@@ -6,7 +6,7 @@
 
 pub use num_format_certificates::laws::{
     alike, both_needed, distinct_texts, format_data, four_needed, locale_round_trips, round_trips,
-    strict, utf8_texts,
+    strict, strict_under, utf8_texts,
 };
 pub use num_format_custom::laws::{building, custom_formats, english, equality, hashes};
 pub use num_format_int::laws::{digits, number_in_range, text_bound, text_ends, text_length};

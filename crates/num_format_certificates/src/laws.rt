@@ -1,10 +1,10 @@
 //! Laws of the checks of a format, for callers' proofs.
 //!
 //! The contract of each function is a law. There is nothing to compute, so the bodies are empty,
-//! but for those of [`format_data`] and [`locale_round_trips`], which call getters for what their
-//! contracts say. A caller that needs a law in a proof calls its function.
+//! but for those of [`format_data`], [`locale_round_trips`] and [`strict_under`], which call getters for
+//! what their contracts say. A caller that needs a law in a proof calls its function.
 ghost use Rattle.num_format_locale.specs.Data.{locale_data};
-ghost use Rattle.num_format_certificates.specs.Laws.{AlikeLaw, BothNeededLaw, DistinctTextsLaw, FourNeededLaw, RoundTripLaw, StrictLaw, Utf8Law};
+ghost use Rattle.num_format_certificates.specs.Laws.{AlikeLaw, BothNeededLaw, DistinctTextsLaw, FourNeededLaw, IsExact, RoundTripLaw, StrictLaw, Utf8Law};
 ghost use Rattle.num_format_certificates.specs.RoundTrips.{RoundTrips};
 ghost use Rattle.num_format_text.specs.Format.{HasUtf8Texts, IsWithinCapacity};
 
@@ -93,3 +93,11 @@ pub fn distinct_texts()
 pub fn strict()
     ensures { StrictLaw }
 {}
+
+/// The law [`strict`] for one format: its minus sign and its separator are UTF-8.
+pub fn strict_under<F: Format>(format: &F)
+    ensures { RoundTrips (F.answers format.now) → IsExact (F.answers format.now) }
+{
+    format.minus_sign().into_str();
+    format.separator().into_str();
+}
