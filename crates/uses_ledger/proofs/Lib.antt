@@ -1,2 +1,3 @@
+pub mod AmountLemmas
 pub mod ReportLemmas
 pub mod SumLemmas

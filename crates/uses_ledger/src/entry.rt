@@ -1,11 +1,15 @@
 //! The entries of a ledger, and how they are read from its lines.
-ghost use Rattle.std.specs.Prelude.{◌≡◌, ◌⊎◌, map, All, Any, IfOk, IfErr, OnOk};
+ghost use Rattle.std.specs.Prelude.{◌≡◌, ◌↔◌, ◌⊎◌, ℤ, map, All, Any, Ok, IfOk, IfErr, OnOk};
 ghost use Rattle.std.specs.Str.Lines.{lines};
+ghost use Rattle.num_format.specs.Kind.{I64, IsValueOf, kind_of};
+ghost use Rattle.num_format.specs.Reading.{denoted};
+ghost use Rattle.num_format.specs.RoundTrips.{RoundTrips};
+ghost use Rattle.num_format.specs.Strict.{IsCause, ParsesStrictly, SpellsNumber};
 ghost use Rattle.uses_ledger.specs.Entry.{IsAccepted, Refuses, item_in, item_of};
-ghost use Rattle.uses_ledger.specs.declared.entry.LedgerError.TheVariants.{NoMemory};
+ghost use Rattle.uses_ledger.specs.declared.entry.LedgerError.TheVariants.{AmbiguousFormat, NoMemory};
 
-use num_format::parsing::ParseFormatted;
-use num_format::{Error, Format};
+use num_format::parsing::{ParseFormatted, StrictError};
+use num_format::{Format, laws, reads_back};
 use std::alloc::Global;
 use std::io;
 
@@ -19,10 +23,12 @@ pub struct Entry<'a> {
 /// Why a ledger is refused.
 #[derive(Debug, Drop, thiserror::Error)]
 pub enum LedgerError {
+    #[error("not every number reads back under the format")]
+    AmbiguousFormat,
     #[error("a line has no tab")]
     NoTab,
     #[error("{0}")]
-    Amount(Error),
+    Amount(StrictError),
     #[error("the total is too large")]
     TotalTooLarge,
     #[error("out of memory")]
@@ -31,18 +37,34 @@ pub enum LedgerError {
     Output(io::Error),
 }
 
+/// Returns the amount that a text spells: the text is that of the amount, grouped or not. Every number
+/// reads back under the format, so a text spells one amount at most.
+pub fn parse_amount<F: Format>(text: &str, format: &F) -> Result<i64, StrictError>
+    requires { RoundTrips (F.answers format.now) }
+    ensures exact { (amount : ℤ) → IsValueOf (kind_of I64) amount →
+        (result ≡ Ok amount) ↔ SpellsNumber (F.answers format.now) text.now amount }
+    ensures number { IfOk result (λ amount. amount ≡ denoted (F.answers format.now) text.now) }
+    ensures accepted { OnOk result (ParsesStrictly (kind_of I64) (F.answers format.now) text.now
+        (denoted (F.answers format.now) text.now)) }
+    ensures refused { IfErr result (IsCause (kind_of I64) (F.answers format.now) text.now) }
+{
+    laws::strict_under(format);
+    text.parse_strict(format)
+}
+
 /// Returns the entry of a line: the name stands before the first tab, and the amount after it.
 ///
 /// # Errors
 ///
-/// Returns [`LedgerError::NoTab`], or the error of an amount that does not parse.
+/// Returns [`LedgerError::NoTab`], or the cause for which strict parsing refuses the amount.
 pub fn parse_entry<'a, F: Format>(line: &'a str, format: &F) -> Result<Entry<'a>, LedgerError>
+    requires { RoundTrips (F.answers format.now) }
     ensures entry { IfOk result (λ e. item_of e ≡ item_in (F.answers format.now) line.now) }
     ensures accepted { OnOk result (IsAccepted (F.answers format.now) line.now) }
     ensures refused { IfErr result (Refuses (F.answers format.now) line.now) }
 {
     let (name, amount) = line.split_once('\t').ok_or(LedgerError::NoTab)?;
-    let amount = amount.parse_formatted(format).map_err(LedgerError::Amount)?;
+    let amount = parse_amount(amount, format).map_err(LedgerError::Amount)?;
     Ok(Entry { name, amount })
 }
 
@@ -50,7 +72,8 @@ pub fn parse_entry<'a, F: Format>(line: &'a str, format: &F) -> Result<Entry<'a>
 ///
 /// # Errors
 ///
-/// Returns the error of a line that is refused, or [`LedgerError::NoMemory`].
+/// Returns [`LedgerError::AmbiguousFormat`] where not every number reads back under the format, else the
+/// error of a line that is refused, or [`LedgerError::NoMemory`].
 pub fn read_entries<'a, F: Format>(
     alloc: Global,
     text: &'a str,
@@ -59,9 +82,14 @@ pub fn read_entries<'a, F: Format>(
     ensures entries { IfOk result (λ entries.
         map item_of entries.items ≡ map (item_in (F.answers format.now)) (lines text.now)) }
     ensures accepted { OnOk result (All (IsAccepted (F.answers format.now)) (lines text.now)) }
-    ensures refused { IfErr result (λ e.
-        (e ≡ NoMemory) ⊎ Any (λ line. Refuses (F.answers format.now) line e) (lines text.now)) }
+    ensures reads_back { OnOk result (RoundTrips (F.answers format.now)) }
+    ensures refused { IfErr result (λ e. (e ≡ NoMemory)
+        ⊎ (((e ≡ AmbiguousFormat) × ¬ (RoundTrips (F.answers format.now)))
+        ⊎ Any (λ line. Refuses (F.answers format.now) line e) (lines text.now))) }
 {
+    if !reads_back(format) {
+        return Err(LedgerError::AmbiguousFormat);
+    }
     let mut entries = Vec::new(alloc);
     for line in text.lines() {
         let entry = parse_entry(line, format)?;
