@@ -1,6 +1,6 @@
 -- At most one cause holds of a text, and none of a text that is read.
 use Rattle.std.proofs.Common.{◌≡◌, ℕ, List, length, refl, ap, ◌∙◌, sym, arith, length-drop, subst, ℤ, Ok, Err}
-use Rattle.std.specs.Prelude.{Result, MatchResult, IsOk, ◌↔◌}
+use Rattle.std.specs.Prelude.{Result, MatchResult, IfOk, IsOk, ◌↔◌}
 use Rattle.num_format_text.specs.Format.{FormatData}
 use Rattle.num_format_int.specs.Kind.{Kind}
 use Rattle.num_format_parsing.specs.Reading.{denoted, no_digit}
@@ -69,3 +69,8 @@ exactly value k f t (Err d) e judged = (λ same. let error : d ≡ e = cc in sub
 pub is_ok-exactly : {X : Type 0} (value : X → ℤ) (k : Kind) (f : FormatData) (t : List ℕ) (r : Result X StrictError) → Judged value k f t r → IsOk r ↔ ParsesStrictly k f t (denoted f t)
 is_ok-exactly value k f t (Ok n) judged = (λ ok. subst (ParsesStrictly k f t) judged.number judged, λ read. refl)
 is_ok-exactly value k f t (Err e) judged = (λ wrong. cc, λ read. absurd (no_cause k f t (denoted f t) e read judged))
+
+-- and that number is what is read
+pub ok-judged : {X : Type 0} (value : X → ℤ) (k : Kind) (f : FormatData) (t : List ℕ) (r : Result X StrictError) → Judged value k f t r → IfOk r (λ n. ParsesStrictly k f t (value n))
+ok-judged value k f t (Ok n) judged = judged
+ok-judged value k f t (Err e) judged = tt

@@ -3,6 +3,7 @@ use Rattle.std.proofs.Common.{◌≡◌, ℕ, suc, ◌+◌, ◌-◌, ◌*◌, �
 use Rattle.std.specs.Prelude.{filter, map, All, encode_utf8}
 use Rattle.std.specs.Char.{is_ascii_digit}
 use Rattle.std.specs.Int.Digits.{number_from_digits, number_from_digits_after}
+use Rattle.std.specs.List.{list_any}
 use Rattle.std.specs.Str.{chars, encode_utf8_all}
 use Rattle.std.proofs.lemmas.Bool.{cases_Bool}
 use Rattle.std.proofs.lemmas.Bool.Decides.{nat_tests}
@@ -25,6 +26,23 @@ figures-digit b t digit = rw digit
 
 pub figures-other : (b : ℕ) (t : List ℕ) → is_ascii_digit b ≡ false → byte_figures (b ∷ t) ≡ byte_figures t
 figures-other b t other = rw other
+
+-- bytes of which none is a digit, and of which one is
+pub figures-none : (t : List ℕ) → list_any is_ascii_digit t ≡ false → byte_figures t ≡ []
+figures-none [] none = refl
+figures-none (b ∷ t) none =
+    elim (cases_Bool (is_ascii_digit b)) [
+      | inl digit ↦ (let wrong : true ≡ false = rw digit at none in cc)
+      | inr other ↦ figures-other b t other ∙ figures-none t (rw other at none)
+    ]
+
+pub figures-some : (t : List ℕ) → list_any is_ascii_digit t ≡ true → ¬ (byte_figures t ≡ [])
+figures-some [] some none = let wrong : false ≡ true = some in cc
+figures-some (b ∷ t) some none =
+    elim (cases_Bool (is_ascii_digit b)) [
+      | inl digit ↦ (let wrong = sym (figures-digit b t digit) ∙ none in cc)
+      | inr other ↦ figures-some t (rw other at some) (sym (figures-other b t other) ∙ none)
+    ]
 
 pub figures-drop-digit : (xs : List ℕ) (i : ℕ) → i < length xs → is_ascii_digit (get_or xs i 0) ≡ true →
     byte_figures (drop i xs) ≡ (get_or xs i 0 - 48) ∷ byte_figures (drop (i + 1) xs)

@@ -46,12 +46,12 @@ separator-found s body end fits starts =
     }
 
 -- bytes before a place, and those from it on
-slice-split : (body : List ℕ) (start end : ℕ) → start ≤ end → drop start body ≡ take (end - start) (drop start body) ++ drop end body
+pub slice-split : (body : List ℕ) (start end : ℕ) → start ≤ end → drop start body ≡ take (end - start) (drop start body) ++ drop end body
 slice-split body start end order =
     let after : start + (end - start) ≡ end = omega arith in
     sym (take-append-drop (end - start) (drop start body)) ∙ ap (λ xs. take (end - start) (drop start body) ++ xs) (drop-drop (end - start) start body ∙ ap (λ k. drop k body) after)
 
-long-plain : (t : List ℕ) → t ≡ plain (byte_figures t) → length t ≡ length (byte_figures t)
+pub long-plain : (t : List ℕ) → t ≡ plain (byte_figures t) → length t ≡ length (byte_figures t)
 long-plain t same = ap length same ∙ simp length-map refl
 
 -- the last group, with the separator before it

@@ -3,6 +3,7 @@ pub mod CharacterLemmas
 pub mod CompareLemmas
 pub mod FigureLemmas
 pub mod GroupsLemmas
+pub mod PartLemmas
 mod ReadingExamples
 pub mod ReadingLemmas
 pub mod SpellingLemmas

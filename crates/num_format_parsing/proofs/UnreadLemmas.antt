@@ -1,5 +1,5 @@
 -- What is left of a text after digits and separators.
-use Rattle.std.proofs.Common.{◌≡◌, ℕ, zero, suc, ◌+◌, ◌-◌, ◌<◌, ◌≤◌, ◌⊎◌, inl, inr, Bool, true, false, List, [], ◌∷◌, ◌++◌, length, refl, ap, ◌∙◌, sym, arith, drop, drop-drop, IsUtf8}
+use Rattle.std.proofs.Common.{◌≡◌, ℕ, zero, suc, ◌+◌, ◌-◌, ◌<◌, ◌≤◌, ◌⊎◌, inl, inr, Bool, true, false, List, [], ◌∷◌, ◌++◌, length, refl, ap, ◌∙◌, sym, arith, drop, get_or, length-append, IsUtf8}
 use Rattle.std.specs.Prelude.{if◌then◌else◌, nat_eq, All}
 use Rattle.std.specs.Char.{is_ascii_digit}
 use Rattle.std.specs.Int.Digits.{number_from_digits}
@@ -28,7 +28,7 @@ unread-skip s (suc k) [] = refl
 unread-skip s (suc k) (b ∷ t) = unread-skip s k t
 
 -- a separator is read whole
-unread-begins : (s t : List ℕ) → begins s t ≡ true → unread s 0 t ≡ unread s 0 (drop (length s) t)
+pub unread-begins : (s t : List ℕ) → begins s t ≡ true → unread s 0 t ≡ unread s 0 (drop (length s) t)
 unread-begins [] t wrong = cc
 unread-begins (c ∷ s) [] begin = refl
 unread-begins (c ∷ s) (b ∷ t) begin =
@@ -36,17 +36,36 @@ unread-begins (c ∷ s) (b ∷ t) begin =
     rw begin (ap (λ k. unread (c ∷ s) k t) rest ∙ unread-skip (c ∷ s) (length s) t)
 
 -- a digit where no separator stands
-unread-digit : (s t : List ℕ) (b : ℕ) → begins s (b ∷ t) ≡ false → is_ascii_digit b ≡ true → unread s 0 (b ∷ t) ≡ unread s 0 t
+pub unread-digit : (s t : List ℕ) (b : ℕ) → begins s (b ∷ t) ≡ false → is_ascii_digit b ≡ true → unread s 0 (b ∷ t) ≡ unread s 0 t
 unread-digit s t b none digit = rw (none, digit)
 
-begins-given : (s t : List ℕ) → 0 < length s → begins s t ≡ starts_with nat_eq t s
+pub begins-given : (s t : List ℕ) → 0 < length s → begins s t ≡ starts_with nat_eq t s
 begins-given [] t some = absurd (omega arith)
 begins-given (c ∷ s) t some = refl
 
--- a separator at a place
-pub unread-separator : (s t : List ℕ) (place : ℕ) → 0 < length s → starts_with nat_eq (drop place t) s ≡ true → unread s 0 (drop place t) ≡ unread s 0 (drop (place + length s) t)
-unread-separator s t place some starts =
-    unread-begins s (drop place t) (begins-given s (drop place t) some ∙ starts) ∙ ap (unread s 0) (drop-drop (length s) place t)
+-- nothing begins with an empty separator
+pub begins-empty : (s t : List ℕ) → length s ≡ 0 → begins s t ≡ false
+begins-empty [] t none = refl
+begins-empty (c ∷ s) t none = absurd (omega arith)
+
+-- nor with a separator whose first byte is another
+pub begins-off : (s t : List ℕ) → ¬ (get_or t 0 0 ≡ get_or s 0 0) → begins s t ≡ false
+begins-off [] t other = refl
+begins-off (c ∷ s) t other = false_from_ne_true _ (λ begin.
+    let split = (starts_is Decides-eqb t (c ∷ s) (starts_with nat_eq t (c ∷ s)) refl).0 begin in
+    other (ap (λ xs. get_or xs 0 0) split))
+
+-- a separator that a text begins with is not empty
+pub begins-some : (s t : List ℕ) → begins s t ≡ true → 0 < length s
+begins-some [] t wrong = cc
+begins-some (c ∷ s) t begin = omega arith
+
+-- a text is as long at least as the separator that it begins with
+pub begins-fits : (s t : List ℕ) → begins s t ≡ true → length s ≤ length t
+begins-fits [] t wrong = omega arith
+begins-fits (c ∷ s) t begin =
+    let split = (starts_is Decides-eqb t (c ∷ s) (starts_with nat_eq t (c ∷ s)) refl).0 begin in
+    omega (arith, ap length split, length-append (c ∷ s) (drop (length (c ∷ s)) t))
 
 -- how many digits a text begins with
 lead : List ℕ → ℕ

@@ -1,6 +1,7 @@
 pub mod BytesError
 pub mod Figures
 pub mod Laws
+pub mod Parts
 pub mod Reading
 pub mod Shapes
 pub mod Strict

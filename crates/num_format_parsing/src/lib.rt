@@ -3,6 +3,7 @@
 
 pub mod laws;
 pub mod parsing;
+mod short;
 pub mod strict;
 mod utf8;
 

@@ -2,17 +2,18 @@
 //!
 //! A text *spells* a number if it is the text of the number under the format, or that text without
 //! separators. Strict parsing returns the number that a text spells, and refuses every other text.
-ghost use Rattle.std.specs.Prelude.{◌≡◌, ◌↔◌, ◌<◌, ◌≤◌, IsTrue, take, drop, length, Some, IfSome, IsUtf8, MatchOption, MatchResult};
+ghost use Rattle.std.specs.Prelude.{◌≡◌, ◌↔◌, ◌-◌, ◌<◌, ◌≤◌, if◌then◌else◌, IsTrue, take, drop, length, Some, IfSome, IsUtf8, MatchOption, MatchResult};
 ghost use Rattle.std.specs.Char.{is_ascii_digit};
 ghost use Rattle.std.specs.Int.Digits.{number_from_digits};
-ghost use Rattle.std.specs.List.{list_all};
+ghost use Rattle.std.specs.List.{list_all, list_any};
 ghost use Rattle.num_format_int.specs.Grouped.{stands, grouped, printed_separator};
 ghost use Rattle.num_format_int.specs.Kind.{Kind};
 ghost use Rattle.num_format_parsing.specs.Reading.{denoted};
-ghost use Rattle.num_format_parsing.specs.Strict.{SpellsNumber, ParsesStrictly, IsCause, unread, sign_len, strict_message_of};
+ghost use Rattle.num_format_parsing.specs.Strict.{SpellsNumber, ParsesStrictly, IsCause, begins, unread, sign_len, strict_message_of};
 ghost use Rattle.num_format_parsing.specs.Shapes.{BeginsWithDigit, EndsSeparator, IsInGroups, IsPlainStart, byte_figures};
 
-use crate::parsing::parse;
+use crate::parsing::{SAFE_FIGURES, parse};
+use crate::short::{GROUPED_LEN, read_short};
 use num_format_int::sealed::Sealed;
 use num_format_text::{Format, Grouping};
 use std::fmt;
@@ -60,12 +61,36 @@ impl fmt::Display for StrictError {
 impl std::error::Error for StrictError {}
 
 /// Returns the number that the text of the bytes spells, or the first cause for which it is refused.
-pub(crate) fn parse_strict<N: Sealed, F: Format>(bytes: &[u8], format: &F) -> Result<N, StrictError>
+///
+/// Where the caller knows that the bytes are UTF-8, that is not tested again.
+pub(crate) fn parse_strict<N: Sealed, F: Format>(
+    bytes: &[u8],
+    is_text: bool,
+    format: &F,
+) -> Result<N, StrictError>
+    requires { IsTrue is_text → IsUtf8 bytes.now }
     ensures { MatchResult result
         (λ n. ParsesStrictly N.kind (F.answers format.now) bytes.now (N.value n))
         (λ e. IsCause N.kind (F.answers format.now) bytes.now e) }
 {
-    if let Some(error) = misspelling(bytes, format) {
+    match short_number(bytes, format) {
+        Some(read) => read,
+        None => parse_any(bytes, is_text, format),
+    }
+}
+
+/// Returns the same, of any text, after more than one pass over it.
+fn parse_any<N: Sealed, F: Format>(
+    bytes: &[u8],
+    is_text: bool,
+    format: &F,
+) -> Result<N, StrictError>
+    requires { IsTrue is_text → IsUtf8 bytes.now }
+    ensures { MatchResult result
+        (λ n. ParsesStrictly N.kind (F.answers format.now) bytes.now (N.value n))
+        (λ e. IsCause N.kind (F.answers format.now) bytes.now e) }
+{
+    if let Some(error) = misspelling(bytes, is_text, format) {
         return Err(error);
     }
     match parse(bytes, format) {
@@ -74,12 +99,39 @@ pub(crate) fn parse_strict<N: Sealed, F: Format>(bytes: &[u8], format: &F) -> Re
     }
 }
 
+/// Returns the same for most texts that spell a number, after one pass over them.
+fn short_number<N: Sealed, F: Format>(bytes: &[u8], format: &F) -> Option<Result<N, StrictError>>
+    ensures { IfSome result (λ read. MatchResult read
+        (λ n. ParsesStrictly N.kind (F.answers format.now) bytes.now (N.value n))
+        (λ e. IsCause N.kind (F.answers format.now) bytes.now e)) }
+{
+    let minus_sign = format.minus_sign().into_str();
+    let is_negative = bytes.starts_with(minus_sign.as_bytes());
+    let sign = if is_negative { minus_sign.len() } else { 0 };
+    let most = most_figures(N::limit(), is_negative);
+    let magnitude = read_short(bytes, sign, most, format)?;
+    match N::from_sign_and_magnitude(is_negative, magnitude as u128) {
+        Some(number) => Some(Ok(number)),
+        None => Some(Err(StrictError::OutOfRange)),
+    }
+}
+
+/// Returns how many digits a text may have of which the minus sign counts as one, so that they fit 64 bits
+/// too.
+fn most_figures(limit: usize, is_negative: bool) -> usize
+    ensures within { result ≤ limit - (if is_negative then 1 else 0) }
+    ensures few { result ≤ SAFE_FIGURES }
+{
+    limit.saturating_sub(is_negative as usize).min(SAFE_FIGURES)
+}
+
 /// Returns why the bytes are no text that spells the number that it denotes, or `None` if they are one.
 ///
 /// Most texts have no leading zero, and a minus sign and a separator without digits. Groups of digits
 /// that are found from the right then settle that a text spells its number. All else is judged step by
 /// step.
-fn misspelling<F: Format>(bytes: &[u8], format: &F) -> Option<StrictError>
+fn misspelling<F: Format>(bytes: &[u8], is_text: bool, format: &F) -> Option<StrictError>
+    requires { IsTrue is_text → IsUtf8 bytes.now }
     ensures { MatchOption result
         (IsUtf8 bytes.now
         × SpellsNumber (F.answers format.now) bytes.now (denoted (F.answers format.now) bytes.now))
@@ -88,7 +140,7 @@ fn misspelling<F: Format>(bytes: &[u8], format: &F) -> Option<StrictError>
     if is_surely_spelled(bytes, format) {
         None
     } else {
-        judge(bytes, format)
+        judge(bytes, is_text, format)
     }
 }
 
@@ -110,6 +162,9 @@ fn is_surely_spelled<F: Format>(text: &[u8], format: &F) -> bool
         return true;
     }
     if count_digits(separator) != 0 {
+        return false;
+    }
+    if separator.len() == 1 && text.len() <= GROUPED_LEN {
         return false;
     }
     match format.grouping() {
@@ -143,7 +198,7 @@ fn plain_start<F: Format>(text: &[u8], format: &F) -> Option<usize>
 }
 
 /// Returns whether the first byte is a digit other than zero.
-fn begins_with_digit(text: &[u8]) -> bool
+pub(crate) fn begins_with_digit(text: &[u8]) -> bool
     ensures { IsTrue result → BeginsWithDigit text.now }
 {
     if text.is_empty() {
@@ -212,13 +267,14 @@ fn are_groups(body: &[u8], separator: &[u8], last: usize, size: usize) -> bool
 /// Returns the same as [`misspelling`], by going over the bytes a few times.
 #[cold]
 #[inline(never)]
-fn judge<F: Format>(bytes: &[u8], format: &F) -> Option<StrictError>
+fn judge<F: Format>(bytes: &[u8], is_text: bool, format: &F) -> Option<StrictError>
+    requires { IsTrue is_text → IsUtf8 bytes.now }
     ensures { MatchOption result
         (IsUtf8 bytes.now
         × SpellsNumber (F.answers format.now) bytes.now (denoted (F.answers format.now) bytes.now))
         (λ e. (k : Kind) → IsCause k (F.answers format.now) bytes.now e) }
 {
-    if str::from_utf8(bytes).is_err() {
+    if !is_utf8(bytes, is_text) {
         return Some(StrictError::NotUtf8);
     }
     let minus_sign = format.minus_sign().into_str();
@@ -228,13 +284,27 @@ fn judge<F: Format>(bytes: &[u8], format: &F) -> Option<StrictError>
     if at < bytes.len() {
         return Some(StrictError::Unexpected { at });
     }
-    if count_digits(bytes) == 0 {
+    if !has_digit(bytes) {
         return Some(StrictError::NoDigit);
     }
     if !is_spelled(bytes, start, format) {
         return Some(StrictError::Misspelled);
     }
     None
+}
+
+/// Returns whether the bytes are UTF-8.
+fn is_utf8(bytes: &[u8], is_text: bool) -> bool
+    requires { IsTrue is_text → IsUtf8 bytes.now }
+    ensures { IsTrue result ↔ IsUtf8 bytes.now }
+{
+    if is_text {
+        return true;
+    }
+    match str::from_utf8(bytes) {
+        Ok(_) => true,
+        Err(_) => false,
+    }
 }
 
 /// Returns the separator, or nothing where the grouping prints none.
@@ -256,7 +326,7 @@ fn expected_end(text: &[u8], start: usize, separator: &[u8]) -> usize
 {
     let mut place = start;
     while place < text.len() {
-        if !separator.is_empty() && text[place..].starts_with(separator) {
+        if begins_with(&text[place..], separator) {
             place += separator.len();
         } else if text[place].is_ascii_digit() {
             place += 1;
@@ -265,6 +335,31 @@ fn expected_end(text: &[u8], start: usize, separator: &[u8]) -> usize
         }
     }
     place
+}
+
+/// Returns whether a text begins with a separator that is not empty. Most bytes are not even its first.
+#[inline]
+fn begins_with(text: &[u8], separator: &[u8]) -> bool
+    requires { 0 < length text.now }
+    ensures { result ≡ begins separator.now text.now }
+{
+    if separator.is_empty() {
+        return false;
+    }
+    let byte = text[0];
+    let first = separator[0];
+    if byte != first {
+        return false;
+    }
+    text.starts_with(separator)
+}
+
+/// Returns whether a digit stands among the bytes.
+#[inline]
+fn has_digit(text: &[u8]) -> bool
+    ensures { result ≡ list_any is_ascii_digit text.now }
+{
+    text.iter().any(|byte| byte.is_ascii_digit())
 }
 
 /// Returns how many digits stand among the bytes.
@@ -295,8 +390,9 @@ fn is_spelled<F: Format>(text: &[u8], start: usize, format: &F) -> bool
     let separator = format.separator().into_str().as_bytes();
     let digits = &text[first..];
     let body = &text[start..];
-    is_grouped(body, digits, separator, format.grouping())
-        || is_grouped(body, digits, separator, Grouping::Posix)
+    let count = count_digits(digits);
+    is_grouped(body, digits, count, separator, format.grouping())
+        || is_grouped(body, digits, count, separator, Grouping::Posix)
 }
 
 /// Returns the place of the first digit that is not zero, or the length.
@@ -329,12 +425,18 @@ fn is_due(grouping: Grouping, digits: usize, right: usize) -> bool
     }
 }
 
-/// Returns whether the body is the digits among the bytes of `digits`, with the separators of the
-/// grouping.
-fn is_grouped(body: &[u8], digits: &[u8], separator: &[u8], grouping: Grouping) -> bool
+/// Returns whether the body is the digits among the bytes of `digits`, of which there are `count`, with
+/// the separators of the grouping.
+fn is_grouped(
+    body: &[u8],
+    digits: &[u8],
+    count: usize,
+    separator: &[u8],
+    grouping: Grouping,
+) -> bool
+    requires { count ≡ length (byte_figures digits.now) }
     ensures { IsTrue result ↔ (body.now ≡ grouped grouping separator.now (byte_figures digits.now)) }
 {
-    let count = count_digits(digits);
     let mut place = 0;
     let mut right = count;
     for byte in digits {

@@ -17,7 +17,7 @@ returns-then-not-starts_with c =
     let body = c.args.body.now in
     let s = c.args.separator.now in
     let g = c.args.grouping in
-    let count = c.count_digits-count.result in
+    let count = c.args.count in
     let ds = byte_figures xs in
     let b = get_or xs i 0 in
     let left = byte_figures (drop (i + 1) xs) in
@@ -30,7 +30,7 @@ returns-then-not-starts_with c =
     let off = ap (λ rest. starts_with nat_eq rest s) (sym (take_rest body (l.place + 1))) ∙ sym c.starts_with.ensures.value ∙ c.if-not-starts_with.true in (
       λ wrong. (let w : false ≡ true = wrong in cc),
       λ whole. absurd (compares-separator-off (stands g count) s body ds left l.place l.right (b - 48) before inside same due off
-          (whole ∙ ap (λ n. separated (stands g n) s ds) (sym c.count_digits-count.ensures))),
+          (whole ∙ ap (λ n. separated (stands g n) s ds) (sym c.requires))),
     )
 
 pub loop-byte-preserved : goal.loop-byte-preserved
@@ -41,7 +41,7 @@ loop-byte-preserved c =
     let body = c.args.body.now in
     let s = c.args.separator.now in
     let g = c.args.grouping in
-    let count = c.count_digits-count.result in
+    let count = c.args.count in
     let ds = byte_figures xs in
     let b = get_or xs i 0 in
     let left = byte_figures (drop (i + 1) xs) in

@@ -1,17 +1,23 @@
-use Rattle.std.proofs.Common.{◌≡◌, subst, Err}
-use Rattle.std.specs.Prelude.{◌↔◌}
-use Rattle.num_format_parsing.specs.Strict.{IsCause, StopsAt, IsOutOfRange}
-use Rattle.num_format_parsing.specs.declared.strict.StrictError.TheVariants.{Unexpected, OutOfRange}
+use Rattle.std.proofs.Common.{rules, subst}
+use Rattle.num_format_parsing.specs.declared.strict.StrictError.TheVariants.{NotUtf8, Unexpected, NoDigit, Misspelled, OutOfRange}
+use Rattle.num_format_parsing.proofs.CauseLemmas.{Judged, exactly, is_ok-exactly, ok-judged}
 use Rattle.num_format_parsing.proofs.parsing.AnyFromFormattedStr.from_strict_str.Goals as goal
 
-pub returns-clause-unexpected : goal.returns-clause-unexpected
-returns-clause-unexpected g c = λ at.
-    subst (λ t. (c.from_strict_bytes.result ≡ Err (Unexpected at)) ↔ StopsAt (g.F.Format.answers c.args.format.now) t at) c.as_bytes.ensures.value (c.from_strict_bytes.ensures.unexpected at)
-
-pub returns-clause-out_of_range : goal.returns-clause-out_of_range
-returns-clause-out_of_range g c =
-    subst (λ t. (c.from_strict_bytes.result ≡ Err OutOfRange) ↔ IsOutOfRange g.N.Sealed.kind (g.F.Format.answers c.args.format.now) t) c.as_bytes.ensures.value c.from_strict_bytes.ensures.out_of_range
-
-pub returns-clause-refused : goal.returns-clause-refused
-returns-clause-refused g c = λ e.
-    subst (λ t. (c.from_strict_bytes.result ≡ Err e) ↔ IsCause g.N.Sealed.kind (g.F.Format.answers c.args.format.now) t e) c.as_bytes.ensures.value (c.from_strict_bytes.ensures.refused e)
+pub returns : goal.returns
+returns g c =
+    let f = g.F.Format.answers c.args.format.now in
+    let k = g.N.Sealed.kind in
+    let value = g.N.Sealed.value in
+    let t = c.args.text.now in
+    let r = c.parse_strict.result in
+    let judged : Judged value k f t r = subst (λ bytes. Judged value k f bytes r) c.as_bytes.ensures.value c.parse_strict.ensures in
+    record {
+      number = ok-judged value k f t r judged;
+      accepted = is_ok-exactly value k f t r judged;
+      refused = λ e. exactly value k f t r e judged;
+      utf8 = λ wrong. (exactly value k f t r NotUtf8 judged).0 wrong (search rules);
+      unexpected = λ at. exactly value k f t r (Unexpected at) judged;
+      no_digit = exactly value k f t r NoDigit judged;
+      misspelled = exactly value k f t r Misspelled judged;
+      out_of_range = exactly value k f t r OutOfRange judged;
+    }
