@@ -116,8 +116,8 @@ fn short_number<N: Sealed, F: Format>(bytes: &[u8], format: &F) -> Option<Result
     }
 }
 
-/// Returns how many digits a text may have of which the minus sign counts as one, so that they fit 64 bits
-/// too.
+/// Returns how many digits a text may have: at most the limit, of which a minus sign counts as one, and
+/// what fits 64 bits.
 fn most_figures(limit: usize, is_negative: bool) -> usize
     ensures within { result ≤ limit - (if is_negative then 1 else 0) }
     ensures few { result ≤ SAFE_FIGURES }
@@ -164,6 +164,7 @@ fn is_surely_spelled<F: Format>(text: &[u8], format: &F) -> bool
     if count_digits(separator) != 0 {
         return false;
     }
+    // In such a text `read_short` found no groups.
     if separator.len() == 1 && text.len() <= GROUPED_LEN {
         return false;
     }
