@@ -1,10 +1,12 @@
 -- Bytes that are gone over character by character.
-use Rattle.std.proofs.Common.{◌≡◌, ℕ, ◌+◌, ◌-◌, ◌<◌, ◌≤◌, List, [], ◌∷◌, ◌++◌, length, ap, ◌∙◌, sym, arith, length-append, append-nil, append_assoc, take, drop, take-append-drop, length-take-le, subst, Some, None, IsUtf8}
+use Rattle.std.proofs.Common.{◌≡◌, ℕ, ◌+◌, ◌-◌, ◌<◌, ◌≤◌, ◌⊎◌, inl, inr, false, List, [], ◌∷◌, ◌++◌, length, ap, ◌∙◌, sym, arith, length-append, append-nil, append_assoc, take, drop, get_or, take-append-drop, length-take-le, drop-drop, subst, Some, None, IsUtf8}
 use Rattle.std.specs.Prelude.{encode_utf8}
+use Rattle.std.specs.Char.{is_ascii_digit}
 use Rattle.std.specs.Str.{chars, encode_utf8_all}
 use Rattle.std.proofs.lemmas.Bool.{and_parts}
-use Rattle.std.proofs.lemmas.List.{length-drop, take_rest}
-use Rattle.std.proofs.lemmas.Str.{chars-append, chars-nil, chars_past_char, length-encode, len_utf8_bounds, IsUtf8-append, IsUtf8-drop, IsUtf8-encode, IsCharBoundary-from_take}
+use Rattle.std.proofs.lemmas.Bool.Decides.{nat_tests}
+use Rattle.std.proofs.lemmas.List.{drop_more, length-drop, take_rest}
+use Rattle.std.proofs.lemmas.Str.{chars-append, chars-nil, chars_past_char, byte_from_char, encode_ascii, length-encode, len_utf8_bounds, IsUtf8-append, IsUtf8-drop, IsUtf8-encode, IsCharBoundary-from_take}
 use Rattle.std.proofs.Math.Seq.{take-append-add, take-append_seam}
 use Rattle.bstr.specs.Utf8.{decoded}
 use Rattle.bstr.proofs.lemmas.EncodeLemmas.{decoded-encode}
@@ -48,6 +50,18 @@ past_char bytes place size c within utf8 char =
           ∙ append_assoc (chars front) (c ∷ []) (chars (drop (place + size) bytes));
     }
 
+-- a byte of ASCII is a character
+pub past_ascii : (bytes : List ℕ) (place : ℕ) → place < length bytes → IsUtf8 (take place bytes) → get_or bytes place 0 < 128 →
+    PastChar bytes place 1 (get_or bytes place 0)
+past_ascii bytes place inside utf8 ascii =
+    let byte = get_or bytes place 0 in
+    let code : encode_utf8 byte ≡ byte ∷ [] = encode_ascii byte ascii in
+    past_char bytes place 1 byte (omega arith) utf8 (record {
+      scalar = grind (arith, nat_tests);
+      bytes = drop_more bytes place 0 inside ∙ ap (λ bs. byte ∷ bs) (sym (drop-drop 1 place bytes)) ∙ ap (λ cs. cs ++ drop 1 (drop place bytes)) (sym code);
+      width = ap length code;
+    })
+
 -- the bytes from a place on, as a slice has them
 abbrev pub rest : List ℕ → ℕ → List ℕ
 rest bytes place = take (length bytes - place) (drop place bytes)
@@ -59,6 +73,17 @@ module _ (bytes : List ℕ) (place c size : ℕ) (char : (decoded (rest bytes pl
   -- what decodes is a character
   pub past_decoded : place ≤ length bytes → IsUtf8 (take place bytes) → PastChar bytes place size c
   past_decoded within utf8 = past_char bytes place size c within utf8 spells
+
+  -- and no digit if its first byte is not ASCII
+  pub decoded_no_digit : place < length bytes → 128 ≤ get_or bytes place 0 → is_ascii_digit c ≡ false
+  decoded_no_digit inside wide =
+      let left = drop place bytes in
+      let first : get_or left 0 0 ≡ get_or bytes place 0 = ap (λ bs. get_or bs 0 0) (drop_more bytes place 0 inside) in
+      let either : (c < 128) ⊎ (128 ≤ c) = grind arith in
+      elim either [
+        | inl ascii ↦ (let byte = byte_from_char left (drop size left) c spells.bytes ascii in absurd (omega (arith, byte, first)))
+        | inr high ↦ grind (arith, nat_tests)
+      ]
 
 -- bytes that begin with no character are not UTF-8
 no_char-first : (bytes : List ℕ) → IsUtf8 bytes → 0 < length bytes → (decoded bytes).char ≡ None → ⊥
