@@ -2,7 +2,7 @@
 """Writes the table of locales into the crates, from locales.txt beside this file.
 
     python3 tools/locales.py rows        rewrites the generated files of crates/num_format_cldr
-    python3 tools/locales.py constants   rewrites those of crates/num_format_locale
+    python3 tools/locales.py constants   rewrites those of crates/num_format_locale and crates/test_constants
 """
 import bisect
 import re
@@ -17,9 +17,11 @@ HERE = Path(__file__).resolve().parent
 CRATE = HERE.parent / "crates" / "num_format_cldr"
 CONSTANTS = HERE.parent / "crates" / "num_format_locale" / "src" / "locale" / "constants.rt"
 PLACES = HERE.parent / "crates" / "num_format_locale" / "src" / "search" / "pair_list.rt"
+NAMED = HERE.parent / "crates" / "test_constants"
 DATA = HERE / "locales.txt"
 MARK = "Written by tools/locales.py from tools/locales.txt; do not edit."
 PIECE = 64  # rows in one module at most
+NAMED_PIECE = 16  # constants in one function at most: the checker takes long over more
 GROUPINGS = {"Standard": 0, "Indian": 1, "Posix": 2}
 LINE_LENGTH = 100  # columns of a line with several names
 
@@ -257,11 +259,63 @@ pub static FIRST_PLACES: [u16; {len(places)}] = [
 """
 
 
+def named_function(piece):
+    return "from_" + piece[0].lower()
+
+
+def named_source(pieces):
+    functions = "".join(
+        f"""
+/// Returns the constants from `{piece[0]}` to `{piece[-1]}`, each with its name.
+#[rattlefmt::skip]
+pub fn {named_function(piece)}() -> [(Locale, &'static str); {len(piece)}]
+    ensures {{ AreNamed result }}
+{{
+    [
+""" + "".join(f'        (Locale::{name}, "{name}"),\n' for name in piece) + "    ]\n}\n"
+        for piece in pieces
+    )
+    return f"""//! The constants of `Locale`, each with its name. {MARK}
+ghost use Rattle.test_constants.specs.Named.{{AreNamed}};
+
+use num_format_locale::Locale;
+{functions}"""
+
+
+def named_answers(function):
+    return f"""-- {MARK}
+use Rattle.std.proofs.Common.{{refl}}
+use lib.Utf8.{{encode}}
+use Rattle.num_format_cldr.specs.Families.{{families}}
+use Rattle.num_format_cldr.specs.Table.{{members, table_names}}
+use Rattle.test_constants.proofs.named.{function}.Goals as goal
+
+pub returns : goal.returns
+unfolding encode families members table_names
+returns c = refl
+"""
+
+
+def write_named(names):
+    constants = [constant_name(name) for name in names]
+    pieces = [constants[start:start + NAMED_PIECE] for start in range(0, len(constants), NAMED_PIECE)]
+    files = {"src/named.rt": named_source(pieces)}
+    for function in map(named_function, pieces):
+        files[f"proofs/named/{function}/Answers.antt"] = named_answers(function)
+    for path in NAMED.glob("proofs/named/*/Answers.antt"):
+        path.unlink()
+    for name, text in files.items():
+        path = NAMED / name
+        path.parent.mkdir(parents=True, exist_ok=True)
+        path.write_text(text, encoding="utf-8")
+
+
 def write_constants():
     names = [row["name"] for row in rows()]
     for path, source in [(CONSTANTS, constants_source), (PLACES, places_source)]:
         path.parent.mkdir(parents=True, exist_ok=True)
         path.write_text(source(names), encoding="utf-8")
+    write_named(names)
 
 
 COMMANDS = {"rows": write_rows, "constants": write_constants}
