@@ -2,6 +2,7 @@
 //! which format is built after calls, or which error.
 
 use crate::asserting::assert_equal;
+use crate::comparisons::hash_of;
 use crate::settings::{Setting, format_of};
 use crate::texts::printed;
 use num_format::{CustomFormat, CustomFormatBuilder, Grouping, Locale};
@@ -27,7 +28,7 @@ fn a_format_is_given(rt: HostRuntime) -> Result<(), Fail> {
     Ok(())
 }
 
-/// Builders are compared by what each field has, the length of a text that is too long too.
+/// Builders are compared and hashed by what each field has, the length of a text that is too long too.
 #[test]
 fn equal_builders(rt: HostRuntime) -> Result<(), Fail> {
     assert!(rt; CustomFormatBuilder::from(Locale::en) == CustomFormat::builder());
@@ -35,6 +36,8 @@ fn equal_builders(rt: HostRuntime) -> Result<(), Fail> {
     assert!(rt; refused.clone()? == refused);
     assert!(rt; refused != CustomFormat::builder());
     assert!(rt; refused != CustomFormat::builder().separator("1234567890"));
+    assert!(rt; hash_of(&refused.clone()?) == hash_of(&refused));
+    assert!(rt; hash_of(&refused) != hash_of(&CustomFormat::builder()));
     Ok(())
 }
 

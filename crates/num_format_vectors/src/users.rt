@@ -31,7 +31,10 @@ fn assert_money(
 fn amounts(rt: HostRuntime) -> Result<(), Fail> {
     assert_money(&rt, rt.alloc(), 123_456_789, Locale::de, "1.234.567,89")?;
     assert_money(&rt, rt.alloc(), -5, Locale::en, "-0.05")?;
-    assert_money(&rt, rt.alloc(), 100_000, Locale::es, "1.000,00")
+    assert_money(&rt, rt.alloc(), 100_000, Locale::es, "1.000,00")?;
+    let (lowest, highest) = ("-92,233,720,368,547,758.08", "92,233,720,368,547,758.07");
+    assert_money(&rt, rt.alloc(), i64::MIN, Locale::en, lowest)?;
+    assert_money(&rt, rt.alloc(), i64::MAX, Locale::en, highest)
 }
 
 /// Asserts the text of a number under the format of these settings.
