@@ -12,7 +12,7 @@ total = 0
 with open(sys.argv[3], encoding="utf-8") as column:
     for line in column.read().splitlines():
         try:
-            number = form.parse(line)
+            number = form.parse_strict(line)
         except ValueError as error:
             print(f"{line}: {error}")
             continue

@@ -16,6 +16,13 @@ static void show_number(const char *call, int result, const void *number) {
     printf("%s: %d, %lld\n", call, result, (long long)*(const int64_t *)number);
 }
 
+static void show_strict(const char *text) {
+    int64_t number = 5;
+    size_t at = 7;
+    int result = num_format_parse_strict_i64(&en, 64, text, strlen(text), &number, &at);
+    printf("parse strictly \"%s\": %d, %lld, at %zu\n", text, result, (long long)number, at);
+}
+
 int main(void) {
     uint64_t low = 7, high = 9, unsigned_number = 5;
     int64_t number = 5;
@@ -49,6 +56,19 @@ int main(void) {
     show_number("parse u128, high", 0, &high);
     show_number("parse i128, low", num_format_parse_i128(&en, "-2", 2, &low, &high), &low);
     show_number("parse i128, high", 0, &high);
+    show_strict("-1,234");
+    show_strict("12.50");
+    show_strict("-");
+    show_strict("1,23");
+    show_strict("9,223,372,036,854,775,808");
+    size_t at = 7;
+    show_number("parse strictly, u64", num_format_parse_strict_u64(&en, 16, "65,535", 6, &unsigned_number, &at), &unsigned_number);
+    show_number("parse strictly, u128, low", num_format_parse_strict_u128(&de, "18.446.744.073.709.551.618", 26, &low, &high, &at), &low);
+    show_number("parse strictly, u128, high", 0, &high);
+    show_number("parse strictly, i128, low", num_format_parse_strict_i128(&en, "-3", 2, &low, &high, &at), &low);
+    show_number("parse strictly, i128, high", 0, &high);
+    show_number("parse strictly, i128 with a point", num_format_parse_strict_i128(&en, "-3.5", 4, &low, &high, &at), &low);
+    printf("at: %zu\n", at);
     printf("reads back: %d, %d\n", num_format_reads_back(&en), num_format_reads_back(&format));
     printf("prints alike: %d, %d\n", num_format_prints_alike(&en, &de), num_format_prints_alike(&en, &en));
     show("name 90", num_format_names(90, text, sizeof text));

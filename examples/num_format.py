@@ -13,6 +13,10 @@ ERRORS = {
     -6: "the separator or the minus sign has more than 8 bytes",
     -7: "unknown grouping",
     -8: "unknown number of bits",
+    -9: "a byte is not expected",
+    -10: "no digit",
+    -11: "not as the number is printed",
+    -12: "the number has more bits",
 }
 
 
@@ -53,4 +57,11 @@ class Format(ctypes.Structure):
         """Returns the number of 64 bits that the text denotes."""
         number = ctypes.c_int64()
         _call("parse_i64", ctypes.byref(self), ctypes.c_uint32(64), *_bytes(text), ctypes.byref(number))
+        return number.value
+
+    def parse_strict(self, text):
+        """Returns the number of 64 bits that is printed as the text, or as the text with separators."""
+        number, at = ctypes.c_int64(), ctypes.c_size_t()
+        outputs = ctypes.byref(number), ctypes.byref(at)
+        _call("parse_strict_i64", ctypes.byref(self), ctypes.c_uint32(64), *_bytes(text), *outputs)
         return number.value

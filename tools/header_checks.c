@@ -8,7 +8,6 @@
 #include "num_format.h"
 
 #include <stdio.h>
-#include <stdlib.h>
 #include <string.h>
 
 /* Each call once more: this file does not compile with a header where one has another type. */
@@ -22,6 +21,10 @@ int32_t num_format_parse_i64(const num_format *, uint32_t, const char *, size_t,
 int32_t num_format_parse_u64(const num_format *, uint32_t, const char *, size_t, uint64_t *);
 int32_t num_format_parse_u128(const num_format *, const char *, size_t, uint64_t *, uint64_t *);
 int32_t num_format_parse_i128(const num_format *, const char *, size_t, uint64_t *, uint64_t *);
+int32_t num_format_parse_strict_i64(const num_format *, uint32_t, const char *, size_t, int64_t *, size_t *);
+int32_t num_format_parse_strict_u64(const num_format *, uint32_t, const char *, size_t, uint64_t *, size_t *);
+int32_t num_format_parse_strict_u128(const num_format *, const char *, size_t, uint64_t *, uint64_t *, size_t *);
+int32_t num_format_parse_strict_i128(const num_format *, const char *, size_t, uint64_t *, uint64_t *, size_t *);
 int32_t num_format_reads_back(const num_format *);
 int32_t num_format_prints_alike(const num_format *, const num_format *);
 int32_t num_format_names(size_t, char *, size_t);
@@ -67,6 +70,10 @@ static void check_constants(void) {
     CHECK(NUM_FORMAT_TOO_LONG, -6);
     CHECK(NUM_FORMAT_BAD_GROUPING, -7);
     CHECK(NUM_FORMAT_BAD_BITS, -8);
+    CHECK(NUM_FORMAT_UNEXPECTED, -9);
+    CHECK(NUM_FORMAT_NO_DIGIT, -10);
+    CHECK(NUM_FORMAT_MISSPELLED, -11);
+    CHECK(NUM_FORMAT_OUT_OF_RANGE, -12);
     CHECK(NUM_FORMAT_STANDARD, 1);
     CHECK(NUM_FORMAT_INDIAN, 2);
     CHECK(NUM_FORMAT_POSIX, 3);
@@ -174,6 +181,57 @@ static void check_errors(void) {
     CHECK(num_format_parse_i64(&en, 65536 + 8, "1", 1, &number), -8);
 }
 
+/* Texts as numbers of 16 bits, strictly: what is returned, and what the number and `at`, 7 and 9 before,
+ * then are. */
+static void check_strict(void) {
+    static const struct {
+        const char *text;
+        int returned;
+        int64_t number;
+        size_t at;
+    } cases[] = {
+        {"0", 0, 0, 9},         {"-1,234", 0, -1234, 9},  {"-1234", 0, -1234, 9},  {"32,767", 0, 32767, 9},
+        {"1\xff", -3, 7, 9},    {"12.50", -9, 7, 2},      {" 1", -9, 7, 0},        {"1,234 2", -9, 7, 5},
+        {"+1", -9, 7, 0},       {"5-", -9, 7, 1},         {"1\xc2\xa0", -9, 7, 1}, {"", -10, 7, 9},
+        {"-", -10, 7, 9},       {",", -10, 7, 9},         {"1,23", -11, 7, 9},     {"01", -11, 7, 9},
+        {"-0", -11, 7, 9},      {"1234,567", -11, 7, 9},  {"32,768", -12, 7, 9},   {"-32769", -12, 7, 9},
+    };
+    num_format format = {0};
+    int64_t number = 7;
+    uint64_t low = 7, high = 8;
+    size_t at = 9;
+    CHECK(num_format_parse_strict_i64(&format, 64, "1", 1, &number, &at), -1);
+    CHECK(num_format_locale(&format, "en", 2), 0);
+    CHECK(num_format_parse_strict_i64(&format, 256 + 64, "1", 1, &number, &at), -8);
+    CHECK(num_format_parse_strict_u64(&format, 7, "1", 1, &low, &at), -8);
+    CHECK(number == 7 && low == 7 && at == 9, 1);
+    for (size_t i = 0; i < sizeof cases / sizeof *cases; i++) {
+        const char *text = cases[i].text;
+        number = 7;
+        at = 9;
+        compare(text, num_format_parse_strict_i64(&format, 16, text, strlen(text), &number, &at),
+                cases[i].returned);
+        compare(text, number, cases[i].number);
+        compare(text, (long long)at, (long long)cases[i].at);
+    }
+    CHECK(num_format_parse_strict_u64(&format, 8, "255", 3, &low, &at), 0);
+    CHECK(low, 255);
+    CHECK(num_format_parse_strict_u64(&format, 8, "256", 3, &low, &at), -12);
+    CHECK(num_format_parse_strict_u64(&format, 64, "-1", 2, &low, &at), -12);
+    CHECK(num_format_parse_strict_u64(&format, 64, "1.5", 3, &low, &at), -9);
+    CHECK(low == 255 && at == 1, 1);
+    CHECK(num_format_parse_strict_u128(&format, "18,446,744,073,709,551,619", 26, &low, &high, &at), 0);
+    CHECK(low == 3 && high == 1, 1);
+    CHECK(num_format_parse_strict_u128(&format, "1,2", 3, &low, &high, &at), -11);
+    CHECK(num_format_parse_strict_i128(&format, "-2", 2, &low, &high, &at), 0);
+    CHECK(low == UINT64_MAX - 1 && high == UINT64_MAX, 1);
+    CHECK(num_format_parse_strict_i128(&format, "--2", 3, &low, &high, &at), -9);
+    CHECK(low == UINT64_MAX - 1 && high == UINT64_MAX && at == 1, 1);
+    format.grouping = NUM_FORMAT_POSIX;
+    CHECK(num_format_parse_strict_i64(&format, 64, "1,234", 5, &number, &at), -9);
+    CHECK(at, 1);
+}
+
 /* The numbers at the ends of each type. */
 static void check_ends(void) {
     num_format en;
@@ -202,10 +260,8 @@ static void check_ends(void) {
 /* An array of exactly as many bytes as the longest text, and of one less. */
 static void check_longest(void) {
     num_format format;
-    char *text = malloc(NUM_FORMAT_MAX);
-    if (text == NULL)
-        exit(2);
-    memset(text, '.', NUM_FORMAT_MAX);
+    char text[NUM_FORMAT_MAX];
+    memset(text, '.', sizeof text);
     CHECK(num_format_custom(&format, "12345678", 8, 2, "abcdefgh", 8), 0);
     CHECK(num_format_print_i128(&format, 0, (uint64_t)1 << 63, text, NUM_FORMAT_MAX - 1), -2);
     for (int i = 0; i < NUM_FORMAT_MAX; i++)
@@ -213,7 +269,6 @@ static void check_longest(void) {
     CHECK(strlen(longest), NUM_FORMAT_MAX);
     CHECK(num_format_print_i128(&format, 0, (uint64_t)1 << 63, text, NUM_FORMAT_MAX), NUM_FORMAT_MAX);
     check_bytes("the longest text", text, longest);
-    free(text);
 }
 
 static void check_names(void) {
@@ -234,6 +289,7 @@ int main(void) {
     check_read();
     check_groupings();
     check_errors();
+    check_strict();
     check_ends();
     check_longest();
     check_names();

@@ -4,15 +4,16 @@
     python3 tools/library_checks.py [LIBRARY]    # crates/num_format_c/out/libnum_format_c.a
 
 Each has to print what its file `.expected` has, and tools/header_checks.c nothing. C programs are built
-twice: as they are delivered, and to stop at an access outside an object. A program whose compiler is
-missing is skipped. The last lines name it, and say how many passed and failed. The exit status is 1
-where one failed.
+twice: as they are delivered, and to stop at an access outside an object. tools/header_checks.c makes each
+call, and no request for memory. A program whose compiler is missing is skipped. The last lines name it,
+and say how many passed and failed. The exit status is 1 where one failed.
 """
 import subprocess
 import sys
 import tempfile
 from pathlib import Path
 
+import memory_checks
 from tally import CC, ROOT, Tally, heading, run
 
 EXAMPLES = ROOT / "examples"
@@ -39,6 +40,8 @@ def check_all(tally, library):
         for source in [EXAMPLES / "prices.c", EXAMPLES / "every_call.c", HEADER_CHECKS]:
             if not tally.lacks(CC, source.name):
                 check_c(tally, source, library, made)
+        if not tally.lacks(CC, "memory of the library for C"):
+            check_memory(tally, library, made)
         if not tally.lacks(CC, "column.py"):
             # The shared library, from the static one.
             build = [CC, "-shared", "-o", made, "-Wl,--whole-archive", library, "-Wl,--no-whole-archive"]
@@ -57,6 +60,16 @@ def check_c(tally, source, library, made):
     for ending, flags in BUILDS.items():
         build = [*COMPILE, *flags, source, library, "-o", made]
         check(tally, source.name + ending, build, [made], wanted)
+
+
+def check_memory(tally, library, made):
+    """No call makes a request for memory."""
+    refusing = memory_checks.refusing_library(tally, made.parent)
+    built = run([*COMPILE, "-O2", HEADER_CHECKS, library, "-o", made])
+    if refusing is None or built.returncode:
+        tally.add(f"{HEADER_CHECKS.name}, memory", "not built")
+        return
+    memory_checks.count(tally, refusing, HEADER_CHECKS.name, [made], (0, b"", b""), 0)
 
 
 def check(tally, name, build, words, wanted):

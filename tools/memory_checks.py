@@ -1,6 +1,7 @@
 """Refuses each request for memory of the programs and of the tests of memory in turn.
 
-tools/refuse_memory.c refuses them. A C compiler builds it: where there is none, the checks are skipped.
+tools/refuse_memory.c refuses and counts them. A C compiler builds it: where there is none, the checks are
+skipped.
 """
 import os
 import re
@@ -38,17 +39,23 @@ def check_all(tally, programs, filters, tests):
     if tally.lacks(CC, "memory refused"):
         return
     with tempfile.TemporaryDirectory() as folder:
-        library = Path(folder) / "refuse_memory.so"
-        flags = ["-shared", "-fPIC", "-Wall", "-Wextra", "-Werror"]
-        ended = run([CC, *flags, "-o", library, REFUSE_MEMORY])
-        tally.compare(f"{CC} {REFUSE_MEMORY.name}", ended.returncode, 0)
-        if not library.is_file():
+        library = refusing_library(tally, Path(folder))
+        if library is None:
             return
         for program in programs:
             refuse_to_program(tally, library, program, COMMANDS)
         for program in filters:
             refuse_to_program(tally, library, program, FILTER_COMMANDS)
         refuse_to_tests(tally, library, tests)
+
+
+def refusing_library(tally, folder):
+    """Builds in the folder what refuses and counts requests. None where that fails."""
+    library = folder / "refuse_memory.so"
+    flags = ["-shared", "-fPIC", "-Wall", "-Wextra", "-Werror"]
+    ended = run([CC, *flags, "-o", library, REFUSE_MEMORY])
+    tally.compare(f"{CC} {REFUSE_MEMORY.name}", ended.returncode, 0)
+    return library if library.is_file() else None
 
 
 def refuse_to_program(tally, library, program, commands):
@@ -67,6 +74,12 @@ def refuse_to_tests(tally, library, tests):
         tally.add(tests.name, "it was not built, or lists no tests of memory")
     for name in names:
         refuse_each(tally, library, name, [tests, name], PASSED, [PASSED_REFUSED])
+
+
+def count(tally, library, name, words, whole, requests):
+    """The command ends as `whole` says, and makes so many requests."""
+    found = run_refused(library, 0, words)
+    tally.compare(f"{name}, requests made: {requests}", found, (whole, requests))
 
 
 def refuse_each(tally, library, name, words, whole, refused):

@@ -11,7 +11,8 @@
  * allocates, and none keeps a pointer or has a state, so calls may be made from any thread.
  *
  * A call that fails returns a negative number, one of those below, and everything that it would
- * have written is as it was. Where several errors apply, each call says which one it returns.
+ * have written is as it was, but for `at` with NUM_FORMAT_UNEXPECTED. Where several errors apply, each
+ * call says which one it returns.
  *
  * The contracts of the functions are proved. They hold for any bytes of a struct `num_format` and
  * of a text. What a caller must ensure, since no call can test it:
@@ -47,7 +48,12 @@ enum {
     NUM_FORMAT_UNKNOWN_LOCALE = -5, /* no locale has the name, or there is none at the place */
     NUM_FORMAT_TOO_LONG = -6,       /* the separator or the minus sign has more than 8 bytes */
     NUM_FORMAT_BAD_GROUPING = -7,   /* the number stands for no grouping */
-    NUM_FORMAT_BAD_BITS = -8        /* the number of bits is not 8, 16, 32 or 64 */
+    NUM_FORMAT_BAD_BITS = -8,       /* the number of bits is not 8, 16, 32 or 64 */
+    /* The text is refused as a number by strict parsing: see num_format_parse_strict_i64. */
+    NUM_FORMAT_UNEXPECTED = -9,     /* a byte belongs to no minus sign, digit or separator */
+    NUM_FORMAT_NO_DIGIT = -10,      /* the text has no digit */
+    NUM_FORMAT_MISSPELLED = -11,    /* the text is not as its number is printed */
+    NUM_FORMAT_OUT_OF_RANGE = -12   /* the number is none of that many bits */
 };
 
 /* The groupings: where separators stand among the digits. */
@@ -109,7 +115,7 @@ int32_t num_format_print_i128(const num_format *format, uint64_t low, uint64_t h
  *
  * The number is that of the digits 0 to 9 of the text in order, negated if the text begins with the
  * format's minus sign. Every other character is ignored: under the locale "en" the text "12.50" is
- * 1250, and "(7)" is 7. Check first what your input may hold.
+ * 1250, and "(7)" is 7. num_format_parse_strict_i64 refuses such texts.
  *
  * Errors, in this order:
  * - NUM_FORMAT_BAD_BITS.
@@ -123,11 +129,48 @@ int32_t num_format_parse_i64(const num_format *format, uint32_t bits, const char
 int32_t num_format_parse_u64(const num_format *format, uint32_t bits, const char *text, size_t length,
                              uint64_t *number);
 
-/* The same of a number of 128 bits, which is written by its halves. */
+/* The same of a number of 128 bits, which is written by its halves. The errors are those above but
+ * NUM_FORMAT_BAD_BITS. */
 int32_t num_format_parse_u128(const num_format *format, const char *text, size_t length, uint64_t *low,
                               uint64_t *high);
 int32_t num_format_parse_i128(const num_format *format, const char *text, size_t length, uint64_t *low,
                               uint64_t *high);
+
+/* Parse a text that is exactly as a number is printed, with its separators or without any, as a number
+ * of 8, 16, 32 or 64 bits, write the number, and return 0.
+ *
+ * Under the locale "en" the texts "-1,234" and "-1234" are -1234, and all of "1,23", "01", "-0", "+1",
+ * " 1" and "12.50" are refused.
+ *
+ * `at` is written with NUM_FORMAT_UNEXPECTED alone, and the number with 0 alone. Each is as it was with
+ * any other result.
+ *
+ * Errors, in this order:
+ * - NUM_FORMAT_BAD_BITS.
+ * - NUM_FORMAT_BAD_FORMAT.
+ * - NUM_FORMAT_NOT_UTF8.
+ * - NUM_FORMAT_UNEXPECTED: a byte is none of the minus sign, if the text begins with it, of a digit 0
+ *   to 9, or of a whole separator. `at` is then the number of bytes before the first such byte: under
+ *   "en" 0 for " 1", 2 for "12.50" and 5 for "1,234 2". Under NUM_FORMAT_POSIX no byte is of a
+ *   separator.
+ * - NUM_FORMAT_NO_DIGIT: the text has no digit, as the empty one, "-" and ",".
+ * - NUM_FORMAT_MISSPELLED: the text is not as the number that its digits and its minus sign denote is
+ *   printed: it has a leading zero, a separator elsewhere than where the format prints one, or is a
+ *   negative zero.
+ * - NUM_FORMAT_OUT_OF_RANGE: the text is as that number is printed, however many digits it has, and
+ *   num_format_parse_i64 refuses it. Where num_format_reads_back returns 1, as for each locale, the
+ *   number has more bits, or a sign that the type has not. */
+int32_t num_format_parse_strict_i64(const num_format *format, uint32_t bits, const char *text,
+                                    size_t length, int64_t *number, size_t *at);
+int32_t num_format_parse_strict_u64(const num_format *format, uint32_t bits, const char *text,
+                                    size_t length, uint64_t *number, size_t *at);
+
+/* The same of a number of 128 bits, which is written by its halves. The errors are those above but
+ * NUM_FORMAT_BAD_BITS. */
+int32_t num_format_parse_strict_u128(const num_format *format, const char *text, size_t length,
+                                     uint64_t *low, uint64_t *high, size_t *at);
+int32_t num_format_parse_strict_i128(const num_format *format, const char *text, size_t length,
+                                     uint64_t *low, uint64_t *high, size_t *at);
 
 /* Returns 1 if every number, printed under the format, parses as the same number again, as any type
  * that has it; else 0. It is 1 for each locale, and 0 for an empty minus sign, or for the separator "0"

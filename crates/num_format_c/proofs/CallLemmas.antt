@@ -2,7 +2,7 @@
 use Rattle.std.proofs.Common.{◌≡◌, ℕ, ℤ, pos, List, refl, ap, Option, Some, None, Result, Ok, Err, MatchOption, ◌∙◌, Bool, true, false, if◌then◌else◌}
 use Rattle.std.specs.Prelude.{IsTrue, ◌↔◌}
 use Rattle.num_format.specs.Kind.{Kind}
-use Rattle.num_format_c.specs.Calls.{Fails, Parses, ParsesInto, Tells, code}
+use Rattle.num_format_c.specs.Calls.{Fails, Parses, ParsesExactly, ParsesExactlyInto, ParsesInto, Tells, code}
 use Rattle.num_format_c.specs.declared.format.NumFormat.{NumFormat}
 use Rattle.num_format_c.specs.declared.status.Status.{Status}
 use Rattle.num_format_c.specs.declared.status.Status.TheVariants.{BadBits}
@@ -50,3 +50,32 @@ module _ {A : Type 0} (value : A → ℤ) (s : NumFormat) (text : List ℕ) (old
       MatchOption kind (Fails BadBits old new result) (λ k. ParsesInto k s text old new result)
   kept_any None status p same error = record { error = error ∙ ap error_code p; unchanged = same }
   kept_any (Some k) status p same error = kept k status p same error
+
+  -- the number that a text spells is stored, and 0 returned
+  pub stored_exactly : (at_old at_new : ℕ) (k : Kind) (n : A) → ParsesExactly k value s text at_old at_new (Ok n) → new ≡ value n → result ≡ pos 0 →
+      ParsesExactlyInto k s text old new at_old at_new result
+  stored_exactly at_old at_new k n p same ok = record {
+    bad_format = λ none. (let q = p.bad_format none in let e = q.0 in cc);
+    refused = λ given e cause. (let q = p.refused given e cause in let f = q.0 in cc);
+    number = λ given z read. (let q = p.number given z read in (ok, (same ∙ q.0, q.1)));
+  }
+
+  -- no number is stored, and the error's number returned
+  pub kept_exactly : (at_old at_new : ℕ) (k : Kind) (status : Status) → ParsesExactly k value s text at_old at_new (Err status) → new ≡ old → result ≡ code status →
+      ParsesExactlyInto k s text old new at_old at_new result
+  kept_exactly at_old at_new k status p same error = record {
+    bad_format = λ none. (let q = p.bad_format none in (record { error = error ∙ ap error_code q.0; unchanged = same }, q.1));
+    refused = λ given e cause. (let q = p.refused given e cause in (record { error = error ∙ ap error_code q.0; unchanged = same }, q.1));
+    number = λ given z read. (let q = p.number given z read in absurd q.0);
+  }
+
+  -- the same where there may be no such kind
+  pub stored_exactly_any : (at_old at_new : ℕ) (kind : Option Kind) (n : A) → MatchOption kind ((Ok n ≡ Err BadBits) × (at_new ≡ at_old)) (λ k. ParsesExactly k value s text at_old at_new (Ok n)) → new ≡ value n → result ≡ pos 0 →
+      MatchOption kind (Fails BadBits old new result × (at_new ≡ at_old)) (λ k. ParsesExactlyInto k s text old new at_old at_new result)
+  stored_exactly_any at_old at_new None n p same ok = (let e = p.0 in cc)
+  stored_exactly_any at_old at_new (Some k) n p same ok = stored_exactly at_old at_new k n p same ok
+
+  pub kept_exactly_any : (at_old at_new : ℕ) (kind : Option Kind) (status : Status) → MatchOption kind ((failed status ≡ Err BadBits) × (at_new ≡ at_old)) (λ k. ParsesExactly k value s text at_old at_new (failed status)) → new ≡ old → result ≡ code status →
+      MatchOption kind (Fails BadBits old new result × (at_new ≡ at_old)) (λ k. ParsesExactlyInto k s text old new at_old at_new result)
+  kept_exactly_any at_old at_new None status p same error = (record { error = error ∙ ap error_code p.0; unchanged = same }, p.1)
+  kept_exactly_any at_old at_new (Some k) status p same error = kept_exactly at_old at_new k status p same error

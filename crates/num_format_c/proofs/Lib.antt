@@ -1,3 +1,4 @@
 pub mod CallLemmas
 pub mod NameLemmas
+pub mod StrictLemmas
 pub mod TextLemmas

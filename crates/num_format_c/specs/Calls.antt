@@ -7,11 +7,14 @@ use Rattle.num_format.specs.Format.{FormatData}
 use Rattle.num_format.specs.Kind.{Kind, kind_of, U8, U16, U32, U64, I8, I16, I32, I64}
 use Rattle.num_format.specs.Names.{Spells, name_of}
 use Rattle.num_format.specs.Reading.{Refused, denoted}
+use Rattle.num_format.specs.Strict.{IsCause, ParsesStrictly}
+use Rattle.num_format.specs.StrictError.{StrictError}
+use Rattle.num_format.specs.StrictError.TheVariants as cause
 use Rattle.num_format.specs.Text.{text_of}
 use Rattle.num_format_c.specs.Held.{Agrees, HasFormat, IsPadded, format_of, format_with, grouping_of}
 use Rattle.num_format_c.specs.declared.format.NumFormat.{NumFormat}
 use Rattle.num_format_c.specs.declared.status.Status.{Status}
-use Rattle.num_format_c.specs.declared.status.Status.TheVariants.{BadFormat, TooSmall, NotUtf8, NotANumber, UnknownLocale, TooLong, BadGrouping, BadBits}
+use Rattle.num_format_c.specs.declared.status.Status.TheVariants.{BadFormat, TooSmall, NotUtf8, NotANumber, UnknownLocale, TooLong, BadGrouping, BadBits, Unexpected, NoDigit, Misspelled, OutOfRange}
 
 -- the number by which an error crosses to C; `negsuc n` is the number one below -n
 abbrev pub code : Status → ℤ
@@ -23,6 +26,10 @@ code UnknownLocale = negsuc 4
 code TooLong = negsuc 5
 code BadGrouping = negsuc 6
 code BadBits = negsuc 7
+code Unexpected = negsuc 8
+code NoDigit = negsuc 9
+code Misspelled = negsuc 10
+code OutOfRange = negsuc 11
 
 -- the number that a call returns
 abbrev pub returned : Result ℤ Status → ℤ
@@ -62,6 +69,34 @@ pub record ParsesInto (k : Kind) (s : NumFormat) (text : List ℕ) (old new resu
   pub not_utf8 : HasFormat s → ¬ IsUtf8 text → Fails NotUtf8 old new result
   pub refused : HasFormat s → IsUtf8 text → Refused k (format_of s) text → Fails NotANumber old new result
   pub number : HasFormat s → IsUtf8 text → ¬ Refused k (format_of s) text → (result ≡ pos 0) × (new ≡ denoted (format_of s) text)
+
+-- the error for a cause of strict parsing
+abbrev pub status_of : StrictError → Status
+status_of cause.NotUtf8 = NotUtf8
+status_of (cause.Unexpected at) = Unexpected
+status_of cause.NoDigit = NoDigit
+status_of cause.Misspelled = Misspelled
+status_of cause.OutOfRange = OutOfRange
+
+-- the place of the unexpected byte, or the old one for any other cause
+abbrev pub place_of : StrictError → ℕ → ℕ
+place_of cause.NotUtf8 old = old
+place_of (cause.Unexpected at) old = at
+place_of cause.NoDigit old = old
+place_of cause.Misspelled old = old
+place_of cause.OutOfRange old = old
+
+-- a text is parsed strictly under the format of a struct as a number of the kind, and the place of an unexpected byte is written
+pub record ParsesExactly {A : Type 0} (k : Kind) (value : A → ℤ) (s : NumFormat) (text : List ℕ) (old new : ℕ) (result : Result A Status) : Type 0 where
+  pub bad_format : ¬ HasFormat s → (result ≡ Err BadFormat) × (new ≡ old)
+  pub refused : HasFormat s → (e : StrictError) → IsCause k (format_of s) text e → (result ≡ Err (status_of e)) × (new ≡ place_of e old)
+  pub number : HasFormat s → (z : ℤ) → ParsesStrictly k (format_of s) text z → MatchResult result (λ n. value n ≡ z) (λ _. ⊥) × (new ≡ old)
+
+-- a text is parsed strictly, and the number, or the place of an unexpected byte, is written over another one
+pub record ParsesExactlyInto (k : Kind) (s : NumFormat) (text : List ℕ) (old new : ℤ) (at_old at_new : ℕ) (result : ℤ) : Type 0 where
+  pub bad_format : ¬ HasFormat s → Fails BadFormat old new result × (at_new ≡ at_old)
+  pub refused : HasFormat s → (e : StrictError) → IsCause k (format_of s) text e → Fails (status_of e) old new result × (at_new ≡ place_of e at_old)
+  pub number : HasFormat s → (z : ℤ) → ParsesStrictly k (format_of s) text z → (result ≡ pos 0) × ((new ≡ z) × (at_new ≡ at_old))
 
 -- an unsigned number of 128 bits, by its halves
 abbrev pub unsigned_wide : ℕ → ℕ → ℤ

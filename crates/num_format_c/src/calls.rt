@@ -3,13 +3,13 @@ ghost use Rattle.std.specs.Prelude.{◌≡◌, ◌≢◌, ◌+◌, ◌≤◌, le
 ghost use Rattle.num_format.specs.Alike.{Alike};
 ghost use Rattle.num_format.specs.RoundTrips.{RoundTrips};
 ghost use Rattle.num_format.specs.Text.{text_of};
-ghost use Rattle.num_format_c.specs.Calls.{FillsCustom, FillsLocale, Parses, Prints, Tells, Writes, WritesName, returned, signed_kind, unsigned_kind};
+ghost use Rattle.num_format_c.specs.Calls.{FillsCustom, FillsLocale, Parses, ParsesExactly, Prints, Tells, Writes, WritesName, place_of, returned, signed_kind, status_of, unsigned_kind};
 ghost use Rattle.num_format_c.specs.declared.status.Status.TheVariants.{BadBits};
 ghost use Rattle.num_format_c.specs.Held.{HasFormat, format_of};
 
 use crate::format::{Held, NumFormat, grouping_of};
 use crate::status::Status;
-use num_format::parsing::{FromFormattedStr, ParseBytesError};
+use num_format::parsing::{FromFormattedStr, ParseBytesError, StrictError};
 use num_format::utils::{MinusSignStr, SeparatorStr};
 use num_format::{Buffer, Format, Locale, ToFormattedStr};
 use num_format_int::buffer::copy_bytes;
@@ -125,6 +125,79 @@ fn parse_narrow_unsigned(format: &NumFormat, bits: u32, text: &[u8]) -> Result<u
         8 => Ok(parse::<u8>(format, text)? as u64),
         16 => Ok(parse::<u16>(format, text)? as u64),
         32 => Ok(parse::<u32>(format, text)? as u64),
+        _ => Err(Status::BadBits),
+    }
+}
+
+/// Parses the text strictly as a number of the type. Writes the place of an unexpected byte, and nothing
+/// for another error.
+pub fn parse_strict<N: FromFormattedStr>(
+    format: &NumFormat,
+    text: &[u8],
+    at: &mut usize,
+) -> Result<N, Status>
+    ensures { ParsesExactly N.kind N.value format.now text.now at.old at.new result }
+{
+    let Some(format) = Held::new(format) else {
+        return Err(Status::BadFormat);
+    };
+    match N::from_strict_bytes(text, &format) {
+        Ok(number) => Ok(number),
+        Err(error) => Err(refused(error, at)),
+    }
+}
+
+/// Returns the status of an error of strict parsing, and writes the place of an unexpected byte.
+fn refused(error: StrictError, at: &mut usize) -> Status
+    ensures status { result ≡ status_of error }
+    ensures place { at.new ≡ place_of error at.old }
+{
+    match error {
+        StrictError::NotUtf8 => Status::NotUtf8,
+        StrictError::Unexpected { at: place } => {
+            *at = place;
+            Status::Unexpected
+        }
+        StrictError::NoDigit => Status::NoDigit,
+        StrictError::Misspelled => Status::Misspelled,
+        StrictError::OutOfRange => Status::OutOfRange,
+    }
+}
+
+/// Parses the text strictly as a signed number of that many bits, as [`parse_strict`] does.
+pub fn parse_strict_signed(
+    format: &NumFormat,
+    bits: u32,
+    text: &[u8],
+    at: &mut usize,
+) -> Result<i64, Status>
+    ensures { MatchOption (signed_kind bits) ((result ≡ Err BadBits) × (at.new ≡ at.old))
+        (λ k. ParsesExactly k (λ n. n) format.now text.now at.old at.new result) }
+{
+    match bits {
+        8 => Ok(parse_strict::<i8>(format, text, at)? as i64),
+        16 => Ok(parse_strict::<i16>(format, text, at)? as i64),
+        32 => Ok(parse_strict::<i32>(format, text, at)? as i64),
+        64 => parse_strict::<i64>(format, text, at),
+        _ => Err(Status::BadBits),
+    }
+}
+
+/// Parses the text strictly as an unsigned number of that many bits, as [`parse_strict`] does.
+pub fn parse_strict_unsigned(
+    format: &NumFormat,
+    bits: u32,
+    text: &[u8],
+    at: &mut usize,
+) -> Result<u64, Status>
+    ensures { MatchOption (unsigned_kind bits) ((result ≡ Err BadBits) × (at.new ≡ at.old))
+        (λ k. ParsesExactly k (λ n. pos n) format.now text.now at.old at.new result) }
+{
+    match bits {
+        8 => Ok(parse_strict::<u8>(format, text, at)? as u64),
+        16 => Ok(parse_strict::<u16>(format, text, at)? as u64),
+        32 => Ok(parse_strict::<u32>(format, text, at)? as u64),
+        64 => parse_strict::<u64>(format, text, at),
         _ => Err(Status::BadBits),
     }
 }

@@ -12,7 +12,7 @@ ghost use Rattle.std.specs.Prelude.{◌≡◌, ◌+◌, ◌*◌, ◌^◌, pos, M
 ghost use Rattle.num_format.specs.Alike.{Alike};
 ghost use Rattle.num_format.specs.Kind.{kind_of, I128, U128};
 ghost use Rattle.num_format.specs.RoundTrips.{RoundTrips};
-ghost use Rattle.num_format_c.specs.Calls.{Fails, FillsCustom, FillsLocale, ParsesInto, Prints, Tells, WritesName, signed_kind, signed_wide, unsigned_kind, unsigned_wide};
+ghost use Rattle.num_format_c.specs.Calls.{Fails, FillsCustom, FillsLocale, ParsesExactlyInto, ParsesInto, Prints, Tells, WritesName, signed_kind, signed_wide, unsigned_kind, unsigned_wide};
 ghost use Rattle.num_format_c.specs.declared.status.Status.TheVariants.{BadBits};
 ghost use Rattle.num_format_c.specs.Held.{HasFormat, format_of};
 
@@ -173,6 +173,99 @@ pub extern "C" fn num_format_parse_i128(
         (signed_wide low.old high.old) (signed_wide low.new high.new) result }
 {
     match calls::parse::<i128>(format, text) {
+        Ok(parsed) => {
+            split(parsed.cast_unsigned(), low, high);
+            0
+        }
+        Err(status) => status.code(),
+    }
+}
+
+/// Parses the text strictly as a signed number of 8, 16, 32 or 64 bits, writes the number, and returns 0.
+///
+/// Errors, in this order: another number of bits, a struct that has no format, and those of
+/// [`StrictError`](num_format::parsing::StrictError). The place of an unexpected byte is written.
+#[unsafe(no_mangle)]
+pub extern "C" fn num_format_parse_strict_i64(
+    format: &NumFormat,
+    bits: u32,
+    text: &[u8],
+    number: &mut i64,
+    at: &mut usize,
+) -> i32
+    ensures { MatchOption (signed_kind bits)
+        (Fails BadBits number.old number.new result × (at.new ≡ at.old))
+        (λ k. ParsesExactlyInto k format.now text.now number.old number.new at.old at.new result) }
+{
+    match calls::parse_strict_signed(format, bits, text, at) {
+        Ok(parsed) => {
+            *number = parsed;
+            0
+        }
+        Err(status) => status.code(),
+    }
+}
+
+/// Parses the text strictly as an unsigned number, as [`num_format_parse_strict_i64`] does as a signed one.
+#[unsafe(no_mangle)]
+pub extern "C" fn num_format_parse_strict_u64(
+    format: &NumFormat,
+    bits: u32,
+    text: &[u8],
+    number: &mut u64,
+    at: &mut usize,
+) -> i32
+    ensures { MatchOption (unsigned_kind bits)
+        (Fails BadBits (pos number.old) (pos number.new) result × (at.new ≡ at.old))
+        (λ k. ParsesExactlyInto k format.now text.now (pos number.old) (pos number.new) at.old at.new result) }
+{
+    match calls::parse_strict_unsigned(format, bits, text, at) {
+        Ok(parsed) => {
+            *number = parsed;
+            0
+        }
+        Err(status) => status.code(),
+    }
+}
+
+/// Parses the text strictly as a `u128`, writes the halves of the number, and returns 0.
+///
+/// The errors are those of [`num_format_parse_strict_i64`] but the first.
+#[unsafe(no_mangle)]
+pub extern "C" fn num_format_parse_strict_u128(
+    format: &NumFormat,
+    text: &[u8],
+    low: &mut u64,
+    high: &mut u64,
+    at: &mut usize,
+) -> i32
+    ensures { ParsesExactlyInto (kind_of U128) format.now text.now
+        (unsigned_wide low.old high.old) (unsigned_wide low.new high.new) at.old at.new result }
+{
+    match calls::parse_strict::<u128>(format, text, at) {
+        Ok(parsed) => {
+            split(parsed, low, high);
+            0
+        }
+        Err(status) => status.code(),
+    }
+}
+
+/// Parses the text strictly as an `i128`, writes the halves of its two's complement, and returns 0.
+///
+/// The errors are those of [`num_format_parse_strict_i64`] but the first.
+#[unsafe(no_mangle)]
+pub extern "C" fn num_format_parse_strict_i128(
+    format: &NumFormat,
+    text: &[u8],
+    low: &mut u64,
+    high: &mut u64,
+    at: &mut usize,
+) -> i32
+    ensures { ParsesExactlyInto (kind_of I128) format.now text.now
+        (signed_wide low.old high.old) (signed_wide low.new high.new) at.old at.new result }
+{
+    match calls::parse_strict::<i128>(format, text, at) {
         Ok(parsed) => {
             split(parsed.cast_unsigned(), low, high);
             0

@@ -21,6 +21,14 @@ pub enum Status {
     BadGrouping,
     /// No kind of number has that many bits.
     BadBits,
+    /// A byte belongs to no minus sign, digit or separator.
+    Unexpected,
+    /// The text has no digit.
+    NoDigit,
+    /// The text is not as its number is printed.
+    Misspelled,
+    /// The text is as its number is printed, and is refused as a number of the kind.
+    OutOfRange,
 }
 
 impl Status {
@@ -37,6 +45,10 @@ impl Status {
             Status::TooLong => -6,
             Status::BadGrouping => -7,
             Status::BadBits => -8,
+            Status::Unexpected => -9,
+            Status::NoDigit => -10,
+            Status::Misspelled => -11,
+            Status::OutOfRange => -12,
         }
     }
 }
