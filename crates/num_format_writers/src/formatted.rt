@@ -86,15 +86,18 @@ impl<'a, N: ToFormattedStr, F: Format> Drop for Formatted<'a, N, F> {
     }
 }
 
-/// Writes a text, filled up to the width of the formatter, to the right where no side is asked for.
+/// Writes a text, filled up to the width of the formatter in characters, to the right where no side is asked
+/// for. [`Formatted`] displays its text by it, and so can another type of number.
 ///
-/// [`Formatter::pad`](fmt::Formatter::pad) would cut the text to the precision, and
-/// [`Formatter::pad_integral`](fmt::Formatter::pad_integral) counts the bytes of separators.
-fn write_filled<W: fmt::Write>(text: &str, f: &mut fmt::Formatter<W>) -> fmt::Result
+/// # Errors
+///
+/// Returns the error of the first write that fails.
+pub fn write_filled<W: fmt::Write>(text: &str, f: &mut fmt::Formatter<W>) -> fmt::Result
     ensures { let spec = formatter_spec f.old in
         WritesStyledOnOk W.write_str_gives f.old result
         (filled (spec_width spec) (spec_align spec) (spec_fill spec) text.now) f.new }
 {
+    // `pad` would cut the text to the precision, and `pad_integral` counts the bytes of separators.
     let missing = f.width().unwrap_or(0).saturating_sub(char_count(text));
     let before = fill_before(f.align(), missing);
     let mut bytes = [0; 4];
