@@ -1,0 +1,177 @@
+-- The laws of decimals.
+use Rattle.std.proofs.Common.{◌≡◌, ℕ, zero, suc, ◌+◌, ◌-◌, ◌*◌, ◌/◌, ◌%◌, ◌^◌, ◌<◌, ◌≤◌, Bool, true, false, List, [], ◌++◌, length, refl, ap, ◌∙◌, sym, subst, arith, length-append, ℤ, pos, negsuc, unsigned_abs}
+use Rattle.std.specs.Prelude.{◌*ℤ◌, ◌<ℤ◌, neg_ℤ, nat_lt, nat_le, ◌==◌, ◌&&◌, ◌||◌, if◌then◌else◌}
+use Rattle.std.specs.Int.{is_negative}
+use Rattle.std.specs.Ordering.{int_cmp, MatchOrdering}
+use Rattle.std.specs.declared.cmp.Ordering.{Ordering}
+use Rattle.std.specs.declared.cmp.Ordering.TheVariants.{Less, Equal, Greater}
+use Rattle.std.proofs.Math.Nat.{div-add-mod, mod-lt, mul-le-mul, mul-le-mul_right}
+use Rattle.std.proofs.lemmas.Bool.Decides.{nat_tests}
+use Rattle.std.proofs.lemmas.Cmp.{int_ranked}
+use Rattle.num_format_text.specs.declared.grouping.Grouping.TheVariants.{Indian}
+use Rattle.num_format_text.specs.Format.{FormatData, IsWithinCapacity}
+use Rattle.num_format_int.specs.Digits.{digits}
+use Rattle.num_format_int.specs.Groups.{last_digits, plain}
+use Rattle.num_format_int.specs.Text.{body_of}
+use Rattle.num_format_int.proofs.GroupedLemmas.{length-grouped}
+use Rattle.num_format_decimal.specs.declared.rounding.Rounding.{Rounding}
+use Rattle.num_format_decimal.specs.declared.rounding.Rounding.TheVariants.{HalfEven, HalfAwayFromZero}
+use Rattle.num_format_decimal.specs.FixedPoint.{FixedPoint, fixed_point}
+use Rattle.num_format_decimal.specs.Laws.{IsNearest, OrderLaw, RoundingLaw, TextBoundLaw}
+use Rattle.num_format_decimal.specs.Rounded.{quotient, rounds_up}
+use Rattle.num_format_decimal.specs.Text.{decimal_text}
+use Rattle.num_format_decimal.specs.Values.{HasUnits, value_of}
+use Rattle.num_format_decimal.proofs.PartLemmas.{negative_multiple, negative_rank, one_rank, positive_rank, rank_of_negative, rank_of_positive, scale_parts}
+use Rattle.num_format_decimal.proofs.ScaleLemmas.{abs_le, at_least_half, power_positive}
+use Rattle.num_format_decimal.proofs.TextLemmas.{decimal_text-length, length-body, length-plain}
+
+-- multiples of two numbers are in their order
+scaled_rank : (a b k : ℕ) (o : Ordering) → 0 < k → MatchOrdering o (a < b) (a ≡ b) (b < a) → MatchOrdering o (a * k < b * k) (a * k ≡ b * k) (b * k < a * k)
+scaled_rank a b k Less some h =
+    let next : a + 1 ≤ b = omega arith in
+    omega (arith, mul-le-mul_right k next)
+scaled_rank a b k Equal some h = ap (λ n. n * k) h
+scaled_rank a b k Greater some h =
+    let next : b + 1 ≤ a = omega arith in
+    omega (arith, mul-le-mul_right k next)
+
+below_rank : (a b k : ℕ) (o : Ordering) → 0 < k → MatchOrdering o (a < b) (a ≡ b) (b < a) → MatchOrdering o (suc a * k - 1 < suc b * k - 1) (suc a * k - 1 ≡ suc b * k - 1) (suc b * k - 1 < suc a * k - 1)
+below_rank a b k Less some h =
+    let next : a + 1 ≤ b = omega arith in
+    omega (arith, mul-le-mul_right k next)
+below_rank a b k Equal some h = ap (λ n. suc n * k - 1) h
+below_rank a b k Greater some h =
+    let next : b + 1 ≤ a = omega arith in
+    omega (arith, mul-le-mul_right k next)
+
+scaled_cmp : (x y : ℤ) (k : ℕ) → 0 < k → int_cmp (x *ℤ pos k) (y *ℤ pos k) ≡ int_cmp x y
+scaled_cmp (pos a) (pos b) k some =
+    one_rank (pos (a * k)) (pos (b * k)) (int_cmp (pos (a * k)) (pos (b * k))) (int_cmp (pos a) (pos b)) (int_ranked (pos (a * k)) (pos (b * k)) _ refl)
+    (positive_rank (a * k) (b * k) (int_cmp (pos a) (pos b)) (scaled_rank a b k (int_cmp (pos a) (pos b)) some (rank_of_positive a b (int_cmp (pos a) (pos b)) (int_ranked (pos a) (pos b) _ refl))))
+scaled_cmp (pos a) (negsuc b) k some = ap (λ z. int_cmp (pos (a * k)) z) (negative_multiple b k some)
+scaled_cmp (negsuc a) (pos b) k some = ap (λ z. int_cmp z (pos (b * k))) (negative_multiple a k some)
+scaled_cmp (negsuc a) (negsuc b) k some =
+    let m = suc a * k - 1 in
+    let n = suc b * k - 1 in
+    ap (λ z. int_cmp z (negsuc b *ℤ pos k)) (negative_multiple a k some)
+    ∙ ap (λ z. int_cmp (negsuc m) z) (negative_multiple b k some)
+    ∙ one_rank (negsuc m) (negsuc n) (int_cmp (negsuc m) (negsuc n)) (int_cmp (negsuc a) (negsuc b)) (int_ranked (negsuc m) (negsuc n) _ refl)
+    (negative_rank m n (int_cmp (negsuc a) (negsuc b)) (below_rank b a k (int_cmp (negsuc a) (negsuc b)) some (rank_of_negative a b (int_cmp (negsuc a) (negsuc b)) (int_ranked (negsuc a) (negsuc b) _ refl))))
+
+-- two factors are one
+two_factors : (z : ℤ) (j k : ℕ) → 0 < j → z *ℤ pos j *ℤ pos k ≡ z *ℤ pos (j * k)
+two_factors (pos a) j k some =
+    let product : a * j * k ≡ a * (j * k) = omega arith in
+    ap pos product
+two_factors (negsuc a) j k some =
+    let whole : suc (suc a * j - 1) ≡ suc a * j = omega arith in
+    let product : suc a * j * k ≡ suc a * (j * k) = omega arith in
+    ap (λ z. z *ℤ pos k) (negative_multiple a j some) ∙ ap (λ n. neg_ℤ (pos n)) (ap (λ n. n * k) whole ∙ product)
+
+-- the value times both powers of ten
+value_times : (d : FixedPoint) (t : ℕ) → d.scale ≤ 38 → value_of d *ℤ pos (10 ^ d.scale * 10 ^ t) ≡ d.units *ℤ pos (10 ^ t) *ℤ pos (10 ^ 38)
+value_times d t few =
+    let j = 10 ^ (38 - d.scale) in
+    let p = 10 ^ d.scale in
+    let k = 10 ^ t in
+    let whole = scale_parts d.scale few in
+    let together : j * (p * k) ≡ k * 10 ^ 38 = omega (arith, ap (λ n. k * n) whole) in
+    two_factors d.units j (p * k) (power_positive (38 - d.scale))
+    ∙ ap (λ n. d.units *ℤ pos n) together
+    ∙ sym (two_factors d.units k (10 ^ 38) (power_positive t))
+
+pub order_law : OrderLaw
+order_law a b few other =
+    let p = 10 ^ a.scale in
+    let q = 10 ^ b.scale in
+    let both : 0 < p * q = positive_product p q (power_positive a.scale) (power_positive b.scale) in
+    let turned : q * p ≡ p * q = omega arith in
+    sym (scaled_cmp (value_of a) (value_of b) (p * q) both)
+    ∙ ap (λ z. int_cmp z (value_of b *ℤ pos (p * q))) (value_times a b.scale few)
+    ∙ ap (λ z. int_cmp (a.units *ℤ pos q *ℤ pos (10 ^ 38)) z) (ap (λ n. value_of b *ℤ pos n) (sym turned) ∙ value_times b a.scale other)
+    ∙ scaled_cmp (a.units *ℤ pos q) (b.units *ℤ pos p) (10 ^ 38) (power_positive 38)
+  where
+    positive_product : (p q : ℕ) → 0 < p → 0 < q → 0 < p * q
+    positive_product p q some given =
+        let first : 1 ≤ p = omega arith in
+        let second : 1 ≤ q = omega arith in
+        omega (arith, mul-le-mul first second)
+
+-- a part of a text that is there or not
+length-sign : (b : Bool) (sign : List ℕ) → length sign ≤ 8 → length (if b then sign else []) ≤ 8
+length-sign true sign short = short
+length-sign false sign short = omega arith
+
+length-decimals : (b : Bool) (mark : List ℕ) (k n : ℕ) → length mark ≤ 8 → length (if b then mark ++ plain (last_digits k n) else []) ≤ 8 + k
+length-decimals true mark k n short = omega (arith, length-append mark (plain (last_digits k n)), length-plain k n)
+length-decimals false mark k n short = omega arith
+
+text_fits : (f : FormatData) (d : FixedPoint) → IsWithinCapacity f → d.scale ≤ 38 → HasUnits d → length (decimal_text f d) ≤ 199
+text_fits f d within few fits =
+    let n = unsigned_abs d.units in
+    let small : n < 2 ^ 128 = omega (arith, abs_le d.units fits) in
+    omega (
+      arith,
+      decimal_text-length f d,
+      length-sign (is_negative d.units) f.minus_sign within.minus_sign,
+      length-body f n d.scale within.separator small few,
+      length-decimals (nat_lt 0 d.scale) f.decimal d.scale n within.decimal,
+    )
+
+longest_body : length (digits (2 ^ 127 / 10)) ≡ 38
+unfolding digits
+longest_body = refl
+
+text_reached : (f : FormatData) → f.grouping ≡ Indian → length f.separator ≡ 8 → length f.minus_sign ≡ 8 → length f.decimal ≡ 8 → length (decimal_text f (fixed_point (negsuc (2 ^ 127 - 1)) 1)) ≡ 199
+text_reached f indian separator minus_sign mark =
+    let body : length (body_of f (2 ^ 127 / 10)) ≡ 182 =
+    length-grouped f.grouping f.separator (digits (2 ^ 127 / 10)) ∙ rw (longest_body, indian, separator) in
+    omega (arith, decimal_text-length f (fixed_point (negsuc (2 ^ 127 - 1)) 1), body, minus_sign, length-append f.decimal (plain (last_digits 1 (2 ^ 127))), mark)
+
+pub text_bound_law : TextBoundLaw
+text_bound_law = record { bound = text_fits; reached = text_reached }
+
+-- a quotient that is rounded up, or not
+up_bounds : (m n : ℕ) → 0 < n → n ≤ 2 * (m % n) → (2 * ((m / n + 1) * n) ≤ 2 * m + n) × (2 * m ≤ 2 * ((m / n + 1) * n) + n)
+up_bounds m n positive half =
+    let whole = div-add-mod m n in
+    let below = mod-lt m positive in
+    (omega (arith, half, whole), omega (arith, whole, below))
+
+down_bounds : (m n : ℕ) → 2 * (m % n) ≤ n → (2 * ((m / n + 0) * n) ≤ 2 * m + n) × (2 * m ≤ 2 * ((m / n + 0) * n) + n)
+down_bounds m n half =
+    let whole = div-add-mod m n in
+    (omega (arith, whole), omega (arith, half, whole))
+
+up_or_down : (b : Bool) (m n : ℕ) → (b ≡ true → n ≤ 2 * (m % n)) → (b ≡ false → 2 * (m % n) ≤ n) → 0 < n →
+    (2 * ((m / n + (if b then 1 else 0)) * n) ≤ 2 * m + n) × (2 * m ≤ 2 * ((m / n + (if b then 1 else 0)) * n) + n)
+up_or_down true m n up down positive = up_bounds m n positive (up refl)
+up_or_down false m n up down positive = down_bounds m n (down refl)
+
+not_up_even : (q r n : ℕ) → rounds_up HalfEven q r n ≡ false → 2 * r ≤ n
+not_up_even q r n down = grind (arith, nat_tests)
+
+not_up_away : (q r n : ℕ) → rounds_up HalfAwayFromZero q r n ≡ false → 2 * r ≤ n
+not_up_away q r n down = grind (arith, nat_tests)
+
+even_bounds : (m n : ℕ) → 0 < n → (2 * (quotient HalfEven m n * n) ≤ 2 * m + n) × (2 * m ≤ 2 * (quotient HalfEven m n * n) + n)
+even_bounds m n positive =
+    up_or_down (rounds_up HalfEven (m / n) (m % n) n) m n (at_least_half HalfEven (m / n) (m % n) n) (not_up_even (m / n) (m % n) n) positive
+
+away_bounds : (m n : ℕ) → 0 < n → (2 * (quotient HalfAwayFromZero m n * n) ≤ 2 * m + n) × (2 * m ≤ 2 * (quotient HalfAwayFromZero m n * n) + n)
+away_bounds m n positive =
+    up_or_down (rounds_up HalfAwayFromZero (m / n) (m % n) n) m n (at_least_half HalfAwayFromZero (m / n) (m % n) n) (not_up_away (m / n) (m % n) n) positive
+
+half_to_even : (q r n : ℕ) → 2 * r ≡ n → (q + (if rounds_up HalfEven q r n then 1 else 0)) % 2 ≡ 0
+half_to_even q r n half = grind (arith, nat_tests)
+
+half_away : (q r n : ℕ) → 2 * r ≡ n → q + (if rounds_up HalfAwayFromZero q r n then 1 else 0) ≡ q + 1
+half_away q r n half = grind (arith, nat_tests)
+
+pub rounding_law : RoundingLaw
+rounding_law = record {
+  half_even = record { above = λ m n positive. (even_bounds m n positive).0; below = λ m n positive. (even_bounds m n positive).1 };
+  to_even = λ m n half. half_to_even (m / n) (m % n) n half;
+  half_away = record { above = λ m n positive. (away_bounds m n positive).0; below = λ m n positive. (away_bounds m n positive).1 };
+  away = λ m n half. half_away (m / n) (m % n) n half;
+}

@@ -1,0 +1,5 @@
+pub mod LawLemmas
+pub mod PartLemmas
+pub mod ScaleLemmas
+pub mod SumLemmas
+pub mod TextLemmas

@@ -1,0 +1,9 @@
+-- Numbers of a fixed number of decimals: their values, how they are rounded, and their texts.
+pub mod Comparing
+pub mod FixedPoint
+pub mod Laws
+pub mod Message
+pub mod Rounded
+pub mod Sums
+pub mod Text
+pub mod Values

@@ -1,0 +1,276 @@
+//! The type [`Decimal`], and what is converted to it.
+ghost use Rattle.std.specs.Prelude.{◌≡◌, ◌<◌, ◌≤◌, ◌^◌, pos, unsigned_abs, FitsSigned, IfErr, SomeIff};
+ghost use Rattle.std.specs.Int.{is_negative, w128};
+ghost use Rattle.std.specs.Result.{OkIff};
+ghost use Rattle.num_format_int.specs.Kind.{signed_number};
+ghost use Rattle.num_format_decimal.specs.FixedPoint.{fixed_point};
+ghost use Rattle.num_format_decimal.specs.Values.{HasUnits, whole};
+ghost use Rattle.num_format_decimal.specs.declared.error.DecimalError.TheVariants.{OutOfRange, ScaleTooLarge};
+
+use crate::error::DecimalError;
+use std::marker::Model;
+
+/// The largest scale: the most decimals that a number has.
+pub const MAX_SCALE: u8 = 38;
+
+/// A number with a fixed number of decimals: `units` divided by 10 to the power of `scale`, which is at most
+/// [`MAX_SCALE`].
+///
+/// The scale is a part of a decimal: 1.50 is printed with two decimals, and 1.5 with one. They compare as
+/// equal, since the order, `==` and `Hash` go by the value.
+///
+/// ```text
+/// Decimal::new(150, 2)?                              // 1.50
+/// Decimal::new(150, 2)? == Decimal::new(15, 1)?      // true
+/// Decimal::from(3)                                   // 3, at scale 0
+/// ```
+#[derive(Clone, Copy, Debug)]
+pub struct Decimal {
+    units: i128,
+    scale: u8,
+}
+
+impl Model for Decimal {
+    ghost use Rattle.std.specs.Prelude.{◌≤◌};
+    ghost use Rattle.num_format_decimal.specs.FixedPoint.{FixedPoint};
+    ghost use Rattle.num_format_decimal.specs.declared.decimal.TheConstants.{MAX_SCALE};
+
+    ghost Value = { FixedPoint };
+
+    ghost view = { λ d. record { units = d.units; scale = d.scale } };
+
+    ghost invariant = { λ d. d.scale ≤ MAX_SCALE };
+
+    ghost inverse = { λ d. record { units = d.units; scale = d.scale } };
+}
+
+impl Decimal {
+    /// Returns `units` divided by 10 to the power of `scale`.
+    ///
+    /// ```text
+    /// Decimal::new(-50, 2)?    // -0.50
+    /// ```
+    ///
+    /// # Errors
+    ///
+    /// Returns [`DecimalError::ScaleTooLarge`] exactly if the scale is larger than [`MAX_SCALE`].
+    pub fn new(units: i128, scale: u8) -> Result<Decimal, DecimalError>
+        ensures decimal { OkIff result (scale ≤ MAX_SCALE) (fixed_point units scale) }
+        ensures refused { IfErr result (λ e. e ≡ ScaleTooLarge) }
+    {
+        if scale > MAX_SCALE {
+            return Err(DecimalError::ScaleTooLarge);
+        }
+        Ok(Decimal::of(units, scale))
+    }
+
+    /// Returns `units` divided by 10 to the power of `scale`, which the caller knows to be at most
+    /// [`MAX_SCALE`]. [`new`](Decimal::new) tests that.
+    pub(crate) fn of(units: i128, scale: u8) -> Decimal
+        requires { scale ≤ MAX_SCALE }
+        ensures { result ≡ fixed_point units scale }
+    {
+        Decimal { units, scale }
+    }
+
+    /// Returns the decimal whose units have that sign and that absolute value, or `None` if they are no `i128`.
+    pub(crate) fn with_magnitude(is_negative: bool, magnitude: u128, scale: u8) -> Option<Decimal>
+        requires { scale ≤ MAX_SCALE }
+        ensures { let d = fixed_point (signed_number is_negative magnitude) scale in
+            SomeIff result (HasUnits d) d }
+    {
+        let units = with_sign(is_negative, magnitude)?;
+        Some(Decimal { units, scale })
+    }
+
+    /// Returns how many units the number is, of 10 to the power of minus the scale.
+    pub fn units(&self) -> i128
+        ensures { result ≡ self.now.units }
+    {
+        self.units
+    }
+
+    /// Returns whether the number is below zero.
+    pub fn is_negative(&self) -> bool
+        ensures { result ≡ is_negative self.now.units }
+    {
+        self.units.is_negative()
+    }
+
+    /// Returns the absolute value of the units.
+    pub(crate) fn magnitude(&self) -> u128
+        ensures magnitude { result ≡ unsigned_abs self.now.units }
+        ensures bound { result ≤ 2 ^ 127 }
+    {
+        self.units.unsigned_abs()
+    }
+
+    /// Returns the number of decimals, at most [`MAX_SCALE`].
+    pub fn scale(&self) -> u8
+        ensures scale { result ≡ self.now.scale }
+        ensures bound { result ≤ MAX_SCALE }
+    {
+        self.scale
+    }
+}
+
+/// Returns the number with that sign and that absolute value, or `None` if it is no `i128`.
+#[tactic(auto, using(crate::proofs::ScaleLemmas::zero_minus, crate::proofs::ScaleLemmas::zero_plus))]
+fn with_sign(is_negative: bool, magnitude: u128) -> Option<i128>
+    ensures { let z = signed_number is_negative magnitude in
+        SomeIff result (FitsSigned w128 z) z }
+{
+    if is_negative {
+        0i128.checked_sub_unsigned(magnitude)
+    } else {
+        i128::try_from(magnitude).ok()
+    }
+}
+
+impl From<u8> for Decimal {
+    ghost from_gives = { λ n d. d ≡ whole (pos n) };
+
+    /// Returns the number at scale 0.
+    fn from(n: u8) -> Decimal {
+        Decimal {
+            units: i128::from(n),
+            scale: 0,
+        }
+    }
+}
+
+impl From<u16> for Decimal {
+    ghost from_gives = { λ n d. d ≡ whole (pos n) };
+
+    /// Returns the number at scale 0.
+    fn from(n: u16) -> Decimal {
+        Decimal {
+            units: i128::from(n),
+            scale: 0,
+        }
+    }
+}
+
+impl From<u32> for Decimal {
+    ghost from_gives = { λ n d. d ≡ whole (pos n) };
+
+    /// Returns the number at scale 0.
+    fn from(n: u32) -> Decimal {
+        Decimal {
+            units: i128::from(n),
+            scale: 0,
+        }
+    }
+}
+
+impl From<u64> for Decimal {
+    ghost from_gives = { λ n d. d ≡ whole (pos n) };
+
+    /// Returns the number at scale 0.
+    fn from(n: u64) -> Decimal {
+        Decimal {
+            units: i128::from(n),
+            scale: 0,
+        }
+    }
+}
+
+impl From<usize> for Decimal {
+    ghost from_gives = { λ n d. d ≡ whole (pos n) };
+
+    /// Returns the number at scale 0.
+    fn from(n: usize) -> Decimal {
+        Decimal {
+            units: n as i128,
+            scale: 0,
+        }
+    }
+}
+
+impl From<i8> for Decimal {
+    ghost from_gives = { λ n d. d ≡ whole n };
+
+    /// Returns the number at scale 0.
+    fn from(n: i8) -> Decimal {
+        Decimal {
+            units: i128::from(n),
+            scale: 0,
+        }
+    }
+}
+
+impl From<i16> for Decimal {
+    ghost from_gives = { λ n d. d ≡ whole n };
+
+    /// Returns the number at scale 0.
+    fn from(n: i16) -> Decimal {
+        Decimal {
+            units: i128::from(n),
+            scale: 0,
+        }
+    }
+}
+
+impl From<i32> for Decimal {
+    ghost from_gives = { λ n d. d ≡ whole n };
+
+    /// Returns the number at scale 0.
+    fn from(n: i32) -> Decimal {
+        Decimal {
+            units: i128::from(n),
+            scale: 0,
+        }
+    }
+}
+
+impl From<i64> for Decimal {
+    ghost from_gives = { λ n d. d ≡ whole n };
+
+    /// Returns the number at scale 0.
+    fn from(n: i64) -> Decimal {
+        Decimal {
+            units: i128::from(n),
+            scale: 0,
+        }
+    }
+}
+
+impl From<i128> for Decimal {
+    ghost from_gives = { λ n d. d ≡ whole n };
+
+    /// Returns the number at scale 0.
+    fn from(n: i128) -> Decimal {
+        Decimal { units: n, scale: 0 }
+    }
+}
+
+impl From<isize> for Decimal {
+    ghost from_gives = { λ n d. d ≡ whole n };
+
+    /// Returns the number at scale 0.
+    fn from(n: isize) -> Decimal {
+        Decimal {
+            units: n as i128,
+            scale: 0,
+        }
+    }
+}
+
+impl TryFrom<u128> for Decimal {
+    type Error = DecimalError;
+
+    ghost try_from_gives = { λ n result. OkIff result (n < 2 ^ 127) (whole (pos n))
+        × IfErr result (λ e. e ≡ OutOfRange) };
+
+    /// Returns the number at scale 0.
+    ///
+    /// # Errors
+    ///
+    /// Returns [`DecimalError::OutOfRange`] exactly if the number is no `i128`.
+    fn try_from(n: u128) -> Result<Decimal, DecimalError> {
+        match i128::try_from(n) {
+            Ok(units) => Ok(Decimal { units, scale: 0 }),
+            Err(_) => Err(DecimalError::OutOfRange),
+        }
+    }
+}

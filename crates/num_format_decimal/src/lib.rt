@@ -1,0 +1,30 @@
+//! Numbers of a fixed number of decimals, as amounts of money are written: exact, and printed under any format
+//! of `num_format`.
+//!
+//! A [`Decimal`] is a whole number of units and a scale: 150 at scale 2 is 1.50.
+//!
+//! ```text
+//! let price = Decimal::new(123450, 2)?;
+//! price.to_formatted_string(alloc, &Locale::de)?                // 1.234,50
+//! price.rescale(1, Rounding::HalfEven)?                         // 1234.5
+//! price.checked_add(Decimal::from(1))                           // Some(1235.50)
+//! ```
+//!
+//! The contracts state which number each call returns, and the text of a number. They see a decimal as its units
+//! and its scale, `FixedPoint`.
+#![tactic(auto)]
+
+pub mod arithmetic;
+pub mod buffer;
+pub mod comparing;
+pub mod decimal;
+pub mod error;
+pub mod laws;
+pub mod printing;
+pub mod rounding;
+
+pub use buffer::{DecimalBuffer, MAX_DECIMAL_LEN};
+pub use decimal::{Decimal, MAX_SCALE};
+pub use error::DecimalError;
+pub use printing::FormattedDecimal;
+pub use rounding::Rounding;

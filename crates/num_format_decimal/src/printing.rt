@@ -1,0 +1,139 @@
+//! Decimals into strings and writers, and displayed in columns.
+ghost use Rattle.std.specs.Prelude.{◌≡◌, length, Some, IfOk, OnOk, string_bytes};
+ghost use Rattle.std.specs.Fmt.{spec_align, spec_fill, spec_width};
+ghost use Rattle.num_format_writers.specs.Columns.{filled};
+ghost use Rattle.num_format_writers.specs.Writing.{Writes};
+ghost use Rattle.num_format_decimal.specs.Text.{decimal_text};
+
+use crate::buffer::DecimalBuffer;
+use crate::decimal::Decimal;
+use num_format_text::Format;
+use num_format_writers::formatted::write_filled;
+use num_format_writers::to_formatted_string::write_whole;
+use std::alloc::{AllocError, Global};
+use std::marker::Model;
+use std::{fmt, io};
+
+impl Decimal {
+    /// Writes the text of the number to a writer of text, by one call of `write_str`. Returns the length of
+    /// the text in bytes.
+    ///
+    /// # Errors
+    ///
+    /// Returns the error of that call. The contract does not say what the writer received by then.
+    pub fn read_to_fmt_writer<F: Format, W: fmt::Write>(
+        &self,
+        w: &mut W,
+        format: &F,
+    ) -> Result<usize, fmt::Error>
+        ensures whole { OnOk result
+            (W.write_str_gives w.old (decimal_text (F.answers format.now) self.now) w.new) }
+        ensures count { IfOk result
+            (λ count. count ≡ length (decimal_text (F.answers format.now) self.now)) }
+    {
+        let buffer = DecimalBuffer::of(self, format);
+        w.write_str(buffer.as_str())?;
+        Ok(buffer.as_str().len())
+    }
+
+    /// Writes the text of the number to a writer of bytes, in as many writes as it takes. Returns the length
+    /// of the text in bytes.
+    ///
+    /// # Errors
+    ///
+    /// Returns the error of the first write that fails, also of one that was interrupted. A write of no bytes
+    /// is an error of kind [`WriteZero`](io::ErrorKind::WriteZero). The writer then received a prefix of the
+    /// text, and not all of it.
+    pub fn read_to_io_writer<F: Format, W: io::Write>(
+        &self,
+        w: &mut W,
+        format: &F,
+    ) -> Result<usize, io::Error>
+        ensures { Writes result (W.contents w.old) (W.contents w.new)
+            (decimal_text (F.answers format.now) self.now) }
+    {
+        let buffer = DecimalBuffer::of(self, format);
+        write_whole(buffer.as_bytes(), w)
+    }
+
+    /// Returns the text of the number as a new string.
+    ///
+    /// ```text
+    /// Decimal::new(123450, 2)?.to_formatted_string(alloc, &Locale::en)?      // 1,234.50
+    /// ```
+    ///
+    /// # Errors
+    ///
+    /// Returns an error if there is no memory for the string.
+    pub fn to_formatted_string<F: Format>(
+        &self,
+        alloc: Global,
+        format: &F,
+    ) -> Result<String, AllocError>
+        ensures { IfOk result
+            (λ text. string_bytes text ≡ decimal_text (F.answers format.now) self.now) }
+    {
+        let buffer = DecimalBuffer::of(self, format);
+        String::from_str(alloc, buffer.as_str())
+    }
+
+    /// Returns the number, to be displayed under the format. It needs no memory, and a width counts: see
+    /// [`FormattedDecimal`].
+    ///
+    /// ```text
+    /// println!(rt; "{:>12}", Decimal::new(123450, 2)?.formatted(&Locale::en))    // "    1,234.50"
+    /// ```
+    pub fn formatted<'a, F: Format>(&'a self, format: &'a F) -> FormattedDecimal<'a, F>
+        ensures { result ≡ decimal_text (F.answers format.now) self.now }
+    {
+        FormattedDecimal { d: self, format }
+    }
+}
+
+/// A decimal to be displayed under a format. A contract sees its text.
+///
+/// [`formatted`](Decimal::formatted) returns it. Width, fill and alignment count as for a
+/// [`Formatted`](num_format_writers::Formatted) whole number: the width is in characters, and the text stands
+/// to the right where no side is asked for. Precision, `+`, `#` and `0` are ignored. The text is never cut.
+pub struct FormattedDecimal<'a, F: Format> {
+    d: &'a Decimal,
+    format: &'a F,
+}
+
+impl<'a, F: Format> Model for FormattedDecimal<'a, F> {
+    ghost use Rattle.std.specs.Prelude.{ℕ, List};
+    ghost use Rattle.num_format_decimal.specs.Text.{decimal_text};
+
+    ghost Value = { List ℕ };
+
+    ghost view = { λ x. decimal_text (F.answers x.format.now) x.d.now };
+}
+
+impl<'a, F: Format> fmt::Display for FormattedDecimal<'a, F> {
+    ghost output = { λ text. Some text };
+
+    ghost styled_output = { λ text spec. Some (filled (spec_width spec) (spec_align spec)
+        (spec_fill spec) text) };
+
+    /// Writes the text of the number, filled up to the width.
+    #[tactic(auto, using(num_format_writers::proofs::ColumnLemmas::writes_plain))]
+    fn fmt<W: fmt::Write>(&self, f: &mut fmt::Formatter<W>) -> fmt::Result {
+        let buffer = DecimalBuffer::of(self.d, self.format);
+        write_filled(buffer.as_str(), f)
+    }
+}
+
+impl<'a, F: Format> fmt::Debug for FormattedDecimal<'a, F> {
+    ghost debug_output = { λ text. Some text };
+
+    /// Writes the bare text, as a [`DecimalBuffer`] does, filled up to the width.
+    fn fmt<W: fmt::Write>(&self, f: &mut fmt::Formatter<W>) -> fmt::Result {
+        fmt::Display::fmt(self, f)
+    }
+}
+
+impl<'a, F: Format> Drop for FormattedDecimal<'a, F> {
+    fn drop(self) {
+        let FormattedDecimal { d: _, format: _ } = self;
+    }
+}
