@@ -1,6 +1,6 @@
 -- Powers of ten, signs, and units at other scales.
 use Rattle.std.proofs.Common.{◌≡◌, ℕ, zero, suc, ◌+◌, ◌-◌, ◌*◌, ◌/◌, ◌%◌, ◌^◌, ◌<◌, ◌≤◌, Bool, true, false, refl, ap, ◌∙◌, sym, subst, inl, inr, arith, ℤ, pos, negsuc, unsigned_abs}
-use Rattle.std.specs.Prelude.{max, nat_lt, ◌+ℤ◌, ◌-ℤ◌, ◌*ℤ◌, ◌≤ℤ◌, neg_ℤ, not, FitsSigned, ◌≢◌, if◌then◌else◌}
+use Rattle.std.specs.Prelude.{◌+ℤ◌, ◌-ℤ◌, ◌*ℤ◌, ◌≤ℤ◌, neg_ℤ, not, FitsSigned, ◌≢◌, if◌then◌else◌}
 use Rattle.std.specs.Int.{cast_signed, is_negative, w128, IsNonZero, NotMinOverMinusOne}
 use Rattle.std.proofs.Math.Nat.{div-lt_self, div-one, mod-lt, mod-one, mul-mod_left, one-le-pow, pow-le-pow_right, pow-suc, zero-mod}
 use Rattle.std.proofs.lemmas.Bool.{cases_lt}
@@ -11,7 +11,7 @@ use Rattle.num_format_decimal.specs.declared.rounding.Rounding.{Rounding}
 use Rattle.num_format_decimal.specs.declared.rounding.Rounding.TheVariants.{HalfEven, HalfAwayFromZero, TowardZero, Exact}
 use Rattle.num_format_decimal.specs.FixedPoint.{FixedPoint, fixed_point}
 use Rattle.num_format_decimal.specs.Rounded.{CanRescale, LosesDigits, LosesRemainder, dividend, divisor, quotient, rescaled, rounds_up}
-use Rattle.num_format_decimal.specs.Values.{HasUnits, negated, plus, units_at}
+use Rattle.num_format_decimal.specs.Values.{HasUnits, negated, units_at}
 
 -- powers of ten up to the largest scale
 pub power_le : (e : ℕ) → e ≤ 38 → 10 ^ e ≤ 10 ^ 38

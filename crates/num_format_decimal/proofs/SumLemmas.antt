@@ -1,5 +1,5 @@
 -- Sums of numbers by their signs and absolute values.
-use Rattle.std.proofs.Common.{◌≡◌, ℕ, ◌+◌, ◌-◌, ◌^◌, ◌<◌, ◌≤◌, Bool, true, false, refl, ap, ◌∙◌, sym, subst, arith, ℤ, unsigned_abs}
+use Rattle.std.proofs.Common.{◌≡◌, ℕ, ◌+◌, ◌-◌, ◌^◌, ◌<◌, ◌≤◌, Bool, true, false, refl, ap, ◌∙◌, sym, subst, arith, unsigned_abs}
 use Rattle.std.specs.Prelude.{max, not, ◌+ℤ◌, FitsSigned, SomeIff, Option}
 use Rattle.std.specs.Int.{is_negative, w128}
 use Rattle.std.proofs.lemmas.Int.{ints}

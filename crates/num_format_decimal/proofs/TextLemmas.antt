@@ -1,17 +1,17 @@
 -- The length of a decimal's text, and its decimals.
-use Rattle.std.proofs.Common.{◌≡◌, ℕ, zero, suc, ◌+◌, ◌-◌, ◌*◌, ◌/◌, ◌%◌, ◌^◌, ◌<◌, ◌≤◌, Bool, true, false, List, [], ◌∷◌, ◌++◌, length, drop, take, refl, ap, ◌∙◌, sym, arith, inl, inr, append-nil, append_assoc, length-append, ℤ, pos, negsuc, unsigned_abs}
-use Rattle.std.specs.Prelude.{nat_lt, if◌then◌else◌, FitsSigned}
+use Rattle.std.proofs.Common.{◌≡◌, ℕ, zero, suc, ◌+◌, ◌-◌, ◌/◌, ◌%◌, ◌^◌, ◌<◌, ◌≤◌, true, false, List, [], ◌∷◌, ◌++◌, length, drop, take, refl, ap, ◌∙◌, sym, arith, inl, inr, append-nil, append_assoc, length-append, pos, unsigned_abs}
+use Rattle.std.specs.Prelude.{nat_lt, if◌then◌else◌}
 use Rattle.std.specs.Fmt.{decimal}
-use Rattle.std.specs.Int.{is_negative, w128}
+use Rattle.std.specs.Int.{is_negative}
 use Rattle.std.proofs.Math.Nat.{mul-le-mul, div-eq_of_lt, mod-lt}
 use Rattle.std.proofs.lemmas.List.{length-map, take_rest}
 use Rattle.std.proofs.lemmas.Bool.{cases_lt}
 use Rattle.std.proofs.lemmas.Bool.Decides.{nat_tests}
 use Rattle.num_format_text.specs.declared.grouping.Grouping.{Grouping}
 use Rattle.num_format_text.specs.declared.grouping.Grouping.TheVariants.{Standard, Indian, Posix, Myriad, Sparse}
-use Rattle.num_format_text.specs.Format.{FormatData, IsWithinCapacity}
+use Rattle.num_format_text.specs.Format.{FormatData}
 use Rattle.num_format_int.specs.Digits.{digits}
-use Rattle.num_format_int.specs.Grouped.{separators, grouped}
+use Rattle.num_format_int.specs.Grouped.{separators}
 use Rattle.num_format_int.specs.Groups.{last_digits, plain}
 use Rattle.num_format_int.specs.Text.{body_of, text_of}
 use Rattle.num_format_int.proofs.DigitLemmas.{decimal-digits, digits-leading_one, digits-small, length-digits-le39, length-digits-split, length-last_digits, last_digits-mod}

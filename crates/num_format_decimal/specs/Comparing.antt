@@ -1,10 +1,10 @@
 -- Equal values are hashed alike.
-use Rattle.std.specs.Prelude.{◌≡◌, true, ℤ, pos, ◌^◌, unsigned_abs, List, ℕ, ◌++◌, IsTrue}
-use Rattle.std.proofs.Common.{ap, refl, sym, ◌∙◌}
+use Rattle.std.specs.Prelude.{◌≡◌, true, ℤ, pos, ◌^◌, unsigned_abs, ◌++◌, IsTrue}
+use Rattle.std.proofs.Common.{ap, sym}
 use Rattle.std.specs.Cmp.{Equal-is, int_ranked}
 use Rattle.std.specs.Hash as fed
 use Rattle.std.specs.Int.{int_div_euclid, int_rem_euclid}
-use Rattle.std.specs.Ordering.{int_cmp, int_eq, MatchOrdering, on}
+use Rattle.std.specs.Ordering.{int_cmp, int_eq, on}
 use Rattle.std.specs.declared.cmp.Ordering.TheVariants.{Equal}
 use Rattle.num_format_decimal.specs.declared.decimal.TheConstants.{MAX_SCALE}
 use Rattle.num_format_decimal.specs.FixedPoint.{FixedPoint}
