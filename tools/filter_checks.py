@@ -13,6 +13,7 @@ import sys
 import tempfile
 from pathlib import Path
 
+import lengths
 from tally import CLOSE, ROOT, RUN_SECONDS, Tally, heading, run
 
 CRATE = ROOT / "crates" / "regroup_filter"
@@ -41,6 +42,10 @@ INPUTS = [
     ("en", "custom::Indian:", b"-100000\n", 0, b"100000\n", b""),
     ("custom:.:Myriad:m", "en", b"m1.0000\n-7\n", 0, b"-10,000\n7\n", b""),
     ("en", "custom: :Sparse:-", b"1,234\n12,345\n", 0, b"1234\n12 345\n", b""),
+    # Formats whose separator and minus sign have digits, or whose minus sign is empty.
+    ("en", "custom:7:Standard:17", b"1,000\n-1000\n", 0, b"17000\n1717000\n", b""),
+    ("custom:7:Standard:17", "en", b"17000\n5\n", 0, b"-17,000\n5\n", b""),
+    ("custom:,:Standard:", "en", b"5\n1,000\n", 0, b"-5\n-1,000\n", b""),
     ("en", "de", b"\n", 1, b"", b"line 1: " + unparsed(b"")),
     ("en", "de", b"1\n2\n\n4\n", 1, b"1\n2\n", b"line 3: " + unparsed(b"")),
     ("en", "de", b"1\r\n\r\n", 1, b"1\n", b"line 2: " + unparsed(b"\r")),
@@ -121,6 +126,23 @@ def check_inputs(tally, program):
     for source, target, text, *expected in INPUTS:
         name = f"{source} {target} {shown(text)}"
         compare(tally, name, regroup(program, [source, target], text), *expected)
+    for grouping in lengths.LONGEST:
+        check_lengths(tally, program, grouping)
+
+
+def check_lengths(tally, program, grouping):
+    """Regroups numbers whose texts have each length, all of one custom format at once."""
+    cases = {}
+    for separator, minus_sign, number, text in lengths.under(grouping):
+        cases.setdefault((separator, minus_sign), []).append((f"{number}\n", f"{text}\n"))
+    problems = []
+    for (separator, minus_sign), lines in cases.items():
+        given, expected = map("".join, zip(*lines))
+        words = ["en", f"custom:{separator}:{grouping}:{minus_sign}"]
+        ended = regroup(program, words, given.encode())
+        if (ended.returncode, ended.stdout, ended.stderr) != (0, expected.encode(), b""):
+            problems.append(f"{words!r}: {ended!r}")
+    tally.add(f"{grouping}, a text of each length", "; ".join(problems[:3]))
 
 
 def check_words(tally, program):
@@ -133,10 +155,11 @@ def check_words(tally, program):
 
 def check_open_input(tally, program):
     """Words that do not name two formats end the program before it reads, so an open input is no matter."""
-    how = {"stdin": subprocess.PIPE, "stdout": subprocess.PIPE, "stderr": subprocess.PIPE}
-    with subprocess.Popen([program, "en"], **how) as ended:
-        found = (ended.stderr.read(), ended.stdout.read(), ended.wait(RUN_SECONDS))
-    tally.compare("an input that stays open", found, (USAGE, b"", 2))
+    read_end, write_end = os.pipe()
+    ended = run([program, "en"], stdin=read_end, capture_output=True)
+    os.close(read_end)
+    os.close(write_end)
+    compare(tally, "an input that stays open", ended, 2, b"", USAGE)
 
 
 def check_failures(tally, program):

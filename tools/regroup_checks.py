@@ -1,4 +1,5 @@
 """Runs the program `regroup` with words of each status, and with outputs that are full or closed."""
+import lengths
 from locales import members, sections
 from tally import compare_failed, run, shown
 
@@ -96,3 +97,16 @@ def check_all(tally, program):
         tally.compare(shown(words), (ended.returncode, ended.stdout, ended.stderr), expected)
     for words, output in PRINTING:
         compare_failed(tally, [program, *words], output, FAILED[:2])
+    for grouping in lengths.LONGEST:
+        check_lengths(tally, program, grouping)
+
+
+def check_lengths(tally, program, grouping):
+    """Prints a number whose text has each length, under custom formats."""
+    problems = []
+    for separator, minus_sign, number, text in lengths.under(grouping):
+        words = ["custom", separator, grouping, minus_sign, str(number)]
+        ended = run([program, *words], capture_output=True)
+        if (ended.returncode, ended.stdout, ended.stderr) != (0, f"{text}\n".encode(), b""):
+            problems.append(f"{words!r}: {ended!r}")
+    tally.add(f"custom, {grouping}, a text of each length", "; ".join(problems[:3]))

@@ -16,9 +16,10 @@ In this order:
 4. tools/program_checks.py runs test_streams with such outputs, test_oracle with cases of
    each kind but one, and test_properties with each property negated.
 5. tools/filter_checks.py runs `regroup-lines` on good, bad and long input.
-6. tools/memory_checks.py runs `regroup`, `regroup-lines` and each test of memory as often as it makes
+6. tools/ledger_checks.py runs uses_ledger on good, bad and long ledgers, and where a read or a write fails.
+7. tools/memory_checks.py runs `regroup`, `regroup-lines` and each test of memory as often as it makes
    requests for memory, each time with another one refused.
-7. tools/library_checks.py runs the programs of examples/ over the library for C, which was built beside
+8. tools/library_checks.py runs the programs of examples/ over the library for C, which was built beside
    `rt ci`, and holds it to its header.
 
 The last lines name each check that was skipped and why, and say how many passed and failed in all.
@@ -32,6 +33,7 @@ import subprocess
 import sys
 
 import filter_checks
+import ledger_checks
 import library_checks
 import memory_checks
 import program_checks
@@ -46,6 +48,7 @@ CHECKS = {
     program_checks.ORACLE.name: program_checks.check_oracle,
     program_checks.PROPERTIES.name: program_checks.check_properties,
     filter_checks.CRATE.name: filter_checks.check_all,
+    ledger_checks.CRATE.name: ledger_checks.check_all,
 }
 
 # How the name of a program ends as each of the two compilers builds it.
