@@ -1,4 +1,5 @@
-"""Refuses each request for memory of the programs and of the tests of memory in turn.
+"""Refuses each request for memory of the programs and of the tests of memory in turn, and counts those of
+calls that take none.
 
 tools/refuse_memory.c refuses and counts them. A C compiler builds it: where there is none, the checks are
 skipped.
@@ -15,6 +16,10 @@ from tally import CC, ROOT, heading, run, shown
 # The crate that has the tests of memory, and how its executable file lists them.
 CRATE = "test_hostile"
 TEST = re.compile(r"^(memory::\w+): test$", re.M)
+
+# How it lists those of calls that take no memory, and how many requests one makes before them.
+FREE_TEST = re.compile(r"^(without_memory::\w+): test$", re.M)
+REQUESTS_BEFORE = {"without_memory::a_string_is_parsed": 1}
 
 # How a test of memory ends, and how with any request refused: the status and both outputs.
 PASSED = (0, b"\ntest result: ok\n", b"")
@@ -67,13 +72,16 @@ def refuse_to_program(tally, library, program, commands):
 
 
 def refuse_to_tests(tally, library, tests):
-    """A test of memory passes, and prints that a request was refused."""
+    """A test of memory passes, and prints that a request was refused. Other tests make no request."""
     listed = run([tests, "--list"], capture_output=True) if tests.is_file() else None
-    names = TEST.findall(listed.stdout.decode()) if listed else []
-    if not names:
+    listed = listed.stdout.decode() if listed else ""
+    names, free = TEST.findall(listed), FREE_TEST.findall(listed)
+    if not names or not free:
         tally.add(tests.name, "it was not built, or lists no tests of memory")
     for name in names:
         refuse_each(tally, library, name, [tests, name], PASSED, [PASSED_REFUSED])
+    for name in free:
+        count(tally, library, name, [tests, name], PASSED, REQUESTS_BEFORE.get(name, 0))
 
 
 def count(tally, library, name, words, whole, requests):

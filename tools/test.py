@@ -18,7 +18,7 @@ In this order:
 5. tools/filter_checks.py runs `regroup-lines` on good, bad and long input.
 6. tools/ledger_checks.py runs uses_ledger on good, bad and long ledgers, and where a read or a write fails.
 7. tools/memory_checks.py runs `regroup`, `regroup-lines` and each test of memory as often as it makes
-   requests for memory, each time with another one refused.
+   requests for memory, each time with another one refused, and counts those of calls that take none.
 8. tools/library_checks.py runs the programs of examples/ over the library for C, which was built beside
    `rt ci`, and holds it to its header.
 

@@ -18,6 +18,7 @@
 //! | `stream` | the program `regroup-lines` where its input, an output or a flush fails |
 //! | `program` | commands of `regroup` whose outputs fail at each of their writes |
 //! | `memory` | calls that take memory, where it is refused |
+//! | `without_memory` | calls that take none |
 #![tactic(auto)]
 
 #[cfg(test)]
@@ -38,6 +39,8 @@ mod scripted_reader;
 mod stream;
 #[cfg(test)]
 mod text;
+#[cfg(test)]
+mod without_memory;
 
 pub use scripted::{Scripted, Step};
 pub use scripted_reader::{ReadStep, ScriptedReader};
