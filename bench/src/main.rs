@@ -24,7 +24,7 @@ use std::error::Error;
 use std::hint::black_box;
 use std::time::{Duration, Instant};
 use table::{Cell, Table, Times};
-use texts::Texts;
+use texts::{Cause, Texts};
 
 // Unused bytes, which the linker keeps and places before the code of the libraries.
 global_asm!(
@@ -54,6 +54,15 @@ pub const C_READING: &str = "through C, read";
 
 /// The operation that groupings are compared by.
 const USED_BUFFER: &str = "used Buffer";
+
+/// Refusing of texts by strict parsing, which has kinds of text.
+pub const REFUSE_STRICTLY: &str = "refuse strictly";
+
+/// Looking tags up, which has kinds of text.
+pub const LOOK_UP_TAG: &str = "look up a tag";
+
+/// The types that are read strictly.
+const STRICT_TYPES: [&str; 3] = ["u8", "i64", "u128"];
 
 /// The ways of printing, in the order of their codes, and whether all types are printed so.
 const WAYS: [(&str, bool); 4] = [
@@ -111,6 +120,22 @@ impl Run {
         self.measure_sizes::<N>("read", &FORMATS, |name, sizes, format| {
             measure_reading::<N>(name, &sizes.batch(), format as u8)
         });
+        if STRICT_TYPES.contains(&N::NAME) {
+            self.measure_sizes::<N>("read strictly", &FORMATS, |name, sizes, format| {
+                let numbers = sizes.batch::<N>();
+                let texts = Texts::formatted(&numbers, format as u8);
+                measure_strict_reading(name, &numbers, &texts, format as u8)
+            });
+            self.measure_sizes::<N>(
+                "read plain digits strictly",
+                &["en"],
+                |name, sizes, format| {
+                    let numbers = sizes.batch::<N>();
+                    let texts = Texts::plain(&numbers);
+                    measure_strict_reading(name, &numbers, &texts, format as u8)
+                },
+            );
+        }
         let mut refuse = |operation, texts: Vec<String>| {
             let cell = Cell {
                 operation: "refuse",
@@ -130,6 +155,46 @@ impl Run {
             texts::with_other_numeral::<N>(&mut random),
         );
         refuse("out of range", texts::out_of_range::<N>(&mut random));
+    }
+
+    /// Measures what strict parsing refuses, by the cause, as a type.
+    fn measure_strict_refusing<N: Number>(&mut self) {
+        let mut random = Random::new();
+        let mut refuse = |kind: &'static str, texts: Vec<(String, Cause)>| {
+            let cell = Cell {
+                operation: REFUSE_STRICTLY,
+                format: "",
+                type_name: N::NAME,
+                sizes: String::from(kind),
+                group: kind,
+            };
+            let (texts, causes): (Vec<String>, Vec<Cause>) = texts.into_iter().unzip();
+            self.measure(cell, |name| {
+                measure_strict_refusing::<N>(name, &Texts::from_all(texts), &causes)
+            });
+        };
+        refuse(
+            "unexpected byte: decimals",
+            texts::with_decimals::<N>(&mut random),
+        );
+        refuse("no digit", texts::signs_alone::<N>(&mut random));
+        refuse(
+            "misspelled: leading zero",
+            texts::with_leading_zero::<N>(&mut random),
+        );
+        refuse(
+            "misspelled: long group",
+            texts::with_long_group::<N>(&mut random),
+        );
+        refuse(
+            "misspelled: separator at the end",
+            texts::with_separator_at_end::<N>(&mut random),
+        );
+        refuse(
+            "misspelled: a separator missing",
+            texts::without_a_separator::<N>(&mut random),
+        );
+        refuse("out of range", texts::too_large::<N>(&mut random));
     }
 
     /// Measures the groupings that the original does not have at all sizes of a type.
@@ -209,6 +274,16 @@ impl Run {
                 group,
             };
             self.measure(cell, |name| measure_names(name, &texts));
+            if !group.starts_with("refused") {
+                let cell = Cell {
+                    operation: LOOK_UP_TAG,
+                    format: "",
+                    type_name: "Locale",
+                    sizes: String::from(group),
+                    group,
+                };
+                self.measure(cell, |name| measure_tags(name, &texts));
+            }
         }
     }
 }
@@ -363,6 +438,93 @@ fn measure_reading<N: Number>(name: &str, numbers: &[N], format: u8) -> Times {
     }
 }
 
+/// Measures strict reading of texts of numbers beside the original, which does not read strictly, and
+/// beside the port's own reading.
+fn measure_strict_reading<N: Number>(
+    name: &str,
+    numbers: &[N],
+    texts: &Texts,
+    format: u8,
+) -> Times {
+    let Texts { text, lengths } = texts;
+    let mut strictly = vec![N::default(); numbers.len()];
+    let mut theirs = strictly.clone();
+    let mut leniently = strictly.clone();
+    let [port, original, reference] = best(
+        numbers.len(),
+        [
+            &mut || {
+                let format = black_box(format);
+                let accepted =
+                    rattle::read_strictly(black_box(text), lengths, format, &mut strictly);
+                assert_eq!(accepted, BATCH as u64, "{name}");
+            },
+            &mut || {
+                let accepted =
+                    original::read(black_box(text), lengths, black_box(format), &mut theirs);
+                assert_eq!(accepted, BATCH as u64, "{name}");
+            },
+            &mut || {
+                let accepted =
+                    rattle::read(black_box(text), lengths, black_box(format), &mut leniently);
+                assert_eq!(accepted, BATCH as u64, "{name}");
+            },
+        ],
+    );
+    for read in [strictly, theirs, leniently] {
+        assert!(read == numbers, "{name}");
+    }
+    Times {
+        port,
+        original: Some(original),
+        reference: Some(reference),
+        floor: None,
+    }
+}
+
+/// Measures strict refusing of texts beside the port's own reading, which accepts some of them.
+fn measure_strict_refusing<N: Number>(name: &str, texts: &Texts, causes: &[Cause]) -> Times {
+    let Texts { text, lengths } = texts;
+    let untouched = vec![N::default(); lengths.len()];
+    let mut strictly = untouched.clone();
+    let mut leniently = untouched.clone();
+    let mut sum = 0;
+    let [port, reference] = best(
+        lengths.len(),
+        [
+            &mut || sum = rattle::read_strictly(black_box(text), lengths, 0, &mut strictly),
+            &mut || _ = black_box(rattle::read(black_box(text), lengths, 0, &mut leniently)),
+        ],
+    );
+    assert_eq!(sum, Cause::sum(causes), "{name}");
+    assert!(strictly == untouched, "{name}");
+    Times {
+        port,
+        original: None,
+        reference: Some(reference),
+        floor: None,
+    }
+}
+
+/// Measures looking names up as tags beside looking them up as names.
+fn measure_tags(name: &str, texts: &Texts) -> Times {
+    let (mut tags, mut names) = (0, 0);
+    let [port, reference] = best(
+        texts.lengths.len(),
+        [
+            &mut || tags = rattle::look_up(black_box(&texts.text), &texts.lengths),
+            &mut || names = rattle::find(black_box(&texts.text), &texts.lengths),
+        ],
+    );
+    assert_eq!(tags, names, "{name}");
+    Times {
+        port,
+        original: None,
+        reference: Some(reference),
+        floor: None,
+    }
+}
+
 /// Measures refusing of texts.
 fn measure_refusing<N: Number>(name: &str, texts: &Texts) -> Times {
     let Texts { text, lengths } = texts;
@@ -451,6 +613,8 @@ fn main() -> Result<(), Box<dyn Error>> {
         run.measure_groupings::<i64>();
         run.measure_groupings::<u64>();
         run.measure_groupings::<u128>();
+        run.measure_strict_refusing::<i64>();
+        run.measure_strict_refusing::<u128>();
         run.measure_c();
         run.measure_names();
     }

@@ -1,10 +1,16 @@
 //! The Rattle crate, called through the static library `test_bench`.
 
+/// The code of parsing that ignores what is no digit.
+const LENIENT: u8 = 0;
+
+/// The code of strict parsing.
+const STRICT: u8 = 1;
+
 /// The library's functions for an integer type.
 pub struct Functions<N> {
     print: unsafe extern "C" fn(*const N, usize, u8, u8) -> u64,
     texts: unsafe extern "C" fn(*const N, usize, u8, u8, *mut u8, usize) -> usize,
-    read: unsafe extern "C" fn(*const u8, usize, *const usize, usize, u8, *mut N, usize) -> u64,
+    read: unsafe extern "C" fn(*const u8, usize, *const usize, usize, u8, u8, *mut N, usize) -> u64,
 }
 
 /// An integer type that the library prints and reads.
@@ -30,6 +36,7 @@ macro_rules! impl_exported {
                 texts_len: usize,
                 lengths: *const usize,
                 lengths_len: usize,
+                way: u8,
                 format: u8,
                 numbers: *mut $type,
                 numbers_len: usize,
@@ -63,6 +70,12 @@ unsafe extern "C" {
         lengths: *const usize,
         lengths_len: usize,
     ) -> u64;
+    fn rattle_look_up(
+        tags: *const u8,
+        tags_len: usize,
+        lengths: *const usize,
+        lengths_len: usize,
+    ) -> u64;
     fn rattle_name(text: *const u8, text_len: usize, name: *mut u8, name_len: usize) -> usize;
 }
 
@@ -93,12 +106,33 @@ pub fn texts<N: Exported>(numbers: &[N], way: u8, format: u8) -> String {
 
 /// Reads texts of the lengths, and returns how many were accepted, plus a sum over the errors.
 pub fn read<N: Exported>(texts: &str, lengths: &[usize], format: u8, numbers: &mut [N]) -> u64 {
+    read_in_way(texts, lengths, LENIENT, format, numbers)
+}
+
+/// Reads texts of the lengths strictly, and returns how many were accepted, plus a sum over the errors.
+pub fn read_strictly<N: Exported>(
+    texts: &str,
+    lengths: &[usize],
+    format: u8,
+    numbers: &mut [N],
+) -> u64 {
+    read_in_way(texts, lengths, STRICT, format, numbers)
+}
+
+fn read_in_way<N: Exported>(
+    texts: &str,
+    lengths: &[usize],
+    way: u8,
+    format: u8,
+    numbers: &mut [N],
+) -> u64 {
     unsafe {
         (N::FUNCTIONS.read)(
             texts.as_ptr(),
             texts.len(),
             lengths.as_ptr(),
             lengths.len(),
+            way,
             format,
             numbers.as_mut_ptr(),
             numbers.len(),
@@ -109,6 +143,11 @@ pub fn read<N: Exported>(texts: &str, lengths: &[usize], format: u8, numbers: &m
 /// Looks up names of the lengths, and returns how many are names of `en`, plus a sum over the errors.
 pub fn find(names: &str, lengths: &[usize]) -> u64 {
     unsafe { rattle_find(names.as_ptr(), names.len(), lengths.as_ptr(), lengths.len()) }
+}
+
+/// Looks up tags of the lengths, and returns how many are tags of `en`.
+pub fn look_up(tags: &str, lengths: &[usize]) -> u64 {
+    unsafe { rattle_look_up(tags.as_ptr(), tags.len(), lengths.as_ptr(), lengths.len()) }
 }
 
 /// The name of the locale that the text names.

@@ -1,6 +1,6 @@
 //! What was measured: a line for each cell, and the table by operation, digits and format.
 
-use crate::{C_PRINTING, C_READING};
+use crate::{C_PRINTING, C_READING, LOOK_UP_TAG, REFUSE_STRICTLY};
 use std::collections::HashMap;
 use std::fs;
 use std::io;
@@ -17,7 +17,15 @@ const COLUMNS: [(&str, &[&str]); 7] = [
 ];
 
 /// The operations whose cells are by kind of text, and not by digits and format.
-const BY_KIND: [&str; 2] = ["refuse", "look up"];
+const BY_KIND: [&str; 4] = ["refuse", "look up", REFUSE_STRICTLY, LOOK_UP_TAG];
+
+/// The operations that are compared with another call of the port.
+const BESIDE_THE_PORT: [&str; 4] = [
+    "read strictly",
+    "read plain digits strictly",
+    REFUSE_STRICTLY,
+    LOOK_UP_TAG,
+];
 
 /// The rows that are by digits, in order.
 pub const GROUPS: [&str; 7] = [
@@ -162,6 +170,8 @@ impl Table {
         for operation in self.distinct(by_digits, |cell| cell.operation) {
             self.print_ratios(operation, Times::ratio);
         }
+        println!("\nPort / port, of strict parsing and of tags: median, highest");
+        self.print_ratios_of(&BESIDE_THE_PORT, Times::ratio_to_reference);
         println!("\nPort / port under Standard: median, highest");
         self.print_ratios("used Buffer", Times::ratio_to_reference);
         println!("\nPort through C / port: median, highest");
@@ -175,11 +185,17 @@ impl Table {
         }
     }
 
-    /// Prints the ratios to the original over all cells of each operation, or of each of its kinds of
-    /// text.
+    /// Prints the ratios to the original over all cells of each operation.
     fn print_operations(&self) {
+        let has_original = |_: &Cell, times: &Times| times.original.is_some();
+        let operations = self.distinct(has_original, |cell| cell.operation);
+        self.print_ratios_of(&operations, Times::ratio);
+    }
+
+    /// Prints ratios over all cells of each operation, or of each of its kinds of text.
+    fn print_ratios_of(&self, operations: &[&'static str], ratio: fn(&Times) -> Option<f64>) {
         println!("\n| Operation | Median | Highest | Cell of the highest |\n|---|---|---|---|");
-        for operation in self.distinct(|_, times| times.original.is_some(), |cell| cell.operation) {
+        for &operation in operations {
             let is_here = |cell: &Cell, _: &Times| cell.operation == operation;
             let parts = if BY_KIND.contains(&operation) {
                 self.distinct(is_here, |cell| cell.group)
@@ -190,7 +206,7 @@ impl Table {
                 let is_part = |cell: &Cell| {
                     cell.operation == operation && (part.is_empty() || cell.group == part)
                 };
-                if let Some((median, highest, cell)) = self.summary(is_part, Times::ratio) {
+                if let Some((median, highest, cell)) = self.summary(is_part, ratio) {
                     let name = [operation, part].join(" ");
                     let (median, highest) = (short(median), short(highest));
                     println!(

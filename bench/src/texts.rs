@@ -75,3 +75,95 @@ pub fn out_of_range<N: Number>(_: &mut Random) -> Vec<String> {
     };
     texts.lines().map(raise).collect()
 }
+
+/// Why strict parsing refuses a text, by the number that the library adds to its sum.
+#[derive(Clone, Copy)]
+pub enum Cause {
+    Unexpected { at: usize },
+    NoDigit,
+    Misspelled,
+    OutOfRange,
+}
+
+impl Cause {
+    /// The sum over causes, as the library computes it.
+    pub fn sum(causes: &[Cause]) -> u64 {
+        causes.iter().fold(0, |sum, cause| {
+            let (number, at) = match *cause {
+                Cause::Unexpected { at } => (2, at as u64),
+                Cause::NoDigit => (3, 0),
+                Cause::Misspelled => (4, 0),
+                Cause::OutOfRange => (5, 0),
+            };
+            sum.wrapping_mul(31).wrapping_add(number).wrapping_add(at)
+        })
+    }
+}
+
+/// The texts under `en` of positive numbers of at least so many digits. They have three digits fewer than
+/// the longest of the type, so that parsing accepts what is made of them.
+fn english<N: Number>(least: u32) -> Vec<String> {
+    let numbers = Sizes::positive(least..=N::MOST_DIGITS - 3).batch::<N>();
+    original::texts(&numbers, 0, 0)
+        .lines()
+        .map(String::from)
+        .collect()
+}
+
+/// Numbers with a decimal mark and two digits after them, as `1,234.50`.
+pub fn with_decimals<N: Number>(_: &mut Random) -> Vec<(String, Cause)> {
+    let text = |text: String| (format!("{text}.50"), Cause::Unexpected { at: text.len() });
+    english::<N>(1).into_iter().map(text).collect()
+}
+
+/// Minus signs and separators alone.
+pub fn signs_alone<N: Number>(random: &mut Random) -> Vec<(String, Cause)> {
+    let mut text = |_| {
+        let sign = ["", "-"][random.below(2) as usize];
+        let separators = ",".repeat(random.below(3) as usize);
+        (format!("{sign}{separators}"), Cause::NoDigit)
+    };
+    (0..BATCH).map(|place| text(place)).collect()
+}
+
+/// Numbers with a zero before them, as `01,234`.
+pub fn with_leading_zero<N: Number>(_: &mut Random) -> Vec<(String, Cause)> {
+    let text = |text: String| (format!("0{text}"), Cause::Misspelled);
+    english::<N>(1).into_iter().map(text).collect()
+}
+
+/// Numbers with a digit more after a separator, as `1,2345`.
+pub fn with_long_group<N: Number>(random: &mut Random) -> Vec<(String, Cause)> {
+    let text = |mut text: String| {
+        let groups = text.matches(',').count() as u128;
+        let group = random.below(groups) as usize;
+        let (place, _) = text.match_indices(',').nth(group).expect("a separator");
+        text.insert(place + 1, '7');
+        (text, Cause::Misspelled)
+    };
+    english::<N>(4).into_iter().map(text).collect()
+}
+
+/// Numbers with a separator after them, as `1,234,`.
+pub fn with_separator_at_end<N: Number>(_: &mut Random) -> Vec<(String, Cause)> {
+    let text = |text: String| (format!("{text},"), Cause::Misspelled);
+    english::<N>(1).into_iter().map(text).collect()
+}
+
+/// Numbers without one of their separators, as `1234,567`.
+pub fn without_a_separator<N: Number>(random: &mut Random) -> Vec<(String, Cause)> {
+    let text = |mut text: String| {
+        let groups = text.matches(',').count() as u128;
+        let group = random.below(groups) as usize;
+        let (place, _) = text.match_indices(',').nth(group).expect("a separator");
+        text.remove(place);
+        (text, Cause::Misspelled)
+    };
+    english::<N>(7).into_iter().map(text).collect()
+}
+
+/// Texts above the type's numbers, as `out_of_range` has them.
+pub fn too_large<N: Number>(random: &mut Random) -> Vec<(String, Cause)> {
+    let text = |text| (text, Cause::OutOfRange);
+    out_of_range::<N>(random).into_iter().map(text).collect()
+}

@@ -1,5 +1,6 @@
 //! A sum over texts, by which each is used.
 
+use num_format::parsing::StrictError;
 use num_format::{Error, ErrorKind};
 
 /// A sum over the length and the last byte of each text.
@@ -31,6 +32,22 @@ impl Checksum {
             ErrorKind::Other(text) | ErrorKind::ParseLocale(text) | ErrorKind::ParseNumber(text) =>
                 { self.add(text.as_str().as_bytes()) }
         }
+    }
+
+    /// Adds the number of a cause, and for an unexpected byte those before it.
+    pub fn add_cause(&mut self, error: StrictError) {
+        let (cause, at) = match error {
+            StrictError::NotUtf8 => (1, 0),
+            StrictError::Unexpected { at } => (2, at),
+            StrictError::NoDigit => (3, 0),
+            StrictError::Misspelled => (4, 0),
+            StrictError::OutOfRange => (5, 0),
+        };
+        self.sum = self
+            .sum
+            .wrapping_mul(31)
+            .wrapping_add(cause)
+            .wrapping_add(at as u64);
     }
 
     /// The sum.

@@ -152,12 +152,13 @@ pub extern "C" fn rattle_texts_u128(
 pub extern "C" fn rattle_read_u8(
     texts: &[u8],
     lengths: &[usize],
+    way: u8,
     format: u8,
     numbers: &mut [u8],
 ) -> u64
     requires { IsUtf8 texts.now }
 {
-    reading::read::<u8, _>(texts, lengths, format, numbers)
+    reading::read::<u8, _>(texts, lengths, way, format, numbers)
 }
 
 /// Reads texts of the lengths as `i32`, and returns how many were accepted, plus a sum over the errors.
@@ -165,12 +166,13 @@ pub extern "C" fn rattle_read_u8(
 pub extern "C" fn rattle_read_i32(
     texts: &[u8],
     lengths: &[usize],
+    way: u8,
     format: u8,
     numbers: &mut [i32],
 ) -> u64
     requires { IsUtf8 texts.now }
 {
-    reading::read::<i32, _>(texts, lengths, format, numbers)
+    reading::read::<i32, _>(texts, lengths, way, format, numbers)
 }
 
 /// Reads texts of the lengths as `u32`, and returns how many were accepted, plus a sum over the errors.
@@ -178,12 +180,13 @@ pub extern "C" fn rattle_read_i32(
 pub extern "C" fn rattle_read_u32(
     texts: &[u8],
     lengths: &[usize],
+    way: u8,
     format: u8,
     numbers: &mut [u32],
 ) -> u64
     requires { IsUtf8 texts.now }
 {
-    reading::read::<u32, _>(texts, lengths, format, numbers)
+    reading::read::<u32, _>(texts, lengths, way, format, numbers)
 }
 
 /// Reads texts of the lengths as `i64`, and returns how many were accepted, plus a sum over the errors.
@@ -191,12 +194,13 @@ pub extern "C" fn rattle_read_u32(
 pub extern "C" fn rattle_read_i64(
     texts: &[u8],
     lengths: &[usize],
+    way: u8,
     format: u8,
     numbers: &mut [i64],
 ) -> u64
     requires { IsUtf8 texts.now }
 {
-    reading::read::<i64, _>(texts, lengths, format, numbers)
+    reading::read::<i64, _>(texts, lengths, way, format, numbers)
 }
 
 /// Reads texts of the lengths as `u64`, and returns how many were accepted, plus a sum over the errors.
@@ -204,12 +208,13 @@ pub extern "C" fn rattle_read_i64(
 pub extern "C" fn rattle_read_u64(
     texts: &[u8],
     lengths: &[usize],
+    way: u8,
     format: u8,
     numbers: &mut [u64],
 ) -> u64
     requires { IsUtf8 texts.now }
 {
-    reading::read::<u64, _>(texts, lengths, format, numbers)
+    reading::read::<u64, _>(texts, lengths, way, format, numbers)
 }
 
 /// Reads texts of the lengths as `i128`, and returns how many were accepted, plus a sum over the errors.
@@ -217,12 +222,13 @@ pub extern "C" fn rattle_read_u64(
 pub extern "C" fn rattle_read_i128(
     texts: &[u8],
     lengths: &[usize],
+    way: u8,
     format: u8,
     numbers: &mut [Halves],
 ) -> u64
     requires { IsUtf8 texts.now }
 {
-    reading::read::<i128, _>(texts, lengths, format, numbers)
+    reading::read::<i128, _>(texts, lengths, way, format, numbers)
 }
 
 /// Reads texts of the lengths as `u128`, and returns how many were accepted, plus a sum over the errors.
@@ -230,12 +236,13 @@ pub extern "C" fn rattle_read_i128(
 pub extern "C" fn rattle_read_u128(
     texts: &[u8],
     lengths: &[usize],
+    way: u8,
     format: u8,
     numbers: &mut [Halves],
 ) -> u64
     requires { IsUtf8 texts.now }
 {
-    reading::read::<u128, _>(texts, lengths, format, numbers)
+    reading::read::<u128, _>(texts, lengths, way, format, numbers)
 }
 
 /// Looks up names of the lengths, and returns how many are names of the locale `en`, plus a sum over
@@ -245,6 +252,14 @@ pub extern "C" fn rattle_find(names: &[u8], lengths: &[usize]) -> u64
     requires { IsUtf8 names.now }
 {
     reading::find(names, lengths)
+}
+
+/// Looks up tags of the lengths, and returns how many are tags of the locale `en`.
+#[unsafe(no_mangle)]
+pub extern "C" fn rattle_look_up(tags: &[u8], lengths: &[usize]) -> u64
+    requires { IsUtf8 tags.now }
+{
+    reading::look_up(tags, lengths)
 }
 
 /// Writes the name of the locale that the text names, and returns its length in bytes.
