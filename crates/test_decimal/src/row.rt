@@ -1,0 +1,113 @@
+//! A row of numbers, and what is printed for it.
+
+use num_format_custom::CustomFormat;
+use num_format_decimal::{Decimal, Rounding};
+use num_format_text::Grouping;
+use std::alloc::{AllocError, Global};
+use std::cmp::Ordering;
+use std::hash::{DefaultHasher, Hash, Hasher};
+use std::io;
+
+/// A format, two decimals and a scale.
+///
+/// In a line they are six fields with tabs between them: the name of the format, the units and the scale of
+/// each decimal, and the scale.
+#[derive(Drop)]
+pub struct Row {
+    format: CustomFormat,
+    first: Decimal,
+    second: Decimal,
+    scale: u8,
+}
+
+impl Row {
+    /// Returns the row of a line, or `None` if the line is none.
+    pub fn parse(line: &str) -> Option<Row> {
+        let mut fields = line.split('\t');
+        let format = format_named(fields.next()?)?;
+        let first = decimal_of(fields.next()?, fields.next()?)?;
+        let second = decimal_of(fields.next()?, fields.next()?)?;
+        let scale = fields.next()?.parse().ok()?;
+        Some(Row {
+            format,
+            first,
+            second,
+            scale,
+        })
+    }
+
+    /// Prints a line with the text of the first decimal, itself at the scale under each rounding, its order
+    /// beside the second, whether both are hashed alike, their sum, their difference, and the first one negated.
+    pub fn print(&self, rt: &impl Print, alloc: Global) -> io::Result<()> {
+        let text = self.first.to_formatted_string(alloc, &self.format)?;
+        print!(rt; "{text}")?;
+        for rounding in [
+            Rounding::HalfEven,
+            Rounding::HalfAwayFromZero,
+            Rounding::TowardZero,
+            Rounding::Exact,
+        ] {
+            let rescaled = self.rescaled(alloc, rounding)?;
+            print!(rt; "\t{rescaled}")?;
+        }
+        let order = match self.first.cmp(&self.second) {
+            Ordering::Less => "less",
+            Ordering::Equal => "equal",
+            Ordering::Greater => "greater",
+        };
+        let alike = hash_of(&self.first) == hash_of(&self.second);
+        let sum = written(alloc, self.first.checked_add(self.second))?;
+        let difference = written(alloc, self.first.checked_sub(self.second))?;
+        let negated = written(alloc, self.first.checked_neg())?;
+        println!(rt; "\t{order}\t{alike}\t{sum}\t{difference}\t{negated}")
+    }
+
+    /// Returns the first decimal at the scale, or the error.
+    fn rescaled(&self, alloc: Global, rounding: Rounding) -> Result<String, AllocError> {
+        match self.first.rescale(self.scale, rounding) {
+            Ok(decimal) => written(alloc, Some(decimal)),
+            Err(error) => format!(in alloc; "{error:?}"),
+        }
+    }
+}
+
+/// Returns the format of a name.
+fn format_named(name: &str) -> Option<CustomFormat> {
+    let builder = CustomFormat::builder();
+    let builder = match name {
+        "english" => builder,
+        "german" => builder.separator(".").decimal(","),
+        "french" => builder.separator("\u{202F}").decimal(","),
+        "arabic" => builder
+            .separator("\u{66C}")
+            .decimal("\u{66B}")
+            .minus_sign("\u{2212}"),
+        "plain" => builder.grouping(Grouping::Posix),
+        "longest" => builder
+            .separator("<<<<>>>>")
+            .decimal("[[[[]]]]")
+            .minus_sign("--------"),
+        _ => return None,
+    };
+    builder.build().ok()
+}
+
+/// Returns the decimal of two fields.
+fn decimal_of(units: &str, scale: &str) -> Option<Decimal> {
+    Decimal::new(units.parse().ok()?, scale.parse().ok()?).ok()
+}
+
+/// Returns the units and the scale of a decimal, or `none`.
+fn written(alloc: Global, decimal: Option<Decimal>) -> Result<String, AllocError> {
+    match decimal {
+        Some(decimal) => format!(in alloc; "{}/{}", decimal.units(), decimal.scale()),
+        None => String::from_str(alloc, "none"),
+    }
+}
+
+/// Returns the hash of a decimal.
+fn hash_of(decimal: &Decimal) -> u64 {
+    let mut state = DefaultHasher::new();
+    decimal.hash(&mut state);
+    state.finish()
+}

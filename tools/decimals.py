@@ -1,0 +1,149 @@
+#!/usr/bin/env python3
+"""Writes the rows of test_decimal, and what Python's module decimal makes of them.
+
+    python3 tools/decimals.py
+
+The rows go into crates/test_decimal/stdin, and the expected output into crates/test_decimal/stdout. Python
+computes each result: the text by format(d, ",f"), with the marks of the format in place of its own, the roundings
+by quantize, the order by comparison, and the sums by + and -. The rows are the same in each run.
+"""
+import decimal
+import random
+from decimal import Decimal
+from pathlib import Path
+
+CRATE = Path(__file__).resolve().parent.parent / "crates" / "test_decimal"
+
+# More digits than any result has, so that each is exact.
+decimal.getcontext().prec = 200
+
+LOW = -(2**127)
+HIGH = 2**127 - 1
+
+# The separator, the decimal mark and the minus sign of each format.
+FORMATS = {
+    "english": (",", ".", "-"),
+    "german": (".", ",", "-"),
+    "french": ("\u202f", ",", "-"),
+    "arabic": ("\u066c", "\u066b", "\u2212"),
+    "plain": ("", ".", "-"),
+    "longest": ("<<<<>>>>", "[[[[]]]]", "--------"),
+}
+
+ROUNDINGS = {
+    "HalfEven": decimal.ROUND_HALF_EVEN,
+    "HalfAwayFromZero": decimal.ROUND_HALF_UP,
+    "TowardZero": decimal.ROUND_DOWN,
+}
+
+# Rows whose results say most: the ends of i128 at each scale, signs of small numbers, halves, and equal values.
+EXAMPLES = [
+    ("english", -50, 2, -5, 1, 0),
+    ("english", 5, 2, 50, 3, 1),
+    ("english", -5, 38, 0, 38, 0),
+    ("english", 0, 0, 0, 38, 2),
+    ("english", 1234, 0, 123400, 2, 1),
+    ("german", 123450, 2, 12345, 1, 1),
+    ("english", 25, 1, 35, 1, 0),
+    ("english", 35, 1, 25, 1, 0),
+    ("english", -25, 1, -35, 1, 0),
+    ("english", 250001, 5, 25, 1, 0),
+    ("english", 999, 2, 1000, 2, 1),
+    ("longest", LOW, 1, HIGH, 1, 0),
+    ("longest", LOW, 0, LOW, 38, 38),
+    ("longest", HIGH, 0, 1, 0, 39),
+    ("plain", LOW, 38, HIGH, 37, 255),
+    ("french", HIGH // 10 + 1, 0, LOW, 1, 1),
+    ("french", -1, 0, LOW, 0, 1),
+    ("arabic", -(2**128 // 10) // 8, 3, LOW, 4, 4),
+]
+
+
+def value(units, scale):
+    return Decimal(units).scaleb(-scale)
+
+
+def text(name, units, scale):
+    separator, mark, minus = FORMATS[name]
+    shown = format(value(units, scale), ",f")
+    if units == 0:
+        shown = shown.lstrip("-")
+    return shown.translate({ord(","): separator, ord("."): mark, ord("-"): minus})
+
+
+def written(units, scale):
+    return f"{units}/{scale}" if LOW <= units <= HIGH else None
+
+
+def units_of(number, scale):
+    """How many units of the scale a number is, if that is whole."""
+    units = number.scaleb(scale)
+    return int(units) if units == units.to_integral_value() else None
+
+
+def rescaled(units, scale, to, rounding):
+    if to > 38:
+        return "ScaleTooLarge"
+    number = value(units, scale)
+    if rounding is None:
+        there = units_of(number, to)
+        if there is None:
+            return "DigitsLost"
+    else:
+        there = units_of(number.quantize(Decimal(1).scaleb(-to), rounding=rounding), to)
+    return written(there, to) or "OutOfRange"
+
+
+def expected(row):
+    name, units, scale, other_units, other_scale, to = row
+    first, second = value(units, scale), value(other_units, other_scale)
+    larger = max(scale, other_scale)
+    return "\t".join([
+        text(name, units, scale),
+        *(rescaled(units, scale, to, rounding) for rounding in [*ROUNDINGS.values(), None]),
+        "less" if first < second else "greater" if first > second else "equal",
+        "true" if first == second else "false",
+        written(units_of(first + second, larger), larger) or "none",
+        written(units_of(first - second, larger), larger) or "none",
+        written(-units, scale) or "none",
+    ])
+
+
+def some_units(chance):
+    """Units of any size, often near a power of ten or at an end of i128."""
+    kind = chance.randrange(8)
+    if kind == 0:
+        units = chance.choice([LOW, LOW + 1, HIGH, HIGH - 1])
+    elif kind <= 2:
+        units = chance.choice([1, 5, 25, 15]) * 10 ** chance.randrange(37) + chance.randrange(-1, 2)
+    else:
+        units = chance.randrange(10 ** chance.randrange(1, 39))
+    units *= chance.choice([1, -1])
+    return min(max(units, LOW), HIGH)
+
+
+def some_row(chance):
+    units, scale = some_units(chance), chance.randrange(39)
+    to = chance.choice([chance.randrange(40), max(scale - 1, 0), scale])
+    kind = chance.randrange(4)
+    if kind == 0:
+        # An equal value, or one that differs in the last place.
+        more = chance.randrange(39 - scale)
+        other_units, other_scale = units * 10**more + chance.choice([0, 0, 1, -1]), scale + more
+        if not LOW <= other_units <= HIGH:
+            other_units, other_scale = units, scale
+    else:
+        other_units, other_scale = some_units(chance), chance.randrange(39)
+    return chance.choice(list(FORMATS)), units, scale, other_units, other_scale, to
+
+
+def main():
+    chance = random.Random(7)
+    rows = EXAMPLES + [some_row(chance) for _ in range(5000 - len(EXAMPLES))]
+    lines = ["\t".join(map(str, row)) for row in rows]
+    (CRATE / "stdin").write_text("\n".join(lines) + "\n")
+    (CRATE / "stdout").write_text("\n".join(map(expected, rows)) + "\n")
+
+
+if __name__ == "__main__":
+    main()
