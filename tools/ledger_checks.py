@@ -11,7 +11,10 @@ I64_MAX = 2**63 - 1
 USAGE = b"usage: uses_ledger FROM TO"
 UNKNOWN_LOCALE = b"Failed to parse xx into a valid locale."
 NO_TAB = b"a line has no tab"
-NO_NUMBER = b"Failed to parse x into a number."
+UNEXPECTED = b"The text has an unexpected byte."
+NO_DIGIT = b"The text has no digit."
+MISSPELLED = b"The text is not as the number is printed."
+OUT_OF_RANGE = b"The number is no value of the type."
 TOO_LARGE = b"the total is too large"
 
 # The lines of the longest ledger here.
@@ -52,8 +55,13 @@ REFUSED = [
     (["en", "xx"], "", UNKNOWN_LOCALE),
     (["en", "de"], "rent 5\n", NO_TAB),
     (["en", "de"], "\n", NO_TAB),
-    (["en", "de"], "rent\tx\n", NO_NUMBER),
-    (["en", "de"], "rent\t5\nwages\tx\n", NO_NUMBER),
+    (["en", "de"], "rent\tx\n", UNEXPECTED),
+    (["en", "de"], "rent\t5\nwages\tx\n", UNEXPECTED),
+    (["en", "de"], "rent\t12.50\n", UNEXPECTED),
+    (["en", "de"], "rent\t\n", NO_DIGIT),
+    (["en", "de"], "rent\t1,25\n", MISSPELLED),
+    (["en", "de"], "rent\t05\n", MISSPELLED),
+    (["en", "de"], f"rent\t{grouped(I64_MAX + 1, ',')}\n", OUT_OF_RANGE),
     (["en", "de"], ledger([I64_MAX, 1], ","), TOO_LARGE),
     (["en", "de"], ledger([-I64_MAX - 1, -1, 1], ","), TOO_LARGE),
 ]
