@@ -42,11 +42,12 @@ def literal(text):
     return '"' + "".join(c if is_plain(c) else f"\\u{{{ord(c):x}}}" for c in text) + '"'
 
 
-def filled(texts):
-    """The lines of an array of strings, as many of them on a line as fit."""
-    entries = " ".join(f"{literal(text)}," for text in texts)
-    indent = " " * 4
-    return textwrap.fill(entries, LINE_LENGTH, initial_indent=indent, subsequent_indent=indent, break_on_hyphens=False) + "\n"
+def filled(entries, indent):
+    """The lines of an array, as many of its entries on a line as fit."""
+    # No entry is broken at its blank.
+    words = " ".join(f"{entry},".replace(" ", "\0") for entry in entries)
+    lines = textwrap.fill(words, LINE_LENGTH, initial_indent=indent, subsequent_indent=indent, break_on_hyphens=False)
+    return lines.replace("\0", " ") + "\n"
 
 
 def sections():
@@ -185,7 +186,7 @@ def names_source(names):
 /// The names, in rising byte order.
 #[rattlefmt::skip]
 pub static NAMES: [&str; {len(names)}] = [
-{filled(names)}];
+{filled(map(literal, names), " " * 4)}];
 """
 
 
@@ -238,7 +239,7 @@ impl Locale {{
 /// The names of the constants, in the order of their places.
 #[rattlefmt::skip]
 pub static VARIANT_NAMES: [&str; {len(names)}] = [
-{filled(map(constant_name, names))}];
+{filled((literal(constant_name(name)) for name in names), " " * 4)}];
 """
 
 
@@ -272,7 +273,7 @@ pub fn {named_function(piece)}() -> [(Locale, &'static str); {len(piece)}]
     ensures {{ AreNamed result }}
 {{
     [
-""" + "".join(f'        (Locale::{name}, "{name}"),\n' for name in piece) + "    ]\n}\n"
+""" + filled((f'(Locale::{name}, "{name}")' for name in piece), " " * 8) + "    ]\n}\n"
         for piece in pieces
     )
     return f"""//! The constants of `Locale`, each with its name. {MARK}
