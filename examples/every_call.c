@@ -38,6 +38,10 @@ int main(void) {
     show("print, zeros", num_format_print_i64(&format, 1000, text, sizeof text));
     memset(&format, 0xff, sizeof format);
     show("print, ones", num_format_print_i64(&format, 1000, text, sizeof text));
+    show("print decimal", num_format_print_decimal(&de, 123450, 0, 2, text, sizeof text));
+    show("print decimal, scale 39", num_format_print_decimal(&de, 123450, 0, 39, text, sizeof text));
+    show("custom, decimal mark", num_format_custom_decimal(&format, "'", 1, 1, "-", 1, "\xc2\xb7", 2));
+    show("print decimal, Standard", num_format_print_decimal(&format, UINT64_MAX - 1234566, UINT64_MAX, 3, text, sizeof text));
     show("custom, Myriad", num_format_custom(&format, "'", 1, NUM_FORMAT_MYRIAD, "\xe2\x88\x92", 3));
     show("print, Myriad", num_format_print_i64(&format, -123456789, text, sizeof text));
     format.minus_sign[2] = '-';

@@ -10,13 +10,14 @@ ERRORS = {
     -3: "not UTF-8",
     -4: "not a number",
     -5: "unknown locale",
-    -6: "the separator or the minus sign has more than 8 bytes",
+    -6: "a text of the format has more than 8 bytes",
     -7: "unknown grouping",
     -8: "unknown number of bits",
     -9: "a byte is not expected",
     -10: "no digit",
     -11: "not as the number is printed",
     -12: "the number has more bits",
+    -13: "the scale is above 38",
 }
 
 
@@ -41,7 +42,7 @@ def _bytes(text):
 class Format(ctypes.Structure):
     """The format of a locale."""
 
-    _fields_ = [("_texts", ctypes.c_uint8 * 16), ("_lengths", ctypes.c_uint8 * 2), ("_grouping", ctypes.c_uint8)]
+    _fields_ = [("_texts", ctypes.c_uint8 * 24), ("_lengths", ctypes.c_uint8 * 3), ("_grouping", ctypes.c_uint8)]
 
     def __init__(self, locale):
         super().__init__()

@@ -5,8 +5,8 @@ use std::{env, fs, process};
 #[repr(C)]
 #[derive(Default)]
 struct NumFormat {
-    texts: [u8; 16],
-    lengths: [u8; 2],
+    texts: [u8; 24],
+    lengths: [u8; 3],
     grouping: u8,
 }
 

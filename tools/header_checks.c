@@ -13,10 +13,12 @@
 /* Each call once more: this file does not compile with a header where one has another type. */
 int32_t num_format_locale(num_format *, const char *, size_t);
 int32_t num_format_custom(num_format *, const char *, size_t, uint32_t, const char *, size_t);
+int32_t num_format_custom_decimal(num_format *, const char *, size_t, uint32_t, const char *, size_t, const char *, size_t);
 int32_t num_format_print_i64(const num_format *, int64_t, char *, size_t);
 int32_t num_format_print_u64(const num_format *, uint64_t, char *, size_t);
 int32_t num_format_print_u128(const num_format *, uint64_t, uint64_t, char *, size_t);
 int32_t num_format_print_i128(const num_format *, uint64_t, uint64_t, char *, size_t);
+int32_t num_format_print_decimal(const num_format *, uint64_t, uint64_t, uint32_t, char *, size_t);
 int32_t num_format_parse_i64(const num_format *, uint32_t, const char *, size_t, int64_t *);
 int32_t num_format_parse_u64(const num_format *, uint32_t, const char *, size_t, uint64_t *);
 int32_t num_format_parse_u128(const num_format *, const char *, size_t, uint64_t *, uint64_t *);
@@ -34,6 +36,12 @@ static const char longest[] =
     "abcdefgh17" "1234567801" "1234567841" "1234567818" "1234567834" "1234567860" "1234567846"
     "1234567892" "1234567831" "1234567873" "1234567816" "1234567887" "1234567830" "1234567837"
     "1234567815" "1234567888" "1234567841" "1234567805" "12345678728";
+
+/* The longest decimal: -2^127 at scale 1 under the same, with a decimal mark of 8 bytes. */
+static const char longest_decimal[] =
+    "abcdefgh11" "2345678701" "2345678141" "2345678111" "2345678831" "2345678461" "2345678041"
+    "2345678691" "2345678231" "2345678171" "2345678311" "2345678681" "2345678731" "2345678031"
+    "2345678711" "2345678581" "2345678841" "2345678101" "2345678572" "ABCDEFGH8";
 
 static int status;
 
@@ -61,6 +69,7 @@ static void check_text(const num_format *format, int64_t number, const char *exp
 
 static void check_constants(void) {
     CHECK(NUM_FORMAT_MAX, 191);
+    CHECK(NUM_FORMAT_DECIMAL_MAX, 199);
     CHECK(NUM_FORMAT_LOCALES, 542);
     CHECK(NUM_FORMAT_BAD_FORMAT, -1);
     CHECK(NUM_FORMAT_TOO_SMALL, -2);
@@ -74,6 +83,7 @@ static void check_constants(void) {
     CHECK(NUM_FORMAT_NO_DIGIT, -10);
     CHECK(NUM_FORMAT_MISSPELLED, -11);
     CHECK(NUM_FORMAT_OUT_OF_RANGE, -12);
+    CHECK(NUM_FORMAT_BAD_SCALE, -13);
     CHECK(NUM_FORMAT_STANDARD, 1);
     CHECK(NUM_FORMAT_INDIAN, 2);
     CHECK(NUM_FORMAT_POSIX, 3);
@@ -82,13 +92,15 @@ static void check_constants(void) {
 }
 
 static void check_layout(void) {
-    CHECK(sizeof(num_format), 19);
+    CHECK(sizeof(num_format), 28);
     CHECK(_Alignof(num_format), 1);
     CHECK(offsetof(num_format, separator), 0);
     CHECK(offsetof(num_format, minus_sign), 8);
-    CHECK(offsetof(num_format, separator_length), 16);
-    CHECK(offsetof(num_format, minus_sign_length), 17);
-    CHECK(offsetof(num_format, grouping), 18);
+    CHECK(offsetof(num_format, decimal_mark), 16);
+    CHECK(offsetof(num_format, separator_length), 24);
+    CHECK(offsetof(num_format, minus_sign_length), 25);
+    CHECK(offsetof(num_format, decimal_mark_length), 26);
+    CHECK(offsetof(num_format, grouping), 27);
 }
 
 /* What a call writes into a struct, and nothing past it. */
@@ -102,8 +114,10 @@ static void check_filled(void) {
     CHECK(num_format_custom(&held.format, "'", 1, 4, "\xe2\x88\x92", 3), 0);
     check_bytes("separator", held.format.separator, "'");
     check_bytes("minus_sign", held.format.minus_sign, "\xe2\x88\x92");
+    check_bytes("decimal_mark", held.format.decimal_mark, ".");
     CHECK(held.format.separator_length, 1);
     CHECK(held.format.minus_sign_length, 3);
+    CHECK(held.format.decimal_mark_length, 1);
     CHECK(held.format.grouping, 4);
     check_text(&held.format, -12345678, "\xe2\x88\x92" "1234'5678");
     CHECK(num_format_locale(&held.format, "en-IN", 5), 0);
@@ -113,13 +127,19 @@ static void check_filled(void) {
     CHECK(held.format.minus_sign_length, 1);
     CHECK(held.format.grouping, 2);
     check_text(&held.format, -1234567, "-12,34,567");
+    CHECK(num_format_locale(&held.format, "ar-EG", 5), 0);
+    check_bytes("decimal_mark of ar-EG", held.format.decimal_mark, "\xd9\xab");
+    CHECK(held.format.decimal_mark_length, 2);
+    CHECK(num_format_custom_decimal(&held.format, ",", 1, 1, "-", 1, "::", 2), 0);
+    check_bytes("decimal_mark of its own", held.format.decimal_mark, "::");
+    CHECK(held.format.decimal_mark_length, 2);
     check_bytes("before the struct", held.before, "xxxxxxxx");
     check_bytes("after the struct", held.after, "xxxxxxxx");
 }
 
 /* How a call reads a struct whose fields were written here. */
 static void check_read(void) {
-    num_format format = {"::", "~~~", 2, 3, 1};
+    num_format format = {"::", "~~~", "..", 2, 3, 2, 1};
     static const struct {
         const char *four_digits, *seven_digits;
     } texts[] = {
@@ -139,6 +159,9 @@ static void check_read(void) {
     format.minus_sign_length = 9;
     CHECK(num_format_reads_back(&format), -1);
     format.minus_sign_length = 8;
+    format.decimal_mark_length = 9;
+    CHECK(num_format_reads_back(&format), -1);
+    format.decimal_mark_length = 8;
     CHECK(num_format_reads_back(&format), 1);
 }
 
@@ -161,7 +184,7 @@ static void check_groupings(void) {
 
 /* Each error, by its number. */
 static void check_errors(void) {
-    const num_format zeros = {{0}, {0}, 0, 0, 0};
+    const num_format zeros = {{0}, {0}, {0}, 0, 0, 0, 0};
     num_format en;
     char text[NUM_FORMAT_MAX];
     int64_t number;
@@ -175,10 +198,42 @@ static void check_errors(void) {
     CHECK(num_format_locale(&en, "xx", 2), -5);
     CHECK(num_format_custom(&en, "123456789", 9, 1, "-", 1), -6);
     CHECK(num_format_custom(&en, ",", 1, 1, "123456789", 9), -6);
+    CHECK(num_format_custom_decimal(&en, ",", 1, 1, "-", 1, "123456789", 9), -6);
+    CHECK(num_format_custom_decimal(&en, ",", 1, 1, "-", 1, "\xff", 1), -3);
     CHECK(num_format_custom(&en, ",", 1, 6, "-", 1), -7);
     CHECK(num_format_parse_i64(&en, 7, "1", 1, &number), -8);
     CHECK(num_format_parse_i64(&en, 256 + 64, "1", 1, &number), -8);
     CHECK(num_format_parse_i64(&en, 65536 + 8, "1", 1, &number), -8);
+    CHECK(num_format_print_decimal(&en, 1, 0, 39, text, sizeof text), -13);
+    CHECK(num_format_print_decimal(&zeros, 1, 0, 256 + 2, text, sizeof text), -13);
+    CHECK(num_format_print_decimal(&zeros, 1, 0, 38, text, sizeof text), -1);
+    CHECK(num_format_print_decimal(&en, 1, 0, 2, text, 3), -2);
+}
+
+/* Prints a decimal of units of 64 bits, and compares its text. */
+static void check_decimal(const num_format *format, int64_t units, uint32_t scale, const char *expected) {
+    char text[NUM_FORMAT_DECIMAL_MAX];
+    uint64_t high = units < 0 ? UINT64_MAX : 0;
+    memset(text, 'x', sizeof text);
+    compare(expected, num_format_print_decimal(format, (uint64_t)units, high, scale, text, sizeof text),
+            (int)strlen(expected));
+    check_bytes(expected, text, expected);
+    CHECK(text[strlen(expected)], 'x');
+}
+
+static void check_decimals(void) {
+    num_format format;
+    CHECK(num_format_locale(&format, "en", 2), 0);
+    check_decimal(&format, 123450, 2, "1,234.50");
+    check_decimal(&format, -5, 2, "-0.05");
+    check_decimal(&format, -50, 2, "-0.50");
+    check_decimal(&format, 1234, 0, "1,234");
+    check_decimal(&format, 0, 1, "0.0");
+    check_decimal(&format, 1, 38, "0.00000000000000000000000000000000000001");
+    CHECK(num_format_locale(&format, "de", 2), 0);
+    check_decimal(&format, -123456789, 3, "-123.456,789");
+    CHECK(num_format_custom_decimal(&format, " ", 1, 2, "~", 1, "::", 2), 0);
+    check_decimal(&format, -123456789, 2, "~12 34 567::89");
 }
 
 /* Texts as numbers of 16 bits, strictly: what is returned, and what the number and `at`, 7 and 9 before,
@@ -269,6 +324,13 @@ static void check_longest(void) {
     CHECK(strlen(longest), NUM_FORMAT_MAX);
     CHECK(num_format_print_i128(&format, 0, (uint64_t)1 << 63, text, NUM_FORMAT_MAX), NUM_FORMAT_MAX);
     check_bytes("the longest text", text, longest);
+    char decimal[NUM_FORMAT_DECIMAL_MAX];
+    CHECK(num_format_custom_decimal(&format, "12345678", 8, 2, "abcdefgh", 8, "ABCDEFGH", 8), 0);
+    CHECK(num_format_print_decimal(&format, 0, (uint64_t)1 << 63, 1, decimal, NUM_FORMAT_DECIMAL_MAX - 1), -2);
+    CHECK(strlen(longest_decimal), NUM_FORMAT_DECIMAL_MAX);
+    CHECK(num_format_print_decimal(&format, 0, (uint64_t)1 << 63, 1, decimal, NUM_FORMAT_DECIMAL_MAX),
+          NUM_FORMAT_DECIMAL_MAX);
+    check_bytes("the longest decimal", decimal, longest_decimal);
 }
 
 static void check_names(void) {
@@ -290,6 +352,7 @@ int main(void) {
     check_groupings();
     check_errors();
     check_strict();
+    check_decimals();
     check_ends();
     check_longest();
     check_names();

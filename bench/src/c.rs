@@ -17,8 +17,10 @@ const INDIAN: u32 = 2;
 pub struct Format {
     separator: [u8; 8],
     minus_sign: [u8; 8],
+    decimal_mark: [u8; 8],
     separator_len: u8,
     minus_sign_len: u8,
+    decimal_mark_len: u8,
     grouping: u8,
 }
 

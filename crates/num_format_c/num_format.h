@@ -1,4 +1,4 @@
-/* num-format for C: whole numbers with separators between groups of digits, and back.
+/* num-format for C: numbers with separators between groups of digits, and back.
  *
  *     num_format format = {0};
  *     char text[NUM_FORMAT_MAX];
@@ -36,6 +36,9 @@ extern "C" {
 /* The size of an array that the text of any number fits, under any format. */
 #define NUM_FORMAT_MAX 191
 
+/* The size of an array that the text of any decimal fits, under any format. */
+#define NUM_FORMAT_DECIMAL_MAX 199
+
 /* The number of locales. Their places are the numbers below it. */
 #define NUM_FORMAT_LOCALES 542
 
@@ -46,14 +49,15 @@ enum {
     NUM_FORMAT_NOT_UTF8 = -3,       /* a text is not UTF-8 */
     NUM_FORMAT_NOT_A_NUMBER = -4,   /* the text is refused as a number: see num_format_parse_i64 */
     NUM_FORMAT_UNKNOWN_LOCALE = -5, /* no locale has the name, or there is none at the place */
-    NUM_FORMAT_TOO_LONG = -6,       /* the separator or the minus sign has more than 8 bytes */
+    NUM_FORMAT_TOO_LONG = -6,       /* a text of the format has more than 8 bytes */
     NUM_FORMAT_BAD_GROUPING = -7,   /* the number stands for no grouping */
     NUM_FORMAT_BAD_BITS = -8,       /* the number of bits is not 8, 16, 32 or 64 */
     /* The text is refused as a number by strict parsing: see num_format_parse_strict_i64. */
     NUM_FORMAT_UNEXPECTED = -9,     /* a byte belongs to no minus sign, digit or separator */
     NUM_FORMAT_NO_DIGIT = -10,      /* the text has no digit */
     NUM_FORMAT_MISSPELLED = -11,    /* the text is not as its number is printed */
-    NUM_FORMAT_OUT_OF_RANGE = -12   /* the number is none of that many bits */
+    NUM_FORMAT_OUT_OF_RANGE = -12,  /* the number is none of that many bits */
+    NUM_FORMAT_BAD_SCALE = -13      /* the scale of a decimal is above 38 */
 };
 
 /* The groupings: where separators stand among the digits. */
@@ -65,19 +69,22 @@ enum {
     NUM_FORMAT_SPARSE = 5    /* 1000 and 10,000 */
 };
 
-/* A format. Fill it by num_format_locale or num_format_custom, and copy it as you like.
+/* A format. Fill it by num_format_locale, num_format_custom or num_format_custom_decimal, and copy it as
+ * you like.
  *
  * Each call that is given a format tests it, and refuses with NUM_FORMAT_BAD_FORMAT one that cannot
  * be a format: a length above 8, a text that is not UTF-8, a number of no grouping. A struct of
  * zeros is refused.
  *
  * The calls that fill a struct set the bytes after each text to zero. So the formats of two filled
- * structs have the same separator, minus sign and grouping exactly if memcmp finds the structs equal. */
+ * structs have the same texts and grouping exactly if memcmp finds the structs equal. */
 typedef struct num_format {
     uint8_t separator[8];
     uint8_t minus_sign[8];
+    uint8_t decimal_mark[8];
     uint8_t separator_length;
     uint8_t minus_sign_length;
+    uint8_t decimal_mark_length;
     uint8_t grouping;
 } num_format;
 
@@ -88,12 +95,17 @@ typedef struct num_format {
  * Errors: NUM_FORMAT_NOT_UTF8, else NUM_FORMAT_UNKNOWN_LOCALE. */
 int32_t num_format_locale(num_format *format, const char *name, size_t length);
 
-/* Fills the struct with a separator of at most 8 bytes, a grouping and a minus sign of at most 8
- * bytes, and returns 0. Either text may be empty.
+/* Fills the struct with a separator of at most 8 bytes, a grouping, a minus sign of at most 8 bytes and the
+ * decimal mark ".", and returns 0. Either text may be empty.
  *
  * Errors: NUM_FORMAT_NOT_UTF8, else NUM_FORMAT_TOO_LONG, else NUM_FORMAT_BAD_GROUPING. */
 int32_t num_format_custom(num_format *format, const char *separator, size_t separator_length,
                           uint32_t grouping, const char *minus_sign, size_t minus_sign_length);
+
+/* The same with a decimal mark of at most 8 bytes, which may be empty too. */
+int32_t num_format_custom_decimal(num_format *format, const char *separator, size_t separator_length,
+                                  uint32_t grouping, const char *minus_sign, size_t minus_sign_length,
+                                  const char *decimal_mark, size_t decimal_mark_length);
 
 /* Print a number at the start of the array, and return the length of its text, from 1 to
  * NUM_FORMAT_MAX. The other bytes of the array are as they were.
@@ -110,6 +122,18 @@ int32_t num_format_print_u128(const num_format *format, uint64_t low, uint64_t h
                               size_t capacity);
 int32_t num_format_print_i128(const num_format *format, uint64_t low, uint64_t high, char *text,
                               size_t capacity);
+
+/* Prints a decimal at the start of the array, and returns the length of its text, from 1 to
+ * NUM_FORMAT_DECIMAL_MAX. The other bytes of the array are as they were.
+ *
+ * The decimal is its units divided by 10 to the power of the scale, which is at most 38. The units are
+ * signed, of 128 bits, by their halves: 123450 at scale 2 is "1,234.50" under "en", and -5 at scale 2 is
+ * "-0.05". The digits before the decimal mark are grouped as the format says, and as many digits as the
+ * scale come after it. At scale 0 there is no decimal mark.
+ *
+ * Errors: NUM_FORMAT_BAD_SCALE, else NUM_FORMAT_BAD_FORMAT, else NUM_FORMAT_TOO_SMALL. */
+int32_t num_format_print_decimal(const num_format *format, uint64_t low, uint64_t high, uint32_t scale,
+                                 char *text, size_t capacity);
 
 /* Parse a text as a number of 8, 16, 32 or 64 bits, write it, and return 0.
  *

@@ -1,5 +1,5 @@
 -- What the calls of C return and write.
-use Rattle.std.specs.Prelude.{◌≡◌, ℕ, ◌+◌, ◌*◌, ◌^◌, ◌<◌, ◌≤◌, ◌⊎◌, ◌==◌, ℤ, pos, negsuc, List, ◌++◌, length, drop, Option, Some, None, Result, Ok, Err, IfSome, MatchResult, IsUtf8, if◌then◌else◌}
+use Rattle.std.specs.Prelude.{◌≡◌, ℕ, ◌+◌, ◌*◌, ◌^◌, ◌<◌, ◌≤◌, ◌==◌, ℤ, pos, negsuc, List, ◌++◌, length, drop, Option, Some, None, Result, Ok, Err, IfSome, MatchResult, IsUtf8, if◌then◌else◌}
 use Rattle.std.specs.Int.{cast_signed, w128}
 use Rattle.num_format.specs.Constants.{LEN}
 use Rattle.num_format.specs.Data.{locale_data}
@@ -11,10 +11,13 @@ use Rattle.num_format.specs.Strict.{IsCause, ParsesStrictly}
 use Rattle.num_format.specs.StrictError.{StrictError}
 use Rattle.num_format.specs.StrictError.TheVariants as cause
 use Rattle.num_format.specs.Text.{text_of}
+use Rattle.num_format_decimal.specs.FixedPoint.{fixed_point}
+use Rattle.num_format_decimal.specs.Text.{decimal_text}
+use Rattle.num_format_decimal.specs.declared.decimal.TheConstants.{MAX_SCALE}
 use Rattle.num_format_c.specs.Held.{Agrees, HasFormat, IsPadded, format_of, format_with, grouping_of}
 use Rattle.num_format_c.specs.declared.format.NumFormat.{NumFormat}
 use Rattle.num_format_c.specs.declared.status.Status.{Status}
-use Rattle.num_format_c.specs.declared.status.Status.TheVariants.{BadFormat, TooSmall, NotUtf8, NotANumber, UnknownLocale, TooLong, BadGrouping, BadBits, Unexpected, NoDigit, Misspelled, OutOfRange}
+use Rattle.num_format_c.specs.declared.status.Status.TheVariants.{BadFormat, TooSmall, NotUtf8, NotANumber, UnknownLocale, TooLong, BadGrouping, BadBits, Unexpected, NoDigit, Misspelled, OutOfRange, BadScale}
 
 -- the number by which an error crosses to C; `negsuc n` is the number one below -n
 abbrev pub code : Status → ℤ
@@ -30,6 +33,7 @@ code Unexpected = negsuc 8
 code NoDigit = negsuc 9
 code Misspelled = negsuc 10
 code OutOfRange = negsuc 11
+code BadScale = negsuc 12
 
 -- the number that a call returns
 abbrev pub returned : Result ℤ Status → ℤ
@@ -55,6 +59,12 @@ pub record Writes (text old new : List ℕ) (result : ℤ) : Type 0 where
 pub record Prints (s : NumFormat) (z : ℤ) (old new : List ℕ) (result : ℤ) : Type 0 where
   pub bad_format : ¬ HasFormat s → Fails BadFormat old new result
   pub text : HasFormat s → Writes (text_of (format_of s) z) old new result
+
+-- a decimal is printed under the format of a struct into an array
+pub record PrintsDecimal (s : NumFormat) (units : ℤ) (scale : ℕ) (old new : List ℕ) (result : ℤ) : Type 0 where
+  pub bad_scale : MAX_SCALE < scale → Fails BadScale old new result
+  pub bad_format : scale ≤ MAX_SCALE → ¬ HasFormat s → Fails BadFormat old new result
+  pub text : scale ≤ MAX_SCALE → HasFormat s → Writes (decimal_text (format_of s) (fixed_point units scale)) old new result
 
 -- a text is parsed under the format of a struct as a number of the kind
 pub record Parses {A : Type 0} (k : Kind) (value : A → ℤ) (s : NumFormat) (text : List ℕ) (result : Result A Status) : Type 0 where
@@ -129,12 +139,20 @@ pub record FillsLocale (name : List ℕ) (old new : NumFormat) (result : ℤ) : 
   pub unknown : IsUtf8 name → ((place : ℕ) → place < LEN → ¬ Spells name (name_of place)) → Fails UnknownLocale old new result
   pub found : IsUtf8 name → (place : ℕ) → place < LEN → Spells name (name_of place) → Fills (locale_data place) new result
 
--- a struct is filled with a separator, a grouping's number and a minus sign
-pub record FillsCustom (separator : List ℕ) (number : ℕ) (minus_sign : List ℕ) (old new : NumFormat) (result : ℤ) : Type 0 where
-  pub not_utf8 : (¬ IsUtf8 separator) ⊎ (¬ IsUtf8 minus_sign) → Fails NotUtf8 old new result
-  pub too_long : IsUtf8 separator → IsUtf8 minus_sign → (8 < length separator) ⊎ (8 < length minus_sign) → Fails TooLong old new result
-  pub bad_grouping : IsUtf8 separator → IsUtf8 minus_sign → length separator ≤ 8 → length minus_sign ≤ 8 → grouping_of number ≡ None → Fails BadGrouping old new result
-  pub filled : IsUtf8 separator → IsUtf8 minus_sign → length separator ≤ 8 → length minus_sign ≤ 8 → IfSome (grouping_of number) (λ grouping. Fills (format_with separator grouping minus_sign) new result)
+-- three texts are UTF-8
+abbrev pub AreUtf8 : List ℕ → List ℕ → List ℕ → Type 0
+AreUtf8 a b c = IsUtf8 a × (IsUtf8 b × IsUtf8 c)
+
+-- three texts have at most 8 bytes each
+abbrev pub AreShort : List ℕ → List ℕ → List ℕ → Type 0
+AreShort a b c = (length a ≤ 8) × ((length b ≤ 8) × (length c ≤ 8))
+
+-- a struct is filled with a separator, a grouping's number, a minus sign and a decimal mark
+pub record FillsCustom (separator : List ℕ) (number : ℕ) (minus_sign decimal_mark : List ℕ) (old new : NumFormat) (result : ℤ) : Type 0 where
+  pub not_utf8 : ¬ AreUtf8 separator minus_sign decimal_mark → Fails NotUtf8 old new result
+  pub too_long : AreUtf8 separator minus_sign decimal_mark → ¬ AreShort separator minus_sign decimal_mark → Fails TooLong old new result
+  pub bad_grouping : AreUtf8 separator minus_sign decimal_mark → AreShort separator minus_sign decimal_mark → grouping_of number ≡ None → Fails BadGrouping old new result
+  pub filled : AreUtf8 separator minus_sign decimal_mark → AreShort separator minus_sign decimal_mark → IfSome (grouping_of number) (λ grouping. Fills (format_with separator grouping minus_sign decimal_mark) new result)
 
 -- the name of the locale at a place is written into an array
 pub record WritesName (place : ℕ) (old new : List ℕ) (result : ℤ) : Type 0 where

@@ -12,9 +12,10 @@ grouping_of number =
     if number == 1 then Some Standard else (if number == 2 then Some Indian else (if number == 3 then Some Posix else
     (if number == 4 then Some Myriad else (if number == 5 then Some Sparse else None))))
 
--- the data of `en`, but for the three that the text of a whole number depends on
-abbrev pub format_with : List ℕ → Grouping → List ℕ → FormatData
-format_with separator grouping minus_sign = record english { separator = separator; grouping = grouping; minus_sign = minus_sign }
+-- the data of `en`, but for the four that the text of a number depends on
+abbrev pub format_with : List ℕ → Grouping → List ℕ → List ℕ → FormatData
+format_with separator grouping minus_sign decimal_mark =
+    record english { separator = separator; grouping = grouping; minus_sign = minus_sign; decimal = decimal_mark }
 
 -- the separator of a struct
 abbrev pub separator_of : NumFormat → List ℕ
@@ -24,14 +25,19 @@ separator_of s = take s.separator_len s.separator
 abbrev pub minus_sign_of : NumFormat → List ℕ
 minus_sign_of s = take s.minus_sign_len s.minus_sign
 
+-- the decimal mark of a struct
+abbrev pub decimal_mark_of : NumFormat → List ℕ
+decimal_mark_of s = take s.decimal_mark_len s.decimal_mark
+
 -- a text in an array of 8 bytes, with zeros after it
 abbrev pub padded : List ℕ → List ℕ
 padded text = text ++ replicate (8 - length text) 0
 
--- in both arrays of the struct, the bytes after the text are zero
+-- in each array of the struct, the bytes after the text are zero
 pub record IsPadded (s : NumFormat) : Type 0 where
   pub separator : s.separator ≡ padded (separator_of s)
   pub minus_sign : s.minus_sign ≡ padded (minus_sign_of s)
+  pub decimal_mark : s.decimal_mark ≡ padded (decimal_mark_of s)
 
 -- the texts of the struct are UTF-8 within their arrays
 pub record HasTexts (s : NumFormat) : Type 0 where
@@ -39,6 +45,8 @@ pub record HasTexts (s : NumFormat) : Type 0 where
   pub separator : IsUtf8 (separator_of s)
   pub minus_sign_fits : s.minus_sign_len ≤ 8
   pub minus_sign : IsUtf8 (minus_sign_of s)
+  pub decimal_mark_fits : s.decimal_mark_len ≤ 8
+  pub decimal_mark : IsUtf8 (decimal_mark_of s)
 
 -- the struct has a format: it has texts, and its number stands for a grouping
 pub record HasFormat (s : NumFormat) : Type 0 where
@@ -47,10 +55,11 @@ pub record HasFormat (s : NumFormat) : Type 0 where
 
 -- the format that a struct has
 abbrev pub format_of : NumFormat → FormatData
-format_of s = format_with (separator_of s) (unwrap_or (grouping_of s.grouping) Posix) (minus_sign_of s)
+format_of s = format_with (separator_of s) (unwrap_or (grouping_of s.grouping) Posix) (minus_sign_of s) (decimal_mark_of s)
 
--- two formats agree in the three data that the text of a whole number depends on
+-- two formats agree in the four data that the text of a number depends on
 pub record Agrees (f g : FormatData) : Type 0 where
   pub separator : f.separator ≡ g.separator
   pub grouping : f.grouping ≡ g.grouping
   pub minus_sign : f.minus_sign ≡ g.minus_sign
+  pub decimal_mark : f.decimal ≡ g.decimal

@@ -1,17 +1,21 @@
 //! What the calls do, with Rust's types.
-ghost use Rattle.std.specs.Prelude.{◌≡◌, ◌≢◌, ◌+◌, ◌≤◌, length, pos, Err, MatchOption, if◌then◌else◌};
+ghost use Rattle.std.specs.Prelude.{◌≡◌, ◌≢◌, ◌+◌, ◌<◌, ◌≤◌, length, pos, Err, MatchOption, if◌then◌else◌};
 ghost use Rattle.num_format.specs.Alike.{Alike};
 ghost use Rattle.num_format.specs.RoundTrips.{RoundTrips};
 ghost use Rattle.num_format.specs.Text.{text_of};
-ghost use Rattle.num_format_c.specs.Calls.{FillsCustom, FillsLocale, Parses, ParsesExactly, Prints, Tells, Writes, WritesName, place_of, returned, signed_kind, status_of, unsigned_kind};
+ghost use Rattle.num_format_decimal.specs.FixedPoint.{fixed_point};
+ghost use Rattle.num_format_decimal.specs.declared.buffer.TheConstants.{MAX_DECIMAL_LEN};
+ghost use Rattle.num_format_decimal.specs.declared.decimal.TheConstants.{MAX_SCALE};
+ghost use Rattle.num_format_c.specs.Calls.{FillsCustom, FillsLocale, Parses, ParsesExactly, Prints, PrintsDecimal, Tells, Writes, WritesName, place_of, returned, signed_kind, status_of, unsigned_kind};
 ghost use Rattle.num_format_c.specs.declared.status.Status.TheVariants.{BadBits};
 ghost use Rattle.num_format_c.specs.Held.{HasFormat, format_of};
 
 use crate::format::{Held, NumFormat, grouping_of};
 use crate::status::Status;
 use num_format::parsing::{FromFormattedStr, ParseBytesError, StrictError};
-use num_format::utils::{MinusSignStr, SeparatorStr};
+use num_format::utils::{DecimalStr, MinusSignStr, SeparatorStr};
 use num_format::{Buffer, Format, Locale, ToFormattedStr};
+use num_format_decimal::{Decimal, DecimalBuffer};
 use num_format_int::buffer::copy_bytes;
 
 /// Fills the struct with the format of the locale, and returns 0.
@@ -56,6 +60,33 @@ fn print_under<F: Format, N: ToFormattedStr>(
     ensures { Writes (text_of (F.answers format.now) (N.value number.now)) text.old text.new (returned result) }
 {
     write(Buffer::of(number, format).as_str(), text)
+}
+
+/// Prints the decimal at the start of the array, and returns the length of the text.
+pub fn print_decimal(
+    format: &NumFormat,
+    units: i128,
+    scale: u32,
+    text: &mut [u8],
+) -> Result<i32, Status>
+    ensures { PrintsDecimal format.now units scale text.old text.new (returned result) }
+{
+    let Some(number) = decimal_of(units, scale) else {
+        return Err(Status::BadScale);
+    };
+    let Some(format) = Held::new(format) else {
+        return Err(Status::BadFormat);
+    };
+    write(DecimalBuffer::of(&number, &format).as_str(), text)
+}
+
+/// Returns the decimal with these units and this scale, or `None` if the scale is too large.
+fn decimal_of(units: i128, scale: u32) -> Option<Decimal>
+    ensures { MatchOption result (MAX_SCALE < scale)
+        (λ number. (scale ≤ MAX_SCALE) × (number ≡ fixed_point units scale)) }
+{
+    let scale = u8::try_from(scale).ok()?;
+    Decimal::new(units, scale).ok()
 }
 
 /// Parses the text as a number of the type.
@@ -202,23 +233,28 @@ pub fn parse_strict_unsigned(
     }
 }
 
-/// Fills the struct with the format of a separator, a grouping's number and a minus sign, and
-/// returns 0.
+/// Fills the struct with the format of a separator, a grouping's number, a minus sign and a decimal mark,
+/// and returns 0.
 pub fn fill_custom(
     format: &mut NumFormat,
     separator: &[u8],
     grouping: u32,
     minus_sign: &[u8],
+    decimal_mark: &[u8],
 ) -> Result<i32, Status>
-    ensures { FillsCustom separator.now grouping minus_sign.now format.old format.new (returned result) }
+    ensures { FillsCustom separator.now grouping minus_sign.now decimal_mark.now format.old format.new (returned result) }
 {
-    let (Ok(separator), Ok(minus_sign)) = (str::from_utf8(separator), str::from_utf8(minus_sign))
-    else {
+    let (Ok(separator), Ok(minus_sign), Ok(decimal_mark)) = (
+        str::from_utf8(separator),
+        str::from_utf8(minus_sign),
+        str::from_utf8(decimal_mark),
+    ) else {
         return Err(Status::NotUtf8);
     };
-    let (Ok(separator), Ok(minus_sign)) = (
+    let (Ok(separator), Ok(minus_sign), Ok(decimal_mark)) = (
         SeparatorStr::new(separator),
         MinusSignStr::new(minus_sign),
+        DecimalStr::new(decimal_mark),
     ) else {
         return Err(Status::TooLong);
     };
@@ -229,6 +265,7 @@ pub fn fill_custom(
         separator,
         grouping,
         minus_sign,
+        decimal_mark,
     });
     Ok(0)
 }
@@ -236,7 +273,7 @@ pub fn fill_custom(
 /// Writes the text at the start of the array, and returns its length.
 #[inline(always)]
 fn write(text: &str, array: &mut [u8]) -> Result<i32, Status>
-    requires { length text.now ≤ 191 }
+    requires { length text.now ≤ MAX_DECIMAL_LEN }
     ensures { Writes text.now array.old array.new (returned result) }
 {
     let len = text.len();

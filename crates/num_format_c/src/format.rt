@@ -6,7 +6,7 @@ ghost use Rattle.num_format_c.specs.Held.{Agrees, HasFormat, HasTexts, IsPadded,
 use num_format::utils::{DecimalStr, InfinityStr, MinusSignStr, NanStr, PlusSignStr, SeparatorStr};
 use num_format::{Format, Grouping};
 
-/// The most bytes of a separator or a minus sign.
+/// The most bytes of a separator, a minus sign or a decimal mark.
 const CAPACITY: usize = 8;
 
 /// A format as a C program owns it. It may have any bytes: [`Held::new`] says whether they are those
@@ -18,8 +18,10 @@ const CAPACITY: usize = 8;
 pub struct NumFormat {
     pub separator: [u8; CAPACITY],
     pub minus_sign: [u8; CAPACITY],
+    pub decimal_mark: [u8; CAPACITY],
     pub separator_len: u8,
     pub minus_sign_len: u8,
+    pub decimal_mark_len: u8,
     pub grouping: u8,
 }
 
@@ -32,16 +34,19 @@ impl NumFormat {
     {
         let separator = format.separator().into_str();
         let minus_sign = format.minus_sign().into_str();
+        let decimal_mark = format.decimal().into_str();
         NumFormat {
             separator: padded(separator),
             minus_sign: padded(minus_sign),
+            decimal_mark: padded(decimal_mark),
             separator_len: separator.len() as u8,
             minus_sign_len: minus_sign.len() as u8,
+            decimal_mark_len: decimal_mark.len() as u8,
             grouping: number_of(format.grouping()),
         }
     }
 
-    /// Returns whether both texts are short. Those of most formats are.
+    /// Returns whether all texts are short. Those of most formats are.
     ///
     /// It calls no function, so that printing and parsing save no registers before it.
     #[inline(always)]
@@ -50,9 +55,10 @@ impl NumFormat {
     {
         has_short_text(&self.separator, self.separator_len)
             && has_short_text(&self.minus_sign, self.minus_sign_len)
+            && has_short_text(&self.decimal_mark, self.decimal_mark_len)
     }
 
-    /// Returns whether both texts are UTF-8 within their arrays. It is not inlined, since few calls need
+    /// Returns whether all texts are UTF-8 within their arrays. It is not inlined, since few calls need
     /// it.
     #[cold]
     #[inline(never)]
@@ -61,6 +67,7 @@ impl NumFormat {
     {
         has_text(&self.separator, self.separator_len)
             && has_text(&self.minus_sign, self.minus_sign_len)
+            && has_text(&self.decimal_mark, self.decimal_mark_len)
     }
 }
 
@@ -75,13 +82,14 @@ fn padded(text: &str) -> [u8; CAPACITY]
     bytes
 }
 
-/// A format whose texts are elsewhere, with the data that the text of a whole number depends on. The
-/// others are those of the locale `en`.
+/// A format whose texts are elsewhere, with the data that the text of a number depends on. The others are
+/// those of the locale `en`.
 #[derive(Drop)]
 pub struct Held<'a> {
     pub separator: SeparatorStr<'a>,
     pub grouping: Grouping,
     pub minus_sign: MinusSignStr<'a>,
+    pub decimal_mark: DecimalStr<'a>,
 }
 
 impl<'a> Held<'a> {
@@ -89,7 +97,7 @@ impl<'a> Held<'a> {
     #[inline(always)]
     pub fn new(format: &'a NumFormat) -> Option<Held<'a>>
         ensures { MatchOption result (¬ (HasFormat format.now))
-            (λ h. (HasFormat format.now) × (format_with h.separator h.grouping h.minus_sign ≡ format_of format.now)) }
+            (λ h. (HasFormat format.now) × (format_with h.separator h.grouping h.minus_sign h.decimal_mark ≡ format_of format.now)) }
     {
         let grouping = grouping_of(format.grouping as u32)?;
         if !format.has_short_texts() && !format.has_texts() {
@@ -97,10 +105,12 @@ impl<'a> Held<'a> {
         }
         let separator = text_at(&format.separator, format.separator_len);
         let minus_sign = text_at(&format.minus_sign, format.minus_sign_len);
+        let decimal_mark = text_at(&format.decimal_mark, format.decimal_mark_len);
         Some(Held {
             separator: SeparatorStr::of(separator),
             grouping,
             minus_sign: MinusSignStr::of(minus_sign),
+            decimal_mark: DecimalStr::of(decimal_mark),
         })
     }
 }
@@ -180,10 +190,10 @@ fn number_of(grouping: Grouping) -> u8
 }
 
 impl<'a> Format for Held<'a> {
-    ghost answers = { λ h. format_with h.separator h.grouping h.minus_sign };
+    ghost answers = { λ h. format_with h.separator h.grouping h.minus_sign h.decimal_mark };
 
     fn decimal(&self) -> DecimalStr<'_> {
-        DecimalStr::of(".")
+        self.decimal_mark.copied()
     }
 
     fn grouping(&self) -> Grouping {

@@ -8,11 +8,11 @@
 //! it was.
 #![tactic(auto)]
 
-ghost use Rattle.std.specs.Prelude.{◌≡◌, ◌+◌, ◌*◌, ◌^◌, pos, MatchOption};
+ghost use Rattle.std.specs.Prelude.{◌≡◌, ◌+◌, ◌*◌, ◌^◌, codes, pos, MatchOption};
 ghost use Rattle.num_format.specs.Alike.{Alike};
 ghost use Rattle.num_format.specs.Kind.{kind_of, I128, U128};
 ghost use Rattle.num_format.specs.RoundTrips.{RoundTrips};
-ghost use Rattle.num_format_c.specs.Calls.{Fails, FillsCustom, FillsLocale, ParsesExactlyInto, ParsesInto, Prints, Tells, WritesName, signed_kind, signed_wide, unsigned_kind, unsigned_wide};
+ghost use Rattle.num_format_c.specs.Calls.{Fails, FillsCustom, FillsLocale, ParsesExactlyInto, ParsesInto, Prints, PrintsDecimal, Tells, WritesName, signed_kind, signed_wide, unsigned_kind, unsigned_wide};
 ghost use Rattle.num_format_c.specs.declared.status.Status.TheVariants.{BadBits};
 ghost use Rattle.num_format_c.specs.Held.{HasFormat, format_of};
 
@@ -33,8 +33,8 @@ pub extern "C" fn num_format_locale(format: &mut NumFormat, name: &[u8]) -> i32
     returned(calls::fill_locale(format, name))
 }
 
-/// Fills the struct with a separator and a minus sign of at most 8 bytes each and the grouping for
-/// which the number stands, and returns 0.
+/// Fills the struct with a separator and a minus sign of at most 8 bytes each, the grouping for which the
+/// number stands, and the decimal mark `.`, and returns 0.
 ///
 /// Errors, in this order: a text that is not UTF-8, a text that is too long, a number of no grouping.
 #[unsafe(no_mangle)]
@@ -44,9 +44,31 @@ pub extern "C" fn num_format_custom(
     grouping: u32,
     minus_sign: &[u8],
 ) -> i32
-    ensures { FillsCustom separator.now grouping minus_sign.now format.old format.new result }
+    ensures { FillsCustom separator.now grouping minus_sign.now (codes ".") format.old format.new result }
 {
-    returned(calls::fill_custom(format, separator, grouping, minus_sign))
+    returned(calls::fill_custom(
+        format, separator, grouping, minus_sign, b".",
+    ))
+}
+
+/// Fills the struct as [`num_format_custom`] does, but with this decimal mark, of at most 8 bytes.
+#[unsafe(no_mangle)]
+pub extern "C" fn num_format_custom_decimal(
+    format: &mut NumFormat,
+    separator: &[u8],
+    grouping: u32,
+    minus_sign: &[u8],
+    decimal_mark: &[u8],
+) -> i32
+    ensures { FillsCustom separator.now grouping minus_sign.now decimal_mark.now format.old format.new result }
+{
+    returned(calls::fill_custom(
+        format,
+        separator,
+        grouping,
+        minus_sign,
+        decimal_mark,
+    ))
 }
 
 /// Prints the number at the start of the array, and returns the length of its text, at most 191.
@@ -92,6 +114,25 @@ pub extern "C" fn num_format_print_i128(
     ensures { Prints format.now (signed_wide low high) text.old text.new result }
 {
     returned(calls::print(format, &joined(low, high).cast_signed(), text))
+}
+
+/// Prints the decimal whose units have these halves in two's complement at the start of the array, and
+/// returns the length of its text, at most 199.
+///
+/// Errors, in this order: a scale above 38, a struct that has no format, an array that is shorter than the
+/// text.
+#[unsafe(no_mangle)]
+pub extern "C" fn num_format_print_decimal(
+    format: &NumFormat,
+    low: u64,
+    high: u64,
+    scale: u32,
+    text: &mut [u8],
+) -> i32
+    ensures { PrintsDecimal format.now (signed_wide low high) scale text.old text.new result }
+{
+    let units = joined(low, high).cast_signed();
+    returned(calls::print_decimal(format, units, scale, text))
 }
 
 /// Parses the text as a signed number of 8, 16, 32 or 64 bits, writes the number, and returns 0.

@@ -15,7 +15,7 @@ pub enum Status {
     NotANumber,
     /// No locale has the name, or there is none at the place.
     UnknownLocale,
-    /// The separator or the minus sign has more than 8 bytes.
+    /// The separator, the minus sign or the decimal mark has more than 8 bytes.
     TooLong,
     /// The number stands for no grouping.
     BadGrouping,
@@ -29,6 +29,8 @@ pub enum Status {
     Misspelled,
     /// The text is as its number is printed, and is refused as a number of the kind.
     OutOfRange,
+    /// A decimal has no such scale.
+    BadScale,
 }
 
 impl Status {
@@ -49,6 +51,7 @@ impl Status {
             Status::NoDigit => -10,
             Status::Misspelled => -11,
             Status::OutOfRange => -12,
+            Status::BadScale => -13,
         }
     }
 }
