@@ -36,6 +36,11 @@ ROUNDINGS = {
     "TowardZero": decimal.ROUND_DOWN,
 }
 
+# Each error, and its message.
+SCALE_TOO_LARGE = "ScaleTooLarge: The scale is larger than 38."
+DIGITS_LOST = "DigitsLost: Digits would be lost at that scale."
+OUT_OF_RANGE = "OutOfRange: The units are out of range."
+
 # Rows whose results say most: the ends of i128 at each scale, signs of small numbers, halves, and equal values.
 EXAMPLES = [
     ("english", -50, 2, -5, 1, 0),
@@ -83,15 +88,15 @@ def units_of(number, scale):
 
 def rescaled(units, scale, to, rounding):
     if to > 38:
-        return "ScaleTooLarge"
+        return SCALE_TOO_LARGE
     number = value(units, scale)
     if rounding is None:
         there = units_of(number, to)
         if there is None:
-            return "DigitsLost"
+            return DIGITS_LOST
     else:
         there = units_of(number.quantize(Decimal(1).scaleb(-to), rounding=rounding), to)
-    return written(there, to) or "OutOfRange"
+    return written(there, to) or OUT_OF_RANGE
 
 
 def expected(row):
@@ -100,6 +105,8 @@ def expected(row):
     larger = max(scale, other_scale)
     return "\t".join([
         text(name, units, scale),
+        # Each way of printing has that text.
+        "true",
         *(rescaled(units, scale, to, rounding) for rounding in [*ROUNDINGS.values(), None]),
         "less" if first < second else "greater" if first > second else "equal",
         "true" if first == second else "false",
@@ -139,7 +146,7 @@ def some_row(chance):
 
 def main():
     chance = random.Random(7)
-    rows = EXAMPLES + [some_row(chance) for _ in range(5000 - len(EXAMPLES))]
+    rows = EXAMPLES + [some_row(chance) for _ in range(4500 - len(EXAMPLES))]
     lines = ["\t".join(map(str, row)) for row in rows]
     (CRATE / "stdin").write_text("\n".join(lines) + "\n")
     (CRATE / "stdout").write_text("\n".join(map(expected, rows)) + "\n")

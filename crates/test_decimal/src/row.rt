@@ -1,7 +1,7 @@
 //! A row of numbers, and what is printed for it.
 
 use num_format_custom::CustomFormat;
-use num_format_decimal::{Decimal, Rounding};
+use num_format_decimal::{Decimal, DecimalBuffer, Rounding};
 use num_format_text::Grouping;
 use std::alloc::{AllocError, Global};
 use std::cmp::Ordering;
@@ -36,11 +36,13 @@ impl Row {
         })
     }
 
-    /// Prints a line with the text of the first decimal, itself at the scale under each rounding, its order
-    /// beside the second, whether both are hashed alike, their sum, their difference, and the first one negated.
+    /// Prints a line with the text of the first decimal, whether each way of printing has that text, the decimal
+    /// at the scale under each rounding, its order beside the second, whether both are hashed alike, their sum,
+    /// their difference, and the first one negated.
     pub fn print(&self, rt: &impl Print, alloc: Global) -> io::Result<()> {
         let text = self.first.to_formatted_string(alloc, &self.format)?;
-        print!(rt; "{text}")?;
+        let is_printed = self.is_displayed(alloc, &text)? && self.is_written(alloc, &text)?;
+        print!(rt; "{text}\t{is_printed}")?;
         for rounding in [
             Rounding::HalfEven,
             Rounding::HalfAwayFromZero,
@@ -62,11 +64,34 @@ impl Row {
         println!(rt; "\t{order}\t{alike}\t{sum}\t{difference}\t{negated}")
     }
 
-    /// Returns the first decimal at the scale, or the error.
+    /// Returns whether the first decimal is displayed as this text, and its buffer too.
+    fn is_displayed(&self, alloc: Global, text: &str) -> Result<bool, AllocError> {
+        let decimal = self.first.formatted(&self.format);
+        let buffer = DecimalBuffer::of(&self.first, &self.format);
+        let displayed = format!(in alloc; "{decimal} {decimal:?} {buffer} {buffer:?}")?;
+        let expected = format!(in alloc; "{text} {text} {text} {text}")?;
+        Ok(displayed == expected && buffer.as_str() == text && buffer.as_bytes() == text.as_bytes())
+    }
+
+    /// Returns whether the first decimal is written as this text, by a writer of text and one of bytes.
+    fn is_written(&self, alloc: Global, text: &str) -> io::Result<bool> {
+        let mut string = String::new(alloc);
+        let written = self.first.read_to_fmt_writer(&mut string, &self.format);
+        let mut bytes = Vec::new(alloc);
+        let count = self.first.read_to_io_writer(&mut bytes, &self.format)?;
+        Ok(
+            written == Ok(count)
+                && count == text.len()
+                && string.as_str() == text
+                && bytes.as_slice() == text.as_bytes(),
+        )
+    }
+
+    /// Returns the first decimal at the scale, or the error with its message.
     fn rescaled(&self, alloc: Global, rounding: Rounding) -> Result<String, AllocError> {
         match self.first.rescale(self.scale, rounding) {
             Ok(decimal) => written(alloc, Some(decimal)),
-            Err(error) => format!(in alloc; "{error:?}"),
+            Err(error) => format!(in alloc; "{error:?}: {error}"),
         }
     }
 }
