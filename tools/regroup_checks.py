@@ -11,6 +11,16 @@ USAGE = "usage: regroup COMMAND ARGUMENT...\n"
 UNKNOWN_LOCALE = "Failed to parse xx into a valid locale.\n"
 NO_NUMBER = "Failed to parse one into a number.\n"
 I128_MIN = "-170141183460469231731687303715884105728"
+I128_MAX = "170141183460469231731687303715884105727"
+PAST_I128_MIN = "-170141183460469231731687303715884105729"
+PAST_I128_MAX = "170141183460469231731687303715884105728"
+
+# The largest and the smallest i128 under `en`.
+GROUPED_MAX = "170,141,183,460,469,231,731,687,303,715,884,105,727"
+GROUPED_MIN = "-170,141,183,460,469,231,731,687,303,715,884,105,728"
+
+# More words than any command has arguments.
+MANY = 40 * ["extra"]
 
 # The longest text of a number: 191 bytes.
 LONGEST = "abcdefgh" + "12345678".join(
@@ -34,9 +44,15 @@ COMMANDS = [
     (["print", "as", "-1234567"], 0, "-12,34,567\n", ""),
     (["print", "en_IN", "100000"], 0, "1,00,000\n", ""),
     (["print", "fr", "-1000000"], 0, "-1\u202f000\u202f000\n", ""),
+    (["print", "en", I128_MAX], 0, f"{GROUPED_MAX}\n", ""),
+    (["print", "en", I128_MIN], 0, f"{GROUPED_MIN}\n", ""),
+    (["print", "en", "+0"], 0, "0\n", ""),
+    (["print", "en", "-0"], 0, "0\n", ""),
     (["read", "en", " -5"], 0, "5\n", ""),
     (["read", "as", "-12,34,567"], 0, "-1234567\n", ""),
     (["read", "en", I128_MIN], 0, f"{I128_MIN}\n", ""),
+    (["read", "en", GROUPED_MIN], 0, f"{I128_MIN}\n", ""),
+    (["read", "en", GROUPED_MAX], 0, f"{I128_MAX}\n", ""),
     (["check", "en"], 0, "true\n", ""),
     (["check", "fa"], 0, "true\n", ""),
     (["alike", "ru", "xh"], 0, "true\n", ""),
@@ -52,6 +68,8 @@ COMMANDS = [
     (["print", "xx", "1"], 1, "", UNKNOWN_LOCALE),
     (["read", "xx", "one"], 1, "", UNKNOWN_LOCALE),
     (["read", "en", "one"], 1, "", NO_NUMBER),
+    (["read", "en", PAST_I128_MAX], 1, "", f"Failed to parse {PAST_I128_MAX} into a number.\n"),
+    (["read", "en", PAST_I128_MIN], 1, "", f"Failed to parse {PAST_I128_MIN} into a number.\n"),
     (["check", "xx"], 1, "", UNKNOWN_LOCALE),
     (["alike", "en", "xx"], 1, "", UNKNOWN_LOCALE),
     (["alike", "xx", "yy"], 1, "", UNKNOWN_LOCALE),
@@ -73,11 +91,25 @@ COMMANDS = [
     (["print", "en"], 2, "", USAGE),
     (["print", "en", "1e3"], 2, "", USAGE),
     (["print", "xx", "1e3"], 2, "", USAGE),
+    (["print", "en", PAST_I128_MAX], 2, "", USAGE),
+    (["print", "en", PAST_I128_MIN], 2, "", USAGE),
     (["names", "x"], 2, "", USAGE),
     (["--", "names"], 2, "", USAGE),
     (["read", "en"], 2, "", USAGE),
     (["check"], 2, "", USAGE),
     (["alike", "en"], 2, "", USAGE),
+    *[
+        ([*words, *MANY], 2, "", USAGE)
+        for words in [
+            ["custom", ",", "Standard", "-", "1"],
+            ["print", "en", "1"],
+            ["names"],
+            ["read", "en", "1"],
+            ["check", "en"],
+            ["alike", "ru", "xh"],
+            ["costume"],
+        ]
+    ],
     (["print", b"\xff", "1"], 3, "", ""),
 ]
 
