@@ -73,7 +73,7 @@ above_low : (n : ℕ) (low : ℤ) → low ≤ℤ negsuc n → suc n ≤ unsigned
 above_low n (pos m) h = absurd (omega (arith, ints))
 above_low n (negsuc m) h = omega (arith, ints)
 
-is_negative-pos : (n : ℕ) → is_negative (pos n) ≡ false
+pub is_negative-pos : (n : ℕ) → is_negative (pos n) ≡ false
 is_negative-pos n = grind (arith, nat_tests)
 
 -- only a kind that has negative values has one
@@ -101,7 +101,7 @@ pub record Tells (f : FormatData) (z : ℤ) (text : List ℕ) : Type 0 where
   pub plain : list_any is_other_numeral (chars text) ≡ false
   pub sign : is_negative_text f text ≡ is_negative z
 
-signed_number-unsigned_abs : (z : ℤ) → signed_number (is_negative z) (unsigned_abs z) ≡ z
+pub signed_number-unsigned_abs : (z : ℤ) → signed_number (is_negative z) (unsigned_abs z) ≡ z
 signed_number-unsigned_abs (pos n) = rw (is_negative-pos n)
 signed_number-unsigned_abs (negsuc n) = refl
 
@@ -139,7 +139,7 @@ pub reads_back-from_tells : (t : IntegerType) (f : FormatData) (z : ℤ) → IsV
 reads_back-from_tells t f z value tells = record { accepted = accepted-from_tells t f z (text_of f z) value tells; same = tells-same f z (text_of f z) tells }
 
 -- a minus sign without digits is no prefix of a text that begins with a digit
-no_prefix : (sign rest tail : List ℕ) (d : ℕ) → d < 10 → ¬ (sign ≡ []) → digits_among (chars sign) ≡ [] → ¬ ((48 + d) ∷ rest ≡ sign ++ tail)
+pub no_prefix : (sign rest tail : List ℕ) (d : ℕ) → d < 10 → ¬ (sign ≡ []) → digits_among (chars sign) ≡ [] → ¬ ((48 + d) ∷ rest ≡ sign ++ tail)
 no_prefix [] rest tail d small given none same = given refl
 no_prefix (c ∷ sign) rest tail d small given none same =
     let first : c ≡ 48 + d = cc in
@@ -147,7 +147,7 @@ no_prefix (c ∷ sign) rest tail d small given none same =
     omega (arith, ap length begins, ap length none)
 
 -- separated digits begin with a digit
-separated-begins : (is_due : ℕ → Bool) (s ds : List ℕ) → 0 < length ds → AreDigits ds → (d : ℕ) × (d < 10) × (rest : List ℕ) × (separated is_due s ds ≡ (48 + d) ∷ rest)
+pub separated-begins : (is_due : ℕ → Bool) (s ds : List ℕ) → 0 < length ds → AreDigits ds → (d : ℕ) × (d < 10) × (rest : List ℕ) × (separated is_due s ds ≡ (48 + d) ∷ rest)
 separated-begins is_due s [] given below = absurd (omega arith)
 separated-begins is_due s (d ∷ ds) given below = (d, All-head (λ x. x < 10) d ds below, _, refl)
 

@@ -34,7 +34,7 @@ utf8-spelled f text z sign separator spells = elim spells [
 ]
 
 -- and under a format that is not ambiguous it tells the number
-tells-spelled : (f : FormatData) (text : List ℕ) (z : ℤ) → IsUtf8 f.minus_sign → IsUtf8 f.separator → IsUnambiguous f → SpellsNumber f text z → Tells f z text
+pub tells-spelled : (f : FormatData) (text : List ℕ) (z : ℤ) → IsUtf8 f.minus_sign → IsUtf8 f.separator → IsUnambiguous f → SpellsNumber f text z → Tells f z text
 tells-spelled f text z sign separator plain spells = elim spells [
   | with_separators same ↦ subst (Tells f z) (sym same) (tells-text_of f z sign (of_printed IsUtf8 IsUtf8-nil f.grouping f.separator separator) plain)
   | without_separators same ↦

@@ -1,5 +1,10 @@
+pub mod CauseLemmas
 pub mod LawLemmas
+pub mod LocaleMarkLemmas
+pub mod MarkLemmas
 pub mod PartLemmas
 pub mod ScaleLemmas
+pub mod ScaleSearchLemmas
+pub mod SpelledLemmas
 pub mod SumLemmas
 pub mod TextLemmas

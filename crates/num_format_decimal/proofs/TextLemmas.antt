@@ -26,7 +26,7 @@ decimals_after_one k part few below =
     decimal-digits (10 ^ k + part) (omega (arith, power_le k few)) ∙ ap plain (digits-leading_one k part below)
 
 -- the decimals and the digits before them are at most 39 together
-whole_digits : (n k : ℕ) → n < 2 ^ 128 → k ≤ 38 → length (digits (n / 10 ^ k)) + k ≤ 39
+pub whole_digits : (n k : ℕ) → n < 2 ^ 128 → k ≤ 38 → length (digits (n / 10 ^ k)) + k ≤ 39
 whole_digits n k small few =
     elim (cases_lt n (10 ^ k)) [
       | inl below ↦
@@ -59,7 +59,7 @@ pub length-plain : (k n : ℕ) → length (plain (last_digits k n)) ≡ k
 length-plain k n = length-map (last_digits k n) (λ d. 48 + d) ∙ length-last_digits k n
 
 -- a whole number that is not negative has no sign
-text_of_whole : (f : FormatData) (n : ℕ) → text_of f (pos n) ≡ body_of f n
+pub text_of_whole : (f : FormatData) (n : ℕ) → text_of f (pos n) ≡ body_of f n
 text_of_whole f zero = refl
 text_of_whole f (suc n) =
     let sign : is_negative (pos (suc n)) ≡ false = grind (arith, nat_tests) in

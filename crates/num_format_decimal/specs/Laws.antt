@@ -1,14 +1,17 @@
 -- Laws of the order, the text and the rounding of decimals.
-use Rattle.std.specs.Prelude.{◌≡◌, ℕ, ◌+◌, ◌-◌, ◌*◌, ◌/◌, ◌%◌, ◌^◌, ◌<◌, ◌≤◌, pos, negsuc, ◌*ℤ◌, length}
+use Rattle.std.specs.Prelude.{◌≡◌, ◌↔◌, List, [], codes, IsUtf8, ℕ, ◌+◌, ◌-◌, ◌*◌, ◌/◌, ◌%◌, ◌^◌, ◌<◌, ◌≤◌, pos, negsuc, ◌*ℤ◌, length}
 use Rattle.std.specs.Ordering.{int_cmp}
 use Rattle.num_format_text.specs.declared.capacities.TheConstants.{MAX_DEC_LEN, MAX_MIN_LEN, MAX_SEP_LEN}
-use Rattle.num_format_text.specs.declared.grouping.Grouping.TheVariants.{Indian}
+use Rattle.num_format_text.specs.declared.grouping.Grouping.TheVariants.{Indian, Standard}
+use Rattle.num_format_text.specs.English.{english_with}
 use Rattle.num_format_text.specs.Format.{FormatData, IsWithinCapacity}
 use Rattle.num_format_decimal.specs.declared.buffer.TheConstants.{MAX_DECIMAL_LEN}
 use Rattle.num_format_decimal.specs.declared.decimal.TheConstants.{MAX_SCALE}
 use Rattle.num_format_decimal.specs.declared.rounding.Rounding.{Rounding}
 use Rattle.num_format_decimal.specs.declared.rounding.Rounding.TheVariants.{HalfEven, HalfAwayFromZero}
 use Rattle.num_format_decimal.specs.FixedPoint.{FixedPoint, fixed_point}
+use Rattle.num_format_decimal.specs.Marks.{MarksDecimals}
+use Rattle.num_format_decimal.specs.Parsing.{ParsesDecimal, SpellsDecimal}
 use Rattle.num_format_decimal.specs.Rounded.{quotient}
 use Rattle.num_format_decimal.specs.Text.{decimal_text}
 use Rattle.num_format_decimal.specs.Values.{HasUnits, value_of}
@@ -35,3 +38,27 @@ pub record RoundingLaw : Type 0 where
   pub to_even : (m n : ℕ) → 2 * (m % n) ≡ n → quotient HalfEven m n % 2 ≡ 0
   pub half_away : IsNearest HalfAwayFromZero
   pub away : (m n : ℕ) → 2 * (m % n) ≡ n → quotient HalfAwayFromZero m n ≡ m / n + 1
+
+-- parsing returns a decimal exactly if the text spells it; a text spells one decimal at most, so decimals of one text have the same
+-- units and the same scale; and each printed text is parsed to its decimal
+pub record IsDecimalExact (f : FormatData) : Type 0 where
+  pub returned : (t : List ℕ) (d : FixedPoint) → d.scale ≤ MAX_SCALE → HasUnits d → ParsesDecimal f t d ↔ SpellsDecimal f t d
+  pub once : (t : List ℕ) (a b : FixedPoint) → a.scale ≤ MAX_SCALE → HasUnits a → b.scale ≤ MAX_SCALE → HasUnits b → SpellsDecimal f t a → SpellsDecimal f t b → a ≡ b
+  pub printed : (d : FixedPoint) → d.scale ≤ MAX_SCALE → HasUnits d → ParsesDecimal f (decimal_text f d) d
+
+-- parsing is exact under a format that marks decimals, whose texts are UTF-8
+abbrev pub DecimalExactLaw : Type 0
+DecimalExactLaw = (f : FormatData) → IsUtf8 f.minus_sign → IsUtf8 f.separator → IsUtf8 f.decimal → MarksDecimals f → IsDecimalExact f
+
+-- the data of `en` with another decimal mark
+abbrev pub english_marked : List ℕ → FormatData
+english_marked mark = record (english_with Standard (codes ",") (codes "-")) { decimal = mark }
+
+-- under a mark that is the separator, or a digit, or empty, two decimals have one text
+pub record MarkNeededLaw : Type 0 where
+  -- 1,234
+  pub separator : decimal_text (english_marked (codes ",")) (fixed_point (pos 1234) 0) ≡ decimal_text (english_marked (codes ",")) (fixed_point (pos 1234) 3)
+  -- 151
+  pub digit : decimal_text (english_marked (codes "5")) (fixed_point (pos 151) 0) ≡ decimal_text (english_marked (codes "5")) (fixed_point (pos 11) 1)
+  -- 12
+  pub empty : decimal_text (english_marked []) (fixed_point (pos 12) 0) ≡ decimal_text (english_marked []) (fixed_point (pos 12) 1)

@@ -2,8 +2,11 @@
 pub mod Comparing
 pub mod FixedPoint
 pub mod Laws
+pub mod Marks
 pub mod Message
+pub mod Parsing
 pub mod Rounded
+pub mod Shapes
 pub mod Sums
 pub mod Text
 pub mod Values

@@ -20,11 +20,16 @@ pub mod comparing;
 pub mod decimal;
 pub mod error;
 pub mod laws;
+pub mod marks;
+pub mod parsing;
 pub mod printing;
 pub mod rounding;
+mod spelling;
 
 pub use buffer::{DecimalBuffer, MAX_DECIMAL_LEN};
 pub use decimal::{Decimal, MAX_SCALE};
 pub use error::DecimalError;
+pub use marks::marks_decimals;
+pub use parsing::ParseDecimalError;
 pub use printing::FormattedDecimal;
 pub use rounding::Rounding;

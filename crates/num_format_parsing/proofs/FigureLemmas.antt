@@ -88,7 +88,7 @@ figures-bytes t (cs, (scalars, same)) =
     ap (map (λ c. c - 48)) (ap (filter is_ascii_digit) (ap chars (sym same) ∙ chars-encodes cs scalars) ∙ sym (filter-encodes cs) ∙ ap (filter is_ascii_digit) same)
 
 -- numbers below ten after a number that is not zero are its further digits
-digits-after : (m : ℕ) (ds : List ℕ) → 0 < m → All (λ d. d < 10) ds → digits (number_from_digits_after 10 m ds) ≡ digits m ++ ds
+pub digits-after : (m : ℕ) (ds : List ℕ) → 0 < m → All (λ d. d < 10) ds → digits (number_from_digits_after 10 m ds) ≡ digits m ++ ds
 digits-after m [] some below = sym (append-nil (digits m))
 digits-after m (d ∷ ds) some below =
     let small : d < 10 = All-head (λ x. x < 10) d ds below in

@@ -2,6 +2,7 @@
 #![tactic(auto)]
 
 pub mod laws;
+pub mod numeral;
 pub mod parsing;
 mod short;
 pub mod strict;

@@ -295,7 +295,7 @@ fn judge<F: Format>(bytes: &[u8], is_text: bool, format: &F) -> Option<StrictErr
 }
 
 /// Returns whether the bytes are UTF-8.
-fn is_utf8(bytes: &[u8], is_text: bool) -> bool
+pub fn is_utf8(bytes: &[u8], is_text: bool) -> bool
     requires { IsTrue is_text → IsUtf8 bytes.now }
     ensures { IsTrue result ↔ IsUtf8 bytes.now }
 {
@@ -309,7 +309,7 @@ fn is_utf8(bytes: &[u8], is_text: bool) -> bool
 }
 
 /// Returns the separator, or nothing where the grouping prints none.
-fn printed_separator<F: Format>(format: &F) -> &[u8]
+pub fn printed_separator<F: Format>(format: &F) -> &[u8]
     ensures { result.now ≡ printed_separator
         (F.answers format.now).grouping (F.answers format.now).separator }
 {
@@ -320,7 +320,7 @@ fn printed_separator<F: Format>(format: &F) -> &[u8]
 }
 
 /// Returns the place after digits and whole separators, from the start on. A separator is tried first.
-fn expected_end(text: &[u8], start: usize, separator: &[u8]) -> usize
+pub fn expected_end(text: &[u8], start: usize, separator: &[u8]) -> usize
     requires { start ≤ length text.now }
     ensures within { result ≤ length text.now }
     ensures rest { unread separator.now 0 (drop start text.now) ≡ drop result text.now }
@@ -340,7 +340,7 @@ fn expected_end(text: &[u8], start: usize, separator: &[u8]) -> usize
 
 /// Returns whether a text begins with a separator that is not empty. Most bytes are not even its first.
 #[inline]
-fn begins_with(text: &[u8], separator: &[u8]) -> bool
+pub fn begins_with(text: &[u8], separator: &[u8]) -> bool
     requires { 0 < length text.now }
     ensures { result ≡ begins separator.now text.now }
 {
@@ -357,14 +357,14 @@ fn begins_with(text: &[u8], separator: &[u8]) -> bool
 
 /// Returns whether a digit stands among the bytes.
 #[inline]
-fn has_digit(text: &[u8]) -> bool
+pub fn has_digit(text: &[u8]) -> bool
     ensures { result ≡ list_any is_ascii_digit text.now }
 {
     text.iter().any(|byte| byte.is_ascii_digit())
 }
 
 /// Returns how many digits stand among the bytes.
-fn count_digits(text: &[u8]) -> usize
+pub fn count_digits(text: &[u8]) -> usize
     ensures { result ≡ length (byte_figures text.now) }
 {
     let mut count = 0;
@@ -397,7 +397,7 @@ fn is_spelled<F: Format>(text: &[u8], start: usize, format: &F) -> bool
 }
 
 /// Returns the place of the first digit that is not zero, or the length.
-fn leading_zeros_end(text: &[u8]) -> usize
+pub fn leading_zeros_end(text: &[u8]) -> usize
     ensures within { result ≤ length text.now }
     ensures zeros { number_from_digits 10 (byte_figures (take result text.now)) ≡ 0 }
     ensures digit { result < length text.now → BeginsWithDigit (drop result text.now) }
@@ -428,7 +428,7 @@ fn is_due(grouping: Grouping, digits: usize, right: usize) -> bool
 
 /// Returns whether the body is the digits among the bytes of `digits`, of which there are `count`, with
 /// the separators of the grouping.
-fn is_grouped(
+pub fn is_grouped(
     body: &[u8],
     digits: &[u8],
     count: usize,

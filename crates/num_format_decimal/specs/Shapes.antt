@@ -1,0 +1,30 @@
+-- What the steps of parsing a decimal find in a text.
+use Rattle.std.specs.Prelude.{◌≡◌, ℕ, ◌<◌, nat_lt, List, [], ◌++◌, if◌then◌else◌, ℤ, MatchOption, Option}
+use Rattle.std.specs.Int.{is_negative}
+use Rattle.num_format_text.specs.Format.{FormatData}
+use Rattle.num_format_int.specs.Text.{body_of}
+use Rattle.num_format_parsing.specs.Strict.{ungrouped}
+use Rattle.num_format_decimal.specs.Parsing.{SpellsDecimal, denoted_at}
+
+-- the sign of a number: nothing, unless it is negative
+abbrev pub sign_of : FormatData → ℤ → List ℕ
+sign_of f z = if is_negative z then f.minus_sign else []
+
+-- the decimal mark, where there are decimals
+abbrev pub mark_at : FormatData → (scale : ℕ) → List ℕ
+mark_at f scale = if nat_lt 0 scale then f.decimal else []
+
+-- a text is the digits of n, grouped or not
+pub data IsBody (f : FormatData) (t : List ℕ) (n : ℕ) : Type 0 where
+  with_groups : t ≡ body_of f n → IsBody f t n
+  without_groups : t ≡ body_of (ungrouped f) n → IsBody f t n
+
+-- of the scales below a bound, a text spells the number that its digits write at none
+abbrev pub SpellsBelow : FormatData → List ℕ → (bound : ℕ) → Type 0
+SpellsBelow f t bound = (scale : ℕ) → scale < bound → ¬ (SpellsDecimal f t (denoted_at f t scale))
+
+-- or at that one alone
+pub record SpellsOneBelow (f : FormatData) (t : List ℕ) (bound scale : ℕ) : Type 0 where
+  pub below : scale < bound
+  pub spelled : SpellsDecimal f t (denoted_at f t scale)
+  pub only : (other : ℕ) → other < bound → SpellsDecimal f t (denoted_at f t other) → other ≡ scale

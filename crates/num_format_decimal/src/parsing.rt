@@ -1,0 +1,172 @@
+//! Parsing: a text that is exactly as a decimal is printed, or the cause of its refusal.
+//!
+//! A text *spells* a decimal if it is the text of the decimal under the format, or that text without separators.
+//! The units of the decimal that is returned are what the digits of the text write, and its scale is the only one
+//! at which the text spells them. Under a format for which [`marks_decimals`](crate::marks_decimals) is true, each
+//! text that spells a decimal is parsed, and the law [`exact_under`](crate::laws::exact_under) says so.
+ghost use Rattle.std.specs.Prelude.{◌≡◌, ◌↔◌, ◌≤◌, length, drop, Ok, Err, Some, IfOk, IsUtf8, MatchResult};
+ghost use Rattle.num_format_decimal.specs.FixedPoint.{FixedPoint};
+ghost use Rattle.num_format_decimal.specs.Parsing.{HasScale, IsDecimalCause, ParsesDecimal, SpellsNone, after_mark, parse_message_of, unexpected_in_decimal};
+ghost use Rattle.num_format_decimal.specs.declared.parsing.ParseDecimalError.{ParseDecimalError};
+ghost use Rattle.num_format_decimal.specs.declared.parsing.ParseDecimalError.TheVariants as cause;
+ghost use Rattle.num_format_parsing.specs.Strict.{unexpected};
+
+use crate::decimal::{Decimal, MAX_SCALE};
+use crate::spelling::find_scale;
+use num_format_parsing::FromFormattedStr;
+use num_format_parsing::strict::{begins_with, expected_end, has_digit, printed_separator};
+use num_format_text::Format;
+use std::fmt;
+
+/// Why a text was refused as a decimal.
+///
+/// The causes are tried in this order, but for the last: a text that spells a decimal is out of range, and
+/// is refused for no other cause.
+///
+/// It takes 16 bytes, and does not keep the text.
+#[derive(Clone, Copy, Debug, PartialEq, Eq, Hash)]
+pub enum ParseDecimalError {
+    /// The bytes are not UTF-8.
+    NotUtf8,
+    /// The first `at` bytes are the minus sign, if the text begins with it, then digits and whole separators, and
+    /// then one decimal mark with digits, if it is there. The next byte belongs to none of these. A separator
+    /// counts only if the grouping prints one.
+    Unexpected {
+        /// The number of bytes before the unexpected one.
+        at: usize,
+    },
+    /// No byte is unexpected, and the text has no digit.
+    NoDigit,
+    /// No byte is unexpected, and more than [`MAX_SCALE`] digits follow the mark.
+    TooManyDecimals,
+    /// No byte is unexpected, and the text is not as the number is printed: it has a leading zero, no digit before
+    /// the mark or after it, a separator elsewhere than where the format prints one, or is a negative zero.
+    Misspelled,
+    /// The text spells a number whose units are no `i128`. Under a format whose texts have digits of their own, or
+    /// other numerals, it may be one that lenient parsing refuses.
+    OutOfRange,
+}
+
+impl fmt::Display for ParseDecimalError {
+    ghost output = { λ error. Some (parse_message_of error) };
+
+    ghost styled_output = { λ error _. Some (parse_message_of error) };
+
+    /// Writes the message alone, whatever width or fill is asked for.
+    fn fmt<W: fmt::Write>(&self, f: &mut fmt::Formatter<W>) -> fmt::Result {
+        f.write_str(match self {
+            ParseDecimalError::NotUtf8 => "The bytes are not UTF-8.",
+            ParseDecimalError::Unexpected { .. } => "The text has an unexpected byte.",
+            ParseDecimalError::NoDigit => "The text has no digit.",
+            ParseDecimalError::TooManyDecimals => "The text has more than 38 decimals.",
+            ParseDecimalError::Misspelled => "The text is not as the number is printed.",
+            ParseDecimalError::OutOfRange => "The units are out of range.",
+        })
+    }
+}
+
+impl std::error::Error for ParseDecimalError {}
+
+impl Decimal {
+    /// Returns the decimal that the text spells: its scale is the number of digits after the mark.
+    ///
+    /// ```text
+    /// Decimal::from_strict_str("1,234.50", &Locale::en)    // 1234.50, which has scale 2
+    /// Decimal::from_strict_str("1234.5", &Locale::en)      // 1234.5, which has scale 1
+    /// Decimal::from_strict_str(".5", &Locale::en)          // Err(Misspelled)
+    /// Decimal::from_strict_str("1.234.5", &Locale::en)     // Err(Unexpected { at: 5 })
+    /// ```
+    ///
+    /// # Errors
+    ///
+    /// [`ParseDecimalError`] has the causes for which a text is refused. `NotUtf8` is none of a `&str`.
+    pub fn from_strict_str<F: Format>(text: &str, format: &F) -> Result<Decimal, ParseDecimalError>
+        ensures decimal { (d : FixedPoint) → (result ≡ Ok d)
+            ↔ ParsesDecimal (F.answers format.now) text.now d }
+        ensures refused { (e : ParseDecimalError) → (result ≡ Err e)
+            ↔ IsDecimalCause (F.answers format.now) text.now e }
+        ensures utf8 { ¬ (result ≡ Err cause.NotUtf8) }
+    {
+        parse_decimal(text.as_bytes(), format)
+    }
+
+    /// Returns the decimal that the text of these bytes spells, as [`from_strict_str`](Decimal::from_strict_str)
+    /// does.
+    ///
+    /// ```text
+    /// Decimal::from_strict_bytes(b"1,234.50", &Locale::en)    // 1234.50
+    /// Decimal::from_strict_bytes(b"1\xFF", &Locale::en)       // Err(NotUtf8)
+    /// ```
+    ///
+    /// # Errors
+    ///
+    /// [`ParseDecimalError::NotUtf8`] if the bytes are not UTF-8, and else as `from_strict_str`.
+    pub fn from_strict_bytes<F: Format>(bytes: &[u8], format: &F) -> Result<Decimal, ParseDecimalError>
+        ensures decimal { (d : FixedPoint) → (result ≡ Ok d)
+            ↔ ParsesDecimal (F.answers format.now) bytes.now d }
+        ensures refused { (e : ParseDecimalError) → (result ≡ Err e)
+            ↔ IsDecimalCause (F.answers format.now) bytes.now e }
+    {
+        match str::from_utf8(bytes) {
+            Ok(text) => Decimal::from_strict_str(text, format),
+            Err(_) => Err(ParseDecimalError::NotUtf8),
+        }
+    }
+}
+
+/// Returns the decimal that a text spells, or the first cause for which it is refused.
+fn parse_decimal<F: Format>(text: &[u8], format: &F) -> Result<Decimal, ParseDecimalError>
+    requires { IsUtf8 text.now }
+    ensures { MatchResult result
+        (λ d. ParsesDecimal (F.answers format.now) text.now d)
+        (λ e. IsDecimalCause (F.answers format.now) text.now e) }
+{
+    let Some(scale) = find_scale(text, format) else {
+        return Err(refusal(text, format));
+    };
+    match i128::from_formatted_bytes(text, format) {
+        Ok(units) => Ok(Decimal::of(units, scale)),
+        Err(_) => Err(ParseDecimalError::OutOfRange),
+    }
+}
+
+/// Returns why a text is refused that spells no decimal which parsing could return.
+#[cold]
+#[inline(never)]
+fn refusal<F: Format>(text: &[u8], format: &F) -> ParseDecimalError
+    requires { SpellsNone (F.answers format.now) text.now }
+    ensures { IsDecimalCause (F.answers format.now) text.now result }
+{
+    let minus_sign = format.minus_sign().into_str();
+    let is_negative = text.starts_with(minus_sign.as_bytes());
+    let start = if is_negative { minus_sign.len() } else { 0 };
+    let whole = expected_end(text, start, printed_separator(format));
+    let (at, decimals) = decimals_end(text, whole, format);
+    if at < text.len() {
+        return ParseDecimalError::Unexpected { at };
+    }
+    if !has_digit(text) {
+        return ParseDecimalError::NoDigit;
+    }
+    if decimals > MAX_SCALE as usize {
+        return ParseDecimalError::TooManyDecimals;
+    }
+    ParseDecimalError::Misspelled
+}
+
+/// Returns the place after one decimal mark and digits, if the mark stands at the place `whole`, and how many bytes
+/// follow the mark.
+fn decimals_end<F: Format>(text: &[u8], whole: usize, format: &F) -> (usize, usize)
+    requires within { whole ≤ length text.now }
+    requires whole { unexpected (F.answers format.now) text.now ≡ drop whole text.now }
+    ensures within { result.0 ≤ length text.now }
+    ensures rest { unexpected_in_decimal (F.answers format.now) text.now ≡ drop result.0 text.now }
+    ensures decimals { result.1 ≡ length (after_mark (F.answers format.now) text.now) }
+{
+    let mark = format.decimal().into_str().as_bytes();
+    if whole == text.len() || !begins_with(&text[whole..], mark) {
+        return (whole, 0);
+    }
+    let start = whole + mark.len();
+    (expected_end(text, start, &[]), text.len() - start)
+}
