@@ -5,9 +5,15 @@ use Rattle.num_format_int.specs.Kind.{I128, kind_of}
 use Rattle.num_format_parsing.specs.Reading.{denoted, figures, Refused}
 use Rattle.num_format_parsing.specs.Strict.{begins, unexpected, ungrouped, unread}
 use Rattle.num_format_decimal.specs.declared.decimal.TheConstants.{MAX_SCALE}
+use Rattle.num_format_decimal.specs.declared.error.DecimalError.{DecimalError}
+use Rattle.num_format_decimal.specs.declared.parsing.ParseAtScaleError.{ParseAtScaleError}
+use Rattle.num_format_decimal.specs.declared.parsing.ParseAtScaleError.TheVariants.{Parse, Rescale}
 use Rattle.num_format_decimal.specs.declared.parsing.ParseDecimalError.{ParseDecimalError}
 use Rattle.num_format_decimal.specs.declared.parsing.ParseDecimalError.TheVariants.{NotUtf8, Unexpected, NoDigit, TooManyDecimals, Misspelled, OutOfRange}
+use Rattle.num_format_decimal.specs.declared.rounding.Rounding.TheVariants.{Exact}
 use Rattle.num_format_decimal.specs.FixedPoint.{FixedPoint, fixed_point}
+use Rattle.num_format_decimal.specs.Message.{message_of}
+use Rattle.num_format_decimal.specs.Rounded.{CanRescale, CannotRescale, rescaled}
 use Rattle.num_format_decimal.specs.Text.{decimal_text}
 
 -- a text spells d: it is the text of d, or the text of d without grouping
@@ -91,6 +97,24 @@ IsDecimalCause f t TooManyDecimals = HasManyDecimals f t
 IsDecimalCause f t Misspelled = IsMisspelledDecimal f t
 IsDecimalCause f t OutOfRange = IsDecimalOutOfRange f t
 
+-- the text spells a decimal, and d is the same number at the scale
+pub record ParsesAtScale (f : FormatData) (t : List ℕ) (scale : ℕ) (d : FixedPoint) : Type 0 where
+  pub spelled : FixedPoint
+  pub parses : ParsesDecimal f t spelled
+  pub can : CanRescale Exact spelled scale
+  pub same : d ≡ rescaled Exact spelled scale
+
+-- the text spells a decimal that has no such scale
+pub record CannotBeAtScale (f : FormatData) (t : List ℕ) (scale : ℕ) (e : DecimalError) : Type 0 where
+  pub spelled : FixedPoint
+  pub parses : ParsesDecimal f t spelled
+  pub cannot : CannotRescale Exact spelled scale e
+
+-- when a text is refused as a decimal of a scale
+abbrev pub IsAtScaleCause : FormatData → List ℕ → (scale : ℕ) → ParseAtScaleError → Type 0
+IsAtScaleCause f t scale (Parse e) = IsDecimalCause f t e
+IsAtScaleCause f t scale (Rescale e) = CannotBeAtScale f t scale e
+
 -- the message of an error
 abbrev pub parse_message_of : ParseDecimalError → List ℕ
 parse_message_of NotUtf8 = codes "The bytes are not UTF-8."
@@ -99,3 +123,8 @@ parse_message_of NoDigit = codes "The text has no digit."
 parse_message_of TooManyDecimals = codes "The text has more than 38 decimals."
 parse_message_of Misspelled = codes "The text is not as the number is printed."
 parse_message_of OutOfRange = codes "The units are out of range."
+
+-- the message of an error at a scale: that of its cause
+abbrev pub at_scale_message_of : ParseAtScaleError → List ℕ
+at_scale_message_of (Parse e) = parse_message_of e
+at_scale_message_of (Rescale e) = message_of e

@@ -30,6 +30,6 @@ pub use buffer::{DecimalBuffer, MAX_DECIMAL_LEN};
 pub use decimal::{Decimal, MAX_SCALE};
 pub use error::DecimalError;
 pub use marks::marks_decimals;
-pub use parsing::ParseDecimalError;
+pub use parsing::{ParseAtScaleError, ParseDecimal, ParseDecimalError};
 pub use printing::FormattedDecimal;
 pub use rounding::Rounding;

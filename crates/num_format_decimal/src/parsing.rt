@@ -4,14 +4,17 @@
 //! The units of the decimal that is returned are what the digits of the text write, and its scale is the only one
 //! at which the text spells them. Under a format for which [`marks_decimals`](crate::marks_decimals) is true, each
 //! text that spells a decimal is parsed, and the law [`exact_under`](crate::laws::exact_under) says so.
-ghost use Rattle.std.specs.Prelude.{◌≡◌, ◌↔◌, ◌≤◌, length, drop, Ok, Err, Some, IfOk, IsUtf8, MatchResult};
+ghost use Rattle.std.specs.Prelude.{◌≡◌, ◌↔◌, ◌≤◌, length, drop, Ok, Err, Some, IsUtf8, MatchResult, ℕ, List, string_bytes};
 ghost use Rattle.num_format_decimal.specs.FixedPoint.{FixedPoint};
-ghost use Rattle.num_format_decimal.specs.Parsing.{HasScale, IsDecimalCause, ParsesDecimal, SpellsNone, after_mark, parse_message_of, unexpected_in_decimal};
+ghost use Rattle.num_format_decimal.specs.Parsing.{IsAtScaleCause, IsDecimalCause, ParsesAtScale, ParsesDecimal, SpellsNone, after_mark, at_scale_message_of, parse_message_of, unexpected_in_decimal};
+ghost use Rattle.num_format_decimal.specs.declared.parsing.ParseAtScaleError.{ParseAtScaleError};
 ghost use Rattle.num_format_decimal.specs.declared.parsing.ParseDecimalError.{ParseDecimalError};
 ghost use Rattle.num_format_decimal.specs.declared.parsing.ParseDecimalError.TheVariants as cause;
 ghost use Rattle.num_format_parsing.specs.Strict.{unexpected};
 
 use crate::decimal::{Decimal, MAX_SCALE};
+use crate::error::DecimalError;
+use crate::rounding::Rounding;
 use crate::spelling::find_scale;
 use num_format_parsing::FromFormattedStr;
 use num_format_parsing::strict::{begins_with, expected_end, has_digit, printed_separator};
@@ -67,6 +70,32 @@ impl fmt::Display for ParseDecimalError {
 
 impl std::error::Error for ParseDecimalError {}
 
+/// Why a text was refused as a decimal of a given scale.
+#[derive(Clone, Copy, Debug, PartialEq, Eq, Hash)]
+pub enum ParseAtScaleError {
+    /// The text spells no decimal.
+    Parse(ParseDecimalError),
+    /// The text spells a decimal that cannot be rescaled: the scale is too large, digits other than zero would be
+    /// lost, or the units at the scale are no `i128`.
+    Rescale(DecimalError),
+}
+
+impl fmt::Display for ParseAtScaleError {
+    ghost output = { λ error. Some (at_scale_message_of error) };
+
+    ghost styled_output = { λ error _. Some (at_scale_message_of error) };
+
+    /// Writes the message alone, whatever width or fill is asked for.
+    fn fmt<W: fmt::Write>(&self, f: &mut fmt::Formatter<W>) -> fmt::Result {
+        match self {
+            ParseAtScaleError::Parse(error) => fmt::Display::fmt(error, f),
+            ParseAtScaleError::Rescale(error) => fmt::Display::fmt(error, f),
+        }
+    }
+}
+
+impl std::error::Error for ParseAtScaleError {}
+
 impl Decimal {
     /// Returns the decimal that the text spells: its scale is the number of digits after the mark.
     ///
@@ -111,6 +140,74 @@ impl Decimal {
             Ok(text) => Decimal::from_strict_str(text, format),
             Err(_) => Err(ParseDecimalError::NotUtf8),
         }
+    }
+
+    /// Returns the decimal that the text spells at another scale: the same number, or an error.
+    ///
+    /// For amounts of one currency, however many decimals they are written with.
+    ///
+    /// ```text
+    /// Decimal::parse_at_scale("1,234.5", 2, &Locale::en)     // 1234.50
+    /// Decimal::parse_at_scale("1.250", 2, &Locale::en)       // 1.25
+    /// Decimal::parse_at_scale("1.255", 2, &Locale::en)       // Err(Rescale(DigitsLost))
+    /// Decimal::parse_at_scale("1.", 2, &Locale::en)          // Err(Parse(Misspelled))
+    /// ```
+    ///
+    /// # Errors
+    ///
+    /// [`ParseAtScaleError::Parse`] if [`from_strict_str`](Decimal::from_strict_str) refuses the text, and
+    /// [`ParseAtScaleError::Rescale`] if [`rescale`](Decimal::rescale) then refuses the scale under
+    /// [`Rounding::Exact`].
+    pub fn parse_at_scale<F: Format>(
+        text: &str,
+        scale: u8,
+        format: &F,
+    ) -> Result<Decimal, ParseAtScaleError>
+        ensures decimal { (d : FixedPoint) → (result ≡ Ok d)
+            ↔ ParsesAtScale (F.answers format.now) text.now scale d }
+        ensures refused { (e : ParseAtScaleError) → (result ≡ Err e)
+            ↔ IsAtScaleCause (F.answers format.now) text.now scale e }
+    {
+        match Decimal::from_strict_str(text, format) {
+            Ok(decimal) => match decimal.rescale(scale, Rounding::Exact) {
+                Ok(rescaled) => Ok(rescaled),
+                Err(error) => Err(ParseAtScaleError::Rescale(error)),
+            },
+            Err(error) => Err(ParseAtScaleError::Parse(error)),
+        }
+    }
+}
+
+/// A text that can be parsed as a decimal.
+pub trait ParseDecimal {
+    ghost bytes: { Self → List ℕ };
+
+    /// Returns the decimal that the text spells, or why it spells none, as [`Decimal::from_strict_str`] does.
+    ///
+    /// ```text
+    /// "1.234,50".parse_decimal(&Locale::de)      // Ok: 1234.50
+    /// "1.234,5,0".parse_decimal(&Locale::de)     // Err(Unexpected { at: 7 })
+    /// ```
+    fn parse_decimal<F: Format>(&self, format: &F) -> Result<Decimal, ParseDecimalError>
+        ensures decimal { (d : FixedPoint) → (result ≡ Ok d)
+            ↔ ParsesDecimal (F.answers format.now) (bytes self.now) d }
+        ensures refused { (e : ParseDecimalError) → (result ≡ Err e)
+            ↔ IsDecimalCause (F.answers format.now) (bytes self.now) e };
+}
+
+impl ParseDecimal for &str {
+    ghost bytes = { λ text. text.now };
+
+    fn parse_decimal<F: Format>(&self, format: &F) -> Result<Decimal, ParseDecimalError> {
+        Decimal::from_strict_str(self, format)
+    }
+}
+
+impl ParseDecimal for String {
+    ghost bytes = { λ text. string_bytes text };
+
+    fn parse_decimal<F: Format>(&self, format: &F) -> Result<Decimal, ParseDecimalError> {
+        Decimal::from_strict_str(self.as_str(), format)
     }
 }
 

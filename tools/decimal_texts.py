@@ -1,0 +1,153 @@
+#!/usr/bin/env python3
+"""Writes the texts of test_decimal_parsing, and what is to be made of them, by Python's module decimal.
+
+    python3 tools/decimal_texts.py
+
+The texts go into crates/test_decimal_parsing/stdin, a line each with the separator, the decimal mark and the minus
+sign of their format and a scale, and the expected output into crates/test_decimal_parsing/stdout. Python prints the
+number that the digits of a text write, as tools/decimals.py does, and compares: so it is found whether the text is
+spelled as the number is printed. The place of an unexpected byte is where a regular expression ends. The texts are
+the same in each run.
+"""
+import random
+import re
+from pathlib import Path
+
+from decimals import FORMATS, HIGH, LOW, rescaled, some_units, text
+
+CRATE = Path(__file__).resolve().parent.parent / "crates" / "test_decimal_parsing"
+
+# Texts whose results say most: each cause, and what nearly is a number.
+EXAMPLES = [
+    ("english", "1,234.50", 2),
+    ("english", "1234.5", 2),
+    ("english", "-0.50", 1),
+    ("english", "-0.5", 38),
+    ("english", "0", 39),
+    ("english", "-0.00", 2),
+    ("english", "-0", 0),
+    ("english", ".5", 1),
+    ("english", "1.", 0),
+    ("english", "1,23.4", 1),
+    ("english", "1e3", 0),
+    ("english", "1.234.5", 1),
+    ("english", "1.234,5", 1),
+    ("english", "+1.5", 1),
+    ("english", "01.5", 1),
+    ("english", "1.255", 2),
+    ("english", "", 0),
+    ("english", "-", 0),
+    ("english", ".", 0),
+    ("english", "-.", 0),
+    ("english", ",", 0),
+    ("english", " 1.5", 1),
+    ("english", "1.5 ", 1),
+    ("english", "\u0661.\u0665", 1),
+    ("english", "1\u00b2", 0),
+    ("english", "0." + "0" * 38, 2),
+    ("english", "0." + "0" * 39, 2),
+    ("english", "1." + "7" * 39, 2),
+    ("english", "01." + "7" * 39, 2),
+    ("english", str(HIGH), 0),
+    ("english", str(HIGH + 1), 0),
+    ("english", str(LOW), 0),
+    ("english", str(LOW - 1), 0),
+    ("english", "0." + str(HIGH + 1)[1:], 38),
+    ("english", "9." + "9" * 38, 38),
+    ("english", "-1." + "9" * 38, 1),
+    ("german", "1.234,50", 2),
+    ("german", "1,234.50", 2),
+    ("german", "1234,5", 1),
+    ("french", "1\u202f234,5", 0),
+    ("french", "1 234,5", 0),
+    ("arabic", "\u22121\u066c234\u066b5", 3),
+    ("arabic", "-1\u066c234\u066b5", 3),
+    ("plain", "1234.50", 2),
+    ("plain", "1,234.50", 2),
+    ("longest", "--------1<<<<>>>>234[[[[]]]]5", 1),
+    ("longest", "1[[[[]]]5", 1),
+    ("longest", "1<<<<>>>>234<<<<>>>", 1),
+]
+
+
+def without_separators(name, units, scale):
+    return text(name, units, scale).replace(FORMATS[name][0] or "\0", "")
+
+
+def unexpected_at(shown, name):
+    """The place of the first byte after the minus sign, digits and separators, and one mark with digits."""
+    separator, mark, minus = (re.escape(part.encode()) for part in FORMATS[name])
+    digits = rb"[0-9]"
+    among = rb"(?:" + (separator + rb"|" if separator else rb"") + digits + rb")*"
+    return re.match(rb"(?:" + minus + rb")?" + among + rb"(?:" + mark + digits + rb"*)?", shown.encode()).end()
+
+
+def parsed(shown, name):
+    """The units and the scale that are to be returned, or the cause of the refusal."""
+    mark, minus = FORMATS[name][1:]
+    decimals = shown.partition(mark)[2]
+    units = int("".join(re.findall("[0-9]", shown)) or "0") * (-1 if shown.startswith(minus) else 1)
+    if len(decimals) <= 38:
+        scale = len(decimals)
+        if shown in (text(name, units, scale), without_separators(name, units, scale)):
+            return (units, scale) if LOW <= units <= HIGH else "OutOfRange"
+    at = unexpected_at(shown, name)
+    if at < len(shown.encode()):
+        return f"Unexpected {{ at: {at} }}"
+    if not re.search("[0-9]", shown):
+        return "NoDigit"
+    return "TooManyDecimals" if len(decimals) > 38 else "Misspelled"
+
+
+def expected(row):
+    name, shown, to = row
+    result = parsed(shown, name)
+    if isinstance(result, str):
+        return f"{result}\tParse({result})"
+    units, scale = result
+    there = rescaled(units, scale, to, None)
+    return f"{units}/{scale}\t{there if '/' in there else f'Rescale({there})'}"
+
+
+def changed(chance, shown, name):
+    """A text with one change, which mostly makes it one that is refused."""
+    separator, mark, minus = FORMATS[name]
+    parts = [separator, mark, minus, "0", "7", "", " ", "+", "e", ".", ",", "\u0663", mark + mark]
+    place = chance.randrange(len(shown) + 1)
+    kind = chance.randrange(4)
+    if kind == 0:
+        return shown[:place] + chance.choice(parts) + shown[place:]
+    if kind == 1:
+        return shown[:place] + shown[place + 1:]
+    if kind == 2:
+        return shown[:place] + chance.choice(parts) + shown[place + 1:]
+    part = chance.choice([separator, mark, minus])
+    return shown.replace(part, chance.choice(parts), 1) if part else shown
+
+
+def some_row(chance):
+    name = chance.choice(list(FORMATS))
+    units, scale = some_units(chance), chance.randrange(39)
+    kind = chance.randrange(16)
+    if kind == 0:
+        # One digit more than may fit, or a few decimals more.
+        units, scale = units * 10 + chance.randrange(10), scale + chance.randrange(3)
+    elif kind == 1:
+        scale = chance.randrange(39, 42)
+    show = chance.choice([text, without_separators])
+    shown = show(name, units, scale)
+    if chance.randrange(2):
+        shown = changed(chance, shown, name)
+    return name, shown, chance.choice([chance.randrange(41), max(scale - 1, 0), scale, scale + 1])
+
+
+def main():
+    chance = random.Random(11)
+    rows = EXAMPLES + [some_row(chance) for _ in range(5000 - len(EXAMPLES))]
+    lines = ["\t".join([*FORMATS[name], shown, str(to)]) for name, shown, to in rows]
+    (CRATE / "stdin").write_text("\n".join(lines) + "\n")
+    (CRATE / "stdout").write_text("\n".join(map(expected, rows)) + "\n")
+
+
+if __name__ == "__main__":
+    main()
