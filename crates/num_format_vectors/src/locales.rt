@@ -167,10 +167,18 @@ const TAGS: [(&str, Option<&str>); 64] = [
     ("enÉ", None),
 ];
 
+/// Returns the name of the locale as which a tag is looked up.
+fn looked_up(tag: &str) -> Option<&'static str> {
+    match Locale::lookup(tag) {
+        Some(locale) => Some(locale.name()),
+        None => None,
+    }
+}
+
 /// Asserts the name of the locale as which a tag is looked up.
 fn assert_looked_up(rt: &impl Abort, case: &(&str, Option<&str>)) {
     let (tag, name) = *case;
-    assert_equal(rt, Locale::lookup(tag).map(|locale| locale.name()), name);
+    assert_equal(rt, looked_up(tag), name);
 }
 
 #[test]
@@ -184,11 +192,7 @@ fn a_tag_is_looked_up_as_its_longest_name(rt: HostRuntime) {
 fn each_name_is_looked_up_in_upper_case(rt: HostRuntime) -> Result<(), Fail> {
     for name in Locale::available_names() {
         let tag = name.to_ascii_uppercase(rt.alloc())?;
-        assert_equal(
-            &rt,
-            Locale::lookup(&tag).map(|locale| locale.name()),
-            Some(*name),
-        );
+        assert_equal(&rt, looked_up(&tag), Some(*name));
     }
     Ok(())
 }
