@@ -163,3 +163,15 @@ zeros-other t i inside zeros other =
     ap (λ xs. number_from_digits 10 (byte_figures xs)) (take_more t i 0 inside)
     ∙ ap (number_from_digits 10) (digits_among-other (take i t) (get_or t i 0) other)
     ∙ zeros
+
+-- bytes that begin with a digit other than zero have a first byte, which is that digit
+pub begin-some : (t : List ℕ) → BeginsWithDigit t → 0 < length t
+begin-some t begin = omega (arith, ap length begin.same)
+
+pub begin-digit : (t : List ℕ) → BeginsWithDigit t → is_ascii_digit (get_or t 0 0) ≡ true
+begin-digit t begin =
+    let digit : is_ascii_digit (48 + begin.digit) ≡ true = let small = begin.small in grind (arith, nat_tests) in
+    ap (λ xs. is_ascii_digit (get_or xs 0 0)) begin.same ∙ digit
+
+pub begin-other : (t : List ℕ) → BeginsWithDigit t → ¬ (get_or t 0 0 ≡ 48)
+begin-other t begin zero_there = omega (arith, ap (λ xs. get_or xs 0 0) begin.same, zero_there, begin.some)

@@ -34,17 +34,6 @@ plain-all (b ∷ t) all =
     ∙ ap (λ c. c ∷ plain (byte_figures t)) (sym (digit_char b both.0))
     ∙ ap plain (sym (figures-digit b t both.0))
 
--- a separator that stands where the bytes start with it
-pub separator-found : (s body : List ℕ) (end : ℕ) → length s ≤ end → starts_with nat_eq (drop (end - length s) body) s ≡ true → EndsSeparator s body (end - length s) end
-separator-found s body end fits starts =
-    let start = end - length s in
-    let after : start + length s ≡ end = omega arith in
-    record {
-      within = omega arith;
-      text = (starts_is Decides-eqb (drop start body) s (starts_with nat_eq (drop start body) s) refl).0 starts
-          ∙ ap (λ xs. s ++ xs) (drop-drop (length s) start body ∙ ap (λ k. drop k body) after);
-    }
-
 -- bytes before a place, and those from it on
 pub slice-split : (body : List ℕ) (start end : ℕ) → start ≤ end → drop start body ≡ take (end - start) (drop start body) ++ drop end body
 slice-split body start end order =
@@ -54,53 +43,8 @@ slice-split body start end order =
 pub long-plain : (t : List ℕ) → t ≡ plain (byte_figures t) → length t ≡ length (byte_figures t)
 long-plain t same = ap length same ∙ simp length-map refl
 
--- the last group, with the separator before it
-pub groups-last : (last size : ℕ) (s body tail : List ℕ) (place start : ℕ) → tail ≡ drop start body → length tail ≡ last → start ≤ length body → tail ≡ plain (byte_figures tail) →
-    EndsSeparator s body place start → HasGroupsFrom last size s body place
-groups-last last size s body tail place start is_tail long inside digits found =
-    let right = byte_figures tail in
-    let count : length right ≡ last = omega (arith, long-plain tail digits, long) in
-    record {
-      right = right;
-      below = figures-below tail;
-      within = omega (arith, found.within);
-      text = λ is_due last_group groups. record {
-        due = ap is_due count ∙ last_group.before;
-        same = found.text ∙ ap (λ xs. s ++ xs) (sym is_tail ∙ digits ∙ sym (separated-plain is_due s right (λ k below. last_group.within k (omega arith))));
-      };
-    }
-
--- one group more, with the separator before it
-pub groups-more : (last size : ℕ) (s body group : List ℕ) (place start end : ℕ) → HasGroupsFrom last size s body end → 0 < size → start + size ≡ end → group ≡ take (end - start) (drop start body) →
-    length group ≡ size → group ≡ plain (byte_figures group) → EndsSeparator s body place start → HasGroupsFrom last size s body place
-groups-more last size s body group place start end before some is_start is_group long digits found =
-    let ds = byte_figures group in
-    let split : drop start body ≡ plain ds ++ drop end body = slice-split body start end (omega arith) ∙ ap (λ xs. xs ++ drop end body) (sym is_group ∙ digits) in
-    let count : length ds ≡ size = omega (arith, long-plain group digits, long) in
-    record {
-      right = ds ++ before.right;
-      below = All-append (λ d. d < 10) ds before.right (figures-below group) before.below;
-      within = omega (arith, found.within, before.within);
-      text = λ is_due last_group groups.
-          rw (found.text, split) (put-group is_due s ds before.right (drop end body) size groups some count (before.text is_due last_group groups));
-    }
-
--- the first group
-pub groups-all : (last size : ℕ) (s body group : List ℕ) (end : ℕ) → HasGroupsFrom last size s body end → 0 < end → end ≤ size → group ≡ take end body → group ≡ plain (byte_figures group) → IsInGroups last size s body
-groups-all last size s body group end before some few is_group digits =
-    let ds = byte_figures group in
-    let long : length group ≡ end = ap length is_group ∙ length-take-le end body before.within in
-    let count : length ds ≡ end = omega (arith, long-plain group digits, long) in
-    record {
-      ds = ds ++ before.right;
-      below = All-append (λ d. d < 10) ds before.right (figures-below group) before.below;
-      text = λ is_due last_group groups.
-          sym (take-append-drop end body) ∙ ap (λ xs. xs ++ drop end body) (sym is_group ∙ digits)
-          ∙ put-first_group is_due s ds before.right (drop end body) size groups (omega arith) (omega arith) (before.text is_due last_group groups);
-    }
-
 -- the figures of a text whose sign has none
-figures-behind : (f : FormatData) (t : List ℕ) (start : ℕ) → byte_figures (take start t) ≡ [] → number_from_digits 10 (byte_figures t) ≡ number_from_digits 10 (byte_figures (drop start t))
+pub figures-behind : (f : FormatData) (t : List ℕ) (start : ℕ) → byte_figures (take start t) ≡ [] → number_from_digits 10 (byte_figures t) ≡ number_from_digits 10 (byte_figures (drop start t))
 figures-behind f t start none = number-after_zeros t start (ap (number_from_digits 10) none)
 
 -- a text whose first part is UTF-8, and the rest is separated digits

@@ -1,8 +1,11 @@
 pub mod CauseLemmas
 pub mod CharacterLemmas
 pub mod CompareLemmas
+pub mod ExpectedLemmas
 pub mod FigureLemmas
+pub mod GroupingLemmas
 pub mod GroupsLemmas
+pub mod NumberLemmas
 pub mod PartLemmas
 mod ReadingExamples
 pub mod ReadingLemmas

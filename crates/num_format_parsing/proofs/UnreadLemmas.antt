@@ -1,5 +1,5 @@
 -- What is left of a text after digits and separators.
-use Rattle.std.proofs.Common.{◌≡◌, ℕ, zero, suc, ◌+◌, ◌-◌, ◌<◌, ◌≤◌, ◌⊎◌, inl, inr, Bool, true, false, List, [], ◌∷◌, ◌++◌, length, refl, ap, ◌∙◌, sym, arith, drop, get_or, length-append, IsUtf8}
+use Rattle.std.proofs.Common.{◌≡◌, ℕ, zero, suc, ◌+◌, ◌-◌, ◌<◌, ◌≤◌, ◌⊎◌, inl, inr, Bool, true, false, List, [], ◌∷◌, ◌++◌, length, refl, ap, ◌∙◌, sym, arith, drop, drop-drop, get_or, length-append, IsUtf8}
 use Rattle.std.specs.Prelude.{if◌then◌else◌, nat_eq, All}
 use Rattle.std.specs.Char.{is_ascii_digit}
 use Rattle.std.specs.Int.Digits.{number_from_digits}
@@ -19,6 +19,7 @@ use Rattle.num_format_int.specs.Text.{text_of}
 use Rattle.num_format_int.proofs.DigitLemmas.{digits-below_ten}
 use Rattle.num_format_int.proofs.GroupedLemmas.{grouped-Posix, grouped-printed}
 use Rattle.num_format_parsing.specs.Strict.{SpellsNumber, with_separators, without_separators, ungrouped, unread, begins, sign_len, unexpected}
+use Rattle.num_format_parsing.specs.Shapes.{EndsSeparator}
 use Rattle.num_format_parsing.proofs.FigureLemmas.{figures-bytes}
 use Rattle.num_format_parsing.proofs.SpellingLemmas.{sign-split, spells-zero, text-signed}
 
@@ -55,6 +56,14 @@ begins-off (c ∷ s) t other = false_from_ne_true _ (λ begin.
     let split = (starts_is Decides-eqb t (c ∷ s) (starts_with nat_eq t (c ∷ s)) refl).0 begin in
     other (ap (λ xs. get_or xs 0 0) split))
 
+-- a separator of one byte, which is the first
+pub begins-one : (s t : List ℕ) → length s ≡ 1 → 0 < length t → get_or t 0 0 ≡ get_or s 0 0 → begins s t ≡ true
+begins-one [] t one some same = absurd (omega arith)
+begins-one (c ∷ d ∷ s) t one some same = absurd (omega arith)
+begins-one (c ∷ []) [] one some same = absurd (omega arith)
+begins-one (c ∷ []) (b ∷ t) one some same =
+    (starts_is Decides-eqb (b ∷ t) (c ∷ []) (starts_with nat_eq (b ∷ t) (c ∷ [])) refl).1 t (ap (λ x. x ∷ t) same)
+
 -- a separator that a text begins with is not empty
 pub begins-some : (s t : List ℕ) → begins s t ≡ true → 0 < length s
 begins-some [] t wrong = cc
@@ -66,6 +75,15 @@ begins-fits [] t wrong = omega arith
 begins-fits (c ∷ s) t begin =
     let split = (starts_is Decides-eqb t (c ∷ s) (starts_with nat_eq t (c ∷ s)) refl).0 begin in
     omega (arith, ap length split, length-append (c ∷ s) (drop (length (c ∷ s)) t))
+
+-- a separator that stands there
+pub ends-separator : (s text : List ℕ) (start : ℕ) → begins s (drop start text) ≡ true → EndsSeparator s text start (start + length s)
+ends-separator s text start begin =
+    let starts : starts_with nat_eq (drop start text) s ≡ true = sym (begins-given s (drop start text) (begins-some s (drop start text) begin)) ∙ begin in
+    record {
+      within = omega arith;
+      text = (starts_is Decides-eqb (drop start text) s (starts_with nat_eq (drop start text) s) refl).0 starts ∙ ap (λ xs. s ++ xs) (drop-drop (length s) start text);
+    }
 
 -- how many digits a text begins with
 lead : List ℕ → ℕ
@@ -212,7 +230,7 @@ unread-zero s zero = unread-all_digits s (48 ∷ []) 0 refl
 unread-zero s (suc k) = ap (unread s 0) (drop_all (suc k) (48 ∷ []) (omega arith))
 
 -- behind the sign of a text of the number that it denotes stand its digits
-behind-sign : (f h : FormatData) (t : List ℕ) → h.minus_sign ≡ f.minus_sign → t ≡ text_of h (denoted f t) → 0 < magnitude_of t →
+pub behind-sign : (f h : FormatData) (t : List ℕ) → h.minus_sign ≡ f.minus_sign → t ≡ text_of h (denoted f t) → 0 < magnitude_of t →
     drop (sign_len f t) t ≡ grouped h.grouping h.separator (digits (magnitude_of t))
 behind-sign f h t sign same some =
     let negative = is_negative_text f t in

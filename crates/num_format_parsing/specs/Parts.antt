@@ -1,36 +1,96 @@
--- What was read of a text in one pass.
-use Rattle.std.specs.Prelude.{ℕ, ◌-◌, ◌≤◌, Bool, not, ◌&&◌, List, length, take, drop, IsUtf8}
-use Rattle.std.specs.Char.{is_ascii, is_ascii_digit}
+-- What one pass over a text finds.
+use Rattle.std.specs.Prelude.{◌≡◌, ℕ, ◌+◌, ◌-◌, ◌^◌, ◌<◌, ◌≤◌, ◌⊎◌, Bool, true, false, List, ◌++◌, All, length, take, drop, slice_index, IsUtf8}
+use Rattle.std.specs.Char.{is_ascii_digit}
+use Rattle.std.specs.Int.Digits.{number_from_digits}
 use Rattle.std.specs.List.{list_all}
-use Rattle.std.specs.Str.{IsAscii}
+use Rattle.num_format_text.specs.declared.grouping.Grouping.{Grouping}
 use Rattle.num_format_text.specs.Format.{FormatData}
-use Rattle.num_format_parsing.specs.Figures.{Gathers, HasFigures}
+use Rattle.num_format_int.specs.Grouped.{stands, separated, printed_separator}
+use Rattle.num_format_int.specs.Groups.{HasLastGroup, HasGroups}
+use Rattle.num_format_parsing.specs.Figures.{HasFigures}
 use Rattle.num_format_parsing.specs.Reading.{denoted}
-use Rattle.num_format_parsing.specs.Shapes.{IsInGroups}
-use Rattle.num_format_parsing.specs.Strict.{SpellsNumber}
-
--- a byte is ASCII and no digit
-abbrev pub is_plain : ℕ → Bool
-is_plain b = is_ascii b && not (is_ascii_digit b)
+use Rattle.num_format_parsing.specs.Shapes.{byte_figures, EndsSeparator, IsInGroups}
+use Rattle.num_format_parsing.specs.Strict.{SpellsNumber, begins, unread, unexpected}
+use Rattle.num_format_parsing.specs.declared.reading.Reading.{Reading}
+use Rattle.num_format_parsing.specs.declared.reading.Reading.TheVariants.{Number, Spelled, Unspelled, Unknown}
 
 -- the bytes from a place to before another are digits
 abbrev pub are_digits_between : List ℕ → ℕ → ℕ → Bool
 are_digits_between text start end = list_all is_ascii_digit (take (end - start) (drop start text))
 
--- the first bytes of a text are ASCII, their digits are so many and write n
-pub record HasRead (text : List ℕ) (most end figures n : ℕ) : Type 0 where
-  pub within : end ≤ length text
-  pub ascii : IsAscii (take end text)
-  pub gathers : Gathers (take end text) most figures n
+-- the figures between two places
+abbrev pub figures_between : List ℕ → ℕ → ℕ → List ℕ
+figures_between text start end = byte_figures (take (end - start) (drop start text))
 
--- a text was read to its end, and is in groups from a place on
-pub record HasReadGroups (last size : ℕ) (s text : List ℕ) (start most n : ℕ) : Type 0 where
-  pub count : ℕ
-  pub read : HasRead text most (length text) count n
+-- digits write n, which is below ten to their number, if they are at most nineteen
+abbrev pub WriteFew : List ℕ → ℕ → Type 0
+WriteFew ds n = length ds ≤ 19 → (n ≡ number_from_digits 10 ds) × (n < 10 ^ length ds)
+
+-- the bytes between two places are digits, and after digits that write n they write `more`
+pub record HasReadDigits (text : List ℕ) (start end n more : ℕ) : Type 0 where
+  pub order : start ≤ end
+  pub within : end ≤ length text
+  pub digits : are_digits_between text start end ≡ true
+  pub number : (ds : List ℕ) → All (λ d. d < 10) ds → WriteFew ds n → WriteFew (ds ++ figures_between text start end) more
+
+-- a separator and so many digits stand between two places
+pub record HasReadGroup (s text : List ℕ) (start end count n more : ℕ) : Type 0 where
+  pub behind : ℕ
+  pub separator : EndsSeparator s text start behind
+  pub long : end ≡ behind + count
+  pub read : HasReadDigits text behind end n more
+
+-- no separator with so many digits after it stands at a place: at another, that of a separator or of a digit, neither does
+pub data LacksGroup (s text : List ℕ) (start count place : ℕ) : Type 0 where
+  without_separator : place ≡ start → begins s (drop start text) ≡ false → LacksGroup s text start count place
+  without_digit : (behind : ℕ) → EndsSeparator s text start behind → behind ≤ place → place < behind + count → place < length text
+      → are_digits_between text behind place ≡ true → is_ascii_digit (slice_index text place) ≡ false → LacksGroup s text start count place
+
+-- a text was read to its end: from a place on it is in groups, whose digits are so many and write n
+pub record HasReadGroups (last size : ℕ) (s text : List ℕ) (start count n : ℕ) : Type 0 where
   pub found : IsInGroups last size s (drop start text)
+  pub figures : count ≡ length found.ds
+  pub number : WriteFew found.ds n
+
+-- a separator is due only before a last group and before groups of that size
+pub record HasOnlyGroups (is_due : ℕ → Bool) (last size : ℕ) : Type 0 where
+  pub groups : HasGroups is_due size
+  pub none : (right : ℕ) → right < last → is_due right ≡ false
+  pub step : (right : ℕ) → is_due right ≡ true → (right ≡ last) ⊎ ((fewer : ℕ) × (right ≡ size + fewer) × (is_due fewer ≡ true))
+
+-- a text is in no such groups from a place on: no digits with their separators are what stands there, and up to a place only digits and separators do
+pub record LacksGroups (last size : ℕ) (s text : List ℕ) (start place : ℕ) : Type 0 where
+  pub within : place ≤ length text
+  pub rest : unread s 0 (drop start text) ≡ unread s 0 (drop place text)
+  pub wrong : (is_due : ℕ → Bool) → HasOnlyGroups is_due last size → (ds : List ℕ) → All (λ d. d < 10) ds → ¬ (drop start text ≡ separated is_due s ds)
+
+-- a grouping has groups of that size and a last group, in numbers of so many digits at least
+pub record GroupsBy (g : Grouping) (last size least : ℕ) : Type 0 where
+  pub some : 0 < size
+  pub order : size ≤ last
+  pub few : last < 8
+  pub long : least < 8
+  pub prints : (s : List ℕ) → printed_separator g s ≡ s
+  pub only : (d : ℕ) → HasOnlyGroups (stands g d) last size
+  pub many : (d right : ℕ) → right < d → stands g d right ≡ true → least ≤ d
+  pub found : (s body : List ℕ) (found : IsInGroups last size s body) → least + length s ≤ length body
+      → HasLastGroup (stands g (length found.ds)) last × HasGroups (stands g (length found.ds)) size
 
 -- a text was read that spells the number that it denotes
 pub record HasReadNumber (f : FormatData) (t : List ℕ) (most n : ℕ) : Type 0 where
   pub utf8 : IsUtf8 t
   pub spelled : SpellsNumber f t (denoted f t)
   pub number : HasFigures most t n
+
+-- a text spells no number, and up to a place it has its minus sign, digits and whole separators
+pub record IsUnspelled (f : FormatData) (t : List ℕ) (place : ℕ) : Type 0 where
+  pub within : place ≤ length t
+  pub rest : unexpected f t ≡ unread (printed_separator f.grouping f.separator) 0 (drop place t)
+  pub wrong : IsUtf8 t → ¬ (SpellsNumber f t (denoted f t))
+
+-- what was found holds of a text
+abbrev pub HasReading : FormatData → List ℕ → ℕ → Reading → Type 0
+HasReading f t most (Number n) = HasReadNumber f t most n
+HasReading f t most Spelled = IsUtf8 t × SpellsNumber f t (denoted f t)
+HasReading f t most (Unspelled place) = IsUnspelled f t place
+HasReading f t most Unknown = Unit {0}

@@ -4,7 +4,7 @@
 pub mod laws;
 pub mod numeral;
 pub mod parsing;
-mod short;
+mod reading;
 pub mod strict;
 mod utf8;
 

@@ -2,18 +2,19 @@
 //!
 //! A text *spells* a number if it is the text of the number under the format, or that text without
 //! separators. Strict parsing returns the number that a text spells, and refuses every other text.
-ghost use Rattle.std.specs.Prelude.{◌≡◌, ◌↔◌, ◌-◌, ◌<◌, ◌≤◌, if◌then◌else◌, IsTrue, take, drop, length, Some, IfSome, IsUtf8, MatchOption, MatchResult};
+ghost use Rattle.std.specs.Prelude.{◌≡◌, ◌↔◌, ◌-◌, ◌<◌, ◌≤◌, [], if◌then◌else◌, IsTrue, take, drop, length, Some, IsUtf8, MatchOption, MatchResult};
 ghost use Rattle.std.specs.Char.{is_ascii_digit};
 ghost use Rattle.std.specs.Int.Digits.{number_from_digits};
-ghost use Rattle.std.specs.List.{list_all, list_any};
+ghost use Rattle.std.specs.List.{list_any};
 ghost use Rattle.num_format_int.specs.Grouped.{stands, grouped, printed_separator};
 ghost use Rattle.num_format_int.specs.Kind.{Kind};
-ghost use Rattle.num_format_parsing.specs.Reading.{denoted};
-ghost use Rattle.num_format_parsing.specs.Strict.{SpellsNumber, ParsesStrictly, IsCause, begins, unread, sign_len, strict_message_of};
-ghost use Rattle.num_format_parsing.specs.Shapes.{BeginsWithDigit, EndsSeparator, IsInGroups, IsPlainStart, byte_figures};
+ghost use Rattle.num_format_parsing.specs.Reading.{denoted, figures};
+ghost use Rattle.num_format_parsing.specs.Strict.{SpellsNumber, ParsesStrictly, IsCause, IsExpected, begins, unread, unexpected, sign_len, strict_message_of};
+ghost use Rattle.num_format_parsing.specs.Parts.{IsUnspelled};
+ghost use Rattle.num_format_parsing.specs.Shapes.{BeginsWithDigit, byte_figures};
 
 use crate::parsing::{SAFE_FIGURES, parse};
-use crate::short::{GROUPED_LEN, read_short};
+use crate::reading::{Reading, read_text};
 use num_format_int::sealed::Sealed;
 use num_format_text::{Format, Grouping};
 use std::fmt;
@@ -73,46 +74,20 @@ pub(crate) fn parse_strict<N: Sealed, F: Format>(
         (λ n. ParsesStrictly N.kind (F.answers format.now) bytes.now (N.value n))
         (λ e. IsCause N.kind (F.answers format.now) bytes.now e) }
 {
-    match short_number(bytes, format) {
-        Some(read) => read,
-        None => parse_any(bytes, is_text, format),
-    }
-}
-
-/// Returns the same, of any text, after more than one pass over it.
-fn parse_any<N: Sealed, F: Format>(
-    bytes: &[u8],
-    is_text: bool,
-    format: &F,
-) -> Result<N, StrictError>
-    requires { IsTrue is_text → IsUtf8 bytes.now }
-    ensures { MatchResult result
-        (λ n. ParsesStrictly N.kind (F.answers format.now) bytes.now (N.value n))
-        (λ e. IsCause N.kind (F.answers format.now) bytes.now e) }
-{
-    if let Some(error) = misspelling(bytes, is_text, format) {
-        return Err(error);
-    }
-    match parse(bytes, format) {
-        Some(number) => Ok(number),
-        None => Err(StrictError::OutOfRange),
-    }
-}
-
-/// Returns the same for most texts that spell a number, after one pass over them.
-fn short_number<N: Sealed, F: Format>(bytes: &[u8], format: &F) -> Option<Result<N, StrictError>>
-    ensures { IfSome result (λ read. MatchResult read
-        (λ n. ParsesStrictly N.kind (F.answers format.now) bytes.now (N.value n))
-        (λ e. IsCause N.kind (F.answers format.now) bytes.now e)) }
-{
     let minus_sign = format.minus_sign().into_str();
     let is_negative = bytes.starts_with(minus_sign.as_bytes());
-    let sign = if is_negative { minus_sign.len() } else { 0 };
+    let start = if is_negative { minus_sign.len() } else { 0 };
     let most = most_figures(N::limit(), is_negative);
-    let magnitude = read_short(bytes, sign, most, format)?;
-    match N::from_sign_and_magnitude(is_negative, magnitude as u128) {
-        Some(number) => Some(Ok(number)),
-        None => Some(Err(StrictError::OutOfRange)),
+    match read_text(bytes, start, most, format) {
+        Reading::Number(magnitude) => {
+            match N::from_sign_and_magnitude(is_negative, magnitude as u128) {
+                Some(number) => Ok(number),
+                None => Err(StrictError::OutOfRange),
+            }
+        }
+        Reading::Spelled => parse_spelled(bytes, format),
+        Reading::Unspelled { place } => Err(cause(bytes, is_text, place, format)),
+        Reading::Unknown => parse_unknown(bytes, is_text, start, format),
     }
 }
 
@@ -125,173 +100,100 @@ fn most_figures(limit: usize, is_negative: bool) -> usize
     limit.saturating_sub(is_negative as usize).min(SAFE_FIGURES)
 }
 
-/// Returns why the bytes are no text that spells the number that it denotes, or `None` if they are one.
-///
-/// Most texts have no leading zero, and a minus sign and a separator without digits. Groups of digits
-/// that are found from the right then settle that a text spells its number. All else is judged step by
-/// step.
-fn misspelling<F: Format>(bytes: &[u8], is_text: bool, format: &F) -> Option<StrictError>
-    requires { IsTrue is_text → IsUtf8 bytes.now }
-    ensures { MatchOption result
-        (IsUtf8 bytes.now
-        × SpellsNumber (F.answers format.now) bytes.now (denoted (F.answers format.now) bytes.now))
-        (λ e. (k : Kind) → IsCause k (F.answers format.now) bytes.now e) }
+/// Returns the number that the text spells, if parsing returns it.
+fn parse_spelled<N: Sealed, F: Format>(bytes: &[u8], format: &F) -> Result<N, StrictError>
+    requires utf8 { IsUtf8 bytes.now }
+    requires spelled { SpellsNumber (F.answers format.now) bytes.now (denoted (F.answers format.now) bytes.now) }
+    ensures { MatchResult result
+        (λ n. ParsesStrictly N.kind (F.answers format.now) bytes.now (N.value n))
+        (λ e. IsCause N.kind (F.answers format.now) bytes.now e) }
 {
-    if is_surely_spelled(bytes, format) {
-        None
-    } else {
-        judge(bytes, is_text, format)
+    match parse(bytes, format) {
+        Some(number) => Ok(number),
+        None => Err(StrictError::OutOfRange),
     }
 }
 
-/// Returns whether the bytes surely are a text that spells the number that it denotes. Where it returns
-/// `false`, they may be one too.
-fn is_surely_spelled<F: Format>(text: &[u8], format: &F) -> bool
-    ensures { IsTrue result → IsUtf8 text.now
-        × SpellsNumber (F.answers format.now) text.now (denoted (F.answers format.now) text.now) }
-{
-    let Some(start) = plain_start(text, format) else {
-        return false;
-    };
-    let separator = format.separator().into_str().as_bytes();
-    let body = &text[start..];
-    if !begins_with_digit(body) {
-        return false;
-    }
-    if are_digits(body) {
-        return true;
-    }
-    if count_digits(separator) != 0 {
-        return false;
-    }
-    // In such a text `read_short` found no groups.
-    if separator.len() == 1 && text.len() <= GROUPED_LEN {
-        return false;
-    }
-    match format.grouping() {
-        Grouping::Standard => are_groups(body, separator, 3, 3),
-        Grouping::Indian => are_groups(body, separator, 3, 2),
-        Grouping::Myriad => are_groups(body, separator, 4, 4),
-        Grouping::Sparse => {
-            // Four digits have no separator.
-            if body.len() <= 4 + separator.len() {
-                return false;
-            }
-            are_groups(body, separator, 3, 3)
-        }
-        Grouping::Posix => false,
-    }
-}
-
-/// Returns the length of the minus sign at the start of a text, or `None` if that sign has a digit.
-#[inline]
-fn plain_start<F: Format>(text: &[u8], format: &F) -> Option<usize>
-    ensures { IfSome result (λ start. IsPlainStart (F.answers format.now) text.now start) }
-{
-    let minus_sign = format.minus_sign().into_str().as_bytes();
-    if !text.starts_with(minus_sign) {
-        return Some(0);
-    }
-    if count_digits(minus_sign) != 0 {
-        return None;
-    }
-    Some(minus_sign.len())
-}
-
-/// Returns whether the first byte is a digit other than zero.
-pub(crate) fn begins_with_digit(text: &[u8]) -> bool
-    ensures { IsTrue result → BeginsWithDigit text.now }
-{
-    if text.is_empty() {
-        return false;
-    }
-    let first = text[0];
-    first.is_ascii_digit() && first != b'0'
-}
-
-/// Returns whether all bytes are digits.
-#[inline]
-fn are_digits(text: &[u8]) -> bool
-    ensures { result ≡ list_all is_ascii_digit text.now }
-{
-    text.iter().all(|byte| byte.is_ascii_digit())
-}
-
-/// Returns where the separator begins that ends before the place `end`, if one does.
-#[inline]
-fn separator_start(body: &[u8], end: usize, separator: &[u8]) -> Option<usize>
-    requires { end ≤ length body.now }
-    ensures { IfSome result (λ start. EndsSeparator separator.now body.now start end) }
-{
-    if end < separator.len() {
-        return None;
-    }
-    let start = end - separator.len();
-    if body[start..].starts_with(separator) {
-        Some(start)
-    } else {
-        None
-    }
-}
-
-/// Returns whether the body is a last group of `last` digits, and before it groups of `size` digits, the
-/// first of which may have fewer, with the separator between any two.
-#[inline]
-fn are_groups(body: &[u8], separator: &[u8], last: usize, size: usize) -> bool
-    requires { 0 < size }
-    ensures { IsTrue result → IsInGroups last size separator.now body.now }
-{
-    if body.len() <= last {
-        return false;
-    }
-    let start = body.len() - last;
-    if !are_digits(&body[start..]) {
-        return false;
-    }
-    let Some(place) = separator_start(body, start, separator) else {
-        return false;
-    };
-    let mut end = place;
-    while end > size {
-        let start = end - size;
-        if !are_digits(&body[start..end]) {
-            return false;
-        }
-        let Some(place) = separator_start(body, start, separator) else {
-            return false;
-        };
-        end = place;
-    }
-    end > 0 && are_digits(&body[..end])
-}
-
-/// Returns the same as [`misspelling`], by going over the bytes a few times.
+/// Returns the same of a text that may spell a number or not, after more than one pass over it. `start` is
+/// the length of its minus sign.
 #[cold]
 #[inline(never)]
-fn judge<F: Format>(bytes: &[u8], is_text: bool, format: &F) -> Option<StrictError>
-    requires { IsTrue is_text → IsUtf8 bytes.now }
+fn parse_unknown<N: Sealed, F: Format>(
+    bytes: &[u8],
+    is_text: bool,
+    start: usize,
+    format: &F,
+) -> Result<N, StrictError>
+    requires utf8 { IsTrue is_text → IsUtf8 bytes.now }
+    requires start { start ≡ sign_len (F.answers format.now) bytes.now }
+    requires within { start ≤ length bytes.now }
+    ensures { MatchResult result
+        (λ n. ParsesStrictly N.kind (F.answers format.now) bytes.now (N.value n))
+        (λ e. IsCause N.kind (F.answers format.now) bytes.now e) }
+{
+    if let Some(error) = first_cause(bytes, is_text, start, format) {
+        return Err(error);
+    }
+    if !is_spelled(bytes, start, format) {
+        return Err(StrictError::Misspelled);
+    }
+    parse_spelled(bytes, format)
+}
+
+/// Returns why a text is refused that spells no number. Up to the place it has its minus sign, digits and
+/// whole separators.
+#[inline(never)]
+fn cause<F: Format>(bytes: &[u8], is_text: bool, place: usize, format: &F) -> StrictError
+    requires utf8 { IsTrue is_text → IsUtf8 bytes.now }
+    requires unspelled { IsUnspelled (F.answers format.now) bytes.now place }
+    ensures { (k : Kind) → IsCause k (F.answers format.now) bytes.now result }
+{
+    match first_cause(bytes, is_text, place, format) {
+        Some(error) => error,
+        None => StrictError::Misspelled,
+    }
+}
+
+/// Returns why bytes are refused that are not UTF-8, have an unexpected byte, or no digit. Up to the place
+/// they are the minus sign, digits and whole separators.
+fn first_cause<F: Format>(
+    bytes: &[u8],
+    is_text: bool,
+    place: usize,
+    format: &F,
+) -> Option<StrictError>
+    requires utf8 { IsTrue is_text → IsUtf8 bytes.now }
+    requires within { place ≤ length bytes.now }
+    requires rest { unexpected (F.answers format.now) bytes.now ≡ unread
+        (printed_separator (F.answers format.now).grouping (F.answers format.now).separator)
+        0 (drop place bytes.now) }
     ensures { MatchOption result
-        (IsUtf8 bytes.now
-        × SpellsNumber (F.answers format.now) bytes.now (denoted (F.answers format.now) bytes.now))
+        (IsExpected (F.answers format.now) bytes.now × ¬ (figures bytes.now ≡ []))
         (λ e. (k : Kind) → IsCause k (F.answers format.now) bytes.now e) }
 {
     if !is_utf8(bytes, is_text) {
         return Some(StrictError::NotUtf8);
     }
-    let minus_sign = format.minus_sign().into_str();
-    let is_negative = bytes.starts_with(minus_sign.as_bytes());
-    let start = if is_negative { minus_sign.len() } else { 0 };
-    let at = expected_end(bytes, start, printed_separator(format));
+    let at = expected_end(bytes, place, printed_separator(format));
     if at < bytes.len() {
         return Some(StrictError::Unexpected { at });
     }
     if !has_digit(bytes) {
         return Some(StrictError::NoDigit);
     }
-    if !is_spelled(bytes, start, format) {
-        return Some(StrictError::Misspelled);
-    }
     None
+}
+
+/// Returns whether the first byte is a digit other than zero.
+#[inline]
+pub(crate) fn begins_with_digit(text: &[u8]) -> bool
+    ensures { IsTrue result ↔ BeginsWithDigit text.now }
+{
+    if text.is_empty() {
+        return false;
+    }
+    let first = text[0];
+    first.is_ascii_digit() && first != b'0'
 }
 
 /// Returns whether the bytes are UTF-8.
@@ -338,7 +240,8 @@ pub fn expected_end(text: &[u8], start: usize, separator: &[u8]) -> usize
     place
 }
 
-/// Returns whether a text begins with a separator that is not empty. Most bytes are not even its first.
+/// Returns whether a text begins with a separator that is not empty. Most bytes are not even its first, and
+/// most separators are one byte.
 #[inline]
 pub fn begins_with(text: &[u8], separator: &[u8]) -> bool
     requires { 0 < length text.now }
@@ -352,7 +255,7 @@ pub fn begins_with(text: &[u8], separator: &[u8]) -> bool
     if byte != first {
         return false;
     }
-    text.starts_with(separator)
+    separator.len() == 1 || text.starts_with(separator)
 }
 
 /// Returns whether a digit stands among the bytes.

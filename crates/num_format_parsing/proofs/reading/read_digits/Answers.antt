@@ -1,0 +1,30 @@
+use Rattle.std.proofs.Common.{◌≡◌, ◌<◌, ◌∙◌, true, sym, subst, arith, get_or, length, refl}
+use Rattle.std.specs.Char.{is_ascii_digit}
+use Rattle.num_format_parsing.specs.Parts.{HasReadDigits}
+use Rattle.num_format_parsing.proofs.PartLemmas.{read-none, read-more}
+use Rattle.num_format_parsing.proofs.reading.read_digits.Goals as goal
+
+pub loop-place-init : goal.loop-place-init
+loop-place-init c = record {
+  at = refl;
+  read = read-none c.args.text.now c.args.from.end c.args.from.magnitude (omega (arith, c.requires.order, c.requires.within));
+  within = c.requires.order;
+  figures = refl;
+}
+
+pub loop-place-preserved : goal.loop-place-preserved
+loop-place-preserved c =
+    let l = c.loop-place in
+    let text = c.args.text.now in
+    let start = c.args.from.end in
+    let n = c.args.from.magnitude in
+    let more = l.part.magnitude in
+    let digit : is_ascii_digit (get_or text l.place 0) ≡ true = sym c.is_ascii_digit.ensures.value ∙ c.if-not-is_ascii_digit.false in
+    let before : HasReadDigits text start l.place n more = subst (λ e. HasReadDigits text start e n more) l.invariant.at l.invariant.read in
+    let inside : l.place < length text = omega (arith, c.requires.within, c.loop-place-test.true) in
+    record {
+      at = refl;
+      read = read-more text start l.place n more before inside digit;
+      within = omega (arith, c.loop-place-test.true);
+      figures = omega (arith, l.invariant.figures, l.invariant.at);
+    }

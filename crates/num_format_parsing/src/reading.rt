@@ -1,0 +1,267 @@
+//! Strict parsing of most texts in one pass: of digits, alone or in groups with a separator between them.
+ghost use Rattle.std.specs.Prelude.{◌≡◌, ℕ, List, ◌+◌, ◌<◌, ◌≤◌, [], true, false, length, take, drop, slice_index, IsTrue, IsUtf8, MatchOption, MatchResult};
+ghost use Rattle.std.specs.Char.{is_ascii, is_ascii_digit};
+ghost use Rattle.std.specs.List.{list_all};
+ghost use Rattle.num_format_text.specs.declared.grouping.Grouping.TheVariants.{Posix};
+ghost use Rattle.num_format_text.specs.Format.{FormatData};
+ghost use Rattle.num_format_parsing.specs.Parts.{GroupsBy, HasReading, HasReadDigits, HasReadGroup, HasReadGroups, HasReadNumber, LacksGroup, LacksGroups};
+ghost use Rattle.num_format_parsing.specs.Shapes.{IsPlainStart, BeginsWithDigit, byte_figures};
+ghost use Rattle.num_format_parsing.specs.Reading.{denoted};
+ghost use Rattle.num_format_parsing.specs.Strict.{SpellsNumber, sign_len};
+
+use crate::parsing::SAFE_FIGURES;
+use crate::strict::{begins_with, begins_with_digit, has_digit};
+use num_format_text::{Format, Grouping};
+
+/// What one pass over a text found.
+pub(crate) enum Reading {
+    /// The text spells the number that it denotes. Its digits write this one.
+    Number(u64),
+    /// The text spells the number that it denotes.
+    Spelled,
+    /// The text spells no number. The bytes before the place are the minus sign, digits and whole
+    /// separators.
+    Unspelled {
+        /// The number of these bytes.
+        place: usize,
+    },
+    /// One pass does not tell: a minus sign or a separator has a digit, or the separator is empty.
+    Unknown,
+}
+
+/// What was read of a text: its first bytes, how many digits are among them after the minus sign, and the
+/// number that these write, if they are at most [`SAFE_FIGURES`].
+#[derive(Clone, Copy)]
+struct Part {
+    end: usize,
+    figures: usize,
+    magnitude: u64,
+}
+
+/// How a grouping groups digits: `last` in the last group, `size` in those before it, at most as many in the
+/// first, and `least` in the shortest number that has a separator.
+#[derive(Clone, Copy)]
+struct Groups {
+    last: usize,
+    size: usize,
+    least: usize,
+}
+
+/// Returns what one pass over a text finds. `start` is the length of its minus sign, and `most` the number
+/// of digits that it may have.
+#[inline]
+pub(crate) fn read_text<F: Format>(text: &[u8], start: usize, most: usize, format: &F) -> Reading
+    requires start { start ≡ sign_len (F.answers format.now) text.now }
+    requires within { start ≤ length text.now }
+    requires utf8 { IsUtf8 (take start text.now) }
+    requires few { most ≤ SAFE_FIGURES }
+    ensures { HasReading (F.answers format.now) text.now most result }
+{
+    let sign = &text[..start];
+    if has_digit(sign) {
+        return Reading::Unknown;
+    }
+    if !begins_with_digit(&text[start..]) {
+        return read_zero(text, start, most);
+    }
+    let none = Part {
+        end: start,
+        figures: 0,
+        magnitude: 0,
+    };
+    let first = read_digits(text, none, text.len());
+    if first.end == text.len() {
+        return spelled(first, most, sign, &[]);
+    }
+    let Some(groups) = groups_of(format.grouping()) else {
+        return Reading::Unspelled { place: first.end };
+    };
+    let separator = format.separator().into_str().as_bytes();
+    if separator.is_empty() {
+        return Reading::Unknown;
+    }
+    if has_digit(separator) {
+        return Reading::Unknown;
+    }
+    if text.len() - start < groups.least + separator.len() {
+        return Reading::Unspelled { place: first.end };
+    }
+    match read_groups(text, start, first, separator, groups) {
+        Ok(whole) => spelled(whole, most, sign, separator),
+        Err(place) => Reading::Unspelled { place },
+    }
+}
+
+/// Returns the same of a text that does not begin with a digit other than zero after its minus sign: only
+/// `0` spells a number.
+fn read_zero(text: &[u8], start: usize, most: usize) -> Reading
+    requires within { start ≤ length text.now }
+    requires other { ¬ (BeginsWithDigit (drop start text.now)) }
+    ensures { (f : FormatData) → IsPlainStart f text.now start → HasReading f text.now most result }
+{
+    if text.len() != 1 {
+        return Reading::Unspelled { place: start };
+    }
+    let byte = text[0];
+    if byte != b'0' {
+        return Reading::Unspelled { place: start };
+    }
+    if most == 0 {
+        return Reading::Spelled;
+    }
+    Reading::Number(0)
+}
+
+/// Returns what was found in a text that was read to its end and spells the number that it denotes: that
+/// number, if it is short, and no byte of the minus sign and the separator can be part of another numeral.
+#[inline]
+fn spelled(whole: Part, most: usize, sign: &[u8], separator: &[u8]) -> Reading
+    ensures { (f : FormatData) (t : List ℕ) → IsUtf8 t → SpellsNumber f t (denoted f t)
+        → (list_all is_ascii sign.now ≡ true → list_all is_ascii separator.now ≡ true
+        → whole.figures ≤ most → HasReadNumber f t most whole.magnitude)
+        → HasReading f t most result }
+{
+    if !is_ascii(sign) {
+        return Reading::Spelled;
+    }
+    if !is_ascii(separator) {
+        return Reading::Spelled;
+    }
+    if whole.figures > most {
+        return Reading::Spelled;
+    }
+    Reading::Number(whole.magnitude)
+}
+
+/// Returns how a grouping groups digits, or `None` if it does not.
+#[inline]
+fn groups_of(grouping: Grouping) -> Option<Groups>
+    ensures { MatchOption result (grouping ≡ Posix)
+        (λ groups. GroupsBy grouping groups.last groups.size groups.least) }
+{
+    match grouping {
+        Grouping::Standard => Some(Groups {
+            last: 3,
+            size: 3,
+            least: 4,
+        }),
+        Grouping::Indian => Some(Groups {
+            last: 3,
+            size: 2,
+            least: 4,
+        }),
+        Grouping::Posix => None,
+        Grouping::Myriad => Some(Groups {
+            last: 4,
+            size: 4,
+            least: 5,
+        }),
+        Grouping::Sparse => Some(Groups {
+            last: 3,
+            size: 3,
+            least: 5,
+        }),
+    }
+}
+
+/// Returns whether all bytes are ASCII.
+#[inline]
+fn is_ascii(bytes: &[u8]) -> bool
+    ensures { result ≡ list_all is_ascii bytes.now }
+{
+    bytes.iter().all(|byte| byte.is_ascii())
+}
+
+/// Returns the part of a text with the digits that follow it, up to `end`.
+#[inline]
+fn read_digits(text: &[u8], from: Part, end: usize) -> Part
+    requires order { from.end ≤ end }
+    requires within { end ≤ length text.now }
+    requires figures { from.figures ≤ from.end }
+    ensures read { HasReadDigits text.now from.end result.end from.magnitude result.magnitude }
+    ensures within { result.end ≤ end }
+    ensures figures { result.figures + from.end ≡ from.figures + result.end }
+    ensures stop { result.end < end → is_ascii_digit (slice_index text.now result.end) ≡ false }
+{
+    let mut part = from;
+    for place in from.end..end {
+        let byte = text[place];
+        if !byte.is_ascii_digit() {
+            return part;
+        }
+        let magnitude = part.magnitude.wrapping_mul(10);
+        part = Part {
+            end: place + 1,
+            figures: part.figures + 1,
+            magnitude: magnitude.wrapping_add((byte - b'0') as u64),
+        };
+    }
+    part
+}
+
+/// Returns the part of a text with the separator and the `count` digits that follow it, or the place where
+/// they do not.
+#[inline]
+fn read_group(text: &[u8], from: Part, separator: &[u8], count: usize) -> Result<Part, usize>
+    requires room { from.end + length separator.now + count ≤ length text.now }
+    requires figures { from.figures ≤ from.end }
+    requires some { 0 < count }
+    ensures { MatchResult result
+        (λ part. HasReadGroup separator.now text.now from.end part.end count from.magnitude part.magnitude
+        × (part.figures ≡ from.figures + count))
+        (λ place. LacksGroup separator.now text.now from.end count place) }
+{
+    if !begins_with(&text[from.end..], separator) {
+        return Err(from.end);
+    }
+    let behind = Part {
+        end: from.end + separator.len(),
+        figures: from.figures,
+        magnitude: from.magnitude,
+    };
+    let end = behind.end + count;
+    let part = read_digits(text, behind, end);
+    if part.end != end {
+        return Err(part.end);
+    }
+    Ok(part)
+}
+
+/// Returns the whole text, if groups of digits follow the first part, which may have fewer digits than a
+/// group, or the place where they do not.
+#[inline]
+fn read_groups(
+    text: &[u8],
+    start: usize,
+    first: Part,
+    separator: &[u8],
+    groups: Groups,
+) -> Result<Part, usize>
+    requires read { HasReadDigits text.now start first.end 0 first.magnitude }
+    requires some { start < first.end }
+    requires figures { first.figures + start ≡ first.end }
+    requires inside { first.end < length text.now }
+    requires stop { is_ascii_digit (slice_index text.now first.end) ≡ false }
+    requires plain { byte_figures separator.now ≡ [] }
+    requires separator { 0 < length separator.now }
+    requires size { 0 < groups.size }
+    requires last { groups.size ≤ groups.last }
+    requires few { groups.last < 8 }
+    ensures { MatchResult result
+        (λ whole. HasReadGroups groups.last groups.size separator.now text.now start whole.figures whole.magnitude)
+        (λ place. LacksGroups groups.last groups.size separator.now text.now start place) }
+{
+    if first.end - start > groups.size {
+        return Err(first.end);
+    }
+    let least = groups.last + separator.len();
+    let mut part = first;
+    while text.len() - part.end > least {
+        let next = read_group(text, part, separator, groups.size)?;
+        part = next;
+    }
+    if text.len() - part.end != least {
+        return Err(part.end);
+    }
+    read_group(text, part, separator, groups.last)
+}
