@@ -6,7 +6,7 @@ use Rattle.std.specs.Int.Digits.{number_from_digits}
 use Rattle.std.specs.List.{list_all, list_any}
 use Rattle.std.proofs.lemmas.Bool.{both_ways, and_parts}
 use Rattle.std.proofs.lemmas.Bool.Decides.{nat_tests}
-use Rattle.std.proofs.lemmas.List.{get_or-drop}
+use Rattle.std.proofs.lemmas.List.{get_or-drop, nil_from_length}
 use Rattle.num_format_text.specs.declared.grouping.Grouping.{Grouping}
 use Rattle.num_format_text.specs.declared.grouping.Grouping.TheVariants.{Standard, Indian, Posix, Myriad, Sparse}
 use Rattle.num_format_text.specs.Format.{FormatData}
@@ -15,7 +15,7 @@ use Rattle.num_format_int.specs.Grouped.{stands, separated, grouped, printed_sep
 use Rattle.num_format_int.specs.Groups.{plain}
 use Rattle.num_format_int.proofs.DigitLemmas.{AreDigits, by_digits, digits-small, digits-more}
 use Rattle.num_format_int.proofs.GroupLemmas.{last_group-Standard, groups-Standard, last_group-Indian, groups-Indian, last_group-Myriad, groups-Myriad, last_group-Sparse, groups-Sparse}
-use Rattle.num_format_int.proofs.GroupedLemmas.{grouped-Posix, of_either}
+use Rattle.num_format_int.proofs.GroupedLemmas.{grouped-Posix, grouped-empty}
 use Rattle.num_format_parsing.specs.Parts.{are_digits_between, WriteFew, HasReadDigits, HasReadGroups, HasOnlyGroups, LacksGroups, GroupsBy, HasReadNumber, IsUnspelled}
 use Rattle.num_format_parsing.specs.Reading.{denoted, figures, is_other_numeral, magnitude_of}
 use Rattle.num_format_parsing.specs.Shapes.{byte_figures, BeginsWithDigit, IsPlainStart}
@@ -226,6 +226,18 @@ unspelled-Posix f t start end none first = record {
       ap (λ k. unread (printed_separator f.grouping f.separator) 0 (drop k t)) (sym first.sign.sign)
       ∙ unread-between (printed_separator f.grouping f.separator) t start end (rw none refl) (omega (arith, first.order)) first.digits;
   wrong = unspelled-groups f t start end first (λ same. not_plain f t start end f.separator first (rw none at same));
+}
+
+-- nor does an empty separator show any
+pub unspelled-empty : (f : FormatData) (t : List ℕ) (start end : ℕ) → length f.separator ≡ 0 → HasFirstDigits f t start end → IsUnspelled f t end
+unspelled-empty f t start end none first = record {
+  within = omega (arith, first.inside);
+  rest =
+      ap (λ k. unread (printed_separator f.grouping f.separator) 0 (drop k t)) (sym first.sign.sign)
+      ∙ unread-between (printed_separator f.grouping f.separator) t start end (printed-plain f.grouping f.separator (rw (nil_from_length f.separator none) refl)) (omega (arith, first.order)) first.digits;
+  wrong = unspelled-groups f t start end first (λ same.
+      let ds = byte_figures (drop start t) in
+      not_plain f t start end f.separator first (same ∙ grouped-empty f.grouping f.separator ds none ∙ sym (grouped-Posix f.separator ds)));
 }
 
 -- a text that is shorter than any number with a separator

@@ -1,4 +1,4 @@
--- Bytes that are digits in groups, found from the right.
+-- Digits alone and in groups spell a number.
 use Rattle.std.proofs.Common.{◌⊎◌, inl, inr, Bool, ◌≡◌, ℕ, ◌+◌, ◌-◌, ◌*◌, ◌/◌, ◌<◌, ◌≤◌, true, false, List, [], ◌∷◌, ◌++◌, length, refl, ap, ◌∙◌, sym, arith, take, drop, length-append, length-take-le, take-append-drop, drop-drop, subst, IsUtf8}
 use Rattle.std.specs.Prelude.{nat_eq}
 use Rattle.std.specs.Char.{is_ascii_digit}
@@ -21,7 +21,7 @@ use Rattle.num_format_int.proofs.GroupLemmas.{put-group, put-first_group, last_g
 use Rattle.num_format_int.proofs.GroupedLemmas.{separated-plain, grouped-Posix, length-grouped}
 use Rattle.num_format_parsing.proofs.ReadingLemmas.{digits_among-separated}
 use Rattle.num_format_parsing.specs.Strict.{SpellsNumber}
-use Rattle.num_format_parsing.specs.Shapes.{byte_figures, BeginsWithDigit, EndsSeparator, HasGroupsFrom, IsInGroups, IsPlainStart}
+use Rattle.num_format_parsing.specs.Shapes.{byte_figures, BeginsWithDigit, IsInGroups, IsPlainStart}
 use Rattle.num_format_parsing.proofs.FigureLemmas.{digit_char, figures-digit, figures-below, number-after_zeros, writes}
 use Rattle.num_format_parsing.proofs.SpellingLemmas.{spells-more, utf8-separated}
 

@@ -2,7 +2,7 @@
 use Rattle.std.specs.Prelude.{◌≡◌, ℕ, ◌+◌, ◌-◌, ◌<◌, ◌≤◌, Bool, List, [], ◌∷◌, ◌++◌, All, length, take, drop, map, filter, IsUtf8}
 use Rattle.std.specs.Char.{is_ascii_digit}
 use Rattle.num_format_text.specs.Format.{FormatData}
-use Rattle.num_format_int.specs.Groups.{HasLastGroup, HasGroups, BeginsWithSeparator, IsGrouped}
+use Rattle.num_format_int.specs.Groups.{IsGrouped}
 use Rattle.num_format_parsing.specs.Strict.{sign_len}
 
 -- the digits among bytes: the figures of a text in UTF-8, without its characters; 48 is the character 0
@@ -21,13 +21,6 @@ pub record BeginsWithDigit (t : List ℕ) : Type 0 where
 pub record EndsSeparator (s body : List ℕ) (start end : ℕ) : Type 0 where
   pub within : start ≤ end
   pub text : drop start body ≡ s ++ drop end body
-
--- from a place on, bytes are separated digits after a separator
-pub record HasGroupsFrom (last size : ℕ) (s body : List ℕ) (end : ℕ) : Type 0 where
-  pub right : List ℕ
-  pub below : All (λ d. d < 10) right
-  pub within : end ≤ length body
-  pub text : (is_due : ℕ → Bool) → HasLastGroup is_due last → HasGroups is_due size → BeginsWithSeparator is_due s right (drop end body)
 
 -- bytes are digits with separators before a last group and before groups of that size
 pub record IsInGroups (last size : ℕ) (s body : List ℕ) : Type 0 where

@@ -25,7 +25,7 @@ pub(crate) enum Reading {
         /// The number of these bytes.
         place: usize,
     },
-    /// One pass does not tell: a minus sign or a separator has a digit, or the separator is empty.
+    /// One pass does not tell, since the minus sign or the separator has a digit.
     Unknown,
 }
 
@@ -78,7 +78,7 @@ pub(crate) fn read_text<F: Format>(text: &[u8], start: usize, most: usize, forma
     };
     let separator = format.separator().into_str().as_bytes();
     if separator.is_empty() {
-        return Reading::Unknown;
+        return Reading::Unspelled { place: first.end };
     }
     if has_digit(separator) {
         return Reading::Unknown;

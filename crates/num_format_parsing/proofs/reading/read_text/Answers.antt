@@ -11,7 +11,7 @@ use Rattle.num_format_parsing.specs.Parts.{WriteFew, are_digits_between, figures
 use Rattle.num_format_parsing.specs.Shapes.{byte_figures, BeginsWithDigit, IsPlainStart}
 use Rattle.num_format_parsing.proofs.FigureLemmas.{figures-below, figures-none}
 use Rattle.num_format_parsing.proofs.GroupsLemmas.{long-plain, plain-all, spells-digits, spells-groups}
-use Rattle.num_format_parsing.proofs.GroupingLemmas.{first-digits, unspelled-Posix, unspelled-short, unspelled-lacks}
+use Rattle.num_format_parsing.proofs.GroupingLemmas.{first-digits, unspelled-Posix, unspelled-empty, unspelled-short, unspelled-lacks}
 use Rattle.num_format_parsing.proofs.NumberLemmas.{number-spelled}
 use Rattle.num_format_parsing.proofs.reading.read_text.Goals as goal
 
@@ -53,6 +53,23 @@ returns-in_default g c =
     let begin = subst BeginsWithDigit (take_rest t start) (c.begins_with_digit.ensures.0 c.if-not-begins_with_digit.false) in
     let digits = first-digits f t start first.end 0 first.magnitude sign begin read.read read.stop c.if-first-text.false in
     unspelled-Posix f t start first.end (sym c.grouping.ensures ∙ c.in_default.ensures) digits
+
+pub returns-then-is_empty : goal.returns-then-is_empty
+returns-then-is_empty g c =
+    let f = g.F.Format.answers c.args.format.now in
+    let t = c.args.text.now in
+    let start = c.args.start in
+    let first = c.read_digits-first.result in
+    let read = c.read_digits-first.ensures in
+    let none = figures-none (take c.args.start c.args.text.now) (sym c.has_digit.ensures ∙ c.if-has_digit.false) in
+    let sign : IsPlainStart f t start = record { utf8 = c.requires.utf8; within = c.requires.within; sign = c.requires.start; plain = none } in
+    let begin = subst BeginsWithDigit (take_rest t start) (c.begins_with_digit.ensures.0 c.if-not-begins_with_digit.false) in
+    let digits = first-digits f t start first.end 0 first.magnitude sign begin read.read read.stop c.if-first-text.false in
+    let s = c.as_bytes-separator.result.now in
+    let separator : s ≡ f.separator = search rules in
+    let empty = sym c.is_empty.ensures ∙ c.if-is_empty.true in
+    let given : length s ≡ 0 = grind (arith, nat_tests, empty) in
+    unspelled-empty f t start first.end (subst (λ xs. length xs ≡ 0) separator given) digits
 
 pub returns-then-text-start : goal.returns-then-text-start
 returns-then-text-start g c =
