@@ -1,24 +1,23 @@
 -- What has to follow in bytes that are digits in groups.
-use Rattle.std.proofs.Common.{◌≡◌, ℕ, zero, suc, ◌+◌, ◌-◌, ◌<◌, ◌≤◌, ◌⊎◌, inl, inr, Bool, true, false, List, [], ◌∷◌, ◌++◌, length, refl, ap, ◌∙◌, sym, arith, take, drop, get_or, length-append, length-drop, length-take-le, take-append-drop, drop-drop, append_assoc, append-nil, subst, lit<, Ok, Err}
+use Rattle.std.proofs.Common.{◌≡◌, ℕ, zero, suc, ◌+◌, ◌-◌, ◌<◌, ◌≤◌, ◌⊎◌, inl, inr, Bool, true, false, List, [], ◌∷◌, ◌++◌, length, refl, ap, ◌∙◌, sym, arith, take, drop, get_or, length-append, length-drop, length-take-le, take-append-drop, append_assoc, append-nil, subst, lit<, Ok, Err}
 use Rattle.std.specs.Prelude.{if◌then◌else◌, nat_eq, Result, MatchResult}
 use Rattle.std.specs.Char.{is_ascii_digit}
-use Rattle.std.specs.Int.Digits.{number_from_digits}
 use Rattle.std.specs.List.{list_all, starts_with}
 use Rattle.std.proofs.lemmas.Bool.{cases_Bool, both_ways, and_parts}
-use Rattle.std.proofs.lemmas.Bool.Decides.{nat_tests, Decides-eqb}
+use Rattle.std.proofs.lemmas.Bool.Decides.{Decides-eqb}
 use Rattle.std.proofs.lemmas.List.{append_cancel_left, drop_all, drop_at, drop_more, get_or-drop}
 use Rattle.std.proofs.lemmas.List.Elements.{All-nil, All-append, All-drop, All-take, All-head, All-tail}
 use Rattle.std.proofs.lemmas.Slice.Eq.{starts_is}
 use Rattle.num_format_int.specs.Grouped.{separated}
-use Rattle.num_format_int.specs.Groups.{plain, HasLastGroup, HasGroups, BeginsWithSeparator}
+use Rattle.num_format_int.specs.Groups.{plain, HasGroups, BeginsWithSeparator}
 use Rattle.num_format_int.proofs.DigitLemmas.{AreDigits}
 use Rattle.num_format_int.proofs.GroupLemmas.{put-group, put-first_group}
 use Rattle.num_format_int.proofs.GroupedLemmas.{separated-plain}
 use Rattle.num_format_parsing.specs.Parts.{are_digits_between, figures_between, WriteFew, HasReadDigits, HasReadGroup, LacksGroup, without_separator, without_digit, HasReadGroups, HasOnlyGroups, LacksGroups}
-use Rattle.num_format_parsing.specs.Shapes.{byte_figures, EndsSeparator, IsInGroups}
+use Rattle.num_format_parsing.specs.Shapes.{byte_figures}
 use Rattle.num_format_parsing.specs.Strict.{begins, unread}
 use Rattle.num_format_parsing.proofs.GroupsLemmas.{slice-split}
-use Rattle.num_format_parsing.proofs.PartLemmas.{HasDigits, digits-split, plain-first, unread-between, unread-separator}
+use Rattle.num_format_parsing.proofs.PartLemmas.{digits-split, plain-first, unread-between, unread-separator}
 use Rattle.num_format_parsing.proofs.ReadingLemmas.{is_ascii_digit-digit}
 use Rattle.num_format_parsing.proofs.UnreadLemmas.{begins-given}
 

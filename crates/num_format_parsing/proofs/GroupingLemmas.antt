@@ -1,10 +1,9 @@
 -- What groupings have in common, and which texts spell no number under them.
-use Rattle.std.proofs.Common.{◌≡◌, ℕ, zero, suc, ◌+◌, ◌-◌, ◌%◌, ◌<◌, ◌≤◌, ◌⊎◌, inl, inr, Bool, true, false, List, [], ◌∷◌, ◌++◌, length, refl, ap, ◌∙◌, sym, arith, take, drop, get_or, length-append, length-drop, length-take-le, take-append-drop, subst, lit<, IsUtf8}
+use Rattle.std.proofs.Common.{◌≡◌, ℕ, ◌+◌, ◌-◌, ◌%◌, ◌<◌, ◌⊎◌, inl, inr, true, false, List, [], ◌∷◌, ◌++◌, length, refl, ap, ◌∙◌, sym, arith, take, drop, get_or, length-append, length-drop, length-take-le, subst, lit<, IsUtf8}
 use Rattle.std.specs.Prelude.{if◌then◌else◌}
-use Rattle.std.specs.Char.{is_ascii, is_ascii_digit}
+use Rattle.std.specs.Char.{is_ascii_digit}
 use Rattle.std.specs.Int.Digits.{number_from_digits}
-use Rattle.std.specs.List.{list_all, list_any}
-use Rattle.std.proofs.lemmas.Bool.{both_ways, and_parts}
+use Rattle.std.proofs.lemmas.Bool.{both_ways}
 use Rattle.std.proofs.lemmas.Bool.Decides.{nat_tests}
 use Rattle.std.proofs.lemmas.List.{get_or-drop, nil_from_length}
 use Rattle.num_format_text.specs.declared.grouping.Grouping.{Grouping}
@@ -12,20 +11,18 @@ use Rattle.num_format_text.specs.declared.grouping.Grouping.TheVariants.{Standar
 use Rattle.num_format_text.specs.Format.{FormatData}
 use Rattle.num_format_int.specs.Digits.{digits}
 use Rattle.num_format_int.specs.Grouped.{stands, separated, grouped, printed_separator}
-use Rattle.num_format_int.specs.Groups.{plain}
-use Rattle.num_format_int.proofs.DigitLemmas.{AreDigits, by_digits, digits-small, digits-more}
+use Rattle.num_format_int.proofs.DigitLemmas.{by_digits, digits-small, digits-more}
 use Rattle.num_format_int.proofs.GroupLemmas.{last_group-Standard, groups-Standard, last_group-Indian, groups-Indian, last_group-Myriad, groups-Myriad, last_group-Sparse, groups-Sparse}
 use Rattle.num_format_int.proofs.GroupedLemmas.{grouped-Posix, grouped-empty}
-use Rattle.num_format_parsing.specs.Parts.{are_digits_between, WriteFew, HasReadDigits, HasReadGroups, HasOnlyGroups, LacksGroups, GroupsBy, HasReadNumber, IsUnspelled}
-use Rattle.num_format_parsing.specs.Reading.{denoted, figures, is_other_numeral, magnitude_of}
+use Rattle.num_format_parsing.specs.Parts.{are_digits_between, HasReadDigits, HasOnlyGroups, LacksGroups, GroupsBy, IsUnspelled}
+use Rattle.num_format_parsing.specs.Reading.{denoted, magnitude_of}
 use Rattle.num_format_parsing.specs.Shapes.{byte_figures, BeginsWithDigit, IsPlainStart}
-use Rattle.num_format_parsing.specs.Strict.{SpellsNumber, with_separators, without_separators, ungrouped, sign_len, unread, unexpected}
+use Rattle.num_format_parsing.specs.Strict.{SpellsNumber, with_separators, without_separators, ungrouped, sign_len, unread}
 use Rattle.num_format_parsing.proofs.ExpectedLemmas.{due-first, length-separated}
 use Rattle.num_format_parsing.proofs.FigureLemmas.{begin-digit, figures-below, figures-bytes, writes}
-use Rattle.num_format_parsing.proofs.GroupsLemmas.{figures-behind, plain-all, slice-split, spells-digits, spells-groups, many-digits}
+use Rattle.num_format_parsing.proofs.GroupsLemmas.{figures-behind, many-digits}
 use Rattle.num_format_parsing.proofs.PartLemmas.{unread-between}
-use Rattle.num_format_parsing.proofs.ReadingLemmas.{digits_among-append, digits_among-separated, is_other_numeral-ascii}
-use Rattle.num_format_parsing.proofs.SpellingLemmas.{figures-spelled, spells-more, spells-zero}
+use Rattle.num_format_parsing.proofs.SpellingLemmas.{spells-more, spells-zero}
 use Rattle.num_format_parsing.proofs.UnreadLemmas.{behind-sign}
 
 only-Standard : (d : ℕ) → HasOnlyGroups (stands Standard d) 3 3

@@ -1,13 +1,11 @@
 -- Digits alone and in groups spell a number.
-use Rattle.std.proofs.Common.{◌⊎◌, inl, inr, Bool, ◌≡◌, ℕ, ◌+◌, ◌-◌, ◌*◌, ◌/◌, ◌<◌, ◌≤◌, true, false, List, [], ◌∷◌, ◌++◌, length, refl, ap, ◌∙◌, sym, arith, take, drop, length-append, length-take-le, take-append-drop, drop-drop, subst, IsUtf8}
-use Rattle.std.specs.Prelude.{nat_eq}
+use Rattle.std.proofs.Common.{◌⊎◌, inl, inr, Bool, ◌≡◌, ℕ, ◌+◌, ◌-◌, ◌*◌, ◌/◌, ◌<◌, ◌≤◌, true, false, List, [], ◌∷◌, ◌++◌, length, refl, ap, ◌∙◌, sym, arith, take, drop, length-append, take-append-drop, drop-drop, subst, IsUtf8}
 use Rattle.std.specs.Char.{is_ascii_digit}
 use Rattle.std.specs.Int.Digits.{number_from_digits}
-use Rattle.std.specs.List.{list_all, starts_with}
+use Rattle.std.specs.List.{list_all}
 use Rattle.std.proofs.lemmas.Bool.{and_parts}
 use Rattle.std.proofs.lemmas.Bool.Decides.{Decides-eqb}
 use Rattle.std.proofs.lemmas.List.{length-map, nil_from_length, take_at}
-use Rattle.std.proofs.lemmas.List.Elements.{All-append}
 use Rattle.std.proofs.Math.Nat.{mul-le-mul_right}
 use Rattle.std.proofs.lemmas.Slice.Eq.{starts_is}
 use Rattle.std.proofs.lemmas.Str.{IsUtf8-nil, IsUtf8-append}
@@ -17,8 +15,8 @@ use Rattle.num_format_int.specs.Grouped.{grouped, separated, stands}
 use Rattle.num_format_int.specs.Groups.{plain, HasLastGroup, HasGroups}
 use Rattle.num_format_parsing.specs.Reading.{denoted, is_negative_text}
 use Rattle.num_format_int.proofs.DigitLemmas.{AreDigits}
-use Rattle.num_format_int.proofs.GroupLemmas.{put-group, put-first_group, last_group-Standard, groups-Standard}
-use Rattle.num_format_int.proofs.GroupedLemmas.{separated-plain, grouped-Posix, length-grouped}
+use Rattle.num_format_int.proofs.GroupLemmas.{last_group-Standard, groups-Standard}
+use Rattle.num_format_int.proofs.GroupedLemmas.{grouped-Posix, length-grouped}
 use Rattle.num_format_parsing.proofs.ReadingLemmas.{digits_among-separated}
 use Rattle.num_format_parsing.specs.Strict.{SpellsNumber}
 use Rattle.num_format_parsing.specs.Shapes.{byte_figures, BeginsWithDigit, IsInGroups, IsPlainStart}

@@ -1,28 +1,24 @@
 -- Digits and groups that are read from the left.
-use Rattle.std.proofs.Common.{◌≡◌, ℕ, zero, suc, ◌+◌, ◌-◌, ◌*◌, ◌%◌, ◌^◌, ◌<◌, ◌≤◌, ◌⊎◌, inl, inr, Bool, true, false, List, [], ◌∷◌, ◌++◌, length, refl, ap, ◌∙◌, sym, arith, take, drop, get_or, length-append, length-drop, length-take-le, append_assoc, append-nil, take-append-drop, drop-drop, subst, lit<}
-use Rattle.std.specs.Prelude.{All, if◌then◌else◌, nat_eq}
+use Rattle.std.proofs.Common.{◌≡◌, ℕ, suc, ◌+◌, ◌-◌, ◌*◌, ◌%◌, ◌^◌, ◌<◌, ◌≤◌, inl, inr, true, false, List, [], ◌∷◌, ◌++◌, length, refl, ap, ◌∙◌, sym, arith, take, drop, get_or, length-append, length-drop, length-take-le, append_assoc, append-nil, subst}
+use Rattle.std.specs.Prelude.{nat_eq}
 use Rattle.std.specs.Char.{is_ascii_digit}
-use Rattle.std.specs.Int.Digits.{number_from_digits}
 use Rattle.std.specs.List.{list_all, starts_with}
 use Rattle.std.proofs.Math.Nat.{mod-eq_of_lt, pow-suc}
 use Rattle.std.proofs.lemmas.Bool.{cases_Bool, both_ways, and_parts}
 use Rattle.std.proofs.lemmas.Bool.Decides.{nat_tests, Decides-eqb}
 use Rattle.std.proofs.lemmas.Int.Digits.{number_push}
-use Rattle.std.proofs.lemmas.List.{append_cancel_left, drop_all, drop_at, drop_more, get_or-drop, take_more}
-use Rattle.std.proofs.lemmas.List.Elements.{All-append, All-head, All-tail}
+use Rattle.std.proofs.lemmas.List.{drop_at, get_or-drop, take_more}
+use Rattle.std.proofs.lemmas.List.Elements.{All-append}
 use Rattle.std.proofs.lemmas.List.Folds.{list_all-append}
 use Rattle.std.proofs.lemmas.Slice.Eq.{starts_is}
-use Rattle.num_format_int.specs.Grouped.{separated}
-use Rattle.num_format_int.specs.Groups.{plain, HasLastGroup, HasGroups, BeginsWithSeparator}
+use Rattle.num_format_int.specs.Groups.{plain}
 use Rattle.num_format_int.proofs.DigitLemmas.{AreDigits}
-use Rattle.num_format_int.proofs.GroupLemmas.{put-group, put-first_group}
-use Rattle.num_format_int.proofs.GroupedLemmas.{separated-plain}
-use Rattle.num_format_parsing.specs.Parts.{are_digits_between, figures_between, WriteFew, HasReadDigits, HasReadGroup, LacksGroup, without_separator, without_digit, HasReadGroups, HasOnlyGroups, LacksGroups}
-use Rattle.num_format_parsing.specs.Shapes.{byte_figures, EndsSeparator, IsInGroups}
+use Rattle.num_format_parsing.specs.Parts.{are_digits_between, figures_between, WriteFew, HasReadDigits}
+use Rattle.num_format_parsing.specs.Shapes.{byte_figures, EndsSeparator}
 use Rattle.num_format_parsing.specs.Strict.{begins, unread}
 use Rattle.num_format_parsing.proofs.FigureLemmas.{figures-below, figures-digit}
 use Rattle.num_format_parsing.proofs.GroupsLemmas.{plain-all, slice-split, long-plain}
-use Rattle.num_format_parsing.proofs.ReadingLemmas.{digits_among-digit, fits_64_bits, is_ascii_digit-digit}
+use Rattle.num_format_parsing.proofs.ReadingLemmas.{digits_among-digit, fits_64_bits}
 use Rattle.num_format_parsing.proofs.UnreadLemmas.{begins-given, begins-off, unread-begins, unread-digit}
 
 -- the bytes between two places, and one more

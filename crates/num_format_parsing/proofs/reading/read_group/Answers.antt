@@ -1,9 +1,6 @@
-use Rattle.std.proofs.Common.{◌≡◌, ◌+◌, ◌<◌, ◌∙◌, true, false, ap, sym, arith, drop, length, refl}
-use Rattle.std.specs.Prelude.{nat_eq}
-use Rattle.std.specs.List.{starts_with}
+use Rattle.std.proofs.Common.{◌≡◌, ◌+◌, ◌<◌, ◌∙◌, true, ap, sym, arith, drop, length, refl}
 use Rattle.std.proofs.lemmas.List.{take_rest}
 use Rattle.num_format_parsing.specs.Parts.{without_separator, without_digit}
-use Rattle.num_format_parsing.specs.Shapes.{EndsSeparator}
 use Rattle.num_format_parsing.specs.Strict.{begins}
 use Rattle.num_format_parsing.proofs.UnreadLemmas.{ends-separator}
 use Rattle.num_format_parsing.proofs.reading.read_group.Goals as goal

@@ -1,4 +1,4 @@
-use Rattle.std.proofs.Common.{◌+◌, ◌-◌, ◌<◌, length, sym, subst, arith, rules}
+use Rattle.std.proofs.Common.{sym, subst, arith, rules}
 use Rattle.num_format_parsing.specs.Parts.{HasReadGroups, LacksGroups}
 use Rattle.num_format_parsing.proofs.ExpectedLemmas.{HasReadSome, some-first, some-more, lacks-first, lacks-more, lacks-length, lacks-last, groups-read, map_result}
 use Rattle.num_format_parsing.proofs.reading.read_groups.Goals as goal

@@ -1,4 +1,4 @@
-use Rattle.std.proofs.Common.{◌≡◌, ℕ, ◌+◌, ◌-◌, ◌<◌, ◌∙◌, [], true, ap, length, take, drop, length-drop, sym, subst, arith, refl, lit<, rules, IsUtf8}
+use Rattle.std.proofs.Common.{◌≡◌, ◌+◌, ◌-◌, ◌<◌, ◌∙◌, [], ap, length, take, drop, length-drop, sym, subst, arith, refl, lit<, rules, IsUtf8}
 use Rattle.std.specs.Char.{is_ascii_digit}
 use Rattle.std.specs.List.{list_all}
 use Rattle.std.proofs.lemmas.Bool.Decides.{nat_tests}
@@ -7,7 +7,7 @@ use Rattle.std.proofs.lemmas.List.Elements.{All-nil}
 use Rattle.num_format_text.specs.declared.grouping.Grouping.TheVariants.{Posix}
 use Rattle.num_format_int.specs.Grouped.{stands}
 use Rattle.num_format_int.proofs.GroupedLemmas.{grouped-Posix}
-use Rattle.num_format_parsing.specs.Parts.{WriteFew, are_digits_between, figures_between, GroupsBy, LacksGroups}
+use Rattle.num_format_parsing.specs.Parts.{WriteFew, GroupsBy, LacksGroups}
 use Rattle.num_format_parsing.specs.Shapes.{byte_figures, BeginsWithDigit, IsPlainStart}
 use Rattle.num_format_parsing.proofs.FigureLemmas.{figures-below, figures-none}
 use Rattle.num_format_parsing.proofs.GroupsLemmas.{long-plain, plain-all, spells-digits, spells-groups}
