@@ -42,6 +42,12 @@ int main(void) {
     show("print decimal, scale 39", num_format_print_decimal(&de, 123450, 0, 39, text, sizeof text));
     show("custom, decimal mark", num_format_custom_decimal(&format, "'", 1, 1, "-", 1, "\xc2\xb7", 2));
     show("print decimal, Standard", num_format_print_decimal(&format, UINT64_MAX - 1234566, UINT64_MAX, 3, text, sizeof text));
+    uint32_t scale = 3;
+    size_t place = 4;
+    show_number("parse decimal, low", num_format_parse_decimal(&de, "-1.234,5", 8, &low, &high, &scale, &place), &low);
+    printf("scale: %u\n", (unsigned)scale);
+    show_number("parse decimal with a mark too many", num_format_parse_decimal(&de, "1,2,3", 5, &low, &high, &scale, &place), &low);
+    printf("at: %zu\n", place);
     show("custom, Myriad", num_format_custom(&format, "'", 1, NUM_FORMAT_MYRIAD, "\xe2\x88\x92", 3));
     show("print, Myriad", num_format_print_i64(&format, -123456789, text, sizeof text));
     format.minus_sign[2] = '-';

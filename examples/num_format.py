@@ -18,6 +18,7 @@ ERRORS = {
     -11: "not as the number is printed",
     -12: "the number has more bits",
     -13: "the scale is above 38",
+    -14: "more than 38 decimals",
 }
 
 

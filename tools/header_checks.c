@@ -27,6 +27,7 @@ int32_t num_format_parse_strict_i64(const num_format *, uint32_t, const char *, 
 int32_t num_format_parse_strict_u64(const num_format *, uint32_t, const char *, size_t, uint64_t *, size_t *);
 int32_t num_format_parse_strict_u128(const num_format *, const char *, size_t, uint64_t *, uint64_t *, size_t *);
 int32_t num_format_parse_strict_i128(const num_format *, const char *, size_t, uint64_t *, uint64_t *, size_t *);
+int32_t num_format_parse_decimal(const num_format *, const char *, size_t, uint64_t *, uint64_t *, uint32_t *, size_t *);
 int32_t num_format_reads_back(const num_format *);
 int32_t num_format_prints_alike(const num_format *, const num_format *);
 int32_t num_format_names(size_t, char *, size_t);
@@ -84,6 +85,7 @@ static void check_constants(void) {
     CHECK(NUM_FORMAT_MISSPELLED, -11);
     CHECK(NUM_FORMAT_OUT_OF_RANGE, -12);
     CHECK(NUM_FORMAT_BAD_SCALE, -13);
+    CHECK(NUM_FORMAT_TOO_MANY_DECIMALS, -14);
     CHECK(NUM_FORMAT_STANDARD, 1);
     CHECK(NUM_FORMAT_INDIAN, 2);
     CHECK(NUM_FORMAT_POSIX, 3);
@@ -236,6 +238,44 @@ static void check_decimals(void) {
     check_decimal(&format, -123456789, 2, "~12 34 567::89");
 }
 
+/* Texts as decimals: what is returned, and what the units, the scale and `at`, 7, 8 and 9 before, then are. */
+static void check_parsed_decimals(void) {
+    static const struct {
+        const char *text;
+        int returned;
+        int64_t units;
+        uint32_t scale;
+        size_t at;
+    } cases[] = {
+        {"1,234.50", 0, 123450, 2, 9}, {"-1234.5", 0, -12345, 1, 9}, {"7", 0, 7, 0, 9},  {"-0.05", 0, -5, 2, 9},
+        {"0.00", 0, 0, 2, 9},          {"1\xff", -3, 7, 8, 9},       {"1e3", -9, 7, 8, 1}, {"1.234.5", -9, 7, 8, 5},
+        {"1.2,3", -9, 7, 8, 3},        {"", -10, 7, 8, 9},           {".", -10, 7, 8, 9}, {".5", -11, 7, 8, 9},
+        {"1.", -11, 7, 8, 9},          {"1,23.4", -11, 7, 8, 9},     {"-0.00", -11, 7, 8, 9},
+        {"0.000000000000000000000000000000000000001", -14, 7, 8, 9},
+        {"17014118346046923173168730371588410572.8", -12, 7, 8, 9},
+    };
+    num_format format = {0};
+    uint64_t low = 7, high = 0;
+    uint32_t scale = 8;
+    size_t at = 9;
+    CHECK(num_format_parse_decimal(&format, "1", 1, &low, &high, &scale, &at), -1);
+    CHECK(low == 7 && high == 0 && scale == 8 && at == 9, 1);
+    CHECK(num_format_locale(&format, "en", 2), 0);
+    for (size_t i = 0; i < sizeof cases / sizeof *cases; i++) {
+        const char *text = cases[i].text;
+        low = 7, high = 0, scale = 8, at = 9;
+        compare(text, num_format_parse_decimal(&format, text, strlen(text), &low, &high, &scale, &at),
+                cases[i].returned);
+        compare(text, (int64_t)low, cases[i].units);
+        compare(text, high == (cases[i].units < 0 ? UINT64_MAX : 0), 1);
+        compare(text, scale, cases[i].scale);
+        compare(text, (long long)at, (long long)cases[i].at);
+    }
+    static const char lowest[] = "-17,014,118,346,046,923,173,168,730,371,588,410,572.8";
+    CHECK(num_format_parse_decimal(&format, lowest, strlen(lowest), &low, &high, &scale, &at), 0);
+    CHECK(low == 0 && high == (uint64_t)1 << 63 && scale == 1, 1);
+}
+
 /* Texts as numbers of 16 bits, strictly: what is returned, and what the number and `at`, 7 and 9 before,
  * then are. */
 static void check_strict(void) {
@@ -353,6 +393,7 @@ int main(void) {
     check_errors();
     check_strict();
     check_decimals();
+    check_parsed_decimals();
     check_ends();
     check_longest();
     check_names();

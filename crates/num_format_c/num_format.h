@@ -57,7 +57,9 @@ enum {
     NUM_FORMAT_NO_DIGIT = -10,      /* the text has no digit */
     NUM_FORMAT_MISSPELLED = -11,    /* the text is not as its number is printed */
     NUM_FORMAT_OUT_OF_RANGE = -12,  /* the number is none of that many bits */
-    NUM_FORMAT_BAD_SCALE = -13      /* the scale of a decimal is above 38 */
+    NUM_FORMAT_BAD_SCALE = -13,     /* the scale of a decimal is above 38 */
+    /* The text is refused as a decimal: see num_format_parse_decimal. */
+    NUM_FORMAT_TOO_MANY_DECIMALS = -14 /* more than 38 digits follow the decimal mark */
 };
 
 /* The groupings: where separators stand among the digits. */
@@ -195,6 +197,28 @@ int32_t num_format_parse_strict_u128(const num_format *format, const char *text,
                                      uint64_t *low, uint64_t *high, size_t *at);
 int32_t num_format_parse_strict_i128(const num_format *format, const char *text, size_t length,
                                      uint64_t *low, uint64_t *high, size_t *at);
+
+/* Parses a text that is exactly as a decimal is printed, with its separators or without any, writes the
+ * halves of its units and its scale, which is the number of digits after the decimal mark, and returns 0.
+ *
+ * Under the locale "en" the text "1,234.50" is 123450 at scale 2, "-1234.5" is -12345 at scale 1 and
+ * "7" is 7 at scale 0. All of ".5", "1.", "1,23.4", "-0.00" and "1e3" are refused.
+ *
+ * `at` is written with NUM_FORMAT_UNEXPECTED alone, and the decimal with 0 alone. Each is as it was with
+ * any other result.
+ *
+ * Errors, in this order, but that a text which spells a decimal has no error but the last:
+ * - NUM_FORMAT_BAD_FORMAT.
+ * - NUM_FORMAT_NOT_UTF8.
+ * - NUM_FORMAT_UNEXPECTED: a byte is none of those of num_format_parse_strict_i64, of one decimal mark, or
+ *   of a digit after it. `at` is then the number of bytes before the first such byte: under "en" 5 for
+ *   "1.234.5", and 1 for "1e3".
+ * - NUM_FORMAT_NO_DIGIT.
+ * - NUM_FORMAT_TOO_MANY_DECIMALS.
+ * - NUM_FORMAT_MISSPELLED.
+ * - NUM_FORMAT_OUT_OF_RANGE: the units have more than 127 bits besides the sign. */
+int32_t num_format_parse_decimal(const num_format *format, const char *text, size_t length, uint64_t *low,
+                                 uint64_t *high, uint32_t *scale, size_t *at);
 
 /* Returns 1 if every number, printed under the format, parses as the same number again, as any type
  * that has it; else 0. It is 1 for each locale, and 0 for an empty minus sign, or for the separator "0"

@@ -8,7 +8,7 @@ use Rattle.num_format_c.specs.declared.status.Status.{Status}
 use Rattle.num_format_c.specs.declared.status.Status.TheVariants.{BadBits}
 
 -- the number of a result's error
-abbrev error_code : {A : Type 0} → Result A Status → ℤ
+abbrev pub error_code : {A : Type 0} → Result A Status → ℤ
 error_code (Ok n) = pos 0
 error_code (Err status) = code status
 

@@ -1,4 +1,5 @@
 pub mod CallLemmas
+pub mod DecimalLemmas
 pub mod NameLemmas
 pub mod StrictLemmas
 pub mod TextLemmas

@@ -11,13 +11,16 @@ use Rattle.num_format.specs.Strict.{IsCause, ParsesStrictly}
 use Rattle.num_format.specs.StrictError.{StrictError}
 use Rattle.num_format.specs.StrictError.TheVariants as cause
 use Rattle.num_format.specs.Text.{text_of}
-use Rattle.num_format_decimal.specs.FixedPoint.{fixed_point}
+use Rattle.num_format_decimal.specs.FixedPoint.{FixedPoint, fixed_point}
+use Rattle.num_format_decimal.specs.Parsing.{IsDecimalCause, ParsesDecimal}
 use Rattle.num_format_decimal.specs.Text.{decimal_text}
 use Rattle.num_format_decimal.specs.declared.decimal.TheConstants.{MAX_SCALE}
+use Rattle.num_format_decimal.specs.declared.parsing.ParseDecimalError.{ParseDecimalError}
+use Rattle.num_format_decimal.specs.declared.parsing.ParseDecimalError.TheVariants as decimal
 use Rattle.num_format_c.specs.Held.{Agrees, HasFormat, IsPadded, format_of, format_with, grouping_of}
 use Rattle.num_format_c.specs.declared.format.NumFormat.{NumFormat}
 use Rattle.num_format_c.specs.declared.status.Status.{Status}
-use Rattle.num_format_c.specs.declared.status.Status.TheVariants.{BadFormat, TooSmall, NotUtf8, NotANumber, UnknownLocale, TooLong, BadGrouping, BadBits, Unexpected, NoDigit, Misspelled, OutOfRange, BadScale}
+use Rattle.num_format_c.specs.declared.status.Status.TheVariants.{BadFormat, TooSmall, NotUtf8, NotANumber, UnknownLocale, TooLong, BadGrouping, BadBits, Unexpected, NoDigit, Misspelled, OutOfRange, BadScale, TooManyDecimals}
 
 -- the number by which an error crosses to C; `negsuc n` is the number one below -n
 abbrev pub code : Status → ℤ
@@ -34,6 +37,7 @@ code NoDigit = negsuc 9
 code Misspelled = negsuc 10
 code OutOfRange = negsuc 11
 code BadScale = negsuc 12
+code TooManyDecimals = negsuc 13
 
 -- the number that a call returns
 abbrev pub returned : Result ℤ Status → ℤ
@@ -107,6 +111,32 @@ pub record ParsesExactlyInto (k : Kind) (s : NumFormat) (text : List ℕ) (old n
   pub bad_format : ¬ HasFormat s → Fails BadFormat old new result × (at_new ≡ at_old)
   pub refused : HasFormat s → (e : StrictError) → IsCause k (format_of s) text e → Fails (status_of e) old new result × (at_new ≡ place_of e at_old)
   pub number : HasFormat s → (z : ℤ) → ParsesStrictly k (format_of s) text z → (result ≡ pos 0) × ((new ≡ z) × (at_new ≡ at_old))
+
+-- the error for a cause for which a text is refused as a decimal
+abbrev pub decimal_status_of : ParseDecimalError → Status
+decimal_status_of decimal.NotUtf8 = NotUtf8
+decimal_status_of (decimal.Unexpected at) = Unexpected
+decimal_status_of decimal.NoDigit = NoDigit
+decimal_status_of decimal.TooManyDecimals = TooManyDecimals
+decimal_status_of decimal.Misspelled = Misspelled
+decimal_status_of decimal.OutOfRange = OutOfRange
+
+-- the place of the unexpected byte, or the old one for any other cause
+abbrev pub decimal_place_of : ParseDecimalError → ℕ → ℕ
+decimal_place_of (decimal.Unexpected at) old = at
+decimal_place_of _ old = old
+
+-- a text is parsed as a decimal under the format of a struct, and the place of an unexpected byte is written
+pub record ParsesDecimalUnder (s : NumFormat) (text : List ℕ) (old new : ℕ) (result : Result FixedPoint Status) : Type 0 where
+  pub bad_format : ¬ HasFormat s → (result ≡ Err BadFormat) × (new ≡ old)
+  pub refused : HasFormat s → (e : ParseDecimalError) → IsDecimalCause (format_of s) text e → (result ≡ Err (decimal_status_of e)) × (new ≡ decimal_place_of e old)
+  pub number : HasFormat s → (d : FixedPoint) → ParsesDecimal (format_of s) text d → (result ≡ Ok d) × (new ≡ old)
+
+-- a text is parsed as a decimal, which is written over another one, or the place of an unexpected byte is
+pub record ParsesDecimalInto (s : NumFormat) (text : List ℕ) (old new : FixedPoint) (at_old at_new : ℕ) (result : ℤ) : Type 0 where
+  pub bad_format : ¬ HasFormat s → Fails BadFormat old new result × (at_new ≡ at_old)
+  pub refused : HasFormat s → (e : ParseDecimalError) → IsDecimalCause (format_of s) text e → Fails (decimal_status_of e) old new result × (at_new ≡ decimal_place_of e at_old)
+  pub number : HasFormat s → (d : FixedPoint) → ParsesDecimal (format_of s) text d → (result ≡ pos 0) × ((new ≡ d) × (at_new ≡ at_old))
 
 -- an unsigned number of 128 bits, by its halves
 abbrev pub unsigned_wide : ℕ → ℕ → ℤ

@@ -6,7 +6,7 @@ ghost use Rattle.num_format.specs.Text.{text_of};
 ghost use Rattle.num_format_decimal.specs.FixedPoint.{fixed_point};
 ghost use Rattle.num_format_decimal.specs.declared.buffer.TheConstants.{MAX_DECIMAL_LEN};
 ghost use Rattle.num_format_decimal.specs.declared.decimal.TheConstants.{MAX_SCALE};
-ghost use Rattle.num_format_c.specs.Calls.{FillsCustom, FillsLocale, Parses, ParsesExactly, Prints, PrintsDecimal, Tells, Writes, WritesName, place_of, returned, signed_kind, status_of, unsigned_kind};
+ghost use Rattle.num_format_c.specs.Calls.{FillsCustom, FillsLocale, Parses, ParsesDecimalUnder, ParsesExactly, Prints, PrintsDecimal, Tells, Writes, WritesName, decimal_place_of, decimal_status_of, place_of, returned, signed_kind, status_of, unsigned_kind};
 ghost use Rattle.num_format_c.specs.declared.status.Status.TheVariants.{BadBits};
 ghost use Rattle.num_format_c.specs.Held.{HasFormat, format_of};
 
@@ -15,7 +15,7 @@ use crate::status::Status;
 use num_format::parsing::{FromFormattedStr, ParseBytesError, StrictError};
 use num_format::utils::{DecimalStr, MinusSignStr, SeparatorStr};
 use num_format::{Buffer, Format, Locale, ToFormattedStr};
-use num_format_decimal::{Decimal, DecimalBuffer};
+use num_format_decimal::{Decimal, DecimalBuffer, ParseDecimalError};
 use num_format_int::buffer::copy_bytes;
 
 /// Fills the struct with the format of the locale, and returns 0.
@@ -230,6 +230,38 @@ pub fn parse_strict_unsigned(
         32 => Ok(parse_strict::<u32>(format, text, at)? as u64),
         64 => parse_strict::<u64>(format, text, at),
         _ => Err(Status::BadBits),
+    }
+}
+
+/// Parses the text strictly as a decimal. Writes the place of an unexpected byte, and nothing for another
+/// error.
+pub fn parse_decimal(format: &NumFormat, text: &[u8], at: &mut usize) -> Result<Decimal, Status>
+    ensures { ParsesDecimalUnder format.now text.now at.old at.new result }
+{
+    let Some(format) = Held::new(format) else {
+        return Err(Status::BadFormat);
+    };
+    match Decimal::from_strict_bytes(text, &format) {
+        Ok(number) => Ok(number),
+        Err(error) => Err(refused_decimal(error, at)),
+    }
+}
+
+/// Returns the status of an error of parsing a decimal, and writes the place of an unexpected byte.
+fn refused_decimal(error: ParseDecimalError, at: &mut usize) -> Status
+    ensures status { result ≡ decimal_status_of error }
+    ensures place { at.new ≡ decimal_place_of error at.old }
+{
+    match error {
+        ParseDecimalError::NotUtf8 => Status::NotUtf8,
+        ParseDecimalError::Unexpected { at: position } => {
+            *at = position;
+            Status::Unexpected
+        }
+        ParseDecimalError::NoDigit => Status::NoDigit,
+        ParseDecimalError::TooManyDecimals => Status::TooManyDecimals,
+        ParseDecimalError::Misspelled => Status::Misspelled,
+        ParseDecimalError::OutOfRange => Status::OutOfRange,
     }
 }
 

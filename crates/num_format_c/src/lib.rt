@@ -12,7 +12,8 @@ ghost use Rattle.std.specs.Prelude.{◌≡◌, ◌+◌, ◌*◌, ◌^◌, codes,
 ghost use Rattle.num_format.specs.Alike.{Alike};
 ghost use Rattle.num_format.specs.Kind.{kind_of, I128, U128};
 ghost use Rattle.num_format.specs.RoundTrips.{RoundTrips};
-ghost use Rattle.num_format_c.specs.Calls.{Fails, FillsCustom, FillsLocale, ParsesExactlyInto, ParsesInto, Prints, PrintsDecimal, Tells, WritesName, signed_kind, signed_wide, unsigned_kind, unsigned_wide};
+ghost use Rattle.num_format_decimal.specs.FixedPoint.{fixed_point};
+ghost use Rattle.num_format_c.specs.Calls.{Fails, FillsCustom, FillsLocale, ParsesDecimalInto, ParsesExactlyInto, ParsesInto, Prints, PrintsDecimal, Tells, WritesName, signed_kind, signed_wide, unsigned_kind, unsigned_wide};
 ghost use Rattle.num_format_c.specs.declared.status.Status.TheVariants.{BadBits};
 ghost use Rattle.num_format_c.specs.Held.{HasFormat, format_of};
 
@@ -46,9 +47,7 @@ pub extern "C" fn num_format_custom(
 ) -> i32
     ensures { FillsCustom separator.now grouping minus_sign.now (codes ".") format.old format.new result }
 {
-    returned(calls::fill_custom(
-        format, separator, grouping, minus_sign, b".",
-    ))
+    returned(calls::fill_custom(format, separator, grouping, minus_sign, b"."))
 }
 
 /// Fills the struct as [`num_format_custom`] does, but with this decimal mark, of at most 8 bytes.
@@ -62,13 +61,7 @@ pub extern "C" fn num_format_custom_decimal(
 ) -> i32
     ensures { FillsCustom separator.now grouping minus_sign.now decimal_mark.now format.old format.new result }
 {
-    returned(calls::fill_custom(
-        format,
-        separator,
-        grouping,
-        minus_sign,
-        decimal_mark,
-    ))
+    returned(calls::fill_custom(format, separator, grouping, minus_sign, decimal_mark))
 }
 
 /// Prints the number at the start of the array, and returns the length of its text, at most 191.
@@ -309,6 +302,34 @@ pub extern "C" fn num_format_parse_strict_i128(
     match calls::parse_strict::<i128>(format, text, at) {
         Ok(parsed) => {
             split(parsed.cast_unsigned(), low, high);
+            0
+        }
+        Err(status) => status.code(),
+    }
+}
+
+/// Parses the text strictly as a decimal, writes the halves of its units in two's complement and its scale, and
+/// returns 0.
+///
+/// Errors, in this order: a struct that has no format, and those of
+/// [`ParseDecimalError`](num_format_decimal::ParseDecimalError). The place of an unexpected byte is written.
+#[unsafe(no_mangle)]
+pub extern "C" fn num_format_parse_decimal(
+    format: &NumFormat,
+    text: &[u8],
+    low: &mut u64,
+    high: &mut u64,
+    scale: &mut u32,
+    at: &mut usize,
+) -> i32
+    ensures { ParsesDecimalInto format.now text.now
+        (fixed_point (signed_wide low.old high.old) scale.old)
+        (fixed_point (signed_wide low.new high.new) scale.new) at.old at.new result }
+{
+    match calls::parse_decimal(format, text, at) {
+        Ok(parsed) => {
+            split(parsed.units().cast_unsigned(), low, high);
+            *scale = parsed.scale() as u32;
             0
         }
         Err(status) => status.code(),

@@ -31,6 +31,8 @@ pub enum Status {
     OutOfRange,
     /// A decimal has no such scale.
     BadScale,
+    /// The text has more than 38 decimals.
+    TooManyDecimals,
 }
 
 impl Status {
@@ -52,6 +54,7 @@ impl Status {
             Status::Misspelled => -11,
             Status::OutOfRange => -12,
             Status::BadScale => -13,
+            Status::TooManyDecimals => -14,
         }
     }
 }

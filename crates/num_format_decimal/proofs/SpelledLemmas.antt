@@ -98,10 +98,10 @@ decimals-found t end k n all digit number =
     ∙ ap (λ j. a * 10 ^ j + b) long in
     record {
       text = same ∙ ap plain (
-        sym (last_digits-number ls below)
-        ∙ ap (λ j. last_digits j b) long
-        ∙ ap (last_digits k) (sym (ap (λ m. m % 10 ^ k) sum ∙ mod-mul-add a (10 ^ k) b small))
-        ∙ last_digits-mod k n);
+          sym (last_digits-number ls below)
+          ∙ ap (λ j. last_digits j b) long
+          ∙ ap (last_digits k) (sym (ap (λ m. m % 10 ^ k) sum ∙ mod-mul-add a (10 ^ k) b small))
+          ∙ last_digits-mod k n);
       whole = ap (λ m. m / 10 ^ k) sum ∙ div-mul-add a (10 ^ k) b small;
     }
 

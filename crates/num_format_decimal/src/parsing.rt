@@ -130,7 +130,10 @@ impl Decimal {
     /// # Errors
     ///
     /// [`ParseDecimalError::NotUtf8`] if the bytes are not UTF-8, and else as `from_strict_str`.
-    pub fn from_strict_bytes<F: Format>(bytes: &[u8], format: &F) -> Result<Decimal, ParseDecimalError>
+    pub fn from_strict_bytes<F: Format>(
+        bytes: &[u8],
+        format: &F,
+    ) -> Result<Decimal, ParseDecimalError>
         ensures decimal { (d : FixedPoint) → (result ≡ Ok d)
             ↔ ParsesDecimal (F.answers format.now) bytes.now d }
         ensures refused { (e : ParseDecimalError) → (result ≡ Err e)

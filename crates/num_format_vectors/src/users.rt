@@ -4,37 +4,70 @@ use crate::asserting::assert_equal;
 use crate::errors::message;
 use crate::texts::printed;
 use num_format::Locale;
+use num_format_decimal::{DecimalError, ParseAtScaleError, ParseDecimalError};
 use std::alloc::Global;
 use std::process::Abort;
 use std::test::Fail;
-use uses_money::{Money, parse_money};
+use uses_money::{Currency, Money};
 use uses_settings::parse_format;
 
+/// Minor units of a currency, a locale, and the text of the amount.
+type Amount = (i128, Currency, Locale, &'static str);
+
+#[rattlefmt::skip]
+const AMOUNTS: [Amount; 7] = [
+    (123_456_789, Currency::Eur, Locale::de, "1.234.567,89"),
+    (-5, Currency::Usd, Locale::en, "-0.05"),
+    (100_000, Currency::Eur, Locale::es, "1.000,00"),
+    (123_456_789, Currency::Inr, Locale::en_IN, "12,34,567.89"),
+    (-123_450, Currency::Jpy, Locale::en, "-123,450"),
+    (i128::MIN, Currency::Chf, Locale::en, "-1,701,411,834,604,692,317,316,873,037,158,841,057.28"),
+    (i128::MAX, Currency::Krw, Locale::en, "170,141,183,460,469,231,731,687,303,715,884,105,727"),
+];
+
 /// Asserts how an amount is displayed, and that this text is parsed as the amount.
-fn assert_money(
-    rt: &impl Abort,
-    alloc: Global,
-    minor_units: i64,
-    locale: Locale,
-    text: &str,
-) -> Result<(), Fail> {
+fn assert_money(rt: &impl Abort, alloc: Global, amount: &Amount) -> Result<(), Fail> {
+    let (minor_units, currency, locale, text) = *amount;
     let money = Money {
         minor_units,
-        locale,
+        currency,
     };
-    assert_equal(rt, format!(in alloc; "{money}")?.as_str(), text);
-    assert_equal(rt, parse_money(text, locale)?.minor_units, minor_units);
+    let displayed = format!(in alloc; "{}", money.formatted(&locale))?;
+    assert_equal(rt, displayed.as_str(), text);
+    assert_equal(rt, Money::parse(text, currency, &locale), Ok(money));
     Ok(())
 }
 
 #[test]
 fn amounts(rt: HostRuntime) -> Result<(), Fail> {
-    assert_money(&rt, rt.alloc(), 123_456_789, Locale::de, "1.234.567,89")?;
-    assert_money(&rt, rt.alloc(), -5, Locale::en, "-0.05")?;
-    assert_money(&rt, rt.alloc(), 100_000, Locale::es, "1.000,00")?;
-    let (lowest, highest) = ("-92,233,720,368,547,758.08", "92,233,720,368,547,758.07");
-    assert_money(&rt, rt.alloc(), i64::MIN, Locale::en, lowest)?;
-    assert_money(&rt, rt.alloc(), i64::MAX, Locale::en, highest)
+    for amount in &AMOUNTS {
+        assert_money(&rt, rt.alloc(), amount)?;
+    }
+    Ok(())
+}
+
+/// A text that is no amount of the currency under `en`, and why.
+type Refused = (&'static str, Currency, ParseAtScaleError);
+
+#[rattlefmt::skip]
+const REFUSED: [Refused; 4] = [
+    ("12.345", Currency::Usd, ParseAtScaleError::Rescale(DecimalError::DigitsLost)),
+    ("12.5", Currency::Jpy, ParseAtScaleError::Rescale(DecimalError::DigitsLost)),
+    ("12.50 USD", Currency::Usd, ParseAtScaleError::Parse(ParseDecimalError::Unexpected { at: 5 })),
+    ("1,23.40", Currency::Usd, ParseAtScaleError::Parse(ParseDecimalError::Misspelled)),
+];
+
+/// Asserts why a text is refused as an amount.
+fn assert_no_money(rt: &impl Abort, refused: &Refused) {
+    let (text, currency, error) = *refused;
+    assert_equal(rt, Money::parse(text, currency, &Locale::en), Err(error));
+}
+
+#[test]
+fn refused_amounts(rt: HostRuntime) {
+    for refused in &REFUSED {
+        assert_no_money(&rt, refused);
+    }
 }
 
 /// Asserts the text of a number under the format of these settings.

@@ -10,8 +10,7 @@
 
 use num_format_custom::CustomFormat;
 use num_format_decimal::{Decimal, ParseAtScaleError, ParseDecimalError};
-use std::fmt;
-use std::io;
+use std::{fmt, io};
 
 fn main(rt: HostRuntime) -> io::Result<()> {
     let data = io::read_to_string(rt.alloc(), rt.reader())?;
@@ -32,10 +31,12 @@ fn main(rt: HostRuntime) -> io::Result<()> {
 /// Returns what is parsed of the text of a row, without its scale and at it, or `None` if the line is no row.
 fn parse_row(
     line: &str,
-) -> Option<(
-    Result<Decimal, ParseDecimalError>,
-    Result<Decimal, ParseAtScaleError>,
-)> {
+) -> Option<
+    (
+        Result<Decimal, ParseDecimalError>,
+        Result<Decimal, ParseAtScaleError>,
+    ),
+> {
     let mut fields = line.split('\t');
     let format = CustomFormat::builder()
         .separator(fields.next()?)

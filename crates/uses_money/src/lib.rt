@@ -1,6 +1,11 @@
-//! Amounts of money, printed and parsed as a locale writes them.
+//! Amounts of money, printed and parsed as people write them, over `num_format_decimal`.
+//!
+//! An amount is a whole number of minor units, as cents, of one of twenty currencies. How many decimals a
+//! currency has is ISO 4217's number of its minor units.
 #![tactic(auto)]
 
+mod currency;
 mod money;
 
-pub use money::{Money, parse_money};
+pub use currency::Currency;
+pub use money::{FormattedMoney, Money};

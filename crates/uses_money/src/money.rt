@@ -1,66 +1,135 @@
 //! The type [`Money`].
-ghost use Rattle.std.specs.Prelude.{◌≡◌, Some, IfOk, IfErr};
-ghost use Rattle.num_format.specs.Cut.{cut_text};
-ghost use Rattle.num_format.specs.Data.{locale_data};
-ghost use Rattle.num_format.specs.Kind.{I64, kind_of};
-ghost use Rattle.num_format.specs.Reading.{Refused, denoted};
-ghost use Rattle.num_format.specs.Refusal.{ParseNumber, refusal_of};
-ghost use Rattle.uses_money.specs.Money.{money_text};
+ghost use Rattle.std.specs.Prelude.{◌≡◌, ◌↔◌, Ok, Err, Some, IfOk, IfErr, OnOk};
+ghost use Rattle.std.specs.Fmt.{spec_align, spec_fill, spec_width};
+ghost use Rattle.num_format_decimal.specs.FixedPoint.{FixedPoint};
+ghost use Rattle.num_format_decimal.specs.Parsing.{IsAtScaleCause, ParsesAtScale};
+ghost use Rattle.num_format_decimal.specs.Rounded.{CanRescale, CannotRescale, rescaled};
+ghost use Rattle.num_format_decimal.specs.Text.{decimal_text};
+ghost use Rattle.num_format_decimal.specs.declared.parsing.ParseAtScaleError.{ParseAtScaleError};
+ghost use Rattle.num_format_decimal.specs.declared.rounding.Rounding.TheVariants.{Exact};
+ghost use Rattle.uses_money.specs.Currency.{decimals_of};
+ghost use Rattle.uses_money.specs.Money.{amount_of};
+ghost use Rattle.uses_money.specs.declared.money.Money.{Money};
 
-use num_format::parsing::ParseFormatted;
-use num_format::{Buffer, Error, Locale};
+use crate::currency::Currency;
+use num_format::Format;
+use num_format_decimal::{Decimal, DecimalError, ParseAtScaleError, Rounding};
 use std::fmt;
 
-/// An amount of money in minor units, a hundred of which are one unit, as cents.
-///
-/// It displays as the locale writes it: the whole units with separators, the decimal mark, and two
-/// digits.
+/// An amount of money in minor units of its currency, as cents.
 ///
 /// ```text
-/// Money { minor_units: -123_405, locale: Locale::de }    displays as  -1.234,05
+/// Money { minor_units: 123_450, currency: Currency::Eur }     // 1,234.50
+/// Money { minor_units: 123_450, currency: Currency::Jpy }     // 123,450
 /// ```
-#[derive(Clone, Copy)]
+#[derive(Clone, Copy, Debug, PartialEq, Eq, Hash)]
 pub struct Money {
-    pub minor_units: i64,
-    pub locale: Locale,
+    pub minor_units: i128,
+    pub currency: Currency,
 }
 
-impl fmt::Display for Money {
-    ghost output = { λ m. Some (money_text (locale_data m.locale) m.minor_units) };
+impl Money {
+    /// Returns that amount of the currency.
+    ///
+    /// # Errors
+    ///
+    /// Returns [`DecimalError::DigitsLost`] if the amount has more decimals than the currency, and they are not
+    /// zeros, and [`DecimalError::OutOfRange`] if its minor units are no `i128`.
+    pub fn of(amount: Decimal, currency: Currency) -> Result<Money, DecimalError>
+        ensures amount { IfOk result (λ m. amount_of m ≡ rescaled Exact amount (decimals_of currency)) }
+        ensures currency { IfOk result (λ m. m.currency ≡ currency) }
+        ensures accepted { OnOk result (CanRescale Exact amount (decimals_of currency)) }
+        ensures refused { IfErr result (CannotRescale Exact amount (decimals_of currency)) }
+    {
+        let amount = amount.rescale(currency.decimals(), Rounding::Exact)?;
+        Ok(Money {
+            minor_units: amount.units(),
+            currency,
+        })
+    }
 
-    fn fmt<W: fmt::Write>(&self, f: &mut fmt::Formatter<W>) -> fmt::Result {
-        let sign = if self.minor_units < 0 {
-            self.locale.minus_sign()
-        } else {
-            ""
-        };
-        let magnitude = self.minor_units.unsigned_abs();
-        let units = Buffer::of(&(magnitude / 100), &self.locale);
-        let mark = self.locale.decimal();
-        let rest = magnitude % 100;
-        let (tens, ones) = (rest / 10, rest % 10);
-        write!(f, "{sign}{units}{mark}{tens}{ones}")
+    /// Returns the amount, with as many decimals as the currency has.
+    pub fn amount(&self) -> Decimal
+        ensures { result ≡ amount_of self.now }
+    {
+        match Decimal::new(self.minor_units, self.currency.decimals()) {
+            Ok(amount) => amount,
+            Err(_) => Decimal::from(self.minor_units),
+        }
+    }
+
+    /// Returns the amount that a text spells: it is exactly as an amount is printed, with separators or without,
+    /// and has any number of decimals that loses none.
+    ///
+    /// ```text
+    /// Money::parse("1,234.5", Currency::Usd, &Locale::en)      // 1,234.50
+    /// Money::parse("12.345", Currency::Usd, &Locale::en)       // Err(Rescale(DigitsLost))
+    /// Money::parse("12.50 USD", Currency::Usd, &Locale::en)    // Err(Parse(Unexpected { at: 5 }))
+    /// ```
+    ///
+    /// # Errors
+    ///
+    /// Returns the error of [`Decimal::parse_at_scale`] at the currency's number of decimals.
+    pub fn parse<F: Format>(
+        text: &str,
+        currency: Currency,
+        format: &F,
+    ) -> Result<Money, ParseAtScaleError>
+        ensures amount { IfOk result (λ m. ParsesAtScale (F.answers format.now) text.now (decimals_of currency) (amount_of m)) }
+        ensures currency { IfOk result (λ m. m.currency ≡ currency) }
+        ensures refused { (e : ParseAtScaleError) → (result ≡ Err e)
+            ↔ IsAtScaleCause (F.answers format.now) text.now (decimals_of currency) e }
+    {
+        match Decimal::parse_at_scale(text, currency.decimals(), format) {
+            Ok(amount) => Ok(Money {
+                minor_units: amount.units(),
+                currency,
+            }),
+            Err(error) => Err(error),
+        }
+    }
+
+    /// Returns the amount, to be displayed under a format. A width counts, as for a decimal.
+    ///
+    /// ```text
+    /// println!(rt; "{:>12} {}", price.formatted(&Locale::de), price.currency)?     // "    1.234,50 EUR"
+    /// ```
+    pub fn formatted<'a, F: Format>(&self, format: &'a F) -> FormattedMoney<'a, F>
+        ensures amount { result.amount ≡ amount_of self.now }
+        ensures format { result.format.now ≡ format.now }
+    {
+        FormattedMoney {
+            amount: self.amount(),
+            format,
+        }
     }
 }
 
-/// Returns the amount whose minor units are the digits of a text, as [`Money`] displays them.
-///
-/// All but the digits and a minus sign at the start is ignored: under `en`, `12.05` and `1205` are the
-/// same amount, and `12` is that of 0.12.
-///
-/// # Errors
-///
-/// Returns the error of a text that does not parse as an `i64`.
-pub fn parse_money(text: &str, locale: Locale) -> Result<Money, Error>
-    ensures number { IfOk result (λ m. m.minor_units ≡ denoted (locale_data locale) text.now) }
-    ensures locale { IfOk result (λ m. m.locale ≡ locale) }
-    ensures accepted { IfOk result (λ _. ¬ (Refused (kind_of I64) (locale_data locale) text.now)) }
-    ensures refused { IfErr result (λ _. Refused (kind_of I64) (locale_data locale) text.now) }
-    ensures error { IfErr result (λ e. refusal_of e ≡ ParseNumber (cut_text text.now)) }
-{
-    let minor_units = text.parse_formatted(&locale)?;
-    Ok(Money {
-        minor_units,
-        locale,
-    })
+/// An amount of money to be displayed under a format. [`Money::formatted`] returns it.
+pub struct FormattedMoney<'a, F: Format> {
+    amount: Decimal,
+    format: &'a F,
+}
+
+impl<'a, F: Format> fmt::Display for FormattedMoney<'a, F> {
+    ghost use Rattle.num_format_writers.specs.Columns.{filled};
+
+    ghost output = { λ m. Some (decimal_text (F.answers m.format.now) m.amount) };
+
+    ghost styled_output = { λ m spec. Some (filled (spec_width spec) (spec_align spec)
+        (spec_fill spec) (decimal_text (F.answers m.format.now) m.amount)) };
+
+    /// Writes the text of the amount, filled up to the width.
+    fn fmt<W: fmt::Write>(&self, f: &mut fmt::Formatter<W>) -> fmt::Result {
+        fmt::Display::fmt(&self.amount.formatted(self.format), f)
+    }
+}
+
+impl<'a, F: Format> Drop for FormattedMoney<'a, F> {
+    fn drop(self) {
+        let FormattedMoney {
+            amount: _,
+            format: _,
+        } = self;
+    }
 }
