@@ -10,6 +10,7 @@
 
 use num_format_custom::CustomFormat;
 use num_format_decimal::{Decimal, ParseAtScaleError, ParseDecimalError};
+use std::alloc::{AllocError, Global};
 use std::{fmt, io};
 
 fn main(rt: HostRuntime) -> io::Result<()> {
@@ -17,10 +18,9 @@ fn main(rt: HostRuntime) -> io::Result<()> {
     for line in data.lines() {
         match parse_row(line) {
             Some((parsed, at_scale)) => {
-                print_result(&rt, parsed)?;
-                print!(rt; "\t")?;
-                print_result(&rt, at_scale)?;
-                println!(rt)?;
+                let parsed = written(rt.alloc(), parsed)?;
+                let at_scale = written(rt.alloc(), at_scale)?;
+                println!(rt; "{parsed}\t{at_scale}")?;
             }
             None => println!(rt; "unreadable: {line}")?,
         }
@@ -52,10 +52,13 @@ fn parse_row(
     ))
 }
 
-/// Prints the units and the scale of a decimal, or the error.
-fn print_result<E: fmt::Debug>(rt: &impl Print, result: Result<Decimal, E>) -> io::Result<()> {
-    match result {
-        Ok(decimal) => print!(rt; "{}/{}", decimal.units(), decimal.scale()),
-        Err(error) => print!(rt; "{error:?}"),
+/// Returns the units and the scale of a decimal, or the error.
+fn written<E: fmt::Debug + Copy>(
+    alloc: Global,
+    parsed: Result<Decimal, E>,
+) -> Result<String, AllocError> {
+    match parsed {
+        Ok(decimal) => format!(in alloc; "{}/{}", decimal.units(), decimal.scale()),
+        Err(error) => format!(in alloc; "{error:?}"),
     }
 }
