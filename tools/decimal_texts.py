@@ -105,7 +105,8 @@ def expected(row):
     if isinstance(result, str):
         return f"{result}\tParse({result})"
     units, scale = result
-    there = rescaled(units, scale, to, None)
+    # Of an error, its name and not its message.
+    there = rescaled(units, scale, to, None).partition(":")[0]
     return f"{units}/{scale}\t{there if '/' in there else f'Rescale({there})'}"
 
 
