@@ -1,5 +1,5 @@
 -- At most one cause holds of a text, and none of a text that is parsed.
-use Rattle.std.proofs.Common.{◌≡◌, ℕ, List, length, refl, ap, ◌∙◌, sym, ◌<◌, ◌≤◌, arith, length-drop, subst, Ok, Err}
+use Rattle.std.proofs.Common.{◌≡◌, ℕ, List, length, refl, ap, ◌∙◌, sym, arith, length-drop, subst, Ok, Err}
 use Rattle.std.specs.Prelude.{Result, MatchResult, ◌↔◌}
 use Rattle.num_format_text.specs.Format.{FormatData}
 use Rattle.num_format_decimal.specs.declared.error.DecimalError.{DecimalError}

@@ -5,7 +5,7 @@ use lib.Utf8.{encode}
 use Rattle.num_format_cldr.specs.Classes.{Class, A, B, C, D, E, F, G, H, decimal_mark_of, separator_of}
 use Rattle.num_format_cldr.specs.declared.TheConstants.{LEN}
 use Rattle.num_format_cldr.specs.Entry.{Entry}
-use Rattle.num_format_cldr.specs.Table.{entry, entry_of}
+use Rattle.num_format_cldr.specs.Table.{entry}
 use Rattle.num_format_cldr.proofs.Places.{entry-member, member}
 use Rattle.num_format_parsing.proofs.ReadingLemmas.{ucd_category}
 use Rattle.num_format_certificates.specs.RoundTrips.{HasNoNumeral}

@@ -1,17 +1,17 @@
 -- What a text tells of a decimal, under a format that marks decimals.
-use Rattle.std.proofs.Common.{◌≡◌, ℕ, zero, suc, ◌+◌, ◌-◌, ◌*◌, ◌/◌, ◌%◌, ◌^◌, ◌<◌, ◌≤◌, ◌⊎◌, inl, inr, Bool, true, false, List, [], ◌∷◌, ◌++◌, length, get_or, take, drop, take-append-drop, map, refl, ap, ◌∙◌, sym, subst, arith, append_assoc, append-nil, length-append, lit<, ℤ, pos, negsuc, unsigned_abs, IsUtf8}
-use Rattle.std.specs.Prelude.{All, if◌then◌else◌, FitsSigned, ◌≤ℤ◌, nat_lt}
+use Rattle.std.proofs.Common.{◌≡◌, ℕ, zero, suc, ◌+◌, ◌-◌, ◌/◌, ◌%◌, ◌^◌, ◌<◌, ◌≤◌, ◌⊎◌, inl, inr, Bool, true, false, List, [], ◌∷◌, ◌++◌, length, get_or, take, drop, take-append-drop, refl, ap, ◌∙◌, sym, subst, arith, append_assoc, append-nil, length-append, lit<, ℤ, pos, negsuc, unsigned_abs, IsUtf8}
+use Rattle.std.specs.Prelude.{if◌then◌else◌, FitsSigned, nat_lt}
 use Rattle.std.specs.Char.{is_ascii_digit}
 use Rattle.std.specs.Int.{is_negative, w128}
 use Rattle.std.specs.Int.Digits.{number_from_digits, number_from_digits_after}
 use Rattle.std.specs.List.{list_any}
 use Rattle.std.specs.Str.{chars}
-use Rattle.std.proofs.Math.Nat.{div-add-mod, div-div-eq-div-mul, mod-lt, pow-succ'}
+use Rattle.std.proofs.Math.Nat.{div-div-eq-div-mul, mod-lt, pow-succ'}
 use Rattle.std.proofs.lemmas.Bool.{both_ways, cases_Bool, cases_order, false_from_ne_true, or_from}
 use Rattle.std.proofs.lemmas.Bool.Decides.{nat_tests, Decides-eqb}
 use Rattle.std.proofs.lemmas.Int.{ints}
 use Rattle.std.proofs.lemmas.Int.Digits.{number_after_append}
-use Rattle.std.proofs.lemmas.List.{append_cancel_left, get_or-append-add, get_or_append_left, length-map}
+use Rattle.std.proofs.lemmas.List.{append_cancel_left, get_or-append-add, get_or_append_left}
 use Rattle.std.proofs.lemmas.List.Elements.{All-append, All-cons, All-head, All-nil, All-tail}
 use Rattle.std.proofs.lemmas.List.Folds.{list_any-append}
 use Rattle.std.proofs.lemmas.Slice.Eq.{starts_is}
@@ -21,9 +21,9 @@ use Rattle.num_format_text.specs.declared.grouping.Grouping.{Grouping}
 use Rattle.num_format_text.specs.declared.grouping.Grouping.TheVariants.{Standard, Indian, Posix, Myriad, Sparse}
 use Rattle.num_format_text.specs.Format.{FormatData}
 use Rattle.num_format_int.specs.Digits.{digits}
-use Rattle.num_format_int.specs.Grouped.{grouped, printed_separator, separated, stands}
+use Rattle.num_format_int.specs.Grouped.{printed_separator, separated, stands}
 use Rattle.num_format_int.specs.Groups.{last_digits, plain}
-use Rattle.num_format_int.specs.Kind.{I128, IsSignedValueOf, IsValueOf, kind_of}
+use Rattle.num_format_int.specs.Kind.{I128, IsValueOf, kind_of}
 use Rattle.num_format_int.specs.Text.{body_of, text_of}
 use Rattle.num_format_int.proofs.DigitLemmas.{AreDigits, digits-below_ten, digits_given, length-last_digits, number_from_digits-digits}
 use Rattle.num_format_int.proofs.GroupedLemmas.{grouped-printed, of_either}
@@ -39,13 +39,13 @@ use Rattle.num_format_certificates.proofs.TextCharacterLemmas.{chars-ascii_byte,
 use Rattle.num_format_decimal.specs.FixedPoint.{FixedPoint, fixed_point}
 use Rattle.num_format_decimal.specs.Laws.{IsDecimalExact}
 use Rattle.num_format_decimal.specs.Marks.{MarksDecimals}
-use Rattle.num_format_decimal.specs.Parsing.{HasScale, ParsesDecimal, SpellsDecimal, denoted_at, with_separators, without_separators}
+use Rattle.num_format_decimal.specs.Parsing.{ParsesDecimal, SpellsDecimal, with_separators, without_separators}
 use Rattle.num_format_decimal.specs.Shapes.{IsBody, mark_at, sign_of, with_groups, without_groups}
 use Rattle.num_format_decimal.specs.Text.{decimal_text}
 use Rattle.num_format_decimal.specs.Values.{HasUnits}
 use Rattle.num_format_decimal.proofs.CauseLemmas.{one_parsed}
 use Rattle.num_format_decimal.proofs.ScaleLemmas.{abs_le}
-use Rattle.num_format_decimal.proofs.SpelledLemmas.{HasParts, decimal_text-parts, digit-decimals, length-parts, parts-spelled}
+use Rattle.num_format_decimal.proofs.SpelledLemmas.{HasParts, decimal_text-parts, digit-decimals, parts-spelled}
 use Rattle.num_format_decimal.proofs.TextLemmas.{length-plain, text_of_whole, whole_digits}
 
 -- a text in UTF-8 whose digits are these, and that has no other numeral

@@ -1,5 +1,5 @@
 -- The scales at which a text spells the number that its digits write, as they are looked at one after the other.
-use Rattle.std.proofs.Common.{◌≡◌, ℕ, suc, ◌+◌, ◌-◌, ◌<◌, ◌≤◌, false, List, length, get_or, refl, subst, arith, inl, inr}
+use Rattle.std.proofs.Common.{◌≡◌, ℕ, ◌+◌, ◌-◌, ◌<◌, ◌≤◌, false, List, length, get_or, refl, subst, arith, inl, inr}
 use Rattle.std.specs.Prelude.{min, MatchOption, Option, Some, None}
 use Rattle.std.specs.Option.{is_some}
 use Rattle.std.specs.Char.{is_ascii_digit}

@@ -1,5 +1,5 @@
 -- When a text spells the number that its digits write, at a scale.
-use Rattle.std.proofs.Common.{◌≡◌, ℕ, zero, suc, ◌+◌, ◌-◌, ◌*◌, ◌/◌, ◌%◌, ◌^◌, ◌<◌, ◌≤◌, ◌⊎◌, inl, inr, Bool, true, false, List, [], ◌∷◌, ◌++◌, length, map, get_or, refl, ap, ◌∙◌, sym, subst, arith, take, drop, take-append-drop, append_assoc, append-nil, length-append, length-drop, lit<, ℤ, pos, unsigned_abs, IsUtf8}
+use Rattle.std.proofs.Common.{◌≡◌, ℕ, zero, suc, ◌+◌, ◌-◌, ◌*◌, ◌/◌, ◌%◌, ◌^◌, ◌<◌, ◌≤◌, ◌⊎◌, inl, inr, Bool, true, false, List, [], ◌∷◌, ◌++◌, length, get_or, refl, ap, ◌∙◌, sym, subst, arith, take, drop, take-append-drop, append_assoc, length-append, length-drop, lit<, ℤ, pos, unsigned_abs, IsUtf8}
 use Rattle.std.specs.Prelude.{◌↔◌, All, nat_eq, nat_lt, if◌then◌else◌}
 use Rattle.std.specs.Char.{is_ascii_digit}
 use Rattle.std.specs.Int.{is_negative}
@@ -30,7 +30,7 @@ use Rattle.num_format_parsing.proofs.FigureLemmas.{Writes, digits-after, figures
 use Rattle.num_format_parsing.proofs.GroupsLemmas.{plain-all}
 use Rattle.num_format_parsing.proofs.ReadingLemmas.{digits_among-append, is_ascii_digit-digit}
 use Rattle.num_format_decimal.specs.FixedPoint.{fixed_point}
-use Rattle.num_format_decimal.specs.Parsing.{SpellsDecimal, with_separators, without_separators, denoted_at}
+use Rattle.num_format_decimal.specs.Parsing.{SpellsDecimal, with_separators, without_separators}
 use Rattle.num_format_decimal.specs.Shapes.{IsBody, with_groups, without_groups, mark_at, sign_of}
 use Rattle.num_format_decimal.specs.Text.{decimal_text}
 use Rattle.num_format_decimal.proofs.TextLemmas.{length-plain}

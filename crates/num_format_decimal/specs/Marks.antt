@@ -1,5 +1,5 @@
 -- Formats under which every decimal parses again from its text.
-use Rattle.std.specs.Prelude.{◌≡◌, ◌⊎◌, [], ℕ, List}
+use Rattle.std.specs.Prelude.{◌≡◌, ◌⊎◌, []}
 use Rattle.num_format_text.specs.declared.grouping.Grouping.TheVariants.{Posix}
 use Rattle.num_format_text.specs.Format.{FormatData}
 use Rattle.num_format_certificates.specs.RoundTrips.{HasNoNumeral, RoundTrips}

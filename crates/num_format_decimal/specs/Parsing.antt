@@ -53,29 +53,29 @@ pub record SpellsNone (f : FormatData) (t : List ℕ) : Type 0 where
   pub utf8 : IsUtf8 t
   pub none : (scale : ℕ) → ¬ (HasScale f t scale)
 
--- such a text has its first unexpected byte at that place
+-- a text for which no decimal could be returned has its first unexpected byte at that place
 pub record DecimalStopsAt (f : FormatData) (t : List ℕ) (at : ℕ) : Type 0 where
   pub spells_none : SpellsNone f t
   pub inside : at < length t
   pub rest : unexpected_in_decimal f t ≡ drop at t
 
--- such a text has no unexpected byte
+-- a text for which no decimal could be returned has no unexpected byte
 pub record IsExpectedDecimal (f : FormatData) (t : List ℕ) : Type 0 where
   pub spells_none : SpellsNone f t
   pub rest : unexpected_in_decimal f t ≡ []
 
--- and no digit
+-- such a text has no unexpected byte, and no digit
 pub record LacksDecimalDigit (f : FormatData) (t : List ℕ) : Type 0 where
   pub expected : IsExpectedDecimal f t
   pub none : figures t ≡ []
 
--- or digits, of which more than 38 follow the mark
+-- such a text has no unexpected byte, and digits, of which more than 38 follow the mark
 pub record HasManyDecimals (f : FormatData) (t : List ℕ) : Type 0 where
   pub expected : IsExpectedDecimal f t
   pub some : ¬ (figures t ≡ [])
   pub many : MAX_SCALE < length (after_mark f t)
 
--- or digits, of which at most 38 follow the mark
+-- such a text has no unexpected byte, and digits, of which at most 38 follow the mark
 pub record IsMisspelledDecimal (f : FormatData) (t : List ℕ) : Type 0 where
   pub expected : IsExpectedDecimal f t
   pub some : ¬ (figures t ≡ [])

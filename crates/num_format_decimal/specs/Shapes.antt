@@ -1,5 +1,5 @@
 -- What the steps of parsing a decimal find in a text.
-use Rattle.std.specs.Prelude.{◌≡◌, ℕ, ◌<◌, nat_lt, List, [], ◌++◌, if◌then◌else◌, ℤ, MatchOption, Option}
+use Rattle.std.specs.Prelude.{◌≡◌, ℕ, ◌<◌, nat_lt, List, [], if◌then◌else◌, ℤ}
 use Rattle.std.specs.Int.{is_negative}
 use Rattle.num_format_text.specs.Format.{FormatData}
 use Rattle.num_format_int.specs.Text.{body_of}
@@ -19,11 +19,11 @@ pub data IsBody (f : FormatData) (t : List ℕ) (n : ℕ) : Type 0 where
   with_groups : t ≡ body_of f n → IsBody f t n
   without_groups : t ≡ body_of (ungrouped f) n → IsBody f t n
 
--- of the scales below a bound, a text spells the number that its digits write at none
+-- at no scale below a bound does a text spell the number that its digits write
 abbrev pub SpellsBelow : FormatData → List ℕ → (bound : ℕ) → Type 0
 SpellsBelow f t bound = (scale : ℕ) → scale < bound → ¬ (SpellsDecimal f t (denoted_at f t scale))
 
--- or at that one alone
+-- at that scale, and at no other below a bound, a text spells the number that its digits write
 pub record SpellsOneBelow (f : FormatData) (t : List ℕ) (bound scale : ℕ) : Type 0 where
   pub below : scale < bound
   pub spelled : SpellsDecimal f t (denoted_at f t scale)

@@ -35,10 +35,11 @@ negated d = fixed_point (neg_ℤ d.units) d.scale
 abbrev pub minus : FixedPoint → FixedPoint → FixedPoint
 minus a b = plus a (negated b)
 
--- the value in two parts: the whole number at or below it, and by how many units of the largest scale it is above
+-- the whole number at or below the value
 abbrev pub whole_part : FixedPoint → ℤ
 whole_part d = int_div_euclid (value_of d) (pos (10 ^ MAX_SCALE))
 
+-- by how many units of the largest scale the value is above that whole number
 abbrev pub rest_of : FixedPoint → ℕ
 rest_of d = unsigned_abs (int_rem_euclid (value_of d) (pos (10 ^ MAX_SCALE)))
 

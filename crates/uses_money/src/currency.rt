@@ -1,7 +1,6 @@
 //! The type [`Currency`].
-ghost use Rattle.std.specs.Prelude.{◌≡◌, ◌≢◌, ◌≤◌, None, Some, IfSome};
+ghost use Rattle.std.specs.Prelude.{◌≡◌, ◌≤◌, Some};
 ghost use Rattle.uses_money.specs.Currency.{code_of, decimals_of};
-ghost use Rattle.uses_money.specs.declared.currency.Currency.{Currency};
 
 use std::fmt;
 
@@ -82,7 +81,9 @@ impl Currency {
 impl fmt::Display for Currency {
     ghost output = { λ c. Some (code_of c) };
 
-    /// Writes the code.
+    ghost styled_output = { λ c _. Some (code_of c) };
+
+    /// Writes the code alone, whatever width or fill is asked for.
     fn fmt<W: fmt::Write>(&self, f: &mut fmt::Formatter<W>) -> fmt::Result {
         f.write_str(self.code())
     }

@@ -52,10 +52,8 @@ impl Money {
     pub fn amount(&self) -> Decimal
         ensures { result ≡ amount_of self.now }
     {
-        match Decimal::new(self.minor_units, self.currency.decimals()) {
-            Ok(amount) => amount,
-            Err(_) => Decimal::from(self.minor_units),
-        }
+        // No currency has more than two decimals.
+        Decimal::new(self.minor_units, self.currency.decimals()).unwrap()
     }
 
     /// Returns the amount that a text spells: it is exactly as an amount is printed, with separators or without,

@@ -1,7 +1,6 @@
-use Rattle.std.proofs.Common.{◌≡◌, ◌∙◌, [], sym, arith}
+use Rattle.std.proofs.Common.{◌∙◌, sym, arith}
 use Rattle.std.proofs.lemmas.List.{drop_all}
 use Rattle.num_format_parsing.proofs.FigureLemmas.{figures-bytes, figures-none, figures-some}
-use Rattle.num_format_decimal.specs.Parsing.{IsExpectedDecimal, unexpected_in_decimal}
 use Rattle.num_format_decimal.proofs.parsing.refusal.Goals as goal
 
 pub returns-then-not-has_digit : goal.returns-then-not-has_digit

@@ -1,4 +1,4 @@
-use Rattle.std.proofs.Common.{◌≡◌, ◌+◌, ◌≤◌, ◌∙◌, false, sym, subst, arith, Some}
+use Rattle.std.proofs.Common.{◌≡◌, ◌+◌, ◌≤◌, ◌∙◌, false, sym, subst, arith}
 use Rattle.std.specs.Option.{is_some}
 use Rattle.num_format_decimal.proofs.ScaleSearchLemmas.{HasFound, all-found, step-found, step-kept}
 use Rattle.num_format_decimal.proofs.SpelledLemmas.{digits-fewer}

@@ -1,12 +1,10 @@
 use Rattle.std.proofs.Common.{◌≡◌, ℕ, ◌-◌, ◌<◌, ◌∙◌, inl, inr, List, [], ◌∷◌, ap, sym, subst, length, take, drop, get_or, arith, rules}
-use Rattle.std.specs.Prelude.{◌↔◌}
 use Rattle.std.specs.Int.Digits.{number_from_digits}
 use Rattle.std.proofs.lemmas.Bool.{both_ways}
 use Rattle.std.proofs.lemmas.Bool.Decides.{nat_tests}
 use Rattle.std.proofs.lemmas.List.{take_all, take_rest}
 use Rattle.num_format_parsing.specs.Shapes.{BeginsWithDigit, byte_figures}
 use Rattle.num_format_parsing.proofs.FigureLemmas.{number-after_zeros, writes}
-use Rattle.num_format_decimal.specs.Shapes.{IsBody}
 use Rattle.num_format_decimal.proofs.SpelledLemmas.{body-more, body-zero}
 use Rattle.num_format_decimal.proofs.spelling.is_body.Goals as goal
 

@@ -1,4 +1,4 @@
-use Rattle.std.proofs.Common.{subst, rules}
+use Rattle.std.proofs.Common.{subst}
 use Rattle.num_format_decimal.specs.declared.parsing.ParseDecimalError.TheVariants.{NotUtf8}
 use Rattle.num_format_decimal.proofs.CauseLemmas.{JudgedDecimal, decimal-exactly, error-exactly}
 use Rattle.num_format_decimal.proofs.decimal.Decimal.from_strict_str.Goals as goal
