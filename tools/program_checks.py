@@ -19,7 +19,7 @@ CASES = (ORACLE / "stdin").read_text(encoding="utf-8").splitlines(keepends=True)
 # The program that checks properties, its inputs, and the length of one in bytes.
 PROPERTIES = ROOT / "crates" / "test_properties"
 INPUTS = (PROPERTIES / "stdin").read_bytes()
-INPUT_LEN = 88
+INPUT_LEN = 98
 
 
 def check_streams(tally, program):

@@ -7,9 +7,9 @@
 The bytes follow from `--count` and `--seed`. The first command writes the inputs of the stored run.
 crates/test_properties/src/input.rt has the rule by which the program reads them. Most inputs are
 at an edge: limits of the types, powers of ten, texts of no byte and of as many as fit, digits and minus
-signs in separators, names of locales with a change, numerals of other scripts. The others are any bytes.
-After them come numbers whose texts have each length from 1 to the longest, under each grouping, and
-with them each locale.
+signs in separators and decimal marks, names of locales with a change, numerals of other scripts. The
+others are any bytes. After them come numbers whose texts have each length from 1 to the longest, under
+each grouping, and with them each locale.
 """
 import argparse
 import itertools
@@ -19,12 +19,17 @@ import sys
 import lengths
 from locales import rows
 
-RECORD_LEN = 88
+RECORD_LEN = 98
 TYPES = 18
 LONGEST_SIGN = 8
 LONGEST_TEXT = 47
 
-NAMES = sorted(row["name"] for row in rows())
+# The largest scale of a decimal, and the scales that most decimals have.
+MAX_SCALE = 38
+SCALES = [0, 1, 2, 3, 6, 18, 19, 37, 38]
+
+ROWS = sorted(rows(), key=lambda row: row["name"])
+NAMES = [row["name"] for row in ROWS]
 
 # The groupings and the type `i128`, by their places.
 GROUPINGS = ["Standard", "Indian", "Posix", "Myriad", "Sparse"]
@@ -33,7 +38,10 @@ I128 = 10
 # The bits of the integer types.
 BITS = [8, 16, 32, 64, 128]
 
-# Texts for separators and minus signs.
+# A decimal mark of as many bytes as fit. At scale 1 a number of 39 digits has its longest text.
+LONGEST_MARK = b"stuvwxyz"
+
+# Texts for separators, minus signs and decimal marks.
 SIGNS = [
     *["", ",", ".", "'", " ", "-", "--", "\u2212", "\u061c-", "\u200e-", "\u202f", "\u2019", "\u066c"],
     *["0", "7", "-0", "5x", "9-", "x5", "12345678", "abcdefgh", "\0", '"', "\\", "\n", "\x7f"],
@@ -63,7 +71,7 @@ def number(rng):
 
 
 def sign(rng):
-    """A separator or a minus sign, as bytes that may not be UTF-8."""
+    """A separator, a minus sign or a decimal mark, as bytes that may not be UTF-8."""
     chance = rng.random()
     if chance < 0.75:
         return rng.choice(SIGNS).encode()
@@ -89,14 +97,28 @@ def name(rng):
     return text
 
 
-def text(rng, value, separator, minus_sign):
+def signs(rng, row):
+    """A separator, a minus sign and a decimal mark: those of a locale, or any if there is none."""
+    if row:
+        return [row["sep"].encode(), row["min"].encode(), row["dec"].encode()]
+    return [sign(rng), sign(rng) if rng.random() < 0.7 else b"-", sign(rng) if rng.random() < 0.5 else b"."]
+
+
+def spelled(value, scale, separator, minus_sign, mark):
+    """The text of a decimal, with groups of three digits."""
+    whole, decimals = divmod(abs(value), 10**scale)
+    grouped = f"{whole:,}".encode().replace(b",", separator)
+    decimals = mark + str(decimals).zfill(scale).encode() if scale else b""
+    return (minus_sign if value < 0 else b"") + grouped + decimals
+
+
+def text(rng, value, scale, separator, minus_sign, mark):
     """A text to parse or to find a locale by."""
     chance = rng.random()
     if chance < 0.25:
         return name(rng).encode()
     if chance < 0.5:
-        grouped = f"{abs(value):,}".encode().replace(b",", separator)
-        return (minus_sign if value < 0 else b"") + grouped
+        return spelled(value, rng.choice([0, scale]), separator, minus_sign, mark)
     if chance < 0.55:
         return b"0" * rng.randint(0, 20) + str(value).encode()
     if chance < 0.65:
@@ -118,17 +140,17 @@ def record(rng):
     if rng.random() < 0.05:
         return rng.randbytes(RECORD_LEN)
     value = number(rng)
-    separator = sign(rng)
-    minus_sign = sign(rng) if rng.random() < 0.7 else b"-"
+    scale = rng.choice([*SCALES, rng.randint(0, MAX_SCALE)])
     places = [rng.randrange(TYPES), rng.randrange(len(GROUPINGS)), rng.randrange(4)]
     locale = rng.randrange(len(NAMES))
+    separator, minus_sign, mark = signs(rng, None if places[2] else ROWS[locale])
     # Most texts stand once, some long enough for an error to truncate them.
     repeated = rng.choice([0, 0, 0, 0, rng.randrange(8)])
-    content = text(rng, value, separator, minus_sign)
-    return packed(places, locale, separator, minus_sign, value, repeated, content)
+    content = text(rng, value, scale, separator, minus_sign, mark)
+    return packed(places, locale, separator, minus_sign, value, repeated, content, scale, mark)
 
 
-def packed(places, locale, separator, minus_sign, value, repeated, content):
+def packed(places, locale, separator, minus_sign, value, repeated, content, scale, mark):
     """The bytes of an input."""
     return b"".join(
         [
@@ -139,6 +161,8 @@ def packed(places, locale, separator, minus_sign, value, repeated, content):
             (value % 2**128).to_bytes(16, "little"),
             bytes([repeated]),
             field(content, LONGEST_TEXT),
+            bytes([scale]),
+            field(mark, LONGEST_SIGN),
         ]
     )
 
@@ -148,9 +172,9 @@ def of_each_length():
     locales = itertools.cycle(range(len(NAMES)))
     for place, grouping in enumerate(GROUPINGS):
         for separator, minus_sign, value, _ in lengths.under(grouping):
-            signs = [separator.encode(), minus_sign.encode()]
+            texts = [separator.encode(), minus_sign.encode()]
             content = str(value).encode()
-            yield packed([I128, place, 1], next(locales), *signs, value, 0, content)
+            yield packed([I128, place, 1], next(locales), *texts, value, 0, content, 1, LONGEST_MARK)
 
 
 def main():

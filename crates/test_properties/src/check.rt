@@ -11,6 +11,8 @@
 //! | strict | whose bytes are parsed strictly as a number | the bytes are parsed as the same number |
 //! | spelled | the same | printed, grouped or not, this number has the bytes |
 //! | strict again | with a format of which `reads_back` is true | the printed number, grouped or not, is parsed strictly as the same number |
+//! | decimal spelled | whose bytes are parsed as a decimal | printed, grouped or not, this decimal has the bytes |
+//! | decimal again | with a format of which `marks_decimals` is true | the printed decimal, grouped or not, is parsed as one of the same units and scale |
 //! | builds | all | the custom format has the texts and the grouping that the builder received |
 //! | finds | all | the text is a locale's name, with hyphens or with underscores, or is refused with such an error |
 //! | own name | all | the locale is found by the name at its place, and has this name |
@@ -22,12 +24,13 @@ ghost use Rattle.std.specs.Prelude.{◌≤◌};
 use crate::input::Input;
 use crate::properties::{
     are_ways_alike, finds_or_refuses, has_length, ignores_appended, is_buffer_alike_in_json,
-    is_format_alike_in_json, is_found_by_its_name, is_locale_alike_in_json, is_parsed_strictly,
-    is_parsed_too, is_spelled, parses_or_refuses,
+    is_decimal_parsed, is_decimal_spelled, is_format_alike_in_json, is_found_by_its_name,
+    is_locale_alike_in_json, is_parsed_strictly, is_parsed_too, is_spelled, parses_or_refuses,
 };
 use crate::report::Report;
 use num_format::parsing::FromFormattedStr;
 use num_format::{Buffer, Format, ToFormattedString, reads_back};
+use num_format_decimal::marks_decimals;
 use std::alloc::Global;
 use std::fmt::Display;
 use std::io;
@@ -37,6 +40,7 @@ use std::num::{NonZeroU8, NonZeroU16, NonZeroU32, NonZeroU64, NonZeroU128, NonZe
 #[derive(Drop)]
 pub struct Outcomes {
     pub printing: Printing,
+    pub decimals: Decimals,
     pub builds: bool,
     pub finds: bool,
     pub own_name: bool,
@@ -59,6 +63,24 @@ pub struct Printing {
     pub json_buffer: bool,
 }
 
+/// The outcomes of decimals.
+#[derive(Drop)]
+pub struct Decimals {
+    pub spelled: Option<bool>,
+    pub again: Option<bool>,
+}
+
+impl Decimals {
+    /// Checks decimals under a format.
+    fn under<F: Format>(input: &Input, format: &F) -> Decimals {
+        let marks = marks_decimals(format);
+        Decimals {
+            spelled: is_decimal_spelled(&input.bytes, format),
+            again: marks.then_some(is_decimal_parsed(input.decimal, format)),
+        }
+    }
+}
+
 impl Outcomes {
     /// Checks each property on an input.
     ///
@@ -68,13 +90,20 @@ impl Outcomes {
     pub fn of(alloc: Global, input: &Input) -> io::Result<Outcomes> {
         let locale = input.locale;
         let custom = input.custom_format();
-        let printing = if input.is_locale {
-            under(alloc, input, &locale)?
+        let (printing, decimals) = if input.is_locale {
+            (
+                under(alloc, input, &locale)?,
+                Decimals::under(input, &locale),
+            )
         } else {
-            under(alloc, input, &custom)?
+            (
+                under(alloc, input, &custom)?,
+                Decimals::under(input, &custom),
+            )
         };
         Ok(Outcomes {
             printing,
+            decimals,
             builds: input.is_built(&custom),
             finds: finds_or_refuses(alloc, &input.text)?,
             own_name: is_found_by_its_name(input.name, locale),

@@ -14,18 +14,21 @@
 //! | 23 to 38 | the number: the first of these bytes, as many as the type has. For a `NonZero`, 0 is 1 |
 //! | 39 | how often the next text is repeated: 1 more than the remainder by 8 |
 //! | 40 to 87 | a text. Repeated, it is the input's text |
+//! | 88 | the scale of the decimal whose units are the number's 16 bytes: the remainder by 39 |
+//! | 89 to 97 | a text, the decimal mark of the custom format |
 //!
 //! Numbers are in little-endian order. The first of a text's bytes says how many of the others count:
-//! the remainder by the number of all. The text is their longest prefix that is UTF-8. Those of the last
-//! text that count are the input's bytes, whether they are UTF-8 or not. The other texts of the custom
+//! the remainder by the number of all. The text is their longest prefix that is UTF-8. Those of the
+//! text from 40 on that count are the input's bytes, whether they are UTF-8 or not. The other texts of the custom
 //! format are the longest prefixes of the input's text that fit.
 
 use num_format::{CustomFormat, Grouping, Locale};
+use num_format_decimal::{Decimal, MAX_SCALE};
 use std::alloc::Global;
 use std::io;
 
 /// The length of a record in bytes.
-pub const RECORD_LEN: usize = 88;
+pub const RECORD_LEN: usize = 98;
 
 /// An input.
 #[derive(Drop)]
@@ -34,6 +37,7 @@ pub struct Input {
     pub type_place: u8,
     /// The number's bytes, in little-endian order.
     pub number: [u8; 16],
+    pub decimal: Decimal,
     /// Whether the number is printed and parsed under the locale, and else under the custom format.
     pub is_locale: bool,
     pub locale: Locale,
@@ -42,6 +46,7 @@ pub struct Input {
     pub grouping: Grouping,
     pub separator: String,
     pub minus_sign: String,
+    pub decimal_mark: String,
     pub text: String,
     pub bytes: Vec<u8>,
 }
@@ -59,17 +64,21 @@ impl Input {
         number.copy_from_slice(&bytes[23..39]);
         let name = name_at(u16::from_le_bytes([bytes[3], bytes[4]]));
         let repetitions = 1 + usize::from(bytes[39] % 8);
+        let units = i128::from_le_bytes(number);
+        let scale = bytes[88] % (MAX_SCALE + 1);
         Ok(Input {
             type_place: bytes[0] % 18,
             number,
+            decimal: Decimal::new(units, scale).unwrap_or(Decimal::from(units)),
             is_locale: bytes[2] % 4 == 0,
             grouping: grouping_at(bytes[1] % 5),
             locale: Locale::from_name(name).unwrap_or(Locale::en),
             name,
             separator: String::from_str(alloc, text_in(&bytes[5..14]))?,
             minus_sign: String::from_str(alloc, text_in(&bytes[14..23]))?,
-            text: text_in(&bytes[40..]).repeat(alloc, repetitions)?,
-            bytes: counted(&bytes[40..]).to_vec(alloc)?,
+            decimal_mark: String::from_str(alloc, text_in(&bytes[89..]))?,
+            text: text_in(&bytes[40..88]).repeat(alloc, repetitions)?,
+            bytes: counted(&bytes[40..88]).to_vec(alloc)?,
         })
     }
 
@@ -77,7 +86,7 @@ impl Input {
     /// does not, since each text fits.
     pub fn custom_format(&self) -> CustomFormat {
         CustomFormat::builder()
-            .decimal(prefix(&self.text, 8))
+            .decimal(&self.decimal_mark)
             .grouping(self.grouping)
             .infinity(prefix(&self.text, 128))
             .minus_sign(&self.minus_sign)
@@ -90,7 +99,7 @@ impl Input {
 
     /// Returns whether the format has the data that the builder received.
     pub fn is_built(&self, format: &CustomFormat) -> bool {
-        format.decimal() == prefix(&self.text, 8)
+        format.decimal() == self.decimal_mark.as_str()
             && format.grouping() == self.grouping
             && format.infinity() == prefix(&self.text, 128)
             && format.minus_sign() == self.minus_sign.as_str()

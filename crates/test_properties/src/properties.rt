@@ -9,6 +9,7 @@ use num_format::{
     Buffer, CustomFormat, Error, ErrorKind, Format, Grouping, Locale, ToFormattedStr,
     ToFormattedString, WriteFormatted,
 };
+use num_format_decimal::{Decimal, DecimalBuffer, ParseDecimal};
 use std::alloc::Global;
 use std::fmt::Display;
 use std::io;
@@ -154,12 +155,45 @@ where
 
 /// Returns the texts of a number under a format, and under that format without grouping.
 fn spellings<N: ToFormattedStr, F: Format>(number: &N, format: &F) -> [Buffer; 2] {
-    let ungrouped = CustomFormat::of(format)
+    [
+        Buffer::of(number, format),
+        Buffer::of(number, &ungrouped(format)),
+    ]
+}
+
+/// Returns whether a decimal that the bytes are parsed to is printed as the bytes, grouped or not. None
+/// where they are refused.
+pub fn is_decimal_spelled<F: Format>(bytes: &[u8], format: &F) -> Option<bool> {
+    let decimal = Decimal::from_strict_bytes(bytes, format).ok()?;
+    let [grouped, ungrouped] = decimal_spellings(&decimal, format);
+    Some(grouped.as_bytes() == bytes || ungrouped.as_bytes() == bytes)
+}
+
+/// Returns whether the printed decimal, grouped or not, is parsed as one of the same units and scale.
+pub fn is_decimal_parsed<F: Format>(decimal: Decimal, format: &F) -> bool {
+    let is_same = |parsed: Decimal| {
+        parsed.units() == decimal.units() && parsed.scale() == decimal.scale()
+    };
+    let [grouped, ungrouped] = decimal_spellings(&decimal, format);
+    grouped.as_str().parse_decimal(format).is_ok_and(is_same)
+        && ungrouped.as_str().parse_decimal(format).is_ok_and(is_same)
+}
+
+/// Returns the texts of a decimal under a format, and under that format without grouping.
+fn decimal_spellings<F: Format>(decimal: &Decimal, format: &F) -> [DecimalBuffer; 2] {
+    [
+        DecimalBuffer::of(decimal, format),
+        DecimalBuffer::of(decimal, &ungrouped(format)),
+    ]
+}
+
+/// Returns the format without grouping.
+fn ungrouped<F: Format>(format: &F) -> CustomFormat {
+    CustomFormat::of(format)
         .into_builder()
         .grouping(Grouping::Posix)
         .build()
-        .unwrap_or_default();
-    [Buffer::of(number, format), Buffer::of(number, &ungrouped)]
+        .unwrap_or_default()
 }
 
 /// Returns whether the text finds a locale of that name, or is refused with an error that keeps it,

@@ -64,6 +64,8 @@ pub struct Report {
     strict: Tally,
     spelled: Tally,
     strict_again: Tally,
+    decimal_spelled: Tally,
+    decimal_again: Tally,
     builds: Tally,
     finds: Tally,
     own_name: Tally,
@@ -85,6 +87,8 @@ impl Report {
             strict: Tally::new("strict", negated),
             spelled: Tally::new("spelled", negated),
             strict_again: Tally::new("strict again", negated),
+            decimal_spelled: Tally::new("decimal spelled", negated),
+            decimal_again: Tally::new("decimal again", negated),
             builds: Tally::new("builds", negated),
             finds: Tally::new("finds", negated),
             own_name: Tally::new("own name", negated),
@@ -116,6 +120,12 @@ impl Report {
         if let Some(holds) = printing.strict_again {
             self.strict_again.add(index, holds);
         }
+        if let Some(holds) = outcomes.decimals.spelled {
+            self.decimal_spelled.add(index, holds);
+        }
+        if let Some(holds) = outcomes.decimals.again {
+            self.decimal_again.add(index, holds);
+        }
         self.builds.add(index, outcomes.builds);
         self.finds.add(index, outcomes.finds);
         self.own_name.add(index, outcomes.own_name);
@@ -138,7 +148,7 @@ impl Report {
         Ok(lines)
     }
 
-    fn tallies(&self) -> [&Tally; 15] {
+    fn tallies(&self) -> [&Tally; 17] {
         [
             &self.ways,
             &self.length,
@@ -149,6 +159,8 @@ impl Report {
             &self.strict,
             &self.spelled,
             &self.strict_again,
+            &self.decimal_spelled,
+            &self.decimal_again,
             &self.builds,
             &self.finds,
             &self.own_name,
