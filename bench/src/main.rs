@@ -6,6 +6,7 @@
 //! Standard.
 
 mod c;
+mod decimals;
 mod floor;
 mod groupings;
 mod line_tool;
@@ -60,6 +61,12 @@ pub const REFUSE_STRICTLY: &str = "refuse strictly";
 
 /// Looking tags up, which has kinds of text.
 pub const LOOK_UP_TAG: &str = "look up a tag";
+
+/// Printing of decimals, which is compared with printing whole numbers, and with `rust_decimal`.
+pub const PRINT_DECIMALS: &str = "print decimals";
+
+/// Reading of decimals, which is compared with reading whole numbers strictly, and with `rust_decimal`.
+pub const READ_DECIMALS: &str = "read decimals";
 
 /// The types that are read strictly.
 const STRICT_TYPES: [&str; 3] = ["u8", "i64", "u128"];
@@ -216,6 +223,29 @@ impl Run {
         self.measure_sizes::<i64>(C_READING, &names, |name, sizes, place| {
             measure_reading_through_c(name, &sizes.batch(), C_FORMATS[place])
         });
+    }
+
+    /// Measures decimals at each scale, under each of their formats.
+    fn measure_decimals(&mut self) {
+        for (name, scale) in decimals::SCALES {
+            for format in &decimals::FORMATS {
+                for sizes in Sizes::all::<i128>() {
+                    let cell = |operation| Cell {
+                        operation,
+                        format: name,
+                        type_name: format.name,
+                        sizes: sizes.label(),
+                        group: sizes.group::<i128>(),
+                    };
+                    self.measure(cell(PRINT_DECIMALS), |name| {
+                        measure_printing_decimals(name, &sizes.batch(), scale, format)
+                    });
+                    self.measure(cell(READ_DECIMALS), |name| {
+                        measure_reading_decimals(name, &sizes.batch(), scale, format)
+                    });
+                }
+            }
+        }
     }
 
     /// Measures an operation at all sizes of a type under formats, which are given by their names,
@@ -506,6 +536,86 @@ fn measure_strict_refusing<N: Number>(name: &str, texts: &Texts, causes: &[Cause
     }
 }
 
+/// Measures printing of decimals into a new buffer beside whole numbers of the same digits, and beside
+/// `rust_decimal`.
+fn measure_printing_decimals(
+    name: &str,
+    units: &[i128],
+    scale: u8,
+    format: &decimals::Format,
+) -> Times {
+    let texts = rattle::decimal_texts(units, scale, format.code);
+    assert_same_texts(name, &texts, &format.texts(units, scale));
+    let theirs = decimals::of_rust_decimal(units, scale);
+    let (units, format) = (black_box(units), format.code);
+    let mut port = || _ = black_box(rattle::print_decimals(units, scale, black_box(format)));
+    let mut whole = || _ = black_box(rattle::print(units, 1, black_box(format)));
+    let Some(theirs) = theirs else {
+        let [port, reference] = best(units.len(), [&mut port, &mut whole]);
+        return Times {
+            port,
+            original: None,
+            reference: Some(reference),
+            floor: None,
+        };
+    };
+    let mut other = || _ = black_box(decimals::print(black_box(&theirs)));
+    let [port, reference, floor] = best(units.len(), [&mut port, &mut whole, &mut other]);
+    Times {
+        port,
+        original: None,
+        reference: Some(reference),
+        floor: Some(floor),
+    }
+}
+
+/// Measures reading of decimals beside strict reading of whole numbers of the same digits, and beside
+/// `rust_decimal`, which reads them without separators.
+fn measure_reading_decimals(
+    name: &str,
+    units: &[i128],
+    scale: u8,
+    format: &decimals::Format,
+) -> Times {
+    let texts = Texts::from_all(format.texts(units, scale).lines());
+    let wholes = Texts::from_all(rattle::texts(units, 0, format.code).lines());
+    let theirs = decimals::of_rust_decimal(units, scale);
+    let (mut read, mut read_wholes) = (vec![0; units.len()], vec![0; units.len()]);
+    let all = BATCH as u64 * (1 + u64::from(scale));
+    let mut port = || {
+        let format = black_box(format.code);
+        let accepted = rattle::read_decimals(&texts.text, &texts.lengths, format, &mut read);
+        assert_eq!(accepted, all, "{name}");
+    };
+    let mut whole = || {
+        let (texts, format) = (&wholes, black_box(format.code));
+        let accepted =
+            rattle::read_strictly(&texts.text, &texts.lengths, format, &mut read_wholes);
+        assert_eq!(accepted, BATCH as u64, "{name}");
+    };
+    let (times, floor) = match theirs {
+        None => (best(units.len(), [&mut port, &mut whole]), None),
+        Some(theirs) => {
+            let plain = Texts::from_all(theirs.iter().map(ToString::to_string));
+            let mut numbers = theirs.clone();
+            let mut other = || {
+                let accepted = decimals::read(&plain.text, &plain.lengths, &mut numbers);
+                assert_eq!(accepted, BATCH as u64, "{name}");
+            };
+            let [port, whole, other] = best(units.len(), [&mut port, &mut whole, &mut other]);
+            ([port, whole], Some(other))
+        }
+    };
+    assert!(read == units && read_wholes == units, "{name}");
+    let [port, reference] = times;
+    Times {
+        port,
+        original: None,
+        reference: Some(reference),
+        floor,
+    }
+}
+
 /// Measures looking names up as tags beside looking them up as names.
 fn measure_tags(name: &str, texts: &Texts) -> Times {
     let (mut tags, mut names) = (0, 0);
@@ -615,6 +725,7 @@ fn main() -> Result<(), Box<dyn Error>> {
         run.measure_groupings::<u128>();
         run.measure_strict_refusing::<i64>();
         run.measure_strict_refusing::<u128>();
+        run.measure_decimals();
         run.measure_c();
         run.measure_names();
     }

@@ -76,6 +76,24 @@ unsafe extern "C" {
         lengths: *const usize,
         lengths_len: usize,
     ) -> u64;
+    fn rattle_print_decimals(units: *const i128, units_len: usize, scale: u8, format: u8) -> u64;
+    fn rattle_texts_decimals(
+        units: *const i128,
+        units_len: usize,
+        scale: u8,
+        format: u8,
+        texts: *mut u8,
+        texts_len: usize,
+    ) -> usize;
+    fn rattle_read_decimals(
+        texts: *const u8,
+        texts_len: usize,
+        lengths: *const usize,
+        lengths_len: usize,
+        format: u8,
+        units: *mut i128,
+        units_len: usize,
+    ) -> u64;
     fn rattle_name(text: *const u8, text_len: usize, name: *mut u8, name_len: usize) -> usize;
 }
 
@@ -136,6 +154,43 @@ fn read_in_way<N: Exported>(
             format,
             numbers.as_mut_ptr(),
             numbers.len(),
+        )
+    }
+}
+
+/// Prints the decimals of the units at a scale, and returns a sum over their texts.
+pub fn print_decimals(units: &[i128], scale: u8, format: u8) -> u64 {
+    unsafe { rattle_print_decimals(units.as_ptr(), units.len(), scale, format) }
+}
+
+/// The texts of the decimals of the units at a scale, each with a line feed after it.
+pub fn decimal_texts(units: &[i128], scale: u8, format: u8) -> String {
+    let mut texts = vec![0; 200 * units.len()];
+    let length = unsafe {
+        rattle_texts_decimals(
+            units.as_ptr(),
+            units.len(),
+            scale,
+            format,
+            texts.as_mut_ptr(),
+            texts.len(),
+        )
+    };
+    texts.truncate(length);
+    String::from_utf8(texts).expect("texts are UTF-8")
+}
+
+/// Reads texts of the lengths as decimals, and returns how many were accepted, plus the sum of their scales.
+pub fn read_decimals(texts: &str, lengths: &[usize], format: u8, units: &mut [i128]) -> u64 {
+    unsafe {
+        rattle_read_decimals(
+            texts.as_ptr(),
+            texts.len(),
+            lengths.as_ptr(),
+            lengths.len(),
+            format,
+            units.as_mut_ptr(),
+            units.len(),
         )
     }
 }

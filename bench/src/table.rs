@@ -1,12 +1,12 @@
 //! What was measured: a line for each cell, and the table by operation, digits and format.
 
-use crate::{C_PRINTING, C_READING, LOOK_UP_TAG, REFUSE_STRICTLY};
+use crate::{C_PRINTING, C_READING, LOOK_UP_TAG, PRINT_DECIMALS, READ_DECIMALS, REFUSE_STRICTLY};
 use std::collections::HashMap;
 use std::fs;
 use std::io;
 
 /// The columns of the table, and the formats of each.
-const COLUMNS: [(&str, &[&str]); 7] = [
+const COLUMNS: [(&str, &[&str]); 10] = [
     ("", &[""]),
     ("en, en_IN, fr", &["en", "en_IN", "fr"]),
     ("en_US_POSIX", &["en_US_POSIX"]),
@@ -14,6 +14,9 @@ const COLUMNS: [(&str, &[&str]); 7] = [
     ("built", &["built"]),
     ("Myriad", &["Myriad"]),
     ("Sparse", &["Sparse"]),
+    ("scale 0", &["scale 0"]),
+    ("scale 2", &["scale 2"]),
+    ("scale 6", &["scale 6"]),
 ];
 
 /// The operations whose cells are by kind of text, and not by digits and format.
@@ -45,9 +48,9 @@ pub struct Times {
     /// The time of the original, where it has such a thing.
     pub original: Option<f64>,
     /// The time of the port that a cell is compared with: under Standard that of another grouping, by
-    /// its own call that of a call through C.
+    /// its own call that of a call through C, by whole numbers that of decimals.
     pub reference: Option<f64>,
-    /// The time that plain digits take, where there is such a thing.
+    /// The time that plain digits take, where there is such a thing: of decimals by `rust_decimal`.
     pub floor: Option<f64>,
 }
 
@@ -174,6 +177,14 @@ impl Table {
         self.print_ratios_of(&BESIDE_THE_PORT, Times::ratio_to_reference);
         println!("\nPort / port under Standard: median, highest");
         self.print_ratios("used Buffer", Times::ratio_to_reference);
+        println!("\nDecimals / whole numbers: median, highest");
+        for operation in [PRINT_DECIMALS, READ_DECIMALS] {
+            self.print_ratios(operation, Times::ratio_to_reference);
+        }
+        println!("\nDecimals / rust_decimal: median, highest");
+        for operation in [PRINT_DECIMALS, READ_DECIMALS] {
+            self.print_ratios(operation, Times::ratio_to_floor);
+        }
         println!("\nPort through C / port: median, highest");
         for (operation, _) in C_PRINTING {
             self.print_ratios(operation, Times::ratio_to_reference);

@@ -2,10 +2,11 @@
 use Rattle.std.proofs.Common.{◌≡◌, ℕ, zero, suc, ◌+◌, ◌-◌, ◌*◌, ◌/◌, ◌%◌, ◌^◌, ◌<◌, ◌≤◌, Bool, true, false, refl, ap, ◌∙◌, sym, subst, inl, inr, arith, ℤ, pos, negsuc, unsigned_abs}
 use Rattle.std.specs.Prelude.{◌+ℤ◌, ◌-ℤ◌, ◌*ℤ◌, ◌≤ℤ◌, neg_ℤ, not, FitsSigned, ◌≢◌, if◌then◌else◌}
 use Rattle.std.specs.Int.{cast_signed, is_negative, w128, IsNonZero, NotMinOverMinusOne}
-use Rattle.std.proofs.Math.Nat.{div-lt_self, div-one, mod-lt, mod-one, mul-mod_left, one-le-pow, pow-le-pow_right, pow-suc, zero-mod}
+use Rattle.std.proofs.Math.Nat.{div-eq_of_lt, div-lt_self, div-one, mod-eq_of_lt, mod-lt, mod-one, mul-mod_left, one-le-pow, pow-le-pow_right, pow-suc, zero-mod}
 use Rattle.std.proofs.lemmas.Bool.{cases_lt}
 use Rattle.std.proofs.lemmas.Bool.Decides.{nat_tests}
 use Rattle.std.proofs.lemmas.Int.{ints, to_z_pos}
+use Rattle.std.proofs.lemmas.Nat.{pow-add}
 use Rattle.num_format_int.specs.Kind.{signed_number}
 use Rattle.num_format_decimal.specs.declared.rounding.Rounding.{Rounding}
 use Rattle.num_format_decimal.specs.declared.rounding.Rounding.TheVariants.{HalfEven, HalfAwayFromZero, TowardZero, Exact}
@@ -19,6 +20,29 @@ power_le e small = pow-le-pow_right {n = 10} (omega arith) small
 
 pub power_positive : (e : ℕ) → 0 < 10 ^ e
 power_positive e = omega (arith, one-le-pow e 10 (omega arith))
+
+-- a power of ten in two parts that fit 64 bits each
+pub power_parts : (e first : ℕ) → ¬ (e < 20) → first ≡ 10 ^ (e - 19) → first * 10000000000000000000 ≡ 10 ^ e
+power_parts e first large same =
+    let sum : e - 19 + 19 ≡ e = omega arith in
+    ap (λ m. m * 10 ^ 19) same ∙ sym (pow-add 10 (e - 19) 19) ∙ ap (λ k. 10 ^ k) sum
+
+-- a number of 64 bits has at most 20 digits
+pub small_quotient : (n k : ℕ) → n < 2 ^ 64 → 20 ≤ k → 0 ≡ n / 10 ^ k
+small_quotient n k small many =
+    let large : 10 ^ 20 ≤ 10 ^ k = pow-le-pow_right {n = 10} (omega arith) {i = 20} {j = k} many in
+    sym (div-eq_of_lt (omega arith))
+
+pub small_remainder : (n k : ℕ) → n < 2 ^ 64 → 20 ≤ k → n ≡ n % 10 ^ k
+small_remainder n k small many =
+    let large : 10 ^ 20 ≤ 10 ^ k = pow-le-pow_right {n = 10} (omega arith) {i = 20} {j = k} many in
+    sym (mod-eq_of_lt (omega arith))
+
+-- a digit 1 and up to 18 digits are a number of 64 bits
+pub narrow_sum : (n k one : ℕ) → k < 19 → n < 10 ^ k → one ≡ 10 ^ k → one + n < 2 ^ 64
+narrow_sum n k one few below power =
+    let small : 10 ^ k ≤ 10 ^ 18 = pow-le-pow_right {n = 10} (omega arith) {i = k} {j = 18} (omega arith) in
+    omega arith
 
 power_zero : (e : ℕ) → e ≡ 0 → 10 ^ e ≡ 1
 power_zero e none = ap (λ k. 10 ^ k) none

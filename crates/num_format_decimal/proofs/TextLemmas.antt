@@ -65,62 +65,52 @@ text_of_whole f (suc n) =
     let sign : is_negative (pos (suc n)) ≡ false = grind (arith, nat_tests) in
     ap (λ b. (if b then f.minus_sign else []) ++ body_of f (suc n)) sign
 
--- the digits before the decimals, appended
-pub whole_appended : (f : FormatData) (old text new : List ℕ) (q n m one s k : ℕ) → new ≡ old ++ text → text ≡ text_of f (pos q) → q ≡ m / one → m ≡ n → one ≡ 10 ^ s → s ≡ k →
-    new ≡ old ++ body_of f (n / 10 ^ k)
-whole_appended f old text new q n m one s k appended printed quotient number power same =
-    appended
-    ∙ ap (λ t. old ++ t) (printed ∙ text_of_whole f q)
-    ∙ ap (λ j. old ++ body_of f j)
-    (quotient ∙ ap (λ j. j / one) number ∙ ap (λ j. n / j) power ∙ ap (λ j. n / 10 ^ j) same)
-
-pub whole_fits : (f : FormatData) (old new : List ℕ) (n k : ℕ) → length old ≤ 8 → length f.separator ≤ 8 → n ≤ 2 ^ 127 → k ≤ 38 → new ≡ old ++ body_of f (n / 10 ^ k) → length new + k ≤ 191
-whole_fits f old new n k sign short small few e =
-    let below : n < 2 ^ 128 = omega arith in
-    omega (arith, ap length e, length-append old (body_of f (n / 10 ^ k)), length-body f n k short below few)
-
--- a text that is appended in three parts
-pub in_parts : (t0 t1 t2 t3 before sign body decimals : List ℕ) → t0 ≡ [] → before ≡ sign → t1 ≡ t0 ++ before → t2 ≡ t1 ++ body → t3 ≡ t2 ++ decimals →
-    t3 ≡ sign ++ (body ++ decimals)
-in_parts t0 t1 t2 t3 before sign body decimals empty same first second third =
-    third
-    ∙ ap (λ t. t ++ decimals) (second ∙ ap (λ t. t ++ body) (first ∙ ap (λ t. t ++ before) empty ∙ same))
-    ∙ append_assoc sign body decimals
-
--- no decimals are appended, or some
-pub no_decimals : (f : FormatData) (k s n : ℕ) (t : List ℕ) → s ≡ k → s ≡ 0 → t ≡ t ++ (if nat_lt 0 k then f.decimal ++ plain (last_digits k n) else [])
-no_decimals f k s n t same none =
+-- the digits before the decimals, where there are none
+pub whole_alone : (f : FormatData) (text : List ℕ) (n k s q : ℕ) → s ≡ k → s ≡ 0 → q ≡ n / 10 ^ k → text ≡ text_of f (pos q) →
+    text ≡ body_of f (n / 10 ^ k) ++ (if nat_lt 0 k then f.decimal ++ plain (last_digits k n) else [])
+whole_alone f text n k s q same none quotient printed =
     let test : nat_lt 0 k ≡ false = grind (arith, nat_tests) in
-    sym (append-nil t) ∙ ap (λ b. t ++ (if b then f.decimal ++ plain (last_digits k n) else [])) (sym test)
+    printed
+    ∙ text_of_whole f q
+    ∙ ap (λ m. body_of f m) quotient
+    ∙ sym (append-nil (body_of f (n / 10 ^ k)))
+    ∙ ap (λ b. body_of f (n / 10 ^ k) ++ (if b then f.decimal ++ plain (last_digits k n) else [])) (sym test)
 
-pub some_decimals : (f : FormatData) (k s n m : ℕ) (mark t1 t2 t3 : List ℕ) → s ≡ k → ¬ (s ≡ 0) → m ≡ n → mark ≡ f.decimal → t2 ≡ t1 ++ mark → t3 ≡ t2 ++ plain (last_digits s m) →
-    t3 ≡ t1 ++ (if nat_lt 0 k then f.decimal ++ plain (last_digits k n) else [])
-some_decimals f k s n m mark t1 t2 t3 same some number marked second third =
+-- the decimals, the mark and the digits before it, prepended one after the other
+pub with_decimals : (f : FormatData) (body mark t1 t2 t3 : List ℕ) (n k s q r : ℕ) → s ≡ k → ¬ (s ≡ 0) → q ≡ n / 10 ^ k → r ≡ n % 10 ^ k → body ≡ text_of f (pos q) → mark ≡ f.decimal →
+    t1 ≡ plain (last_digits s r) → t2 ≡ mark ++ t1 → t3 ≡ body ++ t2 → t3 ≡ body_of f (n / 10 ^ k) ++ (if nat_lt 0 k then f.decimal ++ plain (last_digits k n) else [])
+with_decimals f body mark t1 t2 t3 n k s q r same some quotient remainder printed marked first second third =
     let test : nat_lt 0 k ≡ true = grind (arith, nat_tests) in
+    let whole : body ≡ body_of f (n / 10 ^ k) = printed ∙ text_of_whole f q ∙ ap (λ m. body_of f m) quotient in
+    let decimals : t1 ≡ plain (last_digits k n) =
+    first ∙ ap (λ j. plain (last_digits j r)) same ∙ ap (λ m. plain (last_digits k m)) remainder ∙ ap plain (last_digits-mod k n) in
     third
-    ∙ ap (λ t. t ++ plain (last_digits s m)) (second ∙ ap (λ t. t1 ++ t) marked)
-    ∙ append_assoc t1 f.decimal (plain (last_digits s m))
-    ∙ ap (λ j. t1 ++ (f.decimal ++ plain (last_digits j m))) same
-    ∙ ap (λ j. t1 ++ (f.decimal ++ plain (last_digits k j))) number
-    ∙ ap (λ b. t1 ++ (if b then f.decimal ++ plain (last_digits k n) else [])) (sym test)
+    ∙ ap (λ t. t ++ t2) whole
+    ∙ ap (λ t. body_of f (n / 10 ^ k) ++ t) (second ∙ ap (λ t. t ++ t1) marked ∙ ap (λ t. f.decimal ++ t) decimals)
+    ∙ ap (λ b. body_of f (n / 10 ^ k) ++ (if b then f.decimal ++ plain (last_digits k n) else [])) (sym test)
+
+-- all of them have space in a buffer
+pub decimals_fit : (f : FormatData) (body mark t1 t2 : List ℕ) (n k s q r : ℕ) → s ≡ k → k ≤ 38 → n ≤ 2 ^ 127 → length f.separator ≤ 8 → length mark ≤ 8 → q ≡ n / 10 ^ k → body ≡ text_of f (pos q) →
+    t1 ≡ plain (last_digits s r) → t2 ≡ mark ++ t1 → length body + length t2 ≤ 191
+decimals_fit f body mark t1 t2 n k s q r same few small short marked quotient printed first second =
+    let below : n < 2 ^ 128 = omega arith in
+    let whole : body ≡ body_of f (n / 10 ^ k) = printed ∙ text_of_whole f q ∙ ap (λ m. body_of f m) quotient in
+    omega (arith, ap length whole, length-body f n k short below few, ap length second, length-append mark t1, ap length first, length-plain s r)
 
 -- what is printed for the decimals: a digit 1 and then each of them
-pub printed_decimals : (k n one : ℕ) (text : List ℕ) → k ≤ 38 → one ≡ 10 ^ k → text ≡ decimal (one + n % one) → text ≡ 49 ∷ plain (last_digits k n)
-printed_decimals k n one text few power printed =
-    printed
-    ∙ ap (λ m. decimal (m + n % m)) power
-    ∙ decimals_after_one k (n % 10 ^ k) few (mod-lt n (power_positive k))
-    ∙ ap (λ ds. 49 ∷ plain ds) (last_digits-mod k n)
+pub printed_decimals : (k n one : ℕ) (text : List ℕ) → k ≤ 38 → n < 10 ^ k → one ≡ 10 ^ k → text ≡ decimal (one + n) → text ≡ 49 ∷ plain (last_digits k n)
+printed_decimals k n one text few below power printed =
+    printed ∙ ap (λ m. decimal (m + n)) power ∙ decimals_after_one k n few below
 
-pub printed_length : (k n one : ℕ) (text : List ℕ) → k ≤ 38 → one ≡ 10 ^ k → text ≡ decimal (one + n % one) → length text ≡ k + 1
-printed_length k n one text few power printed =
-    omega (arith, ap length (printed_decimals k n one text few power printed), length-plain k n)
+pub printed_length : (k n one : ℕ) (text : List ℕ) → k ≤ 38 → n < 10 ^ k → one ≡ 10 ^ k → text ≡ decimal (one + n) → length text ≡ k + 1
+printed_length k n one text few below power printed =
+    omega (arith, ap length (printed_decimals k n one text few below power printed), length-plain k n)
 
 -- and without the digit 1
-pub cut_decimals : (k n one : ℕ) (text : List ℕ) → k ≤ 38 → one ≡ 10 ^ k → text ≡ decimal (one + n % one) → take (k + 1 - 1) (drop 1 text) ≡ plain (last_digits k n)
-cut_decimals k n one text few power printed =
-    let count : k + 1 - 1 ≡ length text - 1 = omega (arith, printed_length k n one text few power printed) in
-    ap (λ m. take m (drop 1 text)) count ∙ take_rest text 1 ∙ ap (λ t. drop 1 t) (printed_decimals k n one text few power printed)
+pub cut_decimals : (k n one : ℕ) (text : List ℕ) → k ≤ 38 → n < 10 ^ k → one ≡ 10 ^ k → text ≡ decimal (one + n) → take (k + 1 - 1) (drop 1 text) ≡ plain (last_digits k n)
+cut_decimals k n one text few below power printed =
+    let count : k + 1 - 1 ≡ length text - 1 = omega (arith, printed_length k n one text few below power printed) in
+    ap (λ m. take m (drop 1 text)) count ∙ take_rest text 1 ∙ ap (λ t. drop 1 t) (printed_decimals k n one text few below power printed)
 
 -- the longest text
 pub decimal_text-length : (f : FormatData) (d : FixedPoint) → length (decimal_text f d) ≡

@@ -1,12 +1,11 @@
 //! The text of a decimal, kept in place.
-ghost use Rattle.std.specs.Prelude.{◌≡◌, ◌+◌, ◌/◌, ◌^◌, ◌≤◌, [], ◌++◌, length, nat_lt, unsigned_abs, Some, if◌then◌else◌};
-ghost use Rattle.std.specs.Int.{is_negative};
+ghost use Rattle.std.specs.Prelude.{◌≡◌, ◌+◌, ◌/◌, ◌^◌, ◌<◌, ◌≤◌, [], ◌++◌, length, nat_lt, unsigned_abs, Some, if◌then◌else◌};
 ghost use Rattle.num_format_int.specs.Groups.{last_digits, plain};
 ghost use Rattle.num_format_int.specs.Text.{body_of};
 ghost use Rattle.num_format_decimal.specs.Text.{decimal_text};
 
 use crate::decimal::{Decimal, MAX_SCALE};
-use crate::rounding::power_of_ten;
+use crate::powers::{narrow_power_of_ten, power_of_ten, split};
 use arrayvec::ArrayString;
 use num_format_int::Buffer;
 use num_format_int::buffer::MAX_BUF_LEN;
@@ -19,6 +18,9 @@ use std::marker::Model;
 /// decimal mark of 8 bytes each.
 pub const MAX_DECIMAL_LEN: usize = 199;
 
+/// The number of digits from which on a digit 1 before them makes a number of more than 64 bits.
+const NINETEEN_DIGITS: u8 = 19;
+
 /// The text of a decimal, kept in place. A contract sees its bytes.
 ///
 /// ```text
@@ -26,15 +28,23 @@ pub const MAX_DECIMAL_LEN: usize = 199;
 /// ```
 #[derive(Drop)]
 pub struct DecimalBuffer {
-    text: ArrayString<MAX_DECIMAL_LEN>,
+    text: Text,
 }
 
 impl Model for DecimalBuffer {
     ghost use Rattle.std.specs.Prelude.{ℕ, List};
+    ghost use Rattle.num_format_decimal.specs.Kept.{kept};
 
     ghost Value = { List ℕ };
 
-    ghost view = { λ b. b.text.bytes };
+    ghost view = { λ b. kept b.text };
+}
+
+/// A text of up to 191 bytes, as each one without its minus sign is, or a longer one.
+#[derive(Drop)]
+pub(crate) enum Text {
+    Short(Buffer),
+    Long(ArrayString<MAX_DECIMAL_LEN>),
 }
 
 impl DecimalBuffer {
@@ -51,11 +61,14 @@ impl DecimalBuffer {
     pub fn of<F: Format>(d: &Decimal, format: &F) -> DecimalBuffer
         ensures { result ≡ decimal_text (F.answers format.now) d.now }
     {
-        let mut text = ArrayString::new();
-        text.push_str(sign(d, format));
-        push_whole(d, format, &mut text);
-        push_decimals(d, format, &mut text);
-        DecimalBuffer { text }
+        let text = without_sign(d, format);
+        if d.is_negative() {
+            with_sign(format.minus_sign().into_str(), text)
+        } else {
+            DecimalBuffer {
+                text: Text::Short(text),
+            }
+        }
     }
 
     /// Returns the text.
@@ -63,7 +76,10 @@ impl DecimalBuffer {
         ensures same { result.now ≡ self.now }
         ensures fits { length result.now ≤ MAX_DECIMAL_LEN }
     {
-        self.text.as_str()
+        match &self.text {
+            Text::Short(text) => text.as_str(),
+            Text::Long(text) => text.as_str(),
+        }
     }
 
     /// Returns the bytes of the text.
@@ -75,33 +91,47 @@ impl DecimalBuffer {
     }
 }
 
-/// Returns the sign that a number has under a format: nothing, unless its units are negative.
-fn sign<'a, F: Format>(d: &Decimal, format: &'a F) -> &'a str
-    ensures text { result.now ≡ (if is_negative d.now.units then (F.answers format.now).minus_sign else []) }
-    ensures fits { length result.now ≤ MAX_MIN_LEN }
+/// Returns the text with a minus sign before it.
+fn with_sign(minus_sign: &str, text: Buffer) -> DecimalBuffer
+    requires { length minus_sign.now ≤ MAX_MIN_LEN }
+    ensures { result ≡ minus_sign.now ++ text }
 {
-    if d.is_negative() {
-        format.minus_sign().into_str()
-    } else {
-        ""
+    if minus_sign.len() + text.len() <= MAX_BUF_LEN {
+        let mut short = text;
+        short.put_front(minus_sign);
+        return DecimalBuffer {
+            text: Text::Short(short),
+        };
+    }
+    let mut long = ArrayString::new();
+    long.push_str(minus_sign);
+    long.push_str(text.as_str());
+    DecimalBuffer {
+        text: Text::Long(long),
     }
 }
 
-/// Appends the digits before the decimals to a sign, grouped as the format says. There is then space for a
-/// decimal mark and the decimals.
-#[tactic(auto, using(crate::proofs::TextLemmas::whole_appended, crate::proofs::TextLemmas::whole_fits))]
-fn push_whole<F: Format>(d: &Decimal, format: &F, text: &mut ArrayString<MAX_DECIMAL_LEN>)
-    requires { length text.old.bytes ≤ MAX_MIN_LEN }
-    ensures text { text.new.bytes ≡ text.old.bytes
-        ++ body_of (F.answers format.now) (unsigned_abs d.now.units / 10 ^ d.now.scale) }
-    ensures fits { length text.new.bytes + d.now.scale ≤ MAX_BUF_LEN }
+/// Returns the text of a number without its sign: the digits before the decimals, grouped as the format says,
+/// and if there are decimals the decimal mark and each of them.
+fn without_sign<F: Format>(d: &Decimal, format: &F) -> Buffer
+    ensures { result ≡ body_of (F.answers format.now) (unsigned_abs d.now.units / 10 ^ d.now.scale)
+        ++ (if nat_lt 0 d.now.scale
+        then (F.answers format.now).decimal
+        ++ plain (last_digits d.now.scale (unsigned_abs d.now.units))
+        else []) }
 {
     separator_fits(format);
     let scale = d.scale();
-    let one = power_of_ten(scale);
-    let magnitude = d.magnitude();
-    let whole = Buffer::of(&(magnitude / one), format);
-    text.push_str(whole.as_str());
+    let (whole, rest) = split(d.magnitude(), scale);
+    let body = Buffer::of(&whole, format);
+    if scale == 0 {
+        return body;
+    }
+    let mut text = Buffer::new();
+    put_digits(rest, scale, &mut text);
+    text.put_front(format.decimal().into_str());
+    text.put_front(body.as_str());
+    text
 }
 
 /// The separator of a format is within its capacity. The body is for what its calls promise.
@@ -111,35 +141,43 @@ fn separator_fits<F: Format>(format: &F)
     format.separator().into_str();
 }
 
-/// Appends the decimal mark and each decimal, if there are any.
-#[tactic(auto, using(crate::proofs::TextLemmas::no_decimals, crate::proofs::TextLemmas::some_decimals))]
-fn push_decimals<F: Format>(d: &Decimal, format: &F, text: &mut ArrayString<MAX_DECIMAL_LEN>)
-    requires { length text.old.bytes + d.now.scale ≤ MAX_BUF_LEN }
-    ensures { text.new.bytes ≡ text.old.bytes
-        ++ (if nat_lt 0 d.now.scale
-        then (F.answers format.now).decimal
-        ++ plain (last_digits d.now.scale (unsigned_abs d.now.units))
-        else []) }
+/// Puts the digits of `n`, which has no more than `count`, leading zeros included, into an empty buffer.
+fn put_digits(n: u128, count: u8, text: &mut Buffer)
+    requires empty { text.old ≡ [] }
+    requires count { count ≤ MAX_SCALE }
+    requires below { n < 10 ^ count }
+    ensures { text.new ≡ plain (last_digits count n) }
 {
-    let scale = d.scale();
-    if scale == 0 {
-        return;
+    if count < NINETEEN_DIGITS {
+        put_narrow_digits(n as u64, count, text);
+    } else {
+        put_wide_digits(n, count, text);
     }
-    text.push_str(format.decimal().into_str());
-    push_digits(d.magnitude(), scale, text);
 }
 
-/// Appends the last digits of `n`, leading zeros included.
-fn push_digits(n: u128, count: u8, text: &mut ArrayString<MAX_DECIMAL_LEN>)
-    requires count { count ≤ MAX_SCALE }
-    requires fits { length text.old.bytes + count ≤ MAX_DECIMAL_LEN }
-    ensures { text.new.bytes ≡ text.old.bytes ++ plain (last_digits count n) }
+/// Puts the same digits, where they and a digit 1 before them, which keeps leading zeros, are a number of 64 bits.
+#[inline]
+fn put_narrow_digits(n: u64, count: u8, text: &mut Buffer)
+    requires empty { text.old ≡ [] }
+    requires count { count < NINETEEN_DIGITS }
+    requires below { n < 10 ^ count }
+    ensures { text.new ≡ plain (last_digits count n) }
 {
-    // A digit 1 before the digits keeps their leading zeros.
-    let one = power_of_ten(count);
     let mut printed = itoa::Buffer::new();
-    let digits = printed.format(one + n % one);
-    text.push_str(&digits[1..count as usize + 1]);
+    let digits = printed.format(narrow_power_of_ten(count) + n);
+    text.put_front(&digits[1..count as usize + 1]);
+}
+
+/// Puts the same digits, where that number takes more than 64 bits.
+fn put_wide_digits(n: u128, count: u8, text: &mut Buffer)
+    requires empty { text.old ≡ [] }
+    requires count { count ≤ MAX_SCALE }
+    requires below { n < 10 ^ count }
+    ensures { text.new ≡ plain (last_digits count n) }
+{
+    let mut printed = itoa::Buffer::new();
+    let digits = printed.format(power_of_ten(count) + n);
+    text.put_front(&digits[1..count as usize + 1]);
 }
 
 impl fmt::Display for DecimalBuffer {

@@ -6,7 +6,7 @@ ghost use Rattle.num_format_decimal.specs.Comparing.{equal_hashed_alike};
 ghost use Rattle.num_format_decimal.specs.Values.{hash_input_of, rest_of, value_of, whole_part};
 
 use crate::decimal::{Decimal, MAX_SCALE};
-use crate::rounding::{power_of_ten, signed_power_of_ten};
+use crate::powers::{power_of_ten, signed_power_of_ten};
 use std::cmp::Ordering;
 use std::hash::{Hash, Hasher};
 

@@ -22,6 +22,7 @@ pub mod error;
 pub mod laws;
 pub mod marks;
 pub mod parsing;
+mod powers;
 pub mod printing;
 pub mod rounding;
 mod spelling;

@@ -4,6 +4,7 @@ ghost use Rattle.num_format_decimal.specs.Rounded.{CanRescale, CannotRescale, Lo
 
 use crate::decimal::{Decimal, MAX_SCALE};
 use crate::error::DecimalError;
+use crate::powers::power_of_ten;
 
 /// What becomes of a number that has more decimals than there is space for.
 #[derive(Clone, Copy, Debug, PartialEq, Eq, Hash)]
@@ -113,26 +114,4 @@ impl Rounding {
             Rounding::TowardZero | Rounding::Exact => false,
         }
     }
-}
-
-/// Returns 10 to the power of an exponent.
-#[tactic(auto, using(crate::proofs::ScaleLemmas::power_le, crate::proofs::ScaleLemmas::power_positive))]
-pub(crate) fn power_of_ten(exponent: u8) -> u128
-    requires { exponent ≤ MAX_SCALE }
-    ensures power { result ≡ 10 ^ exponent }
-    ensures bound { result ≤ 10 ^ MAX_SCALE }
-    ensures positive { 0 < result }
-{
-    10u128.pow(u32::from(exponent))
-}
-
-/// Returns 10 to the power of an exponent, as a signed number.
-#[tactic(auto, using(crate::proofs::ScaleLemmas::power_as_signed, crate::proofs::ScaleLemmas::power_le, crate::proofs::ScaleLemmas::power_positive))]
-pub(crate) fn signed_power_of_ten(exponent: u8) -> i128
-    requires { exponent ≤ MAX_SCALE }
-    ensures power { result ≡ pos (10 ^ exponent) }
-    ensures bound { 10 ^ exponent ≤ 10 ^ MAX_SCALE }
-    ensures positive { 0 < 10 ^ exponent }
-{
-    power_of_ten(exponent) as i128
 }

@@ -2,8 +2,8 @@
 
 use num_format::{CustomFormat, Error, Grouping, Locale};
 
-/// The code of [`Constants`](crate::constants::Constants). Below it are those of the locales, and
-/// above it those of built formats.
+/// The code of [`Constants`](crate::constants::Constants). Below it and from 9 on are those of the
+/// locales, and the others are those of built formats.
 pub const CONSTANTS: u8 = 4;
 
 /// The code of the built format that has the data of `en`.
@@ -22,6 +22,9 @@ pub fn locale(code: u8) -> Option<Locale> {
         1 => Some(Locale::en_IN),
         2 => Some(Locale::fr),
         3 => Some(Locale::en_US_POSIX),
+        9 => Some(Locale::de),
+        10 => Some(Locale::hi),
+        11 => Some(Locale::sv),
         _ => None,
     }
 }

@@ -13,6 +13,7 @@ ghost use Rattle.std.specs.Prelude.{IsUtf8};
 
 mod checksum;
 mod constants;
+mod decimals;
 mod formats;
 pub mod halves;
 mod printing;
@@ -243,6 +244,38 @@ pub extern "C" fn rattle_read_u128(
     requires { IsUtf8 texts.now }
 {
     reading::read::<u128, _>(texts, lengths, way, format, numbers)
+}
+
+/// Prints the decimals of the units at a scale, and returns a sum over their texts.
+#[unsafe(no_mangle)]
+pub extern "C" fn rattle_print_decimals(units: &[Halves], scale: u8, format: u8) -> u64 {
+    decimals::print(units, scale, format)
+}
+
+/// Writes the texts of the decimals of the units at a scale, and returns their length in bytes.
+#[unsafe(no_mangle)]
+pub extern "C" fn rattle_texts_decimals(
+    alloc: Global,
+    units: &[Halves],
+    scale: u8,
+    format: u8,
+    texts: &mut [u8],
+) -> usize {
+    decimals::texts(alloc, units, scale, format, texts)
+}
+
+/// Reads texts of the lengths as decimals, and returns how many were accepted, plus the sum of their
+/// scales.
+#[unsafe(no_mangle)]
+pub extern "C" fn rattle_read_decimals(
+    texts: &[u8],
+    lengths: &[usize],
+    format: u8,
+    units: &mut [Halves],
+) -> u64
+    requires { IsUtf8 texts.now }
+{
+    decimals::read(texts, lengths, format, units)
 }
 
 /// Looks up names of the lengths, and returns how many are names of the locale `en`, plus a sum over

@@ -136,7 +136,7 @@ impl Printer for Array {
 }
 
 /// What receives each text.
-trait Sink {
+pub(crate) trait Sink {
     /// Receives a text, and returns whether memory sufficed.
     fn receive(&mut self, text: &[u8]) -> bool;
 }
@@ -247,9 +247,15 @@ where
     if !print_by::<N, _, _>(alloc, numbers, way, format, &mut lines) {
         return 0;
     }
+    copy_lines(&lines, texts)
+}
+
+/// Copies lines to the beginning of `texts`, and returns their length in bytes, or 0 if `texts` did not
+/// suffice.
+pub(crate) fn copy_lines(lines: &[u8], texts: &mut [u8]) -> usize {
     let Some(target) = texts.get_mut(..lines.len()) else {
         return 0;
     };
-    target.copy_from_slice(&lines);
+    target.copy_from_slice(lines);
     lines.len()
 }

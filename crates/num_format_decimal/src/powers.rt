@@ -1,0 +1,104 @@
+//! Powers of ten, and numbers divided by them.
+ghost use Rattle.std.specs.Prelude.{◌≡◌, ◌/◌, ◌%◌, ◌^◌, ◌<◌, ◌≤◌, pos};
+
+use crate::decimal::MAX_SCALE;
+
+/// The lowest exponent at which a power of ten takes more than 64 bits.
+pub(crate) const TWENTY_DIGITS: u8 = 20;
+
+/// Returns 10 to the power of an exponent.
+#[tactic(auto, using(crate::proofs::ScaleLemmas::power_le, crate::proofs::ScaleLemmas::power_positive, crate::proofs::ScaleLemmas::power_parts))]
+pub(crate) fn power_of_ten(exponent: u8) -> u128
+    requires { exponent ≤ MAX_SCALE }
+    ensures power { result ≡ 10 ^ exponent }
+    ensures bound { result ≤ 10 ^ MAX_SCALE }
+    ensures positive { 0 < result }
+{
+    if exponent < TWENTY_DIGITS {
+        narrow_power_of_ten(exponent) as u128
+    } else {
+        let first = narrow_power_of_ten(exponent - 19);
+        first as u128 * 10_000_000_000_000_000_000
+    }
+}
+
+/// Returns 10 to the power of an exponent, as a signed number.
+#[tactic(auto, using(crate::proofs::ScaleLemmas::power_as_signed, crate::proofs::ScaleLemmas::power_le, crate::proofs::ScaleLemmas::power_positive))]
+pub(crate) fn signed_power_of_ten(exponent: u8) -> i128
+    requires { exponent ≤ MAX_SCALE }
+    ensures power { result ≡ pos (10 ^ exponent) }
+    ensures bound { 10 ^ exponent ≤ 10 ^ MAX_SCALE }
+    ensures positive { 0 < 10 ^ exponent }
+{
+    power_of_ten(exponent) as i128
+}
+
+/// Returns 10 to the power of an exponent, which fits 64 bits.
+pub(crate) fn narrow_power_of_ten(exponent: u8) -> u64
+    requires { exponent < TWENTY_DIGITS }
+    ensures { result ≡ 10 ^ exponent }
+{
+    match exponent {
+        0 => 1,
+        1 => 10,
+        2 => 100,
+        3 => 1000,
+        4 => 10_000,
+        5 => 100_000,
+        6 => 1_000_000,
+        7 => 10_000_000,
+        8 => 100_000_000,
+        9 => 1_000_000_000,
+        10 => 10_000_000_000,
+        11 => 100_000_000_000,
+        12 => 1_000_000_000_000,
+        13 => 10_000_000_000_000,
+        14 => 100_000_000_000_000,
+        15 => 1_000_000_000_000_000,
+        16 => 10_000_000_000_000_000,
+        17 => 100_000_000_000_000_000,
+        18 => 1_000_000_000_000_000_000,
+        _ => 10_000_000_000_000_000_000,
+    }
+}
+
+/// Returns a number divided by 10 to the power of a scale, and what is left.
+pub(crate) fn split(n: u128, scale: u8) -> (u128, u128)
+    requires { scale ≤ MAX_SCALE }
+    ensures whole { result.0 ≡ n / 10 ^ scale }
+    ensures rest { result.1 ≡ n % 10 ^ scale }
+{
+    // A division of 128 bits is a call, so 64 are used where they are enough.
+    if n > u64::MAX as u128 {
+        let one = power_of_ten(scale);
+        (n / one, n % one)
+    } else if scale < TWENTY_DIGITS {
+        let (whole, rest) = split_narrow(n as u64, scale);
+        (whole as u128, rest as u128)
+    } else {
+        (0, n)
+    }
+}
+
+/// Returns the same of a number of 64 bits. A division by a number that is known where the code is compiled takes
+/// a few multiplications.
+#[tactic(auto, using(crate::proofs::ScaleLemmas::power_positive))]
+fn split_narrow(n: u64, scale: u8) -> (u64, u64)
+    requires { scale < TWENTY_DIGITS }
+    ensures whole { result.0 ≡ n / 10 ^ scale }
+    ensures rest { result.1 ≡ n % 10 ^ scale }
+{
+    match scale {
+        1 => (n / 10, n % 10),
+        2 => (n / 100, n % 100),
+        3 => (n / 1000, n % 1000),
+        4 => (n / 10_000, n % 10_000),
+        5 => (n / 100_000, n % 100_000),
+        6 => (n / 1_000_000, n % 1_000_000),
+        8 => (n / 100_000_000, n % 100_000_000),
+        _ => {
+            let one = narrow_power_of_ten(scale);
+            (n / one, n % one)
+        }
+    }
+}
