@@ -1,6 +1,6 @@
 -- What a text tells of a decimal, under a format that marks decimals.
 use Rattle.std.proofs.Common.{◌≡◌, ℕ, zero, suc, ◌+◌, ◌-◌, ◌/◌, ◌%◌, ◌^◌, ◌<◌, ◌≤◌, ◌⊎◌, inl, inr, Bool, true, false, List, [], ◌∷◌, ◌++◌, length, get_or, take, drop, take-append-drop, refl, ap, ◌∙◌, sym, subst, arith, append_assoc, append-nil, length-append, lit<, ℤ, pos, negsuc, unsigned_abs, IsUtf8}
-use Rattle.std.specs.Prelude.{if◌then◌else◌, FitsSigned, nat_lt}
+use Rattle.std.specs.Prelude.{if◌then◌else◌, FitsSigned, nat_lt, Option, Some, None, IfSome}
 use Rattle.std.specs.Char.{is_ascii_digit}
 use Rattle.std.specs.Int.{is_negative, w128}
 use Rattle.std.specs.Int.Digits.{number_from_digits, number_from_digits_after}
@@ -32,15 +32,15 @@ use Rattle.num_format_parsing.specs.Shapes.{byte_figures}
 use Rattle.num_format_parsing.specs.Strict.{ungrouped}
 use Rattle.num_format_parsing.proofs.FigureLemmas.{figures-bytes, figures-digit, figures-drop-digit, figures-other}
 use Rattle.num_format_parsing.proofs.ReadingLemmas.{digits_among-append, digits_among-first, is_ascii_digit-digit, is_other_numeral-digit}
-use Rattle.num_format_certificates.specs.RoundTrips.{HasNoNumeral, IsUnambiguous}
+use Rattle.num_format_certificates.specs.RoundTrips.{HasNoNumeral}
 use Rattle.num_format_certificates.proofs.RoundTripLemmas.{empty_plain, is_negative-pos, lowest_of_i128, no_prefix, one_of_i128, separated-begins, signed_number-unsigned_abs, tells-text_of, unambiguous-from_two}
 use Rattle.num_format_certificates.proofs.StrictLemmas.{text_of-utf8}
 use Rattle.num_format_certificates.proofs.TextCharacterLemmas.{chars-ascii_byte, of_printed}
 use Rattle.num_format_decimal.specs.FixedPoint.{FixedPoint, fixed_point}
 use Rattle.num_format_decimal.specs.Laws.{IsDecimalExact}
-use Rattle.num_format_decimal.specs.Marks.{MarksDecimals}
+use Rattle.num_format_decimal.specs.Marks.{IsPlainFormat, MarksDecimals, TellsDecimals}
 use Rattle.num_format_decimal.specs.Parsing.{ParsesDecimal, SpellsDecimal, with_separators, without_separators}
-use Rattle.num_format_decimal.specs.Shapes.{IsBody, mark_at, sign_of, with_groups, without_groups}
+use Rattle.num_format_decimal.specs.Shapes.{IsBody, IsSpelled, mark_at, sign_of, with_groups, without_groups}
 use Rattle.num_format_decimal.specs.Text.{decimal_text}
 use Rattle.num_format_decimal.specs.Values.{HasUnits}
 use Rattle.num_format_decimal.proofs.CauseLemmas.{one_parsed}
@@ -86,15 +86,6 @@ last_digits-below zero n = All-nil (λ d. d < 10)
 last_digits-below (suc k) n =
     All-append (λ d. d < 10) (last_digits k (n / 10)) (n % 10 ∷ []) (last_digits-below k (n / 10))
     (All-cons (λ d. d < 10) (n % 10) [] (mod-lt n (lit< tt)) (All-nil (λ d. d < 10)))
-
--- a format by which numbers can be told, with a decimal mark
-pub record IsPlainFormat (f : FormatData) : Type 0 where
-  pub sign_utf8 : IsUtf8 f.minus_sign
-  pub separator_utf8 : IsUtf8 f.separator
-  pub mark_utf8 : IsUtf8 f.decimal
-  pub unambiguous : IsUnambiguous f
-  pub given : ¬ (f.decimal ≡ [])
-  pub mark : HasNoNumeral f.decimal
 
 pub plain-ungrouped : (f : FormatData) → IsPlainFormat f → IsPlainFormat (ungrouped f)
 plain-ungrouped f p = record {
@@ -436,6 +427,14 @@ parses-spelled f t d p apart few fits spells =
       };
       accepted = accepted-decimal f t d.units d.scale few fits tells;
     }
+
+-- a text that tells of which decimal it is, and spells one
+parses_read : (f : FormatData) (t : List ℕ) (d : FixedPoint) → TellsDecimals f → IsSpelled f t d → ParsesDecimal f t d
+parses_read f t d tells read = parses-spelled f t d tells.plain tells.apart read.bound read.fits read.spelled
+
+pub parses_if_read : (f : FormatData) (t : List ℕ) (read : Option FixedPoint) → TellsDecimals f → IfSome read (λ d. IsSpelled f t d) → IfSome read (λ d. ParsesDecimal f t d)
+parses_if_read f t None tells none = tt
+parses_if_read f t (Some d) tells spelled = parses_read f t d tells spelled
 
 pub decimal-exact : (f : FormatData) → IsUtf8 f.minus_sign → IsUtf8 f.separator → IsUtf8 f.decimal → MarksDecimals f → IsDecimalExact f
 decimal-exact f sign separator mark marks =

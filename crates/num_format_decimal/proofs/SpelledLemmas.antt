@@ -52,7 +52,7 @@ number_after m (d ∷ ds) = joined m d (10 ^ length ds) _ _ _ _ (number_after (m
     joined : (m d p q n a b : ℕ) → a ≡ (m * 10 + d) * p + n → b ≡ (0 * 10 + d) * p + n → q ≡ p * 10 → a ≡ m * q + b
     joined m d p q n a b first second power = rw power (omega (arith, first, second))
 
-number-below : (ds : List ℕ) → All (λ d. d < 10) ds → number_from_digits 10 ds < 10 ^ length ds
+pub number-below : (ds : List ℕ) → All (λ d. d < 10) ds → number_from_digits 10 ds < 10 ^ length ds
 number-below [] below = omega arith
 number-below (d ∷ ds) below =
     let small : d < 10 = All-head (λ x. x < 10) d ds below in
@@ -67,7 +67,7 @@ number-below (d ∷ ds) below =
     )
 
 -- the last digits of the number that some digits write are these
-last_digits-number : (ds : List ℕ) → All (λ d. d < 10) ds → last_digits (length ds) (number_from_digits 10 ds) ≡ ds
+pub last_digits-number : (ds : List ℕ) → All (λ d. d < 10) ds → last_digits (length ds) (number_from_digits 10 ds) ≡ ds
 last_digits-number ds below =
     let k = length ds in
     let n = number_from_digits 10 ds in
@@ -105,7 +105,7 @@ decimals-found t end k n all digit number =
       whole = ap (λ m. m / 10 ^ k) sum ∙ div-mul-add a (10 ^ k) b small;
     }
 
-signed-abs : (b : Bool) (n : ℕ) → unsigned_abs (signed_number b n) ≡ n
+pub signed-abs : (b : Bool) (n : ℕ) → unsigned_abs (signed_number b n) ≡ n
 signed-abs true zero = refl
 signed-abs true (suc n) = refl
 signed-abs false n = refl

@@ -1,10 +1,24 @@
 -- What the steps of parsing a decimal find in a text.
-use Rattle.std.specs.Prelude.{◌≡◌, ℕ, ◌<◌, nat_lt, List, [], if◌then◌else◌, ℤ}
+use Rattle.std.specs.Prelude.{◌≡◌, ℕ, ◌+◌, ◌<◌, ◌≤◌, nat_lt, true, List, [], drop, length, if◌then◌else◌, ℤ}
 use Rattle.std.specs.Int.{is_negative}
 use Rattle.num_format_text.specs.Format.{FormatData}
 use Rattle.num_format_int.specs.Text.{body_of}
-use Rattle.num_format_parsing.specs.Strict.{ungrouped}
+use Rattle.num_format_parsing.specs.Strict.{begins, ungrouped}
+use Rattle.num_format_decimal.specs.declared.decimal.TheConstants.{MAX_SCALE}
+use Rattle.num_format_decimal.specs.FixedPoint.{FixedPoint}
 use Rattle.num_format_decimal.specs.Parsing.{SpellsDecimal, denoted_at}
+use Rattle.num_format_decimal.specs.Values.{HasUnits}
+
+-- a text spells a decimal that there is
+pub record IsSpelled (f : FormatData) (t : List ℕ) (d : FixedPoint) : Type 0 where
+  pub spelled : SpellsDecimal f t d
+  pub bound : d.scale ≤ MAX_SCALE
+  pub fits : HasUnits d
+
+-- a mark stands in a text from a place to an end, and is not empty
+pub record StandsAt (mark t : List ℕ) (place end : ℕ) : Type 0 where
+  pub there : begins mark (drop place t) ≡ true
+  pub after : place + length mark ≡ end
 
 -- the sign of a number: nothing, unless it is negative
 abbrev pub sign_of : FormatData → ℤ → List ℕ

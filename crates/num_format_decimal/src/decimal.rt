@@ -68,7 +68,8 @@ impl Decimal {
     /// [`MAX_SCALE`]. [`new`](Decimal::new) tests that.
     pub(crate) fn of(units: i128, scale: u8) -> Decimal
         requires { scale ≤ MAX_SCALE }
-        ensures { result ≡ fixed_point units scale }
+        ensures decimal { result ≡ fixed_point units scale }
+        ensures fits { HasUnits result }
     {
         Decimal { units, scale }
     }

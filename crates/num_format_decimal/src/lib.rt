@@ -24,6 +24,7 @@ pub mod marks;
 pub mod parsing;
 mod powers;
 pub mod printing;
+mod reading;
 pub mod rounding;
 mod spelling;
 

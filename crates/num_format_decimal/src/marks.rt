@@ -38,7 +38,7 @@ pub fn marks_decimals<F: Format>(format: &F) -> bool
 }
 
 /// Returns whether no character of a text is numeric.
-fn is_plain(text: &str) -> bool
+pub(crate) fn is_plain(text: &str) -> bool
     ensures { IsTrue result ↔ HasNoNumeral text.now }
 {
     !has_digit(text.as_bytes()) && !has_other_numeral(text)
@@ -52,7 +52,7 @@ fn has_other_numeral(text: &str) -> bool
 }
 
 /// Returns whether the mark is not the separator, or no separator is printed.
-fn is_apart<F: Format>(mark: &str, format: &F) -> bool
+pub(crate) fn is_apart<F: Format>(mark: &str, format: &F) -> bool
     ensures { IsTrue result
         ↔ (((F.answers format.now).grouping ≡ Posix) ⊎ (¬ (mark.now ≡ (F.answers format.now).separator))) }
 {

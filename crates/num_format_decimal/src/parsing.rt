@@ -14,6 +14,7 @@ ghost use Rattle.num_format_parsing.specs.Strict.{unexpected};
 
 use crate::decimal::{Decimal, MAX_SCALE};
 use crate::error::DecimalError;
+use crate::reading::read;
 use crate::rounding::Rounding;
 use crate::spelling::find_scale;
 use num_format_parsing::FromFormattedStr;
@@ -216,6 +217,21 @@ impl ParseDecimal for String {
 
 /// Returns the decimal that a text spells, or the first cause for which it is refused.
 fn parse_decimal<F: Format>(text: &[u8], format: &F) -> Result<Decimal, ParseDecimalError>
+    requires { IsUtf8 text.now }
+    ensures { MatchResult result
+        (λ d. ParsesDecimal (F.answers format.now) text.now d)
+        (λ e. IsDecimalCause (F.answers format.now) text.now e) }
+{
+    if let Some(decimal) = read(text, format) {
+        return Ok(decimal);
+    }
+    parse_slowly(text, format)
+}
+
+/// Returns the same, after more than one pass over the text.
+#[cold]
+#[inline(never)]
+fn parse_slowly<F: Format>(text: &[u8], format: &F) -> Result<Decimal, ParseDecimalError>
     requires { IsUtf8 text.now }
     ensures { MatchResult result
         (λ d. ParsesDecimal (F.answers format.now) text.now d)

@@ -57,7 +57,7 @@ fn sign_end<F: Format>(text: &[u8], format: &F) -> usize
 }
 
 /// Returns how many digits stand at the end of a text.
-fn trailing_digits(text: &[u8]) -> usize
+pub(crate) fn trailing_digits(text: &[u8]) -> usize
     ensures within { result ≤ length text.now }
     ensures digits { list_all is_ascii_digit (drop (length text.now - result) text.now) ≡ true }
     ensures most { result < length text.now

@@ -1,0 +1,152 @@
+-- Decimals that are read in one pass.
+use Rattle.std.proofs.Common.{◌≡◌, ℕ, zero, suc, ◌+◌, ◌-◌, ◌*◌, ◌/◌, ◌%◌, ◌^◌, ◌<◌, ◌≤◌, Bool, true, false, List, [], ◌∷◌, ◌++◌, length, get_or, take, drop, refl, ap, ◌∙◌, sym, subst, arith, append-nil, append_assoc, length-append, length-drop, ℤ, pos, unsigned_abs}
+use Rattle.std.specs.Prelude.{nat_eq, nat_lt, if◌then◌else◌, Option, Some, None, IfSome, SomeIff}
+use Rattle.std.specs.Char.{is_ascii_digit}
+use Rattle.std.specs.Int.{is_negative}
+use Rattle.std.specs.Int.Digits.{number_from_digits, number_from_digits_after}
+use Rattle.std.specs.List.{list_all, starts_with}
+use Rattle.std.proofs.Math.Nat.{pow-suc}
+use Rattle.std.proofs.Math.Seq.{take-suc}
+use Rattle.std.proofs.lemmas.Bool.{both_ways, true_from_ne_false}
+use Rattle.std.proofs.lemmas.Bool.Decides.{nat_tests, Decides-eqb}
+use Rattle.std.proofs.lemmas.Int.Digits.{number_after_append}
+use Rattle.std.proofs.lemmas.List.{length-map, take_at}
+use Rattle.std.proofs.lemmas.List.Folds.{list_all_at}
+use Rattle.std.proofs.lemmas.Nat.{div-mul-add, mod-mul-add}
+use Rattle.std.proofs.lemmas.Slice.Eq.{starts_is}
+use Rattle.num_format_text.specs.Format.{FormatData}
+use Rattle.num_format_int.specs.Groups.{last_digits, plain}
+use Rattle.num_format_int.specs.Text.{body_of}
+use Rattle.num_format_int.proofs.DigitLemmas.{last_digits-mod}
+use Rattle.num_format_parsing.specs.Reading.{signed_number}
+use Rattle.num_format_parsing.specs.Shapes.{byte_figures}
+use Rattle.num_format_parsing.specs.Strict.{SpellsNumber, with_separators, without_separators, begins, ungrouped}
+use Rattle.num_format_parsing.proofs.FigureLemmas.{figures-below, figures-digit}
+use Rattle.num_format_parsing.proofs.GroupsLemmas.{plain-all}
+use Rattle.num_format_parsing.proofs.ReadingLemmas.{digits_among-append}
+use Rattle.num_format_certificates.proofs.RoundTripLemmas.{is_negative-pos}
+use Rattle.num_format_decimal.specs.FixedPoint.{FixedPoint, fixed_point}
+use Rattle.num_format_decimal.specs.Parsing.{SpellsDecimal}
+use Rattle.num_format_decimal.specs.Shapes.{IsBody, IsSpelled, StandsAt, mark_at, sign_of, with_groups, without_groups}
+use Rattle.num_format_decimal.specs.Values.{HasUnits}
+use Rattle.num_format_decimal.proofs.ScaleLemmas.{power_le}
+use Rattle.num_format_decimal.proofs.SpelledLemmas.{IsCutAt, last_digits-number, number-below, signed-abs, spelled-from_parts, spelled-marked}
+
+-- each byte of digits is one
+pub digit_at : (t : List ℕ) (i : ℕ) → i < length t → list_all is_ascii_digit t ≡ true → is_ascii_digit (get_or t i 0) ≡ true
+digit_at t i inside all = true_from_ne_false (is_ascii_digit (get_or t i 0)) (λ other. both_ways _ (list_all_at is_ascii_digit t i 0 inside other) all)
+
+pub digit_bounds : (b : ℕ) → is_ascii_digit b ≡ true → (48 ≤ b) × (b ≤ 57)
+digit_bounds b digit = (grind (arith, nat_tests, digit), grind (arith, nat_tests, digit))
+
+-- the number that one digit more writes
+pub more_digits : (t : List ℕ) (i n : ℕ) → i < length t → list_all is_ascii_digit t ≡ true → n ≡ number_from_digits 10 (byte_figures (take i t)) →
+    10 * n + (get_or t i 0 - 48) ≡ number_from_digits 10 (byte_figures (take (i + 1) t))
+more_digits t i n inside all number =
+    let b = get_or t i 0 in
+    let next : i + 1 ≡ suc i = omega arith in
+    let one : byte_figures (b ∷ []) ≡ (b - 48) ∷ [] = figures-digit b [] (digit_at t i inside all) in
+    let joined : byte_figures (take (i + 1) t) ≡ byte_figures (take i t) ++ ((b - 48) ∷ []) =
+    ap (λ j. byte_figures (take j t)) next
+    ∙ ap byte_figures (take-suc t i 0 inside)
+    ∙ digits_among-append (take i t) (b ∷ [])
+    ∙ ap (λ ds. byte_figures (take i t) ++ ds) one in
+    let turned : 10 * n + (b - 48) ≡ n * 10 + (b - 48) = omega arith in
+    turned
+    ∙ ap (λ m. m * 10 + (b - 48)) number
+    ∙ sym (number_after_append 10 0 (byte_figures (take i t)) ((b - 48) ∷ []))
+    ∙ sym (ap (number_from_digits 10) joined)
+
+pub more_small : (n i d : ℕ) → n < 10 ^ i → d ≤ 9 → 10 * n + d < 10 ^ (i + 1)
+more_small n i d small digit =
+    let next : i + 1 ≡ suc i = omega arith in
+    let power = ap (λ j. 10 ^ j) next ∙ pow-suc 10 i in
+    omega (arith, power)
+
+pub more_fits : (n i d len : ℕ) → n < 10 ^ i → d ≤ 9 → i < len → len ≤ 38 → 10 * n + d < 2 ^ 128
+more_fits n i d len small digit inside few = omega (arith, more_small n i d small digit, power_le (i + 1) (omega arith))
+
+-- digits at the end of a text, and the number before them
+pub decimals_read : (t : List ℕ) (end k m n : ℕ) → end + k ≡ length t → list_all is_ascii_digit (drop end t) ≡ true → n ≡ m * 10 ^ k + number_from_digits 10 (byte_figures (drop end t)) →
+    (drop end t ≡ plain (last_digits k n)) × (n / 10 ^ k ≡ m)
+decimals_read t end k m n all digit sum =
+    let ls = byte_figures (drop end t) in
+    let b = number_from_digits 10 ls in
+    let same : drop end t ≡ plain ls = plain-all (drop end t) digit in
+    let long : length ls ≡ k = omega (arith, ap length same, length-map ls (λ d. 48 + d), length-drop end t, all) in
+    let below = figures-below (drop end t) in
+    let small : b < 10 ^ k = subst (λ j. b < 10 ^ j) long (number-below ls below) in (
+      same ∙ ap plain (
+          sym (last_digits-number ls below)
+          ∙ ap (λ j. last_digits j b) long
+          ∙ ap (last_digits k) (sym (ap (λ x. x % 10 ^ k) sum ∙ mod-mul-add m (10 ^ k) b small))
+          ∙ last_digits-mod k n),
+      ap (λ x. x / 10 ^ k) sum ∙ div-mul-add m (10 ^ k) b small,
+    )
+
+-- a text that spells a whole number in two parts
+number_parts : (f : FormatData) (t : List ℕ) (z : ℤ) → SpellsNumber f t z → (body : List ℕ) × ((t ≡ sign_of f z ++ body) × IsBody f body (unsigned_abs z))
+number_parts f t z (with_separators same) = (body_of f (unsigned_abs z), (same, with_groups refl))
+number_parts f t z (without_separators same) = (body_of (ungrouped f) (unsigned_abs z), (same, without_groups refl))
+
+-- it spells the decimal at scale 0
+pub whole_read : (f : FormatData) (t : List ℕ) (z : ℤ) → SpellsNumber f t z → HasUnits (fixed_point z 0) → IsSpelled f t (fixed_point z 0)
+whole_read f t z spells fits =
+    let parts = number_parts f t z spells in
+    let body = parts.0 in
+    let all : unsigned_abs z ≡ unsigned_abs z / 10 ^ 0 = omega arith in
+    record {
+      spelled = spelled-from_parts f t z 0 body (record {
+        split = parts.1.0 ∙ ap (λ b. sign_of f z ++ b) (sym (append-nil body));
+        whole = subst (IsBody f body) all parts.1.1;
+      });
+      bound = omega arith;
+      fits = fits;
+    }
+
+-- and a number without a sign is a body
+body_read : (f : FormatData) (t : List ℕ) (n : ℕ) → SpellsNumber f t (pos n) → IsBody f t n
+body_read f t n spells =
+    let parts = number_parts f t (pos n) spells in
+    let same : t ≡ parts.0 = parts.1.0 ∙ ap (λ (b : Bool). (if b then f.minus_sign else []) ++ parts.0) (is_negative-pos n) in
+    subst (λ b. IsBody f b n) (sym same) parts.1.1
+
+negative_read : (b : Bool) (n : ℕ) → (b ≡ true → 0 < n) → is_negative (signed_number b n) ≡ b
+negative_read true zero some = absurd (omega (arith, some refl))
+negative_read true (suc n) some = refl
+negative_read false n some = is_negative-pos n
+
+begins_starts : (mark t : List ℕ) → begins mark t ≡ true → starts_with nat_eq t mark ≡ true
+begins_starts [] t wrong = cc
+begins_starts (b ∷ mark) t begin = begin
+
+-- the sign of a text
+pub sign_read : (f : FormatData) (t minus : List ℕ) → minus ≡ f.minus_sign → begins minus t ≡ true → take (length minus) t ≡ f.minus_sign
+sign_read f t minus same begin =
+    let split = (starts_is Decides-eqb t minus (starts_with nat_eq t minus) refl).0 (begins_starts minus t begin) in
+    ap (take (length minus)) split ∙ take_at minus (drop (length minus) t) (length minus) refl ∙ same
+
+-- a sign, a body, the mark and digits
+pub marked_read : (f : FormatData) (t body : List ℕ) (b : Bool) (start place end k m n : ℕ) → StandsAt f.decimal t place end → end + k ≡ length t → 0 < k → start ≤ place →
+    list_all is_ascii_digit (drop end t) ≡ true → take start t ≡ (if b then f.minus_sign else []) → body ≡ take (place - start) (drop start t) → SpellsNumber f body (pos m) →
+    n ≡ m * 10 ^ k + number_from_digits 10 (byte_figures (drop end t)) → (b ≡ true → 0 < n) → SpellsDecimal f t (fixed_point (signed_number b n) k)
+marked_read f t body b start place end k m n mark all some order digit sign between spells sum signed =
+    let z = signed_number b n in
+    let abs : n ≡ unsigned_abs z = sym (signed-abs b n) in
+    let read = decimals_read t end k m n all digit sum in
+    let test : nat_lt 0 k ≡ true = grind (arith, nat_tests) in
+    let same : f.decimal ≡ mark_at f k = ap (λ (c : Bool). if c then f.decimal else []) (sym test) in
+    let cut : IsCutAt f t z start end k = record {
+      within = omega (arith, mark.after);
+      all = all;
+      sign = sign ∙ ap (λ (c : Bool). if c then f.minus_sign else []) (sym (negative_read b n signed));
+      decimals = read.0 ∙ ap (λ j. plain (last_digits k j)) abs;
+    } in
+    let whole : m ≡ unsigned_abs z / 10 ^ k = sym read.1 ∙ ap (λ j. j / 10 ^ k) abs in
+    (spelled-marked f t f.decimal body z start end k place cut same mark.after order (begins_starts f.decimal (drop place t) mark.there) between).0
+    (subst (IsBody f body) whole (body_read f body m spells))
+
+-- the decimal with that sign, if there is one
+pub signed_read : (f : FormatData) (t : List ℕ) (d : FixedPoint) (result : Option FixedPoint) → SomeIff result (HasUnits d) d → d.scale ≤ 38 → SpellsDecimal f t d → IfSome result (λ x. IsSpelled f t x)
+signed_read f t d None none few spells = tt
+signed_read f t d (Some x) some few spells = subst (IsSpelled f t) (sym some.1) (record { spelled = spells; bound = few; fits = some.0 })
