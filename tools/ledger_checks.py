@@ -1,12 +1,28 @@
 """Runs the program uses_ledger on good and bad ledgers, and with inputs and outputs that fail."""
+import decimal
 import os
 import subprocess
+from decimal import Decimal
 
 from tally import CLOSE, ROOT, run, shown
 
 CRATE = ROOT / "crates" / "uses_ledger"
 
-I64_MAX = 2**63 - 1
+# More digits than any sum has, so that each is exact.
+decimal.getcontext().prec = 60
+
+# The ends of the amounts, whose units are an i128.
+CENT = Decimal("0.01")
+HIGH = (2**127 - 1) * CENT
+LOW = -(2**127) * CENT
+
+# The separator, the decimal mark and the minus sign of each locale. The first has those of Python.
+LOCALES = {
+    "en": (",", ".", "-"),
+    "de": (".", ",", "-"),
+    "fr": ("\u202f", ",", "-"),
+    "sv": ("\u00a0", ",", "\u2212"),
+}
 
 USAGE = b"usage: uses_ledger FROM TO"
 UNKNOWN_LOCALE = b"Failed to parse xx into a valid locale."
@@ -14,35 +30,49 @@ NO_TAB = b"a line has no tab"
 UNEXPECTED = b"The text has an unexpected byte."
 NO_DIGIT = b"The text has no digit."
 MISSPELLED = b"The text is not as the number is printed."
-OUT_OF_RANGE = b"The number is no value of the type."
+TOO_MANY_DECIMALS = b"The text has more than 38 decimals."
+DIGITS_LOST = b"Digits would be lost at that scale."
+OUT_OF_RANGE = b"The units are out of range."
 TOO_LARGE = b"the total is too large"
 
 # The lines of the longest ledger here.
 LINES = 2000
 
 
-def grouped(number, separator):
-    return f"{number:,}".replace(",", separator)
+def printed(amount, locale):
+    """The text of an amount with two decimals, under a locale."""
+    return f"{amount:,.2f}".translate(str.maketrans(dict(zip(",.-", LOCALES[locale]))))
 
 
-def ledger(amounts, separator):
-    """The lines of a ledger, with these amounts in groups of three."""
-    lines = [f"entry {place}\t{grouped(amount, separator)}\n" for place, amount in enumerate(amounts)]
-    return "".join(lines)
+def numbered(amounts):
+    """The entries of a ledger with these amounts, under `en`."""
+    return [(f"entry {place}", printed(amount, "en")) for place, amount in enumerate(amounts)]
 
 
-def printed(amounts):
-    """What is printed of a ledger under `de`."""
-    return (ledger(amounts, ".") + f"total\t{grouped(sum(amounts), '.')}\n").encode()
+def ledger(entries):
+    """The lines of a ledger."""
+    return "".join(f"{name}\t{text}\n" for name, text in entries)
 
 
-# Amounts, whose ledger is printed.
+def report(entries, locale):
+    """What is printed of a ledger under a locale: each column is as wide as its widest text."""
+    amounts = [Decimal(text.replace(",", "")) for _, text in entries]
+    names = [*(name for name, _ in entries), "total"]
+    texts = [printed(amount, locale) for amount in [*amounts, sum(amounts)]]
+    left, right = (max(map(len, column)) for column in (names, texts))
+    lines = [f"{name.ljust(left)}  {text.rjust(right)}\n" for name, text in zip(names, texts)]
+    return "".join(lines).encode()
+
+
+# Ledgers under `en` that are printed: names, and texts of amounts.
 LEDGERS = [
     [],
-    [0],
-    [-5, 1_000, 1_000_000],
-    [I64_MAX, -I64_MAX - 1, I64_MAX],
-    [place * 1_234_567 - 1_000_000_000 for place in range(LINES)],
+    [("rent", "0")],
+    [("rent", "-1,250"), ("wages", "3400.00"), ("books", "89.5"), ("cash", "0.05")],
+    [("Überstunden", "1,234,567.8"), ("café", "-0.05"), ("", "7.2500"), ("日本語 and so on", "-12")],
+    [("a", "-999.99"), ("b", "-0.01")],
+    numbered([HIGH, LOW, HIGH]),
+    numbered([place * Decimal("12345.67") - 10_000_000 for place in range(LINES)]),
 ]
 
 # Words, standard input, and the message. Nothing is printed on standard output.
@@ -57,13 +87,22 @@ REFUSED = [
     (["en", "de"], "\n", NO_TAB),
     (["en", "de"], "rent\tx\n", UNEXPECTED),
     (["en", "de"], "rent\t5\nwages\tx\n", UNEXPECTED),
-    (["en", "de"], "rent\t12.50\n", UNEXPECTED),
+    (["en", "de"], "rent\t1.234,50\n", UNEXPECTED),
+    (["en", "de"], "rent\t5\t6\n", UNEXPECTED),
     (["en", "de"], "rent\t\n", NO_DIGIT),
+    (["en", "de"], "rent\t.\n", NO_DIGIT),
+    (["en", "de"], "rent\t.5\n", MISSPELLED),
+    (["en", "de"], "rent\t1.\n", MISSPELLED),
     (["en", "de"], "rent\t1,25\n", MISSPELLED),
+    (["en", "de"], "rent\t1,23.4\n", MISSPELLED),
     (["en", "de"], "rent\t05\n", MISSPELLED),
-    (["en", "de"], f"rent\t{grouped(I64_MAX + 1, ',')}\n", OUT_OF_RANGE),
-    (["en", "de"], ledger([I64_MAX, 1], ","), TOO_LARGE),
-    (["en", "de"], ledger([-I64_MAX - 1, -1, 1], ","), TOO_LARGE),
+    (["en", "de"], "rent\t-0.00\n", MISSPELLED),
+    (["en", "de"], "rent\t12.505\n", DIGITS_LOST),
+    (["en", "de"], f"rent\t0.{39 * '0'}\n", TOO_MANY_DECIMALS),
+    (["en", "de"], f"rent\t{printed(HIGH + CENT, 'en')}\n", OUT_OF_RANGE),
+    (["en", "de"], f"rent\t{2**126}\n", OUT_OF_RANGE),
+    (["en", "de"], ledger(numbered([HIGH, CENT])), TOO_LARGE),
+    (["en", "de"], ledger(numbered([LOW, -CENT, CENT])), TOO_LARGE),
 ]
 
 # How it ends where it fails, but for the message.
@@ -71,11 +110,12 @@ FAILED = (1, b"")
 
 
 def check_all(tally, program):
-    for amounts in LEDGERS:
-        ended = run([program, "en", "de"], input=ledger(amounts, ",").encode(), capture_output=True)
-        found = (ended.returncode, ended.stdout, ended.stderr)
-        problem = None if found == (0, printed(amounts), b"") else f"{found!r}"[:200]
-        tally.add(f"a ledger of {len(amounts)} lines", problem)
+    for entries in LEDGERS:
+        for locale in LOCALES:
+            ended = run([program, "en", locale], input=ledger(entries).encode(), capture_output=True)
+            found = (ended.returncode, ended.stdout, ended.stderr)
+            problem = None if found == (0, report(entries, locale), b"") else f"{found!r}"[:200]
+            tally.add(f"a ledger of {len(entries)} lines under {locale}", problem)
     for words, given, message in REFUSED:
         ended = run([program, *words], input=given.encode(), capture_output=True)
         found = (ended.returncode, ended.stdout, message in ended.stderr)
@@ -99,8 +139,8 @@ def check_inputs(tally, words):
 def check_outputs(tally, words):
     """A report that is shorter than the buffer fails where it is flushed, and a longer one before."""
     with open("/dev/full", "wb") as full:
-        for amounts in LEDGERS:
-            given = {"input": ledger(amounts, ",").encode(), "stderr": subprocess.PIPE}
+        for entries in LEDGERS:
+            given = {"input": ledger(entries).encode(), "stderr": subprocess.PIPE}
             for state, how in [("full", {"stdout": full}), ("closed", {"preexec_fn": CLOSE["stdout"]})]:
-                name = f"a ledger of {len(amounts)} lines, stdout {state}"
+                name = f"a ledger of {len(entries)} lines, stdout {state}"
                 tally.compare(name, run(words, **given, **how).returncode, 1)

@@ -4,6 +4,7 @@
 use anyhow::Result;
 use num_format::parsing::ParseFormatted;
 use num_format::{Buffer, CustomFormat, Grouping, Locale, ToFormattedString, WriteFormatted};
+use num_format_decimal::{Decimal, ParseDecimal};
 
 fn main(rt: HostRuntime) -> Result<()> {
     // Into a buffer: this needs no memory and cannot fail.
@@ -31,8 +32,10 @@ fn main(rt: HostRuntime) -> Result<()> {
     line.write_formatted(&1_234_567u64, &Locale::de)?;
     println!(rt; "{line}")?;
 
-    // And back into a number: exactly as it is printed, or an error with the cause.
+    // And back: exactly as printed, or an error with the cause.
     let number: i64 = "-1,000,000".parse_strict(&Locale::en)?;
     println!(rt; "{number}")?;
+    let price: Decimal = "1.234,50".parse_decimal(&Locale::de)?;
+    println!(rt; "{}", price.formatted(&Locale::en))?;
     Ok(())
 }

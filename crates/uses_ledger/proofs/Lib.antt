@@ -1,3 +1,4 @@
 pub mod AmountLemmas
+pub mod EntryLemmas
 pub mod ReportLemmas
 pub mod SumLemmas

@@ -1,34 +1,38 @@
 //! The entries of a ledger, and how they are read from its lines.
-ghost use Rattle.std.specs.Prelude.{◌≡◌, ◌↔◌, ◌⊎◌, ℤ, map, All, Any, Ok, IfOk, IfErr, OnOk};
+ghost use Rattle.std.specs.Prelude.{◌≡◌, ◌↔◌, ◌⊎◌, Any, Ok, Err, IfOk, IfErr, OnOk};
+ghost use Rattle.std.specs.List.{AllZip};
 ghost use Rattle.std.specs.Str.Lines.{lines};
-ghost use Rattle.num_format.specs.Kind.{I64, IsValueOf, kind_of};
-ghost use Rattle.num_format.specs.Reading.{denoted};
-ghost use Rattle.num_format.specs.RoundTrips.{RoundTrips};
-ghost use Rattle.num_format.specs.Strict.{IsCause, ParsesStrictly, SpellsNumber};
-ghost use Rattle.uses_ledger.specs.Entry.{IsAccepted, Refuses, item_in, item_of};
+ghost use Rattle.num_format_decimal.specs.FixedPoint.{FixedPoint};
+ghost use Rattle.num_format_decimal.specs.Marks.{MarksDecimals};
+ghost use Rattle.num_format_decimal.specs.Parsing.{IsAtScaleCause};
+ghost use Rattle.num_format_decimal.specs.declared.parsing.ParseAtScaleError.{ParseAtScaleError};
+ghost use Rattle.uses_ledger.specs.Entry.{IsLineOf, IsOfOneScale, Refuses, SpellsAmount};
 ghost use Rattle.uses_ledger.specs.declared.entry.LedgerError.TheVariants.{AmbiguousFormat, NoMemory};
 
-use num_format::parsing::{ParseFormatted, StrictError};
-use num_format::{Format, laws, reads_back};
+use num_format::Format;
+use num_format_decimal::{Decimal, ParseAtScaleError, laws, marks_decimals};
 use std::alloc::Global;
 use std::io;
+
+/// How many decimals each amount of a ledger has.
+pub const SCALE: u8 = 2;
 
 /// A name and an amount.
 #[derive(Clone, Copy)]
 pub struct Entry<'a> {
     pub name: &'a str,
-    pub amount: i64,
+    pub amount: Decimal,
 }
 
 /// Why a ledger is refused.
 #[derive(Debug, Drop, thiserror::Error)]
 pub enum LedgerError {
-    #[error("not every number reads back under the format")]
+    #[error("not every decimal reads back under the format")]
     AmbiguousFormat,
     #[error("a line has no tab")]
     NoTab,
     #[error("{0}")]
-    Amount(StrictError),
+    Amount(ParseAtScaleError),
     #[error("the total is too large")]
     TotalTooLarge,
     #[error("out of memory")]
@@ -37,30 +41,33 @@ pub enum LedgerError {
     Output(io::Error),
 }
 
-/// Returns the amount that a text spells: the text is that of the amount, grouped or not. Every number
-/// reads back under the format, so a text spells one amount at most.
-pub fn parse_amount<F: Format>(text: &str, format: &F) -> Result<i64, StrictError>
-    requires { RoundTrips (F.answers format.now) }
-    ensures exact { (amount : ℤ) → IsValueOf (kind_of I64) amount →
-        (result ≡ Ok amount) ↔ SpellsNumber (F.answers format.now) text.now amount }
-    ensures number { IfOk result (λ amount. amount ≡ denoted (F.answers format.now) text.now) }
-    ensures accepted { OnOk result (ParsesStrictly (kind_of I64) (F.answers format.now) text.now
-        (denoted (F.answers format.now) text.now)) }
-    ensures refused { IfErr result (IsCause (kind_of I64) (F.answers format.now) text.now) }
+/// Returns the amount that a text spells: the text is that of a decimal, grouped or not, and the amount is the
+/// same number at the scale of the ledger. Every decimal reads back under the format, so a text spells one
+/// amount at most.
+///
+/// ```text
+/// parse_amount("1,234.5", &Locale::en)     // 1234.50
+/// parse_amount("1.255", &Locale::en)       // Err(Rescale(DigitsLost))
+/// ```
+pub fn parse_amount<F: Format>(text: &str, format: &F) -> Result<Decimal, ParseAtScaleError>
+    requires { MarksDecimals (F.answers format.now) }
+    ensures exact { (amount : FixedPoint) → (result ≡ Ok amount)
+        ↔ SpellsAmount (F.answers format.now) text.now amount }
+    ensures refused { (e : ParseAtScaleError) → (result ≡ Err e)
+        ↔ IsAtScaleCause (F.answers format.now) text.now SCALE e }
 {
-    laws::strict_under(format);
-    text.parse_strict(format)
+    laws::exact_under(format);
+    Decimal::parse_at_scale(text, SCALE, format)
 }
 
 /// Returns the entry of a line: the name stands before the first tab, and the amount after it.
 ///
 /// # Errors
 ///
-/// Returns [`LedgerError::NoTab`], or the cause for which strict parsing refuses the amount.
+/// Returns [`LedgerError::NoTab`], or the cause for which the amount is refused.
 pub fn parse_entry<'a, F: Format>(line: &'a str, format: &F) -> Result<Entry<'a>, LedgerError>
-    requires { RoundTrips (F.answers format.now) }
-    ensures entry { IfOk result (λ e. item_of e ≡ item_in (F.answers format.now) line.now) }
-    ensures accepted { OnOk result (IsAccepted (F.answers format.now) line.now) }
+    requires { MarksDecimals (F.answers format.now) }
+    ensures entry { IfOk result (IsLineOf (F.answers format.now) line.now) }
     ensures refused { IfErr result (Refuses (F.answers format.now) line.now) }
 {
     let (name, amount) = line.split_once('\t').ok_or(LedgerError::NoTab)?;
@@ -68,11 +75,11 @@ pub fn parse_entry<'a, F: Format>(line: &'a str, format: &F) -> Result<Entry<'a>
     Ok(Entry { name, amount })
 }
 
-/// Returns the entries of all lines, in their order.
+/// Returns the entries of all lines, in their order. Their amounts are of one scale.
 ///
 /// # Errors
 ///
-/// Returns [`LedgerError::AmbiguousFormat`] where not every number reads back under the format, else the
+/// Returns [`LedgerError::AmbiguousFormat`] where not every decimal reads back under the format, else the
 /// error of a line that is refused, or [`LedgerError::NoMemory`].
 pub fn read_entries<'a, F: Format>(
     alloc: Global,
@@ -80,20 +87,25 @@ pub fn read_entries<'a, F: Format>(
     format: &F,
 ) -> Result<Vec<Entry<'a>>, LedgerError>
     ensures entries { IfOk result (λ entries.
-        map item_of entries.items ≡ map (item_in (F.answers format.now)) (lines text.now)) }
-    ensures accepted { OnOk result (All (IsAccepted (F.answers format.now)) (lines text.now)) }
-    ensures reads_back { OnOk result (RoundTrips (F.answers format.now)) }
+        AllZip (IsLineOf (F.answers format.now)) (lines text.now) entries.items) }
+    ensures one_scale { IfOk result (λ entries. IsOfOneScale entries.items) }
+    ensures reads_back { OnOk result (MarksDecimals (F.answers format.now)) }
     ensures refused { IfErr result (λ e. (e ≡ NoMemory)
-        ⊎ (((e ≡ AmbiguousFormat) × ¬ (RoundTrips (F.answers format.now)))
+        ⊎ (((e ≡ AmbiguousFormat) × ¬ (MarksDecimals (F.answers format.now)))
         ⊎ Any (λ line. Refuses (F.answers format.now) line e) (lines text.now))) }
 {
-    if !reads_back(format) {
+    if !marks_decimals(format) {
         return Err(LedgerError::AmbiguousFormat);
     }
     let mut entries = Vec::new(alloc);
     for line in text.lines() {
-        let entry = parse_entry(line, format)?;
-        entries.push(entry).map_err(|_| LedgerError::NoMemory)?;
+        let entry = match parse_entry(line, format) {
+            Ok(entry) => entry,
+            Err(error) => return Err(error),
+        };
+        if entries.push(entry).is_err() {
+            return Err(LedgerError::NoMemory);
+        }
     }
     Ok(entries)
 }
