@@ -2,7 +2,7 @@
 use Rattle.std.proofs.Common.{◌⊎◌, inl, inr, Bool, ◌≡◌, ℕ, ◌+◌, ◌-◌, ◌*◌, ◌/◌, ◌<◌, ◌≤◌, true, false, List, [], ◌∷◌, ◌++◌, length, refl, ap, ◌∙◌, sym, arith, take, drop, length-append, take-append-drop, drop-drop, subst, IsUtf8}
 use Rattle.std.specs.Char.{is_ascii_digit}
 use Rattle.std.specs.Int.Digits.{number_from_digits}
-use Rattle.std.specs.List.{list_all}
+use Rattle.std.specs.List.{list_all, list_any}
 use Rattle.std.proofs.lemmas.Bool.{and_parts}
 use Rattle.std.proofs.lemmas.Bool.Decides.{Decides-eqb}
 use Rattle.std.proofs.lemmas.List.{length-map, nil_from_length, take_at}
@@ -18,9 +18,9 @@ use Rattle.num_format_int.proofs.DigitLemmas.{AreDigits}
 use Rattle.num_format_int.proofs.GroupLemmas.{last_group-Standard, groups-Standard}
 use Rattle.num_format_int.proofs.GroupedLemmas.{grouped-Posix, length-grouped}
 use Rattle.num_format_parsing.proofs.ReadingLemmas.{digits_among-separated}
-use Rattle.num_format_parsing.specs.Strict.{SpellsNumber}
+use Rattle.num_format_parsing.specs.Strict.{SpellsNumber, sign_len}
 use Rattle.num_format_parsing.specs.Shapes.{byte_figures, BeginsWithDigit, IsInGroups, IsPlainStart}
-use Rattle.num_format_parsing.proofs.FigureLemmas.{digit_char, figures-digit, figures-below, number-after_zeros, writes}
+use Rattle.num_format_parsing.proofs.FigureLemmas.{digit_char, figures-digit, figures-below, figures-none, number-after_zeros, writes}
 use Rattle.num_format_parsing.proofs.SpellingLemmas.{spells-more, utf8-separated}
 
 -- bytes that are digits are their figures as text
@@ -73,6 +73,15 @@ spells-groups f t s start last size sign separator separator_utf8 plain_separato
     let figures : byte_figures body ≡ ds = ap byte_figures text ∙ digits_among-separated is_due s ds plain_separator found.below in
     let same = ap (λ k. drop k t) (sym sign.sign) ∙ text ∙ ap (λ x. separated is_due x ds) separator in
     (utf8, (spells-more f t ds utf8 (figures-behind f t start sign.plain ∙ ap (number_from_digits 10) figures) (rw figures at (writes body begin))).0 (inl same))
+
+-- a minus sign without digits at the start of a text
+pub plain-start : (f : FormatData) (t sign : List ℕ) → length sign ≡ sign_len f t → length sign ≤ length t → sign ≡ take (length sign) t → IsUtf8 sign → list_any is_ascii_digit sign ≡ false → IsPlainStart f t (length sign)
+plain-start f t sign start within same utf8 none = record {
+  utf8 = subst IsUtf8 same utf8;
+  within = within;
+  sign = start;
+  plain = ap byte_figures (sym same) ∙ figures-none sign none;
+}
 
 -- a text without the minus sign
 pub plain-unsigned : (f : FormatData) (t : List ℕ) → is_negative_text f t ≡ false → IsPlainStart f t 0

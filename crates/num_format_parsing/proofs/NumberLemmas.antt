@@ -9,7 +9,8 @@ use Rattle.std.proofs.lemmas.Bool.{both_ways, and_parts}
 use Rattle.std.proofs.lemmas.Bool.Decides.{nat_tests}
 use Rattle.std.proofs.lemmas.List.{nil_from_length}
 use Rattle.std.proofs.lemmas.List.Elements.{All-head, All-tail}
-use Rattle.std.proofs.lemmas.Str.{IsUtf8-from_ascii, chars-IsAscii, IsAscii-append}
+use Rattle.std.proofs.lemmas.List.Folds.{list_any-append}
+use Rattle.std.proofs.lemmas.Str.{IsUtf8-from_ascii, IsUtf8-nil, chars-IsAscii, chars-append}
 use Rattle.std.proofs.lemmas.Str.Ascii.{IsAscii-nil, IsAscii-cons}
 use Rattle.num_format_text.specs.Format.{FormatData}
 use Rattle.num_format_int.specs.Grouped.{separated}
@@ -32,25 +33,46 @@ ascii-all (b ∷ t) all =
     let test = both.0 in
     IsAscii-cons b t (grind (arith, nat_tests, test)) (ascii-all t both.1)
 
-ascii-separated : (is_due : ℕ → Bool) (s ds : List ℕ) → IsAscii s → AreDigits ds → IsAscii (separated is_due s ds)
-ascii-separated is_due s [] ascii below = IsAscii-nil
-ascii-separated is_due s (d ∷ ds) ascii below =
-    let small : d < 10 = All-head (λ x. x < 10) d ds below in
-    IsAscii-cons (48 + d) ((if is_due (length ds) then s else []) ++ separated is_due s ds) (omega arith)
-    (IsAscii-append (if is_due (length ds) then s else []) (separated is_due s ds) (of_either IsAscii IsAscii-nil (is_due (length ds)) s ascii) (ascii-separated is_due s ds ascii (All-tail (λ x. x < 10) d ds below)))
-
 -- in ASCII there is no other numeral
 no_other : (t : List ℕ) → IsAscii t → list_any is_other_numeral t ≡ false
 no_other [] ascii = refl
 no_other (b ∷ t) ascii = rw (is_other_numeral-ascii b (ascii zero)) (no_other t (λ i. ascii (suc i)))
 
--- the number of a text in ASCII that spells one
+-- no character of a text is another numeral
+abbrev HasNoOther : List ℕ → Type 0
+HasNoOther t = list_any is_other_numeral (chars t) ≡ false
+
+no_other-ascii : (t : List ℕ) → IsAscii t → HasNoOther t
+no_other-ascii t ascii = ap (list_any is_other_numeral) (chars-IsAscii t ascii) ∙ no_other t ascii
+
+-- as in a text whose bytes are tested
+pub no_other-bytes : (t : List ℕ) → list_all is_ascii t ≡ true → HasNoOther t
+no_other-bytes t all = no_other-ascii t (ascii-all t all)
+
+no_other-append : (xs ys : List ℕ) → IsUtf8 xs → HasNoOther xs → HasNoOther ys → HasNoOther (xs ++ ys)
+no_other-append xs ys utf8 first second =
+    ap (list_any is_other_numeral) (chars-append xs ys utf8) ∙ list_any-append is_other_numeral (chars xs) (chars ys) ∙ rw (first, second) refl
+
+-- digits with a separator that has none
+no_other-separated : (is_due : ℕ → Bool) (s ds : List ℕ) → IsUtf8 s → HasNoOther s → AreDigits ds → HasNoOther (separated is_due s ds)
+no_other-separated is_due s [] utf8 none below = no_other-ascii [] IsAscii-nil
+no_other-separated is_due s (d ∷ ds) utf8 none below =
+    let small : d < 10 = All-head (λ x. x < 10) d ds below in
+    let digit : IsAscii ((48 + d) ∷ []) = IsAscii-cons (48 + d) [] (omega arith) IsAscii-nil in
+    let between = if is_due (length ds) then s else [] in
+    no_other-append ((48 + d) ∷ []) (between ++ separated is_due s ds) (IsUtf8-from_ascii ((48 + d) ∷ []) digit) (no_other-ascii ((48 + d) ∷ []) digit)
+    (no_other-append between (separated is_due s ds)
+    (of_either IsUtf8 IsUtf8-nil (is_due (length ds)) s utf8)
+    (of_either HasNoOther (no_other-ascii [] IsAscii-nil) (is_due (length ds)) s none)
+    (no_other-separated is_due s ds utf8 none (All-tail (λ x. x < 10) d ds below)))
+
+-- the number of a text that spells one, whose minus sign and separator have no other numeral
 pub number-spelled : (f : FormatData) (t : List ℕ) (start : ℕ) (is_due : ℕ → Bool) (s ds : List ℕ) (count n most : ℕ) → IsPlainStart f t start → IsUtf8 t → SpellsNumber f t (denoted f t) →
-    drop start t ≡ separated is_due s ds → AreDigits ds → byte_figures s ≡ [] → list_all is_ascii (take start t) ≡ true → list_all is_ascii s ≡ true →
+    drop start t ≡ separated is_due s ds → AreDigits ds → byte_figures s ≡ [] → list_any is_other_numeral (chars (take start t)) ≡ false → IsUtf8 s → list_any is_other_numeral (chars s) ≡ false →
     count ≡ length ds → WriteFew ds n → count ≤ most → most ≤ 19 → HasReadNumber f t most n
-number-spelled f t start is_due s ds count n most sign utf8 spells body below none sign_ascii ascii counted write few short =
-    let all : IsAscii t = subst IsAscii (take-append-drop start t)
-    (IsAscii-append (take start t) (drop start t) (ascii-all (take start t) sign_ascii) (subst IsAscii (sym body) (ascii-separated is_due s ds (ascii-all s ascii) below))) in
+number-spelled f t start is_due s ds count n most sign utf8 spells body below none sign_plain separator_utf8 plain counted write few short =
+    let all : HasNoOther t = subst HasNoOther (take-append-drop start t)
+    (no_other-append (take start t) (drop start t) sign.utf8 sign_plain (subst HasNoOther (sym body) (no_other-separated is_due s ds separator_utf8 plain below))) in
     let same : figures t ≡ ds = figures-bytes t utf8 ∙ ap byte_figures (sym (take-append-drop start t)) ∙ digits_among-append (take start t) (drop start t)
     ∙ ap (λ xs. xs ++ byte_figures (drop start t)) sign.plain ∙ ap byte_figures body ∙ digits_among-separated is_due s ds none below in
     let some : ¬ (length (figures t) ≡ 0) = λ empty. figures-spelled f t utf8 spells (nil_from_length (figures t) empty) in
@@ -62,7 +84,7 @@ number-spelled f t start is_due s ds count n most sign utf8 spells body below no
         number = (write (omega (arith, counted, few, short))).0 ∙ ap (number_from_digits 10) (sym same);
         some = omega (arith, some);
         few = omega (arith, long, counted, few);
-        plain = ap (list_any is_other_numeral) (chars-IsAscii t all) ∙ no_other t all;
+        plain = all;
       };
     }
 

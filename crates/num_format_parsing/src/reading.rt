@@ -1,14 +1,16 @@
 //! Strict parsing of most texts in one pass: of digits, alone or in groups with a separator between them.
 ghost use Rattle.std.specs.Prelude.{◌≡◌, ℕ, List, ◌+◌, ◌<◌, ◌≤◌, [], true, false, length, take, drop, slice_index, IsTrue, IsUtf8, MatchOption, MatchResult};
 ghost use Rattle.std.specs.Char.{is_ascii, is_ascii_digit};
-ghost use Rattle.std.specs.List.{list_all};
+ghost use Rattle.std.specs.List.{list_all, list_any};
+ghost use Rattle.std.specs.Str.{chars};
 ghost use Rattle.num_format_text.specs.declared.grouping.Grouping.TheVariants.{Posix};
 ghost use Rattle.num_format_text.specs.Format.{FormatData};
 ghost use Rattle.num_format_parsing.specs.Parts.{GroupsBy, HasReading, HasReadDigits, HasReadGroup, HasReadGroups, HasReadNumber, LacksGroup, LacksGroups};
 ghost use Rattle.num_format_parsing.specs.Shapes.{IsPlainStart, BeginsWithDigit, byte_figures};
-ghost use Rattle.num_format_parsing.specs.Reading.{denoted};
+ghost use Rattle.num_format_parsing.specs.Reading.{denoted, is_other_numeral};
 ghost use Rattle.num_format_parsing.specs.Strict.{SpellsNumber, sign_len};
 
+use crate::numeral::is_other_numeral;
 use crate::parsing::SAFE_FIGURES;
 use crate::strict::{begins_with, begins_with_digit, has_digit};
 use num_format_text::{Format, Grouping};
@@ -47,18 +49,18 @@ struct Groups {
     least: usize,
 }
 
-/// Returns what one pass over a text finds. `start` is the length of its minus sign, and `most` the number
-/// of digits that it may have.
+/// Returns what one pass over a text finds. `sign` is its minus sign, and `most` the number of digits that
+/// it may have.
 #[inline]
-pub(crate) fn read_text<F: Format>(text: &[u8], start: usize, most: usize, format: &F) -> Reading
-    requires start { start ≡ sign_len (F.answers format.now) text.now }
-    requires within { start ≤ length text.now }
-    requires utf8 { IsUtf8 (take start text.now) }
+pub(crate) fn read_text<F: Format>(text: &[u8], sign: &str, most: usize, format: &F) -> Reading
+    requires start { length sign.now ≡ sign_len (F.answers format.now) text.now }
+    requires within { length sign.now ≤ length text.now }
+    requires sign { sign.now ≡ take (length sign.now) text.now }
     requires few { most ≤ SAFE_FIGURES }
     ensures { HasReading (F.answers format.now) text.now most result }
 {
-    let sign = &text[..start];
-    if has_digit(sign) {
+    let start = sign.len();
+    if has_digit(sign.as_bytes()) {
         return Reading::Unknown;
     }
     if !begins_with_digit(&text[start..]) {
@@ -71,22 +73,23 @@ pub(crate) fn read_text<F: Format>(text: &[u8], start: usize, most: usize, forma
     };
     let first = read_digits(text, none, text.len());
     if first.end == text.len() {
-        return spelled(first, most, sign, &[]);
+        return spelled(first, most, sign, "");
     }
     let Some(groups) = groups_of(format.grouping()) else {
         return Reading::Unspelled { place: first.end };
     };
-    let separator = format.separator().into_str().as_bytes();
-    if separator.is_empty() {
+    let separator = format.separator().into_str();
+    let bytes = separator.as_bytes();
+    if bytes.is_empty() {
         return Reading::Unspelled { place: first.end };
     }
-    if has_digit(separator) {
+    if has_digit(bytes) {
         return Reading::Unknown;
     }
-    if text.len() - start < groups.least + separator.len() {
+    if text.len() - start < groups.least + bytes.len() {
         return Reading::Unspelled { place: first.end };
     }
-    match read_groups(text, start, first, separator, groups) {
+    match read_groups(text, start, first, bytes, groups) {
         Ok(whole) => spelled(whole, most, sign, separator),
         Err(place) => Reading::Unspelled { place },
     }
@@ -113,24 +116,37 @@ fn read_zero(text: &[u8], start: usize, most: usize) -> Reading
 }
 
 /// Returns what was found in a text that was read to its end and spells the number that it denotes: that
-/// number, if it is short, and no byte of the minus sign and the separator can be part of another numeral.
+/// number, if it is short, and no character of the minus sign and the separator is another numeral.
 #[inline]
-fn spelled(whole: Part, most: usize, sign: &[u8], separator: &[u8]) -> Reading
+fn spelled(whole: Part, most: usize, sign: &str, separator: &str) -> Reading
     ensures { (f : FormatData) (t : List ℕ) → IsUtf8 t → SpellsNumber f t (denoted f t)
-        → (list_all is_ascii sign.now ≡ true → list_all is_ascii separator.now ≡ true
+        → (list_any is_other_numeral (chars sign.now) ≡ false
+        → list_any is_other_numeral (chars separator.now) ≡ false
         → whole.figures ≤ most → HasReadNumber f t most whole.magnitude)
         → HasReading f t most result }
 {
-    if !is_ascii(sign) {
+    if has_other_numeral(sign) {
         return Reading::Spelled;
     }
-    if !is_ascii(separator) {
+    if has_other_numeral(separator) {
         return Reading::Spelled;
     }
     if whole.figures > most {
         return Reading::Spelled;
     }
     Reading::Number(whole.magnitude)
+}
+
+/// Returns whether a character is numeric and none of the digits `0` to `9`. Most texts are ASCII, and have
+/// none.
+#[inline]
+fn has_other_numeral(text: &str) -> bool
+    ensures { result ≡ list_any is_other_numeral (chars text.now) }
+{
+    if is_ascii(text.as_bytes()) {
+        return false;
+    }
+    text.chars().any(is_other_numeral)
 }
 
 /// Returns how a grouping groups digits, or `None` if it does not.
@@ -199,6 +215,25 @@ fn read_digits(text: &[u8], from: Part, end: usize) -> Part
     part
 }
 
+/// Returns the part of a text with the digits that follow it, at most `count`.
+///
+/// The loop over a constant number of digits is unrolled where the code is compiled.
+#[inline]
+fn read_count(text: &[u8], from: Part, count: usize) -> Part
+    requires within { from.end + count ≤ length text.now }
+    requires figures { from.figures ≤ from.end }
+    ensures read { HasReadDigits text.now from.end result.end from.magnitude result.magnitude }
+    ensures within { result.end ≤ from.end + count }
+    ensures figures { result.figures + from.end ≡ from.figures + result.end }
+    ensures stop { result.end < from.end + count → is_ascii_digit (slice_index text.now result.end) ≡ false }
+{
+    match count {
+        3 => read_digits(text, from, from.end + 3),
+        2 => read_digits(text, from, from.end + 2),
+        _ => read_digits(text, from, from.end + count),
+    }
+}
+
 /// Returns the part of a text with the separator and the `count` digits that follow it, or the place where
 /// they do not.
 #[inline]
@@ -219,9 +254,8 @@ fn read_group(text: &[u8], from: Part, separator: &[u8], count: usize) -> Result
         figures: from.figures,
         magnitude: from.magnitude,
     };
-    let end = behind.end + count;
-    let part = read_digits(text, behind, end);
-    if part.end != end {
+    let part = read_count(text, behind, count);
+    if part.end != behind.end + count {
         return Err(part.end);
     }
     Ok(part)

@@ -76,9 +76,9 @@ pub(crate) fn parse_strict<N: Sealed, F: Format>(
 {
     let minus_sign = format.minus_sign().into_str();
     let is_negative = bytes.starts_with(minus_sign.as_bytes());
-    let start = if is_negative { minus_sign.len() } else { 0 };
+    let sign = if is_negative { minus_sign } else { "" };
     let most = most_figures(N::limit(), is_negative);
-    match read_text(bytes, start, most, format) {
+    match read_text(bytes, sign, most, format) {
         Reading::Number(magnitude) => {
             match N::from_sign_and_magnitude(is_negative, magnitude as u128) {
                 Some(number) => Ok(number),
@@ -87,7 +87,7 @@ pub(crate) fn parse_strict<N: Sealed, F: Format>(
         }
         Reading::Spelled => parse_spelled(bytes, format),
         Reading::Unspelled { place } => Err(cause(bytes, is_text, place, format)),
-        Reading::Unknown => parse_unknown(bytes, is_text, start, format),
+        Reading::Unknown => parse_unknown(bytes, is_text, sign.len(), format),
     }
 }
 
