@@ -1,10 +1,11 @@
 -- The length of a decimal's text, and its decimals.
-use Rattle.std.proofs.Common.{◌≡◌, ℕ, zero, suc, ◌+◌, ◌-◌, ◌/◌, ◌%◌, ◌^◌, ◌<◌, ◌≤◌, true, false, List, [], ◌∷◌, ◌++◌, length, drop, take, refl, ap, ◌∙◌, sym, arith, inl, inr, append-nil, append_assoc, length-append, pos, unsigned_abs}
+use Rattle.std.proofs.Common.{◌≡◌, ℕ, zero, suc, ◌+◌, ◌-◌, ◌/◌, ◌%◌, ◌^◌, ◌<◌, ◌≤◌, true, false, List, [], ◌∷◌, ◌++◌, length, drop, take, refl, ap, ◌∙◌, sym, subst, arith, IsUtf8, length-drop, inl, inr, append-nil, append_assoc, length-append, pos, unsigned_abs}
 use Rattle.std.specs.Prelude.{nat_lt, if◌then◌else◌}
 use Rattle.std.specs.Fmt.{decimal}
 use Rattle.std.specs.Int.{is_negative}
 use Rattle.std.proofs.Math.Nat.{mul-le-mul, div-eq_of_lt, mod-lt}
-use Rattle.std.proofs.lemmas.List.{length-map, take_rest}
+use Rattle.std.proofs.lemmas.List.{length-map, nil_from_length, take_rest}
+use Rattle.std.proofs.lemmas.Str.{IsUtf8-nil}
 use Rattle.std.proofs.lemmas.Bool.{cases_lt}
 use Rattle.std.proofs.lemmas.Bool.Decides.{nat_tests}
 use Rattle.num_format_text.specs.declared.grouping.Grouping.{Grouping}
@@ -14,8 +15,8 @@ use Rattle.num_format_int.specs.Digits.{digits}
 use Rattle.num_format_int.specs.Grouped.{separators}
 use Rattle.num_format_int.specs.Groups.{last_digits, plain}
 use Rattle.num_format_int.specs.Text.{body_of, text_of}
-use Rattle.num_format_int.proofs.DigitLemmas.{decimal-digits, digits-leading_one, digits-small, length-digits-le39, length-digits-split, length-last_digits, last_digits-mod}
-use Rattle.num_format_int.proofs.GroupedLemmas.{length-grouped}
+use Rattle.num_format_int.proofs.DigitLemmas.{decimal-digits, digits-leading_one, digits-small, length-digits-le, length-digits-le39, length-digits-split, length-last_digits, last_digits-mod}
+use Rattle.num_format_int.proofs.GroupedLemmas.{grouped-short, length-grouped}
 use Rattle.num_format_decimal.specs.FixedPoint.{FixedPoint}
 use Rattle.num_format_decimal.specs.Text.{decimal_text}
 use Rattle.num_format_decimal.proofs.ScaleLemmas.{power_le, power_positive}
@@ -65,37 +66,45 @@ text_of_whole f (suc n) =
     let sign : is_negative (pos (suc n)) ≡ false = grind (arith, nat_tests) in
     ap (λ b. (if b then f.minus_sign else []) ++ body_of f (suc n)) sign
 
+-- nothing stands after the end of an array
+pub after_end : (xs : List ℕ) → length xs ≡ 199 → drop 199 xs ≡ []
+after_end xs long = nil_from_length (drop 199 xs) (omega (arith, length-drop 199 xs))
+
+pub end_utf8 : (xs : List ℕ) → length xs ≡ 199 → IsUtf8 (drop 199 xs)
+end_utf8 xs long = subst IsUtf8 (sym (after_end xs long)) IsUtf8-nil
+
+-- a number of up to three digits has no separator
+pub short_body : (f : FormatData) (n : ℕ) (text : List ℕ) → n < 1000 → text ≡ decimal n → text ≡ body_of f n
+short_body f n text below printed =
+    printed ∙ decimal-digits n (omega arith) ∙ sym (grouped-short f.grouping f.separator (digits n) (length-digits-le 3 n (omega arith) (omega arith)))
+
 -- the digits before the decimals, where there are none
-pub whole_alone : (f : FormatData) (text : List ℕ) (n k s q : ℕ) → s ≡ k → s ≡ 0 → q ≡ n / 10 ^ k → text ≡ text_of f (pos q) →
+pub whole_alone : (f : FormatData) (text end : List ℕ) (n k s q : ℕ) → s ≡ k → s ≡ 0 → q ≡ n / 10 ^ k → end ≡ [] → text ≡ body_of f q ++ end →
     text ≡ body_of f (n / 10 ^ k) ++ (if nat_lt 0 k then f.decimal ++ plain (last_digits k n) else [])
-whole_alone f text n k s q same none quotient printed =
+whole_alone f text end n k s q same none quotient empty printed =
     let test : nat_lt 0 k ≡ false = grind (arith, nat_tests) in
     printed
-    ∙ text_of_whole f q
-    ∙ ap (λ m. body_of f m) quotient
-    ∙ sym (append-nil (body_of f (n / 10 ^ k)))
+    ∙ ap (λ m. body_of f m ++ end) quotient
+    ∙ ap (λ t. body_of f (n / 10 ^ k) ++ t) empty
     ∙ ap (λ b. body_of f (n / 10 ^ k) ++ (if b then f.decimal ++ plain (last_digits k n) else [])) (sym test)
 
 -- the decimals, the mark and the digits before it, prepended one after the other
-pub with_decimals : (f : FormatData) (body mark t1 t2 t3 : List ℕ) (n k s q r : ℕ) → s ≡ k → ¬ (s ≡ 0) → q ≡ n / 10 ^ k → r ≡ n % 10 ^ k → body ≡ text_of f (pos q) → mark ≡ f.decimal →
-    t1 ≡ plain (last_digits s r) → t2 ≡ mark ++ t1 → t3 ≡ body ++ t2 → t3 ≡ body_of f (n / 10 ^ k) ++ (if nat_lt 0 k then f.decimal ++ plain (last_digits k n) else [])
-with_decimals f body mark t1 t2 t3 n k s q r same some quotient remainder printed marked first second third =
+pub with_decimals : (f : FormatData) (mark t1 t2 t3 : List ℕ) (n k s q r : ℕ) → s ≡ k → ¬ (s ≡ 0) → q ≡ n / 10 ^ k → r ≡ n % 10 ^ k → mark ≡ f.decimal →
+    t1 ≡ plain (last_digits s r) → t2 ≡ mark ++ t1 → t3 ≡ body_of f q ++ t2 → t3 ≡ body_of f (n / 10 ^ k) ++ (if nat_lt 0 k then f.decimal ++ plain (last_digits k n) else [])
+with_decimals f mark t1 t2 t3 n k s q r same some quotient remainder marked first second third =
     let test : nat_lt 0 k ≡ true = grind (arith, nat_tests) in
-    let whole : body ≡ body_of f (n / 10 ^ k) = printed ∙ text_of_whole f q ∙ ap (λ m. body_of f m) quotient in
     let decimals : t1 ≡ plain (last_digits k n) =
     first ∙ ap (λ j. plain (last_digits j r)) same ∙ ap (λ m. plain (last_digits k m)) remainder ∙ ap plain (last_digits-mod k n) in
     third
-    ∙ ap (λ t. t ++ t2) whole
+    ∙ ap (λ m. body_of f m ++ t2) quotient
     ∙ ap (λ t. body_of f (n / 10 ^ k) ++ t) (second ∙ ap (λ t. t ++ t1) marked ∙ ap (λ t. f.decimal ++ t) decimals)
     ∙ ap (λ b. body_of f (n / 10 ^ k) ++ (if b then f.decimal ++ plain (last_digits k n) else [])) (sym test)
 
--- all of them have space in a buffer
-pub decimals_fit : (f : FormatData) (body mark t1 t2 : List ℕ) (n k s q r : ℕ) → s ≡ k → k ≤ 38 → n ≤ 2 ^ 127 → length f.separator ≤ 8 → length mark ≤ 8 → q ≡ n / 10 ^ k → body ≡ text_of f (pos q) →
-    t1 ≡ plain (last_digits s r) → t2 ≡ mark ++ t1 → length body + length t2 ≤ 191
-decimals_fit f body mark t1 t2 n k s q r same few small short marked quotient printed first second =
+-- the digits before the decimals, which have so much space
+pub whole_fits : (f : FormatData) (n k s q : ℕ) → s ≡ k → s ≤ 38 → n ≤ 2 ^ 127 → length f.separator ≤ 8 → q ≡ n / 10 ^ k → length (body_of f q) + s ≤ 183
+whole_fits f n k s q same few small short quotient =
     let below : n < 2 ^ 128 = omega arith in
-    let whole : body ≡ body_of f (n / 10 ^ k) = printed ∙ text_of_whole f q ∙ ap (λ m. body_of f m) quotient in
-    omega (arith, ap length whole, length-body f n k short below few, ap length second, length-append mark t1, ap length first, length-plain s r)
+    omega (arith, ap (λ m. length (body_of f m)) quotient, length-body f n k short below (omega arith))
 
 -- what is printed for the decimals: a digit 1 and then each of them
 pub printed_decimals : (k n one : ℕ) (text : List ℕ) → k ≤ 38 → n < 10 ^ k → one ≡ 10 ^ k → text ≡ decimal (one + n) → text ≡ 49 ∷ plain (last_digits k n)

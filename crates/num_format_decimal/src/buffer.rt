@@ -1,18 +1,18 @@
 //! The text of a decimal, kept in place.
-ghost use Rattle.std.specs.Prelude.{◌≡◌, ◌+◌, ◌/◌, ◌^◌, ◌<◌, ◌≤◌, [], ◌++◌, length, nat_lt, unsigned_abs, Some, if◌then◌else◌};
+ghost use Rattle.std.specs.Prelude.{◌≡◌, ◌+◌, ◌/◌, ◌^◌, ◌<◌, ◌≤◌, [], ◌++◌, length, drop, nat_lt, unsigned_abs, Some, IsUtf8, if◌then◌else◌};
+ghost use Rattle.std.specs.Int.{is_negative};
 ghost use Rattle.num_format_int.specs.Groups.{last_digits, plain};
 ghost use Rattle.num_format_int.specs.Text.{body_of};
 ghost use Rattle.num_format_decimal.specs.Text.{decimal_text};
 
 use crate::decimal::{Decimal, MAX_SCALE};
 use crate::powers::{narrow_power_of_ten, power_of_ten, split};
-use arrayvec::ArrayString;
 use num_format_int::Buffer;
-use num_format_int::buffer::MAX_BUF_LEN;
+use num_format_int::buffer::copy_bytes;
 use num_format_text::Format;
 use num_format_text::capacities::{MAX_MIN_LEN, MAX_SEP_LEN};
-use std::fmt;
 use std::marker::Model;
+use std::{fmt, str};
 
 /// The length in bytes of the longest text of a decimal: 39 digits, and 18 separators, a minus sign and a
 /// decimal mark of 8 bytes each.
@@ -21,30 +21,33 @@ pub const MAX_DECIMAL_LEN: usize = 199;
 /// The number of digits from which on a digit 1 before them makes a number of more than 64 bits.
 const NINETEEN_DIGITS: u8 = 19;
 
+/// The lowest number of four digits, which is the lowest that can have a separator.
+const FOUR_DIGITS: u128 = 1000;
+
 /// The text of a decimal, kept in place. A contract sees its bytes.
+///
+/// Its text ends where the array ends, as that of a [`Buffer`] does: the decimals are prepended first, then the mark,
+/// the digits before it, and the sign.
 ///
 /// ```text
 /// DecimalBuffer::of(&Decimal::new(-123450, 2)?, &Locale::de).as_str()     // -1.234,50
 /// ```
 #[derive(Drop)]
 pub struct DecimalBuffer {
-    text: Text,
+    inner: [u8; MAX_DECIMAL_LEN],
+    start: usize,
 }
 
 impl Model for DecimalBuffer {
-    ghost use Rattle.std.specs.Prelude.{ℕ, List};
-    ghost use Rattle.num_format_decimal.specs.Kept.{kept};
+    ghost use Rattle.std.specs.Prelude.{◌≡◌, ℕ, ◌≤◌, List, length, drop, IsUtf8};
+    ghost use Rattle.num_format_decimal.specs.declared.buffer.TheConstants.{MAX_DECIMAL_LEN};
 
     ghost Value = { List ℕ };
 
-    ghost view = { λ b. kept b.text };
-}
+    ghost view = { λ b. drop b.start b.inner };
 
-/// A text of up to 191 bytes, as each one without its minus sign is, or a longer one.
-#[derive(Drop)]
-pub(crate) enum Text {
-    Short(Buffer),
-    Long(ArrayString<MAX_DECIMAL_LEN>),
+    ghost invariant = { λ b. (b.start ≤ MAX_DECIMAL_LEN) × (length b.inner ≡ MAX_DECIMAL_LEN)
+        × ∥ IsUtf8 (drop b.start b.inner) ∥₁ };
 }
 
 impl DecimalBuffer {
@@ -61,14 +64,10 @@ impl DecimalBuffer {
     pub fn of<F: Format>(d: &Decimal, format: &F) -> DecimalBuffer
         ensures { result ≡ decimal_text (F.answers format.now) d.now }
     {
-        let text = without_sign(d, format);
-        if d.is_negative() {
-            with_sign(format.minus_sign().into_str(), text)
-        } else {
-            DecimalBuffer {
-                text: Text::Short(text),
-            }
-        }
+        let mut inner = [0; MAX_DECIMAL_LEN];
+        let decimals = put_unsigned(d, format, &mut inner);
+        let start = put_sign(d, format, &mut inner, decimals);
+        DecimalBuffer { inner, start }
     }
 
     /// Returns the text.
@@ -76,10 +75,7 @@ impl DecimalBuffer {
         ensures same { result.now ≡ self.now }
         ensures fits { length result.now ≤ MAX_DECIMAL_LEN }
     {
-        match &self.text {
-            Text::Short(text) => text.as_str(),
-            Text::Long(text) => text.as_str(),
-        }
+        unsafe { str::from_utf8_unchecked(&self.inner[self.start..]) }
     }
 
     /// Returns the bytes of the text.
@@ -91,30 +87,37 @@ impl DecimalBuffer {
     }
 }
 
-/// Returns the text with a minus sign before it.
-fn with_sign(minus_sign: &str, text: Buffer) -> DecimalBuffer
-    requires { length minus_sign.now ≤ MAX_MIN_LEN }
-    ensures { result ≡ minus_sign.now ++ text }
+/// Prepends the sign that a number has under a format: nothing, unless its units are negative. Returns where the
+/// text then begins.
+#[inline]
+fn put_sign<F: Format>(
+    d: &Decimal,
+    format: &F,
+    inner: &mut [u8; MAX_DECIMAL_LEN],
+    start: usize,
+) -> usize
+    requires room { (MAX_MIN_LEN ≤ start) × (start ≤ MAX_DECIMAL_LEN) }
+    requires utf8 { IsUtf8 (drop start inner.old) }
+    ensures within { result ≤ MAX_DECIMAL_LEN }
+    ensures utf8 { IsUtf8 (drop result inner.new) }
+    ensures text { drop result inner.new
+        ≡ (if is_negative d.now.units then (F.answers format.now).minus_sign else []) ++ drop start inner.old }
 {
-    if minus_sign.len() + text.len() <= MAX_BUF_LEN {
-        let mut short = text;
-        short.put_front(minus_sign);
-        return DecimalBuffer {
-            text: Text::Short(short),
-        };
-    }
-    let mut long = ArrayString::new();
-    long.push_str(minus_sign);
-    long.push_str(text.as_str());
-    DecimalBuffer {
-        text: Text::Long(long),
+    if d.is_negative() {
+        prepend(format.minus_sign().into_str(), inner, start)
+    } else {
+        start
     }
 }
 
-/// Returns the text of a number without its sign: the digits before the decimals, grouped as the format says,
-/// and if there are decimals the decimal mark and each of them.
-fn without_sign<F: Format>(d: &Decimal, format: &F) -> Buffer
-    ensures { result ≡ body_of (F.answers format.now) (unsigned_abs d.now.units / 10 ^ d.now.scale)
+/// Puts the text of a number without its sign at the end of the array: the digits before the decimals, grouped as
+/// the format says, and if there are decimals the decimal mark and each of them. Returns where it begins.
+#[inline]
+fn put_unsigned<F: Format>(d: &Decimal, format: &F, inner: &mut [u8; MAX_DECIMAL_LEN]) -> usize
+    ensures room { (MAX_MIN_LEN ≤ result) × (result ≤ MAX_DECIMAL_LEN) }
+    ensures utf8 { IsUtf8 (drop result inner.new) }
+    ensures text { drop result inner.new
+        ≡ body_of (F.answers format.now) (unsigned_abs d.now.units / 10 ^ d.now.scale)
         ++ (if nat_lt 0 d.now.scale
         then (F.answers format.now).decimal
         ++ plain (last_digits d.now.scale (unsigned_abs d.now.units))
@@ -123,15 +126,35 @@ fn without_sign<F: Format>(d: &Decimal, format: &F) -> Buffer
     separator_fits(format);
     let scale = d.scale();
     let (whole, rest) = split(d.magnitude(), scale);
-    let body = Buffer::of(&whole, format);
     if scale == 0 {
-        return body;
+        return put_whole(whole, format, inner, MAX_DECIMAL_LEN);
     }
-    let mut text = Buffer::new();
-    put_digits(rest, scale, &mut text);
-    text.put_front(format.decimal().into_str());
-    text.put_front(body.as_str());
-    text
+    let decimals = put_digits(rest, scale, inner);
+    let mark = prepend(format.decimal().into_str(), inner, decimals);
+    put_whole(whole, format, inner, mark)
+}
+
+/// Prepends the digits of `n`, grouped as the format says. Returns where the text then begins.
+fn put_whole<F: Format>(
+    n: u128,
+    format: &F,
+    inner: &mut [u8; MAX_DECIMAL_LEN],
+    start: usize,
+) -> usize
+    requires within { start ≤ MAX_DECIMAL_LEN }
+    requires fits { length (body_of (F.answers format.now) n) ≤ start }
+    requires utf8 { IsUtf8 (drop start inner.old) }
+    ensures place { result + length (body_of (F.answers format.now) n) ≡ start }
+    ensures utf8 { IsUtf8 (drop result inner.new) }
+    ensures text { drop result inner.new ≡ body_of (F.answers format.now) n ++ drop start inner.old }
+{
+    if n < FOUR_DIGITS {
+        // There is no separator, so the format is not read.
+        let mut printed = itoa::Buffer::new();
+        return prepend(printed.format(n as u64), inner, start);
+    }
+    let body = Buffer::of(&n, format);
+    prepend(body.as_str(), inner, start)
 }
 
 /// The separator of a format is within its capacity. The body is for what its calls promise.
@@ -141,43 +164,63 @@ fn separator_fits<F: Format>(format: &F)
     format.separator().into_str();
 }
 
-/// Puts the digits of `n`, which has no more than `count`, leading zeros included, into an empty buffer.
-fn put_digits(n: u128, count: u8, text: &mut Buffer)
-    requires empty { text.old ≡ [] }
+/// Puts the digits of `n`, which has no more than `count`, leading zeros included, at the end of the array. Returns
+/// where they begin.
+#[inline]
+fn put_digits(n: u128, count: u8, inner: &mut [u8; MAX_DECIMAL_LEN]) -> usize
     requires count { count ≤ MAX_SCALE }
     requires below { n < 10 ^ count }
-    ensures { text.new ≡ plain (last_digits count n) }
+    ensures place { result + count ≡ MAX_DECIMAL_LEN }
+    ensures utf8 { IsUtf8 (drop result inner.new) }
+    ensures text { drop result inner.new ≡ plain (last_digits count n) }
 {
     if count < NINETEEN_DIGITS {
-        put_narrow_digits(n as u64, count, text);
+        put_narrow_digits(n as u64, count, inner)
     } else {
-        put_wide_digits(n, count, text);
+        put_wide_digits(n, count, inner)
     }
 }
 
 /// Puts the same digits, where they and a digit 1 before them, which keeps leading zeros, are a number of 64 bits.
 #[inline]
-fn put_narrow_digits(n: u64, count: u8, text: &mut Buffer)
-    requires empty { text.old ≡ [] }
+fn put_narrow_digits(n: u64, count: u8, inner: &mut [u8; MAX_DECIMAL_LEN]) -> usize
     requires count { count < NINETEEN_DIGITS }
     requires below { n < 10 ^ count }
-    ensures { text.new ≡ plain (last_digits count n) }
+    ensures place { result + count ≡ MAX_DECIMAL_LEN }
+    ensures utf8 { IsUtf8 (drop result inner.new) }
+    ensures text { drop result inner.new ≡ plain (last_digits count n) }
 {
     let mut printed = itoa::Buffer::new();
     let digits = printed.format(narrow_power_of_ten(count) + n);
-    text.put_front(&digits[1..count as usize + 1]);
+    prepend(&digits[1..count as usize + 1], inner, MAX_DECIMAL_LEN)
 }
 
 /// Puts the same digits, where that number takes more than 64 bits.
-fn put_wide_digits(n: u128, count: u8, text: &mut Buffer)
-    requires empty { text.old ≡ [] }
+fn put_wide_digits(n: u128, count: u8, inner: &mut [u8; MAX_DECIMAL_LEN]) -> usize
     requires count { count ≤ MAX_SCALE }
     requires below { n < 10 ^ count }
-    ensures { text.new ≡ plain (last_digits count n) }
+    ensures place { result + count ≡ MAX_DECIMAL_LEN }
+    ensures utf8 { IsUtf8 (drop result inner.new) }
+    ensures text { drop result inner.new ≡ plain (last_digits count n) }
 {
     let mut printed = itoa::Buffer::new();
     let digits = printed.format(power_of_ten(count) + n);
-    text.put_front(&digits[1..count as usize + 1]);
+    prepend(&digits[1..count as usize + 1], inner, MAX_DECIMAL_LEN)
+}
+
+/// Prepends a text to the one that begins at a place of the array. Returns where it then begins.
+#[inline(always)]
+fn prepend(text: &str, inner: &mut [u8; MAX_DECIMAL_LEN], start: usize) -> usize
+    requires within { start ≤ MAX_DECIMAL_LEN }
+    requires fits { length text.now ≤ start }
+    requires utf8 { IsUtf8 (drop start inner.old) }
+    ensures place { result + length text.now ≡ start }
+    ensures utf8 { IsUtf8 (drop result inner.new) }
+    ensures text { drop result inner.new ≡ text.now ++ drop start inner.old }
+{
+    let place = start - text.len();
+    copy_bytes(text.as_bytes(), &mut inner[place..start]);
+    place
 }
 
 impl fmt::Display for DecimalBuffer {
