@@ -1,11 +1,10 @@
 -- The length of a decimal's text, and its decimals.
-use Rattle.std.proofs.Common.{◌≡◌, ℕ, zero, suc, ◌+◌, ◌-◌, ◌/◌, ◌%◌, ◌^◌, ◌<◌, ◌≤◌, true, false, List, [], ◌∷◌, ◌++◌, length, drop, take, refl, ap, ◌∙◌, sym, subst, arith, IsUtf8, length-drop, inl, inr, append-nil, append_assoc, length-append, pos, unsigned_abs}
+use Rattle.std.proofs.Common.{◌≡◌, ℕ, zero, suc, ◌+◌, ◌-◌, ◌/◌, ◌%◌, ◌^◌, ◌<◌, ◌≤◌, true, false, List, [], ◌∷◌, ◌++◌, length, drop, take, refl, ap, ◌∙◌, sym, arith, Bool, inl, inr, append-nil, append_assoc, length-append, pos, unsigned_abs}
 use Rattle.std.specs.Prelude.{nat_lt, if◌then◌else◌}
 use Rattle.std.specs.Fmt.{decimal}
 use Rattle.std.specs.Int.{is_negative}
 use Rattle.std.proofs.Math.Nat.{mul-le-mul, div-eq_of_lt, mod-lt}
-use Rattle.std.proofs.lemmas.List.{length-map, nil_from_length, take_rest}
-use Rattle.std.proofs.lemmas.Str.{IsUtf8-nil}
+use Rattle.std.proofs.lemmas.List.{length-map, take_rest}
 use Rattle.std.proofs.lemmas.Bool.{cases_lt}
 use Rattle.std.proofs.lemmas.Bool.Decides.{nat_tests}
 use Rattle.num_format_text.specs.declared.grouping.Grouping.{Grouping}
@@ -66,39 +65,37 @@ text_of_whole f (suc n) =
     let sign : is_negative (pos (suc n)) ≡ false = grind (arith, nat_tests) in
     ap (λ b. (if b then f.minus_sign else []) ++ body_of f (suc n)) sign
 
--- nothing stands after the end of an array
-pub after_end : (xs : List ℕ) → length xs ≡ 199 → drop 199 xs ≡ []
-after_end xs long = nil_from_length (drop 199 xs) (omega (arith, length-drop 199 xs))
-
-pub end_utf8 : (xs : List ℕ) → length xs ≡ 199 → IsUtf8 (drop 199 xs)
-end_utf8 xs long = subst IsUtf8 (sym (after_end xs long)) IsUtf8-nil
-
 -- a number of up to three digits has no separator
 pub short_body : (f : FormatData) (n : ℕ) (text : List ℕ) → n < 1000 → text ≡ decimal n → text ≡ body_of f n
 short_body f n text below printed =
     printed ∙ decimal-digits n (omega arith) ∙ sym (grouped-short f.grouping f.separator (digits n) (length-digits-le 3 n (omega arith) (omega arith)))
 
--- the digits before the decimals, where there are none
-pub whole_alone : (f : FormatData) (text end : List ℕ) (n k s q : ℕ) → s ≡ k → s ≡ 0 → q ≡ n / 10 ^ k → end ≡ [] → text ≡ body_of f q ++ end →
-    text ≡ body_of f (n / 10 ^ k) ++ (if nat_lt 0 k then f.decimal ++ plain (last_digits k n) else [])
-whole_alone f text end n k s q same none quotient empty printed =
+-- no decimals, or some
+pub no_decimals : (f : FormatData) (k n : ℕ) → k ≡ 0 → [] ≡ (if nat_lt 0 k then f.decimal ++ plain (last_digits k n) else [])
+no_decimals f k n none =
     let test : nat_lt 0 k ≡ false = grind (arith, nat_tests) in
-    printed
-    ∙ ap (λ m. body_of f m ++ end) quotient
-    ∙ ap (λ t. body_of f (n / 10 ^ k) ++ t) empty
-    ∙ ap (λ b. body_of f (n / 10 ^ k) ++ (if b then f.decimal ++ plain (last_digits k n) else [])) (sym test)
+    ap (λ (b : Bool). if b then f.decimal ++ plain (last_digits k n) else []) (sym test)
 
--- the decimals, the mark and the digits before it, prepended one after the other
-pub with_decimals : (f : FormatData) (mark t1 t2 t3 : List ℕ) (n k s q r : ℕ) → s ≡ k → ¬ (s ≡ 0) → q ≡ n / 10 ^ k → r ≡ n % 10 ^ k → mark ≡ f.decimal →
-    t1 ≡ plain (last_digits s r) → t2 ≡ mark ++ t1 → t3 ≡ body_of f q ++ t2 → t3 ≡ body_of f (n / 10 ^ k) ++ (if nat_lt 0 k then f.decimal ++ plain (last_digits k n) else [])
-with_decimals f mark t1 t2 t3 n k s q r same some quotient remainder marked first second third =
+pub some_decimals : (f : FormatData) (k n : ℕ) (mark t1 t2 : List ℕ) → ¬ (k ≡ 0) → mark ≡ f.decimal → t1 ≡ plain (last_digits k n) → t2 ≡ mark ++ t1 →
+    t2 ≡ (if nat_lt 0 k then f.decimal ++ plain (last_digits k n) else [])
+some_decimals f k n mark t1 t2 some marked first second =
     let test : nat_lt 0 k ≡ true = grind (arith, nat_tests) in
-    let decimals : t1 ≡ plain (last_digits k n) =
-    first ∙ ap (λ j. plain (last_digits j r)) same ∙ ap (λ m. plain (last_digits k m)) remainder ∙ ap plain (last_digits-mod k n) in
-    third
-    ∙ ap (λ m. body_of f m ++ t2) quotient
-    ∙ ap (λ t. body_of f (n / 10 ^ k) ++ t) (second ∙ ap (λ t. t ++ t1) marked ∙ ap (λ t. f.decimal ++ t) decimals)
-    ∙ ap (λ b. body_of f (n / 10 ^ k) ++ (if b then f.decimal ++ plain (last_digits k n) else [])) (sym test)
+    second
+    ∙ ap (λ t. t ++ t1) marked
+    ∙ ap (λ t. f.decimal ++ t) first
+    ∙ ap (λ (b : Bool). if b then f.decimal ++ plain (last_digits k n) else []) (sym test)
+
+-- the decimals, and the digits before them
+pub unsigned_text : (f : FormatData) (t1 t2 : List ℕ) (n k s q r : ℕ) → s ≡ k → q ≡ n / 10 ^ k → r ≡ n % 10 ^ k → t1 ≡ (if nat_lt 0 s then f.decimal ++ plain (last_digits s r) else []) → t2 ≡ body_of f q ++ t1 →
+    t2 ≡ body_of f (n / 10 ^ k) ++ (if nat_lt 0 k then f.decimal ++ plain (last_digits k n) else [])
+unsigned_text f t1 t2 n k s q r same quotient remainder first second =
+    second
+    ∙ ap (λ m. body_of f m ++ t1) quotient
+    ∙ ap (λ t. body_of f (n / 10 ^ k) ++ t) (
+    first
+    ∙ ap (λ j. if nat_lt 0 j then f.decimal ++ plain (last_digits j r) else []) same
+    ∙ ap (λ m. if nat_lt 0 k then f.decimal ++ plain (last_digits k m) else []) remainder
+    ∙ ap (λ ds. if nat_lt 0 k then f.decimal ++ plain ds else []) (last_digits-mod k n))
 
 -- the digits before the decimals, which have so much space
 pub whole_fits : (f : FormatData) (n k s q : ℕ) → s ≡ k → s ≤ 38 → n ≤ 2 ^ 127 → length f.separator ≤ 8 → q ≡ n / 10 ^ k → length (body_of f q) + s ≤ 183

@@ -1,6 +1,5 @@
 //! The text of a decimal, kept in place.
-ghost use Rattle.std.specs.Prelude.{◌≡◌, ◌+◌, ◌/◌, ◌^◌, ◌<◌, ◌≤◌, [], ◌++◌, length, drop, nat_lt, unsigned_abs, Some, IsUtf8, if◌then◌else◌};
-ghost use Rattle.std.specs.Int.{is_negative};
+ghost use Rattle.std.specs.Prelude.{◌≡◌, ◌+◌, ◌/◌, ◌^◌, ◌<◌, ◌≤◌, [], ◌++◌, length, nat_lt, unsigned_abs, Some, if◌then◌else◌};
 ghost use Rattle.num_format_int.specs.Groups.{last_digits, plain};
 ghost use Rattle.num_format_int.specs.Text.{body_of};
 ghost use Rattle.num_format_decimal.specs.Text.{decimal_text};
@@ -10,7 +9,7 @@ use crate::powers::{narrow_power_of_ten, power_of_ten, split};
 use num_format_int::Buffer;
 use num_format_int::buffer::copy_bytes;
 use num_format_text::Format;
-use num_format_text::capacities::{MAX_MIN_LEN, MAX_SEP_LEN};
+use num_format_text::capacities::{MAX_DEC_LEN, MAX_MIN_LEN, MAX_SEP_LEN};
 use std::marker::Model;
 use std::{fmt, str};
 
@@ -64,10 +63,15 @@ impl DecimalBuffer {
     pub fn of<F: Format>(d: &Decimal, format: &F) -> DecimalBuffer
         ensures { result ≡ decimal_text (F.answers format.now) d.now }
     {
-        let mut inner = [0; MAX_DECIMAL_LEN];
-        let decimals = put_unsigned(d, format, &mut inner);
-        let start = put_sign(d, format, &mut inner, decimals);
-        DecimalBuffer { inner, start }
+        let mut buffer = DecimalBuffer {
+            inner: [0; MAX_DECIMAL_LEN],
+            start: MAX_DECIMAL_LEN,
+        };
+        buffer.put_unsigned(d, format);
+        if d.is_negative() {
+            buffer.put_front(format.minus_sign().into_str());
+        }
+        buffer
     }
 
     /// Returns the text.
@@ -87,74 +91,110 @@ impl DecimalBuffer {
     }
 }
 
-/// Prepends the sign that a number has under a format: nothing, unless its units are negative. Returns where the
-/// text then begins.
-#[inline]
-fn put_sign<F: Format>(
-    d: &Decimal,
-    format: &F,
-    inner: &mut [u8; MAX_DECIMAL_LEN],
-    start: usize,
-) -> usize
-    requires room { (MAX_MIN_LEN ≤ start) × (start ≤ MAX_DECIMAL_LEN) }
-    requires utf8 { IsUtf8 (drop start inner.old) }
-    ensures within { result ≤ MAX_DECIMAL_LEN }
-    ensures utf8 { IsUtf8 (drop result inner.new) }
-    ensures text { drop result inner.new
-        ≡ (if is_negative d.now.units then (F.answers format.now).minus_sign else []) ++ drop start inner.old }
-{
-    if d.is_negative() {
-        prepend(format.minus_sign().into_str(), inner, start)
-    } else {
-        start
+impl DecimalBuffer {
+    /// Prepends the text of a number without its sign to the empty text: the digits before the decimals, grouped as
+    /// the format says, and if there are decimals the decimal mark and each of them.
+    #[inline]
+    fn put_unsigned<F: Format>(&mut self, d: &Decimal, format: &F)
+        requires { self.old ≡ [] }
+        ensures text { self.new
+            ≡ body_of (F.answers format.now) (unsigned_abs d.now.units / 10 ^ d.now.scale)
+            ++ (if nat_lt 0 d.now.scale
+            then (F.answers format.now).decimal
+            ++ plain (last_digits d.now.scale (unsigned_abs d.now.units))
+            else []) }
+        ensures room { length self.new + MAX_MIN_LEN ≤ MAX_DECIMAL_LEN }
+    {
+        separator_fits(format);
+        let scale = d.scale();
+        let (whole, rest) = split(d.magnitude(), scale);
+        self.put_decimals(rest, scale, format);
+        self.put_whole(whole, format);
     }
-}
 
-/// Puts the text of a number without its sign at the end of the array: the digits before the decimals, grouped as
-/// the format says, and if there are decimals the decimal mark and each of them. Returns where it begins.
-#[inline]
-fn put_unsigned<F: Format>(d: &Decimal, format: &F, inner: &mut [u8; MAX_DECIMAL_LEN]) -> usize
-    ensures room { (MAX_MIN_LEN ≤ result) × (result ≤ MAX_DECIMAL_LEN) }
-    ensures utf8 { IsUtf8 (drop result inner.new) }
-    ensures text { drop result inner.new
-        ≡ body_of (F.answers format.now) (unsigned_abs d.now.units / 10 ^ d.now.scale)
-        ++ (if nat_lt 0 d.now.scale
-        then (F.answers format.now).decimal
-        ++ plain (last_digits d.now.scale (unsigned_abs d.now.units))
-        else []) }
-{
-    separator_fits(format);
-    let scale = d.scale();
-    let (whole, rest) = split(d.magnitude(), scale);
-    if scale == 0 {
-        return put_whole(whole, format, inner, MAX_DECIMAL_LEN);
+    /// Prepends the decimal mark and `count` decimals to the empty text, or nothing if there are none.
+    #[inline]
+    fn put_decimals<F: Format>(&mut self, n: u128, count: u8, format: &F)
+        requires empty { self.old ≡ [] }
+        requires count { count ≤ MAX_SCALE }
+        requires below { n < 10 ^ count }
+        ensures text { self.new
+            ≡ (if nat_lt 0 count then (F.answers format.now).decimal ++ plain (last_digits count n) else []) }
+        ensures room { length self.new ≤ count + MAX_DEC_LEN }
+    {
+        if count == 0 {
+            return;
+        }
+        self.put_digits(n, count);
+        self.put_front(format.decimal().into_str());
     }
-    let decimals = put_digits(rest, scale, inner);
-    let mark = prepend(format.decimal().into_str(), inner, decimals);
-    put_whole(whole, format, inner, mark)
-}
 
-/// Prepends the digits of `n`, grouped as the format says. Returns where the text then begins.
-fn put_whole<F: Format>(
-    n: u128,
-    format: &F,
-    inner: &mut [u8; MAX_DECIMAL_LEN],
-    start: usize,
-) -> usize
-    requires within { start ≤ MAX_DECIMAL_LEN }
-    requires fits { length (body_of (F.answers format.now) n) ≤ start }
-    requires utf8 { IsUtf8 (drop start inner.old) }
-    ensures place { result + length (body_of (F.answers format.now) n) ≡ start }
-    ensures utf8 { IsUtf8 (drop result inner.new) }
-    ensures text { drop result inner.new ≡ body_of (F.answers format.now) n ++ drop start inner.old }
-{
-    if n < FOUR_DIGITS {
-        // There is no separator, so the format is not read.
+    /// Prepends the digits of `n`, grouped as the format says.
+    fn put_whole<F: Format>(&mut self, n: u128, format: &F)
+        requires { length (body_of (F.answers format.now) n) + length self.old ≤ MAX_DECIMAL_LEN }
+        ensures { self.new ≡ body_of (F.answers format.now) n ++ self.old }
+    {
+        if n < FOUR_DIGITS {
+            // There is no separator, so the format is not read.
+            let mut printed = itoa::Buffer::new();
+            self.put_front(printed.format(n as u64));
+            return;
+        }
+        let body = Buffer::of(&n, format);
+        self.put_front(body.as_str());
+    }
+
+    /// Prepends the digits of `n`, which has no more than `count`, leading zeros included, to the empty text.
+    #[inline]
+    fn put_digits(&mut self, n: u128, count: u8)
+        requires empty { self.old ≡ [] }
+        requires count { count ≤ MAX_SCALE }
+        requires below { n < 10 ^ count }
+        ensures { self.new ≡ plain (last_digits count n) }
+    {
+        if count < NINETEEN_DIGITS {
+            self.put_narrow_digits(n as u64, count);
+        } else {
+            self.put_wide_digits(n, count);
+        }
+    }
+
+    /// Prepends the same digits, where they and a digit 1 before them, which keeps leading zeros, are a number of 64
+    /// bits.
+    #[inline]
+    fn put_narrow_digits(&mut self, n: u64, count: u8)
+        requires empty { self.old ≡ [] }
+        requires count { count < NINETEEN_DIGITS }
+        requires below { n < 10 ^ count }
+        ensures { self.new ≡ plain (last_digits count n) }
+    {
         let mut printed = itoa::Buffer::new();
-        return prepend(printed.format(n as u64), inner, start);
+        let digits = printed.format(narrow_power_of_ten(count) + n);
+        self.put_front(&digits[1..count as usize + 1]);
     }
-    let body = Buffer::of(&n, format);
-    prepend(body.as_str(), inner, start)
+
+    /// Prepends the same digits, where that number takes more than 64 bits.
+    fn put_wide_digits(&mut self, n: u128, count: u8)
+        requires empty { self.old ≡ [] }
+        requires count { count ≤ MAX_SCALE }
+        requires below { n < 10 ^ count }
+        ensures { self.new ≡ plain (last_digits count n) }
+    {
+        let mut printed = itoa::Buffer::new();
+        let digits = printed.format(power_of_ten(count) + n);
+        self.put_front(&digits[1..count as usize + 1]);
+    }
+
+    /// Prepends a text.
+    #[inline(always)]
+    fn put_front(&mut self, text: &str)
+        requires { length text.now + length self.old ≤ MAX_DECIMAL_LEN }
+        ensures { self.new ≡ text.now ++ self.old }
+    {
+        let start = self.start - text.len();
+        copy_bytes(text.as_bytes(), &mut self.inner[start..self.start]);
+        self.start = start;
+    }
 }
 
 /// The separator of a format is within its capacity. The body is for what its calls promise.
@@ -162,65 +202,6 @@ fn separator_fits<F: Format>(format: &F)
     ensures { length (F.answers format.now).separator ≤ MAX_SEP_LEN }
 {
     format.separator().into_str();
-}
-
-/// Puts the digits of `n`, which has no more than `count`, leading zeros included, at the end of the array. Returns
-/// where they begin.
-#[inline]
-fn put_digits(n: u128, count: u8, inner: &mut [u8; MAX_DECIMAL_LEN]) -> usize
-    requires count { count ≤ MAX_SCALE }
-    requires below { n < 10 ^ count }
-    ensures place { result + count ≡ MAX_DECIMAL_LEN }
-    ensures utf8 { IsUtf8 (drop result inner.new) }
-    ensures text { drop result inner.new ≡ plain (last_digits count n) }
-{
-    if count < NINETEEN_DIGITS {
-        put_narrow_digits(n as u64, count, inner)
-    } else {
-        put_wide_digits(n, count, inner)
-    }
-}
-
-/// Puts the same digits, where they and a digit 1 before them, which keeps leading zeros, are a number of 64 bits.
-#[inline]
-fn put_narrow_digits(n: u64, count: u8, inner: &mut [u8; MAX_DECIMAL_LEN]) -> usize
-    requires count { count < NINETEEN_DIGITS }
-    requires below { n < 10 ^ count }
-    ensures place { result + count ≡ MAX_DECIMAL_LEN }
-    ensures utf8 { IsUtf8 (drop result inner.new) }
-    ensures text { drop result inner.new ≡ plain (last_digits count n) }
-{
-    let mut printed = itoa::Buffer::new();
-    let digits = printed.format(narrow_power_of_ten(count) + n);
-    prepend(&digits[1..count as usize + 1], inner, MAX_DECIMAL_LEN)
-}
-
-/// Puts the same digits, where that number takes more than 64 bits.
-fn put_wide_digits(n: u128, count: u8, inner: &mut [u8; MAX_DECIMAL_LEN]) -> usize
-    requires count { count ≤ MAX_SCALE }
-    requires below { n < 10 ^ count }
-    ensures place { result + count ≡ MAX_DECIMAL_LEN }
-    ensures utf8 { IsUtf8 (drop result inner.new) }
-    ensures text { drop result inner.new ≡ plain (last_digits count n) }
-{
-    let mut printed = itoa::Buffer::new();
-    let digits = printed.format(power_of_ten(count) + n);
-    prepend(&digits[1..count as usize + 1], inner, MAX_DECIMAL_LEN)
-}
-
-/// Prepends a text to the one that begins at a place of the array. Returns where it then begins.
-#[inline(always)]
-fn prepend(text: &str, inner: &mut [u8; MAX_DECIMAL_LEN], start: usize) -> usize
-    requires within { start ≤ MAX_DECIMAL_LEN }
-    requires fits { length text.now ≤ start }
-    requires utf8 { IsUtf8 (drop start inner.old) }
-    ensures place { result + length text.now ≡ start }
-    ensures utf8 { IsUtf8 (drop result inner.new) }
-    ensures text { drop result inner.new ≡ text.now ++ drop start inner.old }
-{
-    let place = start - text.len();
-    copy_bytes(text.as_bytes(), &mut inner[place..start]);
-    place
 }
 
 impl fmt::Display for DecimalBuffer {
