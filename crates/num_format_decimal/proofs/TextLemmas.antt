@@ -1,5 +1,5 @@
 -- The length of a decimal's text, and its decimals.
-use Rattle.std.proofs.Common.{◌≡◌, ℕ, zero, suc, ◌+◌, ◌-◌, ◌/◌, ◌%◌, ◌^◌, ◌<◌, ◌≤◌, true, false, List, [], ◌∷◌, ◌++◌, length, drop, take, refl, ap, ◌∙◌, sym, arith, inl, inr, append-nil, append_assoc, length-append, pos, unsigned_abs}
+use Rattle.std.proofs.Common.{◌≡◌, ℕ, zero, suc, ◌+◌, ◌-◌, ◌/◌, ◌%◌, ◌^◌, ◌<◌, ◌≤◌, true, false, List, [], ◌∷◌, ◌++◌, length, drop, take, refl, ap, ◌∙◌, sym, arith, Bool, inl, inr, append-nil, append_assoc, length-append, pos, unsigned_abs}
 use Rattle.std.specs.Prelude.{nat_lt, if◌then◌else◌}
 use Rattle.std.specs.Fmt.{decimal}
 use Rattle.std.specs.Int.{is_negative}
@@ -14,8 +14,8 @@ use Rattle.num_format_int.specs.Digits.{digits}
 use Rattle.num_format_int.specs.Grouped.{separators}
 use Rattle.num_format_int.specs.Groups.{last_digits, plain}
 use Rattle.num_format_int.specs.Text.{body_of, text_of}
-use Rattle.num_format_int.proofs.DigitLemmas.{decimal-digits, digits-leading_one, digits-small, length-digits-le39, length-digits-split, length-last_digits, last_digits-mod}
-use Rattle.num_format_int.proofs.GroupedLemmas.{length-grouped}
+use Rattle.num_format_int.proofs.DigitLemmas.{decimal-digits, digits-leading_one, digits-small, length-digits-le, length-digits-le39, length-digits-split, length-last_digits, last_digits-mod}
+use Rattle.num_format_int.proofs.GroupedLemmas.{grouped-short, length-grouped}
 use Rattle.num_format_decimal.specs.FixedPoint.{FixedPoint}
 use Rattle.num_format_decimal.specs.Text.{decimal_text}
 use Rattle.num_format_decimal.proofs.ScaleLemmas.{power_le, power_positive}
@@ -65,37 +65,43 @@ text_of_whole f (suc n) =
     let sign : is_negative (pos (suc n)) ≡ false = grind (arith, nat_tests) in
     ap (λ b. (if b then f.minus_sign else []) ++ body_of f (suc n)) sign
 
--- the digits before the decimals, where there are none
-pub whole_alone : (f : FormatData) (text : List ℕ) (n k s q : ℕ) → s ≡ k → s ≡ 0 → q ≡ n / 10 ^ k → text ≡ text_of f (pos q) →
-    text ≡ body_of f (n / 10 ^ k) ++ (if nat_lt 0 k then f.decimal ++ plain (last_digits k n) else [])
-whole_alone f text n k s q same none quotient printed =
+-- a number of up to three digits has no separator
+pub short_body : (f : FormatData) (n : ℕ) (text : List ℕ) → n < 1000 → text ≡ decimal n → text ≡ body_of f n
+short_body f n text below printed =
+    printed ∙ decimal-digits n (omega arith) ∙ sym (grouped-short f.grouping f.separator (digits n) (length-digits-le 3 n (omega arith) (omega arith)))
+
+-- no decimals, or some
+pub no_decimals : (f : FormatData) (k n : ℕ) → k ≡ 0 → [] ≡ (if nat_lt 0 k then f.decimal ++ plain (last_digits k n) else [])
+no_decimals f k n none =
     let test : nat_lt 0 k ≡ false = grind (arith, nat_tests) in
-    printed
-    ∙ text_of_whole f q
-    ∙ ap (λ m. body_of f m) quotient
-    ∙ sym (append-nil (body_of f (n / 10 ^ k)))
-    ∙ ap (λ b. body_of f (n / 10 ^ k) ++ (if b then f.decimal ++ plain (last_digits k n) else [])) (sym test)
+    ap (λ (b : Bool). if b then f.decimal ++ plain (last_digits k n) else []) (sym test)
 
--- the decimals, the mark and the digits before it, prepended one after the other
-pub with_decimals : (f : FormatData) (body mark t1 t2 t3 : List ℕ) (n k s q r : ℕ) → s ≡ k → ¬ (s ≡ 0) → q ≡ n / 10 ^ k → r ≡ n % 10 ^ k → body ≡ text_of f (pos q) → mark ≡ f.decimal →
-    t1 ≡ plain (last_digits s r) → t2 ≡ mark ++ t1 → t3 ≡ body ++ t2 → t3 ≡ body_of f (n / 10 ^ k) ++ (if nat_lt 0 k then f.decimal ++ plain (last_digits k n) else [])
-with_decimals f body mark t1 t2 t3 n k s q r same some quotient remainder printed marked first second third =
+pub some_decimals : (f : FormatData) (k n : ℕ) (mark t1 t2 : List ℕ) → ¬ (k ≡ 0) → mark ≡ f.decimal → t1 ≡ plain (last_digits k n) → t2 ≡ mark ++ t1 →
+    t2 ≡ (if nat_lt 0 k then f.decimal ++ plain (last_digits k n) else [])
+some_decimals f k n mark t1 t2 some marked first second =
     let test : nat_lt 0 k ≡ true = grind (arith, nat_tests) in
-    let whole : body ≡ body_of f (n / 10 ^ k) = printed ∙ text_of_whole f q ∙ ap (λ m. body_of f m) quotient in
-    let decimals : t1 ≡ plain (last_digits k n) =
-    first ∙ ap (λ j. plain (last_digits j r)) same ∙ ap (λ m. plain (last_digits k m)) remainder ∙ ap plain (last_digits-mod k n) in
-    third
-    ∙ ap (λ t. t ++ t2) whole
-    ∙ ap (λ t. body_of f (n / 10 ^ k) ++ t) (second ∙ ap (λ t. t ++ t1) marked ∙ ap (λ t. f.decimal ++ t) decimals)
-    ∙ ap (λ b. body_of f (n / 10 ^ k) ++ (if b then f.decimal ++ plain (last_digits k n) else [])) (sym test)
+    second
+    ∙ ap (λ t. t ++ t1) marked
+    ∙ ap (λ t. f.decimal ++ t) first
+    ∙ ap (λ (b : Bool). if b then f.decimal ++ plain (last_digits k n) else []) (sym test)
 
--- all of them have space in a buffer
-pub decimals_fit : (f : FormatData) (body mark t1 t2 : List ℕ) (n k s q r : ℕ) → s ≡ k → k ≤ 38 → n ≤ 2 ^ 127 → length f.separator ≤ 8 → length mark ≤ 8 → q ≡ n / 10 ^ k → body ≡ text_of f (pos q) →
-    t1 ≡ plain (last_digits s r) → t2 ≡ mark ++ t1 → length body + length t2 ≤ 191
-decimals_fit f body mark t1 t2 n k s q r same few small short marked quotient printed first second =
+-- the decimals, and the digits before them
+pub unsigned_text : (f : FormatData) (t1 t2 : List ℕ) (n k s q r : ℕ) → s ≡ k → q ≡ n / 10 ^ k → r ≡ n % 10 ^ k → t1 ≡ (if nat_lt 0 s then f.decimal ++ plain (last_digits s r) else []) → t2 ≡ body_of f q ++ t1 →
+    t2 ≡ body_of f (n / 10 ^ k) ++ (if nat_lt 0 k then f.decimal ++ plain (last_digits k n) else [])
+unsigned_text f t1 t2 n k s q r same quotient remainder first second =
+    second
+    ∙ ap (λ m. body_of f m ++ t1) quotient
+    ∙ ap (λ t. body_of f (n / 10 ^ k) ++ t) (
+    first
+    ∙ ap (λ j. if nat_lt 0 j then f.decimal ++ plain (last_digits j r) else []) same
+    ∙ ap (λ m. if nat_lt 0 k then f.decimal ++ plain (last_digits k m) else []) remainder
+    ∙ ap (λ ds. if nat_lt 0 k then f.decimal ++ plain ds else []) (last_digits-mod k n))
+
+-- the digits before the decimals, which have so much space
+pub whole_fits : (f : FormatData) (n k s q : ℕ) → s ≡ k → s ≤ 38 → n ≤ 2 ^ 127 → length f.separator ≤ 8 → q ≡ n / 10 ^ k → length (body_of f q) + s ≤ 183
+whole_fits f n k s q same few small short quotient =
     let below : n < 2 ^ 128 = omega arith in
-    let whole : body ≡ body_of f (n / 10 ^ k) = printed ∙ text_of_whole f q ∙ ap (λ m. body_of f m) quotient in
-    omega (arith, ap length whole, length-body f n k short below few, ap length second, length-append mark t1, ap length first, length-plain s r)
+    omega (arith, ap (λ m. length (body_of f m)) quotient, length-body f n k short below (omega arith))
 
 -- what is printed for the decimals: a digit 1 and then each of them
 pub printed_decimals : (k n one : ℕ) (text : List ℕ) → k ≤ 38 → n < 10 ^ k → one ≡ 10 ^ k → text ≡ decimal (one + n) → text ≡ 49 ∷ plain (last_digits k n)

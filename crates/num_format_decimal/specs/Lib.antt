@@ -1,7 +1,6 @@
 -- Numbers of a fixed number of decimals: their values, how they are rounded, and their texts.
 pub mod Comparing
 pub mod FixedPoint
-pub mod Kept
 pub mod Laws
 pub mod Marks
 pub mod Message

@@ -6,13 +6,12 @@ ghost use Rattle.num_format_decimal.specs.Text.{decimal_text};
 
 use crate::decimal::{Decimal, MAX_SCALE};
 use crate::powers::{narrow_power_of_ten, power_of_ten, split};
-use arrayvec::ArrayString;
 use num_format_int::Buffer;
-use num_format_int::buffer::MAX_BUF_LEN;
+use num_format_int::buffer::copy_bytes;
 use num_format_text::Format;
-use num_format_text::capacities::{MAX_MIN_LEN, MAX_SEP_LEN};
-use std::fmt;
+use num_format_text::capacities::{MAX_DEC_LEN, MAX_MIN_LEN, MAX_SEP_LEN};
 use std::marker::Model;
+use std::{fmt, str};
 
 /// The length in bytes of the longest text of a decimal: 39 digits, and 18 separators, a minus sign and a
 /// decimal mark of 8 bytes each.
@@ -21,30 +20,33 @@ pub const MAX_DECIMAL_LEN: usize = 199;
 /// The number of digits from which on a digit 1 before them makes a number of more than 64 bits.
 const NINETEEN_DIGITS: u8 = 19;
 
+/// The lowest number of four digits, which is the lowest that can have a separator.
+const FOUR_DIGITS: u128 = 1000;
+
 /// The text of a decimal, kept in place. A contract sees its bytes.
+///
+/// Its text ends where the array ends, as that of a [`Buffer`] does: the decimals are prepended first, then the mark,
+/// the digits before it, and the sign.
 ///
 /// ```text
 /// DecimalBuffer::of(&Decimal::new(-123450, 2)?, &Locale::de).as_str()     // -1.234,50
 /// ```
 #[derive(Drop)]
 pub struct DecimalBuffer {
-    text: Text,
+    inner: [u8; MAX_DECIMAL_LEN],
+    start: usize,
 }
 
 impl Model for DecimalBuffer {
-    ghost use Rattle.std.specs.Prelude.{ℕ, List};
-    ghost use Rattle.num_format_decimal.specs.Kept.{kept};
+    ghost use Rattle.std.specs.Prelude.{◌≡◌, ℕ, ◌≤◌, List, length, drop, IsUtf8};
+    ghost use Rattle.num_format_decimal.specs.declared.buffer.TheConstants.{MAX_DECIMAL_LEN};
 
     ghost Value = { List ℕ };
 
-    ghost view = { λ b. kept b.text };
-}
+    ghost view = { λ b. drop b.start b.inner };
 
-/// A text of up to 191 bytes, as each one without its minus sign is, or a longer one.
-#[derive(Drop)]
-pub(crate) enum Text {
-    Short(Buffer),
-    Long(ArrayString<MAX_DECIMAL_LEN>),
+    ghost invariant = { λ b. (b.start ≤ MAX_DECIMAL_LEN) × (length b.inner ≡ MAX_DECIMAL_LEN)
+        × ∥ IsUtf8 (drop b.start b.inner) ∥₁ };
 }
 
 impl DecimalBuffer {
@@ -61,14 +63,15 @@ impl DecimalBuffer {
     pub fn of<F: Format>(d: &Decimal, format: &F) -> DecimalBuffer
         ensures { result ≡ decimal_text (F.answers format.now) d.now }
     {
-        let text = without_sign(d, format);
+        let mut buffer = DecimalBuffer {
+            inner: [0; MAX_DECIMAL_LEN],
+            start: MAX_DECIMAL_LEN,
+        };
+        buffer.put_unsigned(d, format);
         if d.is_negative() {
-            with_sign(format.minus_sign().into_str(), text)
-        } else {
-            DecimalBuffer {
-                text: Text::Short(text),
-            }
+            buffer.put_front(format.minus_sign().into_str());
         }
+        buffer
     }
 
     /// Returns the text.
@@ -76,10 +79,7 @@ impl DecimalBuffer {
         ensures same { result.now ≡ self.now }
         ensures fits { length result.now ≤ MAX_DECIMAL_LEN }
     {
-        match &self.text {
-            Text::Short(text) => text.as_str(),
-            Text::Long(text) => text.as_str(),
-        }
+        unsafe { str::from_utf8_unchecked(&self.inner[self.start..]) }
     }
 
     /// Returns the bytes of the text.
@@ -91,47 +91,110 @@ impl DecimalBuffer {
     }
 }
 
-/// Returns the text with a minus sign before it.
-fn with_sign(minus_sign: &str, text: Buffer) -> DecimalBuffer
-    requires { length minus_sign.now ≤ MAX_MIN_LEN }
-    ensures { result ≡ minus_sign.now ++ text }
-{
-    if minus_sign.len() + text.len() <= MAX_BUF_LEN {
-        let mut short = text;
-        short.put_front(minus_sign);
-        return DecimalBuffer {
-            text: Text::Short(short),
-        };
+impl DecimalBuffer {
+    /// Prepends the text of a number without its sign to the empty text: the digits before the decimals, grouped as
+    /// the format says, and if there are decimals the decimal mark and each of them.
+    #[inline]
+    fn put_unsigned<F: Format>(&mut self, d: &Decimal, format: &F)
+        requires { self.old ≡ [] }
+        ensures text { self.new
+            ≡ body_of (F.answers format.now) (unsigned_abs d.now.units / 10 ^ d.now.scale)
+            ++ (if nat_lt 0 d.now.scale
+            then (F.answers format.now).decimal
+            ++ plain (last_digits d.now.scale (unsigned_abs d.now.units))
+            else []) }
+        ensures room { length self.new + MAX_MIN_LEN ≤ MAX_DECIMAL_LEN }
+    {
+        separator_fits(format);
+        let scale = d.scale();
+        let (whole, rest) = split(d.magnitude(), scale);
+        self.put_decimals(rest, scale, format);
+        self.put_whole(whole, format);
     }
-    let mut long = ArrayString::new();
-    long.push_str(minus_sign);
-    long.push_str(text.as_str());
-    DecimalBuffer {
-        text: Text::Long(long),
-    }
-}
 
-/// Returns the text of a number without its sign: the digits before the decimals, grouped as the format says,
-/// and if there are decimals the decimal mark and each of them.
-fn without_sign<F: Format>(d: &Decimal, format: &F) -> Buffer
-    ensures { result ≡ body_of (F.answers format.now) (unsigned_abs d.now.units / 10 ^ d.now.scale)
-        ++ (if nat_lt 0 d.now.scale
-        then (F.answers format.now).decimal
-        ++ plain (last_digits d.now.scale (unsigned_abs d.now.units))
-        else []) }
-{
-    separator_fits(format);
-    let scale = d.scale();
-    let (whole, rest) = split(d.magnitude(), scale);
-    let body = Buffer::of(&whole, format);
-    if scale == 0 {
-        return body;
+    /// Prepends the decimal mark and `count` decimals to the empty text, or nothing if there are none.
+    #[inline]
+    fn put_decimals<F: Format>(&mut self, n: u128, count: u8, format: &F)
+        requires empty { self.old ≡ [] }
+        requires count { count ≤ MAX_SCALE }
+        requires below { n < 10 ^ count }
+        ensures text { self.new
+            ≡ (if nat_lt 0 count then (F.answers format.now).decimal ++ plain (last_digits count n) else []) }
+        ensures room { length self.new ≤ count + MAX_DEC_LEN }
+    {
+        if count == 0 {
+            return;
+        }
+        self.put_digits(n, count);
+        self.put_front(format.decimal().into_str());
     }
-    let mut text = Buffer::new();
-    put_digits(rest, scale, &mut text);
-    text.put_front(format.decimal().into_str());
-    text.put_front(body.as_str());
-    text
+
+    /// Prepends the digits of `n`, grouped as the format says.
+    fn put_whole<F: Format>(&mut self, n: u128, format: &F)
+        requires { length (body_of (F.answers format.now) n) + length self.old ≤ MAX_DECIMAL_LEN }
+        ensures { self.new ≡ body_of (F.answers format.now) n ++ self.old }
+    {
+        if n < FOUR_DIGITS {
+            // There is no separator, so the format is not read.
+            let mut printed = itoa::Buffer::new();
+            self.put_front(printed.format(n as u64));
+            return;
+        }
+        let body = Buffer::of(&n, format);
+        self.put_front(body.as_str());
+    }
+
+    /// Prepends the digits of `n`, which has no more than `count`, leading zeros included, to the empty text.
+    #[inline]
+    fn put_digits(&mut self, n: u128, count: u8)
+        requires empty { self.old ≡ [] }
+        requires count { count ≤ MAX_SCALE }
+        requires below { n < 10 ^ count }
+        ensures { self.new ≡ plain (last_digits count n) }
+    {
+        if count < NINETEEN_DIGITS {
+            self.put_narrow_digits(n as u64, count);
+        } else {
+            self.put_wide_digits(n, count);
+        }
+    }
+
+    /// Prepends the same digits, where they and a digit 1 before them, which keeps leading zeros, are a number of 64
+    /// bits.
+    #[inline]
+    fn put_narrow_digits(&mut self, n: u64, count: u8)
+        requires empty { self.old ≡ [] }
+        requires count { count < NINETEEN_DIGITS }
+        requires below { n < 10 ^ count }
+        ensures { self.new ≡ plain (last_digits count n) }
+    {
+        let mut printed = itoa::Buffer::new();
+        let digits = printed.format(narrow_power_of_ten(count) + n);
+        self.put_front(&digits[1..count as usize + 1]);
+    }
+
+    /// Prepends the same digits, where that number takes more than 64 bits.
+    fn put_wide_digits(&mut self, n: u128, count: u8)
+        requires empty { self.old ≡ [] }
+        requires count { count ≤ MAX_SCALE }
+        requires below { n < 10 ^ count }
+        ensures { self.new ≡ plain (last_digits count n) }
+    {
+        let mut printed = itoa::Buffer::new();
+        let digits = printed.format(power_of_ten(count) + n);
+        self.put_front(&digits[1..count as usize + 1]);
+    }
+
+    /// Prepends a text.
+    #[inline(always)]
+    fn put_front(&mut self, text: &str)
+        requires { length text.now + length self.old ≤ MAX_DECIMAL_LEN }
+        ensures { self.new ≡ text.now ++ self.old }
+    {
+        let start = self.start - text.len();
+        copy_bytes(text.as_bytes(), &mut self.inner[start..self.start]);
+        self.start = start;
+    }
 }
 
 /// The separator of a format is within its capacity. The body is for what its calls promise.
@@ -139,45 +202,6 @@ fn separator_fits<F: Format>(format: &F)
     ensures { length (F.answers format.now).separator ≤ MAX_SEP_LEN }
 {
     format.separator().into_str();
-}
-
-/// Puts the digits of `n`, which has no more than `count`, leading zeros included, into an empty buffer.
-fn put_digits(n: u128, count: u8, text: &mut Buffer)
-    requires empty { text.old ≡ [] }
-    requires count { count ≤ MAX_SCALE }
-    requires below { n < 10 ^ count }
-    ensures { text.new ≡ plain (last_digits count n) }
-{
-    if count < NINETEEN_DIGITS {
-        put_narrow_digits(n as u64, count, text);
-    } else {
-        put_wide_digits(n, count, text);
-    }
-}
-
-/// Puts the same digits, where they and a digit 1 before them, which keeps leading zeros, are a number of 64 bits.
-#[inline]
-fn put_narrow_digits(n: u64, count: u8, text: &mut Buffer)
-    requires empty { text.old ≡ [] }
-    requires count { count < NINETEEN_DIGITS }
-    requires below { n < 10 ^ count }
-    ensures { text.new ≡ plain (last_digits count n) }
-{
-    let mut printed = itoa::Buffer::new();
-    let digits = printed.format(narrow_power_of_ten(count) + n);
-    text.put_front(&digits[1..count as usize + 1]);
-}
-
-/// Puts the same digits, where that number takes more than 64 bits.
-fn put_wide_digits(n: u128, count: u8, text: &mut Buffer)
-    requires empty { text.old ≡ [] }
-    requires count { count ≤ MAX_SCALE }
-    requires below { n < 10 ^ count }
-    ensures { text.new ≡ plain (last_digits count n) }
-{
-    let mut printed = itoa::Buffer::new();
-    let digits = printed.format(power_of_ten(count) + n);
-    text.put_front(&digits[1..count as usize + 1]);
 }
 
 impl fmt::Display for DecimalBuffer {

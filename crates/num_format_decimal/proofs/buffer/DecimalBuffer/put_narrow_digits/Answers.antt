@@ -1,9 +1,8 @@
 use Rattle.std.proofs.Common.{◌+◌, ◌++◌, ◌∙◌, append-nil, ap, arith, length}
 use Rattle.std.proofs.lemmas.Str.{IsCharBoundary-from_ascii}
-use Rattle.num_format_int.specs.Groups.{last_digits, plain}
 use Rattle.num_format_decimal.proofs.ScaleLemmas.{narrow_sum}
 use Rattle.num_format_decimal.proofs.TextLemmas.{cut_decimals, printed_length}
-use Rattle.num_format_decimal.proofs.buffer.put_narrow_digits.Goals as goal
+use Rattle.num_format_decimal.proofs.buffer.DecimalBuffer.put_narrow_digits.Goals as goal
 
 pub overflow_add-narrow_power_of_ten : goal.overflow_add-narrow_power_of_ten
 overflow_add-narrow_power_of_ten c = omega (arith, narrow_sum c.args.n c.args.count c.narrow_power_of_ten.result c.requires.count c.requires.below c.narrow_power_of_ten.ensures)
@@ -26,6 +25,7 @@ put_front-requires c =
 pub returns : goal.returns
 returns c =
     c.put_front.ensures
-    ∙ ap (λ t. t ++ c.args.text.now) (c.range.ensures.value ∙ cut_decimals c.args.count c.args.n c.narrow_power_of_ten.result c.format-digits.result.now (omega (arith, c.requires.count)) c.requires.below c.narrow_power_of_ten.ensures c.format-digits.ensures.text)
-    ∙ ap (λ t. plain (last_digits c.args.count c.args.n) ++ t) c.requires.empty
-    ∙ append-nil (plain (last_digits c.args.count c.args.n))
+    ∙ ap (λ t. c.range.result.now ++ t) c.requires.empty
+    ∙ append-nil c.range.result.now
+    ∙ c.range.ensures.value
+    ∙ cut_decimals c.args.count c.args.n c.narrow_power_of_ten.result c.format-digits.result.now (omega (arith, c.requires.count)) c.requires.below c.narrow_power_of_ten.ensures c.format-digits.ensures.text

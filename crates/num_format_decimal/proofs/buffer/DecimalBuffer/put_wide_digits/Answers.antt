@@ -1,8 +1,7 @@
 use Rattle.std.proofs.Common.{◌+◌, ◌++◌, ◌∙◌, append-nil, ap, arith, length}
 use Rattle.std.proofs.lemmas.Str.{IsCharBoundary-from_ascii}
-use Rattle.num_format_int.specs.Groups.{last_digits, plain}
 use Rattle.num_format_decimal.proofs.TextLemmas.{cut_decimals, printed_length}
-use Rattle.num_format_decimal.proofs.buffer.put_wide_digits.Goals as goal
+use Rattle.num_format_decimal.proofs.buffer.DecimalBuffer.put_wide_digits.Goals as goal
 
 pub range-requires-clause-end_boundary : goal.range-requires-clause-end_boundary
 range-requires-clause-end_boundary c =
@@ -22,6 +21,7 @@ put_front-requires c =
 pub returns : goal.returns
 returns c =
     c.put_front.ensures
-    ∙ ap (λ t. t ++ c.args.text.now) (c.range.ensures.value ∙ cut_decimals c.args.count c.args.n c.power_of_ten.result c.format-digits.result.now (omega (arith, c.requires.count)) c.requires.below c.power_of_ten.ensures.power c.format-digits.ensures.text)
-    ∙ ap (λ t. plain (last_digits c.args.count c.args.n) ++ t) c.requires.empty
-    ∙ append-nil (plain (last_digits c.args.count c.args.n))
+    ∙ ap (λ t. c.range.result.now ++ t) c.requires.empty
+    ∙ append-nil c.range.result.now
+    ∙ c.range.ensures.value
+    ∙ cut_decimals c.args.count c.args.n c.power_of_ten.result c.format-digits.result.now (omega (arith, c.requires.count)) c.requires.below c.power_of_ten.ensures.power c.format-digits.ensures.text
