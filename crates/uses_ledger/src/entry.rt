@@ -99,6 +99,7 @@ pub fn read_entries<'a, F: Format>(
     }
     let mut entries = Vec::new(alloc);
     for line in text.lines() {
+        // A `?` on a value that holds both a `&str` and a `Decimal` gets no proof.
         let entry = match parse_entry(line, format) {
             Ok(entry) => entry,
             Err(error) => return Err(error),

@@ -3,6 +3,7 @@ ghost use Rattle.std.specs.Prelude.{◌≡◌, length, replicate, Err, IfOk, IfE
 ghost use Rattle.std.specs.Io.KnownBytes.{Appends};
 ghost use Rattle.num_format.specs.Writing.{StopsWithin};
 ghost use Rattle.num_format_decimal.specs.FixedPoint.{fixed_point};
+ghost use Rattle.num_format_decimal.specs.Text.{decimal_text};
 ghost use Rattle.uses_ledger.specs.Entry.{IsOfOneScale};
 ghost use Rattle.uses_ledger.specs.Report.{Fails, HasLargeSum, line_of, lines_of, on_left, on_right, report_of, sum_of, units_of, width, widths_of};
 ghost use Rattle.uses_ledger.specs.declared.entry.LedgerError.TheVariants.{TotalTooLarge};
@@ -83,18 +84,21 @@ impl Widths {
         ensures { result ≡ widths_of (F.answers format.now) entries.now }
     {
         let names = entries.iter().map(|entry| width(entry.name));
-        let amounts = entries.iter().map(|entry| width(DecimalBuffer::of(
-            &entry.amount,
-            format,
-        ).as_str()));
+        let amounts = entries
+            .iter()
+            .map(|entry| amount_width(&entry.amount, format));
         Widths {
             name: names.max().unwrap_or(0).max(width("total")),
-            amount: amounts
-                .max()
-                .unwrap_or(0)
-                .max(width(DecimalBuffer::of(sum, format).as_str())),
+            amount: amounts.max().unwrap_or(0).max(amount_width(sum, format)),
         }
     }
+}
+
+/// Returns the number of characters of the text of an amount.
+fn amount_width<F: Format>(amount: &Decimal, format: &F) -> usize
+    ensures { result ≡ width (decimal_text (F.answers format.now) amount.now) }
+{
+    width(DecimalBuffer::of(amount, format).as_str())
 }
 
 /// Returns the number of characters of a text.
@@ -167,7 +171,7 @@ fn write_on_right<W: Write>(text: &str, column: usize, w: &mut W) -> io::Result<
     Ok(())
 }
 
-/// Writes that many spaces.
+/// Writes that many spaces. The contract of `write!` does not say what a writer received before an error.
 fn write_spaces<W: Write>(count: usize, w: &mut W) -> io::Result<()>
     ensures whole { OnOk result (Appends (W.contents w.old) (W.contents w.new) (replicate count 32)) }
     ensures prefix { OnErr result (StopsWithin (W.contents w.old) (W.contents w.new)

@@ -4,7 +4,7 @@ use Rattle.std.proofs.lemmas.Iterator.Consumers.{reduce_from_yields_List}
 use Rattle.std.proofs.lemmas.List.Folds.{max_of_map}
 use Rattle.std.specs.Prelude.{max, unwrap_or}
 use Rattle.num_format_decimal.specs.Text.{decimal_text}
-use Rattle.uses_ledger.specs.Report.{sum_of, widest, width, widths_of}
+use Rattle.uses_ledger.specs.Report.{widest, width, widths_of}
 use Rattle.uses_ledger.specs.declared.entry.Entry.{Entry}
 use Rattle.uses_ledger.specs.declared.report.Widths.{Widths}
 use Rattle.uses_ledger.proofs.report.Widths.of.Goals as goal
@@ -26,8 +26,7 @@ returns g c =
     c.unwrap_or-2.ensures ∙ ap (λ o. unwrap_or o 0) (reduce_from_yields_List _ c.map-amounts.result _ c.max-3.ensures.ran
     (YieldsList-from_map _ amount_width (YieldsList-from_slice es (cc)) c.map-amounts.ensures.closure (λ x b q k. search (rules, tests)))) ∙ max_of_map amount_width es in
     let name : c.max-2.result ≡ (widths_of f es).name = c.max-2.ensures ∙ ap (λ w. max w c.width.result) names ∙ ap (max (widest (λ e. e.name.now) es)) c.width.ensures in
-    let sum : c.width-2.result ≡ width (decimal_text f (sum_of es)) =
-    c.width-2.ensures ∙ ap width (c.as_str.ensures.same ∙ c.of.ensures ∙ ap (decimal_text f) c.requires) in
     let amount : c.max-4.result ≡ (widths_of f es).amount =
-    c.max-4.ensures ∙ ap (λ w. max w c.width-2.result) amounts ∙ ap (max (widest (λ e. decimal_text f e.amount) es)) sum in
+    c.max-4.ensures ∙ ap (λ w. max w c.amount_width.result) amounts
+    ∙ ap (max (widest (λ e. decimal_text f e.amount) es)) (c.amount_width.ensures ∙ ap (λ sum. width (decimal_text f sum)) c.requires) in
     same_widths _ _ (widths_of f es) name amount
