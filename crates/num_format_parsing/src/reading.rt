@@ -1,5 +1,5 @@
 //! Strict parsing of most texts in one pass: of digits, alone or in groups with a separator between them.
-ghost use Rattle.std.specs.Prelude.{◌≡◌, ℕ, List, ◌+◌, ◌<◌, ◌≤◌, [], true, false, length, take, drop, slice_index, IsTrue, IsUtf8, MatchOption, MatchResult};
+ghost use Rattle.std.specs.Prelude.{◌≡◌, ℕ, List, ◌+◌, ◌<◌, ◌≤◌, [], true, false, length, take, drop, slice_index, IsTrue, IsUtf8, IfSome, MatchOption, MatchResult};
 ghost use Rattle.std.specs.Char.{is_ascii, is_ascii_digit};
 ghost use Rattle.std.specs.List.{list_all, list_any};
 ghost use Rattle.std.specs.Str.{chars};
@@ -75,20 +75,51 @@ pub(crate) fn read_text<F: Format>(text: &[u8], sign: &str, most: usize, format:
     if first.end == text.len() {
         return spelled(first, most, sign, "");
     }
+    read_grouped(text, sign, first.end, first.magnitude, most, format)
+}
+
+/// Returns the same of a text whose first digits, up to `end`, write `magnitude`, if they are few, and do not
+/// end it.
+///
+/// It is a function of its own, so that digits alone are read without its space.
+#[inline(never)]
+fn read_grouped<F: Format>(
+    text: &[u8],
+    sign: &str,
+    end: usize,
+    magnitude: u64,
+    most: usize,
+    format: &F,
+) -> Reading
+    requires sign { IsPlainStart (F.answers format.now) text.now (length sign.now) }
+    requires same { sign.now ≡ take (length sign.now) text.now }
+    requires begin { BeginsWithDigit (drop (length sign.now) text.now) }
+    requires read { HasReadDigits text.now (length sign.now) end 0 magnitude }
+    requires inside { end < length text.now }
+    requires stop { is_ascii_digit (slice_index text.now end) ≡ false }
+    requires few { most ≤ SAFE_FIGURES }
+    ensures { HasReading (F.answers format.now) text.now most result }
+{
+    let start = sign.len();
     let Some(groups) = groups_of(format.grouping()) else {
-        return Reading::Unspelled { place: first.end };
+        return Reading::Unspelled { place: end };
     };
     let separator = format.separator().into_str();
     let bytes = separator.as_bytes();
     if bytes.is_empty() {
-        return Reading::Unspelled { place: first.end };
+        return Reading::Unspelled { place: end };
     }
     if has_digit(bytes) {
         return Reading::Unknown;
     }
     if text.len() - start < groups.least + bytes.len() {
-        return Reading::Unspelled { place: first.end };
+        return Reading::Unspelled { place: end };
     }
+    let first = Part {
+        end,
+        figures: end - start,
+        magnitude,
+    };
     match read_groups(text, start, first, bytes, groups) {
         Ok(whole) => spelled(whole, most, sign, separator),
         Err(place) => Reading::Unspelled { place },
@@ -138,7 +169,7 @@ fn spelled(whole: Part, most: usize, sign: &str, separator: &str) -> Reading
 }
 
 /// Returns whether a character is numeric and none of the digits `0` to `9`. Most texts are ASCII, and have
-/// none.
+/// none of those.
 #[inline]
 fn has_other_numeral(text: &str) -> bool
     ensures { result ≡ list_any is_other_numeral (chars text.now) }
@@ -146,6 +177,14 @@ fn has_other_numeral(text: &str) -> bool
     if is_ascii(text.as_bytes()) {
         return false;
     }
+    any_other_numeral(text)
+}
+
+/// Returns the same, character by character. It stays out of what is read of a text in ASCII.
+#[inline(never)]
+fn any_other_numeral(text: &str) -> bool
+    ensures { result ≡ list_any is_other_numeral (chars text.now) }
+{
     text.chars().any(is_other_numeral)
 }
 
@@ -215,23 +254,43 @@ fn read_digits(text: &[u8], from: Part, end: usize) -> Part
     part
 }
 
-/// Returns the part of a text with the digits that follow it, at most `count`.
-///
-/// The loop over a constant number of digits is unrolled where the code is compiled.
+/// Returns the number with the digit at a place appended to its digits, or `None` if no digit is there.
 #[inline]
-fn read_count(text: &[u8], from: Part, count: usize) -> Part
-    requires within { from.end + count ≤ length text.now }
-    requires figures { from.figures ≤ from.end }
-    ensures read { HasReadDigits text.now from.end result.end from.magnitude result.magnitude }
-    ensures within { result.end ≤ from.end + count }
-    ensures figures { result.figures + from.end ≡ from.figures + result.end }
-    ensures stop { result.end < from.end + count → is_ascii_digit (slice_index text.now result.end) ≡ false }
+fn push_at(text: &[u8], place: usize, magnitude: u64) -> Option<u64>
+    requires { place < length text.now }
+    ensures { IfSome result (λ more. (start n : ℕ) → HasReadDigits text.now start place n magnitude
+        → HasReadDigits text.now start (place + 1) n more) }
 {
-    match count {
-        3 => read_digits(text, from, from.end + 3),
-        2 => read_digits(text, from, from.end + 2),
-        _ => read_digits(text, from, from.end + count),
+    let byte = text[place];
+    if !byte.is_ascii_digit() {
+        return None;
     }
+    let tenfold = magnitude.wrapping_mul(10);
+    Some(tenfold.wrapping_add((byte - b'0') as u64))
+}
+
+/// Returns the number with the `count` digits from a place on appended to its digits. It may return `None`
+/// for any text, and does so if they are no digits.
+///
+/// It has no loop, since most groups are this short.
+#[inline]
+fn push_few(text: &[u8], place: usize, count: usize, magnitude: u64) -> Option<u64>
+    requires { place + count ≤ length text.now }
+    ensures { IfSome result (λ more. HasReadDigits text.now place (place + count) magnitude more) }
+{
+    if count < 2 {
+        return None;
+    }
+    let one = push_at(text, place, magnitude)?;
+    let two = push_at(text, place + 1, one)?;
+    if count == 2 {
+        return Some(two);
+    }
+    let three = push_at(text, place + 2, two)?;
+    if count == 3 {
+        return Some(three);
+    }
+    None
 }
 
 /// Returns the part of a text with the separator and the `count` digits that follow it, or the place where
@@ -249,13 +308,23 @@ fn read_group(text: &[u8], from: Part, separator: &[u8], count: usize) -> Result
     if !begins_with(&text[from.end..], separator) {
         return Err(from.end);
     }
+    let place = from.end + separator.len();
+    let end = place + count;
+    if let Some(magnitude) = push_few(text, place, count, from.magnitude) {
+        let figures = from.figures + count;
+        return Ok(Part {
+            end,
+            figures,
+            magnitude,
+        });
+    }
     let behind = Part {
-        end: from.end + separator.len(),
+        end: place,
         figures: from.figures,
         magnitude: from.magnitude,
     };
-    let part = read_count(text, behind, count);
-    if part.end != behind.end + count {
+    let part = read_digits(text, behind, end);
+    if part.end != end {
         return Err(part.end);
     }
     Ok(part)

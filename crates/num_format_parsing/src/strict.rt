@@ -156,6 +156,7 @@ fn cause<F: Format>(bytes: &[u8], is_text: bool, place: usize, format: &F) -> St
 
 /// Returns why bytes are refused that are not UTF-8, have an unexpected byte, or no digit. Up to the place
 /// they are the minus sign, digits and whole separators.
+#[inline]
 fn first_cause<F: Format>(
     bytes: &[u8],
     is_text: bool,

@@ -9,14 +9,14 @@ pub returns-then-not-begins_with : goal.returns-then-not-begins_with
 returns-then-not-begins_with c =
     without_separator refl (ap (begins c.args.separator.now) (sym (take_rest c.args.text.now c.args.from.end)) ∙ sym c.begins_with.ensures ∙ c.if-not-begins_with.true)
 
-pub returns-then-part-behind : goal.returns-then-part-behind
-returns-then-part-behind c =
+pub returns-then-part-end : goal.returns-then-part-end
+returns-then-part-end c =
     let text = c.args.text.now in
     let start = c.args.from.end in
     let s = c.args.separator.now in
-    let read = c.read_count-part.ensures in
+    let read = c.read_digits-part.ensures in
     let begin : begins s (drop start text) ≡ true = ap (begins s) (sym (take_rest text start)) ∙ sym c.begins_with.ensures ∙ c.if-not-begins_with.false in
-    let early : c.read_count-part.result.end < start + length s + c.args.count = omega (arith, read.within, c.if-part-behind.true) in
+    let early : c.read_digits-part.result.end < start + length s + c.args.count = omega (arith, read.within, c.if-part-end.true) in
     without_digit (start + length s) (ends-separator s text start begin) read.read.order early (omega (arith, early, c.requires.room)) read.read.digits (read.stop early)
 
 pub returns : goal.returns
@@ -24,13 +24,28 @@ returns c =
     let text = c.args.text.now in
     let start = c.args.from.end in
     let s = c.args.separator.now in
-    let read = c.read_count-part.ensures in
+    let read = c.read_digits-part.ensures in
     let begin : begins s (drop start text) ≡ true = ap (begins s) (sym (take_rest text start)) ∙ sym c.begins_with.ensures ∙ c.if-not-begins_with.false in (
       record {
         behind = start + length s;
         separator = ends-separator s text start begin;
-        long = c.if-part-behind.false;
+        long = c.if-part-end.false;
         read = read.read;
       },
-      omega (arith, read.figures, c.if-part-behind.false),
+      omega (arith, read.figures, c.if-part-end.false),
+    )
+
+pub returns-in-Some : goal.returns-in-Some
+returns-in-Some c =
+    let text = c.args.text.now in
+    let start = c.args.from.end in
+    let s = c.args.separator.now in
+    let begin : begins s (drop start text) ≡ true = ap (begins s) (sym (take_rest text start)) ∙ sym c.begins_with.ensures ∙ c.if-not-begins_with.false in (
+      record {
+        behind = start + length s;
+        separator = ends-separator s text start begin;
+        long = refl;
+        read = c.in-Some.ensures;
+      },
+      refl,
     )
