@@ -53,6 +53,9 @@ pub const C_PRINTING: [(&str, u8); 3] = [
 /// Reading through C, which is compared with reading.
 pub const C_READING: &str = "through C, read";
 
+/// The code of printing by `Buffer::of`, beside which decimals are printed.
+const BUFFER_OF: u8 = 5;
+
 /// The operation that groupings are compared by.
 const USED_BUFFER: &str = "used Buffer";
 
@@ -536,8 +539,8 @@ fn measure_strict_refusing<N: Number>(name: &str, texts: &Texts, causes: &[Cause
     }
 }
 
-/// Measures printing of decimals into a new buffer beside whole numbers of the same digits, and beside
-/// `rust_decimal`.
+/// Measures printing of decimals by `DecimalBuffer::of` beside `Buffer::of` of whole numbers of the same digits,
+/// and beside `rust_decimal`.
 fn measure_printing_decimals(
     name: &str,
     units: &[i128],
@@ -549,7 +552,7 @@ fn measure_printing_decimals(
     let theirs = decimals::of_rust_decimal(units, scale);
     let (units, format) = (black_box(units), format.code);
     let mut port = || _ = black_box(rattle::print_decimals(units, scale, black_box(format)));
-    let mut whole = || _ = black_box(rattle::print(units, 1, black_box(format)));
+    let mut whole = || _ = black_box(rattle::print(units, BUFFER_OF, black_box(format)));
     let Some(theirs) = theirs else {
         let [port, reference] = best(units.len(), [&mut port, &mut whole]);
         return Times {

@@ -10,20 +10,22 @@ use num_format_decimal::{Decimal, DecimalBuffer};
 use std::alloc::Global;
 use std::str::from_utf8_unchecked;
 
-/// Prints one decimal into a new buffer.
+/// Prints one decimal into a new buffer, in place of the last one.
 #[inline(never)]
-fn print_one<F: Format>(decimal: &Decimal, format: &F) -> DecimalBuffer {
-    DecimalBuffer::of(decimal, format)
+fn print_one<F: Format>(buffer: &mut DecimalBuffer, decimal: &Decimal, format: &F) {
+    *buffer = DecimalBuffer::of(decimal, format);
 }
 
 /// Prints the decimals of the units at a scale and passes each text on, and returns whether the scale is
 /// one and memory sufficed.
 fn print_each<F: Format, K: Sink>(units: &[Halves], scale: u8, format: &F, sink: &mut K) -> bool {
+    let mut buffer = DecimalBuffer::of(&Decimal::from(0u8), format);
     for halves in units {
         let Ok(decimal) = Decimal::new(i128::from(*halves), scale) else {
             return false;
         };
-        if !sink.receive(print_one(&decimal, format).as_bytes()) {
+        print_one(&mut buffer, &decimal, format);
+        if !sink.receive(buffer.as_bytes()) {
             return false;
         }
     }
