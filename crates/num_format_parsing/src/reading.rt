@@ -295,7 +295,7 @@ fn push_few(text: &[u8], place: usize, count: usize, magnitude: u64) -> Option<u
 
 /// Returns the part of a text with the separator and the `count` digits that follow it, or the place where
 /// they do not.
-#[inline]
+#[inline(always)]
 fn read_group(text: &[u8], from: Part, separator: &[u8], count: usize) -> Result<Part, usize>
     requires room { from.end + length separator.now + count ≤ length text.now }
     requires figures { from.figures ≤ from.end }
@@ -332,7 +332,7 @@ fn read_group(text: &[u8], from: Part, separator: &[u8], count: usize) -> Result
 
 /// Returns the whole text, if groups of digits follow the first part, which may have fewer digits than a
 /// group, or the place where they do not.
-#[inline]
+#[inline(always)]
 fn read_groups(
     text: &[u8],
     start: usize,
