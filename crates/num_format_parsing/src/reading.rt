@@ -295,7 +295,9 @@ fn push_few(text: &[u8], place: usize, count: usize, magnitude: u64) -> Option<u
 
 /// Returns the part of a text with the separator and the `count` digits that follow it, or the place where
 /// they do not.
-#[inline]
+///
+/// It is inlined, so that a part stays in registers.
+#[inline(always)]
 fn read_group(text: &[u8], from: Part, separator: &[u8], count: usize) -> Result<Part, usize>
     requires room { from.end + length separator.now + count ≤ length text.now }
     requires figures { from.figures ≤ from.end }
@@ -318,6 +320,7 @@ fn read_group(text: &[u8], from: Part, separator: &[u8], count: usize) -> Result
             magnitude,
         });
     }
+    // A longer group, or one with a byte that is no digit, whose place is wanted.
     let behind = Part {
         end: place,
         figures: from.figures,
@@ -332,7 +335,9 @@ fn read_group(text: &[u8], from: Part, separator: &[u8], count: usize) -> Result
 
 /// Returns the whole text, if groups of digits follow the first part, which may have fewer digits than a
 /// group, or the place where they do not.
-#[inline]
+///
+/// It is inlined for the same reason.
+#[inline(always)]
 fn read_groups(
     text: &[u8],
     start: usize,
