@@ -592,8 +592,7 @@ fn measure_reading_decimals(
     };
     let mut whole = || {
         let (texts, format) = (&wholes, black_box(format.code));
-        let accepted =
-            rattle::read_strictly(&texts.text, &texts.lengths, format, &mut read_wholes);
+        let accepted = rattle::read_strictly(&texts.text, &texts.lengths, format, &mut read_wholes);
         assert_eq!(accepted, BATCH as u64, "{name}");
     };
     let (times, floor) = match theirs {

@@ -1,9 +1,9 @@
 -- The length of a decimal's text, and its decimals.
-use Rattle.std.proofs.Common.{◌≡◌, ℕ, zero, suc, ◌+◌, ◌-◌, ◌/◌, ◌%◌, ◌^◌, ◌<◌, ◌≤◌, true, false, List, [], ◌∷◌, ◌++◌, length, drop, take, refl, ap, ◌∙◌, sym, arith, Bool, inl, inr, append-nil, append_assoc, length-append, pos, unsigned_abs}
+use Rattle.std.proofs.Common.{◌≡◌, ℕ, zero, suc, ◌+◌, ◌-◌, ◌/◌, ◌%◌, ◌^◌, ◌<◌, ◌≤◌, true, false, List, [], ◌∷◌, ◌++◌, length, drop, take, refl, ap, ◌∙◌, sym, arith, Bool, inl, inr, length-append, pos, unsigned_abs}
 use Rattle.std.specs.Prelude.{nat_lt, if◌then◌else◌}
 use Rattle.std.specs.Fmt.{decimal}
 use Rattle.std.specs.Int.{is_negative}
-use Rattle.std.proofs.Math.Nat.{mul-le-mul, div-eq_of_lt, mod-lt}
+use Rattle.std.proofs.Math.Nat.{mul-le-mul, div-eq_of_lt}
 use Rattle.std.proofs.lemmas.List.{length-map, take_rest}
 use Rattle.std.proofs.lemmas.Bool.{cases_lt}
 use Rattle.std.proofs.lemmas.Bool.Decides.{nat_tests}
@@ -18,7 +18,7 @@ use Rattle.num_format_int.proofs.DigitLemmas.{decimal-digits, digits-leading_one
 use Rattle.num_format_int.proofs.GroupedLemmas.{grouped-short, length-grouped}
 use Rattle.num_format_decimal.specs.FixedPoint.{FixedPoint}
 use Rattle.num_format_decimal.specs.Text.{decimal_text}
-use Rattle.num_format_decimal.proofs.ScaleLemmas.{power_le, power_positive}
+use Rattle.num_format_decimal.proofs.ScaleLemmas.{power_le}
 
 -- after a digit 1, the decimals keep their leading zeros
 pub decimals_after_one : (k part : ℕ) → k ≤ 38 → part < 10 ^ k → decimal (10 ^ k + part) ≡ 49 ∷ plain (last_digits k part)

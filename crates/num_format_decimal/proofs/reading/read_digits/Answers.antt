@@ -1,4 +1,4 @@
-use Rattle.std.proofs.Common.{◌-◌, ◌≤◌, get_or, arith}
+use Rattle.std.proofs.Common.{◌-◌, get_or, arith}
 use Rattle.num_format_decimal.proofs.ReadLemmas.{digit_at, digit_bounds, more_digits, more_fits, more_small}
 use Rattle.num_format_decimal.proofs.reading.read_digits.Goals as goal
 
