@@ -6,7 +6,7 @@ ghost use Rattle.std.specs.Prelude.{◌≡◌};
 ghost use Rattle.num_format_text.specs.Cut.{CutLaw};
 ghost use Rattle.num_format_text.specs.Equality.{EqualityLaw, HashLaw};
 ghost use Rattle.num_format_text.specs.Format.{capacities};
-ghost use Rattle.num_format_text.specs.Refusal.{refusal_of};
+ghost use Rattle.num_format_text.specs.Refusal.{ErrorHashLaw, refusal_of};
 
 use crate::bounded_string::BoundedString;
 use crate::error::Error;
@@ -55,8 +55,10 @@ pub fn stored_texts<const CAP: usize>()
 {}
 
 /// Two errors are equal by `==` exactly if they have the same kind, with the same lengths or the same
-/// kept text, and so have an error and its clone.
+/// kept text, and so have an error and its clone. Different ones are hashed differently.
 pub fn errors()
     ensures kinds { EqualityLaw refusal_of ⟦<ErrorKind as PartialEq>⟧.eq ⟦<ErrorKind as Clone>⟧.is_clone ⟦<ErrorKind as Clone>⟧.is_infallible }
     ensures errors { EqualityLaw refusal_of ⟦<Error as PartialEq>⟧.eq ⟦<Error as Clone>⟧.is_clone ⟦<Error as Clone>⟧.is_infallible }
+    ensures hashed_kinds { ErrorHashLaw ⟦<ErrorKind as Hash>⟧.hash_input }
+    ensures hashed_errors { ErrorHashLaw ⟦<Error as Hash>⟧.hash_input }
 {}
