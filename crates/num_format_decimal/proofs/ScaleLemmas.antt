@@ -2,7 +2,7 @@
 use Rattle.std.proofs.Common.{◌≡◌, ℕ, zero, suc, ◌+◌, ◌-◌, ◌*◌, ◌/◌, ◌%◌, ◌^◌, ◌<◌, ◌≤◌, Bool, true, false, refl, ap, ◌∙◌, sym, subst, inl, inr, arith, ℤ, pos, negsuc, unsigned_abs}
 use Rattle.std.specs.Prelude.{◌+ℤ◌, ◌-ℤ◌, ◌*ℤ◌, ◌≤ℤ◌, neg_ℤ, not, FitsSigned, ◌≢◌, if◌then◌else◌}
 use Rattle.std.specs.Int.{cast_signed, is_negative, w128, IsNonZero, NotMinOverMinusOne}
-use Rattle.std.proofs.Math.Nat.{div-eq_of_lt, div-lt_self, div-one, mod-eq_of_lt, mod-lt, mod-one, mul-mod_left, one-le-pow, pow-le-pow_right, pow-suc, zero-mod}
+use Rattle.std.proofs.Math.Nat.{div-eq_of_lt, div-lt_self, div-mul-le_self, div-one, mod-eq-sub-div-mul, mod-eq_of_lt, mod-lt, mod-one, mul-mod_left, one-le-pow, pow-le-pow_right, pow-suc, zero-mod}
 use Rattle.std.proofs.lemmas.Bool.{cases_lt}
 use Rattle.std.proofs.lemmas.Bool.Decides.{nat_tests}
 use Rattle.std.proofs.lemmas.Int.{ints, to_z_pos}
@@ -236,3 +236,10 @@ pub rescaled_too_large : (mode : Rounding) (d : FixedPoint) (scale m n q : ℕ) 
     ¬ (HasUnits (fixed_point (signed_number s q) scale)) → ¬ (HasUnits (rescaled mode d scale))
 rescaled_too_large mode d scale m n q s sign first second rounded large fits =
     large (subst (λ x. HasUnits x) (sym (rescaled_from mode d scale m n q s sign first second rounded)) fits)
+
+-- a quotient times the divisor, and what is left of a number
+pub quotient_times : (n m : ℕ) → n / m * m ≤ n
+quotient_times n m = div-mul-le_self n m
+
+pub less_quotient : (n m : ℕ) → n % m ≡ n - n / m * m
+less_quotient n m = mod-eq-sub-div-mul n m

@@ -140,7 +140,9 @@ impl DecimalBuffer {
             self.put_front(printed.format(n as u64));
             return;
         }
-        let body = Buffer::of(&n, format);
+        // `Buffer::of` would copy the whole array once more.
+        let mut body = Buffer::new();
+        body.write_formatted(&n, format);
         self.put_front(body.as_str());
     }
 

@@ -70,8 +70,7 @@ pub(crate) fn split(n: u128, scale: u8) -> (u128, u128)
 {
     // A division of 128 bits is a call, so 64 are used where they are enough.
     if n > u64::MAX as u128 {
-        let one = power_of_ten(scale);
-        (n / one, n % one)
+        divide(n, power_of_ten(scale))
     } else if scale < TWENTY_DIGITS {
         let (whole, rest) = split_narrow(n as u64, scale);
         (whole as u128, rest as u128)
@@ -80,7 +79,18 @@ pub(crate) fn split(n: u128, scale: u8) -> (u128, u128)
     }
 }
 
-/// Returns the same of a number of 64 bits. A division by a number that is known where the code is compiled takes
+/// Returns a number divided by another, and what is left, by one division.
+#[tactic(auto, using(crate::proofs::ScaleLemmas::quotient_times, crate::proofs::ScaleLemmas::less_quotient))]
+fn divide(n: u128, one: u128) -> (u128, u128)
+    requires { 0 < one }
+    ensures whole { result.0 ≡ n / one }
+    ensures rest { result.1 ≡ n % one }
+{
+    let whole = n / one;
+    (whole, n - whole * one)
+}
+
+/// Returns the same as [`split`] of a number of 64 bits. A division by a number that is known where the code is compiled takes
 /// a few multiplications.
 #[tactic(auto, using(crate::proofs::ScaleLemmas::power_positive))]
 fn split_narrow(n: u64, scale: u8) -> (u64, u64)
