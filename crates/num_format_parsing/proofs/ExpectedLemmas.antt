@@ -158,12 +158,12 @@ lacks-read s text start count place some plain_separator within (without_digit b
     (omega arith, unread-separator s text start behind some found ∙ unread-between s text behind place plain_separator order all)
 
 -- groups were read up to a place: these digits, and what has to follow
-pub record HasReadSome (last size : ℕ) (s text : List ℕ) (start end count n : ℕ) : Type 0 where
+pub record HasReadSome (most last size : ℕ) (s text : List ℕ) (start end count n : ℕ) : Type 0 where
   pub within : end ≤ length text
   pub left : List ℕ
   pub below : AreDigits left
   pub figures : count ≡ length left
-  pub number : WriteFew left n
+  pub number : WriteFew most left n
   pub spelled : (is_due : ℕ → Bool) → HasGroups is_due size → (right : List ℕ) → BeginsWithSeparator is_due s right (drop end text) → drop start text ≡ separated is_due s (left ++ right)
   pub rest : unread s 0 (drop start text) ≡ unread s 0 (drop end text)
   pub next : (is_due : ℕ → Bool) → HasOnlyGroups is_due last size → (ds : List ℕ) → AreDigits ds → drop start text ≡ separated is_due s ds → HasNext is_due last size s (drop end text)
@@ -181,8 +181,8 @@ due-first is_due s ds text start end some plain_separator below order inside all
         subst (λ r. IsDue is_due s ds (x ∷ xs) r) (sym front) (due-there is_due s ds xs t x b some plain_separator below all other (same ∙ ap (λ r. (x ∷ xs) ++ r) front))
 
 -- the first digits
-pub some-first : (last size : ℕ) (s text : List ℕ) (start end count n : ℕ) → 0 < length s → byte_figures s ≡ [] → 0 < size → HasReadDigits text start end 0 n → start < end → end < length text → end - start ≤ size →
-    is_ascii_digit (get_or text end 0) ≡ false → count + start ≡ end → HasReadSome last size s text start end count n
+pub some-first : {most : ℕ} (last size : ℕ) (s text : List ℕ) (start end count n : ℕ) → 0 < length s → byte_figures s ≡ [] → 0 < size → HasReadDigits most text start end 0 n → start < end → end < length text → end - start ≤ size →
+    is_ascii_digit (get_or text end 0) ≡ false → count + start ≡ end → HasReadSome most last size s text start end count n
 some-first last size s text start end count n some plain_separator given read order inside few other counted =
     let here = digits-split text start end read.order read.within read.digits in
     let figures = figures_between text start end in
@@ -212,14 +212,14 @@ lacks-first last size s text start end some plain_separator given order inside a
 }
 
 -- a separator and digits after it
-group-split : (s text : List ℕ) (start end count n more : ℕ) → (read : HasReadGroup s text start end count n more) → drop start text ≡ s ++ (plain (figures_between text read.behind end) ++ drop end text)
+group-split : {most : ℕ} (s text : List ℕ) (start end count n more : ℕ) → (read : HasReadGroup most s text start end count n more) → drop start text ≡ s ++ (plain (figures_between text read.behind end) ++ drop end text)
 group-split s text start end count n more read =
     let here = digits-split text read.behind end read.read.order read.read.within read.read.digits in
     read.separator.text ∙ ap (λ xs. s ++ xs) here.split
 
 -- one group more
-pub some-more : (last size : ℕ) (s text : List ℕ) (start end count n new more : ℕ) → 0 < length s → byte_figures s ≡ [] → 0 < size → HasReadSome last size s text start end count n →
-    HasReadGroup s text end new size n more → last + length s < length text - end → HasReadSome last size s text start new (count + size) more
+pub some-more : {most : ℕ} (last size : ℕ) (s text : List ℕ) (start end count n new more : ℕ) → 0 < length s → byte_figures s ≡ [] → 0 < size → HasReadSome most last size s text start end count n →
+    HasReadGroup most s text end new size n more → last + length s < length text - end → HasReadSome most last size s text start new (count + size) more
 some-more last size s text start end count n new more some plain_separator given before read long =
     let here = digits-split text read.behind new read.read.order read.read.within read.read.digits in
     let figures = figures_between text read.behind new in
@@ -249,7 +249,7 @@ some-more last size s text start end count n new more some plain_separator given
     }
 
 -- a group that lacks where one has to follow
-pub lacks-more : (last size : ℕ) (s text : List ℕ) (start end count n place : ℕ) → 0 < length s → byte_figures s ≡ [] → HasReadSome last size s text start end count n →
+pub lacks-more : {most : ℕ} (last size : ℕ) (s text : List ℕ) (start end count n place : ℕ) → 0 < length s → byte_figures s ≡ [] → HasReadSome most last size s text start end count n →
     LacksGroup s text end size place → last + length s < length text - end → LacksGroups last size s text start place
 lacks-more last size s text start end count n place some plain_separator before lacks long =
     let read = lacks-read s text end size place some plain_separator before.within lacks in
@@ -265,7 +265,7 @@ lacks-more last size s text start end count n place some plain_separator before 
     }
 
 -- fewer bytes than a last group, or more, but no other group
-pub lacks-length : (last size : ℕ) (s text : List ℕ) (start end count n : ℕ) → 0 < size → HasReadSome last size s text start end count n →
+pub lacks-length : {most : ℕ} (last size : ℕ) (s text : List ℕ) (start end count n : ℕ) → 0 < size → HasReadSome most last size s text start end count n →
     length text - end ≤ last + length s → ¬ (length text - end ≡ last + length s) → LacksGroups last size s text start end
 lacks-length last size s text start end count n given before few other = record {
   within = before.within;
@@ -280,7 +280,7 @@ lacks-length last size s text start end count n given before few other = record 
 }
 
 -- a last group that lacks
-pub lacks-last : (last size : ℕ) (s text : List ℕ) (start end count n place : ℕ) → 0 < length s → byte_figures s ≡ [] → 0 < size → HasReadSome last size s text start end count n →
+pub lacks-last : {most : ℕ} (last size : ℕ) (s text : List ℕ) (start end count n place : ℕ) → 0 < length s → byte_figures s ≡ [] → 0 < size → HasReadSome most last size s text start end count n →
     LacksGroup s text end last place → length text - end ≡ last + length s → LacksGroups last size s text start place
 lacks-last last size s text start end count n place some plain_separator given before lacks long =
     let read = lacks-read s text end last place some plain_separator before.within lacks in
@@ -296,8 +296,8 @@ lacks-last last size s text start end count n place some plain_separator given b
     }
 
 -- the last group
-pub groups-read : (last size : ℕ) (s text : List ℕ) (start end count n new more : ℕ) → HasReadSome last size s text start end count n →
-    HasReadGroup s text end new last n more → length text - end ≡ last + length s → HasReadGroups last size s text start (count + last) more
+pub groups-read : {most : ℕ} (last size : ℕ) (s text : List ℕ) (start end count n new more : ℕ) → HasReadSome most last size s text start end count n →
+    HasReadGroup most s text end new last n more → length text - end ≡ last + length s → HasReadGroups most last size s text start (count + last) more
 groups-read last size s text start end count n new more before read long =
     let here = digits-split text read.behind new read.read.order read.read.within read.read.digits in
     let figures = figures_between text read.behind new in

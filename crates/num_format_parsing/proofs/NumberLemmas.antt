@@ -67,10 +67,10 @@ no_other-separated is_due s (d ∷ ds) utf8 none below =
     (no_other-separated is_due s ds utf8 none (All-tail (λ x. x < 10) d ds below)))
 
 -- the number of a text that spells one, whose minus sign and separator have no other numeral
-pub number-spelled : (f : FormatData) (t : List ℕ) (start : ℕ) (is_due : ℕ → Bool) (s ds : List ℕ) (count n most : ℕ) → IsPlainStart f t start → IsUtf8 t → SpellsNumber f t (denoted f t) →
+pub number-spelled : (f : FormatData) (t : List ℕ) (start : ℕ) (is_due : ℕ → Bool) (s ds : List ℕ) (count n most safe : ℕ) → IsPlainStart f t start → IsUtf8 t → SpellsNumber f t (denoted f t) →
     drop start t ≡ separated is_due s ds → AreDigits ds → byte_figures s ≡ [] → list_any is_other_numeral (chars (take start t)) ≡ false → IsUtf8 s → list_any is_other_numeral (chars s) ≡ false →
-    count ≡ length ds → WriteFew ds n → count ≤ most → most ≤ 19 → HasReadNumber f t most n
-number-spelled f t start is_due s ds count n most sign utf8 spells body below none sign_plain separator_utf8 plain counted write few short =
+    count ≡ length ds → WriteFew safe ds n → count ≤ most → most ≤ safe → HasReadNumber f t most n
+number-spelled f t start is_due s ds count n most safe sign utf8 spells body below none sign_plain separator_utf8 plain counted write few short =
     let all : HasNoOther t = subst HasNoOther (take-append-drop start t)
     (no_other-append (take start t) (drop start t) sign.utf8 sign_plain (subst HasNoOther (sym body) (no_other-separated is_due s ds separator_utf8 plain below))) in
     let same : figures t ≡ ds = figures-bytes t utf8 ∙ ap byte_figures (sym (take-append-drop start t)) ∙ digits_among-append (take start t) (drop start t)

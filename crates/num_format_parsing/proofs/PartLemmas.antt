@@ -1,9 +1,9 @@
 -- Digits and groups that are read from the left.
-use Rattle.std.proofs.Common.{◌≡◌, ℕ, suc, ◌+◌, ◌-◌, ◌*◌, ◌%◌, ◌^◌, ◌<◌, ◌≤◌, inl, inr, true, false, List, [], ◌∷◌, ◌++◌, length, refl, ap, ◌∙◌, sym, arith, take, drop, get_or, length-append, length-drop, length-take-le, append_assoc, append-nil, subst}
+use Rattle.std.proofs.Common.{lit<, ◌≡◌, ℕ, suc, ◌+◌, ◌-◌, ◌*◌, ◌%◌, ◌^◌, ◌<◌, ◌≤◌, inl, inr, true, false, List, [], ◌∷◌, ◌++◌, length, refl, ap, ◌∙◌, sym, arith, take, drop, get_or, length-append, length-drop, length-take-le, append_assoc, append-nil, subst}
 use Rattle.std.specs.Prelude.{nat_eq}
 use Rattle.std.specs.Char.{is_ascii_digit}
 use Rattle.std.specs.List.{list_all, starts_with}
-use Rattle.std.proofs.Math.Nat.{mod-eq_of_lt, pow-suc}
+use Rattle.std.proofs.Math.Nat.{pow-suc}
 use Rattle.std.proofs.lemmas.Bool.{cases_Bool, both_ways, and_parts}
 use Rattle.std.proofs.lemmas.Bool.Decides.{nat_tests, Decides-eqb}
 use Rattle.std.proofs.lemmas.Int.Digits.{number_push}
@@ -18,7 +18,7 @@ use Rattle.num_format_parsing.specs.Shapes.{byte_figures, EndsSeparator}
 use Rattle.num_format_parsing.specs.Strict.{begins, unread}
 use Rattle.num_format_parsing.proofs.FigureLemmas.{figures-below, figures-digit}
 use Rattle.num_format_parsing.proofs.GroupsLemmas.{plain-all, slice-split, long-plain}
-use Rattle.num_format_parsing.proofs.ReadingLemmas.{digits_among-digit, fits_64_bits}
+use Rattle.num_format_parsing.proofs.ReadingLemmas.{digits_among-digit}
 use Rattle.num_format_parsing.proofs.UnreadLemmas.{begins-given, begins-off, unread-begins, unread-digit}
 
 -- the bytes between two places, and one more
@@ -30,23 +30,29 @@ between-more text start end order inside =
     let byte : get_or (drop start text) (end - start) 0 ≡ get_or text end 0 = get_or-drop start text (end - start) 0 ∙ ap (λ i. get_or text i 0) (let e : start + (end - start) ≡ end = omega arith in e) in
     ap (λ n. take n (drop start text)) longer ∙ take_more (drop start text) (end - start) 0 within ∙ ap (λ b. take (end - start) (drop start text) ++ (b ∷ [])) byte
 
--- one digit more, in 64 bits
-write-more : (ds : List ℕ) (n d : ℕ) → AreDigits ds → WriteFew ds n → d < 10 → WriteFew (ds ++ (d ∷ [])) ((n * 10 % 2 ^ 64 + d) % 2 ^ 64)
-write-more ds n d below before small few =
+-- a number is another with a digit appended, if that has fewer digits than so many
+abbrev pub Appends : ℕ → ℕ → ℕ → ℕ → Type 0
+Appends most n d more = (count : ℕ) → n < 10 ^ count → count < most → more ≡ n * 10 + d
+
+-- no digit
+pub write-none : (most n : ℕ) → n ≡ 0 → WriteFew most [] n
+write-none most n zero = λ few. (zero, rw zero (lit< tt))
+
+-- one digit more
+write-more : (most : ℕ) (ds : List ℕ) (n d more : ℕ) → WriteFew most ds n → d < 10 → Appends most n d more → WriteFew most (ds ++ (d ∷ [])) more
+write-more most ds n d more before small appends few =
     let long : length (ds ++ (d ∷ [])) ≡ length ds + 1 = length-append ds (d ∷ []) in
     let both = before (omega (arith, long, few)) in
     let next : length ds + 1 ≡ suc (length ds) = omega arith in
     let tenfold : 10 ^ (length ds + 1) ≡ 10 ^ length ds * 10 = ap (λ k. 10 ^ k) next ∙ pow-suc 10 (length ds) in
-    let fits = fits_64_bits n (length ds) d both.1 small (omega (arith, long, few)) in
-    let ten : n * 10 < 2 ^ 64 = omega (arith, fits) in
-    let same : (n * 10 % 2 ^ 64 + d) % 2 ^ 64 ≡ n * 10 + d = ap (λ m. (m + d) % 2 ^ 64) (mod-eq_of_lt ten) ∙ mod-eq_of_lt fits in (
+    let same : more ≡ n * 10 + d = appends (length ds) both.1 (omega (arith, long, few)) in (
       same ∙ ap (λ m. m * 10 + d) both.0 ∙ sym (number_push 10 ds d),
       rw (same, long) (omega (arith, tenfold, both.1, small)),
     )
 
 -- no digit yet
-pub read-none : (text : List ℕ) (place n : ℕ) → place ≤ length text → HasReadDigits text place place n n
-read-none text place n within =
+pub read-none : (most : ℕ) (text : List ℕ) (place n : ℕ) → place ≤ length text → HasReadDigits most text place place n n
+read-none most text place n within =
     let none : place - place ≡ 0 = omega arith in
     record {
       order = omega arith;
@@ -56,9 +62,9 @@ read-none text place n within =
     }
 
 -- one digit more
-pub read-more : (text : List ℕ) (start end n more : ℕ) → HasReadDigits text start end n more → end < length text → is_ascii_digit (get_or text end 0) ≡ true →
-    HasReadDigits text start (end + 1) n ((more * 10 % 2 ^ 64 + (get_or text end 0 - 48)) % 2 ^ 64)
-read-more text start end n more before inside digit =
+pub read-more : (most : ℕ) (text : List ℕ) (start end n more next : ℕ) → HasReadDigits most text start end n more → end < length text → is_ascii_digit (get_or text end 0) ≡ true →
+    Appends most more (get_or text end 0 - 48) next → HasReadDigits most text start (end + 1) n next
+read-more most text start end n more next before inside digit appends =
     let b = get_or text end 0 in
     let longer = between-more text start end before.order inside in
     let front = take (end - start) (drop start text) in
@@ -69,8 +75,8 @@ read-more text start end n more before inside digit =
       within = omega arith;
       digits = ap (list_all is_ascii_digit) longer ∙ list_all-append is_ascii_digit front (b ∷ []) ∙ rw (before.digits, digit) refl;
       number = λ ds below write.
-          subst (λ es. WriteFew es ((more * 10 % 2 ^ 64 + (b - 48)) % 2 ^ 64)) (append_assoc ds (figures_between text start end) ((b - 48) ∷ []) ∙ ap (λ es. ds ++ es) (sym figures))
-          (write-more (ds ++ figures_between text start end) more (b - 48) (All-append (λ d. d < 10) ds (figures_between text start end) below (figures-below front)) (before.number ds below write) small);
+          subst (λ es. WriteFew most es next) (append_assoc ds (figures_between text start end) ((b - 48) ∷ []) ∙ ap (λ es. ds ++ es) (sym figures))
+          (write-more most (ds ++ figures_between text start end) more (b - 48) next (before.number ds below write) small appends);
     }
 
 -- digits between two places, as numbers

@@ -22,23 +22,23 @@ are_digits_between text start end = list_all is_ascii_digit (take (end - start) 
 abbrev pub figures_between : List ℕ → ℕ → ℕ → List ℕ
 figures_between text start end = byte_figures (take (end - start) (drop start text))
 
--- digits write n, which is below ten to their number, if they are at most nineteen
-abbrev pub WriteFew : List ℕ → ℕ → Type 0
-WriteFew ds n = length ds ≤ 19 → (n ≡ number_from_digits 10 ds) × (n < 10 ^ length ds)
+-- digits write n, which is below ten to their number, if they are at most so many
+abbrev pub WriteFew : ℕ → List ℕ → ℕ → Type 0
+WriteFew most ds n = length ds ≤ most → (n ≡ number_from_digits 10 ds) × (n < 10 ^ length ds)
 
 -- the bytes between two places are digits, and after digits that write n they write `more`
-pub record HasReadDigits (text : List ℕ) (start end n more : ℕ) : Type 0 where
+pub record HasReadDigits (most : ℕ) (text : List ℕ) (start end n more : ℕ) : Type 0 where
   pub order : start ≤ end
   pub within : end ≤ length text
   pub digits : are_digits_between text start end ≡ true
-  pub number : (ds : List ℕ) → All (λ d. d < 10) ds → WriteFew ds n → WriteFew (ds ++ figures_between text start end) more
+  pub number : (ds : List ℕ) → All (λ d. d < 10) ds → WriteFew most ds n → WriteFew most (ds ++ figures_between text start end) more
 
 -- a separator and so many digits stand between two places
-pub record HasReadGroup (s text : List ℕ) (start end count n more : ℕ) : Type 0 where
+pub record HasReadGroup (most : ℕ) (s text : List ℕ) (start end count n more : ℕ) : Type 0 where
   pub behind : ℕ
   pub separator : EndsSeparator s text start behind
   pub long : end ≡ behind + count
-  pub read : HasReadDigits text behind end n more
+  pub read : HasReadDigits most text behind end n more
 
 -- no separator with so many digits after it stands at a place: at another, that of a separator or of a digit, neither does
 pub data LacksGroup (s text : List ℕ) (start count place : ℕ) : Type 0 where
@@ -47,10 +47,10 @@ pub data LacksGroup (s text : List ℕ) (start count place : ℕ) : Type 0 where
       → are_digits_between text behind place ≡ true → is_ascii_digit (slice_index text place) ≡ false → LacksGroup s text start count place
 
 -- a text was read to its end: from a place on it is in groups, whose digits are so many and write n
-pub record HasReadGroups (last size : ℕ) (s text : List ℕ) (start count n : ℕ) : Type 0 where
+pub record HasReadGroups (most last size : ℕ) (s text : List ℕ) (start count n : ℕ) : Type 0 where
   pub found : IsInGroups last size s (drop start text)
   pub figures : count ≡ length found.ds
-  pub number : WriteFew found.ds n
+  pub number : WriteFew most found.ds n
 
 -- a separator is due only before a last group and before groups of that size
 pub record HasOnlyGroups (is_due : ℕ → Bool) (last size : ℕ) : Type 0 where
@@ -88,9 +88,9 @@ pub record IsUnspelled (f : FormatData) (t : List ℕ) (place : ℕ) : Type 0 wh
   pub rest : unexpected f t ≡ unread (printed_separator f.grouping f.separator) 0 (drop place t)
   pub wrong : IsUtf8 t → ¬ (SpellsNumber f t (denoted f t))
 
--- what was found holds of a text
-abbrev pub HasReading : FormatData → List ℕ → ℕ → Reading → Type 0
-HasReading f t most (Number n) = HasReadNumber f t most n
-HasReading f t most Spelled = IsUtf8 t × SpellsNumber f t (denoted f t)
-HasReading f t most (Unspelled place) = IsUnspelled f t place
-HasReading f t most Unknown = Unit {0}
+-- what was found holds of a text, whose number is that of an accumulator
+abbrev pub HasReading : {A : Type 0} → (A → ℕ) → FormatData → List ℕ → ℕ → Reading A → Type 0
+HasReading number f t most (Number n) = HasReadNumber f t most (number n)
+HasReading number f t most Spelled = IsUtf8 t × SpellsNumber f t (denoted f t)
+HasReading number f t most (Unspelled place) = IsUnspelled f t place
+HasReading number f t most Unknown = Unit {0}

@@ -11,14 +11,14 @@ ghost use Rattle.num_format_parsing.specs.Reading.{denoted, is_other_numeral};
 ghost use Rattle.num_format_parsing.specs.Strict.{SpellsNumber, sign_len};
 
 use crate::numeral::is_other_numeral;
-use crate::parsing::SAFE_FIGURES;
+use crate::parsing::Accumulator;
 use crate::strict::{begins_with, begins_with_digit, has_digit};
 use num_format_text::{Format, Grouping};
 
 /// What one pass over a text found.
-pub(crate) enum Reading {
+pub(crate) enum Reading<A> {
     /// The text spells the number that it denotes. Its digits write this one.
-    Number(u64),
+    Number(A),
     /// The text spells the number that it denotes.
     Spelled,
     /// The text spells no number. The bytes before the place are the minus sign, digits and whole
@@ -32,12 +32,12 @@ pub(crate) enum Reading {
 }
 
 /// What was read of a text: its first bytes, how many digits are among them after the minus sign, and the
-/// number that these write, if they are at most [`SAFE_FIGURES`].
+/// number that these write, if they are at most [`Accumulator::safe_figures`].
 #[derive(Clone, Copy)]
-struct Part {
+struct Part<A> {
     end: usize,
     figures: usize,
-    magnitude: u64,
+    magnitude: A,
 }
 
 /// How a grouping groups digits: `last` in the last group, `size` in those before it, at most as many in the
@@ -52,12 +52,17 @@ struct Groups {
 /// Returns what one pass over a text finds. `sign` is its minus sign, and `most` the number of digits that
 /// it may have.
 #[inline]
-pub(crate) fn read_text<F: Format>(text: &[u8], sign: &str, most: usize, format: &F) -> Reading
+pub(crate) fn read_text<F: Format, A: Accumulator>(
+    text: &[u8],
+    sign: &str,
+    most: usize,
+    format: &F,
+) -> Reading<A>
     requires start { length sign.now ≡ sign_len (F.answers format.now) text.now }
     requires within { length sign.now ≤ length text.now }
     requires sign { sign.now ≡ take (length sign.now) text.now }
-    requires few { most ≤ SAFE_FIGURES }
-    ensures { HasReading (F.answers format.now) text.now most result }
+    requires few { most ≤ A.safe }
+    ensures { HasReading A.number (F.answers format.now) text.now most result }
 {
     let start = sign.len();
     if has_digit(sign.as_bytes()) {
@@ -69,7 +74,7 @@ pub(crate) fn read_text<F: Format>(text: &[u8], sign: &str, most: usize, format:
     let none = Part {
         end: start,
         figures: 0,
-        magnitude: 0,
+        magnitude: A::zero(),
     };
     let first = read_digits(text, none, text.len());
     if first.end == text.len() {
@@ -83,22 +88,22 @@ pub(crate) fn read_text<F: Format>(text: &[u8], sign: &str, most: usize, format:
 ///
 /// It is a function of its own, so that digits alone are read without its space.
 #[inline(never)]
-fn read_grouped<F: Format>(
+fn read_grouped<F: Format, A: Accumulator>(
     text: &[u8],
     sign: &str,
     end: usize,
-    magnitude: u64,
+    magnitude: A,
     most: usize,
     format: &F,
-) -> Reading
+) -> Reading<A>
     requires sign { IsPlainStart (F.answers format.now) text.now (length sign.now) }
     requires same { sign.now ≡ take (length sign.now) text.now }
     requires begin { BeginsWithDigit (drop (length sign.now) text.now) }
-    requires read { HasReadDigits text.now (length sign.now) end 0 magnitude }
+    requires read { HasReadDigits A.safe text.now (length sign.now) end 0 (A.number magnitude) }
     requires inside { end < length text.now }
     requires stop { is_ascii_digit (slice_index text.now end) ≡ false }
-    requires few { most ≤ SAFE_FIGURES }
-    ensures { HasReading (F.answers format.now) text.now most result }
+    requires few { most ≤ A.safe }
+    ensures { HasReading A.number (F.answers format.now) text.now most result }
 {
     let start = sign.len();
     let Some(groups) = groups_of(format.grouping()) else {
@@ -128,10 +133,10 @@ fn read_grouped<F: Format>(
 
 /// Returns the same of a text that does not begin with a digit other than zero after its minus sign: only
 /// `0` spells a number.
-fn read_zero(text: &[u8], start: usize, most: usize) -> Reading
+fn read_zero<A: Accumulator>(text: &[u8], start: usize, most: usize) -> Reading<A>
     requires within { start ≤ length text.now }
     requires other { ¬ (BeginsWithDigit (drop start text.now)) }
-    ensures { (f : FormatData) → IsPlainStart f text.now start → HasReading f text.now most result }
+    ensures { (f : FormatData) → IsPlainStart f text.now start → HasReading A.number f text.now most result }
 {
     if text.len() != 1 {
         return Reading::Unspelled { place: start };
@@ -143,18 +148,18 @@ fn read_zero(text: &[u8], start: usize, most: usize) -> Reading
     if most == 0 {
         return Reading::Spelled;
     }
-    Reading::Number(0)
+    Reading::Number(A::zero())
 }
 
 /// Returns what was found in a text that was read to its end and spells the number that it denotes: that
 /// number, if it is short, and no character of the minus sign and the separator is another numeral.
 #[inline]
-fn spelled(whole: Part, most: usize, sign: &str, separator: &str) -> Reading
+fn spelled<A: Accumulator>(whole: Part<A>, most: usize, sign: &str, separator: &str) -> Reading<A>
     ensures { (f : FormatData) (t : List ℕ) → IsUtf8 t → SpellsNumber f t (denoted f t)
         → (list_any is_other_numeral (chars sign.now) ≡ false
         → list_any is_other_numeral (chars separator.now) ≡ false
-        → whole.figures ≤ most → HasReadNumber f t most whole.magnitude)
-        → HasReading f t most result }
+        → whole.figures ≤ most → HasReadNumber f t most (A.number whole.magnitude))
+        → HasReading A.number f t most result }
 {
     if has_other_numeral(sign) {
         return Reading::Spelled;
@@ -229,11 +234,11 @@ fn is_ascii(bytes: &[u8]) -> bool
 
 /// Returns the part of a text with the digits that follow it, up to `end`.
 #[inline]
-fn read_digits(text: &[u8], from: Part, end: usize) -> Part
+fn read_digits<A: Accumulator>(text: &[u8], from: Part<A>, end: usize) -> Part<A>
     requires order { from.end ≤ end }
     requires within { end ≤ length text.now }
     requires figures { from.figures ≤ from.end }
-    ensures read { HasReadDigits text.now from.end result.end from.magnitude result.magnitude }
+    ensures read { HasReadDigits A.safe text.now from.end result.end (A.number from.magnitude) (A.number result.magnitude) }
     ensures within { result.end ≤ end }
     ensures figures { result.figures + from.end ≡ from.figures + result.end }
     ensures stop { result.end < end → is_ascii_digit (slice_index text.now result.end) ≡ false }
@@ -244,11 +249,10 @@ fn read_digits(text: &[u8], from: Part, end: usize) -> Part
         if !byte.is_ascii_digit() {
             return part;
         }
-        let magnitude = part.magnitude.wrapping_mul(10);
         part = Part {
             end: place + 1,
             figures: part.figures + 1,
-            magnitude: magnitude.wrapping_add((byte - b'0') as u64),
+            magnitude: part.magnitude.push_wrapping(byte - b'0'),
         };
     }
     part
@@ -256,17 +260,17 @@ fn read_digits(text: &[u8], from: Part, end: usize) -> Part
 
 /// Returns the number with the digit at a place appended to its digits, or `None` if no digit is there.
 #[inline]
-fn push_at(text: &[u8], place: usize, magnitude: u64) -> Option<u64>
+fn push_at<A: Accumulator>(text: &[u8], place: usize, magnitude: A) -> Option<A>
     requires { place < length text.now }
-    ensures { IfSome result (λ more. (start n : ℕ) → HasReadDigits text.now start place n magnitude
-        → HasReadDigits text.now start (place + 1) n more) }
+    ensures { IfSome result (λ more. (start n : ℕ)
+        → HasReadDigits A.safe text.now start place n (A.number magnitude)
+        → HasReadDigits A.safe text.now start (place + 1) n (A.number more)) }
 {
     let byte = text[place];
     if !byte.is_ascii_digit() {
         return None;
     }
-    let tenfold = magnitude.wrapping_mul(10);
-    Some(tenfold.wrapping_add((byte - b'0') as u64))
+    Some(magnitude.push_wrapping(byte - b'0'))
 }
 
 /// Returns the number with the `count` digits from a place on appended to its digits. It may return `None`
@@ -274,9 +278,10 @@ fn push_at(text: &[u8], place: usize, magnitude: u64) -> Option<u64>
 ///
 /// It has no loop, since most groups are this short.
 #[inline]
-fn push_few(text: &[u8], place: usize, count: usize, magnitude: u64) -> Option<u64>
+fn push_few<A: Accumulator>(text: &[u8], place: usize, count: usize, magnitude: A) -> Option<A>
     requires { place + count ≤ length text.now }
-    ensures { IfSome result (λ more. HasReadDigits text.now place (place + count) magnitude more) }
+    ensures { IfSome result (λ more. HasReadDigits A.safe text.now place (place + count)
+        (A.number magnitude) (A.number more)) }
 {
     if count < 2 {
         return None;
@@ -298,12 +303,18 @@ fn push_few(text: &[u8], place: usize, count: usize, magnitude: u64) -> Option<u
 ///
 /// It is inlined, so that a part stays in registers.
 #[inline(always)]
-fn read_group(text: &[u8], from: Part, separator: &[u8], count: usize) -> Result<Part, usize>
+fn read_group<A: Accumulator>(
+    text: &[u8],
+    from: Part<A>,
+    separator: &[u8],
+    count: usize,
+) -> Result<Part<A>, usize>
     requires room { from.end + length separator.now + count ≤ length text.now }
     requires figures { from.figures ≤ from.end }
     requires some { 0 < count }
     ensures { MatchResult result
-        (λ part. HasReadGroup separator.now text.now from.end part.end count from.magnitude part.magnitude
+        (λ part. HasReadGroup A.safe separator.now text.now from.end part.end count
+        (A.number from.magnitude) (A.number part.magnitude)
         × (part.figures ≡ from.figures + count))
         (λ place. LacksGroup separator.now text.now from.end count place) }
 {
@@ -338,14 +349,14 @@ fn read_group(text: &[u8], from: Part, separator: &[u8], count: usize) -> Result
 ///
 /// It is inlined for the same reason.
 #[inline(always)]
-fn read_groups(
+fn read_groups<A: Accumulator>(
     text: &[u8],
     start: usize,
-    first: Part,
+    first: Part<A>,
     separator: &[u8],
     groups: Groups,
-) -> Result<Part, usize>
-    requires read { HasReadDigits text.now start first.end 0 first.magnitude }
+) -> Result<Part<A>, usize>
+    requires read { HasReadDigits A.safe text.now start first.end 0 (A.number first.magnitude) }
     requires some { start < first.end }
     requires figures { first.figures + start ≡ first.end }
     requires inside { first.end < length text.now }
@@ -356,7 +367,8 @@ fn read_groups(
     requires last { groups.size ≤ groups.last }
     requires few { groups.last < 8 }
     ensures { MatchResult result
-        (λ whole. HasReadGroups groups.last groups.size separator.now text.now start whole.figures whole.magnitude)
+        (λ whole. HasReadGroups A.safe groups.last groups.size separator.now text.now start
+        whole.figures (A.number whole.magnitude))
         (λ place. LacksGroups groups.last groups.size separator.now text.now start place) }
 {
     if first.end - start > groups.size {

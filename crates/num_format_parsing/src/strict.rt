@@ -13,7 +13,7 @@ ghost use Rattle.num_format_parsing.specs.Strict.{SpellsNumber, ParsesStrictly, 
 ghost use Rattle.num_format_parsing.specs.Parts.{IsUnspelled};
 ghost use Rattle.num_format_parsing.specs.Shapes.{BeginsWithDigit, byte_figures};
 
-use crate::parsing::{SAFE_FIGURES, parse};
+use crate::parsing::{Accumulator, parse};
 use crate::reading::{Reading, read_text};
 use num_format_int::sealed::Sealed;
 use num_format_text::{Format, Grouping};
@@ -74,13 +74,33 @@ pub(crate) fn parse_strict<N: Sealed, F: Format>(
         (λ n. ParsesStrictly N.kind (F.answers format.now) bytes.now (N.value n))
         (λ e. IsCause N.kind (F.answers format.now) bytes.now e) }
 {
+    // Whether a type is wide is known where the code is compiled, so one branch is left.
+    if N::is_wide() {
+        parse_by::<N, F, u128>(bytes, is_text, format)
+    } else {
+        parse_by::<N, F, u64>(bytes, is_text, format)
+    }
+}
+
+/// Returns the same, by way of the accumulator.
+#[inline]
+fn parse_by<N: Sealed, F: Format, A: Accumulator>(
+    bytes: &[u8],
+    is_text: bool,
+    format: &F,
+) -> Result<N, StrictError>
+    requires { IsTrue is_text → IsUtf8 bytes.now }
+    ensures { MatchResult result
+        (λ n. ParsesStrictly N.kind (F.answers format.now) bytes.now (N.value n))
+        (λ e. IsCause N.kind (F.answers format.now) bytes.now e) }
+{
     let minus_sign = format.minus_sign().into_str();
     let is_negative = bytes.starts_with(minus_sign.as_bytes());
     let sign = if is_negative { minus_sign } else { "" };
-    let most = most_figures(N::limit(), is_negative);
-    match read_text(bytes, sign, most, format) {
+    let most = most_figures(N::limit(), is_negative, A::safe_figures());
+    match read_text::<F, A>(bytes, sign, most, format) {
         Reading::Number(magnitude) => {
-            match N::from_sign_and_magnitude(is_negative, magnitude as u128) {
+            match N::from_sign_and_magnitude(is_negative, magnitude.number()) {
                 Some(number) => Ok(number),
                 None => Err(StrictError::OutOfRange),
             }
@@ -92,12 +112,12 @@ pub(crate) fn parse_strict<N: Sealed, F: Format>(
 }
 
 /// Returns how many digits a text may have: at most the limit, of which a minus sign counts as one, and
-/// what fits 64 bits.
-fn most_figures(limit: usize, is_negative: bool) -> usize
+/// what is safe.
+fn most_figures(limit: usize, is_negative: bool, safe: usize) -> usize
     ensures within { result ≤ limit - (if is_negative then 1 else 0) }
-    ensures few { result ≤ SAFE_FIGURES }
+    ensures few { result ≤ safe }
 {
-    limit.saturating_sub(is_negative as usize).min(SAFE_FIGURES)
+    limit.saturating_sub(is_negative as usize).min(safe)
 }
 
 /// Returns the number that the text spells, if parsing returns it.

@@ -6,11 +6,11 @@ use Rattle.num_format_parsing.proofs.UnreadLemmas.{ends-separator}
 use Rattle.num_format_parsing.proofs.reading.read_group.Goals as goal
 
 pub returns-then-not-begins_with : goal.returns-then-not-begins_with
-returns-then-not-begins_with c =
+returns-then-not-begins_with g c =
     without_separator refl (ap (begins c.args.separator.now) (sym (take_rest c.args.text.now c.args.from.end)) ∙ sym c.begins_with.ensures ∙ c.if-not-begins_with.true)
 
 pub returns-then-part-end : goal.returns-then-part-end
-returns-then-part-end c =
+returns-then-part-end g c =
     let text = c.args.text.now in
     let start = c.args.from.end in
     let s = c.args.separator.now in
@@ -20,7 +20,7 @@ returns-then-part-end c =
     without_digit (start + length s) (ends-separator s text start begin) read.read.order early (omega (arith, early, c.requires.room)) read.read.digits (read.stop early)
 
 pub returns : goal.returns
-returns c =
+returns g c =
     let text = c.args.text.now in
     let start = c.args.from.end in
     let s = c.args.separator.now in
@@ -36,7 +36,7 @@ returns c =
     )
 
 pub returns-in-Some : goal.returns-in-Some
-returns-in-Some c =
+returns-in-Some g c =
     let text = c.args.text.now in
     let start = c.args.from.end in
     let s = c.args.separator.now in

@@ -20,7 +20,7 @@ returns-in_default g c =
     let end = c.args.end in
     let sign = c.requires.sign in
     let begin = c.requires.begin in
-    let digits = first-digits f t start end 0 c.args.magnitude sign begin c.requires.read (λ _. c.requires.stop) (λ whole. omega (arith, whole, c.requires.inside)) in
+    let digits = first-digits f t start end 0 (g.A.Accumulator.number c.args.magnitude) sign begin c.requires.read (λ _. c.requires.stop) (λ whole. omega (arith, whole, c.requires.inside)) in
     unspelled-Posix f t start end (sym c.grouping.ensures ∙ c.in_default.ensures) digits
 
 pub returns-then-is_empty : goal.returns-then-is_empty
@@ -31,7 +31,7 @@ returns-then-is_empty g c =
     let end = c.args.end in
     let sign = c.requires.sign in
     let begin = c.requires.begin in
-    let digits = first-digits f t start end 0 c.args.magnitude sign begin c.requires.read (λ _. c.requires.stop) (λ whole. omega (arith, whole, c.requires.inside)) in
+    let digits = first-digits f t start end 0 (g.A.Accumulator.number c.args.magnitude) sign begin c.requires.read (λ _. c.requires.stop) (λ whole. omega (arith, whole, c.requires.inside)) in
     let s = c.as_bytes-bytes.result.now in
     let separator : s ≡ f.separator = search rules in
     let empty = sym c.is_empty.ensures ∙ c.if-is_empty.true in
@@ -46,7 +46,7 @@ returns-then-text-start g c =
     let end = c.args.end in
     let sign = c.requires.sign in
     let begin = c.requires.begin in
-    let digits = first-digits f t start end 0 c.args.magnitude sign begin c.requires.read (λ _. c.requires.stop) (λ whole. omega (arith, whole, c.requires.inside)) in
+    let digits = first-digits f t start end 0 (g.A.Accumulator.number c.args.magnitude) sign begin c.requires.read (λ _. c.requires.stop) (λ whole. omega (arith, whole, c.requires.inside)) in
     let groups = c.in-Some.groups in
     let s = c.as_bytes-bytes.result.now in
     let separator : s ≡ f.separator = search rules in
@@ -65,7 +65,7 @@ read_groups-requires-clause-some g c =
     let end = c.args.end in
     let sign = c.requires.sign in
     let begin = c.requires.begin in
-    (first-digits f t start end 0 c.args.magnitude sign begin c.requires.read (λ _. c.requires.stop) (λ whole. omega (arith, whole, c.requires.inside))).order
+    (first-digits f t start end 0 (g.A.Accumulator.number c.args.magnitude) sign begin c.requires.read (λ _. c.requires.stop) (λ whole. omega (arith, whole, c.requires.inside))).order
 
 pub read_groups-requires-clause-plain : goal.read_groups-requires-clause-plain
 read_groups-requires-clause-plain g c = figures-none c.as_bytes-bytes.result.now (sym c.has_digit.ensures ∙ c.if-has_digit.false)
@@ -89,7 +89,7 @@ returns-in-Ok g c =
     let sizes = by.found s (drop start t) read.found (omega (arith, c.if-text-start.false, length-drop start t)) in
     let both = spells-groups f t s start groups.last groups.size sign separator separator_utf8 plain begin read.found sizes.0 sizes.1 in
     c.spelled.ensures f t both.0 both.1 (λ sign_plain plain_separator few.
-    number-spelled f t start (stands f.grouping (length ds)) s ds whole.figures whole.magnitude c.args.most sign both.0 both.1 (read.found.text (stands f.grouping (length ds)) sizes.0 sizes.1) read.found.below plain (subst (λ xs. list_any is_other_numeral (chars xs) ≡ false) c.requires.same sign_plain) separator_utf8 (subst (λ xs. list_any is_other_numeral (chars xs) ≡ false) (sym c.as_bytes-bytes.ensures.value) plain_separator)
+    number-spelled f t start (stands f.grouping (length ds)) s ds whole.figures (g.A.Accumulator.number whole.magnitude) c.args.most g.A.Accumulator.safe sign both.0 both.1 (read.found.text (stands f.grouping (length ds)) sizes.0 sizes.1) read.found.below plain (subst (λ xs. list_any is_other_numeral (chars xs) ≡ false) c.requires.same sign_plain) separator_utf8 (subst (λ xs. list_any is_other_numeral (chars xs) ≡ false) (sym c.as_bytes-bytes.ensures.value) plain_separator)
     read.figures read.number few c.requires.few)
 
 pub returns-in-Err : goal.returns-in-Err
@@ -100,7 +100,7 @@ returns-in-Err g c =
     let end = c.args.end in
     let sign = c.requires.sign in
     let begin = c.requires.begin in
-    let digits = first-digits f t start end 0 c.args.magnitude sign begin c.requires.read (λ _. c.requires.stop) (λ whole. omega (arith, whole, c.requires.inside)) in
+    let digits = first-digits f t start end 0 (g.A.Accumulator.number c.args.magnitude) sign begin c.requires.read (λ _. c.requires.stop) (λ whole. omega (arith, whole, c.requires.inside)) in
     let groups = c.in-Some.groups in
     let s = c.as_bytes-bytes.result.now in
     let separator : s ≡ f.separator = search rules in

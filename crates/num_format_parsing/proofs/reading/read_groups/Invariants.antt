@@ -3,10 +3,10 @@ use Rattle.num_format_parsing.proofs.ExpectedLemmas.{HasReadSome}
 use Rattle.num_format_parsing.proofs.reading.read_groups.Given as goal
 
 abbrev pub invariant-loop-part : goal.invariant-loop-part
-invariant-loop-part l = record {
-  read : HasReadSome l.fn.groups.last l.fn.groups.size l.separator l.text l.fn.start l.part.end l.part.figures l.part.magnitude;
+invariant-loop-part g l = record {
+  read : HasReadSome g.A.Accumulator.safe l.fn.groups.last l.fn.groups.size l.separator l.text l.fn.start l.part.end l.part.figures (g.A.Accumulator.number l.part.magnitude);
   figures : l.part.figures ≤ l.part.end;
 }
 
 abbrev pub decreases-loop-part : goal.decreases-loop-part
-decreases-loop-part l = length l.text - l.part.end
+decreases-loop-part g l = length l.text - l.part.end

@@ -6,11 +6,12 @@ use Rattle.std.proofs.lemmas.List.Elements.{All-nil}
 use Rattle.num_format_text.specs.declared.grouping.Grouping.TheVariants.{Posix}
 use Rattle.num_format_int.specs.Grouped.{stands}
 use Rattle.num_format_int.proofs.GroupedLemmas.{grouped-Posix}
-use Rattle.num_format_parsing.specs.Parts.{WriteFew}
+use Rattle.num_format_parsing.specs.Parts.{HasReadDigits, WriteFew}
 use Rattle.num_format_parsing.specs.Shapes.{byte_figures, BeginsWithDigit}
 use Rattle.num_format_parsing.proofs.FigureLemmas.{figures-below}
 use Rattle.num_format_parsing.proofs.GroupsLemmas.{long-plain, plain-all, plain-start, spells-digits}
 use Rattle.num_format_parsing.proofs.NumberLemmas.{number-spelled}
+use Rattle.num_format_parsing.proofs.PartLemmas.{write-none}
 use Rattle.num_format_parsing.specs.Reading.{is_other_numeral}
 use Rattle.std.specs.Str.{chars}
 use Rattle.std.proofs.lemmas.Str.{IsUtf8-nil}
@@ -36,10 +37,12 @@ returns-then-first-text g c =
     let whole : take (first.end - start) (drop start t) ≡ drop start t = ap (λ e. take (e - start) (drop start t)) c.if-first-text.true ∙ take_rest t start in
     let digits = plain-all (drop start t) (ap (list_all is_ascii_digit) (sym whole) ∙ read.read.digits) in
     let both = spells-digits f t start sign begin digits in
-    let write : WriteFew ds first.magnitude = subst (λ xs. WriteFew (byte_figures xs) first.magnitude) whole (read.read.number [] (All-nil (λ d. d < 10)) (λ few. (refl, lit< tt))) in
+    let n = g.A.Accumulator.number first.magnitude in
+    let safe = g.A.Accumulator.safe in
+    let write : WriteFew safe ds n = subst (λ xs. WriteFew safe (byte_figures xs) n) whole (read.read.number [] (All-nil (λ d. d < 10)) (write-none safe (g.A.Accumulator.number c.zero.result) c.zero.ensures)) in
     let counted : first.figures ≡ length ds = omega (arith, read.figures, c.if-first-text.true, long-plain (drop start t) digits, length-drop start t) in
     c.spelled.ensures f t both.0 both.1 (λ sign_plain plain_separator few.
-    number-spelled f t start (stands Posix (length ds)) [] ds first.figures first.magnitude c.args.most sign both.0 both.1 (digits ∙ sym (grouped-Posix [] ds)) (figures-below (drop start t)) refl (subst (λ xs. list_any is_other_numeral (chars xs) ≡ false) c.requires.sign sign_plain) IsUtf8-nil plain_separator counted write few c.requires.few)
+    number-spelled f t start (stands Posix (length ds)) [] ds first.figures n c.args.most safe sign both.0 both.1 (digits ∙ sym (grouped-Posix [] ds)) (figures-below (drop start t)) refl (subst (λ xs. list_any is_other_numeral (chars xs) ≡ false) c.requires.sign sign_plain) IsUtf8-nil plain_separator counted write few c.requires.few)
 
 pub read_grouped-requires-clause-sign : goal.read_grouped-requires-clause-sign
 read_grouped-requires-clause-sign g c =
@@ -49,3 +52,8 @@ read_grouped-requires-clause-sign g c =
 pub read_grouped-requires-clause-begin : goal.read_grouped-requires-clause-begin
 read_grouped-requires-clause-begin g c =
     subst BeginsWithDigit (take_rest c.args.text.now (length c.args.sign.now)) (c.begins_with_digit.ensures.0 c.if-not-begins_with_digit.false)
+
+pub read_grouped-requires-clause-read : goal.read_grouped-requires-clause-read
+read_grouped-requires-clause-read g c =
+    let first = c.read_digits-first.result in
+    subst (λ n. HasReadDigits g.A.Accumulator.safe c.args.text.now (length c.args.sign.now) first.end n (g.A.Accumulator.number first.magnitude)) c.zero.ensures c.read_digits-first.ensures.read
