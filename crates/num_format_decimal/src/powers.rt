@@ -90,8 +90,8 @@ fn divide(n: u128, one: u128) -> (u128, u128)
     (whole, n - whole * one)
 }
 
-/// Returns the same as [`split`] of a number of 64 bits. A division by a number that is known where the code is compiled takes
-/// a few multiplications.
+/// Returns the same as [`split`] of a number of 64 bits. A division by a number that is known where the
+/// code is compiled takes a few multiplications.
 #[tactic(auto, using(crate::proofs::ScaleLemmas::power_positive))]
 fn split_narrow(n: u64, scale: u8) -> (u64, u64)
     requires { scale < TWENTY_DIGITS }
