@@ -13,7 +13,7 @@ ghost use Rattle.num_format_parsing.specs.Strict.{SpellsNumber, ParsesStrictly, 
 ghost use Rattle.num_format_parsing.specs.Parts.{IsUnspelled};
 ghost use Rattle.num_format_parsing.specs.Shapes.{BeginsWithDigit, byte_figures};
 
-use crate::parsing::{Accumulator, parse};
+use crate::parsing::{Accumulator, SAFE_FIGURES, parse};
 use crate::reading::{Reading, read_text};
 use num_format_int::sealed::Sealed;
 use num_format_text::{Format, Grouping};
@@ -74,8 +74,9 @@ pub(crate) fn parse_strict<N: Sealed, F: Format>(
         (λ n. ParsesStrictly N.kind (F.answers format.now) bytes.now (N.value n))
         (λ e. IsCause N.kind (F.answers format.now) bytes.now e) }
 {
-    // Whether a type is wide is known where the code is compiled, so one branch is left.
-    if N::is_wide() {
+    // Most texts are short: their digits fit 64 bits, which take less time than 128. Whether a type is wide is
+    // known where the code is compiled.
+    if N::is_wide() && bytes.len() > SAFE_FIGURES {
         parse_by::<N, F, u128>(bytes, is_text, format)
     } else {
         parse_by::<N, F, u64>(bytes, is_text, format)
