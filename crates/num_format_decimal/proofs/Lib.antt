@@ -3,6 +3,7 @@ pub mod LawLemmas
 pub mod LocaleMarkLemmas
 pub mod MarkLemmas
 pub mod PartLemmas
+pub mod PlainLemmas
 pub mod ReadLemmas
 pub mod ScaleLemmas
 pub mod ScaleSearchLemmas

@@ -1,5 +1,5 @@
 //! The check of a format's decimal mark.
-ghost use Rattle.std.specs.Prelude.{◌≡◌, ◌↔◌, ◌⊎◌, IsTrue};
+ghost use Rattle.std.specs.Prelude.{◌≡◌, ◌↔◌, ◌⊎◌, IsTrue, IsUtf8};
 ghost use Rattle.std.specs.List.{list_any};
 ghost use Rattle.std.specs.Str.{chars};
 ghost use Rattle.num_format_parsing.specs.Reading.{is_other_numeral};
@@ -38,7 +38,30 @@ pub fn marks_decimals<F: Format>(format: &F) -> bool
 }
 
 /// Returns whether no character of a text is numeric.
+///
+/// Most minus signs, separators and marks are one byte, and need no search of characters.
+#[inline]
 pub(crate) fn is_plain(text: &str) -> bool
+    ensures { IsTrue result ↔ HasNoNumeral text.now }
+{
+    if is_plain_byte(text.as_bytes()) {
+        return true;
+    }
+    has_no_numeral(text)
+}
+
+/// Returns whether a text is one byte that is ASCII and no digit.
+#[inline(always)]
+fn is_plain_byte(text: &[u8]) -> bool
+    requires { IsUtf8 text.now }
+    ensures { IsTrue result → HasNoNumeral text.now }
+{
+    text.len() == 1 && text[0].is_ascii() && !text[0].is_ascii_digit()
+}
+
+/// Returns the same as [`is_plain`], character by character.
+#[inline(never)]
+fn has_no_numeral(text: &str) -> bool
     ensures { IsTrue result ↔ HasNoNumeral text.now }
 {
     !has_digit(text.as_bytes()) && !has_other_numeral(text)

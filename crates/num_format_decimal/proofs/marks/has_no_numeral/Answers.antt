@@ -3,7 +3,7 @@ use Rattle.std.specs.List.{list_any}
 use Rattle.std.specs.Char.{is_ascii_digit}
 use Rattle.std.proofs.lemmas.Bool.{both_ways, not-true, not_from_false}
 use Rattle.num_format_parsing.proofs.FigureLemmas.{figures-bytes, figures-none, figures-some}
-use Rattle.num_format_decimal.proofs.marks.is_plain.Goals as goal
+use Rattle.num_format_decimal.proofs.marks.has_no_numeral.Goals as goal
 
 pub returns-then-not-has_digit : goal.returns-then-not-has_digit
 returns-then-not-has_digit c =
