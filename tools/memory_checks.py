@@ -14,7 +14,7 @@ from regroup_checks import COMMANDS, FAILED
 from tally import CC, ROOT, heading, run, shown
 
 # The crate that has the tests of memory, and how its executable file lists them.
-CRATE = "test_hostile"
+CRATE = "test_memory"
 TEST = re.compile(r"^(memory::\w+): test$", re.M)
 
 # How it lists those of calls that take no memory, and how many requests one makes before them.

@@ -8,9 +8,14 @@ import tempfile
 from pathlib import Path
 
 from tally import ROOT, elapsed, heading, run
+from trials import TRIED
 
 # What a copy leaves out: what git has, and what programs made.
 MADE = [".git", "out", "target", "__pycache__"]
+
+# What a copy that is not whole leaves out too: what takes the prover long and no user needs. Those are the
+# edits, the library that bench/ measures, and the crates of tests that run unproved.
+LEFT_OUT = ["must-fail", "test_bench", *TRIED]
 
 # The crate of the library for C.
 LIBRARY = "num_format_c"
@@ -28,12 +33,15 @@ FUNCTION = re.compile(r"\bfn (\w+)")
 
 
 @contextlib.contextmanager
-def copied(has_edits):
-    """Gives the folder of a copy of the repository, with or without the folders `must-fail`."""
-    left_out = MADE if has_edits else [*MADE, "must-fail"]
+def copied(is_whole):
+    """Gives the folder of a copy of the repository, without what LEFT_OUT names if it is not whole."""
+    left_out = MADE if is_whole else [*MADE, *LEFT_OUT]
     with tempfile.TemporaryDirectory(prefix="num-format-") as folder:
         copy = Path(folder) / "copy"
         shutil.copytree(ROOT, copy, symlinks=True, ignore=shutil.ignore_patterns(*left_out))
+        lines = (ROOT / "crates.txt").read_text(encoding="utf-8").splitlines(keepends=True)
+        listed = (line for line in lines if re.split("[ :]", line)[0] not in left_out)
+        (copy / "crates.txt").write_text("".join(listed), encoding="utf-8")
         # The top of a repository, also where the folder is below that of another.
         (copy / ".git").mkdir()
         yield copy

@@ -1,23 +1,25 @@
 #!/usr/bin/env python3
 """Proves and tests everything.
 
-    python3 tools/test.py                  # all but the must-fail edits
-    python3 tools/test.py --edits          # all
+    python3 tools/test.py                  # proves what users need, and runs every test
+    python3 tools/test.py --edits          # proves the tests too, and tries the must-fail edits
     python3 tools/test.py --skip-proofs    # all but `rt ci`
 
 In this order:
 
 1. tools/readme_code.py compares the code in README.md and docs/ with the crate that has it.
 2. `rt ci` has every proof from nothing, the tests, and each program as two compilers build it. It works
-   on a copy of the repository, which with --edits has the must-fail edits. The log has the time at which
-   each crate was proved, and for each edit the function and the goal that refused it.
+   on a copy of the repository. With --edits that has all; else it has no must-fail edits, not the library
+   that bench/ measures, and not the crates of tests that tools/trials.py names: `rt try` runs those, with a
+   check of each access in place of a proof. The log has the time at which each crate was proved, and for
+   each edit the function and the goal that refused it.
 3. tools/regroup_checks.py runs `regroup` with words of each status, and with outputs that are full or
    closed.
 4. tools/program_checks.py runs test_streams with such outputs, test_oracle with cases of
    each kind but one, and test_properties with each property negated.
 5. tools/filter_checks.py runs `regroup-lines` on good, bad and long input.
 6. tools/ledger_checks.py runs uses_ledger on good, bad and long ledgers, and where a read or a write fails.
-7. tools/memory_checks.py runs `regroup`, `regroup-lines` and each test of memory as often as it makes
+7. tools/memory_checks.py runs `regroup`, `regroup-lines` and each test of test_memory as often as it makes
    requests for memory, each time with another one refused, and counts those of calls that take none.
 8. tools/library_checks.py runs the programs of examples/ over the library for C, which was built beside
    `rt ci`, and holds it to its header.
@@ -29,6 +31,7 @@ With --skip-proofs, `rt run`, `rt test` and `rt lib` build the programs, the tes
 prove what they need of what changed.
 """
 import argparse
+import contextlib
 import subprocess
 import sys
 
@@ -38,6 +41,7 @@ import library_checks
 import memory_checks
 import program_checks
 import regroup_checks
+import trials
 from proofs import copied, prove
 from tally import ROOT, Tally, heading, run
 
@@ -107,10 +111,21 @@ def builds(tally, crate, compilers):
     return found
 
 
+def test(tally, is_whole):
+    """Proves all, or what users need, and runs every test and program."""
+    with contextlib.ExitStack() as stack:
+        tried = [] if is_whole else stack.enter_context(trials.started())
+        copy = stack.enter_context(copied(is_whole))
+        prove(tally, copy)
+        check_programs(tally, copy, COMPILERS)
+        library_checks.check_all(tally, copy / library_checks.LIBRARY.relative_to(ROOT))
+        trials.check_all(tally, tried)
+
+
 def main():
     parser = argparse.ArgumentParser(description="Proves and tests everything.")
     either = parser.add_mutually_exclusive_group()
-    either.add_argument("--edits", action="store_true", help="try the must-fail edits too")
+    either.add_argument("--edits", action="store_true", help="prove the tests too, and try the must-fail edits")
     either.add_argument("--skip-proofs", action="store_true", help="leave out `rt ci`")
     given = parser.parse_args()
     tally = Tally()
@@ -122,12 +137,9 @@ def main():
         library_checks.check_all(tally, library_checks.LIBRARY)
         tally.skip("rt ci", "--skip-proofs leaves it out")
     else:
-        with copied(given.edits) as copy:
-            prove(tally, copy)
-            check_programs(tally, copy, COMPILERS)
-            library_checks.check_all(tally, copy / library_checks.LIBRARY.relative_to(ROOT))
+        test(tally, given.edits)
     if not given.edits:
-        print("the must-fail edits were not tried: python3 tools/test.py --edits tries them too")
+        print("python3 tools/test.py --edits proves the tests too, and tries the must-fail edits")
     tally.end()
 
 

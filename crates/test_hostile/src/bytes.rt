@@ -2,16 +2,12 @@
 
 use crate::Step::{Fail, Interrupt, Take, Zero};
 use crate::{Scripted, Step};
-use num_format::{CustomFormat, Error, Format, Grouping, ToFormattedString, WriteFormatted};
+use num_format::{CustomFormat, Format, ToFormattedString, WriteFormatted};
 use std::alloc::Global;
 use std::io::{BufWriter, ErrorKind, LineWriter};
 use std::process::Abort;
 use std::{io, test};
-
-/// The text of `i128::MIN` under [`longest_format`].
-pub const LONGEST: &str = "abcdefgh17123456780112345678411234567818123456783412345678601234567846\
-    12345678921234567831123456787312345678161234567887123456783012345678371234567815123456788812345678\
-    41123456780512345678728";
+use test_memory::longest::{LONGEST, longest_format};
 
 /// The space of each writer in bytes, enough for the longest text.
 pub const SPACE: usize = 191;
@@ -35,15 +31,6 @@ const CASES: [Case<'static>; 12] = [
     (&[Take(4), Zero], Err(ErrorKind::WriteZero), "1,00", 2),
     (&[Take(4), Zero, Take(9)], Err(ErrorKind::WriteZero), "1,00", 2),
 ];
-
-/// Returns the format under which a text is longest.
-pub fn longest_format() -> Result<CustomFormat, Error> {
-    CustomFormat::builder()
-        .grouping(Grouping::Indian)
-        .separator("12345678")
-        .minus_sign("abcdefgh")
-        .build()
-}
 
 /// Asserts what was returned and what the writer received. No writer is flushed.
 fn assert_case(rt: &impl Abort, returned: io::Result<usize>, writer: &Scripted, case: Case<'_>) {

@@ -1,4 +1,4 @@
-//! Writers and readers that fail, and memory that is refused: what holds after an error.
+//! Writers and readers that fail: what holds after an error.
 //!
 //! [`Scripted`] is a writer that does what a list of steps says. Its contract states the bytes that it
 //! received, the space that is left, and which step each call takes, so which writes fail or write
@@ -17,8 +17,6 @@
 //! | `outputs` | lines from readers to writers that both do what a list says |
 //! | `stream` | the program `regroup-lines` where its input, an output or a flush fails |
 //! | `program` | commands of `regroup` whose outputs fail at each of their writes |
-//! | `memory` | calls that take memory, where it is refused |
-//! | `without_memory` | calls that take none |
 #![tactic(auto)]
 
 #[cfg(test)]
@@ -27,8 +25,6 @@ mod bytes;
 mod inputs;
 #[cfg(test)]
 mod lines;
-#[cfg(test)]
-mod memory;
 #[cfg(test)]
 mod outputs;
 #[cfg(test)]
@@ -39,8 +35,6 @@ mod scripted_reader;
 mod stream;
 #[cfg(test)]
 mod text;
-#[cfg(test)]
-mod without_memory;
 
 pub use scripted::{Scripted, Step};
 pub use scripted_reader::{ReadStep, ScriptedReader};

@@ -1,13 +1,14 @@
 //! Numbers into writers of text that fail. Each writer is called once, and not again after an error.
 
 use crate::Step::{Fail, Interrupt, Take, Zero};
-use crate::bytes::{LONGEST, SPACE, longest_format};
+use crate::bytes::SPACE;
 use crate::{Scripted, Step};
 use num_format::{CustomFormat, Format, ToFormattedString, WriteFormatted};
 use std::alloc::Global;
 use std::fmt::Formatter;
 use std::process::Abort;
 use std::test;
+use test_memory::longest::{LONGEST, longest_format};
 
 /// The steps of a writer, the count that is returned where it does not fail, and the text that the
 /// writer received.

@@ -1,10 +1,11 @@
 //! Numbers written to any writer.
 
 use crate::asserting::assert_equal;
-use num_format::{CustomFormat, Error, Grouping, WriteFormatted};
+use num_format::{CustomFormat, WriteFormatted};
 use std::io;
 use std::process::Abort;
 use std::test::Fail;
+use test_memory::longest::longest_format;
 
 /// What [`append_numbers`] writes: 1000 twice, and the longest of all texts, which is that of `i128::MIN`
 /// in Indian groups with a separator and a minus sign of eight bytes.
@@ -15,15 +16,6 @@ pub const NUMBERS: &str =
 
 /// The length of [`NUMBERS`] in bytes.
 pub const LEN: usize = 201;
-
-/// Returns the format under which a text is longest.
-pub fn longest_format() -> Result<CustomFormat, Error> {
-    CustomFormat::builder()
-        .grouping(Grouping::Indian)
-        .separator("12345678")
-        .minus_sign("abcdefgh")
-        .build()
-}
 
 /// Writes 1000 under the format of `en`, and returns the length of its text in bytes.
 pub fn write_thousand<W: WriteFormatted>(writer: &mut W) -> Result<usize, io::Error> {

@@ -3,7 +3,7 @@
 //! `tools/memory_checks.py` counts the requests for memory that each of these tests makes. There is
 //! none, but the one for the `String` that is parsed.
 
-use crate::bytes::{LONGEST, longest_format};
+use crate::longest::{LONGEST, longest_format};
 use num_format::parsing::{FromFormattedStr, ParseFormatted, StrictError};
 use num_format::{
     Buffer, CustomFormat, Locale, ToFormattedStr, WriteFormatted, prints_alike, reads_back,
