@@ -1,10 +1,10 @@
 #!/usr/bin/env python3
-"""Writes the texts of test_decimal_parsing, and what is to be made of them, by Python's module decimal.
+"""Writes the lines of test_decimal, rows and texts, and what is to be printed for them, by Python's module decimal.
 
     python3 tools/decimal_texts.py
 
-The texts go into crates/test_decimal_parsing/stdin, a line each with the separator, the decimal mark and the minus
-sign of their format and a scale, and the expected output into crates/test_decimal_parsing/stdout. Python prints the
+The lines go into crates/test_decimal/stdin: the rows of tools/decimals.py, and then the texts of this file, each with
+the name of its format and a scale. The expected output goes into crates/test_decimal/stdout. Python prints the
 number that the digits of a text write, as tools/decimals.py does, and compares: so it is found whether the text is
 spelled as the number is printed. The place of an unexpected byte is where a regular expression ends. The texts are
 the same in each run.
@@ -13,9 +13,10 @@ import random
 import re
 from pathlib import Path
 
+import decimals
 from decimals import FORMATS, HIGH, LOW, rescaled, some_units, text
 
-CRATE = Path(__file__).resolve().parent.parent / "crates" / "test_decimal_parsing"
+CRATE = Path(__file__).resolve().parent.parent / "crates" / "test_decimal"
 
 # Texts whose results say most: each cause, and what nearly is a number.
 EXAMPLES = [
@@ -142,12 +143,16 @@ def some_row(chance):
     return name, shown, chance.choice([chance.randrange(41), max(scale - 1, 0), scale, scale + 1])
 
 
-def main():
+def lines():
+    """Each line of test_decimal with a text, and what is printed for it."""
     chance = random.Random(11)
     rows = EXAMPLES + [some_row(chance) for _ in range(5000 - len(EXAMPLES))]
-    lines = ["\t".join([*FORMATS[name], shown, str(to)]) for name, shown, to in rows]
-    (CRATE / "stdin").write_text("\n".join(lines) + "\n")
-    (CRATE / "stdout").write_text("\n".join(map(expected, rows)) + "\n")
+    return [("\t".join(["parse", name, shown, str(to)]), expected((name, shown, to))) for name, shown, to in rows]
+
+
+def main():
+    for file, each in zip(["stdin", "stdout"], zip(*decimals.lines(), *lines())):
+        (CRATE / file).write_text("\n".join(each) + "\n")
 
 
 if __name__ == "__main__":

@@ -1,18 +1,11 @@
-#!/usr/bin/env python3
-"""Writes the rows of test_decimal, and what Python's module decimal makes of them.
+"""The rows of decimals that test_decimal prints, and what Python's module decimal makes of them.
 
-    python3 tools/decimals.py
-
-The rows go into crates/test_decimal/stdin, and the expected output into crates/test_decimal/stdout. Python
-computes each result: the text by format(d, ",f"), with the marks of the format in place of its own, the roundings
-by quantize, the order by comparison, and the sums by + and -. The rows are the same in each run.
+Python computes each result: the text by format(d, ",f"), with the marks of the format in place of its own, the
+roundings by quantize, the order by comparison, and the sums by + and -. The rows are the same in each run.
 """
 import decimal
 import random
 from decimal import Decimal
-from pathlib import Path
-
-CRATE = Path(__file__).resolve().parent.parent / "crates" / "test_decimal"
 
 # More digits than any result has, so that each is exact.
 decimal.getcontext().prec = 200
@@ -144,13 +137,8 @@ def some_row(chance):
     return chance.choice(list(FORMATS)), units, scale, other_units, other_scale, to
 
 
-def main():
+def lines():
+    """Each line of test_decimal with a row, and what is printed for it."""
     chance = random.Random(7)
     rows = EXAMPLES + [some_row(chance) for _ in range(4500 - len(EXAMPLES))]
-    lines = ["\t".join(map(str, row)) for row in rows]
-    (CRATE / "stdin").write_text("\n".join(lines) + "\n")
-    (CRATE / "stdout").write_text("\n".join(map(expected, rows)) + "\n")
-
-
-if __name__ == "__main__":
-    main()
+    return [("\t".join(["print", *map(str, row)]), expected(row)) for row in rows]

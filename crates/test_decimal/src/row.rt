@@ -1,8 +1,8 @@
 //! A row of numbers, and what is printed for it.
 
+use crate::format::format_named;
 use num_format_custom::CustomFormat;
 use num_format_decimal::{Decimal, DecimalBuffer, Rounding};
-use num_format_text::Grouping;
 use std::alloc::{AllocError, Global};
 use std::cmp::Ordering;
 use std::hash::{DefaultHasher, Hash, Hasher};
@@ -10,7 +10,7 @@ use std::io;
 
 /// A format, two decimals and a scale.
 ///
-/// In a line they are six fields with tabs between them: the name of the format, the units and the scale of
+/// They are six fields with tabs between them: the name of the format, the units and the scale of
 /// each decimal, and the scale.
 #[derive(Drop)]
 pub struct Row {
@@ -21,9 +21,9 @@ pub struct Row {
 }
 
 impl Row {
-    /// Returns the row of a line, or `None` if the line is none.
-    pub fn parse(line: &str) -> Option<Row> {
-        let mut fields = line.split('\t');
+    /// Returns the row of these fields, or `None` if they are none.
+    pub fn parse(fields: &str) -> Option<Row> {
+        let mut fields = fields.split('\t');
         let format = format_named(fields.next()?)?;
         let first = decimal_of(fields.next()?, fields.next()?)?;
         let second = decimal_of(fields.next()?, fields.next()?)?;
@@ -94,27 +94,6 @@ impl Row {
             Err(error) => format!(in alloc; "{error:?}: {error}"),
         }
     }
-}
-
-/// Returns the format of a name.
-fn format_named(name: &str) -> Option<CustomFormat> {
-    let builder = CustomFormat::builder();
-    let builder = match name {
-        "english" => builder,
-        "german" => builder.separator(".").decimal(","),
-        "french" => builder.separator("\u{202F}").decimal(","),
-        "arabic" => builder
-            .separator("\u{66C}")
-            .decimal("\u{66B}")
-            .minus_sign("\u{2212}"),
-        "plain" => builder.grouping(Grouping::Posix),
-        "longest" => builder
-            .separator("<<<<>>>>")
-            .decimal("[[[[]]]]")
-            .minus_sign("--------"),
-        _ => return None,
-    };
-    builder.build().ok()
 }
 
 /// Returns the decimal of two fields.
