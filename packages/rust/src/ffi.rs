@@ -46,6 +46,7 @@ pub(crate) struct RawFormat {
 }
 
 extern "C" {
+    #[cfg(test)]
     fn num_format_custom_decimal(
         format: *mut RawFormat,
         separator: *const u8,
@@ -184,10 +185,30 @@ impl RawFormat {
         RawFormat::filled(format, format.decimal().into_str())
     }
 
+    /// Returns a format, without a call: the bytes are those that `num_format_custom_decimal` writes, and each
+    /// call that is given them tests them.
     #[inline]
     fn filled<F: Format>(format: &F, decimal_mark: &str) -> RawFormat {
+        let (separator, separator_length) = padded(format.separator().into_str());
+        let (minus_sign, minus_sign_length) = padded(format.minus_sign().into_str());
+        let (decimal_mark, decimal_mark_length) = padded(decimal_mark);
+        RawFormat {
+            separator,
+            minus_sign,
+            decimal_mark,
+            separator_length,
+            minus_sign_length,
+            decimal_mark_length,
+            grouping: code(format.grouping()),
+        }
+    }
+
+    /// Returns the format that the library makes of these.
+    #[cfg(test)]
+    fn by_library<F: Format>(format: &F) -> RawFormat {
         let separator = format.separator().into_str();
         let minus_sign = format.minus_sign().into_str();
+        let decimal_mark = format.decimal().into_str();
         let mut raw = RawFormat::default();
         // SAFETY: each pointer and length are those of one `str`, and `raw` is this function's own.
         let status = unsafe {
@@ -195,15 +216,14 @@ impl RawFormat {
                 &mut raw,
                 separator.as_ptr(),
                 separator.len(),
-                code(format.grouping()),
+                u32::from(code(format.grouping())),
                 minus_sign.as_ptr(),
                 minus_sign.len(),
                 decimal_mark.as_ptr(),
                 decimal_mark.len(),
             )
         };
-        // Texts of at most 8 bytes and a grouping are a format.
-        assert_eq!(status, status::OK, "{OTHER_LIBRARY}");
+        assert_eq!(status, status::OK);
         raw
     }
 
@@ -231,7 +251,7 @@ impl RawFormat {
 
 /// Returns what stands for a grouping in the header.
 #[inline]
-fn code(grouping: Grouping) -> u32 {
+fn code(grouping: Grouping) -> u8 {
     match grouping {
         Grouping::Standard => 1,
         Grouping::Indian => 2,
@@ -241,6 +261,16 @@ fn code(grouping: Grouping) -> u32 {
         #[cfg(feature = "with-more-groupings")]
         Grouping::Sparse => 5,
     }
+}
+
+/// Returns the bytes of a text of at most 8 bytes, with zeros after them, and its length.
+#[inline]
+fn padded(text: &str) -> ([u8; 8], u8) {
+    let mut bytes = [0; 8];
+    for (byte, byte_of_text) in bytes.iter_mut().zip(text.bytes()) {
+        *byte = byte_of_text;
+    }
+    (bytes, text.len() as u8)
 }
 
 /// A text of at most `N` bytes, in place: a copy of a `str`, or what the library printed. Its bytes are UTF-8.
@@ -485,4 +515,48 @@ fn halves(number: u128) -> (u64, u64) {
 #[inline]
 fn whole(low: u64, high: u64) -> u128 {
     u128::from(high) << 64 | u128::from(low)
+}
+
+#[cfg(test)]
+mod tests {
+    use super::RawFormat;
+    use crate::{CustomFormat, Grouping};
+
+    #[test]
+    fn formats_are_filled_as_the_library_does() {
+        for grouping in [Grouping::Standard, Grouping::Indian, Grouping::Posix] {
+            for text in [
+                "",
+                "x",
+                "é",
+                "€",
+                "🙌",
+                "abcde",
+                "€€",
+                "\u{200e}-\u{200e}",
+                "abcdefgh",
+            ] {
+                let builder = CustomFormat::builder().grouping(grouping);
+                for builder in [
+                    builder.clone().separator(text),
+                    builder.clone().minus_sign(text),
+                    builder.decimal(text),
+                ] {
+                    let format = builder.build().unwrap();
+                    let raw = RawFormat::with_decimal_mark(&format);
+                    assert_eq!(raw, RawFormat::by_library(&format));
+                }
+            }
+        }
+    }
+
+    #[cfg(feature = "with-more-groupings")]
+    #[test]
+    fn the_other_groupings_are_those_of_the_library() {
+        for grouping in [Grouping::Myriad, Grouping::Sparse] {
+            let format = CustomFormat::builder().grouping(grouping).build().unwrap();
+            let raw = RawFormat::with_decimal_mark(&format);
+            assert_eq!(raw, RawFormat::by_library(&format));
+        }
+    }
 }
