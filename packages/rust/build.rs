@@ -8,7 +8,7 @@ use std::{env, fs, process};
 /// The variable that names the library.
 const VARIABLE: &str = "NUM_FORMAT_LIBRARY";
 
-/// Where the repository has the library.
+/// Where the repository has the library, from the folder of this crate, in which build scripts run.
 const IN_REPOSITORY: &str = "../../crates/num_format_c/out/libnum_format_c.a";
 
 fn main() {
@@ -43,10 +43,9 @@ fn library() -> Result<PathBuf, String> {
             Err(format!("{VARIABLE} names no file: {}", path.display()))
         };
     }
-    let in_repository = Path::new(env!("CARGO_MANIFEST_DIR")).join(IN_REPOSITORY);
     installed()
         .into_iter()
-        .chain([in_repository])
+        .chain([PathBuf::from(IN_REPOSITORY)])
         .find(|path| path.is_file())
         .ok_or_else(|| {
             format!(
