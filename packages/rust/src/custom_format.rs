@@ -89,30 +89,37 @@ impl Default for CustomFormat {
 }
 
 impl Format for CustomFormat {
+    #[inline]
     fn decimal(&self) -> DecimalStr<'_> {
         self.dec.as_borrowed()
     }
 
+    #[inline]
     fn grouping(&self) -> Grouping {
         self.grp
     }
 
+    #[inline]
     fn infinity(&self) -> InfinityStr<'_> {
         self.inf.as_borrowed()
     }
 
+    #[inline]
     fn minus_sign(&self) -> MinusSignStr<'_> {
         self.min.as_borrowed()
     }
 
+    #[inline]
     fn nan(&self) -> NanStr<'_> {
         self.nan.as_borrowed()
     }
 
+    #[inline]
     fn plus_sign(&self) -> PlusSignStr<'_> {
         self.plus.as_borrowed()
     }
 
+    #[inline]
     fn separator(&self) -> SeparatorStr<'_> {
         self.sep.as_borrowed()
     }

@@ -249,7 +249,7 @@ impl RawFormat {
     }
 }
 
-/// Returns what stands for a grouping in the header.
+/// Returns the constant of the header for a grouping.
 #[inline]
 fn code(grouping: Grouping) -> u8 {
     match grouping {

@@ -121,36 +121,44 @@ impl Locale {
         self.row().separator.into_str()
     }
 
+    #[inline]
     fn row(&self) -> &'static Row {
         &table::ROWS[*self as usize]
     }
 }
 
 impl Format for Locale {
+    #[inline]
     fn decimal(&self) -> DecimalStr<'_> {
         self.row().decimal
     }
 
+    #[inline]
     fn grouping(&self) -> Grouping {
         self.row().grouping
     }
 
+    #[inline]
     fn infinity(&self) -> InfinityStr<'_> {
         self.row().infinity
     }
 
+    #[inline]
     fn minus_sign(&self) -> MinusSignStr<'_> {
         self.row().minus_sign
     }
 
+    #[inline]
     fn nan(&self) -> NanStr<'_> {
         self.row().nan
     }
 
+    #[inline]
     fn plus_sign(&self) -> PlusSignStr<'_> {
         self.row().plus_sign
     }
 
+    #[inline]
     fn separator(&self) -> SeparatorStr<'_> {
         self.row().separator
     }

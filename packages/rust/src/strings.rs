@@ -23,6 +23,7 @@ macro_rules! define_text {
 
         impl<'a> $borrowed<'a> {
             /// Returns the text, or an error of kind [`Capacity`](crate::ErrorKind::Capacity) if it is too long.
+            #[inline]
             pub fn new(s: &'a str) -> Result<$borrowed<'a>, Error> {
                 if s.len() > $max_len {
                     return Err(Error::capacity(s.len(), $max_len));
@@ -37,6 +38,7 @@ macro_rules! define_text {
             }
 
             /// Returns the text.
+            #[inline]
             pub fn into_str(self) -> &'a str {
                 self.0
             }
@@ -73,6 +75,7 @@ macro_rules! define_text {
                 Inline::new(s.as_ref()).map($owned)
             }
 
+            #[inline]
             pub(crate) fn as_borrowed(&self) -> $borrowed<'_> {
                 $borrowed(&self.0)
             }
@@ -134,6 +137,7 @@ impl<const N: usize> Inline<N> {
 impl<const N: usize> Deref for Inline<N> {
     type Target = str;
 
+    #[inline]
     fn deref(&self) -> &str {
         self.0.as_str()
     }

@@ -54,3 +54,11 @@ fn a_custom_format() -> Result<(), Error> {
     assert_eq!(buffer.as_str(), "🙌10😀00😀000");
     Ok(())
 }
+
+#[test]
+fn parsing() {
+    use num_format::parsing::ParseFormatted;
+
+    let number = "1,000,000".parse_formatted::<_, u32>(&Locale::en).unwrap();
+    assert_eq!(number, 1_000_000);
+}

@@ -46,8 +46,8 @@ fn custom(grouping: Grouping, separator: &str, minus_sign: &str) -> CustomFormat
         .unwrap()
 }
 
-/// Checks that a number has these texts: in groups of three and Indian ones, each with a comma and with longer
-/// texts, and with no groups. A `~` stands for the longer minus sign, and a `|` for the longer separator.
+/// Checks that a number has these texts, in groups of three and in Indian ones, also with a longer separator and
+/// minus sign, and that it has no separator without groups or by an empty separator.
 fn check_all<N: ToFormattedStr + Copy>(number: N, standard: &str, indian: &str) {
     const SEPARATOR: &str = "\u{202f}\u{2019}";
     const MINUS_SIGN: &str = "\u{200e}-\u{200e}";
