@@ -17,8 +17,8 @@ pub(crate) const MAX_LEN: usize = 191;
 /// The most bytes of the text of a decimal, under any format: `NUM_FORMAT_DECIMAL_MAX` of the header.
 pub(crate) const MAX_DECIMAL_LEN: usize = 199;
 
-/// The statuses of the header that parsing returns. No other is returned for a struct that the library filled,
-/// a `str` and a number of bits that a type has.
+/// The statuses of the header that parsing returns. No other is returned for a struct that has a format, a `str`
+/// and a number of bits that a type has.
 mod status {
     pub(super) const OK: i32 = 0;
     pub(super) const NOT_A_NUMBER: i32 = -4;

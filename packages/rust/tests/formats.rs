@@ -137,6 +137,30 @@ fn errors() {
     assert!(std::error::Error::source(&error).is_none());
 }
 
+/// A `match` that names each kind of num-format's, and each grouping, needs no other arm.
+#[test]
+fn kinds_of_errors_are_those_of_num_format() {
+    let name = |error: Error| match error.kind() {
+        ErrorKind::Capacity { .. } => "capacity",
+        ErrorKind::Other(_) => "other",
+        ErrorKind::ParseLocale(_) => "locale",
+        ErrorKind::ParseNumber(_) => "number",
+    };
+    assert_eq!(name(Error::new("")), "other");
+    assert_eq!(name(capacity(9, 8)), "capacity");
+}
+
+#[cfg(not(feature = "with-more-groupings"))]
+#[test]
+fn groupings_are_those_of_num_format() {
+    let size = |grouping| match grouping {
+        Grouping::Standard => Some(3),
+        Grouping::Indian => Some(2),
+        Grouping::Posix => None,
+    };
+    assert_eq!(size(Locale::hi.grouping()), Some(2));
+}
+
 /// Without std an error keeps whole characters of a text within 256 bytes; with std, all of it.
 #[test]
 fn errors_of_long_texts() {
