@@ -1,0 +1,68 @@
+//! Links the proved static library: the file that NUM_FORMAT_LIBRARY names, else that of pkg-config's
+//! `num_format`, else the one that `rt lib` builds in the repository of this crate.
+
+use std::path::{Path, PathBuf};
+use std::process::Command;
+use std::{env, fs, process};
+
+/// The variable that names the library.
+const VARIABLE: &str = "NUM_FORMAT_LIBRARY";
+
+/// Where the repository has the library, from the folder of this crate, in which build scripts run.
+const IN_REPOSITORY: &str = "../../crates/num_format_c/out/libnum_format_c.a";
+
+fn main() {
+    println!("cargo:rerun-if-changed=build.rs");
+    println!("cargo:rerun-if-env-changed={VARIABLE}");
+    println!("cargo:rerun-if-env-changed=PKG_CONFIG_PATH");
+    if let Err(error) = link() {
+        eprintln!("error: {error}");
+        process::exit(1);
+    }
+}
+
+/// Has the library linked under a name of its own, from a copy of its file.
+fn link() -> Result<(), String> {
+    let library = library()?;
+    println!("cargo:rerun-if-changed={}", library.display());
+    let folder = PathBuf::from(env::var_os("OUT_DIR").ok_or("cargo sets no OUT_DIR")?);
+    fs::copy(&library, folder.join("libnum_format.a"))
+        .map_err(|error| format!("{}: {error}", library.display()))?;
+    println!("cargo:rustc-link-search=native={}", folder.display());
+    println!("cargo:rustc-link-lib=static=num_format");
+    Ok(())
+}
+
+/// Returns the path of the library.
+fn library() -> Result<PathBuf, String> {
+    if let Some(path) = env::var_os(VARIABLE) {
+        let path = PathBuf::from(path);
+        return if path.is_file() {
+            Ok(path)
+        } else {
+            Err(format!("{VARIABLE} names no file: {}", path.display()))
+        };
+    }
+    installed()
+        .into_iter()
+        .chain([PathBuf::from(IN_REPOSITORY)])
+        .find(|path| path.is_file())
+        .ok_or_else(|| {
+            format!(
+                "there is no proved library to link. Set {VARIABLE} to the path of libnum_format_c.a or \
+                 libnum_format.a, install the C package so that `pkg-config num_format` knows it, or run \
+                 `rt lib` in crates/num_format_c of the repository."
+            )
+        })
+}
+
+/// Returns where pkg-config says that the static library is, if it knows one.
+fn installed() -> Option<PathBuf> {
+    let output = Command::new("pkg-config")
+        .args(["--variable=libdir", "num_format"])
+        .output()
+        .ok()
+        .filter(|output| output.status.success())?;
+    let folder = String::from_utf8(output.stdout).ok()?;
+    Some(Path::new(folder.trim()).join("libnum_format.a"))
+}
