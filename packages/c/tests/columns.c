@@ -80,14 +80,41 @@ static void check_empty(const num_format *format) {
     CHECK("no rows parsed: as they were", 0, number == 7 && row_status == 7, 1);
 }
 
-/* A part of a column, whose first offset is above 0. */
+/* A part of a column, whose first offset is above 0 and whose last is below the length. */
 static void check_part(const num_format *format) {
-    static const int32_t offsets[] = {2, 7, 7, 11};
+    static const char bytes[] = "1,-1.234-5675";
+    static const int32_t offsets[] = {2, 8, 8, 12};
     int64_t numbers[3] = {7, 7, 7};
     int32_t statuses[3];
-    CHECK("part", 0, num_format_parse_strict_i64_column(format, offsets, 4, "1,-1.234-5675", 13, numbers, 3, statuses, 3), 0);
-    CHECK("part: numbers", 0, numbers[0] == 7 && numbers[1] == 7 && numbers[2] == 7, 0);
-    CHECK("part: no digit", 1, statuses[1], NUM_FORMAT_NO_DIGIT);
+    CHECK("part", 0, num_format_parse_strict_i64_column(format, offsets, 4, bytes, sizeof bytes - 1, numbers, 3, statuses, 3), 0);
+    CHECK("part: numbers", 0, numbers[0] == -1234 && numbers[1] == 7 && numbers[2] == -567, 1);
+    CHECK("part: statuses", 0, statuses[0] == 0 && statuses[1] == NUM_FORMAT_NO_DIGIT && statuses[2] == 0, 1);
+}
+
+/* A pointer may be null where its length is 0. */
+static void check_null(const num_format *format) {
+    num_format filled;
+    int64_t number = 7;
+    uint64_t low = 7, high = 7;
+    uint32_t scale = 7;
+    int32_t offset = -1;
+    size_t at = 7, size = 7;
+    CHECK("null name", 0, num_format_locale(&filled, NULL, 0), NUM_FORMAT_UNKNOWN_LOCALE);
+    CHECK("null separator and minus sign", 0, num_format_custom(&filled, NULL, 0, 1, NULL, 0), 0);
+    CHECK("null decimal mark", 0, num_format_custom_decimal(&filled, NULL, 0, 1, NULL, 0, NULL, 0), 0);
+    CHECK("null array", 0, num_format_print_i64(format, 1, NULL, 0), NUM_FORMAT_TOO_SMALL);
+    CHECK("null array of a name", 0, num_format_names(0, NULL, 0), NUM_FORMAT_TOO_SMALL);
+    CHECK("null array of a decimal", 0, num_format_print_decimal(format, 1, 0, 2, NULL, 0), NUM_FORMAT_TOO_SMALL);
+    CHECK("null text", 0, num_format_parse_i64(format, 64, NULL, 0, &number), NUM_FORMAT_NOT_A_NUMBER);
+    CHECK("null text, 128 bits", 0, num_format_parse_i128(format, NULL, 0, &low, &high), NUM_FORMAT_NOT_A_NUMBER);
+    CHECK("null text, strict", 0, num_format_parse_strict_i64(format, 64, NULL, 0, &number, &at), NUM_FORMAT_NO_DIGIT);
+    CHECK("null text, strict, 128 bits", 0, num_format_parse_strict_u128(format, NULL, 0, &low, &high, &at), NUM_FORMAT_NO_DIGIT);
+    CHECK("null text of a decimal", 0, num_format_parse_decimal(format, NULL, 0, &low, &high, &scale, &at), NUM_FORMAT_NO_DIGIT);
+    CHECK("null column", 0, num_format_print_i64_column(format, NULL, 0, &offset, 1, NULL, 0), 0);
+    CHECK("null column's length", 0, num_format_print_i64_column_len(format, NULL, 0, &size), 0);
+    CHECK("null column parsed", 0, num_format_parse_i64_column(format, &offset, 1, NULL, 0, NULL, 0, NULL, 0), 0);
+    CHECK("null offsets", 0, num_format_parse_i64_column(format, NULL, 0, NULL, 0, NULL, 0, NULL, 0), NUM_FORMAT_BAD_LENGTH);
+    CHECK("written", 0, number == 7 && low == 7 && high == 7 && scale == 7 && at == 7 && offset == 0 && size == 0, 1);
 }
 
 int main(void) {
@@ -103,6 +130,7 @@ int main(void) {
     unsigned_large(&format);
     check_empty(&format);
     check_part(&format);
+    check_null(&format);
     CHECK("version", 0, num_format_version(), NUM_FORMAT_VERSION);
     return status;
 }
