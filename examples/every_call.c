@@ -1,4 +1,4 @@
-/* Makes each call at least once, also with structs that no call filled, and prints what it returns. */
+/* Makes each call but those for columns at least once, also with structs that no call filled, and prints what it returns. */
 #include "num_format.h"
 
 #include <stdio.h>

@@ -31,6 +31,25 @@ int32_t num_format_parse_decimal(const num_format *, const char *, size_t, uint6
 int32_t num_format_reads_back(const num_format *);
 int32_t num_format_prints_alike(const num_format *, const num_format *);
 int32_t num_format_names(size_t, char *, size_t);
+uint32_t num_format_version(void);
+
+/* The calls for columns of a type. */
+#define COLUMN_CALLS(name, type) \
+    int32_t num_format_print_##name##_column(const num_format *, const type *, size_t, int32_t *, size_t, char *, size_t); \
+    int32_t num_format_print_##name##_large_column(const num_format *, const type *, size_t, int64_t *, size_t, char *, size_t); \
+    int32_t num_format_print_##name##_column_len(const num_format *, const type *, size_t, size_t *); \
+    int32_t num_format_parse_##name##_column(const num_format *, const int32_t *, size_t, const char *, size_t, type *, size_t, int32_t *, size_t); \
+    int32_t num_format_parse_##name##_large_column(const num_format *, const int64_t *, size_t, const char *, size_t, type *, size_t, int32_t *, size_t); \
+    int32_t num_format_parse_strict_##name##_column(const num_format *, const int32_t *, size_t, const char *, size_t, type *, size_t, int32_t *, size_t); \
+    int32_t num_format_parse_strict_##name##_large_column(const num_format *, const int64_t *, size_t, const char *, size_t, type *, size_t, int32_t *, size_t)
+COLUMN_CALLS(i8, int8_t);
+COLUMN_CALLS(i16, int16_t);
+COLUMN_CALLS(i32, int32_t);
+COLUMN_CALLS(i64, int64_t);
+COLUMN_CALLS(u8, uint8_t);
+COLUMN_CALLS(u16, uint16_t);
+COLUMN_CALLS(u32, uint32_t);
+COLUMN_CALLS(u64, uint64_t);
 
 /* The longest text: -2^127 under Indian, with a separator and a minus sign of 8 bytes. */
 static const char longest[] =
@@ -86,6 +105,16 @@ static void check_constants(void) {
     CHECK(NUM_FORMAT_OUT_OF_RANGE, -12);
     CHECK(NUM_FORMAT_BAD_SCALE, -13);
     CHECK(NUM_FORMAT_TOO_MANY_DECIMALS, -14);
+    CHECK(NUM_FORMAT_BAD_LENGTH, -15);
+    CHECK(NUM_FORMAT_BAD_OFFSETS, -16);
+    CHECK(NUM_FORMAT_TOO_MANY_BYTES, -17);
+    CHECK(num_format_version(), NUM_FORMAT_VERSION);
+    check_bytes("strerror", num_format_strerror(-1), "the struct has no format");
+    check_bytes("strerror of no error", num_format_strerror(0), "ok");
+    for (int32_t code = -17; code < 0; code++) {
+        CHECK(strcmp(num_format_strerror(code), "unknown status") != 0, 1);
+    }
+    check_bytes("strerror of another", num_format_strerror(-18), "unknown status");
     CHECK(NUM_FORMAT_STANDARD, 1);
     CHECK(NUM_FORMAT_INDIAN, 2);
     CHECK(NUM_FORMAT_POSIX, 3);
@@ -373,6 +402,50 @@ static void check_longest(void) {
     check_bytes("the longest decimal", decimal, longest_decimal);
 }
 
+/* Columns of a type, one of whose ends is `end`, printed and parsed with offsets of either size. */
+#define CHECK_COLUMNS(name, type, end, end_text) do { \
+        static const type numbers[] = {7, (type)(end), 100}; \
+        static const char texts[] = "7" end_text "100"; \
+        const size_t size = sizeof texts - 1; \
+        type parsed[3] = {1, 1, 1}; \
+        int32_t offsets[4], statuses[3]; \
+        int64_t large[4]; \
+        char bytes[32]; \
+        size_t length = 0; \
+        CHECK(num_format_print_##name##_column_len(&de, numbers, 3, &length), 0); \
+        compare("length for " #name, (long long)length, (long long)size); \
+        CHECK(num_format_print_##name##_column(&de, numbers, 3, offsets, 4, bytes, size), 0); \
+        check_bytes("texts of " #name, bytes, texts); \
+        compare("offsets for " #name, offsets[0] == 0 && offsets[1] == 1 && offsets[2] == (int32_t)size - 3 && offsets[3] == (int32_t)size, 1); \
+        CHECK(num_format_print_##name##_large_column(&de, numbers, 3, large, 4, bytes, size), 0); \
+        compare("large offsets for " #name, large[0] == 0 && large[1] == 1 && large[2] == (int64_t)size - 3 && large[3] == (int64_t)size, 1); \
+        CHECK(num_format_parse_##name##_column(&de, offsets, 4, bytes, size, parsed, 3, statuses, 3), 0); \
+        compare("parsed for " #name, memcmp(parsed, numbers, sizeof numbers) == 0 && statuses[0] == 0 && statuses[1] == 0 && statuses[2] == 0, 1); \
+        memset(parsed, 0, sizeof parsed); \
+        CHECK(num_format_parse_##name##_large_column(&de, large, 4, bytes, size, parsed, 3, statuses, 3), 0); \
+        compare("parsed, large, for " #name, memcmp(parsed, numbers, sizeof numbers), 0); \
+        bytes[0] = 'x', parsed[0] = 9; \
+        CHECK(num_format_parse_strict_##name##_column(&de, offsets, 4, bytes, size, parsed, 3, statuses, 3), 0); \
+        compare("refused for " #name, statuses[0] == NUM_FORMAT_UNEXPECTED && parsed[0] == 9 && statuses[1] == 0, 1); \
+        CHECK(num_format_parse_strict_##name##_large_column(&de, large, 4, bytes, size, parsed, 3, statuses, 3), 0); \
+        CHECK(num_format_print_##name##_column(&de, numbers, 3, offsets, 3, bytes, size), NUM_FORMAT_BAD_LENGTH); \
+        CHECK(num_format_print_##name##_column(&de, numbers, 3, offsets, 4, bytes, size - 1), NUM_FORMAT_TOO_SMALL); \
+        CHECK(num_format_parse_##name##_column(&de, offsets, 4, bytes, size - 1, parsed, 3, statuses, 3), NUM_FORMAT_BAD_OFFSETS); \
+    } while (0)
+
+static void check_columns(void) {
+    num_format de;
+    CHECK(num_format_locale(&de, "de", 2), 0);
+    CHECK_COLUMNS(i8, int8_t, INT8_MIN, "-128");
+    CHECK_COLUMNS(i16, int16_t, INT16_MIN, "-32.768");
+    CHECK_COLUMNS(i32, int32_t, INT32_MIN, "-2.147.483.648");
+    CHECK_COLUMNS(i64, int64_t, INT64_MIN, "-9.223.372.036.854.775.808");
+    CHECK_COLUMNS(u8, uint8_t, UINT8_MAX, "255");
+    CHECK_COLUMNS(u16, uint16_t, UINT16_MAX, "65.535");
+    CHECK_COLUMNS(u32, uint32_t, UINT32_MAX, "4.294.967.295");
+    CHECK_COLUMNS(u64, uint64_t, UINT64_MAX, "18.446.744.073.709.551.615");
+}
+
 static void check_names(void) {
     char name[NUM_FORMAT_MAX];
     CHECK(num_format_names(0, name, sizeof name), 2);
@@ -397,5 +470,6 @@ int main(void) {
     check_ends();
     check_longest();
     check_names();
+    check_columns();
     return status;
 }

@@ -23,6 +23,7 @@ In this order:
    requests for memory, each time with another one refused, and counts those of calls that take none.
 8. tools/library_checks.py runs the programs of examples/ over the library for C, which was built beside
    `rt ci`, and holds it to its header.
+9. tools/package_checks.py runs the tests of each package in packages/ over that library.
 
 The last lines name each check that was skipped and why, and say how many passed and failed in all.
 The exit status is 1 where one failed.
@@ -39,6 +40,7 @@ import filter_checks
 import ledger_checks
 import library_checks
 import memory_checks
+import package_checks
 import program_checks
 import regroup_checks
 import trials
@@ -118,7 +120,9 @@ def test(tally, is_whole):
         copy = stack.enter_context(copied(is_whole))
         prove(tally, copy)
         check_programs(tally, copy, COMPILERS)
-        library_checks.check_all(tally, copy / library_checks.LIBRARY.relative_to(ROOT))
+        library = copy / library_checks.LIBRARY.relative_to(ROOT)
+        library_checks.check_all(tally, library)
+        package_checks.check_all(tally, library)
         trials.check_all(tally, tried)
 
 
@@ -135,6 +139,7 @@ def main():
         # `rt run` has one compiler.
         check_programs(tally, ROOT, COMPILERS[:1])
         library_checks.check_all(tally, library_checks.LIBRARY)
+        package_checks.check_all(tally, library_checks.LIBRARY)
         tally.skip("rt ci", "--skip-proofs leaves it out")
     else:
         test(tally, given.edits)

@@ -12,12 +12,13 @@
  *
  * A call that fails returns a negative number, one of those below, and everything that it would
  * have written is as it was, but for `at` with NUM_FORMAT_UNEXPECTED. Where several errors apply, each
- * call says which one it returns.
+ * call says which one it returns. num_format_strerror returns what a status means as a text.
  *
- * The contracts of the functions are proved. They hold for any bytes of a struct `num_format` and
- * of a text. What a caller must ensure, since no call can test it:
+ * The contracts of the functions are proved, but for num_format_strerror. They hold for any bytes of a
+ * struct `num_format` and of a text. What a caller must ensure, since no call can test it:
  *
- * - No pointer is null, also where the length is 0.
+ * - No pointer is null. (A pointer to a text or an array of length 0 may be: nothing is read or written
+ *   there. This alone is tested and not proved.)
  * - A pointer to a text or an array points to as many bytes as the length or capacity beside it
  *   says, which is at most PTRDIFF_MAX.
  * - What a call writes overlaps nothing else that is passed to it, and no other thread reads or
@@ -32,6 +33,10 @@
 #ifdef __cplusplus
 extern "C" {
 #endif
+
+/* The version of this header: 10,000 times the first number, plus 100 times the second, plus the third. It is
+ * 100 for 0.1.0. num_format_version returns that of the library. */
+#define NUM_FORMAT_VERSION 100
 
 /* The size of an array that the text of any number fits, under any format. */
 #define NUM_FORMAT_MAX 191
@@ -59,7 +64,11 @@ enum {
     NUM_FORMAT_OUT_OF_RANGE = -12,  /* the number is none of that many bits */
     NUM_FORMAT_BAD_SCALE = -13,     /* the scale of a decimal is above 38 */
     /* The text is refused as a decimal: see num_format_parse_decimal. */
-    NUM_FORMAT_TOO_MANY_DECIMALS = -14 /* more than 38 digits follow the decimal mark */
+    NUM_FORMAT_TOO_MANY_DECIMALS = -14, /* more than 38 digits follow the decimal mark */
+    /* The arrays of a column are refused: see num_format_print_i64_column and num_format_parse_i64_column. */
+    NUM_FORMAT_BAD_LENGTH = -15,    /* there are not as many offsets or statuses as the numbers need */
+    NUM_FORMAT_BAD_OFFSETS = -16,   /* an offset is below the one before it, or past the bytes */
+    NUM_FORMAT_TOO_MANY_BYTES = -17 /* the texts have more bytes than the last offset can say */
 };
 
 /* The groupings: where separators stand among the digits. */
@@ -238,6 +247,248 @@ int32_t num_format_prints_alike(const num_format *first, const num_format *secon
  *
  * Errors: NUM_FORMAT_UNKNOWN_LOCALE, else NUM_FORMAT_TOO_SMALL. */
 int32_t num_format_names(size_t place, char *name, size_t capacity);
+
+/* Returns the version of the library, as NUM_FORMAT_VERSION says that of the header. */
+uint32_t num_format_version(void);
+
+/* Columns: many numbers at once, in the layout of a column of strings of Apache Arrow.
+ *
+ * The texts of n numbers are one after another in the bytes, and n + 1 offsets say where: text k begins at
+ * offset k and ends where offset k + 1 says. Offsets are of 32 bits, or in the calls named `large` of 64
+ * bits. None is below 0.
+ *
+ * An array is aligned as C aligns its type. */
+
+/* Print n numbers, write the n + 1 offsets of their texts, of which the first is 0, and return 0. Text k is
+ * as by num_format_print_i64. The bytes after the last text are as they were.
+ *
+ * Errors, in this order, after which all is as it was:
+ * - NUM_FORMAT_BAD_FORMAT.
+ * - NUM_FORMAT_BAD_LENGTH: offsets_length is not n + 1.
+ * - NUM_FORMAT_TOO_MANY_BYTES: the texts have more bytes than the largest offset, 2^31 - 1 or 2^63 - 1.
+ * - NUM_FORMAT_TOO_SMALL: the texts have more bytes than the capacity. */
+int32_t num_format_print_i8_column(const num_format *format, const int8_t *numbers, size_t n,
+                                   int32_t *offsets, size_t offsets_length, char *bytes, size_t capacity);
+int32_t num_format_print_i16_column(const num_format *format, const int16_t *numbers, size_t n,
+                                    int32_t *offsets, size_t offsets_length, char *bytes, size_t capacity);
+int32_t num_format_print_i32_column(const num_format *format, const int32_t *numbers, size_t n,
+                                    int32_t *offsets, size_t offsets_length, char *bytes, size_t capacity);
+int32_t num_format_print_i64_column(const num_format *format, const int64_t *numbers, size_t n,
+                                    int32_t *offsets, size_t offsets_length, char *bytes, size_t capacity);
+int32_t num_format_print_u8_column(const num_format *format, const uint8_t *numbers, size_t n,
+                                   int32_t *offsets, size_t offsets_length, char *bytes, size_t capacity);
+int32_t num_format_print_u16_column(const num_format *format, const uint16_t *numbers, size_t n,
+                                    int32_t *offsets, size_t offsets_length, char *bytes, size_t capacity);
+int32_t num_format_print_u32_column(const num_format *format, const uint32_t *numbers, size_t n,
+                                    int32_t *offsets, size_t offsets_length, char *bytes, size_t capacity);
+int32_t num_format_print_u64_column(const num_format *format, const uint64_t *numbers, size_t n,
+                                    int32_t *offsets, size_t offsets_length, char *bytes, size_t capacity);
+int32_t num_format_print_i8_large_column(const num_format *format, const int8_t *numbers, size_t n,
+                                         int64_t *offsets, size_t offsets_length, char *bytes,
+                                         size_t capacity);
+int32_t num_format_print_i16_large_column(const num_format *format, const int16_t *numbers, size_t n,
+                                          int64_t *offsets, size_t offsets_length, char *bytes,
+                                          size_t capacity);
+int32_t num_format_print_i32_large_column(const num_format *format, const int32_t *numbers, size_t n,
+                                          int64_t *offsets, size_t offsets_length, char *bytes,
+                                          size_t capacity);
+int32_t num_format_print_i64_large_column(const num_format *format, const int64_t *numbers, size_t n,
+                                          int64_t *offsets, size_t offsets_length, char *bytes,
+                                          size_t capacity);
+int32_t num_format_print_u8_large_column(const num_format *format, const uint8_t *numbers, size_t n,
+                                         int64_t *offsets, size_t offsets_length, char *bytes,
+                                         size_t capacity);
+int32_t num_format_print_u16_large_column(const num_format *format, const uint16_t *numbers, size_t n,
+                                          int64_t *offsets, size_t offsets_length, char *bytes,
+                                          size_t capacity);
+int32_t num_format_print_u32_large_column(const num_format *format, const uint32_t *numbers, size_t n,
+                                          int64_t *offsets, size_t offsets_length, char *bytes,
+                                          size_t capacity);
+int32_t num_format_print_u64_large_column(const num_format *format, const uint64_t *numbers, size_t n,
+                                          int64_t *offsets, size_t offsets_length, char *bytes,
+                                          size_t capacity);
+
+/* Write how many bytes the texts of n numbers have together, and return 0.
+ *
+ * Errors: NUM_FORMAT_BAD_FORMAT, else NUM_FORMAT_TOO_MANY_BYTES: more than SIZE_MAX. */
+int32_t num_format_print_i8_column_len(const num_format *format, const int8_t *numbers, size_t n,
+                                       size_t *length);
+int32_t num_format_print_i16_column_len(const num_format *format, const int16_t *numbers, size_t n,
+                                        size_t *length);
+int32_t num_format_print_i32_column_len(const num_format *format, const int32_t *numbers, size_t n,
+                                        size_t *length);
+int32_t num_format_print_i64_column_len(const num_format *format, const int64_t *numbers, size_t n,
+                                        size_t *length);
+int32_t num_format_print_u8_column_len(const num_format *format, const uint8_t *numbers, size_t n,
+                                       size_t *length);
+int32_t num_format_print_u16_column_len(const num_format *format, const uint16_t *numbers, size_t n,
+                                        size_t *length);
+int32_t num_format_print_u32_column_len(const num_format *format, const uint32_t *numbers, size_t n,
+                                        size_t *length);
+int32_t num_format_print_u64_column_len(const num_format *format, const uint64_t *numbers, size_t n,
+                                        size_t *length);
+
+/* Parse n texts of a column as numbers of the type, and return 0. Row k is as by num_format_parse_i64:
+ * status k is what that call returns for the text, and number k is written where it is 0, and else as it
+ * was. A text that is refused stops nothing. The first offset may be above 0, and the last one below
+ * bytes_length.
+ *
+ * Statuses: 0, NUM_FORMAT_NOT_UTF8, NUM_FORMAT_NOT_A_NUMBER.
+ *
+ * Errors, in this order, after which all is as it was:
+ * - NUM_FORMAT_BAD_FORMAT.
+ * - NUM_FORMAT_BAD_LENGTH: offsets_length is not n + 1, or statuses_length is not n.
+ * - NUM_FORMAT_BAD_OFFSETS: an offset is below the one before it or below 0, or the last of several is above
+ *   bytes_length. */
+int32_t num_format_parse_i8_column(const num_format *format, const int32_t *offsets, size_t offsets_length,
+                                   const char *bytes, size_t bytes_length, int8_t *numbers, size_t n,
+                                   int32_t *statuses, size_t statuses_length);
+int32_t num_format_parse_i16_column(const num_format *format, const int32_t *offsets, size_t offsets_length,
+                                    const char *bytes, size_t bytes_length, int16_t *numbers, size_t n,
+                                    int32_t *statuses, size_t statuses_length);
+int32_t num_format_parse_i32_column(const num_format *format, const int32_t *offsets, size_t offsets_length,
+                                    const char *bytes, size_t bytes_length, int32_t *numbers, size_t n,
+                                    int32_t *statuses, size_t statuses_length);
+int32_t num_format_parse_i64_column(const num_format *format, const int32_t *offsets, size_t offsets_length,
+                                    const char *bytes, size_t bytes_length, int64_t *numbers, size_t n,
+                                    int32_t *statuses, size_t statuses_length);
+int32_t num_format_parse_u8_column(const num_format *format, const int32_t *offsets, size_t offsets_length,
+                                   const char *bytes, size_t bytes_length, uint8_t *numbers, size_t n,
+                                   int32_t *statuses, size_t statuses_length);
+int32_t num_format_parse_u16_column(const num_format *format, const int32_t *offsets, size_t offsets_length,
+                                    const char *bytes, size_t bytes_length, uint16_t *numbers, size_t n,
+                                    int32_t *statuses, size_t statuses_length);
+int32_t num_format_parse_u32_column(const num_format *format, const int32_t *offsets, size_t offsets_length,
+                                    const char *bytes, size_t bytes_length, uint32_t *numbers, size_t n,
+                                    int32_t *statuses, size_t statuses_length);
+int32_t num_format_parse_u64_column(const num_format *format, const int32_t *offsets, size_t offsets_length,
+                                    const char *bytes, size_t bytes_length, uint64_t *numbers, size_t n,
+                                    int32_t *statuses, size_t statuses_length);
+int32_t num_format_parse_i8_large_column(const num_format *format, const int64_t *offsets,
+                                         size_t offsets_length, const char *bytes, size_t bytes_length,
+                                         int8_t *numbers, size_t n, int32_t *statuses,
+                                         size_t statuses_length);
+int32_t num_format_parse_i16_large_column(const num_format *format, const int64_t *offsets,
+                                          size_t offsets_length, const char *bytes, size_t bytes_length,
+                                          int16_t *numbers, size_t n, int32_t *statuses,
+                                          size_t statuses_length);
+int32_t num_format_parse_i32_large_column(const num_format *format, const int64_t *offsets,
+                                          size_t offsets_length, const char *bytes, size_t bytes_length,
+                                          int32_t *numbers, size_t n, int32_t *statuses,
+                                          size_t statuses_length);
+int32_t num_format_parse_i64_large_column(const num_format *format, const int64_t *offsets,
+                                          size_t offsets_length, const char *bytes, size_t bytes_length,
+                                          int64_t *numbers, size_t n, int32_t *statuses,
+                                          size_t statuses_length);
+int32_t num_format_parse_u8_large_column(const num_format *format, const int64_t *offsets,
+                                         size_t offsets_length, const char *bytes, size_t bytes_length,
+                                         uint8_t *numbers, size_t n, int32_t *statuses,
+                                         size_t statuses_length);
+int32_t num_format_parse_u16_large_column(const num_format *format, const int64_t *offsets,
+                                          size_t offsets_length, const char *bytes, size_t bytes_length,
+                                          uint16_t *numbers, size_t n, int32_t *statuses,
+                                          size_t statuses_length);
+int32_t num_format_parse_u32_large_column(const num_format *format, const int64_t *offsets,
+                                          size_t offsets_length, const char *bytes, size_t bytes_length,
+                                          uint32_t *numbers, size_t n, int32_t *statuses,
+                                          size_t statuses_length);
+int32_t num_format_parse_u64_large_column(const num_format *format, const int64_t *offsets,
+                                          size_t offsets_length, const char *bytes, size_t bytes_length,
+                                          uint64_t *numbers, size_t n, int32_t *statuses,
+                                          size_t statuses_length);
+
+/* The same, with row k as by num_format_parse_strict_i64 but for its `at`.
+ *
+ * Statuses: 0, NUM_FORMAT_NOT_UTF8, NUM_FORMAT_UNEXPECTED, NUM_FORMAT_NO_DIGIT, NUM_FORMAT_MISSPELLED,
+ * NUM_FORMAT_OUT_OF_RANGE. The errors are those above. */
+int32_t num_format_parse_strict_i8_column(const num_format *format, const int32_t *offsets,
+                                          size_t offsets_length, const char *bytes, size_t bytes_length,
+                                          int8_t *numbers, size_t n, int32_t *statuses,
+                                          size_t statuses_length);
+int32_t num_format_parse_strict_i16_column(const num_format *format, const int32_t *offsets,
+                                           size_t offsets_length, const char *bytes, size_t bytes_length,
+                                           int16_t *numbers, size_t n, int32_t *statuses,
+                                           size_t statuses_length);
+int32_t num_format_parse_strict_i32_column(const num_format *format, const int32_t *offsets,
+                                           size_t offsets_length, const char *bytes, size_t bytes_length,
+                                           int32_t *numbers, size_t n, int32_t *statuses,
+                                           size_t statuses_length);
+int32_t num_format_parse_strict_i64_column(const num_format *format, const int32_t *offsets,
+                                           size_t offsets_length, const char *bytes, size_t bytes_length,
+                                           int64_t *numbers, size_t n, int32_t *statuses,
+                                           size_t statuses_length);
+int32_t num_format_parse_strict_u8_column(const num_format *format, const int32_t *offsets,
+                                          size_t offsets_length, const char *bytes, size_t bytes_length,
+                                          uint8_t *numbers, size_t n, int32_t *statuses,
+                                          size_t statuses_length);
+int32_t num_format_parse_strict_u16_column(const num_format *format, const int32_t *offsets,
+                                           size_t offsets_length, const char *bytes, size_t bytes_length,
+                                           uint16_t *numbers, size_t n, int32_t *statuses,
+                                           size_t statuses_length);
+int32_t num_format_parse_strict_u32_column(const num_format *format, const int32_t *offsets,
+                                           size_t offsets_length, const char *bytes, size_t bytes_length,
+                                           uint32_t *numbers, size_t n, int32_t *statuses,
+                                           size_t statuses_length);
+int32_t num_format_parse_strict_u64_column(const num_format *format, const int32_t *offsets,
+                                           size_t offsets_length, const char *bytes, size_t bytes_length,
+                                           uint64_t *numbers, size_t n, int32_t *statuses,
+                                           size_t statuses_length);
+int32_t num_format_parse_strict_i8_large_column(const num_format *format, const int64_t *offsets,
+                                                size_t offsets_length, const char *bytes,
+                                                size_t bytes_length, int8_t *numbers, size_t n,
+                                                int32_t *statuses, size_t statuses_length);
+int32_t num_format_parse_strict_i16_large_column(const num_format *format, const int64_t *offsets,
+                                                 size_t offsets_length, const char *bytes,
+                                                 size_t bytes_length, int16_t *numbers, size_t n,
+                                                 int32_t *statuses, size_t statuses_length);
+int32_t num_format_parse_strict_i32_large_column(const num_format *format, const int64_t *offsets,
+                                                 size_t offsets_length, const char *bytes,
+                                                 size_t bytes_length, int32_t *numbers, size_t n,
+                                                 int32_t *statuses, size_t statuses_length);
+int32_t num_format_parse_strict_i64_large_column(const num_format *format, const int64_t *offsets,
+                                                 size_t offsets_length, const char *bytes,
+                                                 size_t bytes_length, int64_t *numbers, size_t n,
+                                                 int32_t *statuses, size_t statuses_length);
+int32_t num_format_parse_strict_u8_large_column(const num_format *format, const int64_t *offsets,
+                                                size_t offsets_length, const char *bytes,
+                                                size_t bytes_length, uint8_t *numbers, size_t n,
+                                                int32_t *statuses, size_t statuses_length);
+int32_t num_format_parse_strict_u16_large_column(const num_format *format, const int64_t *offsets,
+                                                 size_t offsets_length, const char *bytes,
+                                                 size_t bytes_length, uint16_t *numbers, size_t n,
+                                                 int32_t *statuses, size_t statuses_length);
+int32_t num_format_parse_strict_u32_large_column(const num_format *format, const int64_t *offsets,
+                                                 size_t offsets_length, const char *bytes,
+                                                 size_t bytes_length, uint32_t *numbers, size_t n,
+                                                 int32_t *statuses, size_t statuses_length);
+int32_t num_format_parse_strict_u64_large_column(const num_format *format, const int64_t *offsets,
+                                                 size_t offsets_length, const char *bytes,
+                                                 size_t bytes_length, uint64_t *numbers, size_t n,
+                                                 int32_t *statuses, size_t statuses_length);
+
+/* Returns what a status means, as a text that is never freed: "ok" for 0 and above. */
+static inline const char *num_format_strerror(int32_t status) {
+    switch (status) {
+    case NUM_FORMAT_BAD_FORMAT: return "the struct has no format";
+    case NUM_FORMAT_TOO_SMALL: return "the array is shorter than the text";
+    case NUM_FORMAT_NOT_UTF8: return "the text is not UTF-8";
+    case NUM_FORMAT_NOT_A_NUMBER: return "the text is refused as a number";
+    case NUM_FORMAT_UNKNOWN_LOCALE: return "no such locale";
+    case NUM_FORMAT_TOO_LONG: return "a text of the format has more than 8 bytes";
+    case NUM_FORMAT_BAD_GROUPING: return "no such grouping";
+    case NUM_FORMAT_BAD_BITS: return "the number of bits is not 8, 16, 32 or 64";
+    case NUM_FORMAT_UNEXPECTED: return "unexpected byte";
+    case NUM_FORMAT_NO_DIGIT: return "the text has no digit";
+    case NUM_FORMAT_MISSPELLED: return "the text is not as its number is printed";
+    case NUM_FORMAT_OUT_OF_RANGE: return "the number is out of range";
+    case NUM_FORMAT_BAD_SCALE: return "the scale is above 38";
+    case NUM_FORMAT_TOO_MANY_DECIMALS: return "more than 38 digits follow the decimal mark";
+    case NUM_FORMAT_BAD_LENGTH: return "the lengths of a column's arrays do not fit one another";
+    case NUM_FORMAT_BAD_OFFSETS: return "an offset is below the one before it, or past the bytes";
+    case NUM_FORMAT_TOO_MANY_BYTES: return "the texts have more bytes than an offset can say";
+    default: return status < 0 ? "unknown status" : "ok";
+    }
+}
 
 #ifdef __cplusplus
 }

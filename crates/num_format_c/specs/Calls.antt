@@ -20,7 +20,7 @@ use Rattle.num_format_decimal.specs.declared.parsing.ParseDecimalError.TheVarian
 use Rattle.num_format_c.specs.Held.{Agrees, HasFormat, IsPadded, format_of, format_with, grouping_of}
 use Rattle.num_format_c.specs.declared.format.NumFormat.{NumFormat}
 use Rattle.num_format_c.specs.declared.status.Status.{Status}
-use Rattle.num_format_c.specs.declared.status.Status.TheVariants.{BadFormat, TooSmall, NotUtf8, NotANumber, UnknownLocale, TooLong, BadGrouping, BadBits, Unexpected, NoDigit, Misspelled, OutOfRange, BadScale, TooManyDecimals}
+use Rattle.num_format_c.specs.declared.status.Status.TheVariants.{BadFormat, TooSmall, NotUtf8, NotANumber, UnknownLocale, TooLong, BadGrouping, BadBits, Unexpected, NoDigit, Misspelled, OutOfRange, BadScale, TooManyDecimals, BadLength, BadOffsets, TooManyBytes}
 
 -- the number by which an error crosses to C; `negsuc n` is the number one below -n
 abbrev pub code : Status → ℤ
@@ -38,6 +38,9 @@ code Misspelled = negsuc 10
 code OutOfRange = negsuc 11
 code BadScale = negsuc 12
 code TooManyDecimals = negsuc 13
+code BadLength = negsuc 14
+code BadOffsets = negsuc 15
+code TooManyBytes = negsuc 16
 
 -- the number that a call returns
 abbrev pub returned : Result ℤ Status → ℤ

@@ -18,11 +18,24 @@ ghost use Rattle.num_format_c.specs.declared.status.Status.TheVariants.{BadBits}
 ghost use Rattle.num_format_c.specs.Held.{HasFormat, format_of};
 
 mod calls;
+pub mod column_calls;
+mod columns;
 pub mod format;
 pub mod status;
 
 use format::NumFormat;
 use status::{Status, returned};
+
+/// The version: 10,000 times its first number, 100 times its second, and its third.
+const VERSION: u32 = 100;
+
+/// Returns the version of the library: 10,000 times its first number, 100 times its second, and its third.
+#[unsafe(no_mangle)]
+pub extern "C" fn num_format_version() -> u32
+    ensures { result ≡ VERSION }
+{
+    VERSION
+}
 
 /// Fills the struct with the format of the locale that the name spells, and returns 0.
 ///

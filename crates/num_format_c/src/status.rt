@@ -33,6 +33,12 @@ pub enum Status {
     BadScale,
     /// The text has more than 38 decimals.
     TooManyDecimals,
+    /// There are not as many offsets or statuses as the numbers of a column need.
+    BadLength,
+    /// An offset is below the one before it, or past the bytes.
+    BadOffsets,
+    /// The texts have more bytes than the last offset can say.
+    TooManyBytes,
 }
 
 impl Status {
@@ -55,6 +61,9 @@ impl Status {
             Status::OutOfRange => -12,
             Status::BadScale => -13,
             Status::TooManyDecimals => -14,
+            Status::BadLength => -15,
+            Status::BadOffsets => -16,
+            Status::TooManyBytes => -17,
         }
     }
 }

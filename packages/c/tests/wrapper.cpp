@@ -1,0 +1,52 @@
+// The C++ wrapper, against values written by hand. Prints what is wrong, and ends with status 1 where something is.
+#include <num_format.hpp>
+
+#include <cstdio>
+
+static int status;
+
+static void check(const char *what, bool holds) {
+    if (!holds) {
+        std::fprintf(stderr, "%s\n", what);
+        status = 1;
+    }
+}
+
+// Whether a call throws that exception, with that status and place.
+template <class Error, class Call> static bool throws(Call call, int expected, std::size_t at = 0) {
+    try {
+        call();
+    } catch (const Error &error) {
+        return error.status == expected && error.at == at && error.what() == std::string(num_format_strerror(expected));
+    }
+    return false;
+}
+
+int main() {
+    const auto de = numfmt::format::locale("de");
+    const auto own = numfmt::format::custom("'", NUM_FORMAT_INDIAN, "~");
+    check("print", de.print(-1234567) == "-1.234.567");
+    check("print, unsigned", de.print(std::uint64_t(-1)) == "18.446.744.073.709.551.615");
+    check("print, own", own.print(std::int64_t(-1234567)) == "~12'34'567");
+    check("parse", de.parse<std::int16_t>("-1.234") == -1234);
+    check("parse, unsigned", de.parse<std::uint8_t>("255") == 255);
+    check("equal", de == numfmt::format::locale("de") && de != own);
+    check("reads_back", de.reads_back() && !numfmt::format::custom(",", 1, "").reads_back());
+    check("unexpected", throws<numfmt::unexpected>([&] { de.parse<int>("12x"); }, -9, 2));
+    check("no_digit", throws<numfmt::no_digit>([&] { de.parse<int>({}); }, -10));
+    check("misspelled", throws<numfmt::misspelled>([&] { de.parse<int>("1.23"); }, -11));
+    check("out_of_range", throws<numfmt::out_of_range>([&] { de.parse<std::uint8_t>("256"); }, -12));
+    check("not_utf8", throws<numfmt::not_utf8>([&] { de.parse<int>("\xff"); }, -3));
+    check("unknown_locale", throws<numfmt::unknown_locale>([] { numfmt::format::locale("xx"); }, -5));
+    check("unknown_locale, empty", throws<numfmt::unknown_locale>([] { numfmt::format::locale({}); }, -5));
+    check("too_long", throws<numfmt::too_long>([] { numfmt::format::custom("123456789", 1); }, -6));
+    check("bad_grouping", throws<numfmt::bad_grouping>([] { numfmt::format::custom(",", 6); }, -7));
+    check("error", throws<numfmt::error>([] { numfmt::format::locale("xx"); }, -5));
+    const std::vector<std::int64_t> numbers{0, -1234, 1234567};
+    auto texts = de.print(numbers);
+    check("column", texts.bytes == "0-1.2341.234.567" && texts[1] == "-1.234" && de.parse(texts) == numbers);
+    check("empty column", de.parse(de.print(std::vector<std::int64_t>{})).empty());
+    texts.bytes[5] = 'x';
+    check("refused column", throws<numfmt::unexpected>([&] { de.parse(texts); }, -9, 4));
+    return status;
+}
