@@ -1,0 +1,223 @@
+"""Single numbers: printed, and parsed."""
+from __future__ import annotations
+
+import operator
+from decimal import Decimal
+from typing import Any, SupportsIndex
+
+from ._errors import Cause, ParseError
+from ._format import Format, encoded, to_format
+from ._native import ffi, lib
+
+# The least and the largest number of 64 and of 128 bits, and the largest unsigned one of 128.
+_I64_MIN, _I64_MAX = -(2**63), 2**63 - 1
+_I128_MIN, _I128_MAX = -(2**127), 2**127 - 1
+_U128_MAX = 2**128 - 1
+
+_U64_MASK = 2**64 - 1
+
+_OUT_OF_RANGE = lib.NUM_FORMAT_OUT_OF_RANGE
+
+# The most decimals of a decimal.
+_MOST_DECIMALS = 38
+
+_MAX = lib.NUM_FORMAT_MAX
+_DECIMAL_MAX = lib.NUM_FORMAT_DECIMAL_MAX
+
+# A new array, of which a call that prints writes as much as is then read.
+_new = ffi.new_allocator(should_clear_after_alloc=False)
+_TEXT = ffi.typeof("char[]")
+
+
+def format(number: SupportsIndex | Decimal, format: Format | str) -> str:
+    """Returns the text of a number under a format.
+
+    >>> import num_format
+    >>> num_format.format(-1234567, "de")
+    '-1.234.567'
+    >>> num_format.format(1234567, num_format.Format(separator="_", grouping="Myriad"))
+    '123_4567'
+
+    A ``Decimal`` keeps its decimals, zeros at the end too, and is never rounded: `quantize` does that. A
+    negative zero is printed as zero.
+
+    >>> from decimal import Decimal
+    >>> num_format.format(Decimal("1234.50"), "de")
+    '1.234,50'
+    >>> num_format.format(Decimal("2.675").quantize(Decimal("0.01")), "de")
+    '2,68'
+
+    Args:
+        number: An ``int`` from -2**127 to 2**128 - 1, or what has one as its `__index__`, such as NumPy's
+            integers; or a ``Decimal`` of at most 38 decimals, whose digits without the mark are a number from
+            -2**127 to 2**127 - 1.
+        format: A :class:`Format`, or the name of a locale.
+
+    Raises:
+        OverflowError: The number is none of these, or is infinite.
+        ValueError: The ``Decimal`` is no number (NaN).
+        FormatError: No locale has the name.
+        TypeError: The number is of another type. A ``bool`` is refused, and so is a ``float``: ``Decimal(0.1)``
+            has 55 decimals.
+    """
+    struct = to_format(format)._struct
+    if type(number) is not int:
+        if isinstance(number, Decimal):
+            return _decimal_text(number, struct)
+        if isinstance(number, bool):
+            raise TypeError("a bool is not printed as a number")
+        number = operator.index(number)
+    text = _new(_TEXT, _MAX)
+    if _I64_MIN <= number <= _I64_MAX:
+        length = lib.num_format_print_i64(struct, number, text, _MAX)
+    elif 0 < number <= _U128_MAX:
+        length = lib.num_format_print_u128(struct, number & _U64_MASK, number >> 64, text, _MAX)
+    elif _I128_MIN <= number < 0:
+        length = lib.num_format_print_i128(struct, *_halves(number), text, _MAX)
+    else:
+        raise OverflowError("the number is not in the range from -2**127 to 2**128 - 1")
+    return ffi.unpack(text, length).decode()
+
+
+def _halves(number: int) -> tuple[int, int]:
+    """Returns the low and the high half of a number of 128 bits, in two's complement."""
+    return number & _U64_MASK, number >> 64 & _U64_MASK
+
+
+def _decimal_text(number: Decimal, struct: Any) -> str:
+    """Returns the text of a decimal."""
+    sign, digits, exponent = number.as_tuple()
+    if not isinstance(exponent, int):
+        # Raises the same as int() does: a ValueError for NaN, an OverflowError for infinity.
+        int(number)
+        raise AssertionError("unreachable")
+    units = int(Decimal((sign, digits, 0)))
+    scale = max(-exponent, 0)
+    # A number with more zeros than digits fit is not computed.
+    if units and 0 < exponent <= _MOST_DECIMALS:
+        units *= 10**exponent
+    elif units and exponent > 0 or not _I128_MIN <= units <= _I128_MAX:
+        raise OverflowError("the digits of the Decimal are not in the range from -2**127 to 2**127 - 1")
+    if scale > _MOST_DECIMALS:
+        raise OverflowError(f"the Decimal has more than {_MOST_DECIMALS} decimals")
+    text = _new(_TEXT, _DECIMAL_MAX)
+    length = lib.num_format_print_decimal(struct, *_halves(units), scale, text, _DECIMAL_MAX)
+    return ffi.unpack(text, length).decode()
+
+
+def parse(text: str, format: Format | str, *, lenient: bool = False) -> int:
+    """Returns the number that a text spells.
+
+    The text has to be exactly as the number is printed, with its separators or without any.
+
+    >>> import num_format
+    >>> num_format.parse("-1.234.567", "de"), num_format.parse("-1234567", "de")
+    (-1234567, -1234567)
+    >>> num_format.parse("1.23", "de")
+    Traceback (most recent call last):
+    num_format.ParseError: '1.23' is refused: it is not as its number is printed
+
+    With `lenient`, the number is that of the digits 0 to 9 in order, negated if the text begins with the
+    minus sign, and **all else is ignored**, a decimal mark too:
+
+    >>> num_format.parse(" 1 234,50 EUR", "de", lenient=True)
+    123450
+
+    Args:
+        text: A number from -2**127 to 2**128 - 1 as digits.
+        format: A :class:`Format`, or the name of a locale.
+        lenient: Whether what is no digit is ignored.
+
+    Raises:
+        ParseError: The text is refused. The error has the cause and, for an unexpected character, its index.
+        FormatError: No locale has the name.
+        TypeError: The text is no ``str``.
+    """
+    struct = to_format(format)._struct
+    read = _lenient if lenient else _strict
+    number, status, at = read(_encoded(text), struct)
+    if status < 0:
+        raise refusal(text, status, at)
+    return number
+
+
+def parse_decimal(text: str, format: Format | str) -> Decimal:
+    """Returns the decimal that a text spells.
+
+    The text has to be exactly as the decimal is printed, with its separators or without any. The result has
+    as many decimals as the text, and is exact, whatever the precision of the context is.
+
+    >>> import num_format
+    >>> num_format.parse_decimal("1.234,50", "de")
+    Decimal('1234.50')
+    >>> num_format.parse_decimal("1.234.50", "de")
+    Traceback (most recent call last):
+    num_format.ParseError: '1.234.50' is refused: it is not as its number is printed
+
+    Args:
+        text: A decimal of at most 38 decimals, whose digits without the mark are a number from -2**127 to
+            2**127 - 1.
+        format: A :class:`Format`, or the name of a locale.
+
+    Raises:
+        ParseError: The text is refused. The error has the cause and, for an unexpected character, its index.
+        FormatError: No locale has the name.
+        TypeError: The text is no ``str``.
+    """
+    struct = to_format(format)._struct
+    low, high, scale, at = ffi.new("uint64_t *"), ffi.new("uint64_t *"), ffi.new("uint32_t *"), ffi.new("size_t *")
+    given = _encoded(text)
+    status = lib.num_format_parse_decimal(struct, given, len(given), low, high, scale, at)
+    if status < 0:
+        raise refusal(text, status, at[0])
+    # A string is converted exactly, which arithmetic in a context is not.
+    return Decimal(f"{_signed(low[0], high[0])}E-{scale[0]}")
+
+
+def _encoded(text: str) -> bytes:
+    try:
+        return encoded(text)
+    except UnicodeEncodeError as error:
+        raise ParseError(text, Cause.NOT_UTF8, error.start) from None
+
+
+def _signed(low: int, high: int) -> int:
+    """Returns the number of 128 bits with these halves, in two's complement."""
+    number = high << 64 | low
+    return number if number <= _I128_MAX else number - 2**128
+
+
+def _strict(text: bytes, struct: Any) -> tuple[int, int, int]:
+    """Returns the number of the narrowest type that has it, or else a status below 0 and the place."""
+    number, at = ffi.new("int64_t *"), ffi.new("size_t *")
+    status = lib.num_format_parse_strict_i64(struct, 64, text, len(text), number, at)
+    if status != _OUT_OF_RANGE:
+        return number[0], status, at[0]
+    low, high = ffi.new("uint64_t *"), ffi.new("uint64_t *")
+    status = lib.num_format_parse_strict_i128(struct, text, len(text), low, high, at)
+    if status == 0:
+        return _signed(low[0], high[0]), 0, 0
+    status = lib.num_format_parse_strict_u128(struct, text, len(text), low, high, at)
+    return high[0] << 64 | low[0], status, 0
+
+
+def _lenient(text: bytes, struct: Any) -> tuple[int, int, int]:
+    """The same of lenient parsing, which has no place."""
+    number = ffi.new("int64_t *")
+    status = lib.num_format_parse_i64(struct, 64, text, len(text), number)
+    if status == 0:
+        return number[0], 0, 0
+    low, high = ffi.new("uint64_t *"), ffi.new("uint64_t *")
+    status = lib.num_format_parse_i128(struct, text, len(text), low, high)
+    if status == 0:
+        return _signed(low[0], high[0]), 0, 0
+    status = lib.num_format_parse_u128(struct, text, len(text), low, high)
+    return high[0] << 64 | low[0], status, 0
+
+
+def refusal(text: str, status: int, at: int) -> ParseError:
+    """Returns the error of a text that was refused with the status, at the byte if one was unexpected."""
+    cause = Cause(status)
+    if cause is not Cause.UNEXPECTED:
+        return ParseError(text, cause)
+    return ParseError(text, cause, len(text.encode()[:at].decode()))
