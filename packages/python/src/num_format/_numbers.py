@@ -26,7 +26,7 @@ _DECIMAL_MAX = lib.NUM_FORMAT_DECIMAL_MAX
 
 # A new array, of which a call that prints writes as much as is then read.
 _new = ffi.new_allocator(should_clear_after_alloc=False)
-_TEXT = ffi.typeof("char[]")
+_TEXT, _DECIMAL_TEXT = ffi.typeof(f"char[{_MAX}]"), ffi.typeof(f"char[{_DECIMAL_MAX}]")
 
 
 def format(number: SupportsIndex | Decimal, format: Format | str) -> str:
@@ -57,17 +57,17 @@ def format(number: SupportsIndex | Decimal, format: Format | str) -> str:
         OverflowError: The number is none of these, or is infinite.
         ValueError: The ``Decimal`` is no number (NaN).
         FormatError: No locale has the name.
-        TypeError: The number is of another type. A ``bool`` is refused, and so is a ``float``: ``Decimal(0.1)``
-            has 55 decimals.
+        TypeError: The number is of another type. A ``bool`` is refused, and so is a ``float``.
     """
     struct = to_format(format)._struct
     if type(number) is not int:
         if isinstance(number, Decimal):
             return _decimal_text(number, struct)
-        if isinstance(number, bool):
+        # NumPy's bool has an `__index__` too.
+        if isinstance(number, bool) or getattr(number, "dtype", None) == bool:
             raise TypeError("a bool is not printed as a number")
         number = operator.index(number)
-    text = _new(_TEXT, _MAX)
+    text = _new(_TEXT)
     if _I64_MIN <= number <= _I64_MAX:
         length = lib.num_format_print_i64(struct, number, text, _MAX)
     elif 0 < number <= _U128_MAX:
@@ -93,14 +93,14 @@ def _decimal_text(number: Decimal, struct: Any) -> str:
         raise AssertionError("unreachable")
     units = int(Decimal((sign, digits, 0)))
     scale = max(-exponent, 0)
-    # A number with more zeros than digits fit is not computed.
-    if units and 0 < exponent <= _MOST_DECIMALS:
-        units *= 10**exponent
-    elif units and exponent > 0 or not _I128_MIN <= units <= _I128_MAX:
+    # More zeros than a number has digits are not computed.
+    if units and exponent > 0:
+        units *= 10 ** min(exponent, _MOST_DECIMALS + 1)
+    if not _I128_MIN <= units <= _I128_MAX:
         raise OverflowError("the digits of the Decimal are not in the range from -2**127 to 2**127 - 1")
     if scale > _MOST_DECIMALS:
         raise OverflowError(f"the Decimal has more than {_MOST_DECIMALS} decimals")
-    text = _new(_TEXT, _DECIMAL_MAX)
+    text = _new(_DECIMAL_TEXT)
     length = lib.num_format_print_decimal(struct, *_halves(units), scale, text, _DECIMAL_MAX)
     return ffi.unpack(text, length).decode()
 

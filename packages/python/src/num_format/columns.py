@@ -8,7 +8,7 @@ A column is one call, without a loop in Python and without the GIL, so threads w
 >>> texts.tolist()
 ['5', '-1.234.567', '1.000']
 >>> parse_column(texts, "de")
-array([      5, -1234567,    1000])
+array([       5, -1234567,     1000])
 """
 from __future__ import annotations
 
@@ -137,7 +137,7 @@ class StringColumn:
         """Returns the texts as a list.
 
         >>> from num_format.columns import StringColumn
-        >>> StringColumn.from_strings([b"1", "23"]).tolist()
+        >>> StringColumn.from_strings(["1", "23"]).tolist()
         ['1', '23']
         """
         ends = self.offsets.tolist()
