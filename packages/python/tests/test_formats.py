@@ -84,7 +84,8 @@ def test_texts_of_up_to_8_bytes():
 
 @pytest.mark.parametrize("argument", ["separator", "minus_sign", "decimal_mark"])
 def test_refused_texts(argument):
-    for text, cause in [("123456789", Cause.TOO_LONG), ("\u20ac\u20ac\u20ac", Cause.TOO_LONG), ("\ud800", Cause.NOT_UTF8)]:
+    long, also_long, bad = "123456789", "\u20ac" * 3, "\ud800"
+    for text, cause in [(long, Cause.TOO_LONG), (also_long, Cause.TOO_LONG), (bad, Cause.NOT_UTF8)]:
         with pytest.raises(FormatError) as caught:
             Format(**{argument: text})
         error = caught.value
@@ -137,7 +138,8 @@ def test_errors_are_pickled():
 
 
 def test_messages_are_short():
-    for error in [num_format.ParseError("9" * 5000, Cause.OUT_OF_RANGE), FormatError("locale", "x" * 5000, Cause.UNKNOWN_LOCALE)]:
+    long = "9" * 5000
+    for error in [num_format.ParseError(long, Cause.OUT_OF_RANGE), FormatError("locale", long, Cause.UNKNOWN_LOCALE)]:
         assert len(str(error)) < 150
 
 

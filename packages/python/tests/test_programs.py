@@ -15,7 +15,8 @@ HOW = "import build_native; print(build_native.how)"
 def run(*words, **env):
     """A program's status and what it prints, without the library's name in the environment."""
     kept = {name: value for name, value in os.environ.items() if not name.startswith(("NUM_FORMAT", "PKG_CONFIG"))}
-    ended = subprocess.run([sys.executable, *words], env=kept | env, cwd=PACKAGE, capture_output=True, text=True, timeout=300)
+    how = {"env": kept | env, "cwd": PACKAGE, "capture_output": True, "text": True, "timeout": 300}
+    ended = subprocess.run([sys.executable, *words], check=False, **how)
     return ended.returncode, ended.stdout, ended.stderr
 
 

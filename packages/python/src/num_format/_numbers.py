@@ -24,8 +24,11 @@ _MOST_DECIMALS = 38
 _MAX = lib.NUM_FORMAT_MAX
 _DECIMAL_MAX = lib.NUM_FORMAT_DECIMAL_MAX
 
-# A new array, of which a call that prints writes as much as is then read.
-_new = ffi.new_allocator(should_clear_after_alloc=False)
+# What a call writes is new for each call, so threads share nothing. A text is not cleared: no more of it is
+# read than was written.
+_new = ffi.new
+_new_text = ffi.new_allocator(should_clear_after_alloc=False)
+_I64, _U64, _U32, _SIZE = map(ffi.typeof, ["int64_t *", "uint64_t *", "uint32_t *", "size_t *"])
 _TEXT, _DECIMAL_TEXT = ffi.typeof(f"char[{_MAX}]"), ffi.typeof(f"char[{_DECIMAL_MAX}]")
 
 
@@ -67,11 +70,11 @@ def format(number: SupportsIndex | Decimal, format: Format | str) -> str:
         if isinstance(number, bool) or getattr(number, "dtype", None) == bool:
             raise TypeError("a bool is not printed as a number")
         number = operator.index(number)
-    text = _new(_TEXT)
+    text = _new_text(_TEXT)
     if _I64_MIN <= number <= _I64_MAX:
         length = lib.num_format_print_i64(struct, number, text, _MAX)
     elif 0 < number <= _U128_MAX:
-        length = lib.num_format_print_u128(struct, number & _U64_MASK, number >> 64, text, _MAX)
+        length = lib.num_format_print_u128(struct, *_halves(number), text, _MAX)
     elif _I128_MIN <= number < 0:
         length = lib.num_format_print_i128(struct, *_halves(number), text, _MAX)
     else:
@@ -100,7 +103,7 @@ def _decimal_text(number: Decimal, struct: Any) -> str:
         raise OverflowError("the digits of the Decimal are not in the range from -2**127 to 2**127 - 1")
     if scale > _MOST_DECIMALS:
         raise OverflowError(f"the Decimal has more than {_MOST_DECIMALS} decimals")
-    text = _new(_DECIMAL_TEXT)
+    text = _new_text(_DECIMAL_TEXT)
     length = lib.num_format_print_decimal(struct, *_halves(units), scale, text, _DECIMAL_MAX)
     return ffi.unpack(text, length).decode()
 
@@ -165,7 +168,7 @@ def parse_decimal(text: str, format: Format | str) -> Decimal:
         TypeError: The text is no ``str``.
     """
     struct = to_format(format)._struct
-    low, high, scale, at = ffi.new("uint64_t *"), ffi.new("uint64_t *"), ffi.new("uint32_t *"), ffi.new("size_t *")
+    low, high, scale, at = _new(_U64), _new(_U64), _new(_U32), _new(_SIZE)
     given = _encoded(text)
     status = lib.num_format_parse_decimal(struct, given, len(given), low, high, scale, at)
     if status < 0:
@@ -188,12 +191,15 @@ def _signed(low: int, high: int) -> int:
 
 
 def _strict(text: bytes, struct: Any) -> tuple[int, int, int]:
-    """Returns the number of the narrowest type that has it, or else a status below 0 and the place."""
-    number, at = ffi.new("int64_t *"), ffi.new("size_t *")
+    """Returns the number of the first type that has it, a status, and the place of an unexpected byte.
+
+    Below 0 the status is that of an error, and the number is any.
+    """
+    number, at = _new(_I64), _new(_SIZE)
     status = lib.num_format_parse_strict_i64(struct, 64, text, len(text), number, at)
     if status != _OUT_OF_RANGE:
         return number[0], status, at[0]
-    low, high = ffi.new("uint64_t *"), ffi.new("uint64_t *")
+    low, high = _new(_U64), _new(_U64)
     status = lib.num_format_parse_strict_i128(struct, text, len(text), low, high, at)
     if status == 0:
         return _signed(low[0], high[0]), 0, 0
@@ -203,11 +209,11 @@ def _strict(text: bytes, struct: Any) -> tuple[int, int, int]:
 
 def _lenient(text: bytes, struct: Any) -> tuple[int, int, int]:
     """The same of lenient parsing, which has no place."""
-    number = ffi.new("int64_t *")
+    number = _new(_I64)
     status = lib.num_format_parse_i64(struct, 64, text, len(text), number)
     if status == 0:
         return number[0], 0, 0
-    low, high = ffi.new("uint64_t *"), ffi.new("uint64_t *")
+    low, high = _new(_U64), _new(_U64)
     status = lib.num_format_parse_i128(struct, text, len(text), low, high)
     if status == 0:
         return _signed(low[0], high[0]), 0, 0

@@ -1,6 +1,7 @@
 """Columns of numbers: NumPy arrays to texts, and back. Needs NumPy.
 
-A column is one call, without a loop in Python and without the GIL, so threads work at once.
+A column is one call, without a loop in Python and without the GIL, so threads work at once. No other thread may
+write an array meanwhile.
 
 >>> import numpy as np
 >>> from num_format.columns import format_column, parse_column

@@ -1,0 +1,179 @@
+#!/usr/bin/env python3
+"""Prints two tables in Markdown: how long num_format and what Python's users have now take, and what each does.
+
+    python3 bench.py [NUMBERS]    # 100,000
+
+The numbers are random ones of 64 bits, of one to nineteen digits and both signs, under `en`. A time is the best
+of five runs over all of them, in nanoseconds a number. Babel, and a locale en_US.UTF-8 for Python's module
+`locale`, are left out where they are missing; GNU's `localedef` makes the locale in a temporary folder.
+"""
+import locale
+import os
+import platform
+import shutil
+import subprocess
+import sys
+import tempfile
+import time
+
+import numpy as np
+
+import num_format
+from num_format import Format
+from num_format.columns import format_column, parse_column
+
+try:
+    import babel.numbers as babel
+except ImportError:
+    babel = None
+
+RUNS = 5
+FORM = Format.locale("en")
+
+
+def values_of(count):
+    """Random numbers of every length and both signs."""
+    random = np.random.default_rng(35)
+    wide = random.integers(-(2**63), 2**63 - 1, count, endpoint=True)
+    return wide >> random.integers(0, 63, count)
+
+
+def set_locale(folder):
+    """Sets the locale en_US.UTF-8, and says whether it is there."""
+    try:
+        locale.setlocale(locale.LC_NUMERIC, "en_US.UTF-8")
+    except locale.Error:
+        if shutil.which("localedef") is None:
+            return False
+        words = ["localedef", "-i", "en_US", "-f", "UTF-8", f"{folder}/en_US.UTF-8"]
+        if subprocess.run(words, check=False, capture_output=True).returncode:
+            return False
+        os.environ["LOCPATH"] = folder
+        locale.setlocale(locale.LC_NUMERIC, "en_US.UTF-8")
+    return True
+
+
+def nanoseconds(work, count):
+    """The best time of a run, for each number."""
+    times = []
+    for _ in range(RUNS):
+        start = time.perf_counter_ns()
+        work()
+        times.append(time.perf_counter_ns() - start)
+    return min(times) / count
+
+
+def singles(has_locale):
+    """How numbers are printed and parsed one at a time: the words of a row, and two functions."""
+    yield (
+        "`num_format.format(n, form)`",
+        "`num_format.parse(text, form)`",
+        lambda n: num_format.format(n, FORM),
+        lambda text: num_format.parse(text, FORM),
+    )
+    yield '`f"{n:,}"`', '`int(text.replace(",", ""))`', "{:,}".format, lambda text: int(text.replace(",", ""))
+    if has_locale:
+        yield (
+            '`locale.format_string("%d", n, True)`',
+            "`locale.atoi(text)`",
+            lambda n: locale.format_string("%d", n, True),
+            locale.atoi,
+        )
+    if babel:
+        yield (
+            '`babel.numbers.format_decimal(n, locale="en")`',
+            '`babel.numbers.parse_number(text, locale="en")`',
+            lambda n: babel.format_decimal(n, locale="en"),
+            lambda text: babel.parse_number(text, locale="en"),
+        )
+
+
+def print_times(count, has_locale):
+    values = values_of(count)
+    numbers = values.tolist()
+    texts = [f"{number:,}" for number in numbers]
+    print("| Print | ns | Parse | ns |")
+    print("|---|---:|---|---:|")
+    for printing, parsing, to_text, to_number in singles(has_locale):
+        assert list(map(to_text, numbers)) == texts and list(map(to_number, texts)) == numbers
+        times = (
+            nanoseconds(lambda: [to_text(number) for number in numbers], count),
+            nanoseconds(lambda: [to_number(text) for text in texts], count),
+        )
+        print(f"| {printing} | {times[0]:,.0f} | {parsing} | {times[1]:,.0f} |")
+    column = format_column(values, FORM)
+    fixed = column.to_bytes()
+    assert column.tolist() == texts and (parse_column(column, FORM) == values).all()
+    for printing, parsing, to_texts, to_numbers in [
+        ("`format_column(values, form)`", "`parse_column(column, form)`",
+         lambda: format_column(values, FORM), lambda: parse_column(column, FORM)),
+        ("the same with `.to_bytes()`", "the same of an array of `S`",
+         lambda: format_column(values, FORM).to_bytes(), lambda: parse_column(fixed, FORM)),
+        ("the same with `.tolist()`", "the same of a list of `str`",
+         lambda: format_column(values, FORM).tolist(), lambda: parse_column(texts, FORM)),
+    ]:  # fmt: skip
+        times = nanoseconds(to_texts, count), nanoseconds(to_numbers, count)
+        print(f"| {printing} | {times[0]:,.0f} | {parsing} | {times[1]:,.0f} |")
+
+
+def result(work):
+    """What a call returns, or the name of what it raises."""
+    try:
+        return f"`{work()}`"
+    except Exception as error:
+        return f"`{type(error).__name__}`"
+
+
+def print_features(has_locale):
+    print()
+    print("| | 1234567 under `hi` | `1,23` parsed under `en` | `-1.5` parsed as an integer |")
+    print("|---|---|---|---|")
+    rows = {
+        "num_format": [
+            lambda: num_format.format(1234567, "hi"),
+            lambda: num_format.parse("1,23", "en"),
+            lambda: num_format.parse("-1.5", "en"),
+        ],
+        'f"{n:,}", int': [
+            None,
+            lambda: int("1,23".replace(",", "")),
+            lambda: int("-1.5".replace(",", "")),
+        ],
+    }
+    if has_locale:
+        rows["locale"] = [None, lambda: locale.atoi("1,23"), lambda: locale.atoi("-1.5")]
+    if babel:
+        rows["babel.numbers"] = [
+            lambda: babel.format_decimal(1234567, locale="hi"),
+            lambda: babel.parse_number("1,23", locale="en"),
+            lambda: babel.parse_number("-1.5", locale="en"),
+        ]
+    for name, works in rows.items():
+        print(f"| `{name}` | " + " | ".join(result(work) if work else "-" for work in works) + " |")
+
+
+def processor():
+    """The processor's name, where Linux says it."""
+    try:
+        with open("/proc/cpuinfo", encoding="utf-8") as lines:
+            return next(line.split(":", 1)[1].strip() for line in lines if line.startswith("model name"))
+    except (OSError, StopIteration):
+        return platform.machine()
+
+
+def main():
+    count = int(sys.argv[1]) if len(sys.argv) > 1 else 100_000
+    with tempfile.TemporaryDirectory() as folder:
+        has_locale = set_locale(folder)
+        print_times(count, has_locale)
+        print_features(has_locale)
+    versions = f"Python {platform.python_version()}, NumPy {np.__version__}"
+    if babel:
+        import babel as package
+
+        versions += f", Babel {package.__version__}"
+    print(f"\n{count:,} numbers, one run; {processor()}, {versions}.")
+
+
+if __name__ == "__main__":
+    main()
