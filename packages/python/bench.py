@@ -1,10 +1,10 @@
 #!/usr/bin/env python3
 """Prints two tables in Markdown: how long num_format and what Python's users have now take, and what each does.
 
-    python3 bench.py [NUMBERS]    # 100,000
+    python3 bench.py [NUMBERS]    # 20,000
 
-The numbers are random ones of 64 bits, of one to nineteen digits and both signs, under `en`. A time is the best
-of five runs over all of them, in nanoseconds a number. Babel, and a locale en_US.UTF-8 for Python's module
+The numbers are random ones of 64 bits, of one to nineteen digits and both signs, under `en`. A time is processor
+time, the best of fifteen runs over all of them, in nanoseconds a number. Babel, and a locale en_US.UTF-8 for Python's module
 `locale`, are left out where they are missing; GNU's `localedef` makes the locale in a temporary folder.
 """
 import locale
@@ -15,19 +15,20 @@ import subprocess
 import sys
 import tempfile
 import time
+from functools import partial
 
 import numpy as np
 
 import num_format
 from num_format import Format
-from num_format.columns import format_column, parse_column
+from num_format.columns import StringColumn, format_column, parse_column
 
 try:
     import babel.numbers as babel
 except ImportError:
     babel = None
 
-RUNS = 5
+ROUNDS = 15
 FORM = Format.locale("en")
 
 
@@ -53,14 +54,15 @@ def set_locale(folder):
     return True
 
 
-def nanoseconds(work, count):
-    """The best time of a run, for each number."""
-    times = []
-    for _ in range(RUNS):
-        start = time.perf_counter_ns()
-        work()
-        times.append(time.perf_counter_ns() - start)
-    return min(times) / count
+def best_times(works, count):
+    """The best processor time of each work, in nanoseconds a number. Each round has a run of each."""
+    best = [float("inf")] * len(works)
+    for _ in range(ROUNDS):
+        for place, work in enumerate(works):
+            start = time.process_time_ns()
+            work()
+            best[place] = min(best[place], time.process_time_ns() - start)
+    return [total / count for total in best]
 
 
 def singles(has_locale):
@@ -92,28 +94,30 @@ def print_times(count, has_locale):
     values = values_of(count)
     numbers = values.tolist()
     texts = [f"{number:,}" for number in numbers]
-    print("| Print | ns | Parse | ns |")
-    print("|---|---:|---|---:|")
-    for printing, parsing, to_text, to_number in singles(has_locale):
-        assert list(map(to_text, numbers)) == texts and list(map(to_number, texts)) == numbers
-        times = (
-            nanoseconds(lambda: [to_text(number) for number in numbers], count),
-            nanoseconds(lambda: [to_number(text) for text in texts], count),
-        )
-        print(f"| {printing} | {times[0]:,.0f} | {parsing} | {times[1]:,.0f} |")
     column = format_column(values, FORM)
     fixed = column.to_bytes()
+    rows = []
+    for printing, parsing, to_text, to_number in singles(has_locale):
+        assert list(map(to_text, numbers)) == texts and list(map(to_number, texts)) == numbers
+        rows.append((printing, parsing, partial(each, to_text, numbers), partial(each, to_number, texts)))
     assert column.tolist() == texts and (parse_column(column, FORM) == values).all()
-    for printing, parsing, to_texts, to_numbers in [
-        ("`format_column(values, form)`", "`parse_column(column, form)`",
-         lambda: format_column(values, FORM), lambda: parse_column(column, FORM)),
-        ("the same with `.to_bytes()`", "the same of an array of `S`",
-         lambda: format_column(values, FORM).to_bytes(), lambda: parse_column(fixed, FORM)),
-        ("the same with `.tolist()`", "the same of a list of `str`",
-         lambda: format_column(values, FORM).tolist(), lambda: parse_column(texts, FORM)),
-    ]:  # fmt: skip
-        times = nanoseconds(to_texts, count), nanoseconds(to_numbers, count)
-        print(f"| {printing} | {times[0]:,.0f} | {parsing} | {times[1]:,.0f} |")
+    for printing, parsing, to_texts, given in [
+        ("`format_column(values, form)`", "`parse_column(column, form)`", lambda column: column, column),
+        ("the same with `.to_bytes()`", "the same of an array of `S`", StringColumn.to_bytes, fixed),
+        ("the same with `.tolist()`", "the same of a list of `str`", StringColumn.tolist, texts),
+    ]:
+        to_column = partial(lambda to_texts: to_texts(format_column(values, FORM)), to_texts)
+        rows.append((printing, parsing, to_column, partial(parse_column, given, FORM)))
+    times = iter(best_times([work for row in rows for work in row[2:]], count))
+    print("| Print | ns | Parse | ns |")
+    print("|---|---:|---|---:|")
+    for printing, parsing, *_ in rows:
+        print(f"| {printing} | {next(times):,.0f} | {parsing} | {next(times):,.0f} |")
+
+
+def each(work, items):
+    for item in items:
+        work(item)
 
 
 def result(work):
@@ -162,7 +166,7 @@ def processor():
 
 
 def main():
-    count = int(sys.argv[1]) if len(sys.argv) > 1 else 100_000
+    count = int(sys.argv[1]) if len(sys.argv) > 1 else 20_000
     with tempfile.TemporaryDirectory() as folder:
         has_locale = set_locale(folder)
         print_times(count, has_locale)

@@ -16,7 +16,12 @@ _U128_MAX = 2**128 - 1
 
 _U64_MASK = 2**64 - 1
 
-_OUT_OF_RANGE = lib.NUM_FORMAT_OUT_OF_RANGE
+# The calls that parse, by type. Each is made until one has the number.
+_STRICT = lib.num_format_parse_strict_i64, lib.num_format_parse_strict_i128, lib.num_format_parse_strict_u128
+_LENIENT = lib.num_format_parse_i64, lib.num_format_parse_i128, lib.num_format_parse_u128
+
+# The errors with which a number of 64 bits is refused and one of 128 may be not.
+_MAY_BE_WIDER = {lib.NUM_FORMAT_OUT_OF_RANGE, lib.NUM_FORMAT_NOT_A_NUMBER}
 
 # The most decimals of a decimal.
 _MOST_DECIMALS = 38
@@ -137,11 +142,21 @@ def parse(text: str, format: Format | str, *, lenient: bool = False) -> int:
         TypeError: The text is no ``str``.
     """
     struct = to_format(format)._struct
-    read = _lenient if lenient else _strict
-    number, status, at = read(_encoded(text), struct)
-    if status < 0:
-        raise refusal(text, status, at)
-    return number
+    given = _encoded(text)
+    i64, i128, u128 = _LENIENT if lenient else _STRICT
+    number = _new(_I64)
+    at = () if lenient else (_new(_SIZE),)
+    status = i64(struct, 64, given, len(given), number, *at)
+    if status == 0:
+        return number[0]
+    if status in _MAY_BE_WIDER:
+        low, high = _new(_U64), _new(_U64)
+        if i128(struct, given, len(given), low, high, *at) == 0:
+            return _signed(low[0], high[0])
+        status = u128(struct, given, len(given), low, high, *at)
+        if status == 0:
+            return high[0] << 64 | low[0]
+    raise _refusal(text, status, *at)
 
 
 def parse_decimal(text: str, format: Format | str) -> Decimal:
@@ -172,12 +187,13 @@ def parse_decimal(text: str, format: Format | str) -> Decimal:
     given = _encoded(text)
     status = lib.num_format_parse_decimal(struct, given, len(given), low, high, scale, at)
     if status < 0:
-        raise refusal(text, status, at[0])
+        raise _refusal(text, status, at)
     # A string is converted exactly, which arithmetic in a context is not.
     return Decimal(f"{_signed(low[0], high[0])}E-{scale[0]}")
 
 
 def _encoded(text: str) -> bytes:
+    """Returns a text to parse in UTF-8."""
     try:
         return encoded(text)
     except UnicodeEncodeError as error:
@@ -190,40 +206,9 @@ def _signed(low: int, high: int) -> int:
     return number if number <= _I128_MAX else number - 2**128
 
 
-def _strict(text: bytes, struct: Any) -> tuple[int, int, int]:
-    """Returns the number of the first type that has it, a status, and the place of an unexpected byte.
-
-    Below 0 the status is that of an error, and the number is any.
-    """
-    number, at = _new(_I64), _new(_SIZE)
-    status = lib.num_format_parse_strict_i64(struct, 64, text, len(text), number, at)
-    if status != _OUT_OF_RANGE:
-        return number[0], status, at[0]
-    low, high = _new(_U64), _new(_U64)
-    status = lib.num_format_parse_strict_i128(struct, text, len(text), low, high, at)
-    if status == 0:
-        return _signed(low[0], high[0]), 0, 0
-    status = lib.num_format_parse_strict_u128(struct, text, len(text), low, high, at)
-    return high[0] << 64 | low[0], status, 0
-
-
-def _lenient(text: bytes, struct: Any) -> tuple[int, int, int]:
-    """The same of lenient parsing, which has no place."""
-    number = _new(_I64)
-    status = lib.num_format_parse_i64(struct, 64, text, len(text), number)
-    if status == 0:
-        return number[0], 0, 0
-    low, high = _new(_U64), _new(_U64)
-    status = lib.num_format_parse_i128(struct, text, len(text), low, high)
-    if status == 0:
-        return _signed(low[0], high[0]), 0, 0
-    status = lib.num_format_parse_u128(struct, text, len(text), low, high)
-    return high[0] << 64 | low[0], status, 0
-
-
-def refusal(text: str, status: int, at: int) -> ParseError:
-    """Returns the error of a text that was refused with the status, at the byte if one was unexpected."""
+def _refusal(text: str, status: int, at: Any = None) -> ParseError:
+    """Returns the error of a text that was refused with the status: at the byte, if one was unexpected."""
     cause = Cause(status)
     if cause is not Cause.UNEXPECTED:
         return ParseError(text, cause)
-    return ParseError(text, cause, len(text.encode()[:at].decode()))
+    return ParseError(text, cause, len(text.encode()[: at[0]].decode()))
