@@ -92,7 +92,15 @@ int32_t num_format_parse_decimal(const num_format *format, const char *text, siz
                                  uint64_t *high, uint32_t *scale, size_t *at);
 """
 
-# The calls for columns of numbers of 64 bits, for each of two types.
+# The calls for columns came to the library after the others: a macro of native/columns.h for what an older one
+# lacks, and a name that its header has not.
+COLUMN_PARTS = {
+    "LACKS_STATUSES": "NUM_FORMAT_BAD_OFFSETS",
+    "LACKS_PRINTING": "num_format_print_i64_column",
+    "LACKS_PARSING": "num_format_parse_strict_i64_column",
+}
+
+# These calls for numbers of 64 bits, for each of two types.
 COLUMN_LENGTH = """
 int32_t num_format_print_{kind}64_column_len(const num_format *format, const {kind_t}64_t *numbers, size_t n,
                                              size_t *length);
@@ -159,19 +167,18 @@ def how_to_link():
     return {"include_dirs": [str(header_folder(library))], "extra_objects": [str(library)]}
 
 
-def has_columns(how):
-    """Whether the library has calls for columns: its header declares them then."""
+def lacks(how):
+    """The macros that make native/columns.h define the calls that the header does not declare."""
     cc = os.environ.get("CC", "cc").split()
     words = [f"-I{folder}" for folder in how.get("include_dirs", [])] + how.get("extra_compile_args", [])
-    source = "#include <num_format.h>\n"
-    ended = subprocess.run([*cc, *words, "-E", "-"], input=source, check=True, capture_output=True, text=True)
-    return "num_format_print_i64_column" in ended.stdout
+    given = "#include <num_format.h>\n"
+    # As the compiler reads it: without comments.
+    header = subprocess.run([*cc, *words, "-E", "-"], input=given, check=True, capture_output=True, text=True).stdout
+    return [(macro, None) for macro, name in COLUMN_PARTS.items() if name not in header]
 
 
 how = how_to_link()
 builder = FFI()
 builder.cdef(DECLARATIONS + "".join(column_declarations()))
-source = "#include <num_format.h>\n"
-if not has_columns(how):
-    source += (HERE / "native" / "columns.h").read_text(encoding="utf-8")
-builder.set_source("num_format._native", source, **how)
+source = "#include <num_format.h>\n" + (HERE / "native" / "columns.h").read_text(encoding="utf-8")
+builder.set_source("num_format._native", source, define_macros=lacks(how), **how)

@@ -53,13 +53,13 @@ def test_contexts_do_not_matter():
         assert num_format.parse_decimal(text, "de").as_tuple() == number.as_tuple()
 
 
-@pytest.mark.parametrize("text", [str(2**127), str(-(2**127) - 1), "1E+39", "1E+999999", "10E+38", f"{2**126}.01"])
+@pytest.mark.parametrize("text", [str(2**127), str(-(2**127) - 1), "1E+39", "1E+999999", "10E+38", f"{2**126}.01", "1" * 5000])
 def test_too_many_digits(text):
     with pytest.raises(OverflowError, match="digits"):
         num_format.format(Decimal(text), "en")
 
 
-@pytest.mark.parametrize("text", ["1E-39", "0E-39", "1E-999999"])
+@pytest.mark.parametrize("text", ["1E-39", "0E-39", "1E-999999", "123E-40", "0." + "1" * 5000])
 def test_too_many_decimals(text):
     with pytest.raises(OverflowError, match="38 decimals"):
         num_format.format(Decimal(text), "en")

@@ -23,8 +23,11 @@ _LENIENT = lib.num_format_parse_i64, lib.num_format_parse_i128, lib.num_format_p
 # The errors with which a number of 64 bits is refused and one of 128 may be not.
 _MAY_BE_WIDER = {lib.NUM_FORMAT_OUT_OF_RANGE, lib.NUM_FORMAT_NOT_A_NUMBER}
 
-# The most decimals of a decimal.
+# The most decimals of a decimal, and the most digits after the first that its units can have.
 _MOST_DECIMALS = 38
+
+_TOO_MANY_DIGITS = "the digits of the Decimal are not in the range from -2**127 to 2**127 - 1"
+_TOO_MANY_DECIMALS = "the Decimal has more than 38 decimals"
 
 _MAX = lib.NUM_FORMAT_MAX
 _DECIMAL_MAX = lib.NUM_FORMAT_DECIMAL_MAX
@@ -94,22 +97,22 @@ def _halves(number: int) -> tuple[int, int]:
 
 def _decimal_text(number: Decimal, struct: Any) -> str:
     """Returns the text of a decimal."""
-    sign, digits, exponent = number.as_tuple()
-    if not isinstance(exponent, int):
-        # Raises the same as int() does: a ValueError for NaN, an OverflowError for infinity.
+    if not number.is_finite():
+        # Raises what it raises for int() too: a ValueError for NaN, an OverflowError for infinity.
         int(number)
-        raise AssertionError("unreachable")
-    units = int(Decimal((sign, digits, 0)))
-    scale = max(-exponent, 0)
-    # More zeros than a number has digits are not computed.
-    if units and exponent > 0:
-        units *= 10 ** min(exponent, _MOST_DECIMALS + 1)
+    # Looks at the exponent first, since 1E+999999 has as many digits.
+    if number and number.adjusted() > _MOST_DECIMALS:
+        raise OverflowError(_TOO_MANY_DIGITS)
+    if number.adjusted() < -_MOST_DECIMALS:
+        raise OverflowError(_TOO_MANY_DECIMALS)
+    whole, _, decimals = f"{number:f}".partition(".")
+    if len(decimals) > _MOST_DECIMALS:
+        raise OverflowError(_TOO_MANY_DECIMALS)
+    units = int(whole + decimals)
     if not _I128_MIN <= units <= _I128_MAX:
-        raise OverflowError("the digits of the Decimal are not in the range from -2**127 to 2**127 - 1")
-    if scale > _MOST_DECIMALS:
-        raise OverflowError(f"the Decimal has more than {_MOST_DECIMALS} decimals")
+        raise OverflowError(_TOO_MANY_DIGITS)
     text = _new_text(_DECIMAL_TEXT)
-    length = lib.num_format_print_decimal(struct, *_halves(units), scale, text, _DECIMAL_MAX)
+    length = lib.num_format_print_decimal(struct, *_halves(units), len(decimals), text, _DECIMAL_MAX)
     return ffi.unpack(text, length).decode()
 
 
