@@ -124,36 +124,32 @@ def result(work):
     """What a call returns, or the name of what it raises."""
     try:
         return f"`{work()}`"
-    except Exception as error:
+    except ValueError as error:
         return f"`{type(error).__name__}`"
 
 
+def place(work):
+    """Where a call says that a text is refused."""
+    try:
+        return f"`{work()}`"
+    except ValueError as error:
+        return f"index {error.at}" if hasattr(error, "at") else "refused, no place"
+
+
 def print_features(has_locale):
-    print()
-    print("| | 1234567 under `hi` | `1,23` parsed under `en` | `-1.5` parsed as an integer |")
-    print("|---|---|---|---|")
-    rows = {
-        "num_format": [
-            lambda: num_format.format(1234567, "hi"),
-            lambda: num_format.parse("1,23", "en"),
-            lambda: num_format.parse("-1.5", "en"),
-        ],
-        'f"{n:,}", int': [
-            None,
-            lambda: int("1,23".replace(",", "")),
-            lambda: int("-1.5".replace(",", "")),
-        ],
-    }
+    rows = {"num_format": lambda text: num_format.parse(text, "en"), "int": lambda text: int(text.replace(",", ""))}
+    hindi = {"num_format": lambda: num_format.format(1234567, "hi")}
     if has_locale:
-        rows["locale"] = [None, lambda: locale.atoi("1,23"), lambda: locale.atoi("-1.5")]
+        rows["locale"] = locale.atoi
     if babel:
-        rows["babel.numbers"] = [
-            lambda: babel.format_decimal(1234567, locale="hi"),
-            lambda: babel.parse_number("1,23", locale="en"),
-            lambda: babel.parse_number("-1.5", locale="en"),
-        ]
-    for name, works in rows.items():
-        print(f"| `{name}` | " + " | ".join(result(work) if work else "-" for work in works) + " |")
+        rows["babel.numbers"] = lambda text: babel.parse_number(text, locale="en")
+        hindi["babel.numbers"] = lambda: babel.format_decimal(1234567, locale="hi")
+    print()
+    print("| | 1234567 under `hi` | `1,23` parsed under `en` | `12x` parsed |")
+    print("|---|---|---|---|")
+    for name, to_number in rows.items():
+        text = result(hindi[name]) if name in hindi else "-"
+        print(f"| `{name}` | {text} | {result(partial(to_number, '1,23'))} | {place(partial(to_number, '12x'))} |")
 
 
 def processor():
