@@ -1,6 +1,8 @@
 """Single numbers, printed and parsed."""
 import enum
 import fractions
+import random
+import re
 
 import cases
 import pytest
@@ -90,6 +92,26 @@ def check_strict(type_name, form, text, result):
             assert result == f"ok {number}"
         else:
             assert result == "err OutOfRange"
+
+
+def test_texts_by_the_definition():
+    """Numbers printed under random formats, and changed at random, against what tools/spelling.py says of a text."""
+    rng = random.Random(35)
+    characters = "0123456789,.'-\u2212 \u00a0x"
+    for _ in range(20000):
+        separator, minus_sign = rng.choice([",", ".", "'", "", "\u00a0", ", "]), rng.choice(["-", "\u2212", "minus "])
+        grouping = rng.choice(list(num_format.Grouping)).value
+        form = spelling.Format(separator.encode(), grouping, minus_sign.encode())
+        number = rng.randrange(-(2**128), 2**129) >> rng.randrange(128)
+        text = spelling.printed(number, form).decode()
+        for _ in range(rng.randrange(3)):
+            at = rng.randrange(len(text) + 1)
+            text = text[:at] + rng.choice([*characters, separator, minus_sign, ""]) + text[at + rng.randrange(2) :]
+        digits = int("0" + re.sub("[^0-9]", "", text))
+        value = -digits if text.startswith(minus_sign) else digits
+        expected = spelling.strict_result(text.encode(), form, -(2**127) <= value < 2**128)
+        named = Format(separator=separator, grouping=grouping, minus_sign=minus_sign)
+        check_strict("i136", named, text, expected)
 
 
 def test_recorded_lenient_results(recorded):
