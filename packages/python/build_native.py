@@ -3,10 +3,11 @@
 The library is the first of these that is there:
 
 1. the file that the environment variable NUM_FORMAT_LIBRARY names;
-2. what `pkg-config num_format` says;
+2. libnum_format.a of the package `num_format`, where pkg-config knows it;
 3. crates/num_format_c/out/libnum_format_c.a of this repository.
 
-Its header num_format.h is beside it, in the folder above, or in `include` there.
+The header num_format.h of a library that is not of pkg-config is beside it, in the folder above, or in `include`
+there.
 """
 import os
 import shutil
@@ -16,14 +17,13 @@ from pathlib import Path
 from cffi import FFI
 
 HERE = Path(__file__).resolve().parent
-CRATE = HERE.parents[1] / "crates" / "num_format_c"
+BUILT = HERE.parents[1] / "crates" / "num_format_c" / "out" / "libnum_format_c.a"
 
 ADVICE = f"""\
-num_format: the static library libnum_format_c.a is missing.
 Build it by `rt lib` in crates/num_format_c, or set NUM_FORMAT_LIBRARY to its path. Looked for:
-- the environment variable NUM_FORMAT_LIBRARY, which is not set
-- `pkg-config num_format`, which knows no such package
-- {CRATE / "out" / "libnum_format_c.a"}"""
+1. the file that the environment variable NUM_FORMAT_LIBRARY names
+2. libnum_format.a of the package num_format, by pkg-config
+3. {BUILT}"""
 
 # The types and calls that the package uses, as num_format.h declares them. The C compiler compares them
 # with it.
@@ -92,51 +92,48 @@ int32_t num_format_parse_decimal(const num_format *format, const char *text, siz
                                  uint64_t *high, uint32_t *scale, size_t *at);
 """
 
-# The calls for columns came to the library after the others: a macro of native/columns.h for what an older one
-# lacks, and a name that its header has not.
-COLUMN_PARTS = {
-    "LACKS_STATUSES": "NUM_FORMAT_BAD_OFFSETS",
-    "LACKS_PRINTING": "num_format_print_i64_column",
-    "LACKS_PARSING": "num_format_parse_strict_i64_column",
-}
-
-# These calls for numbers of 64 bits, for each of two types.
+# The calls for columns of numbers, for each of eight types.
 COLUMN_LENGTH = """
-int32_t num_format_print_{kind}64_column_len(const num_format *format, const {kind_t}64_t *numbers, size_t n,
-                                             size_t *length);
+int32_t num_format_print_{type}_column_len(const num_format *format, const {number} *numbers, size_t n,
+                                           size_t *length);
 """
 
-# The same for each of two types and two widths of offsets.
+# The same for each of eight types and two widths of offsets.
 COLUMN_CALLS = """
-int32_t num_format_print_{kind}64{large}_column(const num_format *format, const {kind_t}64_t *numbers, size_t n,
-                                                int{width}_t *offsets, size_t offsets_length, char *bytes,
-                                                size_t capacity);
-int32_t num_format_parse_{kind}64{large}_column(const num_format *format, const int{width}_t *offsets,
-                                                size_t offsets_length, const char *bytes, size_t bytes_length,
-                                                {kind_t}64_t *numbers, size_t n, int32_t *statuses,
-                                                size_t statuses_length);
-int32_t num_format_parse_strict_{kind}64{large}_column(const num_format *format, const int{width}_t *offsets,
-                                                       size_t offsets_length, const char *bytes,
-                                                       size_t bytes_length, {kind_t}64_t *numbers, size_t n,
-                                                       int32_t *statuses, size_t statuses_length);
+int32_t num_format_print_{type}{large}_column(const num_format *format, const {number} *numbers, size_t n,
+                                              {offset} *offsets, size_t offsets_length, char *bytes,
+                                              size_t capacity);
+int32_t num_format_parse_{type}{large}_column(const num_format *format, const {offset} *offsets,
+                                              size_t offsets_length, const char *bytes, size_t bytes_length,
+                                              {number} *numbers, size_t n, int32_t *statuses,
+                                              size_t statuses_length);
+int32_t num_format_parse_strict_{type}{large}_column(const num_format *format, const {offset} *offsets,
+                                                     size_t offsets_length, const char *bytes,
+                                                     size_t bytes_length, {number} *numbers, size_t n,
+                                                     int32_t *statuses, size_t statuses_length);
 """
 
 
 def column_declarations():
     """The declarations of the calls for columns."""
-    for kind, kind_t in [("i", "int"), ("u", "uint")]:
-        yield COLUMN_LENGTH.format(kind=kind, kind_t=kind_t)
-        for large, width in [("", 32), ("_large", 64)]:
-            yield COLUMN_CALLS.format(kind=kind, kind_t=kind_t, large=large, width=width)
+    for bits in (8, 16, 32, 64):
+        for letter, sign in [("i", ""), ("u", "u")]:
+            names = {"type": f"{letter}{bits}", "number": f"{sign}int{bits}_t"}
+            yield COLUMN_LENGTH.format(**names)
+            for large, offset in [("", "int32_t"), ("_large", "int64_t")]:
+                yield COLUMN_CALLS.format(large=large, offset=offset, **names)
 
 
-def pkg_config():
-    """The flags that pkg-config says, or None if it or the package is missing."""
+def installed():
+    """The library that pkg-config knows, and the folder of its header; None if it knows none."""
     if shutil.which("pkg-config") is None:
         return None
-    ended = subprocess.run(["pkg-config", "--static", "--cflags", "--libs", "num_format"],
-                           check=False, capture_output=True, text=True)
-    return ended.stdout.split() if ended.returncode == 0 else None
+    words = ["pkg-config", "--variable=libdir", "num_format"], ["pkg-config", "--variable=includedir", "num_format"]
+    ended = [subprocess.run(line, check=False, capture_output=True, text=True) for line in words]
+    if any(each.returncode for each in ended):
+        return None
+    libdir, includedir = (Path(each.stdout.strip()) for each in ended)
+    return libdir / "libnum_format.a", includedir
 
 
 def header_folder(library):
@@ -148,37 +145,29 @@ def header_folder(library):
     raise SystemExit("num_format: no num_format.h in any of " + ", ".join(map(str, places)))
 
 
-def how_to_link():
-    """The keyword arguments of `FFI.set_source` that find the header and the library."""
+def find_library():
+    """The library, and the folder of its header."""
     named = os.environ.get("NUM_FORMAT_LIBRARY")
-    if named and not Path(named).is_file():
-        raise SystemExit(f"num_format: NUM_FORMAT_LIBRARY is {named}, which is no file.\n"
-                         "Set it to the path of the static library libnum_format_c.a.")
-    if not named:
-        flags = pkg_config()
-        if flags is not None:
-            return {
-                "extra_compile_args": [flag for flag in flags if not flag.startswith(("-l", "-L"))],
-                "extra_link_args": [flag for flag in flags if flag.startswith(("-l", "-L"))],
-            }
-    library = Path(named).resolve() if named else CRATE / "out" / "libnum_format_c.a"
-    if not library.is_file():
-        raise SystemExit(ADVICE)
-    return {"include_dirs": [str(header_folder(library))], "extra_objects": [str(library)]}
+    if named:
+        if not Path(named).is_file():
+            raise SystemExit(f"num_format: NUM_FORMAT_LIBRARY is {named}, which is no file.\n{ADVICE}")
+        return Path(named).resolve(), header_folder(Path(named).resolve())
+    found = installed()
+    if found is not None and found[0].is_file():
+        return found
+    if not BUILT.is_file():
+        raise SystemExit(f"num_format: the static library is missing.\n{ADVICE}")
+    return BUILT, header_folder(BUILT)
 
 
-def lacks(how):
-    """The macros that make native/columns.h define the calls that the header does not declare."""
-    cc = os.environ.get("CC", "cc").split()
-    words = [f"-I{folder}" for folder in how.get("include_dirs", [])] + how.get("extra_compile_args", [])
-    given = "#include <num_format.h>\n"
-    # As the compiler reads it: without comments.
-    header = subprocess.run([*cc, *words, "-E", "-"], input=given, check=True, capture_output=True, text=True).stdout
-    return [(macro, None) for macro, name in COLUMN_PARTS.items() if name not in header]
-
-
-how = how_to_link()
+library, include = find_library()
 builder = FFI()
 builder.cdef(DECLARATIONS + "".join(column_declarations()))
-source = "#include <num_format.h>\n" + (HERE / "native" / "columns.h").read_text(encoding="utf-8")
-builder.set_source("num_format._native", source, define_macros=lacks(how), **how)
+builder.set_source(
+    "num_format._native",
+    "#include <num_format.h>",
+    include_dirs=[str(include)],
+    extra_objects=[str(library)],
+    # So the import fails with a message, and no call with a signal, on a processor below what the library needs.
+    extra_link_args=["-Wl,-z,x86-64-v2"],
+)

@@ -29,8 +29,8 @@ __all__ = ["ParsedColumn", "StringColumn", "format_column", "parse_column", "try
 # The dtypes of offsets, and the part of a call's name that says which.
 _OFFSETS = {np.dtype(np.int32): "", np.dtype(np.int64): "_large"}
 
-# The kinds of dtypes of integers: the dtype of 64 bits, and the part of a call's name that says which.
-_WIDE = {"i": (np.dtype(np.int64), "i64"), "u": (np.dtype(np.uint64), "u64")}
+# The dtypes of numbers, and the part of a call's name that says which.
+_NUMBERS = {np.dtype(f"{kind}{bits // 8}"): f"{kind}{bits}" for kind in "iu" for bits in (8, 16, 32, 64)}
 
 
 class StringColumn:
@@ -206,9 +206,9 @@ def format_column(values: npt.ArrayLike, format: Format | str, *, large: bool = 
     struct = to_format(format)._struct
     _refuse_masked(values)
     given = _one_dimension(np.asarray(values), "the numbers")
-    wide, name = _wide(given.dtype)
-    numbers = np.ascontiguousarray(given, dtype=wide)
-    pointer = ffi.from_buffer(f"{wide}_t[]", numbers)
+    dtype, name = _number(given.dtype)
+    numbers = np.ascontiguousarray(given, dtype=dtype)
+    pointer = ffi.from_buffer(f"{dtype}_t[]", numbers)
     length = ffi.new("size_t *")
     _check(getattr(lib, f"num_format_print_{name}_column_len")(struct, pointer, len(numbers), length))
     offsets = np.empty(len(numbers) + 1, dtype=np.int64 if large else np.int32)
@@ -227,6 +227,9 @@ def parse_column(
     lenient: bool = False,
 ) -> npt.NDArray[Any]:
     """Returns the numbers that the texts of a column spell, each as :func:`num_format.parse` returns it.
+
+    A number that the dtype has not is refused as `OUT_OF_RANGE`. With `lenient` it is refused as `NOT_A_NUMBER`,
+    and so is a text of more digits, a minus sign counted as one, than the longest number of the dtype.
 
     >>> import numpy as np
     >>> from num_format.columns import parse_column
@@ -276,11 +279,10 @@ def try_parse_column(
     [Cause.MISSPELLED, Cause.UNEXPECTED]
     """
     struct = to_format(format)._struct
-    narrow = np.dtype(dtype)
-    wide, name = _wide(narrow)
+    native, name = _number(np.dtype(dtype))
     texts = column if isinstance(column, StringColumn) else StringColumn.from_strings(column)
     count = len(texts)
-    values, causes = np.zeros(count, dtype=wide), np.zeros(count, dtype=np.int32)
+    values, causes = np.zeros(count, dtype=native), np.zeros(count, dtype=np.int32)
     offsets, data = texts.offsets, texts.data
     way = "" if lenient else "strict_"
     call = getattr(lib, f"num_format_parse_{way}{name}{_OFFSETS[offsets.dtype]}_column")
@@ -291,25 +293,21 @@ def try_parse_column(
             len(offsets),
             ffi.from_buffer("char[]", data),
             len(data),
-            ffi.from_buffer(f"{wide}_t[]", values),
+            ffi.from_buffer(f"{native}_t[]", values),
             count,
             ffi.from_buffer("int32_t[]", causes),
             count,
         )
     )
-    if narrow.itemsize < wide.itemsize:
-        limits = np.iinfo(narrow)
-        outside = (values < limits.min) | (values > limits.max)
-        causes[outside] = Cause.NOT_A_NUMBER if lenient else Cause.OUT_OF_RANGE
-        values[outside] = 0
-    return ParsedColumn(values.astype(narrow, copy=False), causes)
+    return ParsedColumn(values, causes)
 
 
-def _wide(dtype: np.dtype[Any]) -> tuple[np.dtype[Any], str]:
-    """Returns the dtype of 64 bits for one of integers, and its part of a call's name."""
-    if dtype.kind not in _WIDE:
+def _number(dtype: np.dtype[Any]) -> tuple[np.dtype[Any], str]:
+    """Returns the dtype of integers in the processor's byte order, and its part of a call's name."""
+    native = dtype.newbyteorder("=")
+    if native not in _NUMBERS:
         raise TypeError(f"the dtype must be one of integers of 8 to 64 bits, not {dtype}")
-    return _WIDE[dtype.kind]
+    return native, _NUMBERS[native]
 
 
 def _one_dimension(array: npt.NDArray[Any], what: str) -> npt.NDArray[Any]:
