@@ -44,20 +44,26 @@ def test_columns_release_the_gil():
     numbers = np.full(10**7, 2**62)
     struct, length = Format()._struct, ffi.new("size_t *")
     pointer = ffi.from_buffer("int64_t[]", numbers)
-    times = []
 
-    def work():
-        times.append(time.monotonic())
-        lib.num_format_print_i64_column_len(struct, pointer, len(numbers), length)
-        times.append(time.monotonic())
+    def goes_on():
+        """Whether this thread had a turn in the middle half of a call in another one."""
+        times, turns = [], []
 
-    thread = threading.Thread(target=work)
-    thread.start()
-    ticks = []
-    while thread.is_alive():
-        ticks.append(time.monotonic())
-        time.sleep(0.001)
-    thread.join()
-    start, end = times
+        def work():
+            times.append(time.monotonic())
+            lib.num_format_print_i64_column_len(struct, pointer, len(numbers), length)
+            times.append(time.monotonic())
+
+        thread = threading.Thread(target=work)
+        thread.start()
+        while thread.is_alive():
+            turns.append(time.monotonic())
+            time.sleep(0.0005)
+        thread.join()
+        start, end = times
+        quarter = (end - start) / 4
+        return any(start + quarter < turn < end - quarter for turn in turns)
+
+    # A busy processor may leave no turn to this thread.
+    assert any(goes_on() for _ in range(20))
     assert length[0] == len(numbers) * len(f"{2**62:,}")
-    assert [tick for tick in ticks if start + (end - start) / 4 < tick < end - (end - start) / 4]
