@@ -1,0 +1,26 @@
+"""Numbers with separators between groups of digits, by locale or by a format of your own, and back.
+
+>>> import num_format
+>>> num_format.format(-1234567, "de")
+'-1.234.567'
+>>> num_format.parse("-1.234.567", "de")
+-1234567
+
+:mod:`num_format.columns` has the same for NumPy arrays. Calls may be made from any thread.
+"""
+from ._errors import Cause, FormatError, NumFormatError, ParseError
+from ._format import Format, Grouping, locales
+from ._numbers import format, parse, parse_decimal
+
+__all__ = [
+    "Cause",
+    "Format",
+    "FormatError",
+    "Grouping",
+    "NumFormatError",
+    "ParseError",
+    "format",
+    "locales",
+    "parse",
+    "parse_decimal",
+]

@@ -1,0 +1,26 @@
+"""What all tests need: the repository's folder, which has expected values from outside num_format."""
+import os
+import sys
+from pathlib import Path
+
+import pytest
+
+ROOT = Path(os.environ["NUM_FORMAT_REPOSITORY"])
+
+# tools/ has the table of locales, and the definition of what is printed and parsed.
+sys.path.append(str(ROOT / "tools"))
+
+
+@pytest.fixture(scope="session")
+def rows():
+    """The row of each locale in the table from which the crates' table is written."""
+    import locales
+
+    return {row["name"]: row for row in locales.rows()}
+
+
+@pytest.fixture(scope="session")
+def recorded():
+    """The recorded results of the Rust crate, with those worked out by hand: the fields of each line."""
+    text = (ROOT / "crates" / "test_oracle" / "stdin").read_text(encoding="utf-8")
+    return [line.split("\t") for line in text.splitlines() if not line.startswith(("#", "changed"))]

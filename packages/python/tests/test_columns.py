@@ -1,0 +1,298 @@
+"""Columns: NumPy arrays to texts, and back."""
+import pickle
+from collections import defaultdict
+
+import cases
+import pytest
+
+import num_format
+from num_format import Cause, Format, FormatError, ParseError
+
+np = pytest.importorskip("numpy")
+columns = pytest.importorskip("num_format.columns")
+
+DTYPES = [np.dtype(f"{kind}{size}") for kind in "iu" for size in (1, 2, 4, 8)]
+
+
+def numbers_of(dtype):
+    """The limits of the dtype, and numbers of each length."""
+    limits = np.iinfo(dtype)
+    return [number for number in cases.NUMBERS if limits.min <= number <= limits.max]
+
+
+@pytest.mark.parametrize("dtype", DTYPES, ids=str)
+@pytest.mark.parametrize("large", [False, True])
+def test_python_prints_the_same(dtype, large):
+    numbers = numbers_of(dtype)
+    assert {np.iinfo(dtype).min, np.iinfo(dtype).max} <= set(numbers)
+    column = columns.format_column(np.array(numbers, dtype=dtype), "en", large=large)
+    expected = [f"{number:,}" for number in numbers]
+    assert column.tolist() == expected
+    assert bytes(column.data) == "".join(expected).encode()
+    assert column.offsets.dtype == (np.int64 if large else np.int32)
+    again = columns.parse_column(column, "en", dtype)
+    assert again.dtype == dtype and again.tolist() == numbers
+    assert columns.parse_column(column, "en", dtype, lenient=True).tolist() == numbers
+
+
+def test_all_locales():
+    numbers = [0, 7, -999, 1000, -12345, 2**63 - 1, -(2**63)]
+    for name in num_format.locales():
+        column = columns.format_column(np.array(numbers), name)
+        # Single numbers are compared with the table.
+        assert column.tolist() == [num_format.format(number, name) for number in numbers]
+        assert columns.parse_column(column, name).tolist() == numbers
+
+
+def test_random_numbers():
+    rng = np.random.default_rng(35)
+    numbers = rng.integers(-(2**63), 2**63 - 1, 20000, endpoint=True) >> rng.integers(0, 63, 20000)
+    column = columns.format_column(numbers, "en")
+    assert column.tolist() == [f"{number:,}" for number in numbers.tolist()]
+    assert (columns.parse_column(column, "en") == numbers).all()
+
+
+def test_layout_is_that_of_arrow():
+    """Written out by hand, as Arrow's columnar format describes a string array."""
+    column = columns.format_column(np.array([1234, -5, 0]), "sv")
+    assert column.offsets.tobytes() == np.array([0, 6, 10, 11], dtype="=i4").tobytes()
+    assert column.data.tobytes() == b"1\xc2\xa0234" + b"\xe2\x88\x925" + b"0"
+    assert column.offsets.flags.c_contiguous and column.data.flags.c_contiguous
+
+
+def test_pyarrow():
+    pyarrow = pytest.importorskip("pyarrow")
+    numbers = np.array([1234, -5, 0])
+    for large, kind in [(False, pyarrow.StringArray), (True, pyarrow.LargeStringArray)]:
+        column = columns.format_column(numbers, "sv", large=large)
+        buffers = [pyarrow.py_buffer(column.offsets), pyarrow.py_buffer(column.data)]
+        array = kind.from_buffers(len(column), *buffers)
+        array.validate(full=True)
+        assert array.to_pylist() == column.tolist()
+        assert array.buffers()[2].address == column.data.ctypes.data
+        offsets = np.frombuffer(array.buffers()[1], dtype=column.offsets.dtype)[1:]
+        again = columns.StringColumn(offsets, array.buffers()[2])
+        assert columns.parse_column(again, "sv").tolist() == [-5, 0]
+
+
+def test_strides_and_byte_orders():
+    numbers = np.arange(-3000, 3000, 7)
+    for values in [numbers[::3], numbers[::-1], numbers.reshape(-1, 2)[:, 1], numbers[5:-5]]:
+        for order in "<>=":
+            for size in (2, 8):
+                given = values.astype(f"{order}i{size}")
+                again = np.repeat(given, 2)[::2]
+                for array in (given, again):
+                    expected = [f"{number:,}" for number in values.tolist()]
+                    assert columns.format_column(array, "en").tolist() == expected
+    column = columns.format_column(numbers, "en")
+    swapped = columns.StringColumn(column.offsets.astype(">i4"), column.data)
+    assert columns.parse_column(swapped, "en").tolist() == numbers.tolist()
+    spread = columns.StringColumn(np.repeat(column.offsets, 2)[::2], column.data)
+    assert columns.parse_column(spread, "en").tolist() == numbers.tolist()
+    assert columns.parse_column(column, "en", ">i8").tolist() == numbers.tolist()
+
+
+def test_read_only_arrays():
+    numbers = np.array([1000, 2])
+    numbers.flags.writeable = False
+    column = columns.StringColumn(*map(frozen, vars_of(columns.format_column(numbers, "en"))))
+    assert columns.parse_column(column, "en").tolist() == [1000, 2]
+
+
+def vars_of(column):
+    return column.offsets, column.data
+
+
+def frozen(array):
+    array.flags.writeable = False
+    return array
+
+
+def test_empty_columns():
+    for dtype in DTYPES:
+        for large in (False, True):
+            column = columns.format_column(np.array([], dtype=dtype), "de", large=large)
+            assert (len(column), column.offsets.tolist(), len(column.data)) == (0, [0], 0)
+            assert columns.parse_column(column, "de", dtype).tolist() == []
+    for nothing in [[], (), np.array([], dtype="S5"), np.array([], dtype="U5"), np.array([], dtype=object), iter("")]:
+        assert columns.parse_column(nothing, "de").tolist() == []
+    empty = columns.StringColumn.from_strings([])
+    assert empty.tolist() == [] and empty.to_bytes().shape == (0,) and empty.to_object().shape == (0,)
+    assert len(columns.StringColumn(np.zeros(1, dtype=np.int32), b"")) == 0
+
+
+def test_ways_to_give_texts():
+    texts = ["\u22121\u00a0234", "5", "\u22121\u00a0234\u00a0567"]
+    numbers = [-1234, 5, -1234567]
+    encoded = [text.encode() for text in texts]
+    for given in [
+        texts,
+        tuple(texts),
+        iter(texts),
+        encoded,
+        np.array(texts),
+        np.array(texts, dtype=object),
+        np.array(encoded),
+        np.array(encoded, dtype="S40"),
+        np.array(encoded, dtype=object),
+        np.array(encoded, dtype="S40")[::-1][::-1],
+        np.array(texts).astype(">U20"),
+        columns.StringColumn.from_strings(texts),
+    ]:
+        assert columns.parse_column(given, "sv").tolist() == numbers
+
+
+def test_ways_to_take_texts():
+    column = columns.format_column(np.array([-1234, 5, 0]), "sv")
+    texts = ["\u22121\u00a0234", "5", "0"]
+    assert column.tolist() == texts == list(column)
+    assert column.to_object().tolist() == texts and column.to_object().dtype == object
+    fixed = column.to_bytes()
+    assert fixed.tolist() == [text.encode() for text in texts] and fixed.dtype == "S9"
+    assert (column[0], column[-1], column[np.int64(1)]) == (texts[0], "0", "5")
+    for row in (3, -4):
+        with pytest.raises(IndexError):
+            column[row]
+    # A column may begin and end within the bytes.
+    part = columns.StringColumn(column.offsets[1:3], column.data)
+    assert part.tolist() == ["5"] and part.to_bytes().tolist() == [b"5"]
+    assert columns.parse_column(part, "sv").tolist() == [5]
+    empty_texts = columns.StringColumn.from_strings(["", "1", ""])
+    assert empty_texts.to_bytes().tolist() == [b"", b"1", b""]
+
+
+def test_columns_are_pickled():
+    column = columns.format_column(np.array([1000, -5]), "de")
+    for protocol in range(pickle.HIGHEST_PROTOCOL + 1):
+        again = pickle.loads(pickle.dumps(column, protocol))
+        assert again.tolist() == column.tolist()
+    assert repr(column) == "<StringColumn of 2 texts, int32 offsets>"
+
+
+def test_refused_rows():
+    texts = ["1,234", "1,23", "", "12.50", "999", "1e3", "9,223,372,036,854,775,808", b"\xff".decode("latin-1")]
+    expected = [0, Cause.MISSPELLED, Cause.NO_DIGIT, Cause.UNEXPECTED]
+    expected += [0, Cause.UNEXPECTED, Cause.OUT_OF_RANGE, Cause.UNEXPECTED]
+    values, causes = columns.try_parse_column(texts, "en")
+    assert causes.tolist() == expected
+    assert values.tolist() == [1234, 0, 0, 0, 999, 0, 0, 0]
+    with pytest.raises(ParseError) as caught:
+        columns.parse_column(texts, "en")
+    error = caught.value
+    assert (error.text, error.cause, error.at, error.row) == ("1,23", Cause.MISSPELLED, None, 1)
+    with pytest.raises(ParseError) as caught:
+        columns.parse_column(["1", "\u22121", "-1\u00e9"], "sv")
+    error = caught.value
+    assert (error.text, error.cause, error.at, error.row) == ("-1\u00e9", Cause.UNEXPECTED, 0, 2)
+
+
+def test_rows_that_are_not_utf8():
+    with pytest.raises(ParseError) as caught:
+        columns.parse_column([b"1", b"1,0\xff0"], "en")
+    error = caught.value
+    assert (error.text, error.cause, error.at, error.row) == ("1,0\udcff0", Cause.NOT_UTF8, 3, 1)
+    assert str(error) == r"row 1: '1,0\udcff0' is refused: it is not UTF-8 at index 3"
+
+
+@pytest.mark.parametrize("dtype", DTYPES, ids=str)
+def test_numbers_outside_a_dtype(dtype):
+    limits = np.iinfo(dtype)
+    numbers = [limits.min, limits.min - 1, limits.max, limits.max + 1, 2**100]
+    outside = [number < limits.min or number > limits.max for number in numbers]
+    for lenient, cause in [(False, Cause.OUT_OF_RANGE), (True, Cause.NOT_A_NUMBER)]:
+        values, causes = columns.try_parse_column([f"{number:,}" for number in numbers], "en", dtype, lenient=lenient)
+        assert causes.tolist() == [cause if is_outside else 0 for is_outside in outside]
+        assert values.tolist() == [0 if is_outside else number for number, is_outside in zip(numbers, outside)]
+        assert values.dtype == dtype
+
+
+def test_recorded_strict_results(recorded):
+    """The recorded results of each type of up to 64 bits, a column for each format."""
+    rows = defaultdict(list)
+    for line in recorded:
+        if line[0] in ("read", "strict") and not line[1].startswith("NonZero") and not line[1].endswith("128"):
+            rows[line[1].replace("size", "64"), line[2]].append((cases.text(line[3]), line[4].split(" / ")[-1]))
+    assert sum(map(len, rows.values())) > 2000
+    for (type_name, words), lines in rows.items():
+        form = cases.recorded_format(words)
+        if not form.reads_back():
+            continue
+        dtype = np.dtype(f"{type_name[0]}{int(type_name[1:]) // 8}")
+        values, causes = columns.try_parse_column([text for text, _ in lines], form, dtype)
+        for (text, result), value, cause in zip(lines, values.tolist(), causes.tolist()):
+            name = "ok" if cause == 0 else Cause(cause).name.title().replace("_", "")
+            found = f"ok {value}" if cause == 0 else f"err {name}"
+            assert found == result.split(" { at")[0], (text, words, type_name)
+
+
+@pytest.mark.parametrize(
+    "offsets", [[0, 2, 1], [-1, 0], [0, 5], [5, 5], [0, -1, 3], [0, 2**31 - 1], [2, 1]]
+)
+def test_bad_offsets(offsets):
+    for dtype in (np.int32, np.int64):
+        with pytest.raises(ValueError):
+            columns.StringColumn(np.array(offsets, dtype=dtype), b"1234")
+        # The calls look at offsets again.
+        column = columns.StringColumn(np.zeros(len(offsets), dtype=dtype), b"1234")
+        column.offsets[:] = offsets
+        with pytest.raises(ValueError):
+            columns.parse_column(column, "en")
+
+
+def test_wrong_offsets():
+    with pytest.raises(ValueError):
+        columns.StringColumn(np.array([], dtype=np.int32), b"")
+    with pytest.raises(ValueError):
+        columns.StringColumn(np.zeros((2, 2), dtype=np.int32), b"")
+    for dtype in (np.int16, np.uint32, np.uint64, np.float64, object):
+        with pytest.raises(TypeError):
+            columns.StringColumn(np.zeros(1, dtype=dtype), b"")
+
+
+@pytest.mark.parametrize("dtype", [bool, np.float32, np.float64, complex, object, "U5", "S5", "M8[s]", "m8[s]", "V8"])
+def test_wrong_dtypes(dtype):
+    with pytest.raises(TypeError):
+        columns.format_column(np.zeros(3, dtype=dtype), "en")
+    with pytest.raises(TypeError):
+        columns.parse_column(["1"], "en", dtype)
+
+
+def test_wrong_arguments():
+    masked = np.ma.array([1, 2], mask=[True, False])
+    with pytest.raises(TypeError):
+        columns.format_column(masked, "en")
+    with pytest.raises(TypeError):
+        columns.parse_column(np.ma.array(["1", "2"], mask=[True, False]), "en")
+    for values in [np.array(5), np.zeros((2, 2), dtype=int)]:
+        with pytest.raises(ValueError):
+            columns.format_column(values, "en")
+    mixed = np.array(["1", None], dtype=object)
+    for texts in ["1,234", b"1", [1], ["1", 2], ["1", b"2"], [b"1", "2"], [None], np.array([1, 2]), mixed]:
+        with pytest.raises(TypeError):
+            columns.parse_column(texts, "en")
+    with pytest.raises(ValueError):
+        columns.parse_column(np.array([["1"]]), "en")
+    with pytest.raises(UnicodeEncodeError):
+        columns.parse_column(["1\ud800"], "en")
+    with pytest.raises(FormatError):
+        columns.format_column(np.array([1]), "xx")
+    with pytest.raises(FormatError):
+        columns.parse_column(["1"], "xx")
+    with pytest.raises(TypeError):
+        columns.format_column(np.array([1]), None)
+
+
+def test_lists_of_numbers():
+    assert columns.format_column([1000, -5], Format(separator="'")).tolist() == ["1'000", "-5"]
+    with pytest.raises(TypeError):
+        columns.format_column([1.5], "en")
+
+
+def test_more_bytes_than_offsets_of_32_bits_say():
+    form = Format(separator="12345678", minus_sign="12345678", grouping="Indian")
+    width = len(num_format.format(-(2**63), form))
+    assert width == 91
+    numbers = np.full(2**31 // width + 1, -(2**63))
+    with pytest.raises(OverflowError, match="large=True"):
+        columns.format_column(numbers, form)
