@@ -216,6 +216,9 @@ num_parse_decimal(PG_FUNCTION_ARGS)
 
 	if (status != 0)
 		refuse(fcinfo, utf8, "numeric", 128, status, at);
+	/* Units of 64 bits make a numeric at once, others by their text. */
+	if (high == ((int64) low < 0 ? PG_UINT64_MAX : 0))
+		PG_RETURN_NUMERIC(int64_div_fast_to_numeric((int64) low, scale));
 	number[num_format_print_decimal(&plain, low, high, scale, number, NUM_FORMAT_DECIMAL_MAX)] = '\0';
 	PG_RETURN_DATUM(DirectFunctionCall3(numeric_in, CStringGetDatum(number), ObjectIdGetDatum(InvalidOid),
 										Int32GetDatum(-1)));

@@ -1,5 +1,5 @@
 /* Runs statements over the extension of SQLite as the program sqlite3 cannot: one statement again with other
- * values bound, and each with every request for memory refused in turn.
+ * values bound, and each with every request for memory counted, or refused in turn.
  *
  *     cc statements.c -lsqlite3 && ./a.out ./num_format.so
  *
@@ -93,6 +93,20 @@ static void bind_again(const char *extension) {
     sqlite3_close(database);
 }
 
+/* The format of a constant locale is kept: no row of many makes a request for memory to keep another. */
+static void keep_format(const char *extension) {
+    static const char query[] = "WITH RECURSIVE i(n) AS (SELECT 1 UNION ALL SELECT n + 1 FROM i WHERE n < 1000)"
+                                "SELECT count(num_format(n, 'de')) FROM i";
+    sqlite3 *database = opened(extension, -1);
+    sqlite3_stmt *statement;
+    sqlite3_prepare_v2(database, query, -1, &statement, NULL);
+    granted = -1;
+    if (sqlite3_step(statement) != SQLITE_ROW || sqlite3_column_int(statement, 0) != 1000 || granted < -100)
+        fail(query, "other rows, or a request for memory in each");
+    sqlite3_finalize(statement);
+    sqlite3_close(database);
+}
+
 int main(int count, char **words) {
     if (count != 2)
         return 2;
@@ -102,6 +116,7 @@ int main(int count, char **words) {
     refusing.xRealloc = refusing_realloc;
     sqlite3_config(SQLITE_CONFIG_MALLOC, &refusing);
     bind_again(words[1]);
+    keep_format(words[1]);
     refuse_memory(words[1], "SELECT num_format('1234.50', 'de')", "1.234,50");
     refuse_memory(words[1], "SELECT num_parse_decimal('1.234,50', 'de')", "1234.50");
     refuse_memory(words[1], "SELECT num_parse('12.50', 'en')",
