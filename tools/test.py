@@ -21,6 +21,8 @@ In this order:
    requests for memory, each time with another one refused, and counts those of calls that take none.
 8. tools/library_checks.py runs the programs of examples/ over the library for C, which was built beside
    `rt ci`, and holds it to its header.
+9. tools/work_checks.py counts the instructions of calls of that library, and compares them with those of
+   tools/work_checks.tsv.
 
 The last lines name each check that was skipped and why, and say how many passed and failed in all.
 The exit status is 1 where one failed.
@@ -38,6 +40,7 @@ import library_checks
 import memory_checks
 import program_checks
 import regroup_checks
+import work_checks
 from proofs import copied, prove
 from tally import ROOT, Tally, heading, run
 
@@ -95,6 +98,12 @@ def check_programs(tally, top, compilers):
     memory_checks.check_all(tally, built["regroup"], filters, tests)
 
 
+def check_library(tally, library):
+    """Runs programs over the library for C, and counts the instructions of its calls."""
+    library_checks.check_all(tally, library)
+    work_checks.check_all(tally, library)
+
+
 def builds(tally, crate, compilers):
     """The program of a crate as each of the compilers built it."""
     found = []
@@ -119,13 +128,13 @@ def main():
         build(tally)
         # `rt run` has one compiler.
         check_programs(tally, ROOT, COMPILERS[:1])
-        library_checks.check_all(tally, library_checks.LIBRARY)
+        check_library(tally, library_checks.LIBRARY)
         tally.skip("rt ci", "--skip-proofs leaves it out")
     else:
         with copied(given.edits) as copy:
             prove(tally, copy)
             check_programs(tally, copy, COMPILERS)
-            library_checks.check_all(tally, copy / library_checks.LIBRARY.relative_to(ROOT))
+            check_library(tally, copy / library_checks.LIBRARY.relative_to(ROOT))
     if not given.edits:
         print("the must-fail edits were not tried: python3 tools/test.py --edits tries them too")
     tally.end()
