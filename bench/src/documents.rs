@@ -10,14 +10,10 @@ const DOCUMENTS: [&str; 2] = ["README.md", "../README.md"];
 /// What ends a table in a document.
 const END: &str = "<!-- end -->\n";
 
-/// Writes each table between its markers in each document that has them, with a line that says when and
+/// Writes each table between its markers in each document that has them, after a line that says when and
 /// where it was measured. Fails where none has them.
 pub fn write(tables: &[(&str, String)]) -> Result<(), Box<dyn Error>> {
-    let measured = format!(
-        "Measured on {} on {}:",
-        env::var("BENCH_DATE")?,
-        env::var("BENCH_MACHINE")?
-    );
+    let measured = measured()?;
     let mut texts = Vec::new();
     for document in DOCUMENTS {
         texts.push(fs::read_to_string(document)?);
@@ -40,4 +36,14 @@ pub fn write(tables: &[(&str, String)]) -> Result<(), Box<dyn Error>> {
         fs::write(document, text)?;
     }
     Ok(())
+}
+
+/// When and where this was measured, and the load of the last minute, which is 1 where nothing else ran.
+fn measured() -> Result<String, Box<dyn Error>> {
+    let (date, machine) = (env::var("BENCH_DATE")?, env::var("BENCH_MACHINE")?);
+    let loads = fs::read_to_string("/proc/loadavg")?;
+    let load = loads.split(' ').next().unwrap_or_default();
+    Ok(format!(
+        "Measured on {date} on {machine}, at a load of {load}:"
+    ))
 }
