@@ -47,14 +47,15 @@ def copied(is_whole):
         yield copy
 
 
-def prove(tally, copy):
-    """Runs `rt ci`, and adds what its last line counts. Builds the library for C meanwhile."""
+def prove(tally, copy, start_packages):
+    """Runs `rt ci`, and adds what its last line counts. Builds the library for C meanwhile, and starts the tests
+    of packages once it is there."""
     heading("rt ci")
     how = {"env": {**os.environ, "PYTHONUNBUFFERED": "1"}, "errors": "replace"}
     crates = read_crates(copy)
     lacking = set(crates[LIBRARY]) & set(crates)
     quiet = {"stdout": subprocess.DEVNULL, "stderr": subprocess.DEVNULL}
-    line, building = "", None
+    line, building, is_built = "", None, False
     with subprocess.Popen(["rt", "ci"], cwd=copy, stdout=subprocess.PIPE, text=True, **how) as ci:
         for line in ci.stdout:
             print(tidy(line, copy / "crates"), end="", flush=True)
@@ -63,15 +64,20 @@ def prove(tally, copy):
                 lacking.discard(proved[1])
             if not lacking and not building:
                 building = start_library(copy, **quiet)
+            if building and not is_built and building.poll() == 0:
+                is_built = True
+                start_packages()
     counted = COUNTED.fullmatch(line)
     passed, failed = map(int, counted.groups()) if counted else (0, 0)
     tally.passed += passed
     tally.failed += failed
     if not passed or bool(ci.returncode) != bool(failed):
         tally.add("rt ci", f"status {ci.returncode} after the line {line!r}")
-    # A build that was killed for want of memory has more of it now.
+    # A build that was killed where memory was short has more of it now.
     if not building or building.wait():
         start_library(copy).wait()
+    if not is_built:
+        start_packages()
 
 
 def tidy(line, crates):

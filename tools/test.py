@@ -23,7 +23,9 @@ In this order:
    requests for memory, each time with another one refused, and counts those of calls that take none.
 8. tools/library_checks.py runs the programs of examples/ over the library for C, which was built beside
    `rt ci`, and holds it to its header.
-9. tools/package_checks.py runs the tests of each package in packages/ over that library.
+9. tools/work_checks.py counts the instructions of calls of that library, and compares them with those of
+   tools/work_checks.tsv.
+10. tools/package_checks.py has run the tests of each package in packages/ since that library was built.
 
 The last lines name each check that was skipped and why, and say how many passed and failed in all.
 The exit status is 1 where one failed.
@@ -44,6 +46,7 @@ import package_checks
 import program_checks
 import regroup_checks
 import trials
+import work_checks
 from proofs import copied, prove
 from tally import ROOT, Tally, heading, run
 
@@ -101,6 +104,12 @@ def check_programs(tally, top, compilers):
     memory_checks.check_all(tally, built["regroup"], filters, tests)
 
 
+def check_library(tally, library):
+    """Runs programs over the library for C, and counts the instructions of its calls."""
+    library_checks.check_all(tally, library)
+    work_checks.check_all(tally, library)
+
+
 def builds(tally, crate, compilers):
     """The program of a crate as each of the compilers built it."""
     found = []
@@ -118,11 +127,12 @@ def test(tally, is_whole):
     with contextlib.ExitStack() as stack:
         tried = [] if is_whole else stack.enter_context(trials.started())
         copy = stack.enter_context(copied(is_whole))
-        prove(tally, copy)
-        check_programs(tally, copy, COMPILERS)
         library = copy / library_checks.LIBRARY.relative_to(ROOT)
-        library_checks.check_all(tally, library)
-        package_checks.check_all(tally, library)
+        packages = []
+        prove(tally, copy, lambda: packages.extend(stack.enter_context(package_checks.started(library))))
+        check_programs(tally, copy, COMPILERS)
+        check_library(tally, library)
+        package_checks.check_all(tally, packages)
         trials.check_all(tally, tried)
 
 
@@ -138,8 +148,9 @@ def main():
         build(tally)
         # `rt run` has one compiler.
         check_programs(tally, ROOT, COMPILERS[:1])
-        library_checks.check_all(tally, library_checks.LIBRARY)
-        package_checks.check_all(tally, library_checks.LIBRARY)
+        check_library(tally, library_checks.LIBRARY)
+        with package_checks.started(library_checks.LIBRARY) as tests:
+            package_checks.check_all(tally, tests)
         tally.skip("rt ci", "--skip-proofs leaves it out")
     else:
         test(tally, given.edits)

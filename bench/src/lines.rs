@@ -5,7 +5,8 @@
 //! take turns, and the best run of each counts.
 
 use crate::numbers::Sizes;
-use crate::{assert_same_texts, original};
+use crate::{assert_same_texts, documents, original};
+use std::error::Error;
 use std::fs::{self, File};
 use std::io;
 use std::ops::RangeInclusive;
@@ -67,8 +68,9 @@ impl Program {
     }
 }
 
-/// Measures the program of this path, which is given the names of two locales, and prints the table.
-pub fn measure(path: &str) -> io::Result<()> {
+/// Measures the program of this path, which is given the names of two locales, and prints and writes the
+/// table.
+pub fn measure(path: &str) -> Result<(), Box<dyn Error>> {
     let port = Program {
         name: "port",
         path: fs::canonicalize(path)?,
@@ -84,23 +86,26 @@ pub fn measure(path: &str) -> io::Result<()> {
         path: PathBuf::from("numfmt"),
         words: vec!["--grouping"],
     };
-    println!("| Numbers | Program | Seconds | Million lines a second | Port / program |");
-    println!("|---|---|---|---|---|");
+    let mut table = String::from(
+        "| Numbers | Program | Seconds | Million lines a second | Port / program |\n|---|---|---|---|---|\n",
+    );
     let grouped = Sizes::mixed(ALL_DIGITS).numbers::<i128>(LINES);
     let grouped = original::texts(&grouped, 0, 0);
-    compare("1 to 39 digits, grouped", &grouped, &[&port, &original])?;
+    table += &compare("1 to 39 digits, grouped", &grouped, &[&port, &original])?;
     let plain = Sizes::mixed(NUMFMT_DIGITS).numbers::<i128>(LINES);
     let plain = String::from_iter(plain.iter().map(|number| format!("{number}\n")));
-    compare(
+    table += &compare(
         "1 to 18 digits, plain",
         &plain,
         &[&port, &original, &numfmt],
-    )
+    )?;
+    print!("{table}");
+    documents::write(&[("lines", table)])
 }
 
-/// Compares what programs write for the lines, and prints a row for each, the first of which the
+/// Compares what programs write for the lines, and returns a row for each, the first of which the
 /// others are compared with.
-fn compare(label: &str, lines: &str, programs: &[&Program]) -> io::Result<()> {
+fn compare(label: &str, lines: &str, programs: &[&Program]) -> io::Result<String> {
     let input = std::env::temp_dir().join(format!("test_bench_{}", std::process::id()));
     fs::write(&input, lines)?;
     let written = programs[0].output(&input)?;
@@ -114,14 +119,15 @@ fn compare(label: &str, lines: &str, programs: &[&Program]) -> io::Result<()> {
         }
     }
     fs::remove_file(&input)?;
+    let mut rows = String::new();
     for (program, time) in programs.iter().zip(&best) {
         let seconds = time.as_secs_f64();
         let rate = LINES as f64 / seconds / 1e6;
         let ratio = best[0].as_secs_f64() / seconds;
-        println!(
-            "| {label} | {} | {seconds:.3} | {rate:.1} | {ratio:.2} |",
+        rows += &format!(
+            "| {label} | {} | {seconds:.3} | {rate:.1} | {ratio:.2} |\n",
             program.name
         );
     }
-    Ok(())
+    Ok(rows)
 }

@@ -7,6 +7,7 @@
 
 mod c;
 mod decimals;
+mod documents;
 mod floor;
 mod groupings;
 mod line_tool;
@@ -105,10 +106,21 @@ fn best<const S: usize>(items: usize, mut sides: [&mut dyn FnMut(); S]) -> [f64;
 /// What is to be measured, and what was.
 struct Run {
     words: Vec<String>,
+    /// Whether cells of one length are left out.
+    is_quick: bool,
     table: Table,
 }
 
 impl Run {
+    /// The lengths that are measured for a type.
+    fn sizes<N: Number>(&self) -> Vec<Sizes> {
+        if self.is_quick {
+            Sizes::mixtures::<N>()
+        } else {
+            Sizes::all::<N>()
+        }
+    }
+
     /// Measures a cell, if it is wanted.
     fn measure(&mut self, cell: Cell, measure: impl FnOnce(&str) -> Times) {
         let name = cell.name();
@@ -232,7 +244,7 @@ impl Run {
     fn measure_decimals(&mut self) {
         for (name, scale) in decimals::SCALES {
             for format in &decimals::FORMATS {
-                for sizes in Sizes::all::<i128>() {
+                for sizes in self.sizes::<i128>() {
                     let cell = |operation| Cell {
                         operation,
                         format: name,
@@ -260,7 +272,7 @@ impl Run {
         measure: impl Fn(&str, &Sizes, usize) -> Times,
     ) {
         for (place, &format) in formats.iter().enumerate() {
-            for sizes in Sizes::all::<N>() {
+            for sizes in self.sizes::<N>() {
                 let cell = Cell {
                     operation,
                     format,
@@ -271,6 +283,25 @@ impl Run {
                 self.measure(cell, |name| measure(name, &sizes, place));
             }
         }
+    }
+
+    /// Measures every cell that is wanted once.
+    fn measure_all(&mut self) {
+        self.measure_type::<u8>();
+        self.measure_type::<i32>();
+        self.measure_type::<u32>();
+        self.measure_type::<i64>();
+        self.measure_type::<u64>();
+        self.measure_type::<i128>();
+        self.measure_type::<u128>();
+        self.measure_groupings::<i64>();
+        self.measure_groupings::<u64>();
+        self.measure_groupings::<u128>();
+        self.measure_strict_refusing::<i64>();
+        self.measure_strict_refusing::<u128>();
+        self.measure_decimals();
+        self.measure_c();
+        self.measure_names();
     }
 
     /// Measures looking names up.
@@ -691,16 +722,15 @@ fn measure_names(name: &str, texts: &Texts) -> Times {
 
 fn main() -> Result<(), Box<dyn Error>> {
     let mut words = Vec::new();
-    let mut shows_cells = false;
+    let (mut shows_cells, mut is_quick) = (false, false);
     let mut arguments = std::env::args().skip(1);
     while let Some(argument) = arguments.next() {
         match argument.as_str() {
             "--cells" => shows_cells = true,
+            "--quick" => is_quick = true,
             "--only" => words.push(arguments.next().expect("--only needs a word")),
             "--lines" => {
-                return Ok(lines::measure(
-                    &arguments.next().expect("--lines needs a program"),
-                )?);
+                return lines::measure(&arguments.next().expect("--lines needs a program"));
             }
             lines::LINE_TOOL => {
                 let mut name = || arguments.next().expect("two names of locales are needed");
@@ -709,35 +739,31 @@ fn main() -> Result<(), Box<dyn Error>> {
             _ => panic!("no such option: {argument}"),
         }
     }
-    let is_whole = words.is_empty();
+    let is_whole = words.is_empty() && !is_quick;
     let mut run = Run {
         words,
+        is_quick,
         table: Table::default(),
     };
     for _ in 0..PASSES {
-        run.measure_type::<u8>();
-        run.measure_type::<i32>();
-        run.measure_type::<u32>();
-        run.measure_type::<i64>();
-        run.measure_type::<u64>();
-        run.measure_type::<i128>();
-        run.measure_type::<u128>();
-        run.measure_groupings::<i64>();
-        run.measure_groupings::<u64>();
-        run.measure_groupings::<u128>();
-        run.measure_strict_refusing::<i64>();
-        run.measure_strict_refusing::<u128>();
-        run.measure_decimals();
-        run.measure_c();
-        run.measure_names();
+        run.measure_all();
     }
-    assert!(!run.table.is_empty(), "no cell has such a name");
+    let table = run.table;
+    assert!(!table.is_empty(), "no cell has such a name");
     if shows_cells {
-        run.table.print_cells();
+        table.print_cells();
     }
-    run.table.print_groups();
+    if is_quick {
+        print!("{}", table.medians_table());
+        return Ok(());
+    }
+    let sections = table.sections();
+    for (_, section) in &sections {
+        println!("{section}");
+    }
     if is_whole {
-        run.table.write("cells.tsv")?;
+        table.write("cells.tsv")?;
+        documents::write(&sections)?;
     }
     Ok(())
 }

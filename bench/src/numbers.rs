@@ -116,19 +116,26 @@ impl Sizes {
         Sizes { digits, signs }
     }
 
-    /// All that are measured for a type: each length alone, for each sign, and mixtures of the
-    /// lengths of each group and of all lengths.
+    /// All that are measured for a type: each length alone, for each sign, and mixtures.
     pub fn all<N: Number>() -> Vec<Sizes> {
         let alone = Vec::from_iter((1..=N::MOST_DIGITS).map(|digits| digits..=digits));
         let mut all = Vec::from_iter(alone.iter().cloned().map(Sizes::positive));
-        let mut signs = Signs::Positive;
         if N::IS_SIGNED {
-            signs = Signs::Negative;
+            let signs = Signs::Negative;
             all.extend(alone.into_iter().map(|digits| Sizes { digits, signs }));
-            signs = Signs::Mixed;
         }
-        all.extend(mixtures::<N>().map(|digits| Sizes { digits, signs }));
+        all.extend(Sizes::mixtures::<N>());
         all
+    }
+
+    /// Mixtures of the lengths of each group of the table and of all lengths, and of both signs.
+    pub fn mixtures<N: Number>() -> Vec<Sizes> {
+        let sizes = if N::IS_SIGNED {
+            Sizes::mixed
+        } else {
+            Sizes::positive
+        };
+        mixtures::<N>().map(sizes).collect()
     }
 
     /// The group of the table that numbers of these lengths belong to.

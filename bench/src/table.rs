@@ -22,13 +22,47 @@ const COLUMNS: [(&str, &[&str]); 10] = [
 /// The operations whose cells are by kind of text, and not by digits and format.
 const BY_KIND: [&str; 4] = ["refuse", "look up", REFUSE_STRICTLY, LOOK_UP_TAG];
 
-/// The operations that are compared with another call of the port.
-const BESIDE_THE_PORT: [&str; 4] = [
-    "read strictly",
-    "read plain digits strictly",
-    REFUSE_STRICTLY,
-    LOOK_UP_TAG,
+/// An operation, what its time is compared with, and the ratio.
+type Comparison = (&'static str, &'static str, fn(&Times) -> Option<f64>);
+
+/// The comparisons, in the order of the tables.
+const COMPARISONS: [Comparison; 24] = [
+    ("used Buffer", ORIGINAL, Times::ratio),
+    ("new Buffer", ORIGINAL, Times::ratio),
+    ("to_formatted_string", ORIGINAL, Times::ratio),
+    ("append to String", ORIGINAL, Times::ratio),
+    ("read", ORIGINAL, Times::ratio),
+    ("read strictly", ORIGINAL, Times::ratio),
+    ("read plain digits strictly", ORIGINAL, Times::ratio),
+    ("refuse", ORIGINAL, Times::ratio),
+    ("look up", ORIGINAL, Times::ratio),
+    ("used Buffer", "`itoa`, plain digits", Times::ratio_to_floor),
+    ("read", "std's `parse`, plain digits", Times::ratio_to_floor),
+    ("read strictly", "read", Times::ratio_to_reference),
+    (
+        "read plain digits strictly",
+        "read",
+        Times::ratio_to_reference,
+    ),
+    (REFUSE_STRICTLY, "read", Times::ratio_to_reference),
+    (LOOK_UP_TAG, "look up", Times::ratio_to_reference),
+    (
+        "used Buffer",
+        "itself under `Standard`",
+        Times::ratio_to_reference,
+    ),
+    (C_PRINTING[0].0, "`&mut [u8]`", Times::ratio_to_reference),
+    (C_PRINTING[1].0, "used Buffer", Times::ratio_to_reference),
+    (C_PRINTING[2].0, "new Buffer", Times::ratio_to_reference),
+    (C_READING, "read", Times::ratio_to_reference),
+    (PRINT_DECIMALS, "a whole number", Times::ratio_to_reference),
+    (READ_DECIMALS, "a whole number", Times::ratio_to_reference),
+    (PRINT_DECIMALS, "`rust_decimal`", Times::ratio_to_floor),
+    (READ_DECIMALS, "`rust_decimal`", Times::ratio_to_floor),
 ];
+
+/// The name of the original in the tables.
+const ORIGINAL: &str = "the Rust crate";
 
 /// The rows that are by digits, in order.
 pub const GROUPS: [&str; 7] = [
@@ -164,73 +198,84 @@ impl Table {
         }
     }
 
-    /// Prints the median and the highest ratio to the original of each operation and each group, then
-    /// those to the port itself, and then those to plain digits.
-    pub fn print_groups(&self) {
-        println!("\nPort / original: median, highest");
-        self.print_operations();
-        let by_digits = |cell: &Cell, _: &Times| !BY_KIND.contains(&cell.operation);
-        for operation in self.distinct(by_digits, |cell| cell.operation) {
-            self.print_ratios(operation, Times::ratio);
-        }
-        println!("\nPort / port, of strict parsing and of tags: median, highest");
-        self.print_ratios_of(&BESIDE_THE_PORT, Times::ratio_to_reference);
-        println!("\nPort / port under Standard: median, highest");
-        self.print_ratios("used Buffer", Times::ratio_to_reference);
-        println!("\nDecimals / whole numbers: median, highest");
-        for operation in [PRINT_DECIMALS, READ_DECIMALS] {
-            self.print_ratios(operation, Times::ratio_to_reference);
-        }
-        println!("\nDecimals / rust_decimal: median, highest");
-        for operation in [PRINT_DECIMALS, READ_DECIMALS] {
-            self.print_ratios(operation, Times::ratio_to_floor);
-        }
-        println!("\nPort through C / port: median, highest");
-        for (operation, _) in C_PRINTING {
-            self.print_ratios(operation, Times::ratio_to_reference);
-        }
-        self.print_ratios(C_READING, Times::ratio_to_reference);
-        println!("\nPort / plain digits: median, highest");
-        for operation in ["used Buffer", "read"] {
-            self.print_ratios(operation, Times::ratio_to_floor);
-        }
+    /// The tables, by the names of their markers in the documents.
+    pub fn sections(&self) -> [(&'static str, String); 3] {
+        [
+            ("speed", self.summary_table()),
+            ("operations", self.operations_table()),
+            ("digits", self.digits_tables()),
+        ]
     }
 
-    /// Prints the ratios to the original over all cells of each operation.
-    fn print_operations(&self) {
-        let has_original = |_: &Cell, times: &Times| times.original.is_some();
-        let operations = self.distinct(has_original, |cell| cell.operation);
-        self.print_ratios_of(&operations, Times::ratio);
+    /// The lowest, the median and the highest ratio of each comparison.
+    fn summary_table(&self) -> String {
+        let mut table = String::from(
+            "| Time of | Over that of | Lowest | Median | Highest |\n|---|---|---|---|---|\n",
+        );
+        for (operation, over, ratio) in COMPARISONS {
+            if let Some(found) = self.summary(|cell| cell.operation == operation, ratio) {
+                let [lowest, median, highest] = found.shown();
+                table += &format!("| {operation} | {over} | {lowest} | {median} | {highest} |\n");
+            }
+        }
+        table
     }
 
-    /// Prints ratios over all cells of each operation, or of each of its kinds of text.
-    fn print_ratios_of(&self, operations: &[&'static str], ratio: fn(&Times) -> Option<f64>) {
-        println!("\n| Operation | Median | Highest | Cell of the highest |\n|---|---|---|---|");
-        for &operation in operations {
+    /// The median of each comparison, by kind of text where it has kinds.
+    pub fn medians_table(&self) -> String {
+        let mut table = String::from("| Time of | Over that of | Median |\n|---|---|---|\n");
+        self.for_each_kind(|name, over, found| {
+            let [_, median, _] = found.shown();
+            table += &format!("| {name} | {over} | {median} |\n");
+        });
+        table
+    }
+
+    /// The ratios of each comparison, by kind of text where it has kinds.
+    fn operations_table(&self) -> String {
+        let mut table = String::from(
+            "| Time of | Over that of | Lowest | Median | Highest | Cell of the highest |\n|---|---|---|---|---|---|\n",
+        );
+        self.for_each_kind(|name, over, found| {
+            let ([lowest, median, highest], cell) = (found.shown(), found.cell.place());
+            table += &format!("| {name} | {over} | {lowest} | {median} | {highest} | {cell} |\n");
+        });
+        table
+    }
+
+    /// Calls `show` for each comparison, or for each kind of text of it: with its name, with what it is
+    /// compared with, and with its ratios.
+    fn for_each_kind(&self, mut show: impl FnMut(&str, &str, Summary)) {
+        for (operation, over, ratio) in COMPARISONS {
             let is_here = |cell: &Cell, _: &Times| cell.operation == operation;
-            let parts = if BY_KIND.contains(&operation) {
+            let kinds = if BY_KIND.contains(&operation) {
                 self.distinct(is_here, |cell| cell.group)
             } else {
                 vec![""]
             };
-            for part in parts {
-                let is_part = |cell: &Cell| {
-                    cell.operation == operation && (part.is_empty() || cell.group == part)
+            for kind in kinds {
+                let is_kind = |cell: &Cell| {
+                    cell.operation == operation && (kind.is_empty() || cell.group == kind)
                 };
-                if let Some((median, highest, cell)) = self.summary(is_part, ratio) {
-                    let name = [operation, part].join(" ");
-                    let (median, highest) = (short(median), short(highest));
-                    println!(
-                        "| {} | {median} | {highest} | {} |",
-                        name.trim_end(),
-                        cell.place()
-                    );
+                if let Some(found) = self.summary(is_kind, ratio) {
+                    let separator = if kind.is_empty() { "" } else { ", " };
+                    show(&[operation, kind].join(separator), over, found);
                 }
             }
         }
     }
 
-    fn print_ratios(&self, operation: &str, ratio: fn(&Times) -> Option<f64>) {
+    /// The median and the highest ratio of each comparison, by digits and format.
+    fn digits_tables(&self) -> String {
+        let by_digits = COMPARISONS
+            .into_iter()
+            .filter(|(operation, ..)| !BY_KIND.contains(operation));
+        let tables = by_digits.filter_map(|comparison| self.digits_table(comparison));
+        Vec::from_iter(tables).join("\n")
+    }
+
+    /// The same of one comparison, if a cell has it.
+    fn digits_table(&self, (operation, over, ratio): Comparison) -> Option<String> {
         let is_here =
             |cell: &Cell, times: &Times| cell.operation == operation && ratio(times).is_some();
         let mut groups = self.distinct(is_here, |cell| cell.group);
@@ -242,19 +287,18 @@ impl Table {
                 .filter(|(_, shown)| shown.iter().any(|format| formats.contains(format))),
         );
         if columns.is_empty() {
-            return;
+            return None;
         }
         let names = Vec::from_iter(columns.iter().map(|(name, _)| *name)).join(" | ");
-        println!(
-            "\n| {operation} | {names} |\n|---|{}",
-            "---|".repeat(columns.len())
-        );
+        let rule = "---|".repeat(columns.len());
+        let mut table = format!("| {operation}, over {over} | {names} |\n|---|{rule}\n");
         for group in groups {
             let entry =
                 |(_, formats): &(&str, &[&str])| self.entry(operation, group, formats, ratio);
             let entries = Vec::from_iter(columns.iter().map(entry)).join(" | ");
-            println!("| {group} | {entries} |");
+            table += &format!("| {group} | {entries} |\n");
         }
+        Some(table)
     }
 
     /// A part of those cells, each value once, in order.
@@ -287,25 +331,29 @@ impl Table {
         let is_here = |cell: &Cell| {
             cell.operation == operation && cell.group == group && formats.contains(&cell.format)
         };
-        self.summary(is_here, ratio)
-            .map_or(String::new(), |(median, highest, _)| {
-                format!("{}, {}", short(median), short(highest))
-            })
+        self.summary(is_here, ratio).map_or(String::new(), |found| {
+            let [_, median, highest] = found.shown();
+            format!("{median}, {highest}")
+        })
     }
 
-    /// The median and the highest ratio of some cells, and the cell of the highest.
+    /// The lowest, the median and the highest ratio of some cells.
     fn summary(
         &self,
         is_here: impl Fn(&Cell) -> bool,
         ratio: fn(&Times) -> Option<f64>,
-    ) -> Option<(f64, f64, &Cell)> {
+    ) -> Option<Summary<'_>> {
         let here = self.rows.iter().filter(|(cell, _)| is_here(cell));
         let mut ratios =
             Vec::from_iter(here.filter_map(|(cell, times)| Some((ratio(times)?, cell))));
         ratios.sort_by(|a, b| a.0.total_cmp(&b.0));
-        let (highest, cell) = ratios.last()?;
-        let median = ratios[ratios.len() / 2].0;
-        Some((median, *highest, cell))
+        let (highest, cell) = *ratios.last()?;
+        Some(Summary {
+            lowest: ratios[0].0,
+            median: ratios[ratios.len() / 2].0,
+            highest,
+            cell,
+        })
     }
 
     /// Writes the cells to a file, a line for each, with tabs between the fields.
@@ -334,6 +382,22 @@ impl Table {
             );
         }
         fs::write(path, text)
+    }
+}
+
+/// The ratios of some cells.
+struct Summary<'a> {
+    lowest: f64,
+    median: f64,
+    highest: f64,
+    /// The cell of the highest.
+    cell: &'a Cell,
+}
+
+impl Summary<'_> {
+    /// The lowest, the median and the highest ratio, in short.
+    fn shown(&self) -> [String; 3] {
+        [self.lowest, self.median, self.highest].map(short)
     }
 }
 
