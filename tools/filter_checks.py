@@ -36,37 +36,49 @@ INPUTS = [
     ("en", "de", b"1000", 0, b"1.000\n", b""),
     ("de", "en_IN", b"-10.000.000\n", 0, b"-1,00,00,000\n", b""),
     ("en", "fr", b"1000\n", 0, "1\u202f000\n".encode(), b""),
-    ("en", "de", b"5\r\n12,345\r\n", 0, b"5\n12.345\n", b""),
+    ("en", "de", b"5\r\n12,345\r\n", 0, b"5\r\n12.345\r\n", b""),
+    ("en", "de", b"12,345\r", 0, b"12.345\r\n", b""),
+    ("en", "de", b"1,234.50\n-0.5\n12345.000\n", 0, b"1.234,50\n-0,5\n12.345,000\n", b""),
+    ("de", "en", b"1.234,50\n1234,5\n", 0, b"1,234.50\n1,234.5\n", b""),
+    ("en", "en_IN", b"1234567.89\n", 0, b"12,34,567.89\n", b""),
+    ("en", "de", b"0." + 37 * b"0" + b"1\n", 0, b"0," + 37 * b"0" + b"1\n", b""),
+    ("en", "de", b"1\n0." + 39 * b"0" + b"\n", 1, b"1\n", b"line 2: " + unparsed(b"0." + 39 * b"0")),
+    ("en", "de", b"1\n 2\n", 1, b"1\n", b"line 2: " + unparsed(b" 2")),
+    ("en", "de", b"1\n12,34\n", 1, b"1\n", b"line 2: " + unparsed(b"12,34")),
+    ("en", "de", b"1\n1.234,50\n", 1, b"1\n", b"line 2: " + unparsed(b"1.234,50")),
     ("en", "custom:':Standard:-", b"-1234567\n", 0, b"-1'234'567\n", b""),
     ("en", "custom:::Standard:~", b"-1234567\n", 0, b"~1:234:567\n", b""),
     ("en", "custom::Indian:", b"-100000\n", 0, b"100000\n", b""),
-    ("custom:.:Myriad:m", "en", b"m1.0000\n-7\n", 0, b"-10,000\n7\n", b""),
+    ("custom:':Myriad:m", "en", b"m1'0000\n7.5\n", 0, b"-10,000\n7.5\n", b""),
     ("en", "custom: :Sparse:-", b"1,234\n12,345\n", 0, b"1234\n12 345\n", b""),
-    # Formats whose separator and minus sign have digits, or whose minus sign is empty.
     ("en", "custom:7:Standard:17", b"1,000\n-1000\n", 0, b"17000\n1717000\n", b""),
-    ("custom:7:Standard:17", "en", b"17000\n5\n", 0, b"-17,000\n5\n", b""),
-    ("custom:,:Standard:", "en", b"5\n1,000\n", 0, b"-5\n-1,000\n", b""),
     ("en", "de", b"\n", 1, b"", b"line 1: " + unparsed(b"")),
     ("en", "de", b"1\n2\n\n4\n", 1, b"1\n2\n", b"line 3: " + unparsed(b"")),
-    ("en", "de", b"1\r\n\r\n", 1, b"1\n", b"line 2: " + unparsed(b"\r")),
+    ("en", "de", b"1\r\n\r\n", 1, b"1\r\n", b"line 2: " + unparsed(b"")),
     ("en", "de", b"7,000\nabc\n9\n", 1, b"7.000\n", b"line 2: " + unparsed(b"abc")),
     ("en", "de", b"7,000\nabc", 1, b"7.000\n", b"line 2: " + unparsed(b"abc")),
     ("en", "de", b"1\n\xff\n", 1, b"1\n", b"line 2: " + NOT_TEXT),
     ("en", "de", 300 * b"a", 1, b"", b"line 1: " + unparsed(256 * b"a")),
-    ("en", "de", 4095 * b" " + b"1\n", 0, b"1\n", b""),
-    ("en", "de", 4095 * b" " + b"1", 0, b"1\n", b""),
     ("en", "de", 4096 * b" " + b"1\n", 1, b"", b"line 1: " + TOO_LONG),
     ("en", "de", b"8\n" + 4096 * b" " + b"1", 1, b"8\n", b"line 2: " + TOO_LONG),
     ("en", "de", 100_000 * b" ", 1, b"", b"line 1: " + TOO_LONG),
 ]
 
+# The same of lines that are read leniently.
+LENIENT = [
+    ("en", "de", b"1,234.50\n(7)\n", 0, b"123.450\n7\n", b""),
+    ("en", "de", b"5\r\n12,345\r\n", 0, b"5\n12.345\n", b""),
+    ("custom:.:Myriad:m", "en", b"m1.0000\n-7\n", 0, b"-10,000\n7\n", b""),
+    # Formats whose separator and minus sign have digits, or whose minus sign is empty.
+    ("custom:7:Standard:17", "en", b"17000\n5\n", 0, b"-17,000\n5\n", b""),
+    ("custom:,:Standard:", "en", b"5\n1,000\n", 0, b"-5\n-1,000\n", b""),
+    ("en", "de", 4095 * b" " + b"1\n", 0, b"1\n", b""),
+    ("en", "de", 4095 * b" " + b"1", 0, b"1\n", b""),
+    ("en", "de", b"1\r\n\r\n", 1, b"1\n", b"line 2: " + unparsed(b"\r")),
+]
+
 # Words that do not name two formats.
 MISUSES = [
-    [],
-    ["en"],
-    ["en", "de", "fr"],
-    ["", "en", "de"],
-    ["--", "en", "de"],
     ["xx", "de"],
     ["en", "xx"],
     ["en", ""],
@@ -76,6 +88,16 @@ MISUSES = [
     ["en", "custom:,:standard:-"],
     ["en", "custom:123456789:Standard:-"],
     ["en", "custom:,:Standard:123456789"],
+]
+
+# Words that are refused before that, and what the message begins with.
+REFUSED = [
+    ([], b"error: the following required arguments were not provided"),
+    (["en"], b"error: the following required arguments were not provided"),
+    (["en", "de", "fr"], b"error: unexpected argument 'fr' found"),
+    (["", "en", "de"], b"error: unexpected argument 'de' found"),
+    (["--strict", "en", "de"], b"error: unexpected argument '--strict' found"),
+    (["en", b"\xff"], b"regroup-lines: an argument is not UTF-8\n"),
 ]
 
 # Standard input, the output that fails, and what the other output receives.
@@ -126,6 +148,10 @@ def check_inputs(tally, program):
     for source, target, text, *expected in INPUTS:
         name = f"{source} {target} {shown(text)}"
         compare(tally, name, regroup(program, [source, target], text), *expected)
+    for source, target, text, *expected in LENIENT:
+        name = f"--lenient {source} {target} {shown(text)}"
+        for words in [["--lenient", source, target], [source, target, "--lenient"]]:
+            compare(tally, name, regroup(program, words, text), *expected)
     for grouping in lengths.LONGEST:
         check_lengths(tally, program, grouping)
 
@@ -149,14 +175,22 @@ def check_words(tally, program):
     heading("words that do not name two formats")
     for words in MISUSES:
         compare(tally, repr(words), regroup(program, words, b"1\n"), 2, b"", USAGE)
-    compare(tally, "a word not in UTF-8", regroup(program, ["en", b"\xff"], b"1\n"), 3, b"", b"")
+    for words, message in REFUSED:
+        ended = regroup(program, words, b"1\n")
+        found = (ended.returncode, ended.stdout, ended.stderr[: len(message)])
+        tally.compare(repr(words), found, (2, b"", message))
+    ended = regroup(program, ["--", "en", "de"], b"1000\n")
+    compare(tally, "words after --", ended, 0, b"1.000\n", b"")
+    ended = regroup(program, ["--help"], b"")
+    found = (ended.returncode, b"Usage: regroup-lines" in ended.stdout, ended.stderr)
+    tally.compare("--help", found, (0, True, b""))
     check_open_input(tally, program)
 
 
 def check_open_input(tally, program):
     """Words that do not name two formats end the program before it reads, so an open input is no matter."""
     read_end, write_end = os.pipe()
-    ended = run([program, "en"], stdin=read_end, capture_output=True)
+    ended = run([program, "en", "xx"], stdin=read_end, capture_output=True)
     os.close(read_end)
     os.close(write_end)
     compare(tally, "an input that stays open", ended, 2, b"", USAGE)
@@ -168,7 +202,8 @@ def check_failures(tally, program):
         for state, how in [("full", lambda _: full), ("closed", lambda _: None)]:
             for text, output, other in FAILURES:
                 compare_failed(tally, program, ["en", "de"], text, output, state, how(output), other)
-            compare_failed(tally, program, [], b"", "stderr", state, how("stderr"), b"")
+            words = ["en", "xx"]
+            compare_failed(tally, program, words, b"", "stderr", state, how("stderr"), b"")
     words = [program, "en", "de"]
     ended = run(words, preexec_fn=lambda: os.close(0), capture_output=True)
     compare(tally, "a closed input", ended, 3, b"", b"")

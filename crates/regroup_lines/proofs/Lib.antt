@@ -1,4 +1,5 @@
 -- The proofs of this crate.
+mod DecimalLemmas
 mod Examples
 mod InputLemmas
 mod LineLemmas

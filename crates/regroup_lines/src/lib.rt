@@ -15,30 +15,50 @@
 mod fault;
 mod input;
 pub mod laws;
+pub mod rules;
 
-ghost use Rattle.std.specs.Prelude.{◌≡◌, IsUtf8};
+ghost use Rattle.std.specs.Prelude.{◌≡◌, ◌≤◌, ◌++◌, length, drop, IsUtf8};
+ghost use Rattle.std.specs.Io.BufRead.{strip_last};
 ghost use Rattle.std.specs.Result.{result_map_both};
 ghost use Rattle.num_format.specs.Cut.{cut_text};
 ghost use Rattle.num_format.specs.Refusal.{ParseNumber};
+ghost use Rattle.num_format_decimal.specs.Text.{decimal_text};
+ghost use Rattle.regroup_shared.specs.Sending.{Sends, line};
 ghost use Rattle.regroup_lines.specs.Fault.Fault.{Line, NotText};
 ghost use Rattle.regroup_lines.specs.Fault.{fault_of};
-ghost use Rattle.regroup_lines.specs.Lines.{number_in_text};
-ghost use Rattle.regroup_lines.specs.Sending.{Regroups, SendsNumber};
+ghost use Rattle.regroup_lines.specs.Lines.{lenient, text_read, text_written};
+ghost use Rattle.regroup_lines.specs.Sending.{Regroups, SendsLine};
+ghost use Rattle.regroup_lines.specs.declared.rules.Reading.TheVariants.{Lenient, Strict};
 
 pub use crate::fault::RegroupFault;
 use crate::input::{Input, Piece};
+pub use crate::rules::{Reading, Rules};
+use arrayvec::ArrayString;
 use num_format::error::cut;
 use num_format::parsing::FromFormattedStr;
+use num_format::to_formatted_string::write_whole;
 use num_format::{Error, ErrorKind, Format};
+use num_format_decimal::{Decimal, DecimalBuffer, MAX_DECIMAL_LEN};
 use regroup_shared::send_number;
 use std::io::{Read, Write};
-use std::str;
+use std::{io, str};
 
 /// The most bytes of a line, without its newline.
 pub const MAX_LINE_LEN: usize = 4096;
 
 /// The most lines of an input of [`regroup_lines`].
 pub const MAX_LINES: u64 = 1_000_000;
+
+/// The most bytes that end a line: a carriage return and a newline.
+const MAX_ENDING_LEN: usize = 2;
+
+/// The most bytes of the line of a decimal, with its ending.
+const MAX_DECIMAL_LINE_LEN: usize = MAX_DECIMAL_LEN + MAX_ENDING_LEN;
+
+/// The rules of [`regroup_lines`].
+const LENIENT: Rules = Rules {
+    reading: Reading::Lenient,
+};
 
 /// Parses each line of `r` as an `i128` under the format `from`, and writes the number under the format
 /// `to`, and a newline, to `w`. Returns the number of lines.
@@ -69,11 +89,11 @@ pub fn regroup_lines<R: Read, W: Write, F: Format, G: Format>(
     from: &F,
     to: &G,
 ) -> Result<u64, RegroupFault>
-    ensures { Regroups MAX_LINES (F.answers from.now) (G.answers to.now)
+    ensures { Regroups lenient MAX_LINES (F.answers from.now) (G.answers to.now)
         (R.remaining r.old) (R.remaining r.new) (W.contents w.old) (W.contents w.new)
         (result_map_both (λ count. count) fault_of result) }
 {
-    regroup_at_most(MAX_LINES, r, w, from, to)
+    regroup_at_most(MAX_LINES, &LENIENT, r, w, from, to)
 }
 
 /// Does what [`regroup_lines`] does, for an input of at most this many lines.
@@ -84,12 +104,13 @@ pub fn regroup_lines<R: Read, W: Write, F: Format, G: Format>(
 /// [`TooMany`](RegroupFault::TooMany) is that a byte follows the last of these lines.
 pub fn regroup_at_most<R: Read, W: Write, F: Format, G: Format>(
     most: u64,
+    rules: &Rules,
     r: &mut R,
     w: &mut W,
     from: &F,
     to: &G,
 ) -> Result<u64, RegroupFault>
-    ensures { Regroups most (F.answers from.now) (G.answers to.now)
+    ensures { Regroups rules.now most (F.answers from.now) (G.answers to.now)
         (R.remaining r.old) (R.remaining r.new) (W.contents w.old) (W.contents w.new)
         (result_map_both (λ count. count) fault_of result) }
 {
@@ -100,13 +121,13 @@ pub fn regroup_at_most<R: Read, W: Write, F: Format, G: Format>(
             return Err(RegroupFault::Read);
         };
         match piece {
-            Piece::Line(place) => regroup_line(input.bytes(place), number, w, from, to)?,
+            Piece::Line(place) => regroup_line(rules, input.bytes(place), number, w, from, to)?,
             Piece::Rest(place) => {
                 let rest = input.bytes(place);
                 if rest.is_empty() {
                     return Ok(count);
                 }
-                regroup_line(rest, number, w, from, to)?;
+                regroup_line(rules, rest, number, w, from, to)?;
                 return Ok(number);
             }
             Piece::TooLong => return Err(RegroupFault::TooLong(number)),
@@ -119,15 +140,87 @@ pub fn regroup_at_most<R: Read, W: Write, F: Format, G: Format>(
     }
 }
 
-/// Sends the number in the text of a line, under the format `to`, and a newline.
+/// Sends what is written in place of the text of a line, and a newline.
 fn regroup_line<W: Write, F: Format, G: Format>(
+    rules: &Rules,
     text: &[u8],
     number: u64,
     w: &mut W,
     from: &F,
     to: &G,
 ) -> Result<(), RegroupFault>
-    ensures { SendsNumber (G.answers to.now) (number_in_text (F.answers from.now) number text.now)
+    ensures { SendsLine (text_written rules.now (F.answers from.now) (G.answers to.now) number text.now)
+        (W.contents w.old) (W.contents w.new) (result_map_both (λ sent. sent) fault_of result) }
+{
+    match rules.reading {
+        Reading::Strict => regroup_decimal(text, number, w, from, to),
+        Reading::Lenient => regroup_number(text, number, w, from, to),
+    }
+}
+
+/// Sends the decimal in the text of a line, what follows it, and a newline.
+fn regroup_decimal<W: Write, F: Format, G: Format>(
+    text: &[u8],
+    number: u64,
+    w: &mut W,
+    from: &F,
+    to: &G,
+) -> Result<(), RegroupFault>
+    ensures { SendsLine (text_read Strict (F.answers from.now) (G.answers to.now) number text.now)
+        (W.contents w.old) (W.contents w.new) (result_map_both (λ sent. sent) fault_of result) }
+{
+    let (body, ending) = split_ending(text);
+    match Decimal::from_strict_bytes(body, from) {
+        Ok(value) => send_decimal(&value, ending, to, w).or(Err(RegroupFault::Write)),
+        Err(_) => Err(text_fault(body, number)),
+    }
+}
+
+/// Returns what is before the carriage return at the end of a line, and the carriage return, if there is one,
+/// and a newline.
+fn split_ending(text: &[u8]) -> (&[u8], &'static str)
+    ensures body { result.0.now ≡ strip_last 13 text.now }
+    ensures ending { result.1.now ≡ line (drop (length (strip_last 13 text.now)) text.now) }
+    ensures short { length result.1.now ≤ MAX_ENDING_LEN }
+{
+    match text.strip_suffix(b"\r".as_slice()) {
+        Some(body) => (body, "\r\n"),
+        None => (text, "\n"),
+    }
+}
+
+/// Sends the text of the decimal under the format and an ending together, by one write if that writes all of
+/// them.
+///
+/// # Errors
+///
+/// Returns the error of the first write that fails, also of one that was interrupted, or that writes no bytes.
+fn send_decimal<F: Format, W: Write>(
+    number: &Decimal,
+    ending: &str,
+    format: &F,
+    writer: &mut W,
+) -> io::Result<()>
+    requires { length ending.now ≤ MAX_ENDING_LEN }
+    ensures { Sends result (W.contents writer.old) (W.contents writer.new)
+        (decimal_text (F.answers format.now) number.now ++ ending.now) }
+{
+    let mut line = ArrayString::<MAX_DECIMAL_LINE_LEN>::new();
+    line.push_str(DecimalBuffer::of(number, format).as_str());
+    line.push_str(ending);
+    write_whole(line.as_str().as_bytes(), writer)?;
+    Ok(())
+}
+
+/// Sends the number in the text of a line, under the format `to`, and a newline.
+fn regroup_number<W: Write, F: Format, G: Format>(
+    text: &[u8],
+    number: u64,
+    w: &mut W,
+    from: &F,
+    to: &G,
+) -> Result<(), RegroupFault>
+    ensures { SendsLine (text_read Lenient (F.answers from.now) (G.answers to.now) number text.now)
         (W.contents w.old) (W.contents w.new) (result_map_both (λ sent. sent) fault_of result) }
 {
     match i128::from_formatted_bytes(text, from) {
