@@ -182,7 +182,7 @@ def check_words(tally, program):
     ended = regroup(program, ["--", "en", "de"], b"1000\n")
     compare(tally, "words after --", ended, 0, b"1.000\n", b"")
     ended = regroup(program, ["--help"], b"")
-    found = (ended.returncode, b"Usage: regroup-lines" in ended.stdout, ended.stderr)
+    found = (ended.returncode, b"Usage: " in ended.stdout, ended.stderr)
     tally.compare("--help", found, (0, True, b""))
     check_open_input(tally, program)
 
