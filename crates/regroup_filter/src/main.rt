@@ -32,7 +32,7 @@ fn try_main(rt: &HostRuntime) -> io::Result<u8> {
         eprintln!(rt; "regroup-lines: an argument is not UTF-8")?;
         return Ok(MISUSED);
     };
-    let args: Vec<String> = args.collect(rt.alloc())?;
+    let args: Vec<String> = args.skip(1).collect(rt.alloc())?;
     let matches = match command(rt.alloc())?.try_get_matches_from(args.as_slice()) {
         Ok(matches) => matches,
         Err(error) if error.kind() == ErrorKind::OutOfMemory => return Ok(FAILED),
@@ -41,7 +41,10 @@ fn try_main(rt: &HostRuntime) -> io::Result<u8> {
             return Ok(error.exit_code() as u8);
         }
     };
-    let rules = rules_of(&matches);
+    let Some(rules) = rules_of(&matches) else {
+        eprintln!(rt; "regroup-lines: the delimiter is not one ASCII character")?;
+        return Ok(MISUSED);
+    };
     let words = words_of(&matches);
     let input = BufReader::with_capacity(rt.alloc(), CAPACITY, rt.stdin())?;
     let mut out = BufWriter::with_capacity(rt.alloc(), CAPACITY, rt.stdout())?;

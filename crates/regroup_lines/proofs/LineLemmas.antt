@@ -1,8 +1,7 @@
 -- What regrouping writes and returns, line after line.
 use Rattle.std.proofs.Common.{◌≡◌, ◌≢◌, ℕ, ◌+◌, ◌<◌, ◌≤◌, ◌==◌, Bool, true, false, List, [], ◌∷◌, ◌++◌, length, Option, Some, None, Result, Ok, Err, if◌then◌else◌, refl, sym, ap, subst, ◌∙◌, arith, append_assoc, append-nil}
-use Rattle.std.specs.Prelude.{ℤ, nat_lt}
+use Rattle.std.specs.Prelude.{ℤ, nat_le, nat_lt, ◌&&◌, take, drop, slice_range}
 use Rattle.std.specs.List.{slice_split, onto_first}
-use Rattle.std.specs.Io.BufRead.{strip_last}
 use Rattle.std.specs.Option.{ok_or}
 use Rattle.std.specs.Result.{result_map_both}
 use Rattle.std.specs.Str.{is_utf8}
@@ -19,10 +18,11 @@ use Rattle.regroup_shared.specs.Reading.{number_read}
 use Rattle.regroup_shared.specs.Sending.{line}
 use Rattle.regroup_shared.proofs.SendingLemmas.{StopsWithin_prefix, StopsWithin_suffix}
 use Rattle.regroup_lines.specs.Fault.{Fault}
-use Rattle.regroup_lines.specs.Fault.Fault.{Line, NotText, Read, TooLong, TooMany, Write}
+use Rattle.regroup_lines.specs.Fault.Fault.{FewFields, Line, NotText, Read, TooLong, TooMany, Write}
 use Rattle.regroup_lines.specs.Input.{HasNoNewline, Reads}
-use Rattle.regroup_lines.specs.Lines.{Regrouped, Stop, line_written, number_in_text, text_read, text_written, regrouped, regrouped_after, regrouped_parts, regrouped_rest, returned_unfinished, returning, size_fault, unless_fault, writing, writing_line}
+use Rattle.regroup_lines.specs.Lines.{Regrouped, Stop, line_written, between, body_written, number_in_text, number_replaced, number_written, or_itself, text_written, regrouped, regrouped_after, regrouped_parts, regrouped_rest, returned_unfinished, returning, size_fault, unless_fault, writing, writing_line}
 use Rattle.regroup_lines.specs.Lines.Stop.{Ended, Failed, Unread}
+use Rattle.regroup_lines.specs.Places.{line_place}
 use Rattle.regroup_lines.specs.Sending.{Regroups, SendsLine}
 use Rattle.regroup_lines.specs.declared.rules.Reading.{Reading}
 use Rattle.regroup_lines.specs.declared.rules.Reading.TheVariants.{Lenient, Strict}
@@ -64,12 +64,40 @@ strict_fault number true (Some text) refusal is = cc
 strict_fault number true None refusal is = cc
 strict_fault number false read refusal is = cc
 
-text_read-fault : (reading : Reading) (from to : FormatData) (number : ℕ) (text : List ℕ) → text_read reading from to number text ≢ Err Write
-text_read-fault Lenient from to number text = lenient_fault to (number_in_text from number text) (number_fault number (is_utf8 text) (number_read from text))
-text_read-fault Strict from to number text = strict_fault number (is_utf8 (strip_last 13 text)) _ _
+number_written-fault : (reading : Reading) (from to : FormatData) (number : ℕ) (text : List ℕ) → number_written reading from to number text ≢ Err Write
+number_written-fault Lenient from to number text = lenient_fault to (number_in_text from number text) (number_fault number (is_utf8 text) (number_read from text))
+number_written-fault Strict from to number text = strict_fault number (is_utf8 text) _ _
+
+between-fault : (before after : List ℕ) (written : Result (List ℕ) Fault) → written ≢ Err Write → between before after written ≢ Err Write
+between-fault before after (Ok text) other is = cc
+between-fault before after (Err fault) other is = other is
+
+empty-fault : (empty : Bool) (text : List ℕ) (written : Result (List ℕ) Fault) → written ≢ Err Write → (if empty then Ok text else written) ≢ Err Write
+empty-fault true text written other is = cc
+empty-fault false text written other is = other is
+
+few-fault : (number : ℕ) (written : Result (List ℕ) Fault) → written ≡ Err (FewFields number) → written ≢ Err Write
+few-fault number written few is = cc
+
+replaced-fault : (rules : Rules) (from to : FormatData) (number : ℕ) (text : List ℕ) (place : Option (ℕ × ℕ)) →
+    number_replaced rules from to number text place ≢ Err Write
+replaced-fault rules from to number text None = few-fault number (Err (FewFields number)) refl
+replaced-fault rules from to number text (Some place) =
+    let bytes = slice_range text place.0 place.1 in
+    empty-fault (rules.passes_empty && (place.0 == place.1)) text _
+    (between-fault (take place.0 text) (drop place.1 text) _ (number_written-fault rules.reading from to number bytes))
+
+pub body_written-fault : (rules : Rules) (from to : FormatData) (number : ℕ) (text : List ℕ) → body_written rules from to number text ≢ Err Write
+body_written-fault rules from to number text = replaced-fault rules from to number text (line_place rules.span text)
+
+itself-fault : (passes : Bool) (text : List ℕ) (written : Result (List ℕ) Fault) → written ≢ Err Write → (if passes then or_itself text written else written) ≢ Err Write
+itself-fault true text (Ok written) other is = cc
+itself-fault true text (Err fault) other is = cc
+itself-fault false text written other is = other is
 
 text_written-fault : (rules : Rules) (from to : FormatData) (number : ℕ) (text : List ℕ) → text_written rules from to number text ≢ Err Write
-text_written-fault rules from to number text = text_read-fault rules.reading from to number text
+text_written-fault rules from to number text =
+    empty-fault (nat_le number rules.header_lines) text _ (itself-fault rules.passes_faulty text _ (body_written-fault rules from to number text))
 
 module _ (rules : Rules) (most : ℕ) (from to : FormatData) where
   line_written-text : (number : ℕ) (text : List ℕ) → number ≤ most → length text ≤ MAX_LINE_LEN → line_written rules most from to number text ≡ text_written rules from to number text

@@ -1,7 +1,6 @@
 -- The number in the text of a line.
 use Rattle.std.proofs.Common.{◌≡◌, ℕ, Bool, true, false, List, ◌++◌, length, drop, Option, Some, None, Result, Ok, Err, refl, sym, ap, subst, ◌∙◌}
 use Rattle.std.specs.Prelude.{ℤ, IsUtf8, ◌↔◌}
-use Rattle.std.specs.Io.BufRead.{strip_last}
 use Rattle.std.specs.Result.{result_map_both, result_or}
 use Rattle.std.specs.Str.{is_utf8}
 use Rattle.std.proofs.lemmas.Bool.{both_ways, false_from_ne_true}
@@ -23,7 +22,7 @@ use Rattle.regroup_shared.proofs.ReadingLemmas.{readable-from_accepted, unreadab
 use Rattle.regroup_lines.specs.Decimals.{decimal_read}
 use Rattle.regroup_lines.specs.Fault.{Fault, fault_of}
 use Rattle.regroup_lines.specs.Fault.Fault.{Line, NotText}
-use Rattle.regroup_lines.specs.Lines.{number_in_text, text_read}
+use Rattle.regroup_lines.specs.Lines.{between, number_in_text, number_written}
 use Rattle.regroup_lines.specs.Sending.{SendsLine}
 use Rattle.regroup_lines.specs.declared.fault.RegroupFault.{RegroupFault}
 use Rattle.regroup_lines.specs.declared.fault.RegroupFault.TheVariants as fault
@@ -66,39 +65,37 @@ module _ {E : Type 0} (a b : Option (List ℕ)) where
   sent text (Ok done) sends = sends.whole
   sent text (Err e) sends = (refl, sends.prefix)
 
-  pub sends-line : (written : Result (List ℕ) Fault) (text bytes : List ℕ) → written ≡ Ok text → bytes ≡ line text → (call : Result (Unit {0}) E) →
-      Sends call a b bytes → (result : Result (Unit {0}) RegroupFault) → result ≡ result_or call (Err fault.Write) →
-      SendsLine written a b (result_map_both (λ done. done) fault_of result)
-  sends-line written text bytes is same call sends result returned =
+  pub sends-line : (written : Result (List ℕ) Fault) (text : List ℕ) → written ≡ Ok text → (call : Result (Unit {0}) E) → Sends call a b (line text) →
+      (result : Result (Unit {0}) RegroupFault) → result ≡ result_or call (Err fault.Write) → SendsLine written a b (result_map_both (λ done. done) fault_of result)
+  sends-line written text is call sends result returned =
       subst (λ q. SendsLine written a b (result_map_both (λ done. done) fault_of q)) (sym returned)
-      (subst (λ q. SendsLine q a b (result_map_both (λ done. done) fault_of (result_or call (Err fault.Write)))) (sym is)
-      (sent text call (subst (Sends call a b) same sends)))
+      (subst (λ q. SendsLine q a b (result_map_both (λ done. done) fault_of (result_or call (Err fault.Write)))) (sym is) (sent text call sends))
 
--- the text of a line that is read strictly
+-- the text of a number that is read strictly
 module _ (from to : FormatData) (number : ℕ) (text : List ℕ) where
-  pub strict-accepted : (d : FixedPoint) → ParsesDecimal from (strip_last 13 text) d →
-      text_read Strict from to number text ≡ Ok (decimal_text to d ++ drop (length (strip_last 13 text)) text)
-  strict-accepted d parsed =
-      rw (is_utf8-from_IsUtf8 (strip_last 13 text) parsed.utf8, decimal_read-parsed from (strip_last 13 text) d parsed) refl
+  pub strict-accepted : (d : FixedPoint) → ParsesDecimal from text d → number_written Strict from to number text ≡ Ok (decimal_text to d)
+  strict-accepted d parsed = rw (is_utf8-from_IsUtf8 text parsed.utf8, decimal_read-parsed from text d parsed) refl
 
-  strict-utf8 : (utf8 : Bool) (f : Fault) → is_utf8 (strip_last 13 text) ≡ utf8 → decimal_read from (strip_last 13 text) ≡ None →
-      (¬ (IsUtf8 (strip_last 13 text)) → f ≡ NotText number) → (IsUtf8 (strip_last 13 text) → f ≡ Line number (ParseNumber (cut_text (strip_last 13 text)))) →
-      text_read Strict from to number text ≡ Err f
-  strict-utf8 true f utf8 none not line = rw (utf8, none) (ap Err (sym (line (IsUtf8-from_is_utf8 (strip_last 13 text) utf8))))
-  strict-utf8 false f utf8 none not line =
-      rw utf8 (ap Err (sym (not (λ is. both_ways _ utf8 (is_utf8-from_IsUtf8 (strip_last 13 text) is)))))
+  strict-utf8 : (utf8 : Bool) (f : Fault) → is_utf8 text ≡ utf8 → decimal_read from text ≡ None → (¬ (IsUtf8 text) → f ≡ NotText number) →
+      (IsUtf8 text → f ≡ Line number (ParseNumber (cut_text text))) → number_written Strict from to number text ≡ Err f
+  strict-utf8 true f utf8 none not refused = rw (utf8, none) (ap Err (sym (refused (IsUtf8-from_is_utf8 text utf8))))
+  strict-utf8 false f utf8 none not refused = rw utf8 (ap Err (sym (not (λ is. both_ways _ utf8 (is_utf8-from_IsUtf8 text is)))))
 
   pub strict-refused : (r : Result FixedPoint ParseDecimalError) (e : ParseDecimalError) (f : Fault) → r ≡ Err e →
-      ((d : FixedPoint) → (r ≡ Ok d) ↔ ParsesDecimal from (strip_last 13 text) d) → (¬ (IsUtf8 (strip_last 13 text)) → f ≡ NotText number) →
-      (IsUtf8 (strip_last 13 text) → f ≡ Line number (ParseNumber (cut_text (strip_last 13 text)))) → text_read Strict from to number text ≡ Err f
-  strict-refused r e f failed exactly =
-      strict-utf8 (is_utf8 (strip_last 13 text)) f refl (decimal_read-refused from (strip_last 13 text) r e failed exactly)
+      ((d : FixedPoint) → (r ≡ Ok d) ↔ ParsesDecimal from text d) → (¬ (IsUtf8 text) → f ≡ NotText number) →
+      (IsUtf8 text → f ≡ Line number (ParseNumber (cut_text text))) → number_written Strict from to number text ≡ Err f
+  strict-refused r e f failed exactly = strict-utf8 (is_utf8 text) f refl (decimal_read-refused from text r e failed exactly)
 
--- the text of a line that is read leniently
-pub lenient-read : (from to : FormatData) (number : ℕ) (text : List ℕ) (n : ℤ) → number_in_text from number text ≡ Ok n →
-    text_read Lenient from to number text ≡ Ok (text_of to n)
-lenient-read from to number text n is = ap (result_map_both (text_of to) (λ fault. fault)) is
+  -- and leniently
+  pub lenient-read : (n : ℤ) → number_in_text from number text ≡ Ok n → number_written Lenient from to number text ≡ Ok (text_of to n)
+  lenient-read n is = ap (result_map_both (text_of to) (λ fault. fault)) is
 
-pub lenient-fault : (from to : FormatData) (number : ℕ) (text : List ℕ) (f : Fault) → number_in_text from number text ≡ Err f →
-    text_read Lenient from to number text ≡ Err f
-lenient-fault from to number text f is = ap (result_map_both (text_of to) (λ fault. fault)) is
+  pub lenient-fault : (f : Fault) → number_in_text from number text ≡ Err f → number_written Lenient from to number text ≡ Err f
+  lenient-fault f is = ap (result_map_both (text_of to) (λ fault. fault)) is
+
+-- the bytes around a number
+pub between-ok : (before after text : List ℕ) (written : Result (List ℕ) Fault) → written ≡ Ok text → between before after written ≡ Ok (before ++ (text ++ after))
+between-ok before after text written is = ap (between before after) is
+
+pub between-err : (before after : List ℕ) (f : Fault) (written : Result (List ℕ) Fault) → written ≡ Err f → between before after written ≡ Err f
+between-err before after f written is = ap (between before after) is

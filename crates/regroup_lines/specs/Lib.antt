@@ -3,4 +3,5 @@ pub mod Decimals
 pub mod Fault
 pub mod Input
 pub mod Lines
+pub mod Places
 pub mod Sending

@@ -1,7 +1,6 @@
 -- What regrouping the lines of an input writes and returns.
-use Rattle.std.specs.Prelude.{ℕ, ◌+◌, ◌==◌, nat_lt, ℤ, if◌then◌else◌, List, [], ◌∷◌, ◌++◌, length, drop, Option, None, Some, Result, Ok, Err}
+use Rattle.std.specs.Prelude.{ℕ, ◌+◌, ◌==◌, nat_le, nat_lt, Bool, true, false, ◌&&◌, ℤ, if◌then◌else◌, List, [], ◌∷◌, ◌++◌, length, take, drop, slice_range, Option, None, Some, Result, Ok, Err}
 use Rattle.std.specs.List.{slice_split}
-use Rattle.std.specs.Io.BufRead.{strip_last}
 use Rattle.std.specs.Option.{ok_or, option_map}
 use Rattle.std.specs.Result.{result_map_both}
 use Rattle.std.specs.Str.{is_utf8}
@@ -14,10 +13,12 @@ use Rattle.regroup_shared.specs.Reading.{number_read}
 use Rattle.regroup_shared.specs.Sending.{line}
 use Rattle.regroup_lines.specs.Decimals.{decimal_read}
 use Rattle.regroup_lines.specs.Fault.{Fault}
-use Rattle.regroup_lines.specs.Fault.Fault.{TooMany, TooLong, Read, NotText, Line}
+use Rattle.regroup_lines.specs.Fault.Fault.{TooMany, TooLong, FewFields, Read, NotText, Line}
+use Rattle.regroup_lines.specs.Places.{line_place}
 use Rattle.regroup_lines.specs.declared.rules.Reading.{Reading}
 use Rattle.regroup_lines.specs.declared.rules.Reading.TheVariants.{Lenient, Strict}
 use Rattle.regroup_lines.specs.declared.rules.Rules.{Rules}
+use Rattle.regroup_lines.specs.declared.rules.Span.TheVariants as span
 use Rattle.regroup_lines.specs.declared.TheConstants.{MAX_LINE_LEN}
 
 -- how a reader stopped: at its end, by a failed read, or not at all, where no more was read
@@ -55,23 +56,45 @@ abbrev pub number_in_text : FormatData → ℕ → List ℕ → Result ℤ Fault
 number_in_text from number text =
     if is_utf8 text then result_map_both (λ value. value) (Line number) (number_read from text) else Err (NotText number)
 
--- what is written in place of the text of a line, read so: leniently the number alone, and strictly the decimal in what is before a
--- carriage return, and the carriage return
-abbrev pub text_read : Reading → FormatData → FormatData → ℕ → List ℕ → Result (List ℕ) Fault
-text_read Lenient from to number text = result_map_both (text_of to) (λ fault. fault) (number_in_text from number text)
-text_read Strict from to number text =
-    let body = strip_last 13 text in
-    if is_utf8 body
-    then ok_or (option_map (λ d. decimal_text to d ++ drop (length body) text) (decimal_read from body)) (Line number (ParseNumber (cut_text body)))
-    else Err (NotText number)
+-- the text that is written in place of that of a number, or the fault of that text
+abbrev pub number_written : Reading → FormatData → FormatData → ℕ → List ℕ → Result (List ℕ) Fault
+number_written Lenient from to number text = result_map_both (text_of to) (λ fault. fault) (number_in_text from number text)
+number_written Strict from to number text =
+    if is_utf8 text then ok_or (option_map (decimal_text to) (decimal_read from text)) (Line number (ParseNumber (cut_text text))) else Err (NotText number)
 
--- the rules that read each line leniently
-abbrev pub lenient : Rules
-lenient = record { reading = Lenient }
+-- a text with these bytes before and after it
+abbrev pub between : (before after : List ℕ) → Result (List ℕ) Fault → Result (List ℕ) Fault
+between before after written = result_map_both (λ text. before ++ (text ++ after)) (λ fault. fault) written
+
+-- a line with the number at this place: the other bytes are passed on, and so are all where the number has no byte and that is no fault
+abbrev pub place_written : Rules → FormatData → FormatData → ℕ → List ℕ → ℕ × ℕ → Result (List ℕ) Fault
+place_written rules from to number text place =
+    if rules.passes_empty && (place.0 == place.1) then Ok text else
+    between (take place.0 text) (drop place.1 text) (number_written rules.reading from to number (slice_range text place.0 place.1))
+
+-- a line with the number where the rules say
+abbrev pub number_replaced : Rules → FormatData → FormatData → ℕ → List ℕ → Option (ℕ × ℕ) → Result (List ℕ) Fault
+number_replaced rules from to number text None = Err (FewFields number)
+number_replaced rules from to number text (Some place) = place_written rules from to number text place
+
+-- a line that is no header
+abbrev pub body_written : Rules → FormatData → FormatData → ℕ → List ℕ → Result (List ℕ) Fault
+body_written rules from to number text = number_replaced rules from to number text (line_place rules.span text)
+
+-- the line itself in place of a fault
+abbrev pub or_itself : List ℕ → Result (List ℕ) Fault → Result (List ℕ) Fault
+or_itself text (Ok written) = Ok written
+or_itself text (Err fault) = Ok text
 
 -- what is written in place of the text of a line, or the fault of the text
 abbrev pub text_written : Rules → FormatData → FormatData → ℕ → List ℕ → Result (List ℕ) Fault
-text_written rules from to number text = text_read rules.reading from to number text
+text_written rules from to number text =
+    if nat_le number rules.header_lines then Ok text else
+    if rules.passes_faulty then or_itself text (body_written rules from to number text) else body_written rules from to number text
+
+-- the rules that read the whole of each line leniently
+abbrev pub lenient : Rules
+lenient = record { span = span.Line; reading = Lenient; header_lines = 0; passes_empty = false; passes_faulty = false }
 
 -- the fault, or what there is without one
 abbrev pub unless_fault : Option Fault → Result (List ℕ) Fault → Result (List ℕ) Fault

@@ -17,29 +17,26 @@ mod input;
 pub mod laws;
 pub mod rules;
 
-ghost use Rattle.std.specs.Prelude.{◌≡◌, ◌≤◌, ◌++◌, length, drop, IsUtf8};
-ghost use Rattle.std.specs.Io.BufRead.{strip_last};
+ghost use Rattle.std.specs.Prelude.{◌≡◌, ◌<◌, ◌++◌, length, IsUtf8};
 ghost use Rattle.std.specs.Result.{result_map_both};
 ghost use Rattle.num_format.specs.Cut.{cut_text};
 ghost use Rattle.num_format.specs.Refusal.{ParseNumber};
-ghost use Rattle.num_format_decimal.specs.Text.{decimal_text};
 ghost use Rattle.regroup_shared.specs.Sending.{Sends, line};
 ghost use Rattle.regroup_lines.specs.Fault.Fault.{Line, NotText};
 ghost use Rattle.regroup_lines.specs.Fault.{fault_of};
-ghost use Rattle.regroup_lines.specs.Lines.{lenient, text_read, text_written};
+ghost use Rattle.regroup_lines.specs.Lines.{between, body_written, lenient, number_written, text_written};
 ghost use Rattle.regroup_lines.specs.Sending.{Regroups, SendsLine};
 ghost use Rattle.regroup_lines.specs.declared.rules.Reading.TheVariants.{Lenient, Strict};
 
 pub use crate::fault::RegroupFault;
 use crate::input::{Input, Piece};
-pub use crate::rules::{Reading, Rules};
-use arrayvec::ArrayString;
+pub use crate::rules::{Field, Reading, Rules, Span};
 use num_format::error::cut;
 use num_format::parsing::FromFormattedStr;
 use num_format::to_formatted_string::write_whole;
-use num_format::{Error, ErrorKind, Format};
-use num_format_decimal::{Decimal, DecimalBuffer, MAX_DECIMAL_LEN};
-use regroup_shared::send_number;
+use num_format::{Buffer, Error, ErrorKind, Format};
+use num_format_decimal::{Decimal, DecimalBuffer};
+use regroup_shared::{MAX_SENT_LINE_LEN, send_line};
 use std::io::{Read, Write};
 use std::{io, str};
 
@@ -49,15 +46,13 @@ pub const MAX_LINE_LEN: usize = 4096;
 /// The most lines of an input of [`regroup_lines`].
 pub const MAX_LINES: u64 = 1_000_000;
 
-/// The most bytes that end a line: a carriage return and a newline.
-const MAX_ENDING_LEN: usize = 2;
-
-/// The most bytes of the line of a decimal, with its ending.
-const MAX_DECIMAL_LINE_LEN: usize = MAX_DECIMAL_LEN + MAX_ENDING_LEN;
-
 /// The rules of [`regroup_lines`].
 const LENIENT: Rules = Rules {
+    span: Span::Line,
     reading: Reading::Lenient,
+    header_lines: 0,
+    passes_empty: false,
+    passes_faulty: false,
 };
 
 /// Parses each line of `r` as an `i128` under the format `from`, and writes the number under the format
@@ -152,81 +147,129 @@ fn regroup_line<W: Write, F: Format, G: Format>(
     ensures { SendsLine (text_written rules.now (F.answers from.now) (G.answers to.now) number text.now)
         (W.contents w.old) (W.contents w.new) (result_map_both (λ sent. sent) fault_of result) }
 {
-    match rules.reading {
-        Reading::Strict => regroup_decimal(text, number, w, from, to),
-        Reading::Lenient => regroup_number(text, number, w, from, to),
+    if number <= rules.header_lines {
+        return pass_on(text, w).or(Err(RegroupFault::Write));
+    }
+    match regroup_body(rules, text, number, w, from, to) {
+        Ok(()) => Ok(()),
+        Err(RegroupFault::Write) => Err(RegroupFault::Write),
+        Err(_) if rules.passes_faulty => pass_on(text, w).or(Err(RegroupFault::Write)),
+        Err(fault) => Err(fault),
     }
 }
 
-/// Sends the decimal in the text of a line, what follows it, and a newline.
-fn regroup_decimal<W: Write, F: Format, G: Format>(
+/// Sends a line that is no header, with its number regrouped, and a newline.
+fn regroup_body<W: Write, F: Format, G: Format>(
+    rules: &Rules,
     text: &[u8],
     number: u64,
     w: &mut W,
     from: &F,
     to: &G,
 ) -> Result<(), RegroupFault>
-    ensures { SendsLine (text_read Strict (F.answers from.now) (G.answers to.now) number text.now)
+    ensures { SendsLine (body_written rules.now (F.answers from.now) (G.answers to.now) number text.now)
         (W.contents w.old) (W.contents w.new) (result_map_both (λ sent. sent) fault_of result) }
 {
-    let (body, ending) = split_ending(text);
-    match Decimal::from_strict_bytes(body, from) {
-        Ok(value) => send_decimal(&value, ending, to, w).or(Err(RegroupFault::Write)),
-        Err(_) => Err(text_fault(body, number)),
+    let Some(place) = rules.span.place(text) else {
+        return Err(RegroupFault::FewFields(number));
+    };
+    let (start, end) = (place.start, place.end);
+    if rules.passes_empty && start == end {
+        return pass_on(text, w).or(Err(RegroupFault::Write));
+    }
+    let around = Around {
+        before: &text[..start],
+        after: &text[end..],
+    };
+    match rules.reading {
+        Reading::Strict => regroup_decimal(&around, &text[start..end], number, w, from, to),
+        Reading::Lenient => regroup_number(&around, &text[start..end], number, w, from, to),
     }
 }
 
-/// Returns what is before the carriage return at the end of a line, and the carriage return, if there is one,
-/// and a newline.
-fn split_ending(text: &[u8]) -> (&[u8], &'static str)
-    ensures body { result.0.now ≡ strip_last 13 text.now }
-    ensures ending { result.1.now ≡ line (drop (length (strip_last 13 text.now)) text.now) }
-    ensures short { length result.1.now ≤ MAX_ENDING_LEN }
+/// The bytes of a line around its number.
+#[derive(Clone, Copy)]
+struct Around<'a> {
+    before: &'a [u8],
+    after: &'a [u8],
+}
+
+/// Sends the bytes of a line around its number, the decimal in its text between them, and a newline.
+fn regroup_decimal<W: Write, F: Format, G: Format>(
+    around: &Around<'_>,
+    text: &[u8],
+    number: u64,
+    w: &mut W,
+    from: &F,
+    to: &G,
+) -> Result<(), RegroupFault>
+    ensures { SendsLine (between around.now.before.now around.now.after.now
+        (number_written Strict (F.answers from.now) (G.answers to.now) number text.now))
+        (W.contents w.old) (W.contents w.new) (result_map_both (λ sent. sent) fault_of result) }
 {
-    match text.strip_suffix(b"\r".as_slice()) {
-        Some(body) => (body, "\r\n"),
-        None => (text, "\n"),
+    match Decimal::from_strict_bytes(text, from) {
+        Ok(value) => send_between(around, DecimalBuffer::of(&value, to).as_str(), w).or(Err(
+            RegroupFault::Write,
+        )),
+        Err(_) => Err(text_fault(text, number)),
     }
 }
 
-/// Sends the text of the decimal under the format and an ending together, by one write if that writes all of
-/// them.
+/// Sends the bytes of a line around its number, the number in its text between them, and a newline.
+fn regroup_number<W: Write, F: Format, G: Format>(
+    around: &Around<'_>,
+    text: &[u8],
+    number: u64,
+    w: &mut W,
+    from: &F,
+    to: &G,
+) -> Result<(), RegroupFault>
+    ensures { SendsLine (between around.now.before.now around.now.after.now
+        (number_written Lenient (F.answers from.now) (G.answers to.now) number text.now))
+        (W.contents w.old) (W.contents w.new) (result_map_both (λ sent. sent) fault_of result) }
+{
+    match i128::from_formatted_bytes(text, from) {
+        Ok(value) => send_between(around, Buffer::of(&value, to).as_str(), w).or(Err(
+            RegroupFault::Write,
+        )),
+        Err(_) => Err(text_fault(text, number)),
+    }
+}
+
+/// Sends the bytes of a line around a text, the text between them, and a newline. A text that is the whole line is
+/// sent with the newline, by one write if that writes both.
 ///
 /// # Errors
 ///
 /// Returns the error of the first write that fails, also of one that was interrupted, or that writes no bytes.
-fn send_decimal<F: Format, W: Write>(
-    number: &Decimal,
-    ending: &str,
-    format: &F,
-    writer: &mut W,
-) -> io::Result<()>
-    requires { length ending.now ≤ MAX_ENDING_LEN }
-    ensures { Sends result (W.contents writer.old) (W.contents writer.new)
-        (decimal_text (F.answers format.now) number.now ++ ending.now) }
+#[tactic(auto, using(crate::proofs::AroundLemmas::around_first, crate::proofs::AroundLemmas::around_second, crate::proofs::AroundLemmas::around_third, crate::proofs::AroundLemmas::around_fourth, crate::proofs::AroundLemmas::around_whole))]
+fn send_between<W: Write>(around: &Around<'_>, text: &str, w: &mut W) -> io::Result<()>
+    requires { length text.now < MAX_SENT_LINE_LEN }
+    ensures { Sends result (W.contents w.old) (W.contents w.new)
+        (line (around.now.before.now ++ (text.now ++ around.now.after.now))) }
 {
-    let mut line = ArrayString::<MAX_DECIMAL_LINE_LEN>::new();
-    line.push_str(DecimalBuffer::of(number, format).as_str());
-    line.push_str(ending);
-    write_whole(line.as_str().as_bytes(), writer)?;
+    if around.before.is_empty() && around.after.is_empty() {
+        return send_line(text, w);
+    }
+    write_whole(around.before, w)?;
+    write_whole(text.as_bytes(), w)?;
+    write_whole(around.after, w)?;
+    write_whole(b"\n", w)?;
     Ok(())
 }
 
-/// Sends the number in the text of a line, under the format `to`, and a newline.
-fn regroup_number<W: Write, F: Format, G: Format>(
-    text: &[u8],
-    number: u64,
-    w: &mut W,
-    from: &F,
-    to: &G,
-) -> Result<(), RegroupFault>
-    ensures { SendsLine (text_read Lenient (F.answers from.now) (G.answers to.now) number text.now)
-        (W.contents w.old) (W.contents w.new) (result_map_both (λ sent. sent) fault_of result) }
+/// Sends a line as it is, and a newline.
+///
+/// # Errors
+///
+/// Returns the error of the first write that fails, also of one that was interrupted, or that writes no bytes.
+#[tactic(auto, using(crate::proofs::AroundLemmas::passed_prefix, crate::proofs::AroundLemmas::passed_suffix, crate::proofs::AroundLemmas::passed_whole))]
+fn pass_on<W: Write>(text: &[u8], w: &mut W) -> io::Result<()>
+    ensures { Sends result (W.contents w.old) (W.contents w.new) (line text.now) }
 {
-    match i128::from_formatted_bytes(text, from) {
-        Ok(value) => send_number(value, to, w).or(Err(RegroupFault::Write)),
-        Err(_) => Err(text_fault(text, number)),
-    }
+    write_whole(text, w)?;
+    write_whole(b"\n", w)?;
+    Ok(())
 }
 
 /// Returns the fault of a text that does not parse. It keeps a prefix of the text, so it is made

@@ -5,7 +5,7 @@ use Rattle.num_format.specs.Format.{FormatData}
 use Rattle.num_format.specs.Writing.{HasReceivedUpTo, StopsWithin}
 use Rattle.regroup_shared.specs.Sending.{line}
 use Rattle.regroup_lines.specs.Fault.{Fault, message_of_fault}
-use Rattle.regroup_lines.specs.Fault.Fault.{TooMany, TooLong, Read, NotText, Line, Write}
+use Rattle.regroup_lines.specs.Fault.Fault.{TooMany, TooLong, FewFields, Read, NotText, Line, Write}
 use Rattle.regroup_lines.specs.Sending.{Regroups}
 use Rattle.regroup_lines.specs.declared.rules.Rules.{Rules}
 
@@ -17,6 +17,7 @@ most_lines = 2 ^ 64 - 1
 abbrev pub is_of_line : Fault → Bool
 is_of_line TooMany = false
 is_of_line (TooLong number) = true
+is_of_line (FewFields number) = true
 is_of_line Read = false
 is_of_line (NotText number) = true
 is_of_line (Line number refusal) = true

@@ -2,7 +2,7 @@
 
 use num_format::error::cut;
 use num_format::{CustomFormat, Error, ErrorKind, Format, Grouping, Locale};
-use regroup_lines::{Reading, RegroupFault, Rules, regroup_at_most, regroup_lines};
+use regroup_lines::{Reading, RegroupFault, Rules, Span, regroup_at_most, regroup_lines};
 use std::io;
 use std::process::Abort;
 use std::test::Fail;
@@ -162,7 +162,11 @@ fn a_million_lines(rt: HostRuntime) -> Result<(), Fail> {
 #[test]
 fn two_lines_at_most(rt: HostRuntime) -> Result<(), Fail> {
     let rules = Rules {
+        span: Span::Line,
         reading: Reading::Lenient,
+        header_lines: 0,
+        passes_empty: false,
+        passes_faulty: false,
     };
     for (input, returned) in [
         ("", Ok(0)),

@@ -6,7 +6,7 @@ use crate::Step::{Take, Zero};
 use crate::{ReadStep, Scripted, ScriptedReader, Step};
 use num_format::Locale;
 use regroup_lines::{RegroupFault, regroup_lines};
-use regroup_stream::{FAILED, REGROUPED, Reading, Rules, run};
+use regroup_stream::{FAILED, REGROUPED, Reading, Rules, Span, run};
 use std::alloc::Global;
 use std::io::BufWriter;
 use std::process::Abort;
@@ -17,7 +17,11 @@ const INPUT: &[u8] = b"1,000000\n-5\n";
 
 /// The rules under which the first line is a number.
 const LENIENT: Rules = Rules {
+    span: Span::Trimmed,
     reading: Reading::Lenient,
+    header_lines: 0,
+    passes_empty: false,
+    passes_faulty: false,
 };
 
 /// The space of a writer in bytes.

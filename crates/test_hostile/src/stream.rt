@@ -3,7 +3,7 @@
 use crate::ReadStep::{Fail, Give};
 use crate::Step::{Interrupt, Take, Zero};
 use crate::{Scripted, ScriptedReader, Step};
-use regroup_stream::{FAILED, FAULTY, MISUSED, REGROUPED, Reading, Rules, run};
+use regroup_stream::{FAILED, FAULTY, MISUSED, REGROUPED, Reading, Rules, Span, run};
 use std::alloc::Global;
 use std::io::{BufWriter, ErrorKind, Write};
 use std::process::Abort;
@@ -11,7 +11,11 @@ use std::{io, test};
 
 /// The rules of `regroup-lines` without an option.
 const STRICT: Rules = Rules {
+    span: Span::Trimmed,
     reading: Reading::Strict,
+    header_lines: 0,
+    passes_empty: false,
+    passes_faulty: false,
 };
 
 /// Accepts all bytes, and fails the first time that it is flushed.
