@@ -22,6 +22,7 @@ PROGRAM = CRATE / "out" / CRATE.name
 USAGE = b"usage: regroup-lines FROM TO, each a locale or custom:SEP:GROUPING:MINUS\n"
 TOO_LONG = b"More than 4096 bytes.\n"
 NOT_TEXT = b"Not UTF-8.\n"
+FEW_FIELDS = b"Too few fields.\n"
 
 
 def unparsed(text):
@@ -36,37 +37,77 @@ INPUTS = [
     ("en", "de", b"1000", 0, b"1.000\n", b""),
     ("de", "en_IN", b"-10.000.000\n", 0, b"-1,00,00,000\n", b""),
     ("en", "fr", b"1000\n", 0, "1\u202f000\n".encode(), b""),
-    ("en", "de", b"5\r\n12,345\r\n", 0, b"5\n12.345\n", b""),
+    ("en", "de", b"5\r\n12,345\r\n", 0, b"5\r\n12.345\r\n", b""),
+    ("en", "de", b"12,345\r", 0, b"12.345\r\n", b""),
+    ("en", "de", b"1,234.50\n-0.5\n12345.000\n", 0, b"1.234,50\n-0,5\n12.345,000\n", b""),
+    ("de", "en", b"1.234,50\n1234,5\n", 0, b"1,234.50\n1,234.5\n", b""),
+    ("en", "en_IN", b"1234567.89\n", 0, b"12,34,567.89\n", b""),
+    ("en", "de", b"0." + 37 * b"0" + b"1\n", 0, b"0," + 37 * b"0" + b"1\n", b""),
+    ("en", "de", b"1\n0." + 39 * b"0" + b"\n", 1, b"1\n", b"line 2: " + unparsed(b"0." + 39 * b"0")),
+    ("en", "de", b"\t1,000\n  -2.5 \r\n 3", 0, b"\t1.000\n  -2,5 \r\n 3\n", b""),
+    ("en", "de", b"1\n2 3\n", 1, b"1\n", b"line 2: " + unparsed(b"2 3")),
+    ("en", "de", b"1\n \t\n", 1, b"1\n", b"line 2: " + unparsed(b"")),
+    ("en", "de", b"1\n12,34\n", 1, b"1\n", b"line 2: " + unparsed(b"12,34")),
+    ("en", "de", b"1\n1.234,50\n", 1, b"1\n", b"line 2: " + unparsed(b"1.234,50")),
     ("en", "custom:':Standard:-", b"-1234567\n", 0, b"-1'234'567\n", b""),
     ("en", "custom:::Standard:~", b"-1234567\n", 0, b"~1:234:567\n", b""),
     ("en", "custom::Indian:", b"-100000\n", 0, b"100000\n", b""),
-    ("custom:.:Myriad:m", "en", b"m1.0000\n-7\n", 0, b"-10,000\n7\n", b""),
+    ("custom:':Myriad:m", "en", b"m1'0000\n7.5\n", 0, b"-10,000\n7.5\n", b""),
     ("en", "custom: :Sparse:-", b"1,234\n12,345\n", 0, b"1234\n12 345\n", b""),
-    # Formats whose separator and minus sign have digits, or whose minus sign is empty.
     ("en", "custom:7:Standard:17", b"1,000\n-1000\n", 0, b"17000\n1717000\n", b""),
-    ("custom:7:Standard:17", "en", b"17000\n5\n", 0, b"-17,000\n5\n", b""),
-    ("custom:,:Standard:", "en", b"5\n1,000\n", 0, b"-5\n-1,000\n", b""),
     ("en", "de", b"\n", 1, b"", b"line 1: " + unparsed(b"")),
     ("en", "de", b"1\n2\n\n4\n", 1, b"1\n2\n", b"line 3: " + unparsed(b"")),
-    ("en", "de", b"1\r\n\r\n", 1, b"1\n", b"line 2: " + unparsed(b"\r")),
+    ("en", "de", b"1\r\n\r\n", 1, b"1\r\n", b"line 2: " + unparsed(b"")),
     ("en", "de", b"7,000\nabc\n9\n", 1, b"7.000\n", b"line 2: " + unparsed(b"abc")),
     ("en", "de", b"7,000\nabc", 1, b"7.000\n", b"line 2: " + unparsed(b"abc")),
     ("en", "de", b"1\n\xff\n", 1, b"1\n", b"line 2: " + NOT_TEXT),
     ("en", "de", 300 * b"a", 1, b"", b"line 1: " + unparsed(256 * b"a")),
-    ("en", "de", 4095 * b" " + b"1\n", 0, b"1\n", b""),
-    ("en", "de", 4095 * b" " + b"1", 0, b"1\n", b""),
     ("en", "de", 4096 * b" " + b"1\n", 1, b"", b"line 1: " + TOO_LONG),
     ("en", "de", b"8\n" + 4096 * b" " + b"1", 1, b"8\n", b"line 2: " + TOO_LONG),
     ("en", "de", 100_000 * b" ", 1, b"", b"line 1: " + TOO_LONG),
 ]
 
+# The same of lines that are read leniently.
+LENIENT = [
+    ("en", "de", b"1,234.50\n(7)\n", 0, b"123.450\n7\n", b""),
+    ("en", "de", b"5\r\n12,345 \r\n", 0, b"5\r\n12.345 \r\n", b""),
+    ("custom:.:Myriad:m", "en", b"m1.0000\n-7\n", 0, b"-10,000\n7\n", b""),
+    # Formats whose separator and minus sign have digits, or whose minus sign is empty.
+    ("custom:7:Standard:17", "en", b"17000\n5\n", 0, b"-17,000\n5\n", b""),
+    ("custom:,:Standard:", "en", b"5\n1,000\n", 0, b"-5\n-1,000\n", b""),
+    ("en", "de", 4095 * b"x" + b"1\n", 0, b"1\n", b""),
+    ("en", "de", b"1\r\n\r\n", 1, b"1\r\n", b"line 2: " + unparsed(b"")),
+]
+
+# Options, standard input, the status, standard output and standard error, from `en` to `de`.
+OPTIONS = [
+    ("--field 2", b"a\t1,234.50\tb\n", 0, b"a\t1.234,50\tb\n", b""),
+    ("--field 1", b"1,000\n2,000\tx\n", 0, b"1.000\n2.000\tx\n", b""),
+    ("--field=3", b"\t\t 1,000 \r\n", 0, b"\t\t 1.000 \r\n", b""),
+    ("--field 2", b"\xff\t5\n", 0, b"\xff\t5\n", b""),
+    ("--field 2", b"1\t2\n3\n", 1, b"1\t2\n", b"line 2: " + FEW_FIELDS),
+    ("--field 2", b"1\t2\n3\t\n", 1, b"1\t2\n", b"line 2: " + unparsed(b"")),
+    ("--field 2", b"1\t2\n3\tx\n", 1, b"1\t2\n", b"line 2: " + unparsed(b"x")),
+    ("--field 18446744073709551615", b"1\n", 1, b"", b"line 1: " + FEW_FIELDS),
+    ("--field 2 -d;", b"1,000;2,000;3,000\n", 0, b"1,000;2.000;3,000\n", b""),
+    ("--field 2 --delimiter ,", b"1,2,3\n", 0, b"1,2,3\n", b""),
+    ("--lenient --field 2", b"a\t$1,234\tb\n", 0, b"a\t1.234\tb\n", b""),
+    ("--header", b"x\n1,000\n", 0, b"x\n1.000\n", b""),
+    ("--header", b"", 0, b"", b""),
+    ("--header-lines 2", b"1,000\n\xff\n1,000\n", 0, b"1,000\n\xff\n1.000\n", b""),
+    ("--header-lines 0", b"x\n", 1, b"", b"line 1: " + unparsed(b"x")),
+    ("--header", 4097 * b"x" + b"\n", 1, b"", b"line 1: " + TOO_LONG),
+    ("--empty", b"\n1,000\n \r\n", 0, b"\n1.000\n \r\n", b""),
+    ("--empty --field 2", b"a\t\tb\n", 0, b"a\t\tb\n", b""),
+    ("--empty --field 2", b"\n", 1, b"", b"line 1: " + FEW_FIELDS),
+    ("--invalid ignore", b"1,000\nx\n\xff\n2,000", 0, b"1.000\nx\n\xff\n2.000\n", b""),
+    ("--invalid=ignore --field 2", b"1\na\t1,000\n", 0, b"1\na\t1.000\n", b""),
+    ("--invalid ignore", b"1\n" + 4097 * b"x", 1, b"1\n", b"line 2: " + TOO_LONG),
+    ("--invalid abort", b"1\nx\n", 1, b"1\n", b"line 2: " + unparsed(b"x")),
+]
+
 # Words that do not name two formats.
 MISUSES = [
-    [],
-    ["en"],
-    ["en", "de", "fr"],
-    ["", "en", "de"],
-    ["--", "en", "de"],
     ["xx", "de"],
     ["en", "xx"],
     ["en", ""],
@@ -76,6 +117,23 @@ MISUSES = [
     ["en", "custom:,:standard:-"],
     ["en", "custom:123456789:Standard:-"],
     ["en", "custom:,:Standard:123456789"],
+]
+
+# Words that are refused before that, and what the message begins with.
+REFUSED = [
+    ([], b"error: the following required arguments were not provided"),
+    (["en"], b"error: the following required arguments were not provided"),
+    (["en", "de", "fr"], b"error: unexpected argument 'fr' found"),
+    (["", "en", "de"], b"error: unexpected argument 'de' found"),
+    (["--strict", "en", "de"], b"error: unexpected argument '--strict' found"),
+    (["--field", "0", "en", "de"], b"error: invalid value '0' for '--field <N>'"),
+    (["--field", "x", "en", "de"], b"error: invalid value 'x' for '--field <N>'"),
+    (["-d,", "en", "de"], b"error: the following required arguments were not provided"),
+    (["--field=1", "-d", "", "en", "de"], b"regroup-lines: the delimiter is not one ASCII character\n"),
+    (["--field=1", "-d", "\u202f", "en", "de"], b"regroup-lines: the delimiter is not one ASCII character\n"),
+    (["--header", "--header-lines=2", "en", "de"], b"error: the argument '--header' cannot be used with"),
+    (["--invalid", "warn", "en", "de"], b"error: invalid value 'warn' for '--invalid <MODE>'"),
+    (["en", b"\xff"], b"regroup-lines: an argument is not UTF-8\n"),
 ]
 
 # Standard input, the output that fails, and what the other output receives.
@@ -126,6 +184,13 @@ def check_inputs(tally, program):
     for source, target, text, *expected in INPUTS:
         name = f"{source} {target} {shown(text)}"
         compare(tally, name, regroup(program, [source, target], text), *expected)
+    for source, target, text, *expected in LENIENT:
+        name = f"--lenient {source} {target} {shown(text)}"
+        for words in [["--lenient", source, target], [source, target, "--lenient"]]:
+            compare(tally, name, regroup(program, words, text), *expected)
+    for options, text, *expected in OPTIONS:
+        words = [*options.split(), "en", "de"]
+        compare(tally, f"{options}: {shown(text)}", regroup(program, words, text), *expected)
     for grouping in lengths.LONGEST:
         check_lengths(tally, program, grouping)
 
@@ -149,14 +214,22 @@ def check_words(tally, program):
     heading("words that do not name two formats")
     for words in MISUSES:
         compare(tally, repr(words), regroup(program, words, b"1\n"), 2, b"", USAGE)
-    compare(tally, "a word not in UTF-8", regroup(program, ["en", b"\xff"], b"1\n"), 3, b"", b"")
+    for words, message in REFUSED:
+        ended = regroup(program, words, b"1\n")
+        found = (ended.returncode, ended.stdout, ended.stderr[: len(message)])
+        tally.compare(repr(words), found, (2, b"", message))
+    ended = regroup(program, ["--", "en", "de"], b"1000\n")
+    compare(tally, "words after --", ended, 0, b"1.000\n", b"")
+    ended = regroup(program, ["--help"], b"")
+    found = (ended.returncode, b"Usage: regroup-lines" in ended.stdout, ended.stderr)
+    tally.compare("--help", found, (0, True, b""))
     check_open_input(tally, program)
 
 
 def check_open_input(tally, program):
     """Words that do not name two formats end the program before it reads, so an open input is no matter."""
     read_end, write_end = os.pipe()
-    ended = run([program, "en"], stdin=read_end, capture_output=True)
+    ended = run([program, "en", "xx"], stdin=read_end, capture_output=True)
     os.close(read_end)
     os.close(write_end)
     compare(tally, "an input that stays open", ended, 2, b"", USAGE)
@@ -168,7 +241,8 @@ def check_failures(tally, program):
         for state, how in [("full", lambda _: full), ("closed", lambda _: None)]:
             for text, output, other in FAILURES:
                 compare_failed(tally, program, ["en", "de"], text, output, state, how(output), other)
-            compare_failed(tally, program, [], b"", "stderr", state, how("stderr"), b"")
+            words = ["en", "xx"]
+            compare_failed(tally, program, words, b"", "stderr", state, how("stderr"), b"")
     words = [program, "en", "de"]
     ended = run(words, preexec_fn=lambda: os.close(0), capture_output=True)
     compare(tally, "a closed input", ended, 3, b"", b"")

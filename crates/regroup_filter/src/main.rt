@@ -3,7 +3,11 @@
 //! The crate `regroup_stream` states what is proved of it.
 #![tactic(auto)]
 
-use regroup_stream::{FAILED, run};
+mod options;
+
+use crate::options::{command, rules_of, words_of};
+use clap::error::ErrorKind;
+use regroup_stream::{FAILED, MISUSED, run};
 use std::io::{BufReader, BufWriter};
 use std::process::ExitCode;
 use std::{env, io};
@@ -12,21 +16,37 @@ use std::{env, io};
 const CAPACITY: usize = 65536;
 
 /// Regroups the lines and exits with the status. The status is 3, and nothing is written, also where
-/// the program cannot get its arguments or has no memory for the buffers.
+/// the program has no memory for its arguments and buffers.
 fn main(rt: HostRuntime) -> ExitCode {
     ExitCode::from(try_main(&rt).unwrap_or(FAILED))
 }
 
-/// Regroups the lines under the formats that the arguments name, and returns the status.
+/// Regroups the lines as the arguments say, and returns the status.
 ///
 /// # Errors
 ///
-/// Returns an error if there is no memory for the arguments and the buffers, or if an argument is not
-/// UTF-8.
+/// Returns an error if there is no memory for the arguments and the buffers, or if a message about the arguments
+/// cannot be printed.
 fn try_main(rt: &HostRuntime) -> io::Result<u8> {
-    let args: Vec<String> = env::args(rt)?.skip(1).collect(rt.alloc())?;
-    let words: Vec<&str> = args.iter().map(|arg| arg.as_str()).collect(rt.alloc())?;
+    let Ok(args) = env::args(rt) else {
+        eprintln!(rt; "regroup-lines: an argument is not UTF-8")?;
+        return Ok(MISUSED);
+    };
+    let args: Vec<String> = args.skip(1).collect(rt.alloc())?;
+    let matches = match command(rt.alloc())?.try_get_matches_from(args.as_slice()) {
+        Ok(matches) => matches,
+        Err(error) if error.kind() == ErrorKind::OutOfMemory => return Ok(FAILED),
+        Err(error) => {
+            error.print(rt)?;
+            return Ok(error.exit_code() as u8);
+        }
+    };
+    let Some(rules) = rules_of(&matches) else {
+        eprintln!(rt; "regroup-lines: the delimiter is not one ASCII character")?;
+        return Ok(MISUSED);
+    };
+    let words = words_of(&matches);
     let input = BufReader::with_capacity(rt.alloc(), CAPACITY, rt.stdin())?;
     let mut out = BufWriter::with_capacity(rt.alloc(), CAPACITY, rt.stdout())?;
-    Ok(run(&words, input, &mut out, &mut rt.stderr()))
+    Ok(run(&rules, &words, input, &mut out, &mut rt.stderr()))
 }

@@ -1,9 +1,9 @@
 -- The number in the text of a line.
-use Rattle.std.proofs.Common.{◌≡◌, ℕ, true, false, List, Option, Result, Ok, Err, refl, sym, ap, subst, ◌∙◌}
-use Rattle.std.specs.Prelude.{ℤ, IsUtf8, IfOk, IfErr}
+use Rattle.std.proofs.Common.{◌≡◌, ℕ, Bool, true, false, List, ◌++◌, length, drop, Option, Some, None, Result, Ok, Err, refl, sym, ap, subst, ◌∙◌}
+use Rattle.std.specs.Prelude.{ℤ, IsUtf8, ◌↔◌}
 use Rattle.std.specs.Result.{result_map_both, result_or}
 use Rattle.std.specs.Str.{is_utf8}
-use Rattle.std.proofs.lemmas.Bool.{false_from_ne_true}
+use Rattle.std.proofs.lemmas.Bool.{both_ways, false_from_ne_true}
 use Rattle.std.proofs.lemmas.Str.{IsUtf8-from_is_utf8, is_utf8-from_IsUtf8}
 use Rattle.num_format.specs.Cut.{cut_text}
 use Rattle.num_format.specs.Format.{FormatData}
@@ -13,14 +13,21 @@ use Rattle.num_format.specs.ParseBytesError.TheVariants.{NotANumber, NotUtf8}
 use Rattle.num_format.specs.Reading.{Refused, denoted}
 use Rattle.num_format.specs.Refusal.{ParseNumber}
 use Rattle.num_format.specs.Text.{text_of}
+use Rattle.num_format_decimal.specs.FixedPoint.{FixedPoint}
+use Rattle.num_format_decimal.specs.Parsing.{ParsesDecimal}
+use Rattle.num_format_decimal.specs.Text.{decimal_text}
+use Rattle.num_format_decimal.specs.declared.parsing.ParseDecimalError.{ParseDecimalError}
 use Rattle.regroup_shared.specs.Sending.{Sends, line}
 use Rattle.regroup_shared.proofs.ReadingLemmas.{readable-from_accepted, unreadable-from_refused}
+use Rattle.regroup_lines.specs.Decimals.{decimal_read}
 use Rattle.regroup_lines.specs.Fault.{Fault, fault_of}
 use Rattle.regroup_lines.specs.Fault.Fault.{Line, NotText}
-use Rattle.regroup_lines.specs.Lines.{number_in_text}
-use Rattle.regroup_lines.specs.Sending.{SendsNumber}
+use Rattle.regroup_lines.specs.Lines.{between, number_in_text, number_written}
+use Rattle.regroup_lines.specs.Sending.{SendsLine}
 use Rattle.regroup_lines.specs.declared.fault.RegroupFault.{RegroupFault}
 use Rattle.regroup_lines.specs.declared.fault.RegroupFault.TheVariants as fault
+use Rattle.regroup_lines.specs.declared.rules.Reading.TheVariants.{Lenient, Strict}
+use Rattle.regroup_lines.proofs.DecimalLemmas.{decimal_read-parsed, decimal_read-refused}
 
 module _ (from : FormatData) (number : ℕ) (text : List ℕ) where
   -- bytes that are not UTF-8
@@ -47,22 +54,48 @@ module _ (from : FormatData) (number : ℕ) (text : List ℕ) where
       let parsed : IsUtf8 text × Refused (signed 127 40) from text = cause refl in
       refused parsed.0 parsed.1 ∙ ap Err (sym (line parsed.0))
 
-  module _ (to : FormatData) where
-    -- a fault in place of a number
-    pub sends-fault : (s : Option (List ℕ)) (f : Fault) → number_in_text from number text ≡ Err f →
-        SendsNumber {T = Unit {0}} to (number_in_text from number text) s s (Err f)
-    sends-fault s f is = subst (λ n. SendsNumber {T = Unit {0}} to n s s (Err f)) (sym is) (refl, refl)
+  -- a fault in place of a line
+  pub sends-fault : (written : Result (List ℕ) Fault) (s : Option (List ℕ)) (f : Fault) → written ≡ Err f → SendsLine {T = Unit {0}} written s s (Err f)
+  sends-fault written s f is = subst (λ n. SendsLine {T = Unit {0}} n s s (Err f)) (sym is) (refl, refl)
 
-    sent : {E : Type 0} (a b : Option (List ℕ)) (n : ℤ) (call : Result (Unit {0}) E) → Sends call a b (line (text_of to n)) →
-        SendsNumber to (Ok n) a b (result_map_both (λ done. done) fault_of (result_or call (Err fault.Write)))
-    sent a b n (Ok done) sends = sends.whole
-    sent a b n (Err e) sends = (refl, sends.prefix)
+-- a line that is sent
+module _ {E : Type 0} (a b : Option (List ℕ)) where
+  sent : (text : List ℕ) (call : Result (Unit {0}) E) → Sends call a b (line text) →
+      SendsLine (Ok text) a b (result_map_both (λ done. done) fault_of (result_or call (Err fault.Write)))
+  sent text (Ok done) sends = sends.whole
+  sent text (Err e) sends = (refl, sends.prefix)
 
-    -- a number that is sent
-    pub sends-number : {E : Type 0} (a b : Option (List ℕ)) (n m : ℤ) → number_in_text from number text ≡ Ok n → m ≡ n → (call : Result (Unit {0}) E) →
-        Sends call a b (line (text_of to m)) → (result : Result (Unit {0}) RegroupFault) → result ≡ result_or call (Err fault.Write) →
-        SendsNumber to (number_in_text from number text) a b (result_map_both (λ done. done) fault_of result)
-    sends-number a b n m is same call sends result returned =
-        subst (λ q. SendsNumber to (number_in_text from number text) a b (result_map_both (λ done. done) fault_of q)) (sym returned)
-        (subst (λ q. SendsNumber to q a b (result_map_both (λ done. done) fault_of (result_or call (Err fault.Write)))) (sym is)
-        (sent a b n call (subst (λ k. Sends call a b (line (text_of to k))) same sends)))
+  pub sends-line : (written : Result (List ℕ) Fault) (text : List ℕ) → written ≡ Ok text → (call : Result (Unit {0}) E) → Sends call a b (line text) →
+      (result : Result (Unit {0}) RegroupFault) → result ≡ result_or call (Err fault.Write) → SendsLine written a b (result_map_both (λ done. done) fault_of result)
+  sends-line written text is call sends result returned =
+      subst (λ q. SendsLine written a b (result_map_both (λ done. done) fault_of q)) (sym returned)
+      (subst (λ q. SendsLine q a b (result_map_both (λ done. done) fault_of (result_or call (Err fault.Write)))) (sym is) (sent text call sends))
+
+-- the text of a number that is read strictly
+module _ (from to : FormatData) (number : ℕ) (text : List ℕ) where
+  pub strict-accepted : (d : FixedPoint) → ParsesDecimal from text d → number_written Strict from to number text ≡ Ok (decimal_text to d)
+  strict-accepted d parsed = rw (is_utf8-from_IsUtf8 text parsed.utf8, decimal_read-parsed from text d parsed) refl
+
+  strict-utf8 : (utf8 : Bool) (f : Fault) → is_utf8 text ≡ utf8 → decimal_read from text ≡ None → (¬ (IsUtf8 text) → f ≡ NotText number) →
+      (IsUtf8 text → f ≡ Line number (ParseNumber (cut_text text))) → number_written Strict from to number text ≡ Err f
+  strict-utf8 true f utf8 none not refused = rw (utf8, none) (ap Err (sym (refused (IsUtf8-from_is_utf8 text utf8))))
+  strict-utf8 false f utf8 none not refused = rw utf8 (ap Err (sym (not (λ is. both_ways _ utf8 (is_utf8-from_IsUtf8 text is)))))
+
+  pub strict-refused : (r : Result FixedPoint ParseDecimalError) (e : ParseDecimalError) (f : Fault) → r ≡ Err e →
+      ((d : FixedPoint) → (r ≡ Ok d) ↔ ParsesDecimal from text d) → (¬ (IsUtf8 text) → f ≡ NotText number) →
+      (IsUtf8 text → f ≡ Line number (ParseNumber (cut_text text))) → number_written Strict from to number text ≡ Err f
+  strict-refused r e f failed exactly = strict-utf8 (is_utf8 text) f refl (decimal_read-refused from text r e failed exactly)
+
+  -- and leniently
+  pub lenient-read : (n : ℤ) → number_in_text from number text ≡ Ok n → number_written Lenient from to number text ≡ Ok (text_of to n)
+  lenient-read n is = ap (result_map_both (text_of to) (λ fault. fault)) is
+
+  pub lenient-fault : (f : Fault) → number_in_text from number text ≡ Err f → number_written Lenient from to number text ≡ Err f
+  lenient-fault f is = ap (result_map_both (text_of to) (λ fault. fault)) is
+
+-- the bytes around a number
+pub between-ok : (before after text : List ℕ) (written : Result (List ℕ) Fault) → written ≡ Ok text → between before after written ≡ Ok (before ++ (text ++ after))
+between-ok before after text written is = ap (between before after) is
+
+pub between-err : (before after : List ℕ) (f : Fault) (written : Result (List ℕ) Fault) → written ≡ Err f → between before after written ≡ Err f
+between-err before after f written is = ap (between before after) is

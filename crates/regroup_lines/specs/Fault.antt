@@ -9,6 +9,7 @@ use Rattle.regroup_lines.specs.declared.fault.RegroupFault.TheVariants as fault
 pub data Fault : Type 0 where
   TooMany : Fault
   TooLong : ℕ → Fault
+  FewFields : ℕ → Fault
   Read : Fault
   NotText : ℕ → Fault
   Line : ℕ → Refusal → Fault
@@ -18,6 +19,7 @@ pub data Fault : Type 0 where
 abbrev pub fault_of : RegroupFault → Fault
 fault_of fault.TooMany = TooMany
 fault_of (fault.TooLong number) = TooLong number
+fault_of (fault.FewFields number) = FewFields number
 fault_of fault.Read = Read
 fault_of (fault.NotText number) = NotText number
 fault_of (fault.Line number error) = Line number (refusal_of error)
@@ -31,6 +33,7 @@ line_prefix number = codes "line " ++ (decimal number ++ codes ": ")
 abbrev pub message_of_fault : Fault → List ℕ
 message_of_fault TooMany = codes "The input has more lines than are allowed."
 message_of_fault (TooLong number) = line_prefix number ++ codes "More than 4096 bytes."
+message_of_fault (FewFields number) = line_prefix number ++ codes "Too few fields."
 message_of_fault Read = codes "Failed to read."
 message_of_fault (NotText number) = line_prefix number ++ codes "Not UTF-8."
 message_of_fault (Line number refusal) = line_prefix number ++ message_of refusal

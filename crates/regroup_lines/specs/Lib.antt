@@ -1,5 +1,7 @@
 -- The definitions that the contracts of this crate use.
+pub mod Decimals
 pub mod Fault
 pub mod Input
 pub mod Lines
+pub mod Places
 pub mod Sending

@@ -1,14 +1,24 @@
 -- What regrouping the lines of an input writes and returns.
-use Rattle.std.specs.Prelude.{ℕ, ◌+◌, ◌==◌, nat_lt, ℤ, if◌then◌else◌, List, [], ◌∷◌, ◌++◌, length, Option, None, Some, Result, Ok, Err}
+use Rattle.std.specs.Prelude.{ℕ, ◌+◌, ◌==◌, nat_le, nat_lt, Bool, true, false, ◌&&◌, ℤ, if◌then◌else◌, List, [], ◌∷◌, ◌++◌, length, take, drop, slice_range, Option, None, Some, Result, Ok, Err}
 use Rattle.std.specs.List.{slice_split}
+use Rattle.std.specs.Option.{ok_or, option_map}
 use Rattle.std.specs.Result.{result_map_both}
 use Rattle.std.specs.Str.{is_utf8}
+use Rattle.num_format.specs.Cut.{cut_text}
 use Rattle.num_format.specs.Format.{FormatData}
+use Rattle.num_format.specs.Refusal.{ParseNumber}
 use Rattle.num_format.specs.Text.{text_of}
+use Rattle.num_format_decimal.specs.Text.{decimal_text}
 use Rattle.regroup_shared.specs.Reading.{number_read}
 use Rattle.regroup_shared.specs.Sending.{line}
+use Rattle.regroup_lines.specs.Decimals.{decimal_read}
 use Rattle.regroup_lines.specs.Fault.{Fault}
-use Rattle.regroup_lines.specs.Fault.Fault.{TooMany, TooLong, Read, NotText, Line}
+use Rattle.regroup_lines.specs.Fault.Fault.{TooMany, TooLong, FewFields, Read, NotText, Line}
+use Rattle.regroup_lines.specs.Places.{line_place}
+use Rattle.regroup_lines.specs.declared.rules.Reading.{Reading}
+use Rattle.regroup_lines.specs.declared.rules.Reading.TheVariants.{Lenient, Strict}
+use Rattle.regroup_lines.specs.declared.rules.Rules.{Rules}
+use Rattle.regroup_lines.specs.declared.rules.Span.TheVariants as span
 use Rattle.regroup_lines.specs.declared.TheConstants.{MAX_LINE_LEN}
 
 -- how a reader stopped: at its end, by a failed read, or not at all, where no more was read
@@ -30,10 +40,10 @@ returning returned = record { written = []; returned = returned }
 abbrev pub writing : List ℕ → Regrouped → Regrouped
 writing bytes rest = record { written = bytes ++ rest.written; returned = rest.returned }
 
--- the line of a number, and after it what is written; a fault is returned
-abbrev pub writing_number : FormatData → Result ℤ Fault → Regrouped → Regrouped
-writing_number to (Ok number) rest = writing (line (text_of to number)) rest
-writing_number to (Err fault) rest = returning (Some (Err fault))
+-- a line, and after it what is written; a fault is returned
+abbrev pub writing_line : Result (List ℕ) Fault → Regrouped → Regrouped
+writing_line (Ok text) rest = writing (line text) rest
+writing_line (Err fault) rest = returning (Some (Err fault))
 
 -- the fault of so many bytes in a line of this number, where there may be this many lines: it is one line too many, or too long
 abbrev pub size_fault : ℕ → ℕ → List ℕ → Option Fault
@@ -46,14 +56,54 @@ abbrev pub number_in_text : FormatData → ℕ → List ℕ → Result ℤ Fault
 number_in_text from number text =
     if is_utf8 text then result_map_both (λ value. value) (Line number) (number_read from text) else Err (NotText number)
 
+-- the text that is written in place of that of a number, or the fault of that text
+abbrev pub number_written : Reading → FormatData → FormatData → ℕ → List ℕ → Result (List ℕ) Fault
+number_written Lenient from to number text = result_map_both (text_of to) (λ fault. fault) (number_in_text from number text)
+number_written Strict from to number text =
+    if is_utf8 text then ok_or (option_map (decimal_text to) (decimal_read from text)) (Line number (ParseNumber (cut_text text))) else Err (NotText number)
+
+-- a text with these bytes before and after it
+abbrev pub between : (before after : List ℕ) → Result (List ℕ) Fault → Result (List ℕ) Fault
+between before after written = result_map_both (λ text. before ++ (text ++ after)) (λ fault. fault) written
+
+-- a line with the number at this place: the other bytes are passed on, and so are all where the number has no byte and that is no fault
+abbrev pub place_written : Rules → FormatData → FormatData → ℕ → List ℕ → ℕ × ℕ → Result (List ℕ) Fault
+place_written rules from to number text place =
+    if rules.passes_empty && (place.0 == place.1) then Ok text else
+    between (take place.0 text) (drop place.1 text) (number_written rules.reading from to number (slice_range text place.0 place.1))
+
+-- a line with the number where the rules say
+abbrev pub number_replaced : Rules → FormatData → FormatData → ℕ → List ℕ → Option (ℕ × ℕ) → Result (List ℕ) Fault
+number_replaced rules from to number text None = Err (FewFields number)
+number_replaced rules from to number text (Some place) = place_written rules from to number text place
+
+-- a line that is no header
+abbrev pub body_written : Rules → FormatData → FormatData → ℕ → List ℕ → Result (List ℕ) Fault
+body_written rules from to number text = number_replaced rules from to number text (line_place rules.span text)
+
+-- the line itself in place of a fault
+abbrev pub or_itself : List ℕ → Result (List ℕ) Fault → Result (List ℕ) Fault
+or_itself text (Ok written) = Ok written
+or_itself text (Err fault) = Ok text
+
+-- what is written in place of the text of a line, or the fault of the text
+abbrev pub text_written : Rules → FormatData → FormatData → ℕ → List ℕ → Result (List ℕ) Fault
+text_written rules from to number text =
+    if nat_le number rules.header_lines then Ok text else
+    if rules.passes_faulty then or_itself text (body_written rules from to number text) else body_written rules from to number text
+
+-- the rules that read the whole of each line leniently
+abbrev pub lenient : Rules
+lenient = record { span = span.Line; reading = Lenient; header_lines = 0; passes_empty = false; passes_faulty = false }
+
 -- the fault, or what there is without one
-abbrev pub unless_fault : Option Fault → Result ℤ Fault → Result ℤ Fault
+abbrev pub unless_fault : Option Fault → Result (List ℕ) Fault → Result (List ℕ) Fault
 unless_fault (Some fault) other = Err fault
 unless_fault None other = other
 
--- the number in the line of this number, or the line's first fault
-abbrev pub number_in_line : ℕ → FormatData → ℕ → List ℕ → Result ℤ Fault
-number_in_line most from number text = unless_fault (size_fault most number text) (number_in_text from number text)
+-- what is written in place of the line of this number, without its newline, or the line's first fault
+abbrev pub line_written : Rules → ℕ → FormatData → FormatData → ℕ → List ℕ → Result (List ℕ) Fault
+line_written rules most from to number text = unless_fault (size_fault most number text) (text_written rules from to number text)
 
 -- the fault where the first is one, or else what the reader's stop returns: the fault of a failed read
 abbrev pub returned_unfinished : Option Fault → Stop → Option (Result ℕ Fault)
@@ -66,23 +116,23 @@ abbrev pub unfinished_fault : ℕ → ℕ → List ℕ → Option Fault
 unfinished_fault most number bytes = if length bytes == 0 then None else size_fault most number bytes
 
 -- what stands after the last newline, with so many lines before it: at the end it is a line unless it is empty
-abbrev pub regrouped_rest : ℕ → FormatData → FormatData → Stop → ℕ → List ℕ → Regrouped
-regrouped_rest most from to Ended count rest =
+abbrev pub regrouped_rest : Rules → ℕ → FormatData → FormatData → Stop → ℕ → List ℕ → Regrouped
+regrouped_rest rules most from to Ended count rest =
     if length rest == 0 then returning (Some (Ok count)) else
-    writing_number to (number_in_line most from (count + 1) rest) (returning (Some (Ok (count + 1))))
-regrouped_rest most from to stop count rest = returning (returned_unfinished (unfinished_fault most (count + 1) rest) stop)
+    writing_line (line_written rules most from to (count + 1) rest) (returning (Some (Ok (count + 1))))
+regrouped_rest rules most from to stop count rest = returning (returned_unfinished (unfinished_fault most (count + 1) rest) stop)
 
 -- the parts between newlines, with so many lines before them: each but the last is a line
-abbrev pub regrouped_parts : ℕ → FormatData → FormatData → Stop → ℕ → List (List ℕ) → Regrouped
-regrouped_parts most from to stop count [] = returning None
-regrouped_parts most from to stop count (rest ∷ []) = regrouped_rest most from to stop count rest
-regrouped_parts most from to stop count (text ∷ next ∷ parts) =
-    writing_number to (number_in_line most from (count + 1) text) (regrouped_parts most from to stop (count + 1) (next ∷ parts))
+abbrev pub regrouped_parts : Rules → ℕ → FormatData → FormatData → Stop → ℕ → List (List ℕ) → Regrouped
+regrouped_parts rules most from to stop count [] = returning None
+regrouped_parts rules most from to stop count (rest ∷ []) = regrouped_rest rules most from to stop count rest
+regrouped_parts rules most from to stop count (text ∷ next ∷ parts) =
+    writing_line (line_written rules most from to (count + 1) text) (regrouped_parts rules most from to stop (count + 1) (next ∷ parts))
 
 -- the bytes of an input, with so many lines before them
-abbrev pub regrouped_after : ℕ → FormatData → FormatData → Stop → ℕ → List ℕ → Regrouped
-regrouped_after most from to stop count bytes = regrouped_parts most from to stop count (slice_split (λ b. b == 10) bytes)
+abbrev pub regrouped_after : Rules → ℕ → FormatData → FormatData → Stop → ℕ → List ℕ → Regrouped
+regrouped_after rules most from to stop count bytes = regrouped_parts rules most from to stop count (slice_split (λ b. b == 10) bytes)
 
 -- an input that may have this many lines: the bytes that a reader gave, and how it stopped
-abbrev pub regrouped : ℕ → FormatData → FormatData → Stop → List ℕ → Regrouped
-regrouped most from to stop bytes = regrouped_after most from to stop 0 bytes
+abbrev pub regrouped : Rules → ℕ → FormatData → FormatData → Stop → List ℕ → Regrouped
+regrouped rules most from to stop bytes = regrouped_after rules most from to stop 0 bytes

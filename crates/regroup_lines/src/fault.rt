@@ -20,6 +20,8 @@ pub enum RegroupFault {
     TooMany,
     /// The line of this number has more than 4,096 bytes.
     TooLong(u64),
+    /// The line of this number has too few fields.
+    FewFields(u64),
     /// A read failed, also one that was interrupted.
     Read,
     /// The line of this number is not UTF-8.
@@ -42,6 +44,7 @@ impl RegroupFault {
         match self {
             RegroupFault::TooMany => whole_message("The input has more lines than are allowed."),
             RegroupFault::TooLong(number) => line_message(*number, "More than 4096 bytes."),
+            RegroupFault::FewFields(number) => line_message(*number, "Too few fields."),
             RegroupFault::Read => whole_message("Failed to read."),
             RegroupFault::NotText(number) => line_message(*number, "Not UTF-8."),
             RegroupFault::Line(number, error) => {

@@ -15,30 +15,45 @@
 mod fault;
 mod input;
 pub mod laws;
+pub mod rules;
 
-ghost use Rattle.std.specs.Prelude.{◌≡◌, IsUtf8};
+ghost use Rattle.std.specs.Prelude.{◌≡◌, ◌<◌, ◌++◌, length, IsUtf8};
 ghost use Rattle.std.specs.Result.{result_map_both};
 ghost use Rattle.num_format.specs.Cut.{cut_text};
 ghost use Rattle.num_format.specs.Refusal.{ParseNumber};
+ghost use Rattle.regroup_shared.specs.Sending.{Sends, line};
 ghost use Rattle.regroup_lines.specs.Fault.Fault.{Line, NotText};
 ghost use Rattle.regroup_lines.specs.Fault.{fault_of};
-ghost use Rattle.regroup_lines.specs.Lines.{number_in_text};
-ghost use Rattle.regroup_lines.specs.Sending.{Regroups, SendsNumber};
+ghost use Rattle.regroup_lines.specs.Lines.{between, body_written, lenient, number_written, text_written};
+ghost use Rattle.regroup_lines.specs.Sending.{Regroups, SendsLine};
+ghost use Rattle.regroup_lines.specs.declared.rules.Reading.TheVariants.{Lenient, Strict};
 
 pub use crate::fault::RegroupFault;
 use crate::input::{Input, Piece};
+pub use crate::rules::{Field, Reading, Rules, Span};
 use num_format::error::cut;
 use num_format::parsing::FromFormattedStr;
-use num_format::{Error, ErrorKind, Format};
-use regroup_shared::send_number;
+use num_format::to_formatted_string::write_whole;
+use num_format::{Buffer, Error, ErrorKind, Format};
+use num_format_decimal::{Decimal, DecimalBuffer};
+use regroup_shared::{MAX_SENT_LINE_LEN, send_line};
 use std::io::{Read, Write};
-use std::str;
+use std::{io, str};
 
 /// The most bytes of a line, without its newline.
 pub const MAX_LINE_LEN: usize = 4096;
 
 /// The most lines of an input of [`regroup_lines`].
 pub const MAX_LINES: u64 = 1_000_000;
+
+/// The rules of [`regroup_lines`].
+const LENIENT: Rules = Rules {
+    span: Span::Line,
+    reading: Reading::Lenient,
+    header_lines: 0,
+    passes_empty: false,
+    passes_faulty: false,
+};
 
 /// Parses each line of `r` as an `i128` under the format `from`, and writes the number under the format
 /// `to`, and a newline, to `w`. Returns the number of lines.
@@ -69,11 +84,11 @@ pub fn regroup_lines<R: Read, W: Write, F: Format, G: Format>(
     from: &F,
     to: &G,
 ) -> Result<u64, RegroupFault>
-    ensures { Regroups MAX_LINES (F.answers from.now) (G.answers to.now)
+    ensures { Regroups lenient MAX_LINES (F.answers from.now) (G.answers to.now)
         (R.remaining r.old) (R.remaining r.new) (W.contents w.old) (W.contents w.new)
         (result_map_both (λ count. count) fault_of result) }
 {
-    regroup_at_most(MAX_LINES, r, w, from, to)
+    regroup_at_most(MAX_LINES, &LENIENT, r, w, from, to)
 }
 
 /// Does what [`regroup_lines`] does, for an input of at most this many lines.
@@ -84,12 +99,13 @@ pub fn regroup_lines<R: Read, W: Write, F: Format, G: Format>(
 /// [`TooMany`](RegroupFault::TooMany) is that a byte follows the last of these lines.
 pub fn regroup_at_most<R: Read, W: Write, F: Format, G: Format>(
     most: u64,
+    rules: &Rules,
     r: &mut R,
     w: &mut W,
     from: &F,
     to: &G,
 ) -> Result<u64, RegroupFault>
-    ensures { Regroups most (F.answers from.now) (G.answers to.now)
+    ensures { Regroups rules.now most (F.answers from.now) (G.answers to.now)
         (R.remaining r.old) (R.remaining r.new) (W.contents w.old) (W.contents w.new)
         (result_map_both (λ count. count) fault_of result) }
 {
@@ -100,13 +116,13 @@ pub fn regroup_at_most<R: Read, W: Write, F: Format, G: Format>(
             return Err(RegroupFault::Read);
         };
         match piece {
-            Piece::Line(place) => regroup_line(input.bytes(place), number, w, from, to)?,
+            Piece::Line(place) => regroup_line(rules, input.bytes(place), number, w, from, to)?,
             Piece::Rest(place) => {
                 let rest = input.bytes(place);
                 if rest.is_empty() {
                     return Ok(count);
                 }
-                regroup_line(rest, number, w, from, to)?;
+                regroup_line(rules, rest, number, w, from, to)?;
                 return Ok(number);
             }
             Piece::TooLong => return Err(RegroupFault::TooLong(number)),
@@ -119,21 +135,141 @@ pub fn regroup_at_most<R: Read, W: Write, F: Format, G: Format>(
     }
 }
 
-/// Sends the number in the text of a line, under the format `to`, and a newline.
+/// Sends what is written in place of the text of a line, and a newline.
 fn regroup_line<W: Write, F: Format, G: Format>(
+    rules: &Rules,
     text: &[u8],
     number: u64,
     w: &mut W,
     from: &F,
     to: &G,
 ) -> Result<(), RegroupFault>
-    ensures { SendsNumber (G.answers to.now) (number_in_text (F.answers from.now) number text.now)
+    ensures { SendsLine (text_written rules.now (F.answers from.now) (G.answers to.now) number text.now)
+        (W.contents w.old) (W.contents w.new) (result_map_both (λ sent. sent) fault_of result) }
+{
+    if number <= rules.header_lines {
+        return pass_on(text, w).or(Err(RegroupFault::Write));
+    }
+    match regroup_body(rules, text, number, w, from, to) {
+        Ok(()) => Ok(()),
+        Err(RegroupFault::Write) => Err(RegroupFault::Write),
+        Err(_) if rules.passes_faulty => pass_on(text, w).or(Err(RegroupFault::Write)),
+        Err(fault) => Err(fault),
+    }
+}
+
+/// Sends a line that is no header, with its number regrouped, and a newline.
+fn regroup_body<W: Write, F: Format, G: Format>(
+    rules: &Rules,
+    text: &[u8],
+    number: u64,
+    w: &mut W,
+    from: &F,
+    to: &G,
+) -> Result<(), RegroupFault>
+    ensures { SendsLine (body_written rules.now (F.answers from.now) (G.answers to.now) number text.now)
+        (W.contents w.old) (W.contents w.new) (result_map_both (λ sent. sent) fault_of result) }
+{
+    let Some(place) = rules.span.place(text) else {
+        return Err(RegroupFault::FewFields(number));
+    };
+    let (start, end) = (place.start, place.end);
+    if rules.passes_empty && start == end {
+        return pass_on(text, w).or(Err(RegroupFault::Write));
+    }
+    let around = Around {
+        before: &text[..start],
+        after: &text[end..],
+    };
+    match rules.reading {
+        Reading::Strict => regroup_decimal(&around, &text[start..end], number, w, from, to),
+        Reading::Lenient => regroup_number(&around, &text[start..end], number, w, from, to),
+    }
+}
+
+/// The bytes of a line around its number.
+#[derive(Clone, Copy)]
+struct Around<'a> {
+    before: &'a [u8],
+    after: &'a [u8],
+}
+
+/// Sends the bytes of a line around its number, the decimal in its text between them, and a newline.
+fn regroup_decimal<W: Write, F: Format, G: Format>(
+    around: &Around<'_>,
+    text: &[u8],
+    number: u64,
+    w: &mut W,
+    from: &F,
+    to: &G,
+) -> Result<(), RegroupFault>
+    ensures { SendsLine (between around.now.before.now around.now.after.now
+        (number_written Strict (F.answers from.now) (G.answers to.now) number text.now))
+        (W.contents w.old) (W.contents w.new) (result_map_both (λ sent. sent) fault_of result) }
+{
+    match Decimal::from_strict_bytes(text, from) {
+        Ok(value) => send_between(around, DecimalBuffer::of(&value, to).as_str(), w).or(Err(
+            RegroupFault::Write,
+        )),
+        Err(_) => Err(text_fault(text, number)),
+    }
+}
+
+/// Sends the bytes of a line around its number, the number in its text between them, and a newline.
+fn regroup_number<W: Write, F: Format, G: Format>(
+    around: &Around<'_>,
+    text: &[u8],
+    number: u64,
+    w: &mut W,
+    from: &F,
+    to: &G,
+) -> Result<(), RegroupFault>
+    ensures { SendsLine (between around.now.before.now around.now.after.now
+        (number_written Lenient (F.answers from.now) (G.answers to.now) number text.now))
         (W.contents w.old) (W.contents w.new) (result_map_both (λ sent. sent) fault_of result) }
 {
     match i128::from_formatted_bytes(text, from) {
-        Ok(value) => send_number(value, to, w).or(Err(RegroupFault::Write)),
+        Ok(value) => send_between(around, Buffer::of(&value, to).as_str(), w).or(Err(
+            RegroupFault::Write,
+        )),
         Err(_) => Err(text_fault(text, number)),
     }
+}
+
+/// Sends the bytes of a line around a text, the text between them, and a newline. A text that is the whole line is
+/// sent with the newline, by one write if that writes both.
+///
+/// # Errors
+///
+/// Returns the error of the first write that fails, also of one that was interrupted, or that writes no bytes.
+#[tactic(auto, using(crate::proofs::AroundLemmas::around_first, crate::proofs::AroundLemmas::around_second, crate::proofs::AroundLemmas::around_third, crate::proofs::AroundLemmas::around_fourth, crate::proofs::AroundLemmas::around_whole))]
+fn send_between<W: Write>(around: &Around<'_>, text: &str, w: &mut W) -> io::Result<()>
+    requires { length text.now < MAX_SENT_LINE_LEN }
+    ensures { Sends result (W.contents w.old) (W.contents w.new)
+        (line (around.now.before.now ++ (text.now ++ around.now.after.now))) }
+{
+    if around.before.is_empty() && around.after.is_empty() {
+        return send_line(text, w);
+    }
+    write_whole(around.before, w)?;
+    write_whole(text.as_bytes(), w)?;
+    write_whole(around.after, w)?;
+    write_whole(b"\n", w)?;
+    Ok(())
+}
+
+/// Sends a line as it is, and a newline.
+///
+/// # Errors
+///
+/// Returns the error of the first write that fails, also of one that was interrupted, or that writes no bytes.
+#[tactic(auto, using(crate::proofs::AroundLemmas::passed_prefix, crate::proofs::AroundLemmas::passed_suffix, crate::proofs::AroundLemmas::passed_whole))]
+fn pass_on<W: Write>(text: &[u8], w: &mut W) -> io::Result<()>
+    ensures { Sends result (W.contents w.old) (W.contents w.new) (line text.now) }
+{
+    write_whole(text, w)?;
+    write_whole(b"\n", w)?;
+    Ok(())
 }
 
 /// Returns the fault of a text that does not parse. It keeps a prefix of the text, so it is made

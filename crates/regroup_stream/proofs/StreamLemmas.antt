@@ -10,6 +10,7 @@ use Rattle.regroup_shared.specs.Sending.{Sends, line}
 use Rattle.regroup_shared.proofs.SendingLemmas.{HasReceivedUpTo-none}
 use Rattle.regroup_lines.specs.Fault.{Fault, message_of_fault}
 use Rattle.regroup_lines.specs.Sending.{Regroups}
+use Rattle.regroup_lines.specs.declared.rules.Rules.{Rules}
 use Rattle.regroup_stream.specs.Stream.{Ends, Stops, is_of_line, most_lines, report}
 
 -- what a writer received, after a flush
@@ -24,9 +25,9 @@ StopsWithin-kept a b c text stops kept = record {
   };
 }
 
-Regroups-kept : (most : ℕ) (from to : FormatData) (r s a b c : Option (List ℕ)) (result : Result ℕ Fault) → Regroups most from to r s a b result →
-    Keeps b c → Regroups most from to r s a c result
-Regroups-kept most from to r s a b c result lines kept = record {
+Regroups-kept : (rules : Rules) (most : ℕ) (from to : FormatData) (r s a b c : Option (List ℕ)) (result : Result ℕ Fault) → Regroups rules most from to r s a b result →
+    Keeps b c → Regroups rules most from to r s a c result
+Regroups-kept rules most from to r s a b c result lines kept = record {
   given = lines.given;
   stop = lines.stop;
   consumed = lines.consumed;
@@ -37,50 +38,50 @@ Regroups-kept most from to r s a b c result lines kept = record {
 }
 
 -- all lines were regrouped
-pub Ends_regrouped : (from to : FormatData) (r s a b c d : Option (List ℕ)) (count : ℕ) → Regroups most_lines from to r s a b (Ok count) → Keeps b c →
-    Ends (Some (from, to)) 0 r a c d d
-Ends_regrouped from to r s a b c d count lines kept = record {
+pub Ends_regrouped : (rules : Rules) (from to : FormatData) (r s a b c d : Option (List ℕ)) (count : ℕ) → Regroups rules most_lines from to r s a b (Ok count) → Keeps b c →
+    Ends rules (Some (from, to)) 0 r a c d d
+Ends_regrouped rules from to r s a b c d count lines kept = record {
   result = Ok count;
   read_new = s;
-  lines = Regroups-kept most_lines from to r s a b c (Ok count) lines kept;
+  lines = Regroups-kept rules most_lines from to r s a b c (Ok count) lines kept;
   reports = (refl, refl);
 }
 
 -- nothing was sent to standard error
-pub Stops_unreported : (from to : FormatData) (r s a b c d : Option (List ℕ)) (result : Result ℕ Fault) → Regroups most_lines from to r s a b result →
-    Keeps b c → Stops (Some (from, to)) r a c d d
-Stops_unreported from to r s a b c d result lines kept = record {
+pub Stops_unreported : (rules : Rules) (from to : FormatData) (r s a b c d : Option (List ℕ)) (result : Result ℕ Fault) → Regroups rules most_lines from to r s a b result →
+    Keeps b c → Stops rules (Some (from, to)) r a c d d
+Stops_unreported rules from to r s a b c d result lines kept = record {
   result = result;
   read_new = s;
   unreported = report result;
-  lines = Regroups-kept most_lines from to r s a b c result lines kept;
+  lines = Regroups-kept rules most_lines from to r s a b c result lines kept;
   reported = HasReceivedUpTo-none d (report result);
 }
 
 -- a line is at fault, and its message was sent
-pub Ends_sent : {E : Type 0} (status : Result ℕ E) (from to : FormatData) (r s a b c d e : Option (List ℕ)) (fault : Fault) (sent : Result (Unit {0}) E) →
-    Regroups most_lines from to r s a b (Err fault) → Keeps b c → is_of_line fault ≡ true → Sends sent d e (line (message_of_fault fault)) →
-    status ≡ result_and sent (Ok 1) → IfOk status (λ status. status ≢ 3 → Ends (Some (from, to)) status r a c d e)
-Ends_sent status from to r s a b c d e fault (Ok done) lines kept of_line sends returned =
+pub Ends_sent : {E : Type 0} (status : Result ℕ E) (rules : Rules) (from to : FormatData) (r s a b c d e : Option (List ℕ)) (fault : Fault) (sent : Result (Unit {0}) E) →
+    Regroups rules most_lines from to r s a b (Err fault) → Keeps b c → is_of_line fault ≡ true → Sends sent d e (line (message_of_fault fault)) →
+    status ≡ result_and sent (Ok 1) → IfOk status (λ status. status ≢ 3 → Ends rules (Some (from, to)) status r a c d e)
+Ends_sent status rules from to r s a b c d e fault (Ok done) lines kept of_line sends returned =
     rw returned (λ _. record {
       result = Err fault;
       read_new = s;
-      lines = Regroups-kept most_lines from to r s a b c (Err fault) lines kept;
+      lines = Regroups-kept rules most_lines from to r s a b c (Err fault) lines kept;
       reports = (refl, of_line, sends.whole);
     })
-Ends_sent status from to r s a b c d e fault (Err error) lines kept of_line sends returned = rw returned tt
+Ends_sent status rules from to r s a b c d e fault (Err error) lines kept of_line sends returned = rw returned tt
 
-pub Stops_sent : {E : Type 0} (status : Result ℕ E) (from to : FormatData) (r s a b c d e : Option (List ℕ)) (fault : Fault) (sent : Result (Unit {0}) E) →
-    Regroups most_lines from to r s a b (Err fault) → Keeps b c → is_of_line fault ≡ true → Sends sent d e (line (message_of_fault fault)) →
-    status ≡ result_and sent (Ok 1) → OnErr status (Stops (Some (from, to)) r a c d e)
-Stops_sent status from to r s a b c d e fault (Ok done) lines kept of_line sends returned = rw returned tt
-Stops_sent status from to r s a b c d e fault (Err error) lines kept of_line sends returned =
+pub Stops_sent : {E : Type 0} (status : Result ℕ E) (rules : Rules) (from to : FormatData) (r s a b c d e : Option (List ℕ)) (fault : Fault) (sent : Result (Unit {0}) E) →
+    Regroups rules most_lines from to r s a b (Err fault) → Keeps b c → is_of_line fault ≡ true → Sends sent d e (line (message_of_fault fault)) →
+    status ≡ result_and sent (Ok 1) → OnErr status (Stops rules (Some (from, to)) r a c d e)
+Stops_sent status rules from to r s a b c d e fault (Ok done) lines kept of_line sends returned = rw returned tt
+Stops_sent status rules from to r s a b c d e fault (Err error) lines kept of_line sends returned =
     let message = line (message_of_fault fault) in
     rw returned (record {
       result = Err fault;
       read_new = s;
       unreported = sends.prefix.rest;
-      lines = Regroups-kept most_lines from to r s a b c (Err fault) lines kept;
+      lines = Regroups-kept rules most_lines from to r s a b c (Err fault) lines kept;
       reported = subst (λ (reports : Bool). HasReceivedUpTo d e (if reports then message else []) sends.prefix.rest) (sym of_line) sends.prefix.received;
     })
 

@@ -5,8 +5,9 @@ use Rattle.num_format.specs.Format.{FormatData}
 use Rattle.num_format.specs.Writing.{HasReceivedUpTo, StopsWithin}
 use Rattle.regroup_shared.specs.Sending.{line}
 use Rattle.regroup_lines.specs.Fault.{Fault, message_of_fault}
-use Rattle.regroup_lines.specs.Fault.Fault.{TooMany, TooLong, Read, NotText, Line, Write}
+use Rattle.regroup_lines.specs.Fault.Fault.{TooMany, TooLong, FewFields, Read, NotText, Line, Write}
 use Rattle.regroup_lines.specs.Sending.{Regroups}
+use Rattle.regroup_lines.specs.declared.rules.Rules.{Rules}
 
 -- the most lines of an input: as many as are counted
 abbrev pub most_lines : ℕ
@@ -16,6 +17,7 @@ most_lines = 2 ^ 64 - 1
 abbrev pub is_of_line : Fault → Bool
 is_of_line TooMany = false
 is_of_line (TooLong number) = true
+is_of_line (FewFields number) = true
 is_of_line Read = false
 is_of_line (NotText number) = true
 is_of_line (Line number refusal) = true
@@ -29,10 +31,10 @@ Reports (Err fault) status old new = (status ≡ 1) × (is_of_line fault ≡ tru
 
 -- what the program does with two formats where no read and no write fails: standard output receives the lines of the bytes that the
 -- reader gave, up to the line at fault if there is one, and the status is that of the result
-pub record RegroupsAll (from to : FormatData) (status : ℕ) (read_old out_old out_new err_old err_new : Option (List ℕ)) : Type 0 where
+pub record RegroupsAll (rules : Rules) (from to : FormatData) (status : ℕ) (read_old out_old out_new err_old err_new : Option (List ℕ)) : Type 0 where
   pub result : Result ℕ Fault
   pub read_new : Option (List ℕ)
-  pub lines : Regroups most_lines from to read_old read_new out_old out_new result
+  pub lines : Regroups rules most_lines from to read_old read_new out_old out_new result
   pub reports : Reports result status err_old err_new
 
 -- the usage
@@ -46,19 +48,19 @@ report (Err fault) = if is_of_line fault then line (message_of_fault fault) else
 
 -- what the program does with two formats where a read or a write fails: standard output receives what it receives without the
 -- failure, or a prefix where a write of it failed; standard error receives a prefix of the text for it
-pub record StopsAll (from to : FormatData) (read_old out_old out_new err_old err_new : Option (List ℕ)) : Type 0 where
+pub record StopsAll (rules : Rules) (from to : FormatData) (read_old out_old out_new err_old err_new : Option (List ℕ)) : Type 0 where
   pub result : Result ℕ Fault
   pub read_new : Option (List ℕ)
   pub unreported : List ℕ
-  pub lines : Regroups most_lines from to read_old read_new out_old out_new result
+  pub lines : Regroups rules most_lines from to read_old read_new out_old out_new result
   pub reported : HasReceivedUpTo err_old err_new (report result) unreported
 
 -- what the program does where no read and no write fails: without two formats it writes the usage, else the lines
-abbrev pub Ends : Option (FormatData × FormatData) → ℕ → (read_old out_old out_new err_old err_new : Option (List ℕ)) → Type 0
-Ends None status read_old out_old out_new err_old err_new = (status ≡ 2) × (out_new ≡ out_old) × Appends err_old err_new usage
-Ends (Some formats) status read_old out_old out_new err_old err_new = RegroupsAll formats.0 formats.1 status read_old out_old out_new err_old err_new
+abbrev pub Ends : Rules → Option (FormatData × FormatData) → ℕ → (read_old out_old out_new err_old err_new : Option (List ℕ)) → Type 0
+Ends rules None status read_old out_old out_new err_old err_new = (status ≡ 2) × (out_new ≡ out_old) × Appends err_old err_new usage
+Ends rules (Some formats) status read_old out_old out_new err_old err_new = RegroupsAll rules formats.0 formats.1 status read_old out_old out_new err_old err_new
 
 -- what the program does where a read or a write fails
-abbrev pub Stops : Option (FormatData × FormatData) → (read_old out_old out_new err_old err_new : Option (List ℕ)) → Type 0
-Stops None read_old out_old out_new err_old err_new = (out_new ≡ out_old) × StopsWithin err_old err_new usage
-Stops (Some formats) read_old out_old out_new err_old err_new = StopsAll formats.0 formats.1 read_old out_old out_new err_old err_new
+abbrev pub Stops : Rules → Option (FormatData × FormatData) → (read_old out_old out_new err_old err_new : Option (List ℕ)) → Type 0
+Stops rules None read_old out_old out_new err_old err_new = (out_new ≡ out_old) × StopsWithin err_old err_new usage
+Stops rules (Some formats) read_old out_old out_new err_old err_new = StopsAll rules formats.0 formats.1 read_old out_old out_new err_old err_new

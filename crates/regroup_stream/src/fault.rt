@@ -14,7 +14,10 @@ pub(crate) fn is_of_line(fault: &RegroupFault) -> bool
     ensures { result ≡ is_of_line (fault_of fault.now) }
 {
     match fault {
-        RegroupFault::TooLong(_) | RegroupFault::NotText(_) | RegroupFault::Line(..) => true,
+        RegroupFault::TooLong(_)
+        | RegroupFault::FewFields(_)
+        | RegroupFault::NotText(_)
+        | RegroupFault::Line(..) => true,
         RegroupFault::TooMany | RegroupFault::Read | RegroupFault::Write => false,
     }
 }

@@ -22,6 +22,7 @@ use crate::fault::{is_of_line, send_fault};
 use crate::words::formats_named;
 use num_format::CustomFormat;
 use regroup_lines::regroup_at_most;
+pub use regroup_lines::{Field, Reading, Rules, Span};
 use regroup_shared::send_line;
 use std::io;
 use std::io::{BufWriter, Read, Write};
@@ -60,22 +61,23 @@ const USAGE: &str = "usage: regroup-lines FROM TO, each a locale or custom:SEP:G
 /// run(&["en", "de"], b"1,000\n".as_slice(), &mut out, &mut err)    // 0, and "1.000\n" in `out`
 /// ```
 pub fn run<R: Read + Drop, O: Write + Drop, E: Write>(
+    rules: &Rules,
     args: &[&str],
     input: R,
     out: &mut BufWriter<O>,
     err: &mut E,
 ) -> u8
-    ensures ends { result ≢ FAILED → Ends (formats_named (texts args.now)) result
+    ensures ends { result ≢ FAILED → Ends rules.now (formats_named (texts args.now)) result
         (R.remaining input)
         (writer_contents O.contents out.old) (writer_contents O.contents out.new)
         (E.contents err.old) (E.contents err.new) }
-    ensures failed { result ≡ FAILED → Stops (formats_named (texts args.now)) (R.remaining input)
+    ensures failed { result ≡ FAILED → Stops rules.now (formats_named (texts args.now)) (R.remaining input)
         (writer_contents O.contents out.old) (writer_contents O.contents out.new)
         (E.contents err.old) (E.contents err.new) }
     ensures flushed { result ≢ FAILED → result ≢ MISUSED → writer_buffer out.new ≡ [] }
 {
     match formats_named(args) {
-        Some((from, to)) => try_run(&from, &to, input, out, err).unwrap_or(FAILED),
+        Some((from, to)) => try_run(rules, &from, &to, input, out, err).unwrap_or(FAILED),
         None => match send_line(USAGE, err) {
             Ok(()) => MISUSED,
             Err(_) => FAILED,
@@ -89,26 +91,27 @@ pub fn run<R: Read + Drop, O: Write + Drop, E: Write>(
 ///
 /// Returns the error of a flush, or of a write of the message of a fault, that failed.
 fn try_run<R: Read + Drop, O: Write + Drop, E: Write>(
+    rules: &Rules,
     from: &CustomFormat,
     to: &CustomFormat,
     mut input: R,
     out: &mut BufWriter<O>,
     err: &mut E,
 ) -> io::Result<u8>
-    ensures ends { IfOk result (λ status. status ≢ FAILED → Ends (Some (from.now, to.now)) status
+    ensures ends { IfOk result (λ status. status ≢ FAILED → Ends rules.now (Some (from.now, to.now)) status
         (R.remaining input)
         (writer_contents O.contents out.old) (writer_contents O.contents out.new)
         (E.contents err.old) (E.contents err.new)) }
-    ensures failed { IfOk result (λ status. status ≡ FAILED → Stops (Some (from.now, to.now))
+    ensures failed { IfOk result (λ status. status ≡ FAILED → Stops rules.now (Some (from.now, to.now))
         (R.remaining input)
         (writer_contents O.contents out.old) (writer_contents O.contents out.new)
         (E.contents err.old) (E.contents err.new)) }
-    ensures broken { OnErr result (Stops (Some (from.now, to.now)) (R.remaining input)
+    ensures broken { OnErr result (Stops rules.now (Some (from.now, to.now)) (R.remaining input)
         (writer_contents O.contents out.old) (writer_contents O.contents out.new)
         (E.contents err.old) (E.contents err.new)) }
     ensures flushed { OnOk result (writer_buffer out.new ≡ []) }
 {
-    let regrouped = regroup_at_most(u64::MAX, &mut input, out, from, to);
+    let regrouped = regroup_at_most(u64::MAX, rules, &mut input, out, from, to);
     out.flush()?;
     match regrouped {
         Ok(_) => Ok(REGROUPED),

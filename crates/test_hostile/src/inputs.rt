@@ -2,7 +2,7 @@
 
 use num_format::error::cut;
 use num_format::{CustomFormat, Error, ErrorKind, Format, Grouping, Locale};
-use regroup_lines::{RegroupFault, regroup_at_most, regroup_lines};
+use regroup_lines::{Reading, RegroupFault, Rules, Span, regroup_at_most, regroup_lines};
 use std::io;
 use std::process::Abort;
 use std::test::Fail;
@@ -161,6 +161,13 @@ fn a_million_lines(rt: HostRuntime) -> Result<(), Fail> {
 /// A limit of lines counts the last one too, with or without a newline after it.
 #[test]
 fn two_lines_at_most(rt: HostRuntime) -> Result<(), Fail> {
+    let rules = Rules {
+        span: Span::Line,
+        reading: Reading::Lenient,
+        header_lines: 0,
+        passes_empty: false,
+        passes_faulty: false,
+    };
     for (input, returned) in [
         ("", Ok(0)),
         ("1\n2", Ok(2)),
@@ -169,7 +176,14 @@ fn two_lines_at_most(rt: HostRuntime) -> Result<(), Fail> {
         ("1\n2\n3", Err(RegroupFault::TooMany)),
     ] {
         let (mut reader, mut out) = (input.as_bytes(), io::sink());
-        let result = regroup_at_most(2, &mut reader, &mut out, &Locale::en, &Locale::en_IN);
+        let result = regroup_at_most(
+            2,
+            &rules,
+            &mut reader,
+            &mut out,
+            &Locale::en,
+            &Locale::en_IN,
+        );
         assert_eq!(rt; result, returned);
     }
     Ok(())

@@ -6,7 +6,7 @@ use crate::Step::{Take, Zero};
 use crate::{ReadStep, Scripted, ScriptedReader, Step};
 use num_format::Locale;
 use regroup_lines::{RegroupFault, regroup_lines};
-use regroup_stream::{FAILED, REGROUPED, run};
+use regroup_stream::{FAILED, REGROUPED, Reading, Rules, Span, run};
 use std::alloc::Global;
 use std::io::BufWriter;
 use std::process::Abort;
@@ -14,6 +14,15 @@ use std::test::Fail;
 
 /// The lines that are read, of nine and three bytes.
 const INPUT: &[u8] = b"1,000000\n-5\n";
+
+/// The rules under which the first line is a number.
+const LENIENT: Rules = Rules {
+    span: Span::Trimmed,
+    reading: Reading::Lenient,
+    header_lines: 0,
+    passes_empty: false,
+    passes_faulty: false,
+};
 
 /// The space of a writer in bytes.
 const SPACE: usize = 64;
@@ -88,7 +97,7 @@ fn assert_run(rt: &impl Abort, alloc: Global, case: &Case<'_>) -> Result<(), Fai
     let writer = Scripted::new(alloc, SPACE, case.1)?;
     let mut out = BufWriter::with_capacity(alloc, 0, writer)?;
     let mut err = Scripted::new(alloc, SPACE, &[])?;
-    let status = run(&["en", "en-IN"], reader(case), &mut out, &mut err);
+    let status = run(&LENIENT, &["en", "en-IN"], reader(case), &mut out, &mut err);
     let expected = if matches!(case.2, Ended::Lines(_)) {
         REGROUPED
     } else {

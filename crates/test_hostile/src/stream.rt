@@ -3,11 +3,20 @@
 use crate::ReadStep::{Fail, Give};
 use crate::Step::{Interrupt, Take, Zero};
 use crate::{Scripted, ScriptedReader, Step};
-use regroup_stream::{FAILED, FAULTY, MISUSED, REGROUPED, run};
+use regroup_stream::{FAILED, FAULTY, MISUSED, REGROUPED, Reading, Rules, Span, run};
 use std::alloc::Global;
 use std::io::{BufWriter, ErrorKind, Write};
 use std::process::Abort;
 use std::{io, test};
+
+/// The rules of `regroup-lines` without an option.
+const STRICT: Rules = Rules {
+    span: Span::Trimmed,
+    reading: Reading::Strict,
+    header_lines: 0,
+    passes_empty: false,
+    passes_faulty: false,
+};
 
 /// Accepts all bytes, and fails the first time that it is flushed.
 #[derive(Drop)]
@@ -40,7 +49,7 @@ fn a_read_fails(rt: HostRuntime) -> Result<(), test::Fail> {
             steps: &[Give(3), Give(9), Fail],
             calls: 0,
         };
-        let status = run(&["en", "de"], reader, &mut out, &mut err);
+        let status = run(&STRICT, &["en", "de"], reader, &mut out, &mut err);
         assert_eq!(rt; status, FAILED);
         assert_eq!(rt; out.get_ref().as_slice(), b"1.000\n".as_slice());
         assert!(rt; err.is_empty());
@@ -54,7 +63,10 @@ fn a_flush_fails(rt: HostRuntime) -> Result<(), test::Fail> {
     for text in [b"".as_slice(), b"1,000\n", b"x\n"] {
         let mut out = BufWriter::new(rt.alloc(), Unflushed { flushes: 0 })?;
         let mut err = Vec::new(rt.alloc());
-        assert_eq!(rt; run(&["en", "de"], text, &mut out, &mut err), FAILED);
+        assert_eq!(rt;
+            run(&STRICT, &["en", "de"], text, &mut out, &mut err),
+            FAILED
+        );
         assert_eq!(rt; out.get_ref().flushes, 1);
         assert!(rt; err.is_empty());
     }
@@ -73,7 +85,7 @@ fn assert_calls(
 ) -> Result<(), test::Fail> {
     let mut out = BufWriter::new(alloc, Scripted::new(alloc, 64, &[])?)?;
     let mut err = Scripted::new(alloc, 128, err_steps)?;
-    assert_eq!(rt; run(words, text, &mut out, &mut err), status);
+    assert_eq!(rt; run(&STRICT, words, text, &mut out, &mut err), status);
     let written = out.get_ref();
     assert_eq!(rt;
         [written.calls, written.flushes, err.calls, err.flushes],
@@ -126,11 +138,17 @@ fn a_line_is_at_fault(rt: HostRuntime) -> Result<(), test::Fail> {
     let mut err = Vec::new(rt.alloc());
     let words = ["en", "custom:::Indian:-"];
     assert_eq!(rt;
-        run(&words, b"100,000\n".as_slice(), &mut out, &mut err),
+        run(&STRICT, &words, b"100,000\n".as_slice(), &mut out, &mut err),
         REGROUPED
     );
     assert_eq!(rt;
-        run(&words, b"-1,000\nx\n".as_slice(), &mut out, &mut err),
+        run(
+            &STRICT,
+            &words,
+            b"-1,000\nx\n".as_slice(),
+            &mut out,
+            &mut err
+        ),
         FAULTY
     );
     assert_eq!(rt; out.get_ref().as_slice(), b"1:00:000\n-1:000\n".as_slice());

@@ -1,0 +1,11 @@
+# Completes the options of regroup-lines, and the values of --invalid.
+_regroup_lines() {
+    local word=${COMP_WORDS[COMP_CWORD]} before=${COMP_WORDS[COMP_CWORD - 1]}
+    local words="--field --delimiter --header --header-lines --empty --invalid --lenient --help"
+    case $before in
+    --invalid) words="abort ignore" ;;
+    --field | --delimiter | -d | --header-lines) return ;;
+    esac
+    mapfile -t COMPREPLY < <(compgen -W "$words" -- "$word")
+}
+complete -F _regroup_lines regroup-lines
