@@ -1,5 +1,6 @@
 //! The library `num_format_c`, called as a C program calls it by its header `num_format.h`.
 
+use crate::columns::Column;
 use crate::original::Checksum;
 
 /// The bytes that the text of a number has at most, `NUM_FORMAT_MAX` of the header.
@@ -46,6 +47,26 @@ unsafe extern "C" {
         text: *const u8,
         text_len: usize,
         number: *mut i64,
+    ) -> i32;
+    fn num_format_print_i64_column(
+        format: *const Format,
+        numbers: *const i64,
+        numbers_len: usize,
+        offsets: *mut i32,
+        offsets_len: usize,
+        bytes: *mut u8,
+        bytes_len: usize,
+    ) -> i32;
+    fn num_format_parse_strict_i64_column(
+        format: *const Format,
+        offsets: *const i32,
+        offsets_len: usize,
+        bytes: *const u8,
+        bytes_len: usize,
+        numbers: *mut i64,
+        numbers_len: usize,
+        statuses: *mut i32,
+        statuses_len: usize,
     ) -> i32;
 }
 
@@ -135,4 +156,43 @@ pub fn read(texts: &str, lengths: &[usize], format: &Format, numbers: &mut [i64]
         left = rest;
     }
     accepted
+}
+
+/// Prints numbers as a column.
+pub fn print_column(numbers: &[i64], format: &Format, offsets: &mut [i32], bytes: &mut [u8]) {
+    let status = unsafe {
+        num_format_print_i64_column(
+            format,
+            numbers.as_ptr(),
+            numbers.len(),
+            offsets.as_mut_ptr(),
+            offsets.len(),
+            bytes.as_mut_ptr(),
+            bytes.len(),
+        )
+    };
+    assert_eq!(status, 0);
+}
+
+/// Reads the texts of a column strictly.
+pub fn read_column_strictly(
+    column: &Column,
+    format: &Format,
+    numbers: &mut [i64],
+    statuses: &mut [i32],
+) {
+    let status = unsafe {
+        num_format_parse_strict_i64_column(
+            format,
+            column.offsets.as_ptr(),
+            column.offsets.len(),
+            column.bytes.as_ptr(),
+            column.bytes.len(),
+            numbers.as_mut_ptr(),
+            numbers.len(),
+            statuses.as_mut_ptr(),
+            statuses.len(),
+        )
+    };
+    assert_eq!(status, 0);
 }

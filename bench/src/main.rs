@@ -6,6 +6,7 @@
 //! Standard.
 
 mod c;
+mod columns;
 mod decimals;
 mod documents;
 mod floor;
@@ -18,8 +19,9 @@ mod rattle;
 mod table;
 mod texts;
 
+use columns::Column;
 use groupings::Grouping;
-use num_format::Locale;
+use num_format::{Buffer, Locale};
 use numbers::{BATCH, Number, Random, Sizes};
 use std::arch::global_asm;
 use std::error::Error;
@@ -71,6 +73,12 @@ pub const PRINT_DECIMALS: &str = "print decimals";
 
 /// Reading of decimals, which is compared with reading whole numbers strictly, and with `rust_decimal`.
 pub const READ_DECIMALS: &str = "read decimals";
+
+/// Printing of a column through C, which is compared with printing plain digits in the same layout.
+pub const PRINT_COLUMN: &str = "print a column";
+
+/// Strict reading of a column through C, which is compared with reading plain digits in the same layout.
+pub const READ_COLUMN: &str = "read a column strictly";
 
 /// The types that are read strictly.
 const STRICT_TYPES: [&str; 3] = ["u8", "i64", "u128"];
@@ -240,6 +248,19 @@ impl Run {
         });
     }
 
+    /// Measures columns under `en` through C.
+    fn measure_columns(&mut self) {
+        let cell = |operation| Cell {
+            operation,
+            format: "",
+            type_name: "i64",
+            sizes: String::from(columns::ROWS_NAME),
+            group: columns::ROWS_NAME,
+        };
+        self.measure(cell(PRINT_COLUMN), measure_printing_a_column);
+        self.measure(cell(READ_COLUMN), measure_reading_a_column);
+    }
+
     /// Measures decimals at each scale, under each of their formats.
     fn measure_decimals(&mut self) {
         for (name, scale) in decimals::SCALES {
@@ -301,6 +322,7 @@ impl Run {
         self.measure_strict_refusing::<u128>();
         self.measure_decimals();
         self.measure_c();
+        self.measure_columns();
         self.measure_names();
     }
 
@@ -462,6 +484,56 @@ fn measure_reading_through_c(name: &str, numbers: &[i64], format: u8) -> Times {
         original: None,
         reference: Some(reference),
         floor: None,
+    }
+}
+
+/// Measures printing of a column through C beside plain digits in the same layout.
+fn measure_printing_a_column(name: &str) -> Times {
+    let (numbers, format) = (columns::numbers(), c_format(0));
+    let (mut grouped, mut plain) = (Column::new(), Column::new());
+    let [port, floor] = best(
+        columns::ROWS,
+        [
+            &mut || columns::print(black_box(&numbers), &format, &mut grouped),
+            &mut || columns::print_plain(black_box(&numbers), &mut plain),
+        ],
+    );
+    let mut buffer = Buffer::new();
+    for ((number, grouped), plain) in numbers.iter().zip(grouped.texts()).zip(plain.texts()) {
+        buffer.write_formatted(number, &Locale::en);
+        assert_eq!(grouped, buffer.as_str(), "{name}");
+        assert_eq!(plain, number.to_string(), "{name}");
+    }
+    Times {
+        port,
+        original: None,
+        reference: None,
+        floor: Some(floor),
+    }
+}
+
+/// Measures strict reading of a column through C beside plain digits in the same layout.
+fn measure_reading_a_column(name: &str) -> Times {
+    let (numbers, format) = (columns::numbers(), c_format(0));
+    let (mut grouped, mut plain) = (Column::new(), Column::new());
+    columns::print(&numbers, &format, &mut grouped);
+    columns::print_plain(&numbers, &mut plain);
+    let mut strictly = vec![1; numbers.len()];
+    let mut plainly = strictly.clone();
+    let mut statuses = vec![1; numbers.len()];
+    let [port, floor] = best(
+        columns::ROWS,
+        [
+            &mut || columns::read(black_box(&grouped), &format, &mut strictly, &mut statuses),
+            &mut || columns::read_plain(black_box(&plain), &mut plainly),
+        ],
+    );
+    assert!(strictly == numbers && plainly == numbers, "{name}");
+    Times {
+        port,
+        original: None,
+        reference: None,
+        floor: Some(floor),
     }
 }
 

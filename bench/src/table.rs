@@ -1,6 +1,9 @@
 //! What was measured: a line for each cell, and the table by operation, digits and format.
 
-use crate::{C_PRINTING, C_READING, LOOK_UP_TAG, PRINT_DECIMALS, READ_DECIMALS, REFUSE_STRICTLY};
+use crate::{
+    C_PRINTING, C_READING, LOOK_UP_TAG, PRINT_COLUMN, PRINT_DECIMALS, READ_COLUMN, READ_DECIMALS,
+    REFUSE_STRICTLY,
+};
 use std::collections::HashMap;
 use std::fs;
 use std::io;
@@ -20,13 +23,20 @@ const COLUMNS: [(&str, &[&str]); 10] = [
 ];
 
 /// The operations whose cells are by kind of text, and not by digits and format.
-const BY_KIND: [&str; 4] = ["refuse", "look up", REFUSE_STRICTLY, LOOK_UP_TAG];
+const BY_KIND: [&str; 6] = [
+    "refuse",
+    "look up",
+    REFUSE_STRICTLY,
+    LOOK_UP_TAG,
+    PRINT_COLUMN,
+    READ_COLUMN,
+];
 
 /// An operation, what its time is compared with, and the ratio.
 type Comparison = (&'static str, &'static str, fn(&Times) -> Option<f64>);
 
 /// The comparisons, in the order of the tables.
-const COMPARISONS: [Comparison; 24] = [
+const COMPARISONS: [Comparison; 26] = [
     ("used Buffer", ORIGINAL, Times::ratio),
     ("new Buffer", ORIGINAL, Times::ratio),
     ("to_formatted_string", ORIGINAL, Times::ratio),
@@ -55,6 +65,12 @@ const COMPARISONS: [Comparison; 24] = [
     (C_PRINTING[1].0, "used Buffer", Times::ratio_to_reference),
     (C_PRINTING[2].0, "new Buffer", Times::ratio_to_reference),
     (C_READING, "read", Times::ratio_to_reference),
+    (PRINT_COLUMN, "`itoa`, plain digits", Times::ratio_to_floor),
+    (
+        READ_COLUMN,
+        "std's `parse`, plain digits",
+        Times::ratio_to_floor,
+    ),
     (PRINT_DECIMALS, "a whole number", Times::ratio_to_reference),
     (READ_DECIMALS, "a whole number", Times::ratio_to_reference),
     (PRINT_DECIMALS, "`rust_decimal`", Times::ratio_to_floor),
