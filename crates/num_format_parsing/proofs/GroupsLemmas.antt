@@ -19,7 +19,7 @@ use Rattle.num_format_int.proofs.DigitLemmas.{AreDigits}
 use Rattle.num_format_int.proofs.GroupLemmas.{last_group-Standard, groups-Standard}
 use Rattle.num_format_int.proofs.GroupedLemmas.{grouped-Posix, length-grouped}
 use Rattle.num_format_parsing.proofs.ReadingLemmas.{digits_among-separated}
-use Rattle.num_format_parsing.specs.Strict.{SpellsNumber, sign_len}
+use Rattle.num_format_parsing.specs.Strict.{SpellsNumber}
 use Rattle.num_format_parsing.specs.Shapes.{byte_figures, BeginsWithDigit, HasNoNumeric, HasPlainSign, IsInGroups, IsPlainStart}
 use Rattle.num_format_parsing.proofs.FigureLemmas.{digit_char, figures-digit, figures-below, figures-none, number-after_zeros, writes}
 use Rattle.num_format_parsing.proofs.NumberLemmas.{no_other-bytes}
@@ -75,15 +75,6 @@ spells-groups f t s start last size sign separator separator_utf8 plain_separato
     let figures : byte_figures body ≡ ds = ap byte_figures text ∙ digits_among-separated is_due s ds plain_separator found.below in
     let same = ap (λ k. drop k t) (sym sign.sign) ∙ text ∙ ap (λ x. separated is_due x ds) separator in
     (utf8, (spells-more f t ds utf8 (figures-behind f t start sign.plain ∙ ap (number_from_digits 10) figures) (rw figures at (writes body begin))).0 (inl same))
-
--- a minus sign without digits at the start of a text
-pub plain-start : (f : FormatData) (t sign : List ℕ) → length sign ≡ sign_len f t → length sign ≤ length t → sign ≡ take (length sign) t → IsUtf8 sign → list_any is_ascii_digit sign ≡ false → IsPlainStart f t (length sign)
-plain-start f t sign start within same utf8 none = record {
-  utf8 = subst IsUtf8 same utf8;
-  within = within;
-  sign = start;
-  plain = ap byte_figures (sym same) ∙ figures-none sign none;
-}
 
 -- a text without the minus sign
 pub plain-unsigned : (f : FormatData) (t : List ℕ) → is_negative_text f t ≡ false → IsPlainStart f t 0

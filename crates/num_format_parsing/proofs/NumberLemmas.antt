@@ -20,7 +20,7 @@ use Rattle.num_format_int.proofs.GroupedLemmas.{of_either}
 use Rattle.num_format_parsing.specs.Figures.{Gathers}
 use Rattle.num_format_parsing.specs.Parts.{WriteFew, HasReadNumber}
 use Rattle.num_format_parsing.specs.Reading.{denoted, figures, is_negative_text, is_other_numeral, no_digit, other_numeral, too_many_figures, no_value}
-use Rattle.num_format_parsing.specs.Shapes.{byte_figures, HasNoNumeric, HasPlainSign, IsPlainStart}
+use Rattle.num_format_parsing.specs.Shapes.{byte_figures, HasNoNumeric, HasPlainSign}
 use Rattle.num_format_parsing.specs.Strict.{SpellsNumber, ParsesStrictly, IsOutOfRange}
 use Rattle.num_format_parsing.proofs.FigureLemmas.{figures-bytes}
 use Rattle.num_format_parsing.proofs.ReadingLemmas.{digits_among-append, digits_among-separated, is_other_numeral-ascii, is_other_numeral-digit, some-read}

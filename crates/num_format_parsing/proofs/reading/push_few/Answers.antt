@@ -1,6 +1,6 @@
-use Rattle.std.proofs.Common.{◌≡◌, ◌+◌, ◌*◌, arith, subst, sym, refl}
+use Rattle.std.proofs.Common.{◌+◌, ◌*◌, arith, subst, sym, refl}
 use Rattle.num_format_parsing.specs.Parts.{HasReadDigits}
-use Rattle.num_format_parsing.proofs.PartLemmas.{IsDigitAt, read-two, read-next, appends-last}
+use Rattle.num_format_parsing.proofs.PartLemmas.{read-two, read-next, appends-last}
 use Rattle.num_format_parsing.proofs.reading.push_few.Goals as goal
 
 pub returns-then-count-eq2 : goal.returns-then-count-eq2
