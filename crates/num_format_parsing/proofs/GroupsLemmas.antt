@@ -3,6 +3,7 @@ use Rattle.std.proofs.Common.{◌⊎◌, inl, inr, Bool, ◌≡◌, ℕ, ◌+◌
 use Rattle.std.specs.Char.{is_ascii_digit}
 use Rattle.std.specs.Int.Digits.{number_from_digits}
 use Rattle.std.specs.List.{list_all, list_any}
+use Rattle.std.specs.Str.{chars}
 use Rattle.std.proofs.lemmas.Bool.{and_parts}
 use Rattle.std.proofs.lemmas.Bool.Decides.{Decides-eqb}
 use Rattle.std.proofs.lemmas.List.{length-map, nil_from_length, take_at}
@@ -13,14 +14,15 @@ use Rattle.num_format_text.specs.declared.grouping.Grouping.TheVariants.{Standar
 use Rattle.num_format_text.specs.Format.{FormatData}
 use Rattle.num_format_int.specs.Grouped.{grouped, separated, stands}
 use Rattle.num_format_int.specs.Groups.{plain, HasLastGroup, HasGroups}
-use Rattle.num_format_parsing.specs.Reading.{denoted, is_negative_text}
+use Rattle.num_format_parsing.specs.Reading.{denoted, is_negative_text, is_other_numeral}
 use Rattle.num_format_int.proofs.DigitLemmas.{AreDigits}
 use Rattle.num_format_int.proofs.GroupLemmas.{last_group-Standard, groups-Standard}
 use Rattle.num_format_int.proofs.GroupedLemmas.{grouped-Posix, length-grouped}
 use Rattle.num_format_parsing.proofs.ReadingLemmas.{digits_among-separated}
-use Rattle.num_format_parsing.specs.Strict.{SpellsNumber, sign_len}
-use Rattle.num_format_parsing.specs.Shapes.{byte_figures, BeginsWithDigit, IsInGroups, IsPlainStart}
+use Rattle.num_format_parsing.specs.Strict.{SpellsNumber}
+use Rattle.num_format_parsing.specs.Shapes.{byte_figures, BeginsWithDigit, HasNoNumeric, HasPlainSign, IsInGroups, IsPlainStart}
 use Rattle.num_format_parsing.proofs.FigureLemmas.{digit_char, figures-digit, figures-below, figures-none, number-after_zeros, writes}
+use Rattle.num_format_parsing.proofs.NumberLemmas.{no_other-bytes}
 use Rattle.num_format_parsing.proofs.SpellingLemmas.{spells-more, utf8-separated}
 
 -- bytes that are digits are their figures as text
@@ -74,15 +76,6 @@ spells-groups f t s start last size sign separator separator_utf8 plain_separato
     let same = ap (λ k. drop k t) (sym sign.sign) ∙ text ∙ ap (λ x. separated is_due x ds) separator in
     (utf8, (spells-more f t ds utf8 (figures-behind f t start sign.plain ∙ ap (number_from_digits 10) figures) (rw figures at (writes body begin))).0 (inl same))
 
--- a minus sign without digits at the start of a text
-pub plain-start : (f : FormatData) (t sign : List ℕ) → length sign ≡ sign_len f t → length sign ≤ length t → sign ≡ take (length sign) t → IsUtf8 sign → list_any is_ascii_digit sign ≡ false → IsPlainStart f t (length sign)
-plain-start f t sign start within same utf8 none = record {
-  utf8 = subst IsUtf8 same utf8;
-  within = within;
-  sign = start;
-  plain = ap byte_figures (sym same) ∙ figures-none sign none;
-}
-
 -- a text without the minus sign
 pub plain-unsigned : (f : FormatData) (t : List ℕ) → is_negative_text f t ≡ false → IsPlainStart f t 0
 plain-unsigned f t positive = record { utf8 = IsUtf8-nil; within = omega arith; sign = rw positive refl; plain = refl }
@@ -97,6 +90,19 @@ plain-signed f t utf8 negative none =
       within = omega (arith, ap length split, length-append f.minus_sign (drop (length f.minus_sign) t));
       sign = rw negative refl;
       plain = ap byte_figures front ∙ nil_from_length (byte_figures f.minus_sign) none;
+    }
+
+-- the same for all numeric characters
+pub plain-positive : (f : FormatData) (t : List ℕ) → is_negative_text f t ≡ false → HasPlainSign f t 0
+plain-positive f t positive = record { begin = plain-unsigned f t positive; others = no_other-bytes [] refl }
+
+pub plain-negative : (f : FormatData) (t : List ℕ) → IsUtf8 f.minus_sign → is_negative_text f t ≡ true → HasNoNumeric f.minus_sign → HasPlainSign f t (length f.minus_sign)
+plain-negative f t utf8 negative none =
+    let split = (starts_is Decides-eqb t f.minus_sign (is_negative_text f t) refl).0 negative in
+    let front : take (length f.minus_sign) t ≡ f.minus_sign = ap (take (length f.minus_sign)) split ∙ take_at f.minus_sign (drop (length f.minus_sign) t) (length f.minus_sign) refl in
+    record {
+      begin = plain-signed f t utf8 negative (ap length (figures-none f.minus_sign none.digits));
+      others = subst (λ xs. list_any is_other_numeral (chars xs) ≡ false) (sym front) none.others;
     }
 
 -- groups that are longer than four digits and a separator have five digits at least

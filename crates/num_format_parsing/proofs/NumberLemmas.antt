@@ -1,7 +1,7 @@
 -- The number of a text that spells one.
 use Rattle.std.proofs.Common.{◌≡◌, ℕ, zero, suc, ◌+◌, ◌-◌, ◌<◌, ◌≤◌, Bool, true, false, ◌||◌, ℤ, List, [], ◌∷◌, ◌++◌, length, refl, ap, ◌∙◌, sym, arith, take, drop, get_or, take-append-drop, subst, lit<, IsUtf8}
 use Rattle.std.specs.Prelude.{if◌then◌else◌}
-use Rattle.std.specs.Char.{is_ascii}
+use Rattle.std.specs.Char.{is_ascii, is_ascii_digit}
 use Rattle.std.specs.Int.Digits.{number_from_digits}
 use Rattle.std.specs.List.{list_all, list_any}
 use Rattle.std.specs.Str.{chars, IsAscii}
@@ -20,7 +20,7 @@ use Rattle.num_format_int.proofs.GroupedLemmas.{of_either}
 use Rattle.num_format_parsing.specs.Figures.{Gathers}
 use Rattle.num_format_parsing.specs.Parts.{WriteFew, HasReadNumber}
 use Rattle.num_format_parsing.specs.Reading.{denoted, figures, is_negative_text, is_other_numeral, no_digit, other_numeral, too_many_figures, no_value}
-use Rattle.num_format_parsing.specs.Shapes.{byte_figures, IsPlainStart}
+use Rattle.num_format_parsing.specs.Shapes.{byte_figures, HasNoNumeric, HasPlainSign}
 use Rattle.num_format_parsing.specs.Strict.{SpellsNumber, ParsesStrictly, IsOutOfRange}
 use Rattle.num_format_parsing.proofs.FigureLemmas.{figures-bytes}
 use Rattle.num_format_parsing.proofs.ReadingLemmas.{digits_among-append, digits_among-separated, is_other_numeral-ascii, is_other_numeral-digit, some-read}
@@ -49,6 +49,15 @@ no_other-ascii t ascii = ap (list_any is_other_numeral) (chars-IsAscii t ascii) 
 pub no_other-bytes : (t : List ℕ) → list_all is_ascii t ≡ true → HasNoOther t
 no_other-bytes t all = no_other-ascii t (ascii-all t all)
 
+one_ascii : (b : ℕ) → b < 128 → list_all is_ascii (b ∷ []) ≡ true
+one_ascii b small = grind (arith, nat_tests)
+
+-- a text of one byte that is ASCII and no digit
+pub plain-byte : (t : List ℕ) → length t ≡ 1 → get_or t 0 0 < 128 → is_ascii_digit (get_or t 0 0) ≡ false → HasNoNumeric t
+plain-byte [] one small other = absurd (omega (arith, one))
+plain-byte (b ∷ []) one small other = record { digits = rw other refl; others = no_other-bytes (b ∷ []) (one_ascii b small) }
+plain-byte (b ∷ c ∷ t) one small other = absurd (omega (arith, one))
+
 no_other-append : (xs ys : List ℕ) → IsUtf8 xs → HasNoOther xs → HasNoOther ys → HasNoOther (xs ++ ys)
 no_other-append xs ys utf8 first second =
     ap (list_any is_other_numeral) (chars-append xs ys utf8) ∙ list_any-append is_other_numeral (chars xs) (chars ys) ∙ rw (first, second) refl
@@ -67,14 +76,14 @@ no_other-separated is_due s (d ∷ ds) utf8 none below =
     (no_other-separated is_due s ds utf8 none (All-tail (λ x. x < 10) d ds below)))
 
 -- the number of a text that spells one, whose minus sign and separator have no other numeral
-pub number-spelled : (f : FormatData) (t : List ℕ) (start : ℕ) (is_due : ℕ → Bool) (s ds : List ℕ) (count n most safe : ℕ) → IsPlainStart f t start → IsUtf8 t → SpellsNumber f t (denoted f t) →
-    drop start t ≡ separated is_due s ds → AreDigits ds → byte_figures s ≡ [] → list_any is_other_numeral (chars (take start t)) ≡ false → IsUtf8 s → list_any is_other_numeral (chars s) ≡ false →
+pub number-spelled : (f : FormatData) (t : List ℕ) (start : ℕ) (is_due : ℕ → Bool) (s ds : List ℕ) (count n most safe : ℕ) → HasPlainSign f t start → IsUtf8 t → SpellsNumber f t (denoted f t) →
+    drop start t ≡ separated is_due s ds → AreDigits ds → byte_figures s ≡ [] → IsUtf8 s → list_any is_other_numeral (chars s) ≡ false →
     count ≡ length ds → WriteFew safe ds n → count ≤ most → most ≤ safe → HasReadNumber f t most n
-number-spelled f t start is_due s ds count n most safe sign utf8 spells body below none sign_plain separator_utf8 plain counted write few short =
+number-spelled f t start is_due s ds count n most safe sign utf8 spells body below none separator_utf8 plain counted write few short =
     let all : HasNoOther t = subst HasNoOther (take-append-drop start t)
-    (no_other-append (take start t) (drop start t) sign.utf8 sign_plain (subst HasNoOther (sym body) (no_other-separated is_due s ds separator_utf8 plain below))) in
+    (no_other-append (take start t) (drop start t) sign.begin.utf8 sign.others (subst HasNoOther (sym body) (no_other-separated is_due s ds separator_utf8 plain below))) in
     let same : figures t ≡ ds = figures-bytes t utf8 ∙ ap byte_figures (sym (take-append-drop start t)) ∙ digits_among-append (take start t) (drop start t)
-    ∙ ap (λ xs. xs ++ byte_figures (drop start t)) sign.plain ∙ ap byte_figures body ∙ digits_among-separated is_due s ds none below in
+    ∙ ap (λ xs. xs ++ byte_figures (drop start t)) sign.begin.plain ∙ ap byte_figures body ∙ digits_among-separated is_due s ds none below in
     let some : ¬ (length (figures t) ≡ 0) = λ empty. figures-spelled f t utf8 spells (nil_from_length (figures t) empty) in
     let long = ap length same in
     record {

@@ -78,6 +78,11 @@ read-more most text start end n more next before inside digit appends =
           (write-more most (ds ++ figures_between text start end) more (b - 48) next (before.number ds below write) small appends);
     }
 
+-- a digit at a place
+pub record IsDigitAt (text : List ℕ) (place d : ℕ) : Type 0 where
+  pub digit : is_ascii_digit (get_or text place 0) ≡ true
+  pub value : d ≡ get_or text place 0 - 48
+
 -- digits between two places, as numbers
 pub record HasDigits (text : List ℕ) (start end : ℕ) : Type 0 where
   pub below : AreDigits (figures_between text start end)
@@ -124,3 +129,29 @@ pub unread-separator : (s text : List ℕ) (start behind : ℕ) → 0 < length s
 unread-separator s text start behind some found =
     let begin : begins s (drop start text) ≡ true = begins-given s (drop start text) some ∙ (starts_is Decides-eqb (drop start text) s (starts_with nat_eq (drop start text) s) refl).1 (drop behind text) found.text in
     unread-begins s (drop start text) begin ∙ ap (unread s 0) (ap (drop (length s)) found.text ∙ drop_at s (drop behind text) (length s) refl)
+
+-- a number is another with a group of digits appended, of which the last is d, if they have at most so many
+pub appends-last : (most n power group before d more : ℕ) → n * power + group ≡ before * 10 + d → d < 10 →
+    ((count : ℕ) → count ≤ most → n * power + group < 10 ^ count → more ≡ n * power + group) → Appends most before d more
+appends-last most n power group before d more same small given count below few =
+    let next : count + 1 ≡ suc count = omega arith in
+    let tenfold : 10 ^ (count + 1) ≡ 10 ^ count * 10 = ap (λ k. 10 ^ k) next ∙ pow-suc 10 count in
+    given (count + 1) (omega (arith, few)) (omega (arith, tenfold, below, small, same)) ∙ same
+
+-- two digits more
+pub read-two : (most : ℕ) (text : List ℕ) (place n first second more : ℕ) → place + 2 ≤ length text →
+    IsDigitAt text place first → IsDigitAt text (place + 1) second → Appends most (n * 10 + first) second more → HasReadDigits most text place (place + 2) n more
+read-two most text place n first second more within one two appends =
+    let end : place + 1 + 1 ≡ place + 2 = omega arith in
+    let none = read-none most text place n (omega (arith, within)) in
+    let before = read-more most text place place n n (n * 10 + first) none (omega (arith, within)) one.digit (λ _ _ _. ap (λ d. n * 10 + d) one.value) in
+    subst (λ e. HasReadDigits most text place e n more) end
+    (read-more most text place (place + 1) n (n * 10 + first) more before (omega (arith, within)) two.digit (subst (λ d. Appends most (n * 10 + first) d more) two.value appends))
+
+-- and one more
+pub read-next : (most : ℕ) (text : List ℕ) (place count n before d more : ℕ) → place + count + 1 ≤ length text → HasReadDigits most text place (place + count) n before →
+    IsDigitAt text (place + count) d → Appends most before d more → HasReadDigits most text place (place + (count + 1)) n more
+read-next most text place count n before d more within read digit appends =
+    let end : place + count + 1 ≡ place + (count + 1) = omega arith in
+    subst (λ e. HasReadDigits most text place e n more) end
+    (read-more most text place (place + count) n before more read (omega (arith, within)) digit.digit (subst (λ x. Appends most before x more) digit.value appends))

@@ -64,6 +64,16 @@ begins-one (c ∷ []) [] one some same = absurd (omega arith)
 begins-one (c ∷ []) (b ∷ t) one some same =
     (starts_is Decides-eqb (b ∷ t) (c ∷ []) (starts_with nat_eq (b ∷ t) (c ∷ [])) refl).1 t (ap (λ x. x ∷ t) same)
 
+-- a text begins with a byte if its first is the same
+pub starts-one : (s t : List ℕ) → length s ≡ 1 → 0 < length t → nat_eq (get_or t 0 0) (get_or s 0 0) ≡ starts_with nat_eq t s
+starts-one [] t one some = absurd (omega arith)
+starts-one (c ∷ d ∷ s) t one some = absurd (omega arith)
+starts-one (c ∷ []) t one some =
+    elim (cases_Bool (nat_eq (get_or t 0 0) c)) [
+      | inl same ↦ same ∙ sym (begins-one (c ∷ []) t refl some (grind (arith, nat_tests, same)))
+      | inr other ↦ other ∙ sym (begins-off (c ∷ []) t (λ same. both_ways _ other (grind (arith, nat_tests, same))))
+    ]
+
 -- a separator that a text begins with is not empty
 pub begins-some : (s t : List ℕ) → begins s t ≡ true → 0 < length s
 begins-some [] t wrong = cc

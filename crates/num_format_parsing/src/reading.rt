@@ -1,18 +1,18 @@
 //! Strict parsing of most texts in one pass: of digits, alone or in groups with a separator between them.
-ghost use Rattle.std.specs.Prelude.{◌≡◌, ℕ, List, ◌+◌, ◌<◌, ◌≤◌, [], true, false, length, take, drop, slice_index, IsTrue, IsUtf8, IfSome, MatchOption, MatchResult};
+ghost use Rattle.std.specs.Prelude.{◌≡◌, ℕ, List, ◌+◌, ◌-◌, ◌<◌, ◌≤◌, [], true, false, length, take, drop, slice_index, IsTrue, IsUtf8, IfSome, MatchOption, MatchResult};
 ghost use Rattle.std.specs.Char.{is_ascii, is_ascii_digit};
 ghost use Rattle.std.specs.List.{list_all, list_any};
 ghost use Rattle.std.specs.Str.{chars};
 ghost use Rattle.num_format_text.specs.declared.grouping.Grouping.TheVariants.{Posix};
 ghost use Rattle.num_format_text.specs.Format.{FormatData};
 ghost use Rattle.num_format_parsing.specs.Parts.{GroupsBy, HasReading, HasReadDigits, HasReadGroup, HasReadGroups, HasReadNumber, LacksGroup, LacksGroups};
-ghost use Rattle.num_format_parsing.specs.Shapes.{IsPlainStart, BeginsWithDigit, byte_figures};
+ghost use Rattle.num_format_parsing.specs.Shapes.{HasPlainSign, IsPlainStart, BeginsWithDigit, byte_figures};
 ghost use Rattle.num_format_parsing.specs.Reading.{denoted, is_other_numeral};
 ghost use Rattle.num_format_parsing.specs.Strict.{SpellsNumber, sign_len};
 
-use crate::numeral::is_other_numeral;
+use crate::numeral::is_plain;
 use crate::parsing::Accumulator;
-use crate::strict::{begins_with, begins_with_digit, has_digit};
+use crate::strict::{begins_with, begins_with_digit};
 use num_format_text::{Format, Grouping};
 
 /// What one pass over a text found.
@@ -27,7 +27,7 @@ pub(crate) enum Reading<A> {
         /// The number of these bytes.
         place: usize,
     },
-    /// One pass does not tell, since the minus sign or the separator has a digit.
+    /// One pass does not tell, since the separator has a numeric character.
     Unknown,
 }
 
@@ -49,25 +49,20 @@ struct Groups {
     least: usize,
 }
 
-/// Returns what one pass over a text finds. `sign` is its minus sign, and `most` the number of digits that
-/// it may have.
+/// Returns what one pass over a text finds. Its minus sign has the length `start`, and `most` is the number of
+/// digits that it may have.
 #[inline]
 pub(crate) fn read_text<F: Format, A: Accumulator>(
     text: &[u8],
-    sign: &str,
+    start: usize,
     most: usize,
     format: &F,
 ) -> Reading<A>
-    requires start { length sign.now ≡ sign_len (F.answers format.now) text.now }
-    requires within { length sign.now ≤ length text.now }
-    requires sign { sign.now ≡ take (length sign.now) text.now }
+    requires sign { HasPlainSign (F.answers format.now) text.now start }
+    requires within { start ≤ length text.now }
     requires few { most ≤ A.safe }
     ensures { HasReading A.number (F.answers format.now) text.now most result }
 {
-    let start = sign.len();
-    if has_digit(sign.as_bytes()) {
-        return Reading::Unknown;
-    }
     if !begins_with_digit(&text[start..]) {
         return read_zero(text, start, most);
     }
@@ -78,9 +73,9 @@ pub(crate) fn read_text<F: Format, A: Accumulator>(
     };
     let first = read_digits(text, none, text.len());
     if first.end == text.len() {
-        return spelled(first, most, sign, "");
+        return spelled(first, most);
     }
-    read_grouped(text, sign, first.end, first.magnitude, most, format)
+    read_grouped(text, start, first.end, first.magnitude, most, format)
 }
 
 /// Returns the same of a text whose first digits, up to `end`, write `magnitude`, if they are few, and do not
@@ -90,22 +85,20 @@ pub(crate) fn read_text<F: Format, A: Accumulator>(
 #[inline(never)]
 fn read_grouped<F: Format, A: Accumulator>(
     text: &[u8],
-    sign: &str,
+    start: usize,
     end: usize,
     magnitude: A,
     most: usize,
     format: &F,
 ) -> Reading<A>
-    requires sign { IsPlainStart (F.answers format.now) text.now (length sign.now) }
-    requires same { sign.now ≡ take (length sign.now) text.now }
-    requires begin { BeginsWithDigit (drop (length sign.now) text.now) }
-    requires read { HasReadDigits A.safe text.now (length sign.now) end 0 (A.number magnitude) }
+    requires sign { HasPlainSign (F.answers format.now) text.now start }
+    requires begin { BeginsWithDigit (drop start text.now) }
+    requires read { HasReadDigits A.safe text.now start end 0 (A.number magnitude) }
     requires inside { end < length text.now }
     requires stop { is_ascii_digit (slice_index text.now end) ≡ false }
     requires few { most ≤ A.safe }
     ensures { HasReading A.number (F.answers format.now) text.now most result }
 {
-    let start = sign.len();
     let Some(groups) = groups_of(format.grouping()) else {
         return Reading::Unspelled { place: end };
     };
@@ -114,7 +107,7 @@ fn read_grouped<F: Format, A: Accumulator>(
     if bytes.is_empty() {
         return Reading::Unspelled { place: end };
     }
-    if has_digit(bytes) {
+    if !is_plain(separator) {
         return Reading::Unknown;
     }
     if text.len() - start < groups.least + bytes.len() {
@@ -125,8 +118,8 @@ fn read_grouped<F: Format, A: Accumulator>(
         figures: end - start,
         magnitude,
     };
-    match read_groups(text, start, first, bytes, groups) {
-        Ok(whole) => spelled(whole, most, sign, separator),
+    match read_by(text, start, first, bytes, groups) {
+        Ok(whole) => spelled(whole, most),
         Err(place) => Reading::Unspelled { place },
     }
 }
@@ -152,45 +145,17 @@ fn read_zero<A: Accumulator>(text: &[u8], start: usize, most: usize) -> Reading<
 }
 
 /// Returns what was found in a text that was read to its end and spells the number that it denotes: that
-/// number, if it is short, and no character of the minus sign and the separator is another numeral.
+/// number, if it is short.
 #[inline]
-fn spelled<A: Accumulator>(whole: Part<A>, most: usize, sign: &str, separator: &str) -> Reading<A>
+fn spelled<A: Accumulator>(whole: Part<A>, most: usize) -> Reading<A>
     ensures { (f : FormatData) (t : List ℕ) → IsUtf8 t → SpellsNumber f t (denoted f t)
-        → (list_any is_other_numeral (chars sign.now) ≡ false
-        → list_any is_other_numeral (chars separator.now) ≡ false
-        → whole.figures ≤ most → HasReadNumber f t most (A.number whole.magnitude))
+        → (whole.figures ≤ most → HasReadNumber f t most (A.number whole.magnitude))
         → HasReading A.number f t most result }
 {
-    if has_other_numeral(sign) {
-        return Reading::Spelled;
-    }
-    if has_other_numeral(separator) {
-        return Reading::Spelled;
-    }
     if whole.figures > most {
         return Reading::Spelled;
     }
     Reading::Number(whole.magnitude)
-}
-
-/// Returns whether a character is numeric and none of the digits `0` to `9`. Most texts are ASCII, and have
-/// none of those.
-#[inline]
-fn has_other_numeral(text: &str) -> bool
-    ensures { result ≡ list_any is_other_numeral (chars text.now) }
-{
-    if is_ascii(text.as_bytes()) {
-        return false;
-    }
-    any_other_numeral(text)
-}
-
-/// Returns the same, character by character. It stays out of what is read of a text in ASCII.
-#[inline(never)]
-fn any_other_numeral(text: &str) -> bool
-    ensures { result ≡ list_any is_other_numeral (chars text.now) }
-{
-    text.chars().any(is_other_numeral)
 }
 
 /// Returns how a grouping groups digits, or `None` if it does not.
@@ -224,14 +189,6 @@ fn groups_of(grouping: Grouping) -> Option<Groups>
     }
 }
 
-/// Returns whether all bytes are ASCII.
-#[inline]
-fn is_ascii(bytes: &[u8]) -> bool
-    ensures { result ≡ list_all is_ascii bytes.now }
-{
-    bytes.iter().all(|byte| byte.is_ascii())
-}
-
 /// Returns the part of a text with the digits that follow it, up to `end`.
 #[inline]
 fn read_digits<A: Accumulator>(text: &[u8], from: Part<A>, end: usize) -> Part<A>
@@ -258,26 +215,25 @@ fn read_digits<A: Accumulator>(text: &[u8], from: Part<A>, end: usize) -> Part<A
     part
 }
 
-/// Returns the number with the digit at a place appended to its digits, or `None` if no digit is there.
-#[inline]
-fn push_at<A: Accumulator>(text: &[u8], place: usize, magnitude: A) -> Option<A>
+/// Returns the digit at a place, or `None` if no digit is there.
+#[inline(always)]
+fn digit_at(text: &[u8], place: usize) -> Option<u16>
     requires { place < length text.now }
-    ensures { IfSome result (λ more. (start n : ℕ)
-        → HasReadDigits A.safe text.now start place n (A.number magnitude)
-        → HasReadDigits A.safe text.now start (place + 1) n (A.number more)) }
+    ensures { IfSome result (λ digit. (is_ascii_digit (slice_index text.now place) ≡ true)
+        × (digit ≡ slice_index text.now place - 48) × (digit < 10)) }
 {
     let byte = text[place];
     if !byte.is_ascii_digit() {
         return None;
     }
-    Some(magnitude.push_wrapping(byte - b'0'))
+    Some((byte - b'0') as u16)
 }
 
 /// Returns the number with the `count` digits from a place on appended to its digits. It may return `None`
 /// for any text, and does so if they are no digits.
 ///
-/// It has no loop, since most groups are this short.
-#[inline]
+/// It has no loop, since most groups are this short, and appends them by one product.
+#[inline(always)]
 fn push_few<A: Accumulator>(text: &[u8], place: usize, count: usize, magnitude: A) -> Option<A>
     requires { place + count ≤ length text.now }
     ensures { IfSome result (λ more. HasReadDigits A.safe text.now place (place + count)
@@ -286,16 +242,39 @@ fn push_few<A: Accumulator>(text: &[u8], place: usize, count: usize, magnitude: 
     if count < 2 {
         return None;
     }
-    let one = push_at(text, place, magnitude)?;
-    let two = push_at(text, place + 1, one)?;
+    let first = digit_at(text, place)?;
+    let second = digit_at(text, place + 1)?;
+    let two = first * 10 + second;
     if count == 2 {
-        return Some(two);
+        return Some(magnitude.push_group(100, two));
     }
-    let three = push_at(text, place + 2, two)?;
+    let third = digit_at(text, place + 2)?;
+    let three = two * 10 + third;
     if count == 3 {
-        return Some(three);
+        return Some(magnitude.push_group(1_000, three));
+    }
+    let fourth = digit_at(text, place + 3)?;
+    let four = three * 10 + fourth;
+    if count == 4 {
+        return Some(magnitude.push_group(10_000, four));
     }
     None
+}
+
+/// Returns the part of a text with the digits that follow it, up to `end`, for groups that are no digits or
+/// longer than most. It stays out of the loop over groups.
+#[cold]
+#[inline(never)]
+fn read_slowly<A: Accumulator>(text: &[u8], from: Part<A>, end: usize) -> Part<A>
+    requires order { from.end ≤ end }
+    requires within { end ≤ length text.now }
+    requires figures { from.figures ≤ from.end }
+    ensures read { HasReadDigits A.safe text.now from.end result.end (A.number from.magnitude) (A.number result.magnitude) }
+    ensures within { result.end ≤ end }
+    ensures figures { result.figures + from.end ≡ from.figures + result.end }
+    ensures stop { result.end < end → is_ascii_digit (slice_index text.now result.end) ≡ false }
+{
+    read_digits(text, from, end)
 }
 
 /// Returns the part of a text with the separator and the `count` digits that follow it, or the place where
@@ -337,11 +316,46 @@ fn read_group<A: Accumulator>(
         figures: from.figures,
         magnitude: from.magnitude,
     };
-    let part = read_digits(text, behind, end);
+    let part = read_slowly(text, behind, end);
     if part.end != end {
         return Err(part.end);
     }
     Ok(part)
+}
+
+/// Returns the whole text, if groups of digits follow the first part, which may have fewer digits than a
+/// group, or the place where they do not.
+///
+/// The sizes of most groups and a separator of one byte are numbers that the loop then knows where it is
+/// compiled.
+#[inline(always)]
+fn read_by<A: Accumulator>(
+    text: &[u8],
+    start: usize,
+    first: Part<A>,
+    separator: &[u8],
+    groups: Groups,
+) -> Result<Part<A>, usize>
+    requires read { HasReadDigits A.safe text.now start first.end 0 (A.number first.magnitude) }
+    requires some { start < first.end }
+    requires figures { first.figures + start ≡ first.end }
+    requires inside { first.end < length text.now }
+    requires stop { is_ascii_digit (slice_index text.now first.end) ≡ false }
+    requires plain { byte_figures separator.now ≡ [] }
+    requires separator { 0 < length separator.now }
+    requires size { 0 < groups.size }
+    requires last { groups.size ≤ groups.last }
+    requires few { groups.last < 8 }
+    ensures { MatchResult result
+        (λ whole. HasReadGroups A.safe groups.last groups.size separator.now text.now start
+        whole.figures (A.number whole.magnitude))
+        (λ place. LacksGroups groups.last groups.size separator.now text.now start place) }
+{
+    match (separator.len(), groups.size, groups.last) {
+        (1, 3, 3) => read_groups(text, start, first, separator, groups),
+        (1, 2, 3) => read_groups(text, start, first, separator, groups),
+        _ => read_groups(text, start, first, separator, groups),
+    }
 }
 
 /// Returns the whole text, if groups of digits follow the first part, which may have fewer digits than a

@@ -2,17 +2,18 @@
 //!
 //! A text *spells* a number if it is the text of the number under the format, or that text without
 //! separators. Strict parsing returns the number that a text spells, and refuses every other text.
-ghost use Rattle.std.specs.Prelude.{◌≡◌, ◌↔◌, ◌-◌, ◌<◌, ◌≤◌, [], if◌then◌else◌, IsTrue, take, drop, length, Some, IsUtf8, MatchOption, MatchResult};
+ghost use Rattle.std.specs.Prelude.{◌≡◌, ◌↔◌, nat_eq, ◌-◌, ◌<◌, ◌≤◌, [], true, if◌then◌else◌, IsTrue, take, drop, length, Some, IsUtf8, MatchOption, MatchResult};
 ghost use Rattle.std.specs.Char.{is_ascii_digit};
 ghost use Rattle.std.specs.Int.Digits.{number_from_digits};
-ghost use Rattle.std.specs.List.{list_any};
+ghost use Rattle.std.specs.List.{list_any, starts_with};
 ghost use Rattle.num_format_int.specs.Grouped.{stands, grouped, printed_separator};
 ghost use Rattle.num_format_int.specs.Kind.{Kind};
 ghost use Rattle.num_format_parsing.specs.Reading.{denoted, figures};
 ghost use Rattle.num_format_parsing.specs.Strict.{SpellsNumber, ParsesStrictly, IsCause, IsExpected, begins, unread, unexpected, sign_len, strict_message_of};
 ghost use Rattle.num_format_parsing.specs.Parts.{IsUnspelled};
-ghost use Rattle.num_format_parsing.specs.Shapes.{BeginsWithDigit, byte_figures};
+ghost use Rattle.num_format_parsing.specs.Shapes.{BeginsWithDigit, HasNoNumeric, byte_figures};
 
+use crate::numeral::is_plain;
 use crate::parsing::{Accumulator, SAFE_FIGURES, parse};
 use crate::reading::{Reading, read_text};
 use num_format_int::sealed::Sealed;
@@ -96,10 +97,13 @@ fn parse_by<N: Sealed, F: Format, A: Accumulator>(
         (λ e. IsCause N.kind (F.answers format.now) bytes.now e) }
 {
     let minus_sign = format.minus_sign().into_str();
-    let is_negative = bytes.starts_with(minus_sign.as_bytes());
-    let sign = if is_negative { minus_sign } else { "" };
+    let is_negative = is_prefix(bytes, minus_sign.as_bytes());
+    let start = if is_negative { minus_sign.len() } else { 0 };
+    if !has_plain_sign(minus_sign, is_negative) {
+        return parse_unknown(bytes, is_text, start, format);
+    }
     let most = most_figures(N::limit(), is_negative, A::safe_figures());
-    match read_text::<F, A>(bytes, sign, most, format) {
+    match read_text::<F, A>(bytes, start, most, format) {
         Reading::Number(magnitude) => {
             match N::from_sign_and_magnitude(is_negative, magnitude.number()) {
                 Some(number) => Ok(number),
@@ -108,8 +112,33 @@ fn parse_by<N: Sealed, F: Format, A: Accumulator>(
         }
         Reading::Spelled => parse_spelled(bytes, format),
         Reading::Unspelled { place } => Err(cause(bytes, is_text, place, format)),
-        Reading::Unknown => parse_unknown(bytes, is_text, sign.len(), format),
+        Reading::Unknown => parse_unknown(bytes, is_text, start, format),
     }
+}
+
+/// Returns true only if the minus sign of a negative text has no numeric character.
+///
+/// One of one byte is tested for each text, since the processor mistakes a branch on the sign.
+#[inline]
+fn has_plain_sign(minus_sign: &str, is_negative: bool) -> bool
+    ensures { IsTrue result → is_negative ≡ true → HasNoNumeric minus_sign.now }
+{
+    if minus_sign.len() != 1 && !is_negative {
+        return true;
+    }
+    is_plain(minus_sign)
+}
+
+/// Returns whether a text begins with a prefix. Most are one byte, whose comparison takes less time than a
+/// call.
+#[inline]
+pub(crate) fn is_prefix(text: &[u8], prefix: &[u8]) -> bool
+    ensures { result ≡ starts_with nat_eq text.now prefix.now }
+{
+    if prefix.len() == 1 && !text.is_empty() {
+        return text[0] == prefix[0];
+    }
+    text.starts_with(prefix)
 }
 
 /// Returns how many digits a text may have: at most the limit, of which a minus sign counts as one, and

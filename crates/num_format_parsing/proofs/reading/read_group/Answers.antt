@@ -14,9 +14,9 @@ returns-then-part-end g c =
     let text = c.args.text.now in
     let start = c.args.from.end in
     let s = c.args.separator.now in
-    let read = c.read_digits-part.ensures in
+    let read = c.read_slowly-part.ensures in
     let begin : begins s (drop start text) ≡ true = ap (begins s) (sym (take_rest text start)) ∙ sym c.begins_with.ensures ∙ c.if-not-begins_with.false in
-    let early : c.read_digits-part.result.end < start + length s + c.args.count = omega (arith, read.within, c.if-part-end.true) in
+    let early : c.read_slowly-part.result.end < start + length s + c.args.count = omega (arith, read.within, c.if-part-end.true) in
     without_digit (start + length s) (ends-separator s text start begin) read.read.order early (omega (arith, early, c.requires.room)) read.read.digits (read.stop early)
 
 pub returns : goal.returns
@@ -24,7 +24,7 @@ returns g c =
     let text = c.args.text.now in
     let start = c.args.from.end in
     let s = c.args.separator.now in
-    let read = c.read_digits-part.ensures in
+    let read = c.read_slowly-part.ensures in
     let begin : begins s (drop start text) ≡ true = ap (begins s) (sym (take_rest text start)) ∙ sym c.begins_with.ensures ∙ c.if-not-begins_with.false in (
       record {
         behind = start + length s;
