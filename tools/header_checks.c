@@ -50,6 +50,8 @@ COLUMN_CALLS(u8, uint8_t);
 COLUMN_CALLS(u16, uint16_t);
 COLUMN_CALLS(u32, uint32_t);
 COLUMN_CALLS(u64, uint64_t);
+COLUMN_CALLS(i128, num_format_wide);
+COLUMN_CALLS(u128, num_format_wide);
 
 /* The longest text: -2^127 under Indian, with a separator and a minus sign of 8 bytes. */
 static const char longest[] =
@@ -402,15 +404,15 @@ static void check_longest(void) {
     check_bytes("the longest decimal", decimal, longest_decimal);
 }
 
-/* Columns of a type, one of whose ends is `end`, printed and parsed with offsets of either size. */
-#define CHECK_COLUMNS(name, type, end, end_text) do { \
-        static const type numbers[] = {7, (type)(end), 100}; \
+/* Columns of 7, a number at an end of the type and 100, printed and parsed with offsets of either size. */
+#define CHECK_COLUMNS(name, type, seven, end, hundred, end_text) do { \
+        static const type numbers[] = {seven, end, hundred}; \
         static const char texts[] = "7" end_text "100"; \
         const size_t size = sizeof texts - 1; \
-        type parsed[3] = {1, 1, 1}; \
+        type parsed[3]; \
         int32_t offsets[4], statuses[3]; \
         int64_t large[4]; \
-        char bytes[32]; \
+        char bytes[64]; \
         size_t length = 0; \
         CHECK(num_format_print_##name##_column_len(&de, numbers, 3, &length), 0); \
         compare("length for " #name, (long long)length, (long long)size); \
@@ -424,26 +426,34 @@ static void check_longest(void) {
         memset(parsed, 0, sizeof parsed); \
         CHECK(num_format_parse_##name##_large_column(&de, large, 4, bytes, size, parsed, 3, statuses, 3), 0); \
         compare("parsed, large, for " #name, memcmp(parsed, numbers, sizeof numbers), 0); \
-        bytes[0] = 'x', parsed[0] = 9; \
+        bytes[0] = 'x'; \
+        memset(parsed, 0x55, sizeof parsed); \
+        const type kept = parsed[0]; \
         CHECK(num_format_parse_strict_##name##_column(&de, offsets, 4, bytes, size, parsed, 3, statuses, 3), 0); \
-        compare("refused for " #name, statuses[0] == NUM_FORMAT_UNEXPECTED && parsed[0] == 9 && statuses[1] == 0, 1); \
+        compare("refused for " #name, statuses[0] == NUM_FORMAT_UNEXPECTED && memcmp(&kept, parsed, sizeof kept) == 0 && statuses[1] == 0, 1); \
         CHECK(num_format_parse_strict_##name##_large_column(&de, large, 4, bytes, size, parsed, 3, statuses, 3), 0); \
         CHECK(num_format_print_##name##_column(&de, numbers, 3, offsets, 3, bytes, size), NUM_FORMAT_BAD_LENGTH); \
         CHECK(num_format_print_##name##_column(&de, numbers, 3, offsets, 4, bytes, size - 1), NUM_FORMAT_TOO_SMALL); \
         CHECK(num_format_parse_##name##_column(&de, offsets, 4, bytes, size - 1, parsed, 3, statuses, 3), NUM_FORMAT_BAD_OFFSETS); \
     } while (0)
 
+/* A number of 128 bits in a column. */
+#define WIDE(low, high) {low, high}
+
 static void check_columns(void) {
     num_format de;
     CHECK(num_format_locale(&de, "de", 2), 0);
-    CHECK_COLUMNS(i8, int8_t, INT8_MIN, "-128");
-    CHECK_COLUMNS(i16, int16_t, INT16_MIN, "-32.768");
-    CHECK_COLUMNS(i32, int32_t, INT32_MIN, "-2.147.483.648");
-    CHECK_COLUMNS(i64, int64_t, INT64_MIN, "-9.223.372.036.854.775.808");
-    CHECK_COLUMNS(u8, uint8_t, UINT8_MAX, "255");
-    CHECK_COLUMNS(u16, uint16_t, UINT16_MAX, "65.535");
-    CHECK_COLUMNS(u32, uint32_t, UINT32_MAX, "4.294.967.295");
-    CHECK_COLUMNS(u64, uint64_t, UINT64_MAX, "18.446.744.073.709.551.615");
+    CHECK_COLUMNS(i8, int8_t, 7, INT8_MIN, 100, "-128");
+    CHECK_COLUMNS(i16, int16_t, 7, INT16_MIN, 100, "-32.768");
+    CHECK_COLUMNS(i32, int32_t, 7, INT32_MIN, 100, "-2.147.483.648");
+    CHECK_COLUMNS(i64, int64_t, 7, INT64_MIN, 100, "-9.223.372.036.854.775.808");
+    CHECK_COLUMNS(u8, uint8_t, 7, UINT8_MAX, 100, "255");
+    CHECK_COLUMNS(u16, uint16_t, 7, UINT16_MAX, 100, "65.535");
+    CHECK_COLUMNS(u32, uint32_t, 7, UINT32_MAX, 100, "4.294.967.295");
+    CHECK_COLUMNS(u64, uint64_t, 7, UINT64_MAX, 100, "18.446.744.073.709.551.615");
+    CHECK_COLUMNS(i128, num_format_wide, WIDE(7, 0), WIDE(0, (uint64_t)1 << 63), WIDE(100, 0),
+                  "-170.141.183.460.469.231.731.687.303.715.884.105.728");
+    CHECK_COLUMNS(u128, num_format_wide, WIDE(7, 0), WIDE(0, 1), WIDE(100, 0), "18.446.744.073.709.551.616");
 }
 
 static void check_names(void) {

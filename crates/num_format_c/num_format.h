@@ -257,7 +257,14 @@ uint32_t num_format_version(void);
  * offset k and ends where offset k + 1 says. Offsets are of 32 bits, or in the calls named `large` of 64
  * bits. None is below 0.
  *
- * An array is aligned as C aligns its type. */
+ * An array is aligned as C aligns its type. An array that is empty has a length of 0, and a pointer that is
+ * not null. */
+
+/* A number of 128 bits in a column, by its low and its high half, as an __int128 lies in memory. */
+typedef struct num_format_wide {
+    uint64_t low;
+    uint64_t high;
+} num_format_wide;
 
 /* Print n numbers, write the n + 1 offsets of their texts, of which the first is 0, and return 0. Text k is
  * as by num_format_print_i64. The bytes after the last text are as they were.
@@ -275,6 +282,8 @@ int32_t num_format_print_i32_column(const num_format *format, const int32_t *num
                                     int32_t *offsets, size_t offsets_length, char *bytes, size_t capacity);
 int32_t num_format_print_i64_column(const num_format *format, const int64_t *numbers, size_t n,
                                     int32_t *offsets, size_t offsets_length, char *bytes, size_t capacity);
+int32_t num_format_print_i128_column(const num_format *format, const num_format_wide *numbers, size_t n,
+                                     int32_t *offsets, size_t offsets_length, char *bytes, size_t capacity);
 int32_t num_format_print_u8_column(const num_format *format, const uint8_t *numbers, size_t n,
                                    int32_t *offsets, size_t offsets_length, char *bytes, size_t capacity);
 int32_t num_format_print_u16_column(const num_format *format, const uint16_t *numbers, size_t n,
@@ -283,6 +292,8 @@ int32_t num_format_print_u32_column(const num_format *format, const uint32_t *nu
                                     int32_t *offsets, size_t offsets_length, char *bytes, size_t capacity);
 int32_t num_format_print_u64_column(const num_format *format, const uint64_t *numbers, size_t n,
                                     int32_t *offsets, size_t offsets_length, char *bytes, size_t capacity);
+int32_t num_format_print_u128_column(const num_format *format, const num_format_wide *numbers, size_t n,
+                                     int32_t *offsets, size_t offsets_length, char *bytes, size_t capacity);
 int32_t num_format_print_i8_large_column(const num_format *format, const int8_t *numbers, size_t n,
                                          int64_t *offsets, size_t offsets_length, char *bytes,
                                          size_t capacity);
@@ -295,6 +306,9 @@ int32_t num_format_print_i32_large_column(const num_format *format, const int32_
 int32_t num_format_print_i64_large_column(const num_format *format, const int64_t *numbers, size_t n,
                                           int64_t *offsets, size_t offsets_length, char *bytes,
                                           size_t capacity);
+int32_t num_format_print_i128_large_column(const num_format *format, const num_format_wide *numbers,
+                                           size_t n, int64_t *offsets, size_t offsets_length, char *bytes,
+                                           size_t capacity);
 int32_t num_format_print_u8_large_column(const num_format *format, const uint8_t *numbers, size_t n,
                                          int64_t *offsets, size_t offsets_length, char *bytes,
                                          size_t capacity);
@@ -307,6 +321,9 @@ int32_t num_format_print_u32_large_column(const num_format *format, const uint32
 int32_t num_format_print_u64_large_column(const num_format *format, const uint64_t *numbers, size_t n,
                                           int64_t *offsets, size_t offsets_length, char *bytes,
                                           size_t capacity);
+int32_t num_format_print_u128_large_column(const num_format *format, const num_format_wide *numbers,
+                                           size_t n, int64_t *offsets, size_t offsets_length, char *bytes,
+                                           size_t capacity);
 
 /* Write how many bytes the texts of n numbers have together, and return 0.
  *
@@ -319,6 +336,8 @@ int32_t num_format_print_i32_column_len(const num_format *format, const int32_t 
                                         size_t *length);
 int32_t num_format_print_i64_column_len(const num_format *format, const int64_t *numbers, size_t n,
                                         size_t *length);
+int32_t num_format_print_i128_column_len(const num_format *format, const num_format_wide *numbers, size_t n,
+                                         size_t *length);
 int32_t num_format_print_u8_column_len(const num_format *format, const uint8_t *numbers, size_t n,
                                        size_t *length);
 int32_t num_format_print_u16_column_len(const num_format *format, const uint16_t *numbers, size_t n,
@@ -327,6 +346,8 @@ int32_t num_format_print_u32_column_len(const num_format *format, const uint32_t
                                         size_t *length);
 int32_t num_format_print_u64_column_len(const num_format *format, const uint64_t *numbers, size_t n,
                                         size_t *length);
+int32_t num_format_print_u128_column_len(const num_format *format, const num_format_wide *numbers, size_t n,
+                                         size_t *length);
 
 /* Parse n texts of a column as numbers of the type, and return 0. Row k is as by num_format_parse_i64:
  * status k is what that call returns for the text, and number k is written where it is 0, and else as it
@@ -352,6 +373,10 @@ int32_t num_format_parse_i32_column(const num_format *format, const int32_t *off
 int32_t num_format_parse_i64_column(const num_format *format, const int32_t *offsets, size_t offsets_length,
                                     const char *bytes, size_t bytes_length, int64_t *numbers, size_t n,
                                     int32_t *statuses, size_t statuses_length);
+int32_t num_format_parse_i128_column(const num_format *format, const int32_t *offsets,
+                                     size_t offsets_length, const char *bytes, size_t bytes_length,
+                                     num_format_wide *numbers, size_t n, int32_t *statuses,
+                                     size_t statuses_length);
 int32_t num_format_parse_u8_column(const num_format *format, const int32_t *offsets, size_t offsets_length,
                                    const char *bytes, size_t bytes_length, uint8_t *numbers, size_t n,
                                    int32_t *statuses, size_t statuses_length);
@@ -364,6 +389,10 @@ int32_t num_format_parse_u32_column(const num_format *format, const int32_t *off
 int32_t num_format_parse_u64_column(const num_format *format, const int32_t *offsets, size_t offsets_length,
                                     const char *bytes, size_t bytes_length, uint64_t *numbers, size_t n,
                                     int32_t *statuses, size_t statuses_length);
+int32_t num_format_parse_u128_column(const num_format *format, const int32_t *offsets,
+                                     size_t offsets_length, const char *bytes, size_t bytes_length,
+                                     num_format_wide *numbers, size_t n, int32_t *statuses,
+                                     size_t statuses_length);
 int32_t num_format_parse_i8_large_column(const num_format *format, const int64_t *offsets,
                                          size_t offsets_length, const char *bytes, size_t bytes_length,
                                          int8_t *numbers, size_t n, int32_t *statuses,
@@ -380,6 +409,10 @@ int32_t num_format_parse_i64_large_column(const num_format *format, const int64_
                                           size_t offsets_length, const char *bytes, size_t bytes_length,
                                           int64_t *numbers, size_t n, int32_t *statuses,
                                           size_t statuses_length);
+int32_t num_format_parse_i128_large_column(const num_format *format, const int64_t *offsets,
+                                           size_t offsets_length, const char *bytes, size_t bytes_length,
+                                           num_format_wide *numbers, size_t n, int32_t *statuses,
+                                           size_t statuses_length);
 int32_t num_format_parse_u8_large_column(const num_format *format, const int64_t *offsets,
                                          size_t offsets_length, const char *bytes, size_t bytes_length,
                                          uint8_t *numbers, size_t n, int32_t *statuses,
@@ -396,6 +429,10 @@ int32_t num_format_parse_u64_large_column(const num_format *format, const int64_
                                           size_t offsets_length, const char *bytes, size_t bytes_length,
                                           uint64_t *numbers, size_t n, int32_t *statuses,
                                           size_t statuses_length);
+int32_t num_format_parse_u128_large_column(const num_format *format, const int64_t *offsets,
+                                           size_t offsets_length, const char *bytes, size_t bytes_length,
+                                           num_format_wide *numbers, size_t n, int32_t *statuses,
+                                           size_t statuses_length);
 
 /* The same, with row k as by num_format_parse_strict_i64 but for its `at`.
  *
@@ -417,6 +454,10 @@ int32_t num_format_parse_strict_i64_column(const num_format *format, const int32
                                            size_t offsets_length, const char *bytes, size_t bytes_length,
                                            int64_t *numbers, size_t n, int32_t *statuses,
                                            size_t statuses_length);
+int32_t num_format_parse_strict_i128_column(const num_format *format, const int32_t *offsets,
+                                            size_t offsets_length, const char *bytes, size_t bytes_length,
+                                            num_format_wide *numbers, size_t n, int32_t *statuses,
+                                            size_t statuses_length);
 int32_t num_format_parse_strict_u8_column(const num_format *format, const int32_t *offsets,
                                           size_t offsets_length, const char *bytes, size_t bytes_length,
                                           uint8_t *numbers, size_t n, int32_t *statuses,
@@ -433,6 +474,10 @@ int32_t num_format_parse_strict_u64_column(const num_format *format, const int32
                                            size_t offsets_length, const char *bytes, size_t bytes_length,
                                            uint64_t *numbers, size_t n, int32_t *statuses,
                                            size_t statuses_length);
+int32_t num_format_parse_strict_u128_column(const num_format *format, const int32_t *offsets,
+                                            size_t offsets_length, const char *bytes, size_t bytes_length,
+                                            num_format_wide *numbers, size_t n, int32_t *statuses,
+                                            size_t statuses_length);
 int32_t num_format_parse_strict_i8_large_column(const num_format *format, const int64_t *offsets,
                                                 size_t offsets_length, const char *bytes,
                                                 size_t bytes_length, int8_t *numbers, size_t n,
@@ -449,6 +494,10 @@ int32_t num_format_parse_strict_i64_large_column(const num_format *format, const
                                                  size_t offsets_length, const char *bytes,
                                                  size_t bytes_length, int64_t *numbers, size_t n,
                                                  int32_t *statuses, size_t statuses_length);
+int32_t num_format_parse_strict_i128_large_column(const num_format *format, const int64_t *offsets,
+                                                  size_t offsets_length, const char *bytes,
+                                                  size_t bytes_length, num_format_wide *numbers, size_t n,
+                                                  int32_t *statuses, size_t statuses_length);
 int32_t num_format_parse_strict_u8_large_column(const num_format *format, const int64_t *offsets,
                                                 size_t offsets_length, const char *bytes,
                                                 size_t bytes_length, uint8_t *numbers, size_t n,
@@ -465,6 +514,10 @@ int32_t num_format_parse_strict_u64_large_column(const num_format *format, const
                                                  size_t offsets_length, const char *bytes,
                                                  size_t bytes_length, uint64_t *numbers, size_t n,
                                                  int32_t *statuses, size_t statuses_length);
+int32_t num_format_parse_strict_u128_large_column(const num_format *format, const int64_t *offsets,
+                                                  size_t offsets_length, const char *bytes,
+                                                  size_t bytes_length, num_format_wide *numbers, size_t n,
+                                                  int32_t *statuses, size_t statuses_length);
 
 /* Returns what a status means, as a text that is never freed: "ok" for 0 and above. */
 static inline const char *num_format_strerror(int32_t status) {

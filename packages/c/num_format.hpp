@@ -38,7 +38,7 @@ NUMFMT_ERROR(out_of_range);
 NUMFMT_ERROR(too_many_bytes);
 #undef NUMFMT_ERROR
 /// Throws the exception of a status below 0, and else returns it.
-inline std::int32_t check(std::int32_t status, std::size_t at = 0) {
+inline std::int32_t check(std::int32_t status, const std::size_t &at = 0) {
     switch (status) {
     case NUM_FORMAT_NOT_UTF8: throw not_utf8(status);
     case NUM_FORMAT_NOT_A_NUMBER: throw not_a_number(status);
@@ -50,9 +50,8 @@ inline std::int32_t check(std::int32_t status, std::size_t at = 0) {
     case NUM_FORMAT_MISSPELLED: throw misspelled(status);
     case NUM_FORMAT_OUT_OF_RANGE: throw out_of_range(status);
     case NUM_FORMAT_TOO_MANY_BYTES: throw too_many_bytes(status);
-    default: break;
+    default: return status < 0 ? throw error(status) : status;
     }
-    return status < 0 ? throw error(status) : status;
 }
 
 /// The texts of numbers, one after another: text k is between offset k and offset k + 1.
@@ -102,12 +101,10 @@ public:
         static_assert(is_number<T>, "an integer of at most 64 bits");
         std::conditional_t<std::is_signed_v<T>, std::int64_t, std::uint64_t> number = 0;
         std::size_t at = 0;
-        std::int32_t status;
         if constexpr (std::is_signed_v<T>)
-            status = num_format_parse_strict_i64(&held, 8 * sizeof(T), pointer(text), text.size(), &number, &at);
+            check(num_format_parse_strict_i64(&held, 8 * sizeof(T), pointer(text), text.size(), &number, &at), at);
         else
-            status = num_format_parse_strict_u64(&held, 8 * sizeof(T), pointer(text), text.size(), &number, &at);
-        check(status, at);
+            check(num_format_parse_strict_u64(&held, 8 * sizeof(T), pointer(text), text.size(), &number, &at), at);
         return T(number);
     }
 
@@ -117,7 +114,7 @@ public:
         const std::int64_t *first = numbers.empty() ? &none : numbers.data();
         std::size_t size = 0;
         check(num_format_print_i64_column_len(&held, first, numbers.size(), &size));
-        column made{std::vector<std::int64_t>(numbers.size() + 1), std::string(size, '\0')};
+        column made{std::vector<std::int64_t>(numbers.size() + 1), std::string(size, '0')};
         check(num_format_print_i64_large_column(&held, first, numbers.size(), made.offsets.data(), made.offsets.size(),
                                                 made.bytes.data(), size));
         return made;
@@ -131,7 +128,7 @@ public:
         check(num_format_parse_strict_i64_large_column(&held, texts.offsets.data(), n + 1, texts.bytes.data(),
                                                        texts.bytes.size(), numbers.data(), n, statuses.data(), n));
         for (std::size_t k = 0; k < n; k++)
-            if (statuses[k] < 0) numbers[k] = parse<std::int64_t>(texts[k]);
+            if (statuses[k] < 0) parse<std::int64_t>(texts[k]);
         numbers.resize(n);
         return numbers;
     }
@@ -141,7 +138,6 @@ public:
 
     bool operator==(const format &other) const { return bytes() == other.bytes(); }
     bool operator!=(const format &other) const { return bytes() != other.bytes(); }
-
 private:
     format() : held() {}
     std::string_view bytes() const { return {reinterpret_cast<const char *>(&held), sizeof held}; }

@@ -2,10 +2,20 @@
 use Rattle.std.specs.Prelude.{◌≡◌, ◌≢◌, ℕ, ◌+◌, ◌^◌, ◌<◌, ◌≤◌, min, ℤ, pos, List, length, slice_index_or, slice_range}
 use Rattle.num_format.specs.Kind.{Kind}
 use Rattle.num_format_columns.specs.Columns.{AreOffsets, IsColumn, texts_of}
-use Rattle.num_format_c.specs.Calls.{Fails, ParsesExactlyInto}
+use Rattle.num_format_c.specs.Calls.{Fails, ParsesExactlyInto, signed_wide, unsigned_wide}
 use Rattle.num_format_c.specs.Held.{HasFormat, format_of}
 use Rattle.num_format_c.specs.declared.format.NumFormat.{NumFormat}
+use Rattle.num_format_c.specs.declared.wide.SignedWide.{SignedWide}
+use Rattle.num_format_c.specs.declared.wide.UnsignedWide.{UnsignedWide}
 use Rattle.num_format_c.specs.declared.status.Status.TheVariants.{BadFormat, TooSmall, BadLength, BadOffsets, TooManyBytes}
+
+-- an unsigned number of 128 bits in a column
+abbrev pub unsigned_value : UnsignedWide → ℤ
+unsigned_value w = unsigned_wide w.low w.high
+
+-- a signed one
+abbrev pub signed_value : SignedWide → ℤ
+signed_value w = signed_wide w.low w.high
 
 -- how many bytes the texts of values have under the format of a struct
 abbrev pub size_of : {A : Type 0} → NumFormat → (A → ℤ) → List A → ℕ

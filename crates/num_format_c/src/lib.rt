@@ -22,9 +22,11 @@ pub mod column_calls;
 mod columns;
 pub mod format;
 pub mod status;
+pub mod wide;
 
 use format::NumFormat;
 use status::{Status, returned};
+use wide::{joined, split};
 
 /// The version: 10,000 times its first number, 100 times its second, and its third.
 const VERSION: u32 = 100;
@@ -379,22 +381,4 @@ pub extern "C" fn num_format_names(place: usize, name: &mut [u8]) -> i32
     ensures { WritesName place name.old name.new result }
 {
     returned(calls::name(place, name))
-}
-
-/// The first number that a half does not hold.
-const HALF: u128 = 1 << 64;
-
-/// Returns the number of two halves.
-fn joined(low: u64, high: u64) -> u128
-    ensures { result ≡ low + high * 2 ^ 64 }
-{
-    high as u128 * HALF + low as u128
-}
-
-/// Writes the halves of a number.
-fn split(number: u128, low: &mut u64, high: &mut u64)
-    ensures { low.new + high.new * 2 ^ 64 ≡ number }
-{
-    *low = (number % HALF) as u64;
-    *high = (number / HALF) as u64;
 }
