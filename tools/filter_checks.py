@@ -18,8 +18,9 @@ from tally import CLOSE, ROOT, RUN_SECONDS, Tally, heading, run
 
 CRATE = ROOT / "crates" / "regroup_filter"
 PROGRAM = CRATE / "out" / CRATE.name
+EXAMPLES = ROOT / "examples"
 
-USAGE = b"usage: regroup-lines FROM TO, each a locale or custom:SEP:GROUPING:MINUS\n"
+USAGE = b"usage: regroup-lines FROM TO, each plain, a locale or custom:SEP:GROUPING:MINUS\n"
 TOO_LONG = b"More than 4096 bytes.\n"
 NOT_TEXT = b"Not UTF-8.\n"
 FEW_FIELDS = b"Too few fields.\n"
@@ -53,6 +54,9 @@ INPUTS = [
     ("en", "custom:::Standard:~", b"-1234567\n", 0, b"~1:234:567\n", b""),
     ("en", "custom::Indian:", b"-100000\n", 0, b"100000\n", b""),
     ("custom:':Myriad:m", "en", b"m1'0000\n7.5\n", 0, b"-10,000\n7.5\n", b""),
+    ("de", "plain", b"-1.234,50\n1234\n", 0, b"-1234.50\n1234\n", b""),
+    ("plain", "en", b"-1234.50\n1234567\n", 0, b"-1,234.50\n1,234,567\n", b""),
+    ("plain", "en", b"1\n1,234\n", 1, b"1\n", b"line 2: " + unparsed(b"1,234")),
     ("en", "custom: :Sparse:-", b"1,234\n12,345\n", 0, b"1234\n12 345\n", b""),
     ("en", "custom:7:Standard:17", b"1,000\n-1000\n", 0, b"17000\n1717000\n", b""),
     ("en", "de", b"\n", 1, b"", b"line 1: " + unparsed(b"")),
@@ -235,6 +239,19 @@ def check_open_input(tally, program):
     compare(tally, "an input that stays open", ended, 2, b"", USAGE)
 
 
+def check_example(tally, program):
+    """Regroups the third column of a table. Two amounts are none, and are passed on or end the program."""
+    heading("a table")
+    table = (EXAMPLES / "sales.tsv").read_bytes()
+    expected = (EXAMPLES / "sales.expected").read_bytes()
+    words = ["--header", "--field", "3", "en", "de"]
+    ended = regroup(program, ["--invalid", "ignore", *words], table)
+    compare(tally, "all lines", ended, 0, expected, b"")
+    before = b"".join(expected.splitlines(keepends=True)[:7])
+    message = b"line 8: " + unparsed(b"12.5O")
+    compare(tally, "up to line 8", regroup(program, words, table), 1, before, message)
+
+
 def check_failures(tally, program):
     heading("outputs and inputs that fail")
     with open("/dev/full", "wb") as full:
@@ -301,6 +318,7 @@ def check_all(tally, program):
     """All checks of the program."""
     check_inputs(tally, program)
     check_words(tally, program)
+    check_example(tally, program)
     check_failures(tally, program)
     check_closed_pipe(tally, program)
     check_long(tally, program)

@@ -28,11 +28,14 @@ fn main(rt: HostRuntime) -> ExitCode {
 /// Returns an error if there is no memory for the arguments and the buffers, or if a message about the arguments
 /// cannot be printed.
 fn try_main(rt: &HostRuntime) -> io::Result<u8> {
-    let Ok(args) = env::args(rt) else {
-        eprintln!(rt; "regroup-lines: an argument is not UTF-8")?;
-        return Ok(MISUSED);
+    let args: Vec<String> = match env::args(rt) {
+        Ok(args) => args.skip(1).collect(rt.alloc())?,
+        Err(error) if error.kind() == io::ErrorKind::InvalidData => {
+            eprintln!(rt; "regroup-lines: an argument is not UTF-8")?;
+            return Ok(MISUSED);
+        }
+        Err(error) => return Err(error),
     };
-    let args: Vec<String> = args.skip(1).collect(rt.alloc())?;
     let matches = match command(rt.alloc())?.try_get_matches_from(args.as_slice()) {
         Ok(matches) => matches,
         Err(error) if error.kind() == ErrorKind::OutOfMemory => return Ok(FAILED),

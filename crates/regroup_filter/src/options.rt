@@ -6,8 +6,8 @@ use std::alloc::{AllocError, Global};
 
 /// What `--help` says after the options.
 const AFTER_HELP: &str = "\
-FROM and TO are each the name of a locale, or custom:SEP:GROUPING:MINUS: the format of en with these
-three fields. GROUPING is Standard, Indian, Posix, Myriad or Sparse.
+FROM and TO are each plain, as in -1234.5, the name of a locale, or custom:SEP:GROUPING:MINUS: the format of
+en with these three fields. GROUPING is Standard, Indian, Posix, Myriad or Sparse.
 
 A number is read exactly as it is printed under FROM, grouped or not, and is written with as many decimals
 as it has. Spaces, tabs and carriage returns around it are passed on. A last line without a newline is

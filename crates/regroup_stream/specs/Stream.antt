@@ -39,7 +39,7 @@ pub record RegroupsAll (rules : Rules) (from to : FormatData) (status : ℕ) (re
 
 -- the usage
 abbrev pub usage : List ℕ
-usage = line (codes "usage: regroup-lines FROM TO, each a locale or custom:SEP:GROUPING:MINUS")
+usage = line (codes "usage: regroup-lines FROM TO, each plain, a locale or custom:SEP:GROUPING:MINUS")
 
 -- the text for standard error: the message of a line at fault and a newline, or nothing
 abbrev pub report : Result ℕ Fault → List ℕ

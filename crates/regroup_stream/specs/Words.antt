@@ -3,7 +3,9 @@ use Rattle.std.specs.Prelude.{ℕ, ◌==◌, if◌then◌else◌, nat_eq, List, 
 use Rattle.std.specs.List.{starts_with}
 use Rattle.std.specs.Option.{option_map}
 use Rattle.std.specs.Result.{result_ok}
+use Rattle.std.specs.Str.{bytes_eq}
 use Rattle.num_format.specs.Format.{FormatData}
+use Rattle.num_format.specs.Grouping.TheVariants.{Posix}
 use Rattle.num_format.specs.GroupingNames.{grouping_named}
 use Rattle.regroup_shared.specs.Formats.{custom_format, locale_named}
 
@@ -30,11 +32,19 @@ format_of_two fields minus_sign = option_and_then (λ parts. format_of_fields pa
 abbrev pub custom_format_named : List ℕ → Option FormatData
 custom_format_named fields = option_and_then (λ parts. format_of_two parts.0 parts.1) (split_last fields)
 
+-- en's format without groups, with a hyphen as the minus sign
+abbrev pub plain : Option FormatData
+plain = result_ok (custom_format [] Posix (codes "-"))
+
 -- the format that a word names: the fields after `custom:`, or else a locale
-abbrev pub format_named : List ℕ → Option FormatData
-format_named word =
+abbrev pub locale_or_custom_format_named : List ℕ → Option FormatData
+locale_or_custom_format_named word =
     if starts_with nat_eq word (codes "custom:") then custom_format_named (drop 7 word)
     else result_ok (locale_named word)
+
+-- the format that a word names, which may be the plain one
+abbrev pub format_named : List ℕ → Option FormatData
+format_named word = if bytes_eq word (codes "plain") then plain else locale_or_custom_format_named word
 
 -- the formats that two words name
 abbrev pub formats_named : List (List ℕ) → Option (FormatData × FormatData)

@@ -40,12 +40,13 @@ pub const MISUSED: u8 = 2;
 pub const FAILED: u8 = 3;
 
 /// The message for words that do not name two formats.
-const USAGE: &str = "usage: regroup-lines FROM TO, each a locale or custom:SEP:GROUPING:MINUS";
+const USAGE: &str =
+    "usage: regroup-lines FROM TO, each plain, a locale or custom:SEP:GROUPING:MINUS";
 
 /// Regroups the lines of `input` from the format that the first word names to the one that the second
 /// names, and returns the exit status. `out` is flushed before it returns, but for [`MISUSED`].
 ///
-/// A word is the name of a locale, or `custom:SEP:GROUPING:MINUS`: the format of `en` with these three
+/// A word is `plain`, as in `-1234.5`, the name of a locale, or `custom:SEP:GROUPING:MINUS`: the format of `en` with these three
 /// fields. The last two colons are those before and after GROUPING, so `custom:::Standard:-` has the
 /// separator `:`.
 ///

@@ -2,7 +2,7 @@
 ghost use Rattle.std.specs.Prelude.{◌≡◌};
 ghost use Rattle.std.specs.Option.{option_map};
 ghost use Rattle.regroup_shared.specs.Words.{texts};
-ghost use Rattle.regroup_stream.specs.Words.{custom_format_named, format_named, formats_named, split_last};
+ghost use Rattle.regroup_stream.specs.Words.{custom_format_named, format_named, formats_named, locale_or_custom_format_named, split_last};
 
 use num_format::{CustomFormat, Grouping};
 use regroup_shared::{custom_format, locale_named};
@@ -18,10 +18,20 @@ pub(crate) fn formats_named(words: &[&str]) -> Option<(CustomFormat, CustomForma
     Some((format_named(from)?, format_named(to)?))
 }
 
-/// Returns the format that the word names: that of a locale, or that of `en` with the three fields of
-/// `custom:SEP:GROUPING:MINUS`. Returns `None` where there is none.
+/// Returns the format that the word names: `plain`, which has no groups, that of a locale, or that of `en` with
+/// the three fields of `custom:SEP:GROUPING:MINUS`. Returns `None` where there is none.
 fn format_named(word: &str) -> Option<CustomFormat>
     ensures { result ≡ format_named word.now }
+{
+    match word {
+        "plain" => custom_format("", Grouping::Posix, "-").ok(),
+        _ => locale_or_custom_format_named(word),
+    }
+}
+
+/// Returns the same of a word that is not `plain`.
+fn locale_or_custom_format_named(word: &str) -> Option<CustomFormat>
+    ensures { result ≡ locale_or_custom_format_named word.now }
 {
     match word.strip_prefix("custom:") {
         Some(fields) => custom_format_named(fields),
