@@ -28,7 +28,7 @@ pub length_texts_le : {A : Type 0} (f : FormatData) (number : A → ℤ) (values
 length_texts_le {A} f number values i =
     let text : A → List ℕ = λ x. text_of f (number x) in
     let parts : flat_map text values ≡ flat_map text (take i values) ++ flat_map text (drop i values) =
-        ap (flat_map text) (sym (take-append-drop i values)) ∙ flat_map-append text (take i values) (drop i values) in
+    ap (flat_map text) (sym (take-append-drop i values)) ∙ flat_map-append text (take i values) (drop i values) in
     omega (arith, ap length parts, length-append (flat_map text (take i values)) (flat_map text (drop i values)))
 
 -- one more is no longer than all
@@ -41,8 +41,15 @@ length_texts_fit f number values i x within is =
 pub written : (old done text bytes : List ℕ) (end : ℕ) → end ≡ length done → bytes ≡ done ++ drop (length done) old →
     take end bytes ++ text ++ drop (end + length text) bytes ≡ done ++ text ++ drop (length (done ++ text)) old
 written old done text bytes end at is =
-    rw (at, is, take_at done (drop (length done) old) (length done) refl, ← drop-drop (length text) (length done) (done ++ drop (length done) old),
-      drop_at done (drop (length done) old) (length done) refl, drop-drop (length text) (length done) old, length-append done text) refl
+    rw (
+      at,
+      is,
+      take_at done (drop (length done) old) (length done) refl,
+      ← drop-drop (length text) (length done) (done ++ drop (length done) old),
+      drop_at done (drop (length done) old) (length done) refl,
+      drop-drop (length text) (length done) old,
+      length-append done text,
+    ) refl
 
 -- one more offset
 pub ends_more : {A B : Type 0} (f : FormatData) (number : A → ℤ) (place : B → ℕ) (values : List A) (offsets : List B) (i : ℕ) (o : B) → i + 1 < length offsets →
@@ -51,6 +58,6 @@ pub ends_more : {A B : Type 0} (f : FormatData) (number : A → ℤ) (place : B 
     (j : ℕ) (d : B) → j ≤ i + 1 → place (get_or (set offsets (i + 1) o) j d) ≡ length (texts_of f number (take j values))
 ends_more {A} {B} f number place values offsets i o within before here j d most =
     elim (cases_eq j (i + 1)) as (λ _. place (get_or (set offsets (i + 1) o) j d) ≡ length (texts_of f number (take j values))) [
-      inl same ↦ rw (same, get_or-set_same offsets (i + 1) o d within) here
-    | inr other ↦ rw (get_or-set_other offsets (i + 1) j o d other) (before j d (omega arith))
+      | inl same ↦ rw (same, get_or-set_same offsets (i + 1) o d within) here
+      | inr other ↦ rw (get_or-set_other offsets (i + 1) j o d other) (before j d (omega arith))
     ]
