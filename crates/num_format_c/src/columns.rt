@@ -1,6 +1,7 @@
 //! What the calls for columns do, with Rust's types.
-ghost use Rattle.std.specs.Prelude.{◌+◌, min, length};
-ghost use Rattle.num_format_columns.specs.Columns.{AreOffsets};
+ghost use Rattle.std.specs.Prelude.{◌≡◌, ℕ, ◌+◌, ◌≤◌, min, ℤ, List, length};
+ghost use Rattle.num_format.specs.Kind.{Kind};
+ghost use Rattle.num_format_columns.specs.Columns.{AreOffsets, IsColumn, texts_of};
 ghost use Rattle.num_format_c.specs.Calls.{ParsesInto, returned};
 ghost use Rattle.num_format_c.specs.Columns.{AreParsed, HasLengths, Measures, ParsesColumn, ParsesRowExactly, PrintsColumn, RowParser};
 ghost use Rattle.num_format_c.specs.declared.format.NumFormat.{NumFormat};

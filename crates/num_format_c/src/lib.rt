@@ -8,7 +8,7 @@
 //! it was.
 #![tactic(auto)]
 
-ghost use Rattle.std.specs.Prelude.{◌≡◌, ◌*◌, codes, pos, MatchOption};
+ghost use Rattle.std.specs.Prelude.{◌≡◌, ◌+◌, ◌*◌, ◌^◌, codes, pos, MatchOption};
 ghost use Rattle.num_format.specs.Alike.{Alike};
 ghost use Rattle.num_format.specs.Kind.{kind_of, I128, U128};
 ghost use Rattle.num_format.specs.RoundTrips.{RoundTrips};

@@ -1,12 +1,12 @@
 -- The texts of the first numbers of a column, and one more of them.
-use Rattle.std.proofs.Common.{◌≡◌, inl, inr, ℕ, ◌+◌, ◌<◌, ◌≤◌, ℤ, List, [], ◌∷◌, ◌++◌, length, take, drop, get_or, set, refl, ap, ◌∙◌, sym, arith, append-nil, length-append, get_or-set_same, get_or-set_other}
+use Rattle.std.proofs.Common.{◌≡◌, ◌≢◌, ◌⊎◌, inl, inr, ℕ, ◌+◌, ◌-◌, ◌<◌, ◌≤◌, ℤ, List, [], ◌∷◌, ◌++◌, length, take, drop, get_or, set, refl, ap, ◌∙◌, sym, arith, append-nil, append_assoc, length-append, get_or-set_same, get_or-set_other}
 use Rattle.std.specs.List.{flat_map}
-use Rattle.std.proofs.lemmas.List.{take_more, take-append-drop, take_at, drop_at, drop-drop}
+use Rattle.std.proofs.lemmas.List.{take_more, take-append-drop, take_all, take_at, drop_at, drop-drop, get_or_default}
 use Rattle.std.proofs.lemmas.List.Concat.{flat_map-append}
 use Rattle.std.proofs.lemmas.Bool.{cases_eq}
 use Rattle.num_format_text.specs.Format.{FormatData}
 use Rattle.num_format_int.specs.Text.{text_of}
-use Rattle.num_format_columns.specs.Columns.{texts_of}
+use Rattle.num_format_columns.specs.Columns.{AreEnds, AreOffsets, texts_of}
 
 -- one more text
 pub texts_more : {A : Type 0} (f : FormatData) (number : A → ℤ) (values : List A) (i : ℕ) (x : A) → i < length values → x ≡ get_or values i x →

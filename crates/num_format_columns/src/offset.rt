@@ -1,5 +1,5 @@
 //! Where the texts of a column begin and end.
-ghost use Rattle.std.specs.Prelude.{◌≡◌, ℕ, ◌-◌, ◌^◌, ◌<◌, ◌≤◌, ◌↔◌, IsTrue};
+ghost use Rattle.std.specs.Prelude.{◌≡◌, ℕ, ◌+◌, ◌-◌, ◌^◌, ◌<◌, ◌≤◌, ◌↔◌, IsTrue, length};
 ghost use Rattle.num_format_columns.specs.Columns.{AreOffsets};
 
 /// The number of a column's bytes before a place in it.

@@ -1,6 +1,7 @@
 //! Printing a column.
-ghost use Rattle.std.specs.Prelude.{◌≡◌, ◌+◌, ◌^◌, ◌≤◌, length, take, drop, ◌++◌, MatchOption};
-ghost use Rattle.num_format_columns.specs.Columns.{IsColumn, texts_of};
+ghost use Rattle.std.specs.Prelude.{◌≡◌, ℕ, ◌+◌, ◌^◌, ◌≤◌, length, take, drop, ◌++◌, MatchOption};
+ghost use Rattle.num_format_int.specs.Text.{text_of};
+ghost use Rattle.num_format_columns.specs.Columns.{AreEnds, IsColumn, texts_of};
 
 use crate::offset::Offset;
 use num_format_int::buffer::copy_bytes;

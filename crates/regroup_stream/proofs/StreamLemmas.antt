@@ -1,5 +1,5 @@
 -- What the program ends with, after the lines were sent.
-use Rattle.std.proofs.Common.{◌≡◌, ℕ, Bool, true, List, [], Result, Ok, Err, if◌then◌else◌, refl, sym, subst, arith}
+use Rattle.std.proofs.Common.{◌≡◌, ℕ, Bool, true, List, [], ◌∷◌, Result, Ok, Err, if◌then◌else◌, refl, sym, subst, arith}
 use Rattle.std.specs.Prelude.{◌≢◌, Option, Some, IfOk, OnErr}
 use Rattle.std.specs.Io.KnownBytes.{Keeps}
 use Rattle.std.specs.Result.{result_and}

@@ -1,4 +1,4 @@
-use Rattle.std.proofs.Common.{length-set, ◌≡◌, ◌∙◌, ◌<◌, ◌+◌, ℕ, List, ap, arith, length, take}
+use Rattle.std.proofs.Common.{length-set, ◌≡◌, ◌∙◌, ◌<◌, ◌+◌, ℕ, List, sym, ap, arith, length, take, refl}
 use Rattle.num_format_int.specs.Text.{text_of}
 use Rattle.num_format_columns.specs.Columns.{texts_of}
 use Rattle.num_format_columns.proofs.ColumnLemmas.{length_texts_more, length_texts_fit, texts_more, written, ends_more}

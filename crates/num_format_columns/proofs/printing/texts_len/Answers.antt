@@ -1,4 +1,4 @@
-use Rattle.std.proofs.Common.{rules, arith}
+use Rattle.std.proofs.Common.{rules, ◌≡◌, arith, refl}
 use Rattle.num_format_columns.proofs.ColumnLemmas.{length_texts_fit}
 use Rattle.num_format_columns.proofs.printing.texts_len.Goals as goal
 
