@@ -18,7 +18,8 @@ In this order:
    closed.
 4. tools/program_checks.py runs test_streams with such outputs, test_oracle with cases of
    each kind but one, and test_properties with each property negated.
-5. tools/filter_checks.py runs `regroup-lines` on good, bad and long input.
+5. tools/filter_checks.py runs `regroup-lines` on good, bad and long input, and tools/engine_checks.py on
+   many processes.
 6. tools/ledger_checks.py runs uses_ledger on good, bad and long ledgers, and where a read or a write fails.
 7. tools/memory_checks.py runs `regroup`, `regroup-lines` and each test of test_memory as often as it makes
    requests for memory, each time with another one refused, and counts those of calls that take none.
@@ -39,6 +40,7 @@ import contextlib
 import subprocess
 import sys
 
+import engine_checks
 import filter_checks
 import ledger_checks
 import library_checks
@@ -51,13 +53,20 @@ import work_checks
 from proofs import copied, prove
 from tally import ROOT, Tally, heading, run
 
+
+def check_filter(tally, program):
+    """All checks of `regroup-lines`."""
+    filter_checks.check_all(tally, program)
+    engine_checks.check_all(tally, program)
+
+
 # The checks of each program, by its crate.
 CHECKS = {
     "regroup": regroup_checks.check_all,
     program_checks.STREAMS.name: program_checks.check_streams,
     program_checks.ORACLE.name: program_checks.check_oracle,
     program_checks.PROPERTIES.name: program_checks.check_properties,
-    filter_checks.CRATE.name: filter_checks.check_all,
+    filter_checks.CRATE.name: check_filter,
     ledger_checks.CRATE.name: ledger_checks.check_all,
 }
 
