@@ -18,8 +18,8 @@ In this order:
    closed.
 4. tools/program_checks.py runs test_streams with such outputs, test_oracle with cases of
    each kind but one, and test_properties with each property negated.
-5. tools/filter_checks.py runs `regroup-lines` on good, bad and long input, and tools/engine_checks.py on
-   many processes.
+5. tools/filter_checks.py runs `regroup-lines` on good, bad and long input, tools/numfmt_rows.py on rows that
+   `numfmt` prints too, and tools/engine_checks.py on many processes.
 6. tools/ledger_checks.py runs uses_ledger on good, bad and long ledgers, and where a read or a write fails.
 7. tools/memory_checks.py runs `regroup`, `regroup-lines` and each test of test_memory as often as it makes
    requests for memory, each time with another one refused, and counts those of calls that take none.
@@ -45,6 +45,7 @@ import filter_checks
 import ledger_checks
 import library_checks
 import memory_checks
+import numfmt_rows
 import package_checks
 import program_checks
 import regroup_checks
@@ -57,6 +58,7 @@ from tally import ROOT, Tally, heading, run
 def check_filter(tally, program):
     """All checks of `regroup-lines`."""
     filter_checks.check_all(tally, program)
+    numfmt_rows.check_all(tally, program)
     engine_checks.check_all(tally, program)
 
 
