@@ -21,13 +21,14 @@ In this order:
 5. tools/filter_checks.py runs `regroup-lines` on good, bad and long input, tools/numfmt_rows.py on rows that
    `numfmt` prints too, and tools/engine_checks.py on many processes.
 6. tools/ledger_checks.py runs uses_ledger on good, bad and long ledgers, and where a read or a write fails.
-7. tools/memory_checks.py runs `regroup`, `regroup-lines` and each test of test_memory as often as it makes
+7. tools/readme_code.py runs the commands in README.md.
+8. tools/memory_checks.py runs `regroup`, `regroup-lines` and each test of test_memory as often as it makes
    requests for memory, each time with another one refused, and counts those of calls that take none.
-8. tools/library_checks.py runs the programs of examples/ over the library for C, which was built beside
+9. tools/library_checks.py runs the programs of examples/ over the library for C, which was built beside
    `rt ci`, and holds it to its header.
-9. tools/work_checks.py counts the instructions of calls of that library, and compares them with those of
+10. tools/work_checks.py counts the instructions of calls of that library, and compares them with those of
    tools/work_checks.tsv.
-10. tools/package_checks.py has run the tests of each package in packages/ since that library was built.
+11. tools/package_checks.py has run the tests of each package in packages/ since that library was built.
 
 The last lines name each check that was skipped and why, and say how many passed and failed in all.
 The exit status is 1 where one failed.
@@ -48,6 +49,7 @@ import memory_checks
 import numfmt_rows
 import package_checks
 import program_checks
+import readme_code
 import regroup_checks
 import trials
 import work_checks
@@ -112,6 +114,7 @@ def check_programs(tally, top, compilers):
         for program in built[name]:
             heading(program.name)
             check(tally, program)
+    readme_code.check_commands(tally, top)
     tests = crates / memory_checks.CRATE / "out" / f"{memory_checks.CRATE}_tests"
     filters = built[filter_checks.CRATE.name]
     memory_checks.check_all(tally, built["regroup"], filters, tests)
