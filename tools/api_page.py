@@ -19,7 +19,7 @@ HEAD = """<!DOCTYPE html>
 <title>num_format: public calls</title><link rel="stylesheet" href="style.css">
 <nav><b>Public calls</b>{nav}</nav><main>
 <p>Written by <code>tools/api_page.py</code> from the doc comments of the crates. Back to the
-<a href="../../README.md">README</a>. Below a signature stands its contract, which is proved:
+<a href="../../README.md">README</a>. Each signature has its contract below it, which is proved:
 <a href="../THEOREMS.md">THEOREMS</a> says it in words.</p>{main}</main></html>
 """
 # The modules in the order in which a reader needs them; others follow.

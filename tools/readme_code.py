@@ -49,7 +49,7 @@ def is_part(block, source):
     return any(dedent("\n".join(part)) == "\n".join(wanted) for part in parts)
 
 
-# A block of commands with what stands after it, a command that is run, and what it is to print.
+# A block of commands with the block of text after it, a command that is run, and what it is to print.
 COMMANDS = re.compile(r"^```sh\n(.*?)^```\n(?:(?!```)[^\n]*\n){0,4}(?:^```text\n(.*?)^```)?", re.DOTALL | re.MULTILINE)
 RUN = re.compile(r"(?:.*\| )?(?:regroup|regroup-lines) |\(cd crates/regroup\w* && rt run -- ")
 PRINTS = re.compile(r"#.*\bprints (.*)")
