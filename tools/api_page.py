@@ -142,8 +142,7 @@ def main():
     wrong += [f"{name}: no doc comment" for item, name in every if not item.docs]
     ends = set(re.findall('id="([^"]*)"', page))
     wrong += [f"no #{name}" for name in re.findall('href="#([^"]*)"', page) if name not in ends]
-    print("\n".join(wrong))
-    sys.exit(1 if wrong else 0)
+    sys.exit("\n".join(wrong) or 0)
 
 
 if __name__ == "__main__":

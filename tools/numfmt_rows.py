@@ -14,10 +14,11 @@ The two differ by design where no row is:
 - numfmt passes on a line with too few fields in silence, and adds no newline to the last line.
 - Without `--delimiter` numfmt takes the first word of a line, and fills it up to the width that it had with
   its blanks. With one it refuses blanks after a number.
-- numfmt computes in floating point: it prints 1,234.06 of `1234.05`, and rounds or refuses past 19 digits. It
+- numfmt computes in floating point: it prints 1,234.06 of `1234.05`, and refuses numbers of 20 digits. It
   prints 0 of `-0`, 7 of `007` and 0.5 of `.5`, which regroup-lines refuses.
 - Where the input is grouped, numfmt refuses it, and regroup-lines parses it exactly as FROM prints it.
 """
+import functools
 import os
 import shutil
 import subprocess
@@ -141,9 +142,15 @@ def line(row):
     return "\t".join([row.option, row.locale, *words, escaped(row.text), str(row.status), escaped(row.output)]) + "\n"
 
 
+@functools.cache
+def lines_by_numfmt():
+    """The lines of the data as numfmt gives them now."""
+    return list(map(line, by_numfmt(rows())))
+
+
 def write():
     version = run(["numfmt", "--version"], capture_output=True, text=True).stdout.splitlines()[0]
-    DATA.write_text(HEADER.format(version=version) + "".join(map(line, by_numfmt(rows()))), encoding="utf-8")
+    DATA.write_text(HEADER.format(version=version) + "".join(lines_by_numfmt()), encoding="utf-8")
 
 
 def recorded():
@@ -192,7 +199,7 @@ def check_all(tally, program):
     if not Path("/usr/share/i18n/locales/en_US").is_file() or not shutil.which("numfmt"):
         tally.skip("rows of numfmt that are recorded", "there is no numfmt, or no source of the locale en_US")
     else:
-        now = list(map(line, by_numfmt(rows())))
+        now = lines_by_numfmt()
         differ = [two for two in zip(now, map(line, every), strict=False) if two[0] != two[1]]
         tally.compare("rows of numfmt that are recorded", (len(now), differ[:3]), (len(every), []))
 
