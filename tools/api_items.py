@@ -25,13 +25,27 @@ class Item:
         self.kind, self.name = ("impl", impl[2]) if impl else ITEM.match(lines[0]).groups()
         self.trait = impl and impl[1]
         self.lines = [line.removesuffix(" {") for line in lines if line.strip() not in ("{", "{}")]
-        if self.kind == "enum":
-            self.lines = [lines[0], *body, "}"]
+        self.variants = list(variants(body)) if self.kind == "enum" else []
         if self.kind in ("impl", "trait"):
             self.inner = list(parse(file, body, "    "))
             self.lines += GHOST.findall("\n".join(body))
         if self.kind == "impl" and not self.trait:
             self.inner = [one for one in self.inner if one.lines[0].startswith("    pub ")]
+
+
+def variants(lines):
+    """The variants of an enum, each with its doc comment and then those of its fields."""
+    shown, docs = [], []
+    for line in lines:
+        if line.startswith("    ///"):
+            docs.append(line[7:].removeprefix(" "))
+        elif line.startswith("        ///"):
+            docs += ["", line[11:].removeprefix(" ")]
+        else:
+            shown.append(line.strip())
+            if line.startswith("    ") and line[4] != " " and line.endswith(","):
+                yield " ".join(shown).rstrip(",").replace(", }", " }"), docs
+                shown, docs = [], []
 
 
 def parse(file, lines, indent=""):
@@ -105,6 +119,16 @@ def methods(item):
     impls = [one for one in implementations().get(item.name, {}) if not one.trait]
     impls.sort(key=lambda one: one.file != item.file)
     return [one for block in [item, *impls] for one in block.inner]
+
+
+def trait_impls(item):
+    """The implementations of traits for a type, or of a trait: those with one doc comment together, after it."""
+    alike = {}
+    for impl in implementations().get(item.name, {}):
+        if impl.trait:
+            docs = [line for one in impl.inner for line in one.docs]
+            alike.setdefault("\n".join(docs), []).append(impl)
+    return alike
 
 
 def module_docs(file):

@@ -11,7 +11,7 @@ import sys
 from html import escape
 from textwrap import dedent
 
-from api_items import CRATES, ROOT, implementations, methods, module_docs, sections
+from api_items import CRATES, ROOT, methods, module_docs, sections, trait_impls
 
 PAGE = ROOT / "docs" / "api" / "index.html"
 HEAD = """<!DOCTYPE html>
@@ -43,8 +43,8 @@ class Page:
         for module, items in self.found.items():
             self.links[module] = f"#{crate}::{module}"
             for item, path in items.items():
-                variants = re.findall(r"^    (\w+)", "\n".join(item.lines), re.MULTILINE)
-                self.links |= {f"{item.name}::{name}": f"#{path}" for name in variants}
+                names = [re.match(r"\w+", variant)[0] for variant, _ in item.variants]
+                self.links |= {f"{item.name}::{name}": f"#{path}" for name in names}
                 self.links |= {f"{item.name}::{one.name}": f"#{path}::{one.name}" for one in methods(item)}
                 self.links[item.name] = f"#{path}"
 
@@ -100,15 +100,13 @@ class Page:
         shown = path if level == 3 else item.name
         out = f'<section id="{path}"><h{level}>{item.kind} <code>{shown}</code></h{level}>'
         out += self.signature(item, item.lines) + self.markdown(item.docs)
+        for variant, docs in item.variants:
+            out += f"<div class=variant>{self.signature(item, [variant])}<div>{self.markdown(docs)}</div></div>"
         for one in methods(item) if level == 3 else []:
             out += self.item(one, f"{path}::{one.name}", 4)
-        alike = {}
-        for impl in implementations().get(item.name, {}) if level == 3 else []:
-            if impl.trait:
-                docs = [line for one in impl.inner for line in one.docs]
-                alike.setdefault("\n".join(docs), []).append(impl)
-        for docs, impls in alike.items():
-            out += self.markdown(docs.splitlines())
+        for docs, impls in trait_impls(item).items() if level == 3 else []:
+            lines = [line for impl in impls for line in impl.lines]
+            out += self.signature(impls[0], lines) + self.markdown(docs.splitlines())
         return out + "</section>\n"
 
     def html(self):
