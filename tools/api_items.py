@@ -35,17 +35,20 @@ class Item:
 
 def variants(lines):
     """The variants of an enum, each with its doc comment and then those of its fields."""
-    shown, docs = [], []
+    shown, docs, field = [], [], []
     for line in lines:
-        if line.startswith("    ///"):
-            docs.append(line[7:].removeprefix(" "))
-        elif line.startswith("        ///"):
-            docs += ["", line[11:].removeprefix(" ")]
-        else:
-            shown.append(line.strip())
-            if line.startswith("    ") and line[4] != " " and line.endswith(","):
-                yield " ".join(shown).rstrip(",").replace(", }", " }"), docs
-                shown, docs = [], []
+        text = line.strip()
+        is_inside = line.startswith("        ")
+        if text.startswith("///"):
+            (field if is_inside else docs).append(text[3:].removeprefix(" "))
+            continue
+        shown.append(text)
+        if is_inside and field:
+            docs += ["", f"`{text.partition(':')[0]}`: {' '.join(field)}"]
+            field = []
+        elif not is_inside and text.endswith(","):
+            yield " ".join(shown).rstrip(",").replace(", }", " }"), docs
+            shown, docs = [], []
 
 
 def parse(file, lines, indent=""):
