@@ -1,18 +1,25 @@
 #!/usr/bin/env python3
-"""Compares the code in README.md and docs/ with that of the crates and of examples/ that have it.
+"""Compares the code in README.md and docs/ with that of the crates and of examples/ that have it, and runs commands.
 
     python3 tools/readme_code.py
+    python3 tools/readme_code.py --run    # runs the commands that are shown, over programs that are built
 
 Each block of the language `rust` has to stand in a file of test_readme, of a crate
 `uses_NAME`, of num_format_vectors or of test_printing, line after line, and each of `c` and `python` in a file of
 examples/. README.md has to have a text block that is the stdout of test_readme. The exit status is 1 where one differs.
+
+Each command in a block of `sh` that runs `regroup` or `regroup-lines`, in README.md and in those of examples/ and
+packages/, has to end with status 0, and to print what is shown: after `prints` in its comment, or in the block of
+`text` after it, or in NAME.expected where it reads NAME.tsv. `rt run --` runs the program without its proof. What else
+READMEs of packages/ show is run by their tests.
 """
+import os
 import re
 import sys
-from pathlib import Path
 from textwrap import dedent
 
-ROOT = Path(__file__).resolve().parent.parent
+from tally import ROOT, Tally, heading, run
+
 EXAMPLES = ROOT / "crates" / "test_readme"
 CRATES = [
     EXAMPLES,
@@ -42,7 +49,50 @@ def is_part(block, source):
     return any(dedent("\n".join(part)) == "\n".join(wanted) for part in parts)
 
 
+# A block of commands with the block of text after it, a command that is run, and what it is to print.
+COMMANDS = re.compile(r"^```sh\n(.*?)^```\n(?:(?!```)[^\n]*\n){0,4}(?:^```text\n(.*?)^```)?", re.DOTALL | re.MULTILINE)
+RUN = re.compile(r"(?:.*\| )?(?:regroup|regroup-lines) |\(cd crates/regroup\w* && rt run -- ")
+PRINTS = re.compile(r"#.*\bprints (.*)")
+TABLE = re.compile(r"< (\S+)\.tsv$")
+
+# The programs by their names.
+SHELL = """
+regroup() { "$TOP/crates/regroup/out/regroup" "$@"; }
+regroup-lines() { "$TOP/crates/regroup_filter/out/regroup_filter" "$@"; }
+rt() { "$PWD/out/${PWD##*/}" "${@:3}"; }
+"""
+
+
+def commands(path):
+    """The commands of a document that run a program, with what each is to print, or None."""
+    for block, text in COMMANDS.findall(path.read_text(encoding="utf-8")):
+        for line in block.replace("\\\n", " ").splitlines():
+            if RUN.match(line):
+                prints, table = PRINTS.search(line), TABLE.search(line)
+                expected = f"{prints[1]}\n" if prints else text or None
+                if not expected and table:
+                    expected = (ROOT / f"{table[1]}.expected").read_text(encoding="utf-8")
+                yield line, expected
+
+
+def check_commands(tally, top):
+    """Runs the commands over the programs that were built in that copy of the repository."""
+    heading("the commands in README.md")
+    others = sorted([*ROOT.glob("examples/**/README.md"), *ROOT.glob("packages/*/README.md")])
+    first = list(commands(ROOT / "README.md"))
+    tally.compare("README.md has commands", bool(first), True)
+    for line, expected in [*first, *(command for file in others for command in commands(file))]:
+        how = {"cwd": top, "env": {**os.environ, "TOP": str(top)}, "capture_output": True, "text": True}
+        ended = run(["bash", "-c", f"set -eu{SHELL}{line}"], **how)
+        output = ended.stdout if expected is not None else None
+        tally.compare(line, (ended.returncode, output, ended.stderr), (0, expected, ""))
+
+
 def main():
+    if "--run" in sys.argv:
+        tally = Tally()
+        check_commands(tally, ROOT)
+        tally.end()
     readme = ROOT / "README.md"
     different = []
     for language, files in FILES.items():

@@ -7,7 +7,8 @@
 
 In this order:
 
-1. tools/readme_code.py compares the code in README.md and docs/ with the crate that has it.
+1. tools/readme_code.py compares the code in README.md and docs/ with the crate that has it, and tools/api_page.py
+   the page docs/api/ with the doc comments.
 2. `rt ci` has every proof from nothing, the tests, and each program as two compilers build it. It works
    on a copy of the repository. With --edits that has all; else it has no must-fail edits, not the library
    that bench/ measures, and not the crates of tests that tools/trials.py names: `rt try` runs those, with a
@@ -17,15 +18,17 @@ In this order:
    closed.
 4. tools/program_checks.py runs test_streams with such outputs, test_oracle with cases of
    each kind but one, and test_properties with each property negated.
-5. tools/filter_checks.py runs `regroup-lines` on good, bad and long input.
+5. tools/filter_checks.py runs `regroup-lines` on good, bad and long input, tools/numfmt_rows.py on rows that
+   `numfmt` prints too, and tools/engine_checks.py on many processes.
 6. tools/ledger_checks.py runs uses_ledger on good, bad and long ledgers, and where a read or a write fails.
-7. tools/memory_checks.py runs `regroup`, `regroup-lines` and each test of test_memory as often as it makes
+7. tools/readme_code.py runs the commands in README.md.
+8. tools/memory_checks.py runs `regroup`, `regroup-lines` and each test of test_memory as often as it makes
    requests for memory, each time with another one refused, and counts those of calls that take none.
-8. tools/library_checks.py runs the programs of examples/ over the library for C, which was built beside
+9. tools/library_checks.py runs the programs of examples/ over the library for C, which was built beside
    `rt ci`, and holds it to its header.
-9. tools/work_checks.py counts the instructions of calls of that library, and compares them with those of
+10. tools/work_checks.py counts the instructions of calls of that library, and compares them with those of
    tools/work_checks.tsv.
-10. tools/package_checks.py has run the tests of each package in packages/ since that library was built.
+11. tools/package_checks.py has run the tests of each package in packages/ since that library was built.
 
 The last lines name each check that was skipped and why, and say how many passed and failed in all.
 The exit status is 1 where one failed.
@@ -38,17 +41,28 @@ import contextlib
 import subprocess
 import sys
 
+import engine_checks
 import filter_checks
 import ledger_checks
 import library_checks
 import memory_checks
+import numfmt_rows
 import package_checks
 import program_checks
+import readme_code
 import regroup_checks
 import trials
 import work_checks
 from proofs import copied, prove
 from tally import ROOT, Tally, heading, run
+
+
+def check_filter(tally, program):
+    """All checks of `regroup-lines`."""
+    filter_checks.check_all(tally, program)
+    numfmt_rows.check_all(tally, program)
+    engine_checks.check_all(tally, program)
+
 
 # The checks of each program, by its crate.
 CHECKS = {
@@ -56,7 +70,7 @@ CHECKS = {
     program_checks.STREAMS.name: program_checks.check_streams,
     program_checks.ORACLE.name: program_checks.check_oracle,
     program_checks.PROPERTIES.name: program_checks.check_properties,
-    filter_checks.CRATE.name: filter_checks.check_all,
+    filter_checks.CRATE.name: check_filter,
     ledger_checks.CRATE.name: ledger_checks.check_all,
 }
 
@@ -66,8 +80,9 @@ COMPILERS = ["", ".by-rattle"]
 
 def compare_code(tally):
     heading("the code in README.md and docs/")
-    ended = run([sys.executable, ROOT / "tools" / "readme_code.py"])
-    tally.compare("tools/readme_code.py", ended.returncode, 0)
+    for words in ["readme_code.py"], ["api_page.py", "--check"]:
+        ended = run([sys.executable, ROOT / "tools" / words[0], *words[1:]])
+        tally.compare(f"tools/{' '.join(words)}", ended.returncode, 0)
 
 
 def build(tally):
@@ -99,6 +114,7 @@ def check_programs(tally, top, compilers):
         for program in built[name]:
             heading(program.name)
             check(tally, program)
+    readme_code.check_commands(tally, top)
     tests = crates / memory_checks.CRATE / "out" / f"{memory_checks.CRATE}_tests"
     filters = built[filter_checks.CRATE.name]
     memory_checks.check_all(tally, built["regroup"], filters, tests)
