@@ -4,6 +4,7 @@ pub mod LocaleMarkLemmas
 pub mod MarkLemmas
 pub mod PartLemmas
 pub mod PlainLemmas
+pub mod PrintLemmas
 pub mod ReadLemmas
 pub mod ScaleLemmas
 pub mod ScaleSearchLemmas

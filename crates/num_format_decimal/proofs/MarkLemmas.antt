@@ -87,6 +87,10 @@ last_digits-below (suc k) n =
     All-append (λ d. d < 10) (last_digits k (n / 10)) (n % 10 ∷ []) (last_digits-below k (n / 10))
     (All-cons (λ d. d < 10) (n % 10) [] (mod-lt n (lit< tt)) (All-nil (λ d. d < 10)))
 
+-- the last digits of a number are a text
+pub last_digits-utf8 : (k n : ℕ) → IsUtf8 (plain (last_digits k n))
+last_digits-utf8 k n = (plain-digits (last_digits k n) (last_digits-below k n)).utf8
+
 pub plain-ungrouped : (f : FormatData) → IsPlainFormat f → IsPlainFormat (ungrouped f)
 plain-ungrouped f p = record {
   sign_utf8 = p.sign_utf8;

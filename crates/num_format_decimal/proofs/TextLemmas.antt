@@ -17,6 +17,7 @@ use Rattle.num_format_int.specs.Text.{body_of, text_of}
 use Rattle.num_format_int.proofs.DigitLemmas.{decimal-digits, digits-leading_one, digits-small, length-digits-le, length-digits-le39, length-digits-split, length-last_digits, last_digits-mod}
 use Rattle.num_format_int.proofs.GroupedLemmas.{grouped-short, length-grouped}
 use Rattle.num_format_decimal.specs.FixedPoint.{FixedPoint}
+use Rattle.num_format_decimal.specs.Printing.{unsigned_text}
 use Rattle.num_format_decimal.specs.Text.{decimal_text}
 use Rattle.num_format_decimal.proofs.ScaleLemmas.{power_le}
 
@@ -86,16 +87,27 @@ some_decimals f k n mark t1 t2 some marked first second =
     ∙ ap (λ (b : Bool). if b then f.decimal ++ plain (last_digits k n) else []) (sym test)
 
 -- the decimals, and the digits before them
-pub unsigned_text : (f : FormatData) (t1 t2 : List ℕ) (n k s q r : ℕ) → s ≡ k → q ≡ n / 10 ^ k → r ≡ n % 10 ^ k → t1 ≡ (if nat_lt 0 s then f.decimal ++ plain (last_digits s r) else []) → t2 ≡ body_of f q ++ t1 →
-    t2 ≡ body_of f (n / 10 ^ k) ++ (if nat_lt 0 k then f.decimal ++ plain (last_digits k n) else [])
-unsigned_text f t1 t2 n k s q r same quotient remainder first second =
+pub unsigned_text_from : (f : FormatData) (t1 t2 : List ℕ) (n k q r : ℕ) → q ≡ n / 10 ^ k → r ≡ n % 10 ^ k → t1 ≡ (if nat_lt 0 k then f.decimal ++ plain (last_digits k r) else []) → t2 ≡ body_of f q ++ t1 →
+    t2 ≡ unsigned_text f n k
+unsigned_text_from f t1 t2 n k q r quotient remainder first second =
     second
     ∙ ap (λ m. body_of f m ++ t1) quotient
     ∙ ap (λ t. body_of f (n / 10 ^ k) ++ t) (
     first
-    ∙ ap (λ j. if nat_lt 0 j then f.decimal ++ plain (last_digits j r) else []) same
     ∙ ap (λ m. if nat_lt 0 k then f.decimal ++ plain (last_digits k m) else []) remainder
     ∙ ap (λ ds. if nat_lt 0 k then f.decimal ++ plain ds else []) (last_digits-mod k n))
+
+-- at most so many bytes
+pub unsigned_text-length : (f : FormatData) (n k : ℕ) → length f.separator ≤ 8 → length f.decimal ≤ 8 → n ≤ 2 ^ 127 → k ≤ 38 → length (unsigned_text f n k) + 8 ≤ 199
+unsigned_text-length f n k short_separator short_mark small few =
+    let rest : List ℕ = if nat_lt 0 k then f.decimal ++ plain (last_digits k n) else [] in
+    omega (arith, length-append (body_of f (n / 10 ^ k)) rest, length-body f n k short_separator (omega arith) few, decimals-length f n k short_mark)
+  where
+    decimals-length : (f : FormatData) (n k : ℕ) → length f.decimal ≤ 8 → length (if nat_lt 0 k then f.decimal ++ plain (last_digits k n) else []) ≤ 8 + k
+    decimals-length f n zero short = omega arith
+    decimals-length f n (suc k) short =
+        let test : nat_lt 0 (suc k) ≡ true = grind (arith, nat_tests) in
+        rw test (omega (arith, length-append f.decimal (plain (last_digits (suc k) n)), length-plain (suc k) n))
 
 -- the digits before the decimals, which have so much space
 pub whole_fits : (f : FormatData) (n k s q : ℕ) → s ≡ k → s ≤ 38 → n ≤ 2 ^ 127 → length f.separator ≤ 8 → q ≡ n / 10 ^ k → length (body_of f q) + s ≤ 183

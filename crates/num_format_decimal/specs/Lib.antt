@@ -5,6 +5,7 @@ pub mod Laws
 pub mod Marks
 pub mod Message
 pub mod Parsing
+pub mod Printing
 pub mod Rounded
 pub mod Shapes
 pub mod Sums

@@ -1,15 +1,18 @@
 //! The text of a decimal, kept in place.
-ghost use Rattle.std.specs.Prelude.{◌≡◌, ◌+◌, ◌/◌, ◌^◌, ◌<◌, ◌≤◌, [], ◌++◌, length, nat_lt, unsigned_abs, Some, if◌then◌else◌};
-ghost use Rattle.num_format_int.specs.Groups.{last_digits, plain};
+ghost use Rattle.std.specs.Prelude.{◌≡◌, ℕ, Bool, ◌+◌, ◌^◌, ◌<◌, ◌≤◌, [], ◌++◌, length, nat_lt, unsigned_abs, Some, if◌then◌else◌};
+ghost use Rattle.num_format_int.specs.Digits.{digits};
+ghost use Rattle.num_format_int.specs.Grouped.{separated};
+ghost use Rattle.num_format_int.specs.Groups.{last_digits, plain, HasLastGroup, HasGroups};
 ghost use Rattle.num_format_int.specs.Text.{body_of};
+ghost use Rattle.num_format_decimal.specs.Printing.{unsigned_text};
 ghost use Rattle.num_format_decimal.specs.Text.{decimal_text};
 
 use crate::decimal::{Decimal, MAX_SCALE};
-use crate::powers::{narrow_power_of_ten, power_of_ten, split};
+use crate::powers::{narrow_power_of_ten, power_of_ten, split, split_narrow};
 use num_format_int::Buffer;
 use num_format_int::buffer::copy_bytes;
-use num_format_text::Format;
 use num_format_text::capacities::{MAX_DEC_LEN, MAX_MIN_LEN, MAX_SEP_LEN};
+use num_format_text::{Format, Grouping};
 use std::marker::Model;
 use std::{fmt, str};
 
@@ -21,7 +24,10 @@ pub const MAX_DECIMAL_LEN: usize = 199;
 const NINETEEN_DIGITS: u8 = 19;
 
 /// The lowest number of four digits, which is the lowest that can have a separator.
-const FOUR_DIGITS: u128 = 1000;
+const FOUR_DIGITS: u64 = 1000;
+
+/// The lowest number of five digits, which is the lowest with a separator under `Myriad` and `Sparse`.
+const FIVE_DIGITS: u64 = 10_000;
 
 /// The text of a decimal, kept in place. A contract sees its bytes.
 ///
@@ -97,23 +103,48 @@ impl DecimalBuffer {
     #[inline]
     fn put_unsigned<F: Format>(&mut self, d: &Decimal, format: &F)
         requires { self.old ≡ [] }
-        ensures text { self.new
-            ≡ body_of (F.answers format.now) (unsigned_abs d.now.units / 10 ^ d.now.scale)
-            ++ (if nat_lt 0 d.now.scale
-            then (F.answers format.now).decimal
-            ++ plain (last_digits d.now.scale (unsigned_abs d.now.units))
-            else []) }
+        ensures text { self.new ≡ unsigned_text (F.answers format.now) (unsigned_abs d.now.units) d.now.scale }
         ensures room { length self.new + MAX_MIN_LEN ≤ MAX_DECIMAL_LEN }
     {
-        separator_fits(format);
+        texts_fit(format);
+        let n = d.magnitude();
         let scale = d.scale();
-        let (whole, rest) = split(d.magnitude(), scale);
+        // Most numbers fit 64 bits, which take less time than 128.
+        if n <= u64::MAX as u128 && scale < NINETEEN_DIGITS {
+            self.put_narrow(n as u64, scale, format);
+            return;
+        }
+        self.put_wide(n, scale, format);
+    }
+
+    /// Prepends the same text of a number of 64 bits.
+    #[inline]
+    fn put_narrow<F: Format>(&mut self, n: u64, scale: u8, format: &F)
+        requires empty { self.old ≡ [] }
+        requires scale { scale < NINETEEN_DIGITS }
+        ensures { self.new ≡ unsigned_text (F.answers format.now) n scale }
+    {
+        let (whole, rest) = split_narrow(n, scale);
+        self.put_decimals(rest as u128, scale, format);
+        self.put_narrow_whole(whole, format);
+    }
+
+    /// Prepends the same text of any number.
+    #[inline(never)]
+    fn put_wide<F: Format>(&mut self, n: u128, scale: u8, format: &F)
+        requires empty { self.old ≡ [] }
+        requires scale { scale ≤ MAX_SCALE }
+        requires below { n ≤ 2 ^ 127 }
+        requires separator { length (F.answers format.now).separator ≤ MAX_SEP_LEN }
+        ensures { self.new ≡ unsigned_text (F.answers format.now) n scale }
+    {
+        let (whole, rest) = split(n, scale);
         self.put_decimals(rest, scale, format);
         self.put_whole(whole, format);
     }
 
     /// Prepends the decimal mark and `count` decimals to the empty text, or nothing if there are none.
-    #[inline]
+    #[inline(always)]
     fn put_decimals<F: Format>(&mut self, n: u128, count: u8, format: &F)
         requires empty { self.old ≡ [] }
         requires count { count ≤ MAX_SCALE }
@@ -125,19 +156,18 @@ impl DecimalBuffer {
         if count == 0 {
             return;
         }
-        self.put_digits(n, count);
+        self.put_each_decimal(n, count);
         self.put_front(format.decimal().into_str());
     }
 
     /// Prepends the digits of `n`, grouped as the format says.
     fn put_whole<F: Format>(&mut self, n: u128, format: &F)
-        requires { length (body_of (F.answers format.now) n) + length self.old ≤ MAX_DECIMAL_LEN }
+        requires short { length self.old ≤ MAX_SCALE + MAX_DEC_LEN }
+        requires fits { length (body_of (F.answers format.now) n) + length self.old ≤ MAX_DECIMAL_LEN }
         ensures { self.new ≡ body_of (F.answers format.now) n ++ self.old }
     {
-        if n < FOUR_DIGITS {
-            // There is no separator, so the format is not read.
-            let mut printed = itoa::Buffer::new();
-            self.put_front(printed.format(n as u64));
+        if n <= u64::MAX as u128 {
+            self.put_narrow_whole(n as u64, format);
             return;
         }
         // `Buffer::of` would copy the whole array once more.
@@ -146,36 +176,79 @@ impl DecimalBuffer {
         self.put_front(body.as_str());
     }
 
-    /// Prepends the digits of `n`, which has no more than `count`, leading zeros included, to the empty text.
+    /// Prepends the digits of a number of 64 bits, grouped as the format says.
     #[inline]
-    fn put_digits(&mut self, n: u128, count: u8)
+    fn put_narrow_whole<F: Format>(&mut self, n: u64, format: &F)
+        requires { length self.old ≤ MAX_SCALE + MAX_DEC_LEN }
+        ensures { self.new ≡ body_of (F.answers format.now) n ++ self.old }
+    {
+        if n < FOUR_DIGITS {
+            // There is no separator, so the format is not read.
+            self.put_digits(n);
+            return;
+        }
+        let separator = format.separator().into_str();
+        match format.grouping() {
+            Grouping::Standard => self.put_grouped::<3, 3>(n, separator),
+            Grouping::Indian => self.put_grouped::<3, 2>(n, separator),
+            Grouping::Posix => self.put_digits(n),
+            Grouping::Myriad if n < FIVE_DIGITS => self.put_digits(n),
+            Grouping::Myriad => self.put_grouped::<4, 4>(n, separator),
+            Grouping::Sparse if n < FIVE_DIGITS => self.put_digits(n),
+            Grouping::Sparse => self.put_grouped::<3, 3>(n, separator),
+        }
+    }
+
+    /// Prepends the digits of `n` in groups: the last of `LAST` digits, those before it of `SIZE`, and the first of up
+    /// to as many.
+    fn put_grouped<const LAST: u8, const SIZE: u8>(&mut self, n: u64, separator: &str)
+        requires some { 10 ^ LAST ≤ n }
+        requires sizes { (2 ≤ SIZE) × (SIZE ≤ LAST) × (LAST ≤ 4) }
+        requires separator { length separator.now ≤ MAX_SEP_LEN }
+        requires short { length self.old ≤ MAX_SCALE + MAX_DEC_LEN }
+        ensures { (is_due : ℕ → Bool) → HasLastGroup is_due LAST → HasGroups is_due SIZE
+            → self.new ≡ separated is_due separator.now (digits n) ++ self.old }
+    {
+        let last = narrow_power_of_ten(LAST);
+        let base = narrow_power_of_ten(SIZE);
+        self.put_group::<LAST>(n % last, separator);
+        let mut left = n / last;
+        while left >= base {
+            self.put_group::<SIZE>(left % base, separator);
+            left /= base;
+        }
+        self.put_digits(left);
+    }
+
+    /// Prepends a group of digits, and the separator before it.
+    #[inline(always)]
+    fn put_group<const SIZE: u8>(&mut self, group: u64, separator: &str)
+        requires size { SIZE ≤ 4 }
+        requires below { group < 10 ^ SIZE }
+        requires separator { length separator.now ≤ MAX_SEP_LEN }
+        requires fits { length self.old + SIZE + MAX_SEP_LEN ≤ MAX_DECIMAL_LEN }
+        ensures { self.new ≡ separator.now ++ (plain (last_digits SIZE group) ++ self.old) }
+    {
+        self.put_last_digits(group, SIZE);
+        self.put_front(separator);
+    }
+
+    /// Prepends the digits of `n`, which has no more than `count`, leading zeros included, to the empty text.
+    #[inline(always)]
+    fn put_each_decimal(&mut self, n: u128, count: u8)
         requires empty { self.old ≡ [] }
         requires count { count ≤ MAX_SCALE }
         requires below { n < 10 ^ count }
         ensures { self.new ≡ plain (last_digits count n) }
     {
         if count < NINETEEN_DIGITS {
-            self.put_narrow_digits(n as u64, count);
+            self.put_last_digits(n as u64, count);
         } else {
             self.put_wide_digits(n, count);
         }
     }
 
-    /// Prepends the same digits, where they and a digit 1 before them, which keeps leading zeros, are a number of 64
-    /// bits.
-    #[inline]
-    fn put_narrow_digits(&mut self, n: u64, count: u8)
-        requires empty { self.old ≡ [] }
-        requires count { count < NINETEEN_DIGITS }
-        requires below { n < 10 ^ count }
-        ensures { self.new ≡ plain (last_digits count n) }
-    {
-        let mut printed = itoa::Buffer::new();
-        let digits = printed.format(narrow_power_of_ten(count) + n);
-        self.put_front(&digits[1..count as usize + 1]);
-    }
-
-    /// Prepends the same digits, where that number takes more than 64 bits.
+    /// Prepends the same digits, where they and a digit 1 before them are a number of more than 64 bits.
     fn put_wide_digits(&mut self, n: u128, count: u8)
         requires empty { self.old ≡ [] }
         requires count { count ≤ MAX_SCALE }
@@ -185,6 +258,29 @@ impl DecimalBuffer {
         let mut printed = itoa::Buffer::new();
         let digits = printed.format(power_of_ten(count) + n);
         self.put_front(&digits[1..count as usize + 1]);
+    }
+
+    /// Prepends the digits of `n`, which has no more than `count`, leading zeros included.
+    ///
+    /// A digit 1 before them keeps the zeros, and is left out. All are a number of 64 bits.
+    #[inline(always)]
+    fn put_last_digits(&mut self, n: u64, count: u8)
+        requires count { count < NINETEEN_DIGITS }
+        requires below { n < 10 ^ count }
+        requires fits { count + length self.old < MAX_DECIMAL_LEN }
+        ensures { self.new ≡ plain (last_digits count n) ++ self.old }
+    {
+        let one = itoa::write_digits(narrow_power_of_ten(count) + n, &mut self.inner, self.start);
+        self.start = one + 1;
+    }
+
+    /// Prepends the digits of `n`, with nothing between them.
+    #[inline(always)]
+    fn put_digits(&mut self, n: u64)
+        requires { length (digits n) + length self.old ≤ MAX_DECIMAL_LEN }
+        ensures { self.new ≡ plain (digits n) ++ self.old }
+    {
+        self.start = itoa::write_digits(n, &mut self.inner, self.start);
     }
 
     /// Prepends a text.
@@ -199,11 +295,14 @@ impl DecimalBuffer {
     }
 }
 
-/// The separator of a format is within its capacity. The body is for what its calls promise.
-fn separator_fits<F: Format>(format: &F)
-    ensures { length (F.answers format.now).separator ≤ MAX_SEP_LEN }
+/// The separator and the decimal mark of a format are within their capacities. The body is for what its calls promise.
+#[inline]
+fn texts_fit<F: Format>(format: &F)
+    ensures separator { length (F.answers format.now).separator ≤ MAX_SEP_LEN }
+    ensures mark { length (F.answers format.now).decimal ≤ MAX_DEC_LEN }
 {
     format.separator().into_str();
+    format.decimal().into_str();
 }
 
 impl fmt::Display for DecimalBuffer {

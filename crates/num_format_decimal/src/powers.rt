@@ -93,12 +93,13 @@ fn divide(n: u128, one: u128) -> (u128, u128)
 /// Returns the same as [`split`] of a number of 64 bits. A division by a number that is known where the
 /// code is compiled takes a few multiplications.
 #[tactic(auto, using(crate::proofs::ScaleLemmas::power_positive))]
-fn split_narrow(n: u64, scale: u8) -> (u64, u64)
+pub(crate) fn split_narrow(n: u64, scale: u8) -> (u64, u64)
     requires { scale < TWENTY_DIGITS }
     ensures whole { result.0 ≡ n / 10 ^ scale }
     ensures rest { result.1 ≡ n % 10 ^ scale }
 {
     match scale {
+        0 => (n, 0),
         1 => (n / 10, n % 10),
         2 => (n / 100, n % 100),
         3 => (n / 1000, n % 1000),

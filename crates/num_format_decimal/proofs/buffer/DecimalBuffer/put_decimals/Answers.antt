@@ -4,15 +4,15 @@ use Rattle.num_format_decimal.proofs.buffer.DecimalBuffer.put_decimals.Goals as 
 
 pub put_front-requires : goal.put_front-requires
 put_front-requires g c =
-    omega (arith, ap length c.put_digits.ensures, length-plain c.args.count c.args.n, c.into_str.ensures.fits, c.requires.count)
+    omega (arith, ap length c.put_each_decimal.ensures, length-plain c.args.count c.args.n, c.into_str.ensures.fits, c.requires.count)
 
 pub returns-clause-room : goal.returns-clause-room
 returns-clause-room g c =
     omega (
       arith,
-      ap length c.put_digits.ensures,
+      ap length c.put_each_decimal.ensures,
       length-plain c.args.count c.args.n,
       c.into_str.ensures.fits,
       ap length c.put_front.ensures,
-      length-append c.into_str.result.now c.put_digits.new.self,
+      length-append c.into_str.result.now c.put_each_decimal.new.self,
     )

@@ -1,49 +1,16 @@
-use Rattle.std.proofs.Common.{◌/◌, ◌%◌, ◌^◌, ◌≤◌, ◌∙◌, length, ap, arith, length-append}
-use Rattle.std.proofs.Math.Nat.{mod-lt}
-use Rattle.std.specs.Prelude.{unsigned_abs}
-use Rattle.num_format_int.specs.Text.{body_of}
-use Rattle.num_format_decimal.proofs.ScaleLemmas.{power_positive}
-use Rattle.num_format_decimal.proofs.TextLemmas.{unsigned_text, whole_fits}
+use Rattle.std.proofs.Common.{◌≡◌, ℕ, ◌+◌, ◌^◌, ◌≤◌, List, length, ap, arith}
+use Rattle.num_format_text.specs.Format.{FormatData}
+use Rattle.num_format_decimal.specs.Printing.{unsigned_text}
+use Rattle.num_format_decimal.proofs.TextLemmas.{unsigned_text-length}
 use Rattle.num_format_decimal.proofs.buffer.DecimalBuffer.put_unsigned.Goals as goal
 
-pub put_decimals-requires-clause-below : goal.put_decimals-requires-clause-below
-put_decimals-requires-clause-below g c =
-    let rest = c.split-whole.ensures.rest in
-    let below = mod-lt c.magnitude.result (power_positive c.scale-scale.result) in
-    omega (arith, rest, below)
+text_fits : (f : FormatData) (text : List ℕ) (n k : ℕ) → length f.separator ≤ 8 → length f.decimal ≤ 8 → n ≤ 2 ^ 127 → k ≤ 38 → text ≡ unsigned_text f n k → length text + 8 ≤ 199
+text_fits f text n k separator mark small few same = omega (arith, ap length same, unsigned_text-length f n k separator mark small few)
 
-pub put_whole-requires : goal.put_whole-requires
-put_whole-requires g c =
-    let f = g.F.Format.answers c.args.format.now in
-    let n = unsigned_abs c.args.d.now.units in
-    let same = c.scale-scale.ensures.scale in
-    let quotient = c.split-whole.ensures.whole ∙ ap (λ m. m / 10 ^ c.scale-scale.result) c.magnitude.ensures.magnitude ∙ ap (λ j. n / 10 ^ j) same in
-    let small : n ≤ 2 ^ 127 = omega (arith, c.magnitude.ensures.magnitude, c.magnitude.ensures.bound) in
-    let fits = whole_fits f n c.args.d.now.scale c.scale-scale.result c.split-whole.result.0 same c.scale-scale.ensures.bound small c.separator_fits.ensures quotient in
-    omega (arith, fits, c.put_decimals.ensures.room)
+pub returns-then-scale-lt-NINETEEN_DIGITS-clause-room : goal.returns-then-scale-lt-NINETEEN_DIGITS-clause-room
+returns-then-scale-lt-NINETEEN_DIGITS-clause-room g c =
+    text_fits (g.F.Format.answers c.args.format.now) c.put_narrow.new.self c.magnitude-n.result c.scale-scale.result c.texts_fit.ensures.separator c.texts_fit.ensures.mark c.magnitude-n.ensures.bound c.scale-scale.ensures.bound c.put_narrow.ensures
 
 pub returns-clause-room : goal.returns-clause-room
 returns-clause-room g c =
-    let f = g.F.Format.answers c.args.format.now in
-    let n = unsigned_abs c.args.d.now.units in
-    let same = c.scale-scale.ensures.scale in
-    let quotient = c.split-whole.ensures.whole ∙ ap (λ m. m / 10 ^ c.scale-scale.result) c.magnitude.ensures.magnitude ∙ ap (λ j. n / 10 ^ j) same in
-    let small : n ≤ 2 ^ 127 = omega (arith, c.magnitude.ensures.magnitude, c.magnitude.ensures.bound) in
-    let fits = whole_fits f n c.args.d.now.scale c.scale-scale.result c.split-whole.result.0 same c.scale-scale.ensures.bound small c.separator_fits.ensures quotient in
-    omega (
-      arith,
-      fits,
-      c.put_decimals.ensures.room,
-      ap length c.put_whole.ensures,
-      length-append (body_of f c.split-whole.result.0) c.put_decimals.new.self,
-    )
-
-pub returns-clause-text : goal.returns-clause-text
-returns-clause-text g c =
-    let f = g.F.Format.answers c.args.format.now in
-    let n = unsigned_abs c.args.d.now.units in
-    let same = c.scale-scale.ensures.scale in
-    let quotient = c.split-whole.ensures.whole ∙ ap (λ m. m / 10 ^ c.scale-scale.result) c.magnitude.ensures.magnitude ∙ ap (λ j. n / 10 ^ j) same in
-    let remainder = c.split-whole.ensures.rest ∙ ap (λ m. m % 10 ^ c.scale-scale.result) c.magnitude.ensures.magnitude ∙ ap (λ j. n % 10 ^ j) same in
-    unsigned_text f c.put_decimals.new.self c.put_whole.new.self n c.args.d.now.scale c.scale-scale.result c.split-whole.result.0 c.split-whole.result.1
-    same quotient remainder c.put_decimals.ensures.text c.put_whole.ensures
+    text_fits (g.F.Format.answers c.args.format.now) c.put_wide.new.self c.magnitude-n.result c.scale-scale.result c.texts_fit.ensures.separator c.texts_fit.ensures.mark c.magnitude-n.ensures.bound c.scale-scale.ensures.bound c.put_wide.ensures
