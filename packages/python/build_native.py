@@ -92,6 +92,19 @@ int32_t num_format_parse_decimal(const num_format *format, const char *text, siz
                                  uint64_t *high, uint32_t *scale, size_t *at);
 """
 
+# Columns of decimals: the functions of decimal_columns.c.
+DECIMALS = """
+typedef struct num_format_wide {
+    uint64_t low;
+    uint64_t high;
+} num_format_wide;
+
+size_t print_decimals(const num_format *format, const num_format_wide *units, uint32_t scale, size_t row, size_t n,
+                      int64_t *offsets, char *bytes, size_t capacity);
+int32_t parse_decimals(const num_format *format, const int64_t *offsets, const char *bytes, size_t length,
+                       uint32_t scale, num_format_wide *units, int32_t *statuses, size_t n);
+"""
+
 # The calls for columns of numbers, for each of eight types.
 COLUMN_LENGTH = """
 int32_t num_format_print_{type}_column_len(const num_format *format, const {number} *numbers, size_t n,
@@ -162,10 +175,10 @@ def find_library():
 
 library, include = find_library()
 builder = FFI()
-builder.cdef(DECLARATIONS + "".join(column_declarations()))
+builder.cdef(DECLARATIONS + DECIMALS + "".join(column_declarations()))
 builder.set_source(
     "num_format._native",
-    "#include <num_format.h>",
+    (HERE / "decimal_columns.c").read_text(encoding="utf-8"),
     include_dirs=[str(include)],
     extra_objects=[str(library)],
     # So the import fails with a message, and no call with a signal, on a processor below what the library needs.
