@@ -39,6 +39,7 @@ int main(void) {
     memset(&format, 0xff, sizeof format);
     show("print, ones", num_format_print_i64(&format, 1000, text, sizeof text));
     show("print decimal", num_format_print_decimal(&de, 123450, 0, 2, text, sizeof text));
+    printf("length of a decimal: %d\n", num_format_print_decimal_len(&de, 123450, 0, 2));
     show("print decimal, scale 39", num_format_print_decimal(&de, 123450, 0, 39, text, sizeof text));
     show("custom, decimal mark", num_format_custom_decimal(&format, "'", 1, 1, "-", 1, "\xc2\xb7", 2));
     show("print decimal, Standard", num_format_print_decimal(&format, UINT64_MAX - 1234566, UINT64_MAX, 3, text, sizeof text));
@@ -54,6 +55,8 @@ int main(void) {
     show("print, not UTF-8", num_format_print_i64(&format, 1000, text, sizeof text));
     show("print into 4 bytes", num_format_print_i64(&en, 1000, text, 4));
     show("print into 5 bytes", num_format_print_i64(&en, 1000, text, 5));
+    printf("lengths: %d, %d, %d, %d\n", num_format_print_i64_len(&en, INT64_MIN), num_format_print_u64_len(&en, 1000),
+           num_format_print_u128_len(&en, 0, 1), num_format_print_i128_len(&de, UINT64_MAX - 999, UINT64_MAX));
     show("print u64", num_format_print_u64(&en, UINT64_MAX, text, sizeof text));
     show("print u128", num_format_print_u128(&en, UINT64_MAX, 1, text, sizeof text));
     show("print i128", num_format_print_i128(&de, UINT64_MAX - 999, UINT64_MAX, text, sizeof text));
@@ -82,6 +85,9 @@ int main(void) {
     printf("reads back: %d, %d\n", num_format_reads_back(&en), num_format_reads_back(&format));
     printf("prints alike: %d, %d\n", num_format_prints_alike(&en, &de), num_format_prints_alike(&en, &en));
     show("name 90", num_format_names(90, text, sizeof text));
+    show("name for de_AT.UTF-8", num_format_lookup_name("de_AT.UTF-8", 11, text, sizeof text));
+    show("lookup en-us", num_format_lookup(&format, "en-us", 5));
+    show("lookup english", num_format_lookup(&format, "english", 7));
     show("name 542", num_format_names(NUM_FORMAT_LOCALES, text, sizeof text));
     return 0;
 }

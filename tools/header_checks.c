@@ -12,6 +12,7 @@
 
 /* Each call once more: this file does not compile with a header where one has another type. */
 int32_t num_format_locale(num_format *, const char *, size_t);
+int32_t num_format_lookup(num_format *, const char *, size_t);
 int32_t num_format_custom(num_format *, const char *, size_t, uint32_t, const char *, size_t);
 int32_t num_format_custom_decimal(num_format *, const char *, size_t, uint32_t, const char *, size_t, const char *, size_t);
 int32_t num_format_print_i64(const num_format *, int64_t, char *, size_t);
@@ -19,6 +20,11 @@ int32_t num_format_print_u64(const num_format *, uint64_t, char *, size_t);
 int32_t num_format_print_u128(const num_format *, uint64_t, uint64_t, char *, size_t);
 int32_t num_format_print_i128(const num_format *, uint64_t, uint64_t, char *, size_t);
 int32_t num_format_print_decimal(const num_format *, uint64_t, uint64_t, uint32_t, char *, size_t);
+int32_t num_format_print_i64_len(const num_format *, int64_t);
+int32_t num_format_print_u64_len(const num_format *, uint64_t);
+int32_t num_format_print_u128_len(const num_format *, uint64_t, uint64_t);
+int32_t num_format_print_i128_len(const num_format *, uint64_t, uint64_t);
+int32_t num_format_print_decimal_len(const num_format *, uint64_t, uint64_t, uint32_t);
 int32_t num_format_parse_i64(const num_format *, uint32_t, const char *, size_t, int64_t *);
 int32_t num_format_parse_u64(const num_format *, uint32_t, const char *, size_t, uint64_t *);
 int32_t num_format_parse_u128(const num_format *, const char *, size_t, uint64_t *, uint64_t *);
@@ -31,6 +37,7 @@ int32_t num_format_parse_decimal(const num_format *, const char *, size_t, uint6
 int32_t num_format_reads_back(const num_format *);
 int32_t num_format_prints_alike(const num_format *, const num_format *);
 int32_t num_format_names(size_t, char *, size_t);
+int32_t num_format_lookup_name(const char *, size_t, char *, size_t);
 uint32_t num_format_version(void);
 
 /* The calls for columns of a type. */
@@ -86,6 +93,7 @@ static void check_bytes(const char *name, const void *found, const char *expecte
 static void check_text(const num_format *format, int64_t number, const char *expected) {
     char text[NUM_FORMAT_MAX];
     compare(expected, num_format_print_i64(format, number, text, sizeof text), (int)strlen(expected));
+    compare(expected, num_format_print_i64_len(format, number), (int)strlen(expected));
     check_bytes(expected, text, expected);
 }
 
@@ -241,6 +249,9 @@ static void check_errors(void) {
     CHECK(num_format_print_decimal(&zeros, 1, 0, 256 + 2, text, sizeof text), -13);
     CHECK(num_format_print_decimal(&zeros, 1, 0, 38, text, sizeof text), -1);
     CHECK(num_format_print_decimal(&en, 1, 0, 2, text, 3), -2);
+    CHECK(num_format_print_i64_len(&zeros, 1), -1);
+    CHECK(num_format_print_decimal_len(&zeros, 1, 0, 39), -13);
+    CHECK(num_format_print_decimal_len(&zeros, 1, 0, 38), -1);
 }
 
 /* Prints a decimal of units of 64 bits, and compares its text. */
@@ -250,6 +261,7 @@ static void check_decimal(const num_format *format, int64_t units, uint32_t scal
     memset(text, 'x', sizeof text);
     compare(expected, num_format_print_decimal(format, (uint64_t)units, high, scale, text, sizeof text),
             (int)strlen(expected));
+    compare(expected, num_format_print_decimal_len(format, (uint64_t)units, high, scale), (int)strlen(expected));
     check_bytes(expected, text, expected);
     CHECK(text[strlen(expected)], 'x');
 }
@@ -369,15 +381,18 @@ static void check_ends(void) {
     CHECK(num_format_parse_i64(&en, 64, "-9,223,372,036,854,775,808", 26, &number), 0);
     CHECK(number == INT64_MIN, 1);
     CHECK(num_format_print_u64(&en, UINT64_MAX, text, sizeof text), 26);
+    CHECK(num_format_print_u64_len(&en, UINT64_MAX), 26);
     check_bytes("UINT64_MAX", text, "18,446,744,073,709,551,615");
     CHECK(num_format_parse_u64(&en, 64, text, 26, &low), 0);
     CHECK(low == UINT64_MAX, 1);
     CHECK(num_format_print_u128(&en, 3, 1, text, sizeof text), 26);
+    CHECK(num_format_print_u128_len(&en, 3, 1), 26);
     check_bytes("2^64 + 3", text, "18,446,744,073,709,551,619");
     CHECK(num_format_parse_u128(&en, text, 26, &low, &high), 0);
     CHECK(low, 3);
     CHECK(high, 1);
     CHECK(num_format_print_i128(&en, UINT64_MAX - 1, UINT64_MAX, text, sizeof text), 2);
+    CHECK(num_format_print_i128_len(&en, UINT64_MAX - 1, UINT64_MAX), 2);
     check_bytes("-2", text, "-2");
     CHECK(num_format_parse_i128(&en, text, 2, &low, &high), 0);
     CHECK(low == UINT64_MAX - 1 && high == UINT64_MAX, 1);
@@ -392,12 +407,14 @@ static void check_longest(void) {
     CHECK(num_format_print_i128(&format, 0, (uint64_t)1 << 63, text, NUM_FORMAT_MAX - 1), -2);
     for (int i = 0; i < NUM_FORMAT_MAX; i++)
         CHECK(text[i], '.');
+    CHECK(num_format_print_i128_len(&format, 0, (uint64_t)1 << 63), NUM_FORMAT_MAX);
     CHECK(strlen(longest), NUM_FORMAT_MAX);
     CHECK(num_format_print_i128(&format, 0, (uint64_t)1 << 63, text, NUM_FORMAT_MAX), NUM_FORMAT_MAX);
     check_bytes("the longest text", text, longest);
     char decimal[NUM_FORMAT_DECIMAL_MAX];
     CHECK(num_format_custom_decimal(&format, "12345678", 8, 2, "abcdefgh", 8, "ABCDEFGH", 8), 0);
     CHECK(num_format_print_decimal(&format, 0, (uint64_t)1 << 63, 1, decimal, NUM_FORMAT_DECIMAL_MAX - 1), -2);
+    CHECK(num_format_print_decimal_len(&format, 0, (uint64_t)1 << 63, 1), NUM_FORMAT_DECIMAL_MAX);
     CHECK(strlen(longest_decimal), NUM_FORMAT_DECIMAL_MAX);
     CHECK(num_format_print_decimal(&format, 0, (uint64_t)1 << 63, 1, decimal, NUM_FORMAT_DECIMAL_MAX),
           NUM_FORMAT_DECIMAL_MAX);
@@ -467,6 +484,40 @@ static void check_names(void) {
     CHECK(num_format_names(0, name, 1), -2);
 }
 
+/* Language tags: the name of the locale for each, or none. */
+static void check_lookup(void) {
+    static const struct {
+        const char *tag, *name;
+    } cases[] = {
+        {"de_DE.UTF-8", "de"}, {"en-us", "en"},      {"EN", "en"},         {"zh-hant-TW", "zh-Hant"},
+        {"zh-TW", "zh"},       {"sr_RS@latin", "sr"}, {"C", "en-US-POSIX"}, {"c.UTF-8", "en-US-POSIX"},
+        {"posix", "en-US-POSIX"}, {"de-AT-1901", "de-AT"}, {"ca_es_valencia", "ca-ES-VALENCIA"},
+        {"english", NULL},     {"no", NULL},         {"", NULL},           {".UTF-8", NULL},
+    };
+    for (size_t i = 0; i < sizeof cases / sizeof *cases; i++) {
+        const char *tag = cases[i].tag, *expected = cases[i].name;
+        num_format found, named;
+        char name[NUM_FORMAT_MAX];
+        memset(&found, 'x', sizeof found);
+        memset(name, 'x', sizeof name);
+        named = found;
+        int length = expected ? (int)strlen(expected) : -5;
+        compare(tag, num_format_lookup(&found, tag, strlen(tag)), expected ? 0 : -5);
+        compare(tag, num_format_lookup_name(tag, strlen(tag), name, sizeof name), length);
+        if (expected) {
+            compare(tag, num_format_locale(&named, expected, strlen(expected)), 0);
+            check_bytes(tag, name, expected);
+            compare(tag, num_format_lookup_name(tag, strlen(tag), name, strlen(expected) - 1), -2);
+        }
+        compare(tag, memcmp(&found, &named, sizeof found), 0);
+        compare(tag, name[expected ? strlen(expected) : 0], 'x');
+    }
+    num_format format;
+    char name[2];
+    CHECK(num_format_lookup(&format, "de\xff", 3), -3);
+    CHECK(num_format_lookup_name("de\xff", 3, name, sizeof name), -3);
+}
+
 int main(void) {
     check_constants();
     check_layout();
@@ -480,6 +531,7 @@ int main(void) {
     check_ends();
     check_longest();
     check_names();
+    check_lookup();
     check_columns();
     return status;
 }

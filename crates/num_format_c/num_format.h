@@ -53,7 +53,7 @@ enum {
     NUM_FORMAT_TOO_SMALL = -2,      /* the array is shorter than the text */
     NUM_FORMAT_NOT_UTF8 = -3,       /* a text is not UTF-8 */
     NUM_FORMAT_NOT_A_NUMBER = -4,   /* the text is refused as a number: see num_format_parse_i64 */
-    NUM_FORMAT_UNKNOWN_LOCALE = -5, /* no locale has the name, or there is none at the place */
+    NUM_FORMAT_UNKNOWN_LOCALE = -5, /* there is no locale of the name, for the tag or at the place */
     NUM_FORMAT_TOO_LONG = -6,       /* a text of the format has more than 8 bytes */
     NUM_FORMAT_BAD_GROUPING = -7,   /* the number stands for no grouping */
     NUM_FORMAT_BAD_BITS = -8,       /* the number of bits is not 8, 16, 32 or 64 */
@@ -80,8 +80,8 @@ enum {
     NUM_FORMAT_SPARSE = 5    /* 1000 and 10,000 */
 };
 
-/* A format. Fill it by num_format_locale, num_format_custom or num_format_custom_decimal, and copy it as
- * you like.
+/* A format. Fill it by num_format_locale, num_format_lookup, num_format_custom or num_format_custom_decimal,
+ * and copy it as you like.
  *
  * Each call that is given a format tests it, and refuses with NUM_FORMAT_BAD_FORMAT one that cannot
  * be a format: a length above 8, a text that is not UTF-8, a number of no grouping. A struct of
@@ -105,6 +105,16 @@ typedef struct num_format {
  *
  * Errors: NUM_FORMAT_NOT_UTF8, else NUM_FORMAT_UNKNOWN_LOCALE. */
 int32_t num_format_locale(num_format *format, const char *name, size_t length);
+
+/* Fills the struct with the format of the locale for a language tag, as an environment or a browser gives one,
+ * and returns 0. It is that of the longest name with which the tag begins.
+ *
+ * What follows the first "." or "@" does not count, nor does the case of ASCII letters, and an underscore counts
+ * as a hyphen. A name counts only if the tag ends after it, or goes on with a hyphen: "de_DE.UTF-8" is "de",
+ * "en-us" is "en", "zh-hant-TW" is "zh-Hant", "sr_RS@latin" is "sr". "C" and "POSIX" are "en-US-POSIX".
+ *
+ * Errors: NUM_FORMAT_NOT_UTF8, else NUM_FORMAT_UNKNOWN_LOCALE: the tag begins with no name, as "english". */
+int32_t num_format_lookup(num_format *format, const char *tag, size_t length);
 
 /* Fills the struct with a separator of at most 8 bytes, a grouping, a minus sign of at most 8 bytes and the
  * decimal mark ".", and returns 0. Either text may be empty.
@@ -134,6 +144,15 @@ int32_t num_format_print_u128(const num_format *format, uint64_t low, uint64_t h
 int32_t num_format_print_i128(const num_format *format, uint64_t low, uint64_t high, char *text,
                               size_t capacity);
 
+/* Return the length of the text that num_format_print_i64 and its siblings print, from 1 to NUM_FORMAT_MAX:
+ * the capacity that is needed.
+ *
+ * Error: NUM_FORMAT_BAD_FORMAT. */
+int32_t num_format_print_i64_len(const num_format *format, int64_t number);
+int32_t num_format_print_u64_len(const num_format *format, uint64_t number);
+int32_t num_format_print_u128_len(const num_format *format, uint64_t low, uint64_t high);
+int32_t num_format_print_i128_len(const num_format *format, uint64_t low, uint64_t high);
+
 /* Prints a decimal at the start of the array, and returns the length of its text, from 1 to
  * NUM_FORMAT_DECIMAL_MAX. The other bytes of the array are as they were.
  *
@@ -145,6 +164,11 @@ int32_t num_format_print_i128(const num_format *format, uint64_t low, uint64_t h
  * Errors: NUM_FORMAT_BAD_SCALE, else NUM_FORMAT_BAD_FORMAT, else NUM_FORMAT_TOO_SMALL. */
 int32_t num_format_print_decimal(const num_format *format, uint64_t low, uint64_t high, uint32_t scale,
                                  char *text, size_t capacity);
+
+/* Returns the length of the text that num_format_print_decimal prints, from 1 to NUM_FORMAT_DECIMAL_MAX.
+ *
+ * Errors: NUM_FORMAT_BAD_SCALE, else NUM_FORMAT_BAD_FORMAT. */
+int32_t num_format_print_decimal_len(const num_format *format, uint64_t low, uint64_t high, uint32_t scale);
 
 /* Parse a text as a number of 8, 16, 32 or 64 bits, write it, and return 0.
  *
@@ -247,6 +271,12 @@ int32_t num_format_prints_alike(const num_format *first, const num_format *secon
  *
  * Errors: NUM_FORMAT_UNKNOWN_LOCALE, else NUM_FORMAT_TOO_SMALL. */
 int32_t num_format_names(size_t place, char *name, size_t capacity);
+
+/* Writes the name of the locale for a language tag, as num_format_lookup finds it, at the start of the array,
+ * and returns its length. The other bytes of the array are as they were.
+ *
+ * Errors: NUM_FORMAT_NOT_UTF8, else NUM_FORMAT_UNKNOWN_LOCALE, else NUM_FORMAT_TOO_SMALL. */
+int32_t num_format_lookup_name(const char *tag, size_t tag_length, char *name, size_t capacity);
 
 /* Returns the version of the library, as NUM_FORMAT_VERSION says that of the header. */
 uint32_t num_format_version(void);

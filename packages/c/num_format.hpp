@@ -70,18 +70,17 @@ template <class T> constexpr bool is_number = std::is_integral_v<T> && !std::is_
 class format {
 public:
     /// The format of a locale. Throws not_utf8 or unknown_locale.
-    static format locale(std::string_view name) {
-        format made;
-        check(num_format_locale(&made.held, pointer(name), name.size()));
-        return made;
-    }
+    static format locale(std::string_view name) { return filled(num_format_locale, name); }
+
+    /// The format of the locale for a language tag, such as "de_DE.UTF-8". Throws not_utf8 or unknown_locale.
+    static format lookup(std::string_view tag) { return filled(num_format_lookup, tag); }
 
     /// A format of your own. Throws not_utf8, too_long or bad_grouping.
     static format custom(std::string_view separator, std::uint32_t grouping, std::string_view minus_sign = "-",
                          std::string_view decimal_mark = ".") {
         format made;
-        check(num_format_custom_decimal(&made.held, pointer(separator), separator.size(), grouping, pointer(minus_sign),
-                                        minus_sign.size(), pointer(decimal_mark), decimal_mark.size()));
+        check(num_format_custom_decimal(&made.held, separator.data(), separator.size(), grouping, minus_sign.data(),
+                                        minus_sign.size(), decimal_mark.data(), decimal_mark.size()));
         return made;
     }
 
@@ -102,21 +101,19 @@ public:
         std::conditional_t<std::is_signed_v<T>, std::int64_t, std::uint64_t> number = 0;
         std::size_t at = 0;
         if constexpr (std::is_signed_v<T>)
-            check(num_format_parse_strict_i64(&held, 8 * sizeof(T), pointer(text), text.size(), &number, &at), at);
+            check(num_format_parse_strict_i64(&held, 8 * sizeof(T), text.data(), text.size(), &number, &at), at);
         else
-            check(num_format_parse_strict_u64(&held, 8 * sizeof(T), pointer(text), text.size(), &number, &at), at);
+            check(num_format_parse_strict_u64(&held, 8 * sizeof(T), text.data(), text.size(), &number, &at), at);
         return T(number);
     }
 
     /// The texts of many numbers. Throws too_many_bytes.
     column print(const std::vector<std::int64_t> &numbers) const {
-        static const std::int64_t none = 0;
-        const std::int64_t *first = numbers.empty() ? &none : numbers.data();
         std::size_t size = 0;
-        check(num_format_print_i64_column_len(&held, first, numbers.size(), &size));
+        check(num_format_print_i64_column_len(&held, numbers.data(), numbers.size(), &size));
         column made{std::vector<std::int64_t>(numbers.size() + 1), std::string(size, '0')};
-        check(num_format_print_i64_large_column(&held, first, numbers.size(), made.offsets.data(), made.offsets.size(),
-                                                made.bytes.data(), size));
+        check(num_format_print_i64_large_column(&held, numbers.data(), numbers.size(), made.offsets.data(),
+                                                made.offsets.size(), made.bytes.data(), size));
         return made;
     }
 
@@ -140,8 +137,12 @@ public:
     bool operator!=(const format &other) const { return bytes() != other.bytes(); }
 private:
     format() : held() {}
+    static format filled(std::int32_t (*fill)(num_format *, const char *, std::size_t), std::string_view name) {
+        format made;
+        check(fill(&made.held, name.data(), name.size()));
+        return made;
+    }
     std::string_view bytes() const { return {reinterpret_cast<const char *>(&held), sizeof held}; }
-    static const char *pointer(std::string_view text) { return text.empty() ? "" : text.data(); }
     num_format held;
 };
 } // namespace numfmt

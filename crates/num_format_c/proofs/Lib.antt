@@ -1,5 +1,6 @@
 pub mod CallLemmas
 pub mod DecimalLemmas
+pub mod LengthLemmas
 pub mod NameLemmas
 pub mod StrictLemmas
 pub mod TextLemmas

@@ -24,7 +24,7 @@ unfolding families members table_names
 length_names = refl
 
 -- each name is
-short : (place : ℕ) → place < LEN → length (name_of place) ≤ MAX_DECIMAL_LEN
+pub short : (place : ℕ) → place < LEN → length (name_of place) ≤ MAX_DECIMAL_LEN
 short place within = leb-true _ _ (AllPass-from_list_all is_short table_names all_short place [] (omega (arith, length_names)))
 
 -- so is each name behind a reference

@@ -1,10 +1,11 @@
 -- What the calls of C return and write.
-use Rattle.std.specs.Prelude.{◌≡◌, ℕ, ◌+◌, ◌*◌, ◌^◌, ◌<◌, ◌≤◌, ◌==◌, ℤ, pos, negsuc, List, ◌++◌, length, drop, Option, Some, None, Result, Ok, Err, IfSome, MatchResult, IsUtf8, if◌then◌else◌}
+use Rattle.std.specs.Prelude.{◌≡◌, ℕ, ◌+◌, ◌*◌, ◌^◌, ◌<◌, ◌≤◌, ◌==◌, ℤ, pos, negsuc, List, ◌++◌, length, drop, Option, Some, None, Result, Ok, Err, IfSome, MatchOption, MatchResult, IsUtf8, if◌then◌else◌}
 use Rattle.std.specs.Int.{cast_signed, w128}
 use Rattle.num_format.specs.Constants.{LEN}
 use Rattle.num_format.specs.Data.{locale_data}
 use Rattle.num_format.specs.Format.{FormatData}
 use Rattle.num_format.specs.Kind.{Kind, kind_of, U8, U16, U32, U64, I8, I16, I32, I64}
+use Rattle.num_format.specs.Lookup.{LooksUpTag}
 use Rattle.num_format.specs.Names.{Spells, name_of}
 use Rattle.num_format.specs.Reading.{Refused, denoted}
 use Rattle.num_format.specs.Strict.{IsCause, ParsesStrictly}
@@ -72,6 +73,16 @@ pub record PrintsDecimal (s : NumFormat) (units : ℤ) (scale : ℕ) (old new : 
   pub bad_scale : MAX_SCALE < scale → Fails BadScale old new result
   pub bad_format : scale ≤ MAX_SCALE → ¬ HasFormat s → Fails BadFormat old new result
   pub text : scale ≤ MAX_SCALE → HasFormat s → Writes (decimal_text (format_of s) (fixed_point units scale)) old new result
+
+-- the length of a text under the format of a struct is returned
+pub record ReturnsLength (s : NumFormat) (text : FormatData → List ℕ) (result : ℤ) : Type 0 where
+  pub bad_format : ¬ HasFormat s → result ≡ code BadFormat
+  pub size : HasFormat s → result ≡ pos (length (text (format_of s)))
+
+-- the length of the text of a decimal under the format of a struct is returned
+pub record ReturnsDecimalLength (s : NumFormat) (units : ℤ) (scale : ℕ) (result : ℤ) : Type 0 where
+  pub bad_scale : MAX_SCALE < scale → result ≡ code BadScale
+  pub measured : scale ≤ MAX_SCALE → ReturnsLength s (λ f. decimal_text f (fixed_point units scale)) result
 
 -- a text is parsed under the format of a struct as a number of the kind
 pub record Parses {A : Type 0} (k : Kind) (value : A → ℤ) (s : NumFormat) (text : List ℕ) (result : Result A Status) : Type 0 where
@@ -171,6 +182,16 @@ pub record FillsLocale (name : List ℕ) (old new : NumFormat) (result : ℤ) : 
   pub not_utf8 : ¬ IsUtf8 name → Fails NotUtf8 old new result
   pub unknown : IsUtf8 name → ((place : ℕ) → place < LEN → ¬ Spells name (name_of place)) → Fails UnknownLocale old new result
   pub found : IsUtf8 name → (place : ℕ) → place < LEN → Spells name (name_of place) → Fills (locale_data place) new result
+
+-- the locale for a language tag is found, or the tag is refused
+pub record FindsLocale (tag : List ℕ) (result : Result ℕ Status) : Type 0 where
+  pub not_utf8 : ¬ IsUtf8 tag → result ≡ Err NotUtf8
+  pub found : IsUtf8 tag → MatchResult result (λ place. LooksUpTag tag (Some place)) (λ status. (status ≡ UnknownLocale) × LooksUpTag tag None)
+
+-- a language tag is looked up, and `Found` holds of the place of the locale for it
+pub record ByTag {A : Type 0} (tag : List ℕ) (old new : A) (result : ℤ) (Found : ℕ → Type 0) : Type 0 where
+  pub not_utf8 : ¬ IsUtf8 tag → Fails NotUtf8 old new result
+  pub looked_up : IsUtf8 tag → (found : Option ℕ) × (LooksUpTag tag found × MatchOption found (Fails UnknownLocale old new result) Found)
 
 -- three texts are UTF-8
 abbrev pub AreUtf8 : List ℕ → List ℕ → List ℕ → Type 0

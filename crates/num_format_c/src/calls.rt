@@ -1,12 +1,15 @@
 //! What the calls do, with Rust's types.
 ghost use Rattle.std.specs.Prelude.{◌≡◌, ◌≢◌, ◌+◌, ◌<◌, ◌≤◌, length, pos, Err, MatchOption, if◌then◌else◌};
 ghost use Rattle.num_format.specs.Alike.{Alike};
+ghost use Rattle.num_format.specs.Constants.{MAX_BUF_LEN};
+ghost use Rattle.num_format.specs.Data.{locale_data};
+ghost use Rattle.num_format.specs.Names.{name_of};
 ghost use Rattle.num_format.specs.RoundTrips.{RoundTrips};
 ghost use Rattle.num_format.specs.Text.{text_of};
 ghost use Rattle.num_format_decimal.specs.FixedPoint.{fixed_point};
 ghost use Rattle.num_format_decimal.specs.declared.buffer.TheConstants.{MAX_DECIMAL_LEN};
 ghost use Rattle.num_format_decimal.specs.declared.decimal.TheConstants.{MAX_SCALE};
-ghost use Rattle.num_format_c.specs.Calls.{FillsCustom, FillsLocale, Parses, ParsesDecimalUnder, ParsesExactly, Prints, PrintsDecimal, Tells, Writes, WritesName, decimal_place_of, decimal_status_of, place_of, returned, signed_kind, status_of, unsigned_kind};
+ghost use Rattle.num_format_c.specs.Calls.{ByTag, Fills, FillsCustom, FillsLocale, FindsLocale, ReturnsLength, ReturnsDecimalLength, Parses, ParsesDecimalUnder, ParsesExactly, Prints, PrintsDecimal, Tells, Writes, WritesName, decimal_place_of, decimal_status_of, place_of, returned, signed_kind, status_of, unsigned_kind};
 ghost use Rattle.num_format_c.specs.declared.status.Status.TheVariants.{BadBits};
 ghost use Rattle.num_format_c.specs.Held.{HasFormat, format_of};
 
@@ -30,6 +33,29 @@ pub fn fill_locale(format: &mut NumFormat, name: &[u8]) -> Result<i32, Status>
     };
     *format = NumFormat::new(&locale);
     Ok(0)
+}
+
+/// Fills the struct with the format of the locale for a language tag, and returns 0.
+pub fn fill_by_tag(format: &mut NumFormat, tag: &[u8]) -> Result<i32, Status>
+    ensures { ByTag tag.now format.old format.new (returned result)
+        (λ place. Fills (locale_data place) format.new (returned result)) }
+{
+    let locale = locale_for(tag)?;
+    *format = NumFormat::new(&locale);
+    Ok(0)
+}
+
+/// Returns the locale for a language tag.
+fn locale_for(tag: &[u8]) -> Result<Locale, Status>
+    ensures { FindsLocale tag.now result }
+{
+    let Ok(tag) = str::from_utf8(tag) else {
+        return Err(Status::NotUtf8);
+    };
+    let Some(locale) = Locale::lookup(tag) else {
+        return Err(Status::UnknownLocale);
+    };
+    Ok(locale)
 }
 
 /// Prints the number at the start of the array, and returns the length of the text.
@@ -62,6 +88,27 @@ fn print_under<F: Format, N: ToFormattedStr>(
     write(Buffer::of(number, format).as_str(), text)
 }
 
+/// Returns the length of the text of the number, which is not printed.
+pub fn text_len<N: ToFormattedStr>(format: &NumFormat, number: &N) -> Result<i32, Status>
+    ensures { ReturnsLength format.now (λ f. text_of f (N.value number.now)) (returned result) }
+{
+    let Some(format) = Held::new(format) else {
+        return Err(Status::BadFormat);
+    };
+    text_fits(number, &format);
+    Ok(num_format::text_len(number, &format) as i32)
+}
+
+/// The text of a number fits a buffer. The body is for what its calls promise.
+#[inline(always)]
+fn text_fits<N: ToFormattedStr, F: Format>(number: &N, format: &F)
+    ensures { length (text_of (F.answers format.now) (N.value number.now)) ≤ MAX_BUF_LEN }
+{
+    number.magnitude();
+    format.minus_sign().into_str();
+    format.separator().into_str();
+}
+
 /// Prints the decimal at the start of the array, and returns the length of the text.
 pub fn print_decimal(
     format: &NumFormat,
@@ -78,6 +125,19 @@ pub fn print_decimal(
         return Err(Status::BadFormat);
     };
     write(DecimalBuffer::of(&number, &format).as_str(), text)
+}
+
+/// Returns the length of the text of the decimal.
+pub fn decimal_len(format: &NumFormat, units: i128, scale: u32) -> Result<i32, Status>
+    ensures { ReturnsDecimalLength format.now units scale (returned result) }
+{
+    let Some(number) = decimal_of(units, scale) else {
+        return Err(Status::BadScale);
+    };
+    let Some(format) = Held::new(format) else {
+        return Err(Status::BadFormat);
+    };
+    Ok(DecimalBuffer::of(&number, &format).as_str().len() as i32)
 }
 
 /// Returns the decimal with these units and this scale, or `None` if the scale is too large.
@@ -325,6 +385,15 @@ pub fn name(place: usize, array: &mut [u8]) -> Result<i32, Status>
         return Err(Status::UnknownLocale);
     }
     write(names[place], array)
+}
+
+/// Writes the name of the locale for a language tag at the start of the array, and returns its length.
+pub fn name_by_tag(tag: &[u8], array: &mut [u8]) -> Result<i32, Status>
+    ensures { ByTag tag.now array.old array.new (returned result)
+        (λ place. Writes (name_of place) array.old array.new (returned result)) }
+{
+    let locale = locale_for(tag)?;
+    write(locale.name(), array)
 }
 
 /// Returns whether each number parses again from its text under the format.

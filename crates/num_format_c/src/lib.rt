@@ -10,10 +10,13 @@
 
 ghost use Rattle.std.specs.Prelude.{◌≡◌, ◌+◌, ◌*◌, ◌^◌, codes, pos, MatchOption};
 ghost use Rattle.num_format.specs.Alike.{Alike};
+ghost use Rattle.num_format.specs.Data.{locale_data};
 ghost use Rattle.num_format.specs.Kind.{kind_of, I128, U128};
+ghost use Rattle.num_format.specs.Names.{name_of};
 ghost use Rattle.num_format.specs.RoundTrips.{RoundTrips};
+ghost use Rattle.num_format.specs.Text.{text_of};
 ghost use Rattle.num_format_decimal.specs.FixedPoint.{fixed_point};
-ghost use Rattle.num_format_c.specs.Calls.{Fails, FillsCustom, FillsLocale, ParsesDecimalInto, ParsesExactlyInto, ParsesInto, Prints, PrintsDecimal, Tells, WritesName, signed_kind, signed_wide, unsigned_kind, unsigned_wide};
+ghost use Rattle.num_format_c.specs.Calls.{ByTag, Fails, Fills, FillsCustom, FillsLocale, ReturnsLength, ReturnsDecimalLength, ParsesDecimalInto, ParsesExactlyInto, ParsesInto, Prints, PrintsDecimal, Tells, Writes, WritesName, signed_kind, signed_wide, unsigned_kind, unsigned_wide};
 ghost use Rattle.num_format_c.specs.declared.status.Status.TheVariants.{BadBits};
 ghost use Rattle.num_format_c.specs.Held.{HasFormat, format_of};
 
@@ -47,6 +50,17 @@ pub extern "C" fn num_format_locale(format: &mut NumFormat, name: &[u8]) -> i32
     ensures { FillsLocale name.now format.old format.new result }
 {
     returned(calls::fill_locale(format, name))
+}
+
+/// Fills the struct with the format of the locale for a language tag, which [`Locale::lookup`](num_format::Locale::lookup)
+/// finds, and returns 0.
+///
+/// Errors: a tag that is not UTF-8, or for which there is no locale.
+#[unsafe(no_mangle)]
+pub extern "C" fn num_format_lookup(format: &mut NumFormat, tag: &[u8]) -> i32
+    ensures { ByTag tag.now format.old format.new result (λ place. Fills (locale_data place) format.new result) }
+{
+    returned(calls::fill_by_tag(format, tag))
 }
 
 /// Fills the struct with a separator and a minus sign of at most 8 bytes each, the grouping for which the
@@ -141,6 +155,55 @@ pub extern "C" fn num_format_print_decimal(
 {
     let units = joined(low, high).cast_signed();
     returned(calls::print_decimal(format, units, scale, text))
+}
+
+/// Returns the length of the text that [`num_format_print_i64`] prints.
+///
+/// Error: a struct that has no format.
+#[unsafe(no_mangle)]
+pub extern "C" fn num_format_print_i64_len(format: &NumFormat, number: i64) -> i32
+    ensures { ReturnsLength format.now (λ f. text_of f number) result }
+{
+    returned(calls::text_len::<i64>(format, &number))
+}
+
+/// Returns the length of the text that [`num_format_print_u64`] prints, as [`num_format_print_i64_len`] does.
+#[unsafe(no_mangle)]
+pub extern "C" fn num_format_print_u64_len(format: &NumFormat, number: u64) -> i32
+    ensures { ReturnsLength format.now (λ f. text_of f (pos number)) result }
+{
+    returned(calls::text_len::<u64>(format, &number))
+}
+
+/// Returns the length of the text that [`num_format_print_u128`] prints, as [`num_format_print_i64_len`] does.
+#[unsafe(no_mangle)]
+pub extern "C" fn num_format_print_u128_len(format: &NumFormat, low: u64, high: u64) -> i32
+    ensures { ReturnsLength format.now (λ f. text_of f (unsigned_wide low high)) result }
+{
+    returned(calls::text_len(format, &joined(low, high)))
+}
+
+/// Returns the length of the text that [`num_format_print_i128`] prints, as [`num_format_print_i64_len`] does.
+#[unsafe(no_mangle)]
+pub extern "C" fn num_format_print_i128_len(format: &NumFormat, low: u64, high: u64) -> i32
+    ensures { ReturnsLength format.now (λ f. text_of f (signed_wide low high)) result }
+{
+    returned(calls::text_len(format, &joined(low, high).cast_signed()))
+}
+
+/// Returns the length of the text that [`num_format_print_decimal`] prints.
+///
+/// Errors, in this order: a scale above 38, a struct that has no format.
+#[unsafe(no_mangle)]
+pub extern "C" fn num_format_print_decimal_len(
+    format: &NumFormat,
+    low: u64,
+    high: u64,
+    scale: u32,
+) -> i32
+    ensures { ReturnsDecimalLength format.now (signed_wide low high) scale result }
+{
+    returned(calls::decimal_len(format, joined(low, high).cast_signed(), scale))
 }
 
 /// Parses the text as a signed number of 8, 16, 32 or 64 bits, writes the number, and returns 0.
@@ -381,4 +444,16 @@ pub extern "C" fn num_format_names(place: usize, name: &mut [u8]) -> i32
     ensures { WritesName place name.old name.new result }
 {
     returned(calls::name(place, name))
+}
+
+/// Writes the name of the locale for a language tag, which [`Locale::lookup`](num_format::Locale::lookup)
+/// finds, at the start of the array, and returns its length.
+///
+/// Errors, in this order: a tag that is not UTF-8, a tag for which there is no locale, an array that is
+/// shorter than the name.
+#[unsafe(no_mangle)]
+pub extern "C" fn num_format_lookup_name(tag: &[u8], name: &mut [u8]) -> i32
+    ensures { ByTag tag.now name.old name.new result (λ place. Writes (name_of place) name.old name.new result) }
+{
+    returned(calls::name_by_tag(tag, name))
 }

@@ -13,7 +13,7 @@ pub enum Status {
     NotUtf8,
     /// The text is refused as a number of the kind.
     NotANumber,
-    /// No locale has the name, or there is none at the place.
+    /// There is no locale of the name, for the tag or at the place.
     UnknownLocale,
     /// The separator, the minus sign or the decimal mark has more than 8 bytes.
     TooLong,

@@ -100,6 +100,8 @@ static void check_null(const num_format *format) {
     int32_t offset = -1;
     size_t at = 7, size = 7;
     CHECK("null name", 0, num_format_locale(&filled, NULL, 0), NUM_FORMAT_UNKNOWN_LOCALE);
+    CHECK("null tag", 0, num_format_lookup(&filled, NULL, 0), NUM_FORMAT_UNKNOWN_LOCALE);
+    CHECK("null tag and array of a name", 0, num_format_lookup_name(NULL, 0, NULL, 0), NUM_FORMAT_UNKNOWN_LOCALE);
     CHECK("null separator and minus sign", 0, num_format_custom(&filled, NULL, 0, 1, NULL, 0), 0);
     CHECK("null decimal mark", 0, num_format_custom_decimal(&filled, NULL, 0, 1, NULL, 0, NULL, 0), 0);
     CHECK("null array", 0, num_format_print_i64(format, 1, NULL, 0), NUM_FORMAT_TOO_SMALL);

@@ -27,6 +27,7 @@ int main() {
     const auto own = numfmt::format::custom("'", NUM_FORMAT_INDIAN, "~");
     check("print", de.print(-1234567) == "-1.234.567");
     check("print, unsigned", de.print(std::uint64_t(-1)) == "18.446.744.073.709.551.615");
+    check("lookup", numfmt::format::lookup("de_DE.UTF-8") == de);
     check("print, own", own.print(std::int64_t(-1234567)) == "~12'34'567");
     check("parse", de.parse<std::int16_t>("-1.234") == -1234);
     check("parse, unsigned", de.parse<std::uint8_t>("255") == 255);
@@ -39,6 +40,8 @@ int main() {
     check("not_utf8", throws<numfmt::not_utf8>([&] { de.parse<int>("\xff"); }, -3));
     check("unknown_locale", throws<numfmt::unknown_locale>([] { numfmt::format::locale("xx"); }, -5));
     check("unknown_locale, empty", throws<numfmt::unknown_locale>([] { numfmt::format::locale({}); }, -5));
+    check("unknown_locale, tag", throws<numfmt::unknown_locale>([] { numfmt::format::lookup({}); }, -5));
+    check("not_utf8, tag", throws<numfmt::not_utf8>([] { numfmt::format::lookup("de\xff"); }, -3));
     check("too_long", throws<numfmt::too_long>([] { numfmt::format::custom("123456789", 1); }, -6));
     check("bad_grouping", throws<numfmt::bad_grouping>([] { numfmt::format::custom(",", 6); }, -7));
     check("error", throws<numfmt::error>([] { numfmt::format::locale("xx"); }, -5));
