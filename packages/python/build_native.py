@@ -65,6 +65,7 @@ int32_t num_format_custom_decimal(num_format *format, const char *separator, siz
                                   uint32_t grouping, const char *minus_sign, size_t minus_sign_length,
                                   const char *decimal_mark, size_t decimal_mark_length);
 int32_t num_format_names(size_t place, char *name, size_t capacity);
+int32_t num_format_lookup_name(const char *tag, size_t tag_length, char *name, size_t capacity);
 int32_t num_format_reads_back(const num_format *format);
 int32_t num_format_prints_alike(const num_format *first, const num_format *second);
 

@@ -108,7 +108,7 @@ class FormatError(NumFormatError):
     num_format.FormatError: separator '123456789' is refused: it has more than 8 bytes
 
     Attributes:
-        argument: ``"locale"``, or the name of the argument of :class:`Format`.
+        argument: ``"locale"``, ``"tag"``, or the name of the argument of :class:`Format`.
         text: The text.
         cause: Why it is refused.
     """
