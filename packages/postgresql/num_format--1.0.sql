@@ -24,9 +24,14 @@ CREATE FUNCTION num_parse_decimal(text, locale text) RETURNS numeric
     AS 'MODULE_PATHNAME', 'num_parse_decimal'
     LANGUAGE C IMMUTABLE STRICT PARALLEL SAFE;
 
+CREATE FUNCTION num_locale(tag text) RETURNS text
+    AS 'MODULE_PATHNAME', 'num_locale'
+    LANGUAGE C IMMUTABLE STRICT PARALLEL SAFE;
+
 COMMENT ON FUNCTION num_format(smallint, text) IS 'the number as the locale prints it';
 COMMENT ON FUNCTION num_format(integer, text) IS 'the number as the locale prints it';
 COMMENT ON FUNCTION num_format(bigint, text) IS 'the number as the locale prints it';
 COMMENT ON FUNCTION num_format(numeric, text) IS 'the number as the locale prints it, with all its decimals';
 COMMENT ON FUNCTION num_parse(text, text) IS 'the whole number that the locale prints as this text';
 COMMENT ON FUNCTION num_parse_decimal(text, text) IS 'the number that the locale prints as this text';
+COMMENT ON FUNCTION num_locale(text) IS 'the name of the locale for a language tag, as de_DE.UTF-8';

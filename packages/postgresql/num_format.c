@@ -25,6 +25,7 @@ PG_FUNCTION_INFO_V1(num_format_bigint);
 PG_FUNCTION_INFO_V1(num_format_numeric);
 PG_FUNCTION_INFO_V1(num_parse);
 PG_FUNCTION_INFO_V1(num_parse_decimal);
+PG_FUNCTION_INFO_V1(num_locale);
 
 /* Numbers as SQL writes them, as -1234.50. */
 static const num_format plain = {
@@ -225,4 +226,18 @@ num_parse_decimal(PG_FUNCTION_ARGS)
 	number[num_format_print_decimal(&plain, low, high, scale, number, NUM_FORMAT_DECIMAL_MAX)] = '\0';
 	PG_RETURN_DATUM(DirectFunctionCall3(numeric_in, CStringGetDatum(number), ObjectIdGetDatum(InvalidOid),
 										Int32GetDatum(-1)));
+}
+
+/* Null is returned where the tag is of no locale. */
+Datum
+num_locale(PG_FUNCTION_ARGS)
+{
+	Utf8		tag = utf8_argument(fcinfo);
+	char		name[NUM_FORMAT_MAX];
+	int			length = num_format_lookup_name(tag.bytes, tag.length, name, sizeof(name));
+
+	if (length < 0)
+		PG_RETURN_NULL();
+	/* Names are ASCII, so they are the same in each encoding. */
+	PG_RETURN_TEXT_P(cstring_to_text_with_len(name, length));
 }

@@ -65,6 +65,7 @@ int32_t num_format_custom_decimal(num_format *format, const char *separator, siz
                                   uint32_t grouping, const char *minus_sign, size_t minus_sign_length,
                                   const char *decimal_mark, size_t decimal_mark_length);
 int32_t num_format_names(size_t place, char *name, size_t capacity);
+int32_t num_format_lookup_name(const char *tag, size_t tag_length, char *name, size_t capacity);
 int32_t num_format_reads_back(const num_format *format);
 int32_t num_format_prints_alike(const num_format *first, const num_format *second);
 
@@ -90,6 +91,19 @@ int32_t num_format_parse_strict_i128(const num_format *format, const char *text,
                                      uint64_t *low, uint64_t *high, size_t *at);
 int32_t num_format_parse_decimal(const num_format *format, const char *text, size_t length, uint64_t *low,
                                  uint64_t *high, uint32_t *scale, size_t *at);
+"""
+
+# Columns of decimals: the functions of decimal_columns.c.
+DECIMALS = """
+typedef struct num_format_wide {
+    uint64_t low;
+    uint64_t high;
+} num_format_wide;
+
+size_t print_decimals(const num_format *format, const num_format_wide *units, uint32_t scale, size_t row, size_t n,
+                      int64_t *offsets, char *bytes, size_t capacity);
+int32_t parse_decimals(const num_format *format, const int64_t *offsets, const char *bytes, size_t length,
+                       uint32_t scale, num_format_wide *units, int32_t *statuses, size_t n);
 """
 
 # The calls for columns of numbers, for each of eight types.
@@ -162,10 +176,10 @@ def find_library():
 
 library, include = find_library()
 builder = FFI()
-builder.cdef(DECLARATIONS + "".join(column_declarations()))
+builder.cdef(DECLARATIONS + DECIMALS + "".join(column_declarations()))
 builder.set_source(
     "num_format._native",
-    "#include <num_format.h>",
+    (HERE / "decimal_columns.c").read_text(encoding="utf-8"),
     include_dirs=[str(include)],
     extra_objects=[str(library)],
     # So the import fails with a message, and no call with a signal, on a processor below what the library needs.

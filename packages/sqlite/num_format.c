@@ -5,6 +5,7 @@
  *     SELECT num_format('1234.50', 'de');               1.234,50
  *     SELECT num_parse('1.234.567', 'de');              1234567
  *     SELECT num_parse_decimal('1.234,50', 'de');       1234.50
+ *     SELECT num_locale('de_DE.UTF-8');                 de
  *
  * The calls of num_format.h print and parse. This file converts values, keeps the format of a constant
  * locale as long as a statement runs, and words the errors.
@@ -219,20 +220,36 @@ static void call_parse_decimal(sqlite3_context *context, int count, sqlite3_valu
         return_decimal(context, &plain, number);
 }
 
+/* num_locale(tag): the name of the locale for a language tag, or NULL where there is none. */
+static void call_locale(sqlite3_context *context, int count, sqlite3_value **values) {
+    (void)count;
+    text tag;
+    if (sqlite3_value_type(values[0]) == SQLITE_NULL || !read_text(context, values[0], "tag", &tag))
+        return;
+    char name[NUM_FORMAT_MAX];
+    int32_t length = num_format_lookup_name(tag.bytes, tag.length, name, sizeof name);
+    if (length == NUM_FORMAT_NOT_UTF8)
+        fail(context, "the tag is not UTF-8");
+    else if (length >= 0)
+        sqlite3_result_text(context, name, length, SQLITE_TRANSIENT);
+}
+
 static const struct {
     const char *name;
+    int arguments;
     void (*call)(sqlite3_context *, int, sqlite3_value **);
 } functions[] = {
-    {"num_format", call_format},
-    {"num_parse", call_parse},
-    {"num_parse_decimal", call_parse_decimal},
+    {"num_format", 2, call_format},
+    {"num_parse", 2, call_parse},
+    {"num_parse_decimal", 2, call_parse_decimal},
+    {"num_locale", 1, call_locale},
 };
 
 /* Adds or removes a function. */
 static int register_function(sqlite3 *database, size_t i, void (*call)(sqlite3_context *, int, sqlite3_value **)) {
     const int flags = SQLITE_UTF8 | SQLITE_DETERMINISTIC | SQLITE_INNOCUOUS;
     void *name = (void *)functions[i].name;
-    return sqlite3_create_function(database, functions[i].name, 2, flags, name, call, NULL, NULL);
+    return sqlite3_create_function(database, functions[i].name, functions[i].arguments, flags, name, call, NULL, NULL);
 }
 
 /* Where SQLite begins: it makes this name of the letters of the file's name. */

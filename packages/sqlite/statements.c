@@ -121,6 +121,7 @@ int main(int count, char **words) {
     bind_again(words[1]);
     keep_format(words[1]);
     refuse_memory(words[1], "SELECT num_format('1234.50', 'de')", "1.234,50");
+    refuse_memory(words[1], "SELECT num_locale('de_DE.UTF-8')", "de");
     refuse_memory(words[1], "SELECT num_parse_decimal('1.234,50', 'de')", "1234.50");
     refuse_memory(words[1], "SELECT num_parse('12.50', 'en')",
                   "num_parse: '12.50' is no number in en: character 3, U+002E, is unexpected");

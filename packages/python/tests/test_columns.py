@@ -60,19 +60,65 @@ def test_layout_is_that_of_arrow():
     assert column.offsets.flags.c_contiguous and column.data.flags.c_contiguous
 
 
-def test_pyarrow():
+def test_layout_of_nulls_is_that_of_arrow():
+    """The validity bitmap that the columnar format describes: a bit for each row, the first lowest, 1 for no null."""
+    mask = [False, True, False, False, True, True, False, False, True, False]
+    column = columns.format_column(np.ma.array(range(1000, 1010), mask=mask), "en")
+    assert column.validity.tobytes() == bytes([0b11001101, 0b10])
+    assert column.offsets.tolist() == [0, 5, 5, 10, 15, 15, 15, 20, 25, 25, 30]
+    assert column.data.tobytes() == b"1,0001,0021,0031,0061,0071,009"
+    assert column.buffers() == (column.offsets, column.data, column.validity)
+
+
+@pytest.mark.parametrize("large", [False, True])
+@pytest.mark.parametrize("is_masked", [False, True])
+def test_pyarrow(large, is_masked):
     pyarrow = pytest.importorskip("pyarrow")
-    numbers = np.array([1234, -5, 0])
-    for large, kind in [(False, pyarrow.StringArray), (True, pyarrow.LargeStringArray)]:
-        column = columns.format_column(numbers, "sv", large=large)
-        buffers = [pyarrow.py_buffer(column.offsets), pyarrow.py_buffer(column.data)]
-        array = kind.from_buffers(len(column), *buffers)
-        array.validate(full=True)
-        assert array.to_pylist() == column.tolist()
-        assert array.buffers()[2].address == column.data.ctypes.data
-        offsets = np.frombuffer(array.buffers()[1], dtype=column.offsets.dtype)[1:]
-        again = columns.StringColumn(offsets, array.buffers()[2])
-        assert columns.parse_column(again, "sv").tolist() == [-5, 0]
+    kind = pyarrow.LargeStringArray if large else pyarrow.StringArray
+    numbers = np.ma.array([1234, -5, 0, 7], mask=[0, 0, 1, 0]) if is_masked else np.array([1234, -5, 0, 7])
+    column = columns.format_column(numbers, "sv", large=large)
+    array = kind.from_buffers(len(column), *map(pyarrow.py_buffer, column.buffers()))
+    array.validate(full=True)
+    assert array.to_pylist() == column.tolist()
+    validity, offsets, data = array.buffers()
+    assert data.address == column.data.ctypes.data
+    again = columns.StringColumn(np.frombuffer(offsets, dtype=column.offsets.dtype), data, validity)
+    assert columns.parse_column(again, "sv").tolist() == numbers.tolist()
+
+
+def test_nulls():
+    """Each row that is not null is as in a column of its own, and the others are nulls there and back."""
+    rng = np.random.default_rng(35)
+    for count in [0, 1, 7, 8, 9, 1000]:
+        for dtype in DTYPES:
+            numbers = rng.integers(np.iinfo(dtype).min, np.iinfo(dtype).max, count, dtype=dtype, endpoint=True)
+            masked = np.ma.array(numbers, mask=rng.integers(0, 2, count).astype(bool))
+            column = columns.format_column(masked, "de", large=count == 9)
+            expected = [None if n is None else f"{n:,}".replace(",", ".") for n in masked.tolist()]
+            assert column.tolist() == list(column) == column.to_object().tolist() == expected
+            assert column.valid().tolist() == [text is not None for text in expected]
+            for given in [column, expected, np.array(expected, dtype=object), column.to_bytes()]:
+                again = columns.parse_column(given, "de", dtype)
+                assert again.tolist() == masked.tolist() and again.dtype == dtype
+                assert np.ma.getdata(again)[np.ma.getmaskarray(again)].tolist() == [0] * expected.count(None)
+
+
+def test_bytes_of_nulls_are_not_looked_at():
+    """Arrow lets a null have any bytes."""
+    column = columns.StringColumn(np.array([0, 5, 9, 10], dtype=np.int32), b"1,234\xff,,x7", bytes([0b101]))
+    assert column.tolist() == ["1,234", None, "7"]
+    values, causes = columns.try_parse_column(column, "en")
+    assert values.tolist() == [1234, None, 7] and causes.tolist() == [0, 0, 0]
+    assert columns.parse_column(column, "en", lenient=True).tolist() == [1234, None, 7]
+    units, causes = columns.try_parse_decimal_column(column, 1, "en")
+    assert units.tolist() == [12340, None, 70] and causes.tolist() == [0, 0, 0]
+    refused = columns.StringColumn(column.offsets, column.data, bytes([0b110]))
+    with pytest.raises(ParseError) as caught:
+        columns.parse_column(refused, "en")
+    assert (caught.value.row, caught.value.cause) == (1, Cause.NOT_UTF8)
+    with pytest.raises(ValueError):
+        columns.StringColumn(np.zeros(10, dtype=np.int32), b"", bytes([255]))
+    columns.StringColumn(np.zeros(9, dtype=np.int32), b"", bytes([255]))
 
 
 def test_strides_and_byte_orders():
@@ -167,7 +213,10 @@ def test_columns_are_pickled():
     for protocol in range(pickle.HIGHEST_PROTOCOL + 1):
         again = pickle.loads(pickle.dumps(column, protocol))
         assert again.tolist() == column.tolist()
-    assert repr(column) == "<StringColumn of 2 texts, int32 offsets>"
+    assert repr(column) == "<StringColumn of 2 texts, int32 offsets, 0 nulls>"
+    nulls = columns.format_column(np.ma.array([1, 2, 3], mask=[0, 1, 0]), "de")
+    assert pickle.loads(pickle.dumps(nulls)).tolist() == ["1", None, "3"]
+    assert repr(nulls) == "<StringColumn of 3 texts, int32 offsets, 1 nulls>"
 
 
 def test_refused_rows():
@@ -259,16 +308,11 @@ def test_wrong_dtypes(dtype):
 
 
 def test_wrong_arguments():
-    masked = np.ma.array([1, 2], mask=[True, False])
-    with pytest.raises(TypeError):
-        columns.format_column(masked, "en")
-    with pytest.raises(TypeError):
-        columns.parse_column(np.ma.array(["1", "2"], mask=[True, False]), "en")
     for values in [np.array(5), np.zeros((2, 2), dtype=int)]:
         with pytest.raises(ValueError):
             columns.format_column(values, "en")
-    mixed = np.array(["1", None], dtype=object)
-    for texts in ["1,234", b"1", [1], ["1", 2], ["1", b"2"], [b"1", "2"], [None], np.array([1, 2]), mixed]:
+    mixed = np.array(["1", 2.5], dtype=object)
+    for texts in ["1,234", b"1", [1], ["1", 2], ["1", b"2"], [b"1", "2"], ["1", None, 2], np.array([1, 2]), mixed]:
         with pytest.raises(TypeError):
             columns.parse_column(texts, "en")
     with pytest.raises(ValueError):

@@ -12,7 +12,7 @@ columns = pytest.importorskip("num_format.columns")
 README = Path(__file__).resolve().parents[1] / "README.md"
 
 PUBLIC = [num_format, columns]
-PUBLIC += [getattr(module, name) for module in PUBLIC for name in module.__all__]
+PUBLIC += [getattr(module, name) for module in PUBLIC for name in module.__all__ if name != "WIDE"]
 
 
 @pytest.mark.parametrize("item", PUBLIC, ids=lambda item: item.__name__)

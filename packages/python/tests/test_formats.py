@@ -1,6 +1,7 @@
 """Formats, locales and their errors."""
 import copy
 import pickle
+import re
 
 import cases
 import pytest
@@ -30,6 +31,38 @@ def test_names(recorded):
             with pytest.raises(FormatError) as caught:
                 Format.locale(name)
             assert (caught.value.cause, caught.value.argument) == (Cause.UNKNOWN_LOCALE, "locale")
+
+
+def looked_up(tag, names):
+    """The name of RFC 4647: subtags are taken from the end of the tag until a name is left."""
+    tag = re.split("[.@]", tag)[0].replace("_", "-").encode().lower().decode()
+    if tag in ("c", "posix"):
+        return "en-US-POSIX"
+    while tag and tag not in names:
+        tag = tag.rpartition("-")[0]
+    return names.get(tag)
+
+
+def test_lookup(rows):
+    names = {name.lower(): name for name in rows}
+    endings = ["", ".UTF-8", "@euro", ".utf8@x-y", "-XX", "_XX.UTF-8", "-x-y", "-", "--", "x", " ", "\u00e9", "\0"]
+    tags = ["C", "POSIX", "c.UTF-8", "Posix@x", "english", "", ".", "-", "iw", "zh-TW", "de\u017fde", "\u212aea"]
+    for name in rows:
+        for tag in (name, name.replace("-", "_"), name.lower(), name.upper(), name[:-1], name[1:], f"x-{name}"):
+            tags += [tag + ending for ending in endings]
+    for tag in tags:
+        assert num_format.lookup(tag) == looked_up(tag, names), tag
+    examples = {"de_DE.UTF-8": "de", "en-us": "en", "zh-hant-TW": "zh-Hant", "sr_RS@latin": "sr", "no": None}
+    assert {tag: num_format.lookup(tag) for tag in examples} == examples
+
+
+def test_tags_that_are_refused():
+    with pytest.raises(FormatError) as caught:
+        num_format.lookup("de\ud800")
+    assert (caught.value.cause, caught.value.argument, caught.value.text) == (Cause.NOT_UTF8, "tag", "de\ud800")
+    for tag in (None, b"de", 1):
+        with pytest.raises(TypeError):
+            num_format.lookup(tag)
 
 
 def test_locales_are_in_order():

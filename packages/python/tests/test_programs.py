@@ -29,13 +29,6 @@ def test_dask():
     assert (status, output.splitlines()[-1:]) == (0, ["200,000 numbers, 200,000 equal"]), errors
 
 
-def test_bench():
-    pytest.importorskip("numpy")
-    status, output, errors = run(PACKAGE / "bench.py", "100")
-    assert status == 0, errors
-    assert "| `num_format.format(n, form)` |" in output
-
-
 def test_library_by_its_path():
     library = os.environ["NUM_FORMAT_LIBRARY"]
     status, output, errors = run("-c", HOW, NUM_FORMAT_LIBRARY=library)

@@ -17,11 +17,12 @@ pub(crate) const MAX_LEN: usize = 191;
 /// The most bytes of the text of a decimal, under any format: `NUM_FORMAT_DECIMAL_MAX` of the header.
 pub(crate) const MAX_DECIMAL_LEN: usize = 199;
 
-/// The statuses of the header that parsing returns. No other is returned for a struct that has a format, a `str`
-/// and a number of bits that a type has.
+/// The statuses of the header that parsing and looking up return. No other is returned for a struct that has a
+/// format, a `str` and a number of bits that a type has.
 mod status {
     pub(super) const OK: i32 = 0;
     pub(super) const NOT_A_NUMBER: i32 = -4;
+    pub(super) const UNKNOWN_LOCALE: i32 = -5;
     pub(super) const UNEXPECTED: i32 = -9;
     pub(super) const NO_DIGIT: i32 = -10;
     pub(super) const MISSPELLED: i32 = -11;
@@ -61,6 +62,12 @@ extern "C" {
     fn num_format_locale(format: *mut RawFormat, name: *const u8, length: usize) -> i32;
     #[cfg(test)]
     fn num_format_names(place: usize, name: *mut u8, capacity: usize) -> i32;
+    fn num_format_lookup_name(
+        tag: *const u8,
+        tag_length: usize,
+        name: *mut u8,
+        capacity: usize,
+    ) -> i32;
 
     fn num_format_print_i64(
         format: *const RawFormat,
@@ -322,6 +329,19 @@ impl<const N: usize> Text<N> {
     pub(crate) fn print_name(&mut self, place: usize) {
         // SAFETY: `fill` gives a pointer to as many bytes as the capacity.
         self.fill(|name, capacity| unsafe { num_format_names(place, name, capacity) });
+    }
+
+    /// Returns the name that the library has for the locale of a tag, if it has one.
+    pub(crate) fn of_lookup(tag: &str) -> Option<Self> {
+        let mut name = Text::new();
+        // SAFETY: the pointers and lengths are those of one `str` and of one array.
+        let status =
+            unsafe { num_format_lookup_name(tag.as_ptr(), tag.len(), name.bytes.as_mut_ptr(), N) };
+        if status == status::UNKNOWN_LOCALE {
+            return None;
+        }
+        name.len = usize::try_from(status).expect(OTHER_LIBRARY);
+        Some(name)
     }
 
     /// Becomes the text of a decimal.

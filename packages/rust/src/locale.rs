@@ -1,6 +1,7 @@
 use core::str::FromStr;
 
 use crate::error::Error;
+use crate::ffi::{Text, MAX_LEN};
 use crate::format::Format;
 use crate::grouping::Grouping;
 use crate::strings::{DecimalStr, InfinityStr, MinusSignStr, NanStr, PlusSignStr, SeparatorStr};
@@ -79,6 +80,25 @@ impl Locale {
             .binary_search_by(|known| known.bytes().cmp(name.bytes().map(hyphened)))
             .map(|place| table::ROWS[place].locale)
             .map_err(|_| Error::parse_locale(name))
+    }
+
+    /// Returns the locale for a language tag, as an environment or a browser gives one. num-format has no such
+    /// function.
+    ///
+    /// It is that of the longest name with which the tag begins, at the end of the tag or before a hyphen. What follows
+    /// the first `.` or `@` does not count, nor does the case of ASCII letters, and an underscore counts as a hyphen.
+    /// `C` and `POSIX` are the locale en-US-POSIX.
+    ///
+    /// ```
+    /// use num_format::Locale;
+    ///
+    /// assert_eq!(Locale::lookup("de_DE.UTF-8"), Some(Locale::de));
+    /// assert_eq!(Locale::lookup("zh-hant-TW"), Some(Locale::zh_Hant));
+    /// assert_eq!(Locale::lookup("english"), None);
+    /// ```
+    pub fn lookup<S: AsRef<str>>(tag: S) -> Option<Locale> {
+        let name = Text::<MAX_LEN>::of_lookup(tag.as_ref())?;
+        Locale::from_name(name.as_str()).ok()
     }
 
     /// Returns the decimal mark.
@@ -176,8 +196,8 @@ impl FromStr for Locale {
 mod tests {
     use std::format;
 
-    use super::{table, Locale};
-    use crate::ffi::{RawFormat, Text, MAX_LEN};
+    use super::{table, Locale, Text, MAX_LEN};
+    use crate::ffi::RawFormat;
 
     #[test]
     fn the_table_is_that_of_the_library() {

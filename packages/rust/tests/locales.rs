@@ -41,6 +41,50 @@ fn names_of_no_locale() {
     }
 }
 
+#[test]
+fn tags() {
+    for (tag, locale) in [
+        ("de_DE.UTF-8", Some(Locale::de)),
+        ("de-AT", Some(Locale::de_AT)),
+        ("DE_at@euro", Some(Locale::de_AT)),
+        ("en-us", Some(Locale::en)),
+        ("en-US-POSIX", Some(Locale::en_US_POSIX)),
+        ("C", Some(Locale::en_US_POSIX)),
+        ("posix", Some(Locale::en_US_POSIX)),
+        ("zh-hant-TW", Some(Locale::zh_Hant)),
+        ("zh-TW", Some(Locale::zh)),
+        ("sr_RS@latin", Some(Locale::sr)),
+        ("no", None),
+        ("english", None),
+        ("", None),
+        ("-de", None),
+        ("dé", None),
+    ] {
+        assert_eq!(Locale::lookup(tag), locale, "{tag}");
+    }
+    for name in Locale::available_names() {
+        let locale = Locale::from_name(name).ok();
+        for tag in [
+            name.to_uppercase(),
+            name.replace('-', "_") + ".UTF-8",
+            format!("{name}-x"),
+        ] {
+            assert_eq!(Locale::lookup(&tag), locale, "{tag}");
+        }
+        assert_eq!(
+            Locale::lookup(name.to_string() + "é"),
+            parent(name),
+            "{name}"
+        );
+    }
+}
+
+/// The locale of a name without its last subtag, or of the longest prefix of it that is one.
+fn parent(name: &str) -> Option<Locale> {
+    let (shorter, _) = name.rsplit_once('-')?;
+    Locale::from_name(shorter).ok().or_else(|| parent(shorter))
+}
+
 /// What the CLDR has of some locales: grouping, decimal mark, infinity, minus sign, NaN, plus sign and separator.
 #[test]
 fn data() {

@@ -9,7 +9,7 @@
 :mod:`num_format.columns` has the same for NumPy arrays. Calls may be made from any thread.
 """
 from ._errors import Cause, FormatError, NumFormatError, ParseError
-from ._format import Format, Grouping, locales
+from ._format import Format, Grouping, locales, lookup
 from ._numbers import format, parse, parse_decimal
 
 __all__ = [
@@ -21,6 +21,7 @@ __all__ = [
     "ParseError",
     "format",
     "locales",
+    "lookup",
     "parse",
     "parse_decimal",
 ]

@@ -31,7 +31,7 @@ class Cause(enum.IntEnum):
     MISSPELLED = lib.NUM_FORMAT_MISSPELLED
     #: The text is as its number is printed, and the number is too large.
     OUT_OF_RANGE = lib.NUM_FORMAT_OUT_OF_RANGE
-    #: More than 38 digits follow the decimal mark.
+    #: More than 38 digits follow the decimal mark, or in a column more than the scale.
     TOO_MANY_DECIMALS = lib.NUM_FORMAT_TOO_MANY_DECIMALS
 
     def __repr__(self) -> str:
@@ -49,7 +49,7 @@ _REASONS = {
     Cause.NO_DIGIT: "it has no digit",
     Cause.MISSPELLED: "it is not as its number is printed",
     Cause.OUT_OF_RANGE: "the number is too large",
-    Cause.TOO_MANY_DECIMALS: "it has more than 38 decimals",
+    Cause.TOO_MANY_DECIMALS: "it has too many decimals",
 }
 
 # The most characters of a refused text that a message shows.
@@ -108,7 +108,7 @@ class FormatError(NumFormatError):
     num_format.FormatError: separator '123456789' is refused: it has more than 8 bytes
 
     Attributes:
-        argument: ``"locale"``, or the name of the argument of :class:`Format`.
+        argument: ``"locale"``, ``"tag"``, or the name of the argument of :class:`Format`.
         text: The text.
         cause: Why it is refused.
     """

@@ -240,4 +240,28 @@ def _name(place: int, text: Any) -> str:
     return ffi.unpack(text, length).decode()
 
 
-Grouping.__module__ = Format.__module__ = locales.__module__ = "num_format"
+def lookup(tag: str) -> str | None:
+    """Returns the name of the locale for a language tag, as an environment or a browser gives one, or None.
+
+    It is the longest name with which the tag begins, at the end of the tag or before a hyphen. What follows the first
+    ``.`` or ``@`` does not count, nor does the case of ASCII letters, and an underscore counts as a hyphen. ``C`` and
+    ``POSIX`` are the locale en-US-POSIX.
+
+    >>> import num_format
+    >>> num_format.lookup("de_DE.UTF-8"), num_format.lookup("zh-hant-TW"), num_format.lookup("english")
+    ('de', 'zh-Hant', None)
+    >>> num_format.format(1234567, num_format.lookup("fr-CH") or "en")
+    '1\u202f234\u202f567'
+
+    Raises:
+        FormatError: The tag has a lone surrogate (`NOT_UTF8`).
+        TypeError: The tag is no ``str``.
+    """
+    given = _encoded_part("tag", tag)
+    name = ffi.new("char[]", lib.NUM_FORMAT_MAX)
+    length = lib.num_format_lookup_name(given, len(given), name, lib.NUM_FORMAT_MAX)
+    return None if length < 0 else ffi.unpack(name, length).decode()
+
+
+for _public in (Grouping, Format, locales, lookup):
+    _public.__module__ = "num_format"

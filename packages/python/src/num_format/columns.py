@@ -10,10 +10,21 @@ write an array meanwhile.
 ['5', '-1.234.567', '1.000']
 >>> parse_column(texts, "de")
 array([       5, -1234567,     1000])
+
+A row may be null, which is a masked item of an array of numbers, and None among texts:
+
+>>> texts = format_column(np.ma.array([5, 0, 1000], mask=[False, True, False]), "de")
+>>> texts.tolist(), parse_column(texts, "de")
+(['5', None, '1.000'], masked_array(data=[5, --, 1000],
+             mask=[False,  True, False],
+       fill_value=999999))
 """
 from __future__ import annotations
 
-from collections.abc import Iterable
+import itertools
+import operator
+from collections.abc import Callable, Iterable
+from functools import partial
 from typing import Any, NamedTuple
 
 import numpy as np
@@ -22,9 +33,19 @@ import numpy.typing as npt
 from ._errors import Cause, ParseError
 from ._format import Format, to_format
 from ._native import ffi, lib
-from ._numbers import parse
+from ._numbers import parse, parse_decimal
 
-__all__ = ["ParsedColumn", "StringColumn", "format_column", "parse_column", "try_parse_column"]
+__all__ = [
+    "WIDE",
+    "ParsedColumn",
+    "StringColumn",
+    "format_column",
+    "format_decimal_column",
+    "parse_column",
+    "parse_decimal_column",
+    "try_parse_column",
+    "try_parse_decimal_column",
+]
 
 # The dtypes of offsets, and the part of a call's name that says which.
 _OFFSETS = {np.dtype(np.int32): "", np.dtype(np.int64): "_large"}
@@ -32,39 +53,50 @@ _OFFSETS = {np.dtype(np.int32): "", np.dtype(np.int64): "_large"}
 # The dtypes of numbers, and the part of a call's name that says which.
 _NUMBERS = {np.dtype(f"{kind}{bits // 8}"): f"{kind}{bits}" for kind in "iu" for bits in (8, 16, 32, 64)}
 
+#: The dtype of the units of decimals of 128 bits, in two's complement: that of Apache Arrow's type decimal128.
+WIDE = np.dtype([("low", np.uint64), ("high", np.int64)])
+
+# The most decimals of a decimal.
+_MOST_DECIMALS = 38
+
 
 class StringColumn:
     """A column of texts in the layout of Apache Arrow: the bytes of all texts, and where each begins.
 
-    Text k is ``data[offsets[k]:offsets[k + 1]]`` in UTF-8. So with pyarrow, and without a copy, the column is
-    ``pyarrow.StringArray.from_buffers(len(column), pyarrow.py_buffer(column.offsets),
-    pyarrow.py_buffer(column.data))``, or a ``LargeStringArray`` where the offsets are of 64 bits.
+    Text k is ``data[offsets[k]:offsets[k + 1]]`` in UTF-8. Where there are nulls, row k is null if bit ``k % 8`` of
+    ``validity[k // 8]`` is 0, the lowest bit being bit 0. So with pyarrow, and without a copy, the column is
+    ``pyarrow.StringArray.from_buffers(len(column), *map(pyarrow.py_buffer, column.buffers()))``, or a
+    ``LargeStringArray`` where the offsets are of 64 bits.
 
     >>> import numpy as np
     >>> from num_format.columns import StringColumn
-    >>> column = StringColumn(np.array([0, 1, 6], dtype=np.int32), b"12,345")
+    >>> column = StringColumn(np.array([0, 1, 1, 6], dtype=np.int32), b"12,345", b"\x05")
     >>> len(column), column[0], column[-1], column.tolist()
-    (2, '1', '2,345', ['1', '2,345'])
+    (3, '1', '2,345', ['1', None, '2,345'])
 
     Args:
         offsets: One more number than there are texts, of 32 or 64 bits. The first may be above 0.
         data: The bytes: ``bytes``, an array of ``uint8``, or any other buffer. It is not copied.
+        validity: A bit for each row as a buffer of bytes, or None if no row is null. It is not copied.
 
     Raises:
-        ValueError: There is no offset; one is below 0 or below the one before it; the last is past the bytes.
+        ValueError: There is no offset; one is below 0 or below the one before it; the last is past the bytes; or
+            there are fewer bits than rows.
         TypeError: The offsets are of another type.
 
     Attributes:
         offsets: The offsets, an array of ``int32`` or ``int64``.
         data: The bytes, an array of ``uint8``.
+        validity: The bits, an array of ``uint8``, or None.
     """
 
-    __slots__ = ("data", "offsets")
+    __slots__ = ("data", "offsets", "validity")
 
     offsets: npt.NDArray[Any]
     data: npt.NDArray[np.uint8]
+    validity: npt.NDArray[np.uint8] | None
 
-    def __init__(self, offsets: npt.ArrayLike, data: Any) -> None:
+    def __init__(self, offsets: npt.ArrayLike, data: Any, validity: Any = None) -> None:
         given = _one_dimension(np.asarray(offsets), "the offsets")
         native = given.dtype.newbyteorder("=")
         if native not in _OFFSETS:
@@ -78,12 +110,16 @@ class StringColumn:
         falls = np.flatnonzero(self.offsets[1:] < self.offsets[:-1])
         if len(falls):
             raise ValueError(f"offset {falls[0] + 1} is below the one before it")
+        self.validity = None if validity is None else np.frombuffer(validity, dtype=np.uint8)
+        if self.validity is not None and 8 * len(self.validity) < len(self):
+            raise ValueError("there are fewer bits of validity than rows")
 
     @staticmethod
-    def from_strings(strings: Iterable[str | bytes] | npt.NDArray[Any]) -> StringColumn:
+    def from_strings(strings: Iterable[str | bytes | None] | npt.NDArray[Any]) -> StringColumn:
         """Returns a column of these texts: a NumPy array of dtype ``S``, ``U`` or object, or any iterable.
 
-        NumPy's ``S`` and ``U`` do not keep zeros at the end of a text.
+        A masked item of an array is null, and so is None. NumPy's ``S`` and ``U`` do not keep zeros at the end of a
+        text.
 
         >>> import numpy as np
         >>> from num_format.columns import StringColumn
@@ -93,13 +129,14 @@ class StringColumn:
         8
 
         Raises:
-            TypeError: Not all texts are ``str``, and not all are ``bytes``; or the array is masked.
+            TypeError: Not all texts are ``str``, and not all are ``bytes``.
             ValueError: The array has not one dimension.
             UnicodeEncodeError: A text has a lone surrogate.
         """
         if isinstance(strings, np.ndarray):
-            _refuse_masked(strings)
-            strings = _one_dimension(strings, "the texts")
+            strings, valid = _unmasked(strings, "the texts")
+            if valid is not None:
+                return _with_nulls(StringColumn.from_strings(strings[valid]), valid)
             if strings.dtype.kind == "U":
                 strings = np.char.encode(strings, "utf-8")
             if strings.dtype.kind == "S":
@@ -108,6 +145,9 @@ class StringColumn:
         elif isinstance(strings, (str, bytes)):
             raise TypeError("a column is needed, not one text")
         texts = list(strings)
+        if None in texts:
+            valid = np.fromiter(map(operator.is_not, texts, itertools.repeat(None)), dtype=bool, count=len(texts))
+            return _with_nulls(StringColumn.from_strings(itertools.compress(texts, valid)), valid)
         try:
             parts = list(map(str.encode, texts)) if texts and isinstance(texts[0], str) else texts
             data = b"".join(parts)
@@ -119,14 +159,38 @@ class StringColumn:
     def __len__(self) -> int:
         return len(self.offsets) - 1
 
-    def __getitem__(self, row: int) -> str:
+    def __getitem__(self, row: int) -> str | None:
         count = len(self)
         if not -count <= row < count:
             raise IndexError(f"row {row} of a column of {count}")
-        return self.row_bytes(row % count).decode()
+        row %= count
+        if self.validity is not None and not self.validity[row // 8] >> row % 8 & 1:
+            return None
+        return self.row_bytes(row).decode()
+
+    def buffers(self) -> tuple[npt.NDArray[Any], ...]:
+        """Returns the offsets, the bytes and, where there are nulls, the bits of validity.
+
+        >>> import numpy as np
+        >>> from num_format.columns import format_column
+        >>> format_column(np.ma.array([1000, 0, 2], mask=[0, 1, 0]), "en").buffers()[::2]
+        (array([0, 5, 5, 6], dtype=int32), array([5], dtype=uint8))
+        """
+        return (self.offsets, self.data) if self.validity is None else (self.offsets, self.data, self.validity)
+
+    def valid(self) -> npt.NDArray[np.bool_]:
+        """Returns which rows are not null.
+
+        >>> from num_format.columns import StringColumn
+        >>> StringColumn.from_strings(["1", None]).valid()
+        array([ True, False])
+        """
+        if self.validity is None:
+            return np.ones(len(self), dtype=bool)
+        return np.unpackbits(self.validity, count=len(self), bitorder="little").astype(bool)
 
     def row_bytes(self, row: int) -> bytes:
-        """Returns the bytes of the text at a row from 0.
+        """Returns the bytes of the text at a row from 0, also of one that is null.
 
         >>> from num_format.columns import StringColumn
         >>> StringColumn.from_strings(["1", "23"]).row_bytes(1)
@@ -134,8 +198,8 @@ class StringColumn:
         """
         return self.data[self.offsets[row] : self.offsets[row + 1]].tobytes()
 
-    def tolist(self) -> list[str]:
-        """Returns the texts as a list.
+    def tolist(self) -> list[str | None]:
+        """Returns the texts as a list, and None for a null.
 
         >>> from num_format.columns import StringColumn
         >>> StringColumn.from_strings(["1", "23"]).tolist()
@@ -143,19 +207,25 @@ class StringColumn:
         """
         ends = self.offsets.tolist()
         slices = map(slice, ends[:-1], ends[1:])
-        return list(map(bytes.decode, map(self.data.tobytes().__getitem__, slices)))
+        rows = map(self.data.tobytes().__getitem__, slices)
+        if self.validity is None:
+            return list(map(bytes.decode, rows))
+        # What is null is not decoded.
+        texts = np.full(len(self), None, dtype=object)
+        texts[self.valid()] = list(map(bytes.decode, itertools.compress(rows, self.valid())))
+        return texts.tolist()
 
     def to_object(self) -> npt.NDArray[np.object_]:
-        """Returns the texts as an array of dtype object, whose items are ``str``.
+        """Returns the texts as an array of dtype object, whose items are ``str``, and None for a null.
 
         >>> from num_format.columns import StringColumn
-        >>> StringColumn.from_strings(["1", "23"]).to_object()
-        array(['1', '23'], dtype=object)
+        >>> StringColumn.from_strings(["1", None, "23"]).to_object()
+        array(['1', None, '23'], dtype=object)
         """
         return np.array(self.tolist(), dtype=object)
 
     def to_bytes(self) -> npt.NDArray[np.bytes_]:
-        """Returns the texts as an array of dtype ``S``, as wide as the longest text.
+        """Returns the texts as an array of dtype ``S``, as wide as the longest text, where nulls are masked.
 
         >>> from num_format.columns import StringColumn
         >>> StringColumn.from_strings(["1", "23"]).to_bytes()
@@ -165,19 +235,20 @@ class StringColumn:
         width = max(int(lengths.max(initial=0)), 1)
         rows = np.zeros((len(self), width), dtype=np.uint8)
         rows[np.arange(width) < lengths[:, np.newaxis]] = self.data[self.offsets[0] : self.offsets[-1]]
-        return rows.view(f"S{width}").reshape(len(self))
+        return _masked(rows.view(f"S{width}").reshape(len(self)), self)
 
     def __repr__(self) -> str:
-        return f"<StringColumn of {len(self)} texts, {self.offsets.dtype} offsets>"
+        nulls = len(self) - int(self.valid().sum())
+        return f"<StringColumn of {len(self)} texts, {self.offsets.dtype} offsets, {nulls} nulls>"
 
     def __reduce__(self) -> tuple[Any, ...]:
-        return StringColumn, (self.offsets, self.data)
+        return StringColumn, self.buffers()
 
 
 class ParsedColumn(NamedTuple):
     """What :func:`try_parse_column` returns."""
 
-    #: The numbers. It is 0 at a row that is refused.
+    #: The numbers. It is 0 at a row that is refused. Where the column has nulls, it is an array that masks them.
     values: npt.NDArray[Any]
     #: 0 at a row that is parsed, and else a :class:`num_format.Cause`.
     causes: npt.NDArray[np.int32]
@@ -193,19 +264,21 @@ def format_column(values: npt.ArrayLike, format: Format | str, *, large: bool = 
     (array([0, 5, 7], dtype=int32), b'1,234-5')
 
     Args:
-        values: An array of one dimension of any of the eight types of integers, in any byte order and stride.
+        values: An array of one dimension of any of the eight types of integers, in any byte order and stride. A
+            masked item is null.
         format: A :class:`num_format.Format`, or the name of a locale.
         large: Whether the offsets are of 64 bits, for texts of 2**31 bytes or more.
 
     Raises:
         OverflowError: The texts have 2**31 bytes or more, and `large` is not set.
-        TypeError: The array is of another type, such as ``bool`` or ``float64``, or it is masked.
+        TypeError: The array is of another type, such as ``bool`` or ``float64``.
         ValueError: The array has not one dimension.
         FormatError: No locale has the name.
     """
     struct = to_format(format)._struct
-    _refuse_masked(values)
-    given = _one_dimension(np.asarray(values), "the numbers")
+    given, valid = _unmasked(values, "the numbers")
+    if valid is not None:
+        return _with_nulls(format_column(given[valid], format, large=large), valid)
     dtype, name = _number(given.dtype)
     numbers = np.ascontiguousarray(given, dtype=dtype)
     pointer = ffi.from_buffer(f"{dtype}_t[]", numbers)
@@ -220,13 +293,15 @@ def format_column(values: npt.ArrayLike, format: Format | str, *, large: bool = 
 
 
 def parse_column(
-    column: StringColumn | Iterable[str | bytes] | npt.NDArray[Any],
+    column: StringColumn | Iterable[str | bytes | None] | npt.NDArray[Any],
     format: Format | str,
     dtype: npt.DTypeLike = np.int64,
     *,
     lenient: bool = False,
 ) -> npt.NDArray[Any]:
     """Returns the numbers that the texts of a column spell, each as :func:`num_format.parse` returns it.
+
+    Where the column has nulls, the array masks them, and has 0 there.
 
     A number that the dtype has not is refused as `OUT_OF_RANGE`. With `lenient` it is refused as `NOT_A_NUMBER`,
     and so is a text of more digits, a minus sign counted as one, than the longest number of the dtype.
@@ -251,16 +326,16 @@ def parse_column(
         TypeError: The dtype is of no integer.
         ValueError: The offsets of the column were changed, and are not as they have to be.
     """
-    texts = column if isinstance(column, StringColumn) else StringColumn.from_strings(column)
+    texts = _to_column(column)
     values, causes = try_parse_column(texts, format, dtype, lenient=lenient)
     if causes.any():
         row = int(np.flatnonzero(causes)[0])
-        raise _refusal(texts.row_bytes(row), Cause(int(causes[row])), row, to_format(format))
+        raise _refusal(texts.row_bytes(row), Cause(int(causes[row])), row, partial(parse, format=format))
     return values
 
 
 def try_parse_column(
-    column: StringColumn | Iterable[str | bytes] | npt.NDArray[Any],
+    column: StringColumn | Iterable[str | bytes | None] | npt.NDArray[Any],
     format: Format | str,
     dtype: npt.DTypeLike = np.int64,
     *,
@@ -280,7 +355,7 @@ def try_parse_column(
     """
     struct = to_format(format)._struct
     native, name = _number(np.dtype(dtype))
-    texts = column if isinstance(column, StringColumn) else StringColumn.from_strings(column)
+    texts = _to_column(column)
     count = len(texts)
     values, causes = np.zeros(count, dtype=native), np.zeros(count, dtype=np.int32)
     offsets, data = texts.offsets, texts.data
@@ -299,7 +374,127 @@ def try_parse_column(
             count,
         )
     )
-    return ParsedColumn(values, causes)
+    return _parsed(values, causes, texts)
+
+
+def format_decimal_column(
+    units: npt.ArrayLike, scale: int, format: Format | str, *, large: bool = False
+) -> StringColumn:
+    """Returns the texts of a column of decimals, each its units divided by 10 to the power of the scale.
+
+    >>> import numpy as np
+    >>> from num_format.columns import format_decimal_column
+    >>> format_decimal_column(np.array([123450, -5]), 2, "de").tolist()
+    ['1.234,50', '-0,05']
+
+    Args:
+        units: An array of one dimension of any of the eight types of integers, or of dtype `WIDE`, which a buffer of
+            Arrow's type decimal128 is as ``numpy.frombuffer(buffer, WIDE)``. A masked item is null.
+        scale: How many decimals each has, from 0 to 38.
+        format: A :class:`num_format.Format`, or the name of a locale.
+        large: Whether the offsets are of 64 bits, for texts of 2**31 bytes or more.
+
+    Raises:
+        OverflowError: The texts have 2**31 bytes or more, and `large` is not set.
+        TypeError: The array is of another type.
+        ValueError: The array has not one dimension, or the scale is another one.
+        FormatError: No locale has the name.
+    """
+    struct, scale = to_format(format)._struct, _to_scale(scale)
+    given, valid = _unmasked(units, "the units")
+    if valid is not None:
+        return _with_nulls(format_decimal_column(given[valid], scale, format, large=large), valid)
+    wide = _to_wide(given)
+    pointer = ffi.from_buffer("num_format_wide[]", wide)
+    offsets = np.zeros(len(wide) + 1, dtype=np.int64)
+    starts = ffi.from_buffer("int64_t[]", offsets)
+    done, data = 0, np.empty(0, dtype=np.uint8)
+    while done < len(wide):
+        # For each row as many bytes as the rows before had, and some; and for one the most that it can have.
+        size = int(offsets[done])
+        mean = size // done if done else scale
+        more = (len(wide) - done) * (mean + 8) + lib.NUM_FORMAT_DECIMAL_MAX
+        data = np.concatenate([data[:size], np.empty(more, dtype=np.uint8)])
+        output = ffi.from_buffer("char[]", data)
+        done = lib.print_decimals(struct, pointer, scale, done, len(wide), starts, output, len(data))
+    if not large and offsets[-1] > np.iinfo(np.int32).max:
+        _check(lib.NUM_FORMAT_TOO_MANY_BYTES)
+    return _unchecked(offsets if large else offsets.astype(np.int32), data[: offsets[-1]])
+
+
+def parse_decimal_column(
+    column: StringColumn | Iterable[str | bytes | None] | npt.NDArray[Any],
+    scale: int,
+    format: Format | str,
+    dtype: npt.DTypeLike = np.int64,
+) -> npt.NDArray[Any]:
+    """Returns the units of the decimals that the texts of a column spell, each parsed as by
+    :func:`num_format.parse_decimal`, at one scale.
+
+    A text may have fewer decimals than the scale, and none may have more: that is `TOO_MANY_DECIMALS`. Units that the
+    dtype has not are `OUT_OF_RANGE`.
+
+    >>> from num_format.columns import parse_decimal_column
+    >>> parse_decimal_column(["1.234,50", "-0,05", "7"], 2, "de")
+    array([123450,     -5,    700])
+    >>> parse_decimal_column(["1", "0,005"], 2, "de")
+    Traceback (most recent call last):
+    num_format.ParseError: row 1: '0,005' is refused: it has too many decimals
+
+    Args:
+        column: What :func:`parse_column` takes.
+        scale: How many decimals the units are, from 0 to 38.
+        format: A :class:`num_format.Format`, or the name of a locale.
+        dtype: Any of the eight types of integers, or `WIDE`.
+
+    Raises:
+        ParseError: A text is refused. The error is that of the first such row.
+        FormatError: No locale has the name.
+        TypeError: The dtype is another one.
+        ValueError: The scale is another one.
+    """
+    texts = _to_column(column)
+    units, causes = try_parse_decimal_column(texts, scale, format, dtype)
+    if causes.any():
+        row = int(np.flatnonzero(causes)[0])
+        raise _refusal(texts.row_bytes(row), Cause(int(causes[row])), row, partial(parse_decimal, format=format))
+    return units
+
+
+def try_parse_decimal_column(
+    column: StringColumn | Iterable[str | bytes | None] | npt.NDArray[Any],
+    scale: int,
+    format: Format | str,
+    dtype: npt.DTypeLike = np.int64,
+) -> ParsedColumn:
+    """Returns the units of a column of decimals, and for each row why it is refused.
+
+    It takes what :func:`parse_decimal_column` takes, and raises no `ParseError`.
+
+    >>> from num_format.columns import try_parse_decimal_column
+    >>> units, causes = try_parse_decimal_column(["1.5", "1.555", "x"], 2, "en")
+    >>> units, causes != 0
+    (array([150,   0,   0]), array([False,  True,  True]))
+    """
+    struct, scale = to_format(format)._struct, _to_scale(scale)
+    native = np.dtype(dtype) if np.dtype(dtype) == WIDE else _number(np.dtype(dtype))[0]
+    texts = _to_column(column)
+    count = len(texts)
+    offsets = texts.offsets.astype(np.int64)
+    units, causes = np.zeros(count, dtype=WIDE), np.zeros(count, dtype=np.int32)
+    _check(
+        lib.parse_decimals(
+            struct,
+            ffi.from_buffer("int64_t[]", offsets),
+            ffi.from_buffer("char[]", texts.data),
+            len(texts.data),
+            scale,
+            ffi.from_buffer("num_format_wide[]", units),
+            ffi.from_buffer("int32_t[]", causes),
+            count,
+        )
+    )
+    return _parsed(_narrowed(units, causes, native), causes, texts)
 
 
 def _number(dtype: np.dtype[Any]) -> tuple[np.dtype[Any], str]:
@@ -316,15 +511,78 @@ def _one_dimension(array: npt.NDArray[Any], what: str) -> npt.NDArray[Any]:
     return array
 
 
-def _refuse_masked(values: object) -> None:
-    if isinstance(values, np.ma.MaskedArray):
-        raise TypeError("an array must not be masked: fill or compress it")
+def _unmasked(values: npt.ArrayLike, what: str) -> tuple[npt.NDArray[Any], npt.NDArray[np.bool_] | None]:
+    """Returns an array without a mask, and which items were not masked, or None if it had no mask."""
+    if not isinstance(values, np.ma.MaskedArray):
+        return _one_dimension(np.asarray(values), what), None
+    mask = np.ma.getmaskarray(values)
+    # One of `WIDE` has a mask for each half.
+    return _one_dimension(values.data, what), ~(mask if mask.dtype == bool else mask["low"])
 
 
-def _unchecked(offsets: npt.NDArray[Any], data: npt.NDArray[np.uint8]) -> StringColumn:
+def _masked(values: npt.NDArray[Any], column: StringColumn) -> npt.NDArray[Any]:
+    """Returns an array that masks the rows that are null in the column, if it has bits of validity."""
+    return values if column.validity is None else np.ma.array(values, mask=~column.valid())
+
+
+def _with_nulls(column: StringColumn, valid: npt.NDArray[np.bool_]) -> StringColumn:
+    """Returns a column with the rows of another at the valid places, and nulls at the others, which are empty."""
+    places = np.zeros(len(valid) + 1, dtype=np.int64)
+    np.cumsum(valid, out=places[1:])
+    return _unchecked(column.offsets[places], column.data, np.packbits(valid, bitorder="little"))
+
+
+def _parsed(values: npt.NDArray[Any], causes: npt.NDArray[np.int32], column: StringColumn) -> ParsedColumn:
+    """Returns what was parsed of a column, without what its nulls have."""
+    if column.validity is not None:
+        nulls = ~column.valid()
+        values[nulls] = 0
+        causes[nulls] = 0
+    return ParsedColumn(_masked(values, column), causes)
+
+
+def _to_column(column: StringColumn | Iterable[str | bytes | None] | npt.NDArray[Any]) -> StringColumn:
+    return column if isinstance(column, StringColumn) else StringColumn.from_strings(column)
+
+
+def _to_scale(scale: int) -> int:
+    if not 0 <= operator.index(scale) <= _MOST_DECIMALS:
+        raise ValueError(f"the scale must be from 0 to {_MOST_DECIMALS}, not {scale}")
+    return operator.index(scale)
+
+
+def _to_wide(units: npt.NDArray[Any]) -> npt.NDArray[Any]:
+    """Returns units of 128 bits."""
+    if units.dtype == WIDE:
+        return np.ascontiguousarray(units)
+    numbers = units.astype(_number(units.dtype)[0])
+    wide = np.zeros(len(numbers), dtype=WIDE)
+    wide["low"] = numbers.astype(np.int64).view(np.uint64) if numbers.dtype.kind == "i" else numbers
+    wide["high"] = numbers < 0
+    np.negative(wide["high"], out=wide["high"])
+    return wide
+
+
+def _narrowed(wide: npt.NDArray[Any], causes: npt.NDArray[np.int32], dtype: np.dtype[Any]) -> npt.NDArray[Any]:
+    """Returns units of the dtype, and 0 where it has them not, with a cause there."""
+    if dtype == WIDE:
+        return wide
+    limits = np.iinfo(dtype)
+    signed = wide["low"].view(np.int64)
+    if dtype.kind == "i":
+        is_there = (wide["high"] == signed >> 63) & (signed >= limits.min) & (signed <= limits.max)
+    else:
+        is_there = (wide["high"] == 0) & (wide["low"] <= limits.max)
+    causes[~is_there & (causes == 0)] = Cause.OUT_OF_RANGE
+    return np.where(is_there, wide["low"], 0).astype(dtype)
+
+
+def _unchecked(
+    offsets: npt.NDArray[Any], data: npt.NDArray[np.uint8], validity: npt.NDArray[np.uint8] | None = None
+) -> StringColumn:
     """Returns a column whose offsets are known to be good."""
     column = object.__new__(StringColumn)
-    column.offsets, column.data = offsets, data
+    column.offsets, column.data, column.validity = offsets, data, validity
     return column
 
 
@@ -353,13 +611,13 @@ def _check(status: int) -> None:
         raise AssertionError(f"status {status}")
 
 
-def _refusal(text: bytes, cause: Cause, row: int, format: Format) -> ParseError:
-    """Returns the error of a row."""
+def _refusal(text: bytes, cause: Cause, row: int, parse: Callable[[str], object]) -> ParseError:
+    """Returns the error of a row, whose place is that of the call for one text."""
     shown = text.decode("utf-8", "surrogateescape")
     at = None
     if cause in (Cause.UNEXPECTED, Cause.NOT_UTF8):
         try:
-            parse(shown, format)
+            parse(shown)
         except ParseError as error:
             at = error.at
     return ParseError(shown, cause, at, row)

@@ -1,0 +1,151 @@
+"""Columns of decimals: units at a scale, and back."""
+from decimal import Decimal
+
+import pytest
+
+import num_format
+from num_format import Cause, FormatError, ParseError
+
+np = pytest.importorskip("numpy")
+columns = pytest.importorskip("num_format.columns")
+
+DTYPES = [np.dtype(f"{kind}{size}") for kind in "iu" for size in (1, 2, 4, 8)]
+
+I128 = -(2**127), 2**127 - 1
+
+
+def wide(units):
+    """The array of units of 128 bits: the buffer that Arrow describes of decimal128, 16 bytes each in the order of the
+    processor, here little-endian."""
+    buffer = b"".join(number.to_bytes(16, "little", signed=True) for number in units)
+    return np.frombuffer(buffer, columns.WIDE)
+
+
+def whole(array):
+    """The units in such an array."""
+    data = array.tobytes()
+    return [int.from_bytes(data[at : at + 16], "little", signed=True) for at in range(0, len(data), 16)]
+
+
+def text(units, scale):
+    """The text that Python makes under `en`."""
+    # Arithmetic would round, and a text does not.
+    return f"{Decimal(f'{units}E-{scale}'):,f}"
+
+
+@pytest.mark.parametrize("dtype", DTYPES, ids=str)
+@pytest.mark.parametrize("scale", [0, 1, 2, 19, 38])
+def test_python_prints_the_same(dtype, scale):
+    limits = np.iinfo(dtype)
+    numbers = [0, 5, 99, 100, limits.min, limits.max, limits.max // 3, limits.min // 3]
+    for large in (False, True):
+        column = columns.format_decimal_column(np.array(numbers, dtype=dtype), scale, "en", large=large)
+        assert column.tolist() == [text(number, scale) for number in numbers]
+        assert column.offsets.dtype == (np.int64 if large else np.int32)
+        again = columns.parse_decimal_column(column, scale, "en", dtype)
+        assert again.dtype == dtype and again.tolist() == numbers
+        assert whole(columns.parse_decimal_column(column, scale, "en", columns.WIDE)) == numbers
+
+
+@pytest.mark.parametrize("scale", [0, 2, 38])
+def test_units_of_128_bits(scale):
+    units = [0, -1, 2**64, -(2**64), 2**63, -(2**63) - 1, *I128, 10**38, -(10**38)]
+    column = columns.format_decimal_column(wide(units), scale, "en")
+    assert column.tolist() == [text(number, scale) for number in units]
+    assert whole(columns.parse_decimal_column(column, scale, "en", columns.WIDE)) == units
+    narrow, causes = columns.try_parse_decimal_column(column, scale, "en")
+    assert causes.tolist() == [0 if -(2**63) <= number < 2**63 else Cause.OUT_OF_RANGE for number in units]
+    assert narrow.tolist() == [number if cause == 0 else 0 for number, cause in zip(units, causes)]
+
+
+def test_as_single_decimals():
+    rng = np.random.default_rng(35)
+    units = rng.integers(-(2**63), 2**63 - 1, 5000, endpoint=True) >> rng.integers(0, 63, 5000)
+    for scale, name in [(2, "de"), (7, "sv"), (20, "hi")]:
+        column = columns.format_decimal_column(units, scale, name)
+        decimals = [Decimal(f"{number}E-{scale}") for number in units.tolist()]
+        assert column.tolist() == [num_format.format(number, name) for number in decimals]
+        assert (columns.parse_decimal_column(column, scale, name) == units).all()
+
+
+def test_fewer_and_more_decimals():
+    texts = ["1.5", "7", "-0.25", "1,234.5", "1.255", "0.000", "1.", "x", "1" + "0" * 37, "9" * 39]
+    units, causes = columns.try_parse_decimal_column(texts, 2, "en", columns.WIDE)
+    refused = [Cause.TOO_MANY_DECIMALS, Cause.TOO_MANY_DECIMALS, Cause.MISSPELLED, Cause.UNEXPECTED]
+    assert causes.tolist() == [0, 0, 0, 0, *refused, Cause.OUT_OF_RANGE, Cause.OUT_OF_RANGE]
+    assert whole(units) == [150, 700, -25, 123450, 0, 0, 0, 0, 0, 0]
+    with pytest.raises(ParseError) as caught:
+        columns.parse_decimal_column(["1", "1.2.3"], 2, "en")
+    error = caught.value
+    assert (error.text, error.cause, error.at, error.row) == ("1.2.3", Cause.UNEXPECTED, 3, 1)
+
+
+def test_numbers_outside_a_dtype():
+    for dtype in DTYPES:
+        limits = np.iinfo(dtype)
+        numbers = [limits.min, limits.min - 1, limits.max, limits.max + 1, 2**64, -(2**64), 2**100]
+        is_there = [limits.min <= number <= limits.max for number in numbers]
+        texts = [text(number, 1) for number in numbers]
+        units, causes = columns.try_parse_decimal_column(texts, 1, "en", dtype)
+        assert causes.tolist() == [0 if has else Cause.OUT_OF_RANGE for has in is_there]
+        assert units.tolist() == [number if has else 0 for number, has in zip(numbers, is_there)]
+        assert units.dtype == dtype
+
+
+def test_nulls():
+    for units in [np.array([150, 7, -25]), wide([150, 7, -25])]:
+        column = columns.format_decimal_column(np.ma.array(units, mask=[False, True, False]), 2, "de")
+        assert column.tolist() == ["1,50", None, "-0,25"]
+        again = columns.parse_decimal_column(column, 2, "de", units.dtype)
+        assert np.ma.getdata(again).tolist() == np.where([True, False, True], units, np.zeros(3, units.dtype)).tolist()
+        # An array of `WIDE` that was parsed can be printed again, with its mask.
+        assert columns.format_decimal_column(again, 2, "de").tolist() == column.tolist()
+
+
+def test_texts_of_very_different_lengths():
+    """The room for the texts is guessed by the rows before."""
+    units = wide([1] * 1000 + [I128[0]] * 1000 + [1] * 1000 + [I128[1]])
+    form = num_format.Format(separator="12345678", minus_sign="12345678", decimal_mark="12345678")
+    column = columns.format_decimal_column(units, 3, form)
+    assert column.tolist() == [num_format.format(Decimal(f"{number}E-3"), form) for number in whole(units)]
+
+
+def test_empty_columns():
+    assert columns.format_decimal_column(np.array([], dtype=int), 2, "de").tolist() == []
+    assert columns.parse_decimal_column([], 2, "de").tolist() == []
+
+
+def test_bad_offsets():
+    for offsets in [[0, 2, 1], [-1, 0], [0, 5], [5, 5], [2, 1]]:
+        column = columns.StringColumn(np.zeros(len(offsets), dtype=np.int32), b"1234")
+        column.offsets[:] = offsets
+        with pytest.raises(ValueError):
+            columns.parse_decimal_column(column, 2, "en")
+
+
+def test_wrong_arguments():
+    for scale in (-1, 39, 2**40):
+        with pytest.raises(ValueError):
+            columns.format_decimal_column([1], scale, "en")
+        with pytest.raises(ValueError):
+            columns.parse_decimal_column(["1"], scale, "en")
+    for scale in (1.5, "2", None):
+        with pytest.raises(TypeError):
+            columns.format_decimal_column([1], scale, "en")
+    for dtype in (float, bool, object, "U5"):
+        with pytest.raises(TypeError):
+            columns.format_decimal_column(np.zeros(2, dtype=dtype), 2, "en")
+        with pytest.raises(TypeError):
+            columns.parse_decimal_column(["1"], 2, "en", dtype)
+    with pytest.raises(ValueError):
+        columns.format_decimal_column(np.zeros((2, 2), dtype=int), 2, "en")
+    with pytest.raises(FormatError):
+        columns.format_decimal_column([1], 2, "xx")
+
+
+def test_more_bytes_than_offsets_of_32_bits_say(monkeypatch):
+    """The limit is lowered, since the texts would take long."""
+    lowered = np.iinfo(np.int8)
+    monkeypatch.setattr(columns.np, "iinfo", lambda dtype: lowered)
+    with pytest.raises(OverflowError, match="large=True"):
+        columns.format_decimal_column(np.full(100, 5), 0 + 2, "en")
