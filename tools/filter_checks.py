@@ -20,7 +20,7 @@ CRATE = ROOT / "crates" / "regroup_filter"
 PROGRAM = CRATE / "out" / CRATE.name
 EXAMPLES = ROOT / "examples"
 
-USAGE = b"usage: regroup-lines FROM TO, each plain, a locale or custom:SEP:GROUPING:MINUS\n"
+TRY_HELP = b"Try 'regroup-lines --help' for more information.\n"
 TOO_LONG = b"More than 4096 bytes.\n"
 NOT_TEXT = b"Not UTF-8.\n"
 FEW_FIELDS = b"Too few fields.\n"
@@ -29,6 +29,16 @@ FEW_FIELDS = b"Too few fields.\n"
 def unparsed(text):
     """The message of a text that is no number."""
     return b"Failed to parse " + text + b" into a number.\n"
+
+
+def unknown(word):
+    """The message of a word, as messages show it, that names no format."""
+    return b"regroup-lines: " + word + b" names no format\n" + TRY_HELP
+
+
+def unmarked(word):
+    """The message of a word, as messages show it, that names a format of which decimals do not parse back."""
+    return b"regroup-lines: " + word + b": decimals do not parse back\n" + TRY_HELP
 
 
 # FROM and TO, standard input, the status, standard output and standard error.
@@ -59,6 +69,15 @@ INPUTS = [
     ("plain", "en", b"1\n1,234\n", 1, b"1\n", b"line 2: " + unparsed(b"1,234")),
     ("en", "custom: :Sparse:-", b"1,234\n12,345\n", 0, b"1234\n12 345\n", b""),
     ("en", "custom:7:Standard:17", b"1,000\n-1000\n", 0, b"17000\n1717000\n", b""),
+    # Language tags.
+    ("en-US", "de_DE.UTF-8", b"1,000\n", 0, b"1.000\n", b""),
+    ("DE-xx-1996", "EN", b"1.000\n", 0, b"1,000\n", b""),
+    ("C", "en_US@x", b"1000\n", 0, b"1,000\n", b""),
+    ("en", "posix", b"-1,000.5\n", 0, b"-1000.5\n", b""),
+    ("en", "zh-TW", b"1000\n", 0, b"1,000\n", b""),
+    # A format whose mark is its separator, or has no minus sign, may be written.
+    ("en", "custom:.:Standard:-", b"1000.5\n", 0, b"1.000.5\n", b""),
+    ("custom:.:Posix:-", "de", b"1000.5\n", 0, b"1.000,5\n", b""),
     ("en", "de", b"\n", 1, b"", b"line 1: " + unparsed(b"")),
     ("en", "de", b"1\n2\n\n4\n", 1, b"1\n2\n", b"line 3: " + unparsed(b"")),
     ("en", "de", b"1\r\n\r\n", 1, b"1\r\n", b"line 2: " + unparsed(b"")),
@@ -110,17 +129,29 @@ OPTIONS = [
     ("--invalid abort", b"1\nx\n", 1, b"1\n", b"line 2: " + unparsed(b"x")),
 ]
 
-# Words that do not name two formats.
+# Words that do not name two formats, and the message.
 MISUSES = [
-    ["xx", "de"],
-    ["en", "xx"],
-    ["en", ""],
-    ["en", "custom"],
-    ["en", "custom:"],
-    ["en", "custom:,:Standard"],
-    ["en", "custom:,:standard:-"],
-    ["en", "custom:123456789:Standard:-"],
-    ["en", "custom:,:Standard:123456789"],
+    (["xx", "de"], unknown(b"'xx'")),
+    (["xx", "yy"], unknown(b"'xx'")),
+    (["en", "xx"], unknown(b"'xx'")),
+    (["en", ""], unknown(b"''")),
+    (["en", "english"], unknown(b"'english'")),
+    (["en", "Plain"], unknown(b"'Plain'")),
+    (["en", "custom"], unknown(b"'custom'")),
+    (["en", "custom:"], unknown(b"'custom:'")),
+    (["en", "custom:,:Standard"], unknown(b"'custom:,:Standard'")),
+    (["en", "custom:,:standard:-"], unknown(b"'custom:,:standard:-'")),
+    (["en", "custom:123456789:Standard:-"], unknown(b"'custom:123456789:Standard:-'")),
+    (["en", "custom:,:Standard:123456789"], unknown(b"'custom:,:Standard:123456789'")),
+    (["en", "\x1b[2J~\x7f"], unknown(rb"'\x1B[2J~\x7F'")),
+    (["en", "it's \\n\n"], unknown(rb"'it\x27s \x5Cn\x0A'")),
+    (["en", "\u202f"], unknown(rb"'\xE2\x80\xAF'")),
+    (["en", 64 * "x" + "y"], unknown(b"'" + 64 * b"x" + b"'")),
+    (["en", 100 * "\t"], unknown(b"'" + 64 * rb"\x09" + b"'")),
+    (["custom:.:Standard:-", "en"], unmarked(b"'custom:.:Standard:-'")),
+    (["custom:,:Standard:", "en"], unmarked(b"'custom:,:Standard:'")),
+    (["custom:7:Standard:17", "xx"], unmarked(b"'custom:7:Standard:17'")),
+    (["--lenient", "custom:7:Standard:17", "xx"], unknown(b"'xx'")),
 ]
 
 # Words that are refused before that, and what the message begins with.
@@ -216,8 +247,8 @@ def check_lengths(tally, program, grouping):
 
 def check_words(tally, program):
     heading("words that do not name two formats")
-    for words in MISUSES:
-        compare(tally, repr(words), regroup(program, words, b"1\n"), 2, b"", USAGE)
+    for words, message in MISUSES:
+        compare(tally, repr(words), regroup(program, words, b"1\n"), 2, b"", message)
     for words, message in REFUSED:
         ended = regroup(program, words, b"1\n")
         found = (ended.returncode, ended.stdout, ended.stderr[: len(message)])
@@ -227,6 +258,13 @@ def check_words(tally, program):
     ended = regroup(program, ["--help"], b"")
     found = (ended.returncode, b"Usage: regroup-lines" in ended.stdout, ended.stderr)
     tally.compare("--help", found, (0, True, b""))
+    version = (ROOT / "VERSION").read_text(encoding="utf-8").strip()
+    for word in ["--version", "-V"]:
+        ended = regroup(program, [word], b"")
+        compare(tally, word, ended, 0, f"regroup-lines {version}\n".encode(), b"")
+    changes = (ROOT / "CHANGELOG.md").read_text(encoding="utf-8")
+    first = next(line for line in changes.splitlines() if line.startswith("## "))
+    tally.compare("the first version of CHANGELOG.md", first.split()[1], version)
     check_open_input(tally, program)
 
 
@@ -236,7 +274,7 @@ def check_open_input(tally, program):
     ended = run([program, "en", "xx"], stdin=read_end, capture_output=True)
     os.close(read_end)
     os.close(write_end)
-    compare(tally, "an input that stays open", ended, 2, b"", USAGE)
+    compare(tally, "an input that stays open", ended, 2, b"", unknown(b"'xx'"))
 
 
 def check_example(tally, program):

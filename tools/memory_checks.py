@@ -34,7 +34,7 @@ MANY_REQUESTS = 100
 FILTER_COMMANDS = [
     (["en", "de"], 0, "", ""),
     (["en", "custom:,:Indian:-"], 0, "", ""),
-    (["en", "xx"], 2, "", filter_checks.USAGE.decode()),
+    (["en", "xx"], 2, "", filter_checks.unknown(b"'xx'").decode()),
 ]
 
 

@@ -7,7 +7,7 @@ mod options;
 
 use crate::options::{command, rules_of, words_of};
 use clap::error::ErrorKind;
-use regroup_stream::{FAILED, MISUSED, run};
+use regroup_stream::{FAILED, MISUSED, formats_named, run};
 use std::io::{BufReader, BufWriter};
 use std::process::ExitCode;
 use std::{env, io};
@@ -48,8 +48,12 @@ fn try_main(rt: &HostRuntime) -> io::Result<u8> {
         eprintln!(rt; "regroup-lines: the delimiter is not one ASCII character")?;
         return Ok(MISUSED);
     };
-    let words = words_of(&matches);
+    let [from, to] = words_of(&matches);
+    let formats = match formats_named(rules.reading, from, to) {
+        Ok(formats) => formats,
+        Err(misuse) => return Ok(misuse.send(&mut rt.stderr())),
+    };
     let input = BufReader::with_capacity(rt.alloc(), CAPACITY, rt.stdin())?;
     let mut out = BufWriter::with_capacity(rt.alloc(), CAPACITY, rt.stdout())?;
-    Ok(run(&rules, &words, input, &mut out, &mut rt.stderr()))
+    Ok(run(&rules, &formats, input, &mut out, &mut rt.stderr()))
 }

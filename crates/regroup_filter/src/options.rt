@@ -4,14 +4,18 @@ use clap::{Arg, ArgAction, ArgMatches, Command, value_parser};
 use regroup_stream::{Field, Reading, Rules, Span};
 use std::alloc::{AllocError, Global};
 
+/// The version of the project, which the file VERSION has too.
+const VERSION: &str = "0.1.0";
+
 /// What `--help` says after the options.
 const AFTER_HELP: &str = "\
-FROM and TO are each plain, as in -1234.5, the name of a locale, or custom:SEP:GROUPING:MINUS: the format of
-en with these three fields. GROUPING is Standard, Indian, Posix, Myriad or Sparse.
+FROM and TO are each plain, as in -1234.5, a locale, as en-US, de_DE.UTF-8 or C, or custom:SEP:GROUPING:MINUS:
+the format of en with these three fields. GROUPING is Standard, Indian, Posix, Myriad or Sparse.
 
 A number is read exactly as it is printed under FROM, grouped or not, and is written with as many decimals
 as it has. Spaces, tabs and carriage returns around it are passed on. A last line without a newline is
-written with one. Without --lenient, FROM needs a decimal mark that is not its separator.
+written with one. Without --lenient, each decimal under FROM has to parse back from its text: FROM needs a
+minus sign, and a decimal mark that is not its separator.
 
 The status is 0 if all lines were written; 1, after the lines before it, at a line at fault: its number is
 none, it has too few fields, or more than 4,096 bytes; 2 for other arguments, also such that are not UTF-8;
@@ -31,6 +35,7 @@ pub(crate) fn command<'a>(alloc: Global) -> Result<Command<'a>, AllocError> {
         .help("The format of the numbers that are written");
     let command = Command::new(alloc, "regroup-lines")
         .no_binary_name(true)
+        .version(VERSION)
         .about("Writes the number in each line of standard input under another format.")
         .after_help(AFTER_HELP)
         .arg(from)?

@@ -1,3 +1,2 @@
 pub mod SplitLemmas
 pub mod StreamLemmas
-pub mod WordsLemmas

@@ -1,6 +1,6 @@
 -- What the program ends with, after the lines were sent.
-use Rattle.std.proofs.Common.{◌≡◌, ℕ, Bool, true, List, [], ◌∷◌, Result, Ok, Err, if◌then◌else◌, refl, sym, subst, arith}
-use Rattle.std.specs.Prelude.{◌≢◌, Option, Some, IfOk, OnErr}
+use Rattle.std.proofs.Common.{◌≡◌, ℕ, Bool, true, List, [], Result, Ok, Err, if◌then◌else◌, refl, sym, subst, arith}
+use Rattle.std.specs.Prelude.{◌≢◌, Option, IfOk, OnErr}
 use Rattle.std.specs.Io.KnownBytes.{Keeps}
 use Rattle.std.specs.Result.{result_and}
 use Rattle.std.proofs.KnownBytes.{Appends-kept}
@@ -11,7 +11,7 @@ use Rattle.regroup_shared.proofs.SendingLemmas.{HasReceivedUpTo-none}
 use Rattle.regroup_lines.specs.Fault.{Fault, message_of_fault}
 use Rattle.regroup_lines.specs.Sending.{Regroups}
 use Rattle.regroup_lines.specs.declared.rules.Rules.{Rules}
-use Rattle.regroup_stream.specs.Stream.{Ends, Stops, is_of_line, most_lines, report}
+use Rattle.regroup_stream.specs.Stream.{RegroupsAll, StopsAll, is_of_line, most_lines, report}
 
 -- what a writer received, after a flush
 StopsWithin-kept : (a b c : Option (List ℕ)) (text : List ℕ) → StopsWithin a b text → Keeps b c → StopsWithin a c text
@@ -39,7 +39,7 @@ Regroups-kept rules most from to r s a b c result lines kept = record {
 
 -- all lines were regrouped
 pub Ends_regrouped : (rules : Rules) (from to : FormatData) (r s a b c d : Option (List ℕ)) (count : ℕ) → Regroups rules most_lines from to r s a b (Ok count) → Keeps b c →
-    Ends rules (Some (from, to)) 0 r a c d d
+    RegroupsAll rules from to 0 r a c d d
 Ends_regrouped rules from to r s a b c d count lines kept = record {
   result = Ok count;
   read_new = s;
@@ -49,7 +49,7 @@ Ends_regrouped rules from to r s a b c d count lines kept = record {
 
 -- nothing was sent to standard error
 pub Stops_unreported : (rules : Rules) (from to : FormatData) (r s a b c d : Option (List ℕ)) (result : Result ℕ Fault) → Regroups rules most_lines from to r s a b result →
-    Keeps b c → Stops rules (Some (from, to)) r a c d d
+    Keeps b c → StopsAll rules from to r a c d d
 Stops_unreported rules from to r s a b c d result lines kept = record {
   result = result;
   read_new = s;
@@ -61,7 +61,7 @@ Stops_unreported rules from to r s a b c d result lines kept = record {
 -- a line is at fault, and its message was sent
 pub Ends_sent : {E : Type 0} (status : Result ℕ E) (rules : Rules) (from to : FormatData) (r s a b c d e : Option (List ℕ)) (fault : Fault) (sent : Result (Unit {0}) E) →
     Regroups rules most_lines from to r s a b (Err fault) → Keeps b c → is_of_line fault ≡ true → Sends sent d e (line (message_of_fault fault)) →
-    status ≡ result_and sent (Ok 1) → IfOk status (λ status. status ≢ 3 → Ends rules (Some (from, to)) status r a c d e)
+    status ≡ result_and sent (Ok 1) → IfOk status (λ status. status ≢ 3 → RegroupsAll rules from to status r a c d e)
 Ends_sent status rules from to r s a b c d e fault (Ok done) lines kept of_line sends returned =
     rw returned (λ _. record {
       result = Err fault;
@@ -73,7 +73,7 @@ Ends_sent status rules from to r s a b c d e fault (Err error) lines kept of_lin
 
 pub Stops_sent : {E : Type 0} (status : Result ℕ E) (rules : Rules) (from to : FormatData) (r s a b c d e : Option (List ℕ)) (fault : Fault) (sent : Result (Unit {0}) E) →
     Regroups rules most_lines from to r s a b (Err fault) → Keeps b c → is_of_line fault ≡ true → Sends sent d e (line (message_of_fault fault)) →
-    status ≡ result_and sent (Ok 1) → OnErr status (Stops rules (Some (from, to)) r a c d e)
+    status ≡ result_and sent (Ok 1) → OnErr status (StopsAll rules from to r a c d e)
 Stops_sent status rules from to r s a b c d e fault (Ok done) lines kept of_line sends returned = rw returned tt
 Stops_sent status rules from to r s a b c d e fault (Err error) lines kept of_line sends returned =
     let message = line (message_of_fault fault) in

@@ -1,8 +1,8 @@
 -- What the program writes of the lines of an input.
-use Rattle.std.specs.Prelude.{◌≡◌, ℕ, ◌-◌, ◌^◌, Bool, true, false, if◌then◌else◌, List, [], codes, Option, None, Some, Result, Ok, Err}
+use Rattle.std.specs.Prelude.{◌≡◌, ℕ, ◌-◌, ◌^◌, Bool, true, false, if◌then◌else◌, List, [], Option, Result, Ok, Err}
 use Rattle.std.specs.Io.KnownBytes.{Appends}
 use Rattle.num_format.specs.Format.{FormatData}
-use Rattle.num_format.specs.Writing.{HasReceivedUpTo, StopsWithin}
+use Rattle.num_format.specs.Writing.{HasReceivedUpTo}
 use Rattle.regroup_shared.specs.Sending.{line}
 use Rattle.regroup_lines.specs.Fault.{Fault, message_of_fault}
 use Rattle.regroup_lines.specs.Fault.Fault.{TooMany, TooLong, FewFields, Read, NotText, Line, Write}
@@ -37,10 +37,6 @@ pub record RegroupsAll (rules : Rules) (from to : FormatData) (status : ℕ) (re
   pub lines : Regroups rules most_lines from to read_old read_new out_old out_new result
   pub reports : Reports result status err_old err_new
 
--- the usage
-abbrev pub usage : List ℕ
-usage = line (codes "usage: regroup-lines FROM TO, each plain, a locale or custom:SEP:GROUPING:MINUS")
-
 -- the text for standard error: the message of a line at fault and a newline, or nothing
 abbrev pub report : Result ℕ Fault → List ℕ
 report (Ok count) = []
@@ -54,13 +50,3 @@ pub record StopsAll (rules : Rules) (from to : FormatData) (read_old out_old out
   pub unreported : List ℕ
   pub lines : Regroups rules most_lines from to read_old read_new out_old out_new result
   pub reported : HasReceivedUpTo err_old err_new (report result) unreported
-
--- what the program does where no read and no write fails: without two formats it writes the usage, else the lines
-abbrev pub Ends : Rules → Option (FormatData × FormatData) → ℕ → (read_old out_old out_new err_old err_new : Option (List ℕ)) → Type 0
-Ends rules None status read_old out_old out_new err_old err_new = (status ≡ 2) × (out_new ≡ out_old) × Appends err_old err_new usage
-Ends rules (Some formats) status read_old out_old out_new err_old err_new = RegroupsAll rules formats.0 formats.1 status read_old out_old out_new err_old err_new
-
--- what the program does where a read or a write fails
-abbrev pub Stops : Rules → Option (FormatData × FormatData) → (read_old out_old out_new err_old err_new : Option (List ℕ)) → Type 0
-Stops rules None read_old out_old out_new err_old err_new = (out_new ≡ out_old) × StopsWithin err_old err_new usage
-Stops rules (Some formats) read_old out_old out_new err_old err_new = StopsAll rules formats.0 formats.1 read_old out_old out_new err_old err_new

@@ -1,13 +1,24 @@
--- The formats that words name.
-use Rattle.std.specs.Prelude.{ℕ, ◌==◌, if◌then◌else◌, nat_eq, List, [], ◌∷◌, drop, codes, Option, None, Some, option_and_then}
+-- The formats that words name, and what is wrong with words that name none.
+use Rattle.std.specs.Prelude.{◌≡◌, ◌⊎◌, ℕ, ◌==◌, Bool, true, false, if◌then◌else◌, nat_eq, List, [], ◌∷◌, ◌++◌, drop, codes, Option, None, Some, option_and_then, Result, Ok, Err, ⊤}
 use Rattle.std.specs.List.{starts_with}
+use Rattle.std.specs.Io.KnownBytes.{Appends}
 use Rattle.std.specs.Option.{option_map}
 use Rattle.std.specs.Result.{result_ok}
 use Rattle.std.specs.Str.{bytes_eq}
+use Rattle.num_format.specs.Data.{locale_data}
 use Rattle.num_format.specs.Format.{FormatData}
 use Rattle.num_format.specs.Grouping.TheVariants.{Posix}
 use Rattle.num_format.specs.GroupingNames.{grouping_named}
-use Rattle.regroup_shared.specs.Formats.{custom_format, locale_named}
+use Rattle.num_format.specs.Lookup.{LooksUpTag}
+use Rattle.num_format.specs.Writing.{StopsWithin}
+use Rattle.num_format_decimal.specs.Marks.{MarksDecimals}
+use Rattle.regroup_lines.specs.declared.rules.Reading.{Reading}
+use Rattle.regroup_lines.specs.declared.rules.Reading.TheVariants.{Lenient, Strict}
+use Rattle.regroup_shared.specs.Formats.{custom_format}
+use Rattle.regroup_shared.specs.Quoting.{quoted}
+use Rattle.regroup_shared.specs.Sending.{line}
+use Rattle.regroup_stream.specs.declared.words.Misuse.{Misuse}
+use Rattle.regroup_stream.specs.declared.words.Misuse.TheVariants as misuse
 
 -- the split before the first byte of a text: that of the bytes after it, or else that at the byte itself if it is a colon
 abbrev pub split_before : ℕ → List ℕ → Option (List ℕ × List ℕ) → Option (List ℕ × List ℕ)
@@ -36,17 +47,75 @@ custom_format_named fields = option_and_then (λ parts. format_of_two parts.0 pa
 abbrev pub plain : Option FormatData
 plain = result_ok (custom_format [] Posix (codes "-"))
 
--- the format that a word names: the fields after `custom:`, or else a locale
-abbrev pub locale_or_custom_format_named : List ℕ → Option FormatData
-locale_or_custom_format_named word =
-    if starts_with nat_eq word (codes "custom:") then custom_format_named (drop 7 word)
-    else result_ok (locale_named word)
+-- the format of the locale as which a tag is looked up, if there is one
+pub record LooksUpFormat (tag : List ℕ) (found : Option FormatData) : Type 0 where
+  pub locale : Option ℕ
+  pub looked_up : LooksUpTag tag locale
+  pub format : found ≡ option_map locale_data locale
 
--- the format that a word names, which may be the plain one
-abbrev pub format_named : List ℕ → Option FormatData
-format_named word = if bytes_eq word (codes "plain") then plain else locale_or_custom_format_named word
+-- the format that a word names, by whether the word begins with `custom:`: that of the fields after it, or of a locale
+abbrev pub NamesCustomOrLocale : Bool → List ℕ → Option FormatData → Type 0
+NamesCustomOrLocale true word found = found ≡ custom_format_named (drop 7 word)
+NamesCustomOrLocale false word found = LooksUpFormat word found
 
--- the formats that two words name
-abbrev pub formats_named : List (List ℕ) → Option (FormatData × FormatData)
-formats_named (from ∷ to ∷ []) = option_and_then (λ f. option_map (λ g. (f, g)) (format_named to)) (format_named from)
-formats_named _ = None
+-- the same, by whether the word is `plain`
+abbrev pub NamesPlainOrOther : Bool → List ℕ → Option FormatData → Type 0
+NamesPlainOrOther true word found = found ≡ plain
+NamesPlainOrOther false word found = NamesCustomOrLocale (starts_with nat_eq word (codes "custom:")) word found
+
+-- the format that a word names, if it names one
+abbrev pub NamesFormat : List ℕ → Option FormatData → Type 0
+NamesFormat word found = NamesPlainOrOther (bytes_eq word (codes "plain")) word found
+
+-- numbers are read under the format: strictly only where each decimal parses back from its text
+abbrev pub IsReadUnder : Reading → FormatData → Type 0
+IsReadUnder Strict format = MarksDecimals format
+IsReadUnder Lenient format = ⊤
+
+-- what is wrong with words, with the word that is wrong
+pub data Wrong : Type 0 where
+  NoFormat : List ℕ → Wrong
+  NoDecimals : List ℕ → Wrong
+
+-- the `Wrong` of a `Misuse`
+abbrev pub wrong_of : Misuse → Wrong
+wrong_of (misuse.NoFormat word) = NoFormat word.now
+wrong_of (misuse.NoDecimals word) = NoDecimals word.now
+
+-- the word is the first of the two, and it names no format; or it is the second and does not, and the first names one that is read
+pub data IsUnknown (reading : Reading) (from to : List ℕ) : List ℕ → Type 0 where
+  first : NamesFormat from None → IsUnknown reading from to from
+  second : (format : FormatData) → NamesFormat from (Some format) → IsReadUnder reading format → NamesFormat to None → IsUnknown reading from to to
+
+-- the word is the first of the two, and it names a format that is not read
+pub record IsUnread (reading : Reading) (from word : List ℕ) : Type 0 where
+  pub is : word ≡ from
+  pub format : FormatData
+  pub named : NamesFormat from (Some format)
+  pub unread : ¬ IsReadUnder reading format
+
+-- the two words name these formats, and the first is read
+pub record NamesBoth (reading : Reading) (from to : List ℕ) (formats : FormatData × FormatData) : Type 0 where
+  pub first : NamesFormat from (Some formats.0)
+  pub read : IsReadUnder reading formats.0
+  pub second : NamesFormat to (Some formats.1)
+
+-- the formats that two words name, or what is wrong with them
+abbrev pub NamesFormats : Reading → (from to : List ℕ) → Result (FormatData × FormatData) Wrong → Type 0
+NamesFormats reading from to (Ok formats) = NamesBoth reading from to formats
+NamesFormats reading from to (Err (NoFormat word)) = IsUnknown reading from to word
+NamesFormats reading from to (Err (NoDecimals word)) = IsUnread reading from word
+
+-- the message that shows a word with what is wrong with it
+abbrev pub misuse_message : (word cause : List ℕ) → List ℕ
+misuse_message word cause = line (codes "regroup-lines: " ++ (quoted word ++ cause)) ++ line (codes "Try 'regroup-lines --help' for more information.")
+
+-- the message of what is wrong
+abbrev pub message_of_wrong : Wrong → List ℕ
+message_of_wrong (NoFormat word) = misuse_message word (codes " names no format")
+message_of_wrong (NoDecimals word) = misuse_message word (codes ": decimals do not parse back")
+
+-- standard error received the message and the status is 2, or not all of the message, and it is 3
+abbrev pub SendsMisuse : Wrong → ℕ → (err_old err_new : Option (List ℕ)) → Type 0
+SendsMisuse wrong status err_old err_new =
+    ((status ≡ 2) × Appends err_old err_new (message_of_wrong wrong)) ⊎ ((status ≡ 3) × StopsWithin err_old err_new (message_of_wrong wrong))

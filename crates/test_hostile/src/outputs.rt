@@ -4,9 +4,9 @@
 use crate::ReadStep::Give;
 use crate::Step::{Take, Zero};
 use crate::{ReadStep, Scripted, ScriptedReader, Step};
-use num_format::Locale;
+use num_format::{CustomFormat, Locale};
 use regroup_lines::{RegroupFault, regroup_lines};
-use regroup_stream::{FAILED, REGROUPED, Reading, Rules, Span, run};
+use regroup_stream::{FAILED, Formats, REGROUPED, Reading, Rules, Span, run};
 use std::alloc::Global;
 use std::io::BufWriter;
 use std::process::Abort;
@@ -97,7 +97,11 @@ fn assert_run(rt: &impl Abort, alloc: Global, case: &Case<'_>) -> Result<(), Fai
     let writer = Scripted::new(alloc, SPACE, case.1)?;
     let mut out = BufWriter::with_capacity(alloc, 0, writer)?;
     let mut err = Scripted::new(alloc, SPACE, &[])?;
-    let status = run(&LENIENT, &["en", "en-IN"], reader(case), &mut out, &mut err);
+    let formats = Formats {
+        from: CustomFormat::from(Locale::en),
+        to: CustomFormat::from(Locale::en_IN),
+    };
+    let status = run(&LENIENT, &formats, reader(case), &mut out, &mut err);
     let expected = if matches!(case.2, Ended::Lines(_)) {
         REGROUPED
     } else {

@@ -3,7 +3,10 @@
 use crate::ReadStep::{Fail, Give};
 use crate::Step::{Interrupt, Take, Zero};
 use crate::{Scripted, ScriptedReader, Step};
-use regroup_stream::{FAILED, FAULTY, MISUSED, REGROUPED, Reading, Rules, Span, run};
+use num_format::{CustomFormat, Grouping, Locale};
+use regroup_stream::{
+    FAILED, FAULTY, Formats, MISUSED, Misuse, REGROUPED, Reading, Rules, Span, run,
+};
 use std::alloc::Global;
 use std::io::{BufWriter, ErrorKind, Write};
 use std::process::Abort;
@@ -17,6 +20,19 @@ const STRICT: Rules = Rules {
     passes_empty: false,
     passes_faulty: false,
 };
+
+/// Returns the formats of `en` and this one.
+fn to(format: CustomFormat) -> Formats {
+    Formats {
+        from: CustomFormat::from(Locale::en),
+        to: format,
+    }
+}
+
+/// Returns the formats of `en` and `de`.
+fn to_de() -> Formats {
+    to(CustomFormat::from(Locale::de))
+}
 
 /// Accepts all bytes, and fails the first time that it is flushed.
 #[derive(Drop)]
@@ -49,7 +65,7 @@ fn a_read_fails(rt: HostRuntime) -> Result<(), test::Fail> {
             steps: &[Give(3), Give(9), Fail],
             calls: 0,
         };
-        let status = run(&STRICT, &["en", "de"], reader, &mut out, &mut err);
+        let status = run(&STRICT, &to_de(), reader, &mut out, &mut err);
         assert_eq!(rt; status, FAILED);
         assert_eq!(rt; out.get_ref().as_slice(), b"1.000\n".as_slice());
         assert!(rt; err.is_empty());
@@ -63,10 +79,7 @@ fn a_flush_fails(rt: HostRuntime) -> Result<(), test::Fail> {
     for text in [b"".as_slice(), b"1,000\n", b"x\n"] {
         let mut out = BufWriter::new(rt.alloc(), Unflushed { flushes: 0 })?;
         let mut err = Vec::new(rt.alloc());
-        assert_eq!(rt;
-            run(&STRICT, &["en", "de"], text, &mut out, &mut err),
-            FAILED
-        );
+        assert_eq!(rt; run(&STRICT, "en", "de", text, &mut out, &mut err), FAILED);
         assert_eq!(rt; out.get_ref().flushes, 1);
         assert!(rt; err.is_empty());
     }
@@ -77,7 +90,6 @@ fn a_flush_fails(rt: HostRuntime) -> Result<(), test::Fail> {
 fn assert_calls(
     rt: &impl Abort,
     alloc: Global,
-    words: &[&str],
     text: &[u8],
     err_steps: &[Step],
     status: u8,
@@ -85,7 +97,7 @@ fn assert_calls(
 ) -> Result<(), test::Fail> {
     let mut out = BufWriter::new(alloc, Scripted::new(alloc, 64, &[])?)?;
     let mut err = Scripted::new(alloc, 128, err_steps)?;
-    assert_eq!(rt; run(&STRICT, words, text, &mut out, &mut err), status);
+    assert_eq!(rt; run(&STRICT, &to_de(), text, &mut out, &mut err), status);
     let written = out.get_ref();
     assert_eq!(rt;
         [written.calls, written.flushes, err.calls, err.flushes],
@@ -99,33 +111,25 @@ fn assert_calls(
 #[test]
 fn writes_and_flushes(rt: HostRuntime) -> Result<(), test::Fail> {
     let alloc = rt.alloc();
-    let words = ["en", "de"];
-    assert_calls(&rt, alloc, &words, b"", &[], REGROUPED, [0, 1, 0, 0])?;
-    assert_calls(
-        &rt,
-        alloc,
-        &words,
-        b"1,000\n-5\n",
-        &[],
-        REGROUPED,
-        [1, 1, 0, 0],
-    )?;
-    assert_calls(&rt, alloc, &words, b"5\nx\n", &[], FAULTY, [1, 1, 1, 0])?;
-    assert_calls(&rt, alloc, &words, b"x\n", &[Take(8)], FAULTY, [0, 1, 2, 0])?;
-    assert_calls(&rt, alloc, &["en"], b"5\n", &[], MISUSED, [0, 0, 1, 0])
+    assert_calls(&rt, alloc, b"", &[], REGROUPED, [0, 1, 0, 0])?;
+    assert_calls(&rt, alloc, b"1,000\n-5\n", &[], REGROUPED, [1, 1, 0, 0])?;
+    assert_calls(&rt, alloc, b"5\nx\n", &[], FAULTY, [1, 1, 1, 0])?;
+    assert_calls(&rt, alloc, b"x\n", &[Take(8)], FAULTY, [0, 1, 2, 0])?;
+    let mut err = Scripted::new(alloc, 128, &[])?;
+    assert_eq!(rt; Misuse::NoFormat("xx").send(&mut err), MISUSED);
+    assert_eq!(rt; [err.calls, err.flushes], [1, 0]);
+    Ok(())
 }
 
 /// A message that fails is not tried again.
 #[test]
 fn a_message_fails(rt: HostRuntime) -> Result<(), test::Fail> {
     for fault in [Step::Fail, Interrupt, Zero] {
-        for words in [["en", "de"], ["en", "xx"]] {
-            let flushes = if words[1] == "de" { 1 } else { 0 };
-            let whole = [0, flushes, 1, 0];
-            assert_calls(&rt, rt.alloc(), &words, b"x\n", &[fault], FAILED, whole)?;
-            let steps = [Take(5), fault];
-            let cut = [0, flushes, 2, 0];
-            assert_calls(&rt, rt.alloc(), &words, b"x\n", &steps, FAILED, cut)?;
+        for (steps, calls) in [([fault, Take(0)], 1), ([Take(5), fault], 2)] {
+            assert_calls(&rt, rt.alloc(), b"x\n", &steps, FAILED, [0, 1, calls, 0])?;
+            let mut err = Scripted::new(rt.alloc(), 128, &steps)?;
+            assert_eq!(rt; Misuse::NoFormat("xx").send(&mut err), FAILED);
+            assert_eq!(rt; err.calls, calls);
         }
     }
     Ok(())
@@ -136,15 +140,25 @@ fn a_message_fails(rt: HostRuntime) -> Result<(), test::Fail> {
 fn a_line_is_at_fault(rt: HostRuntime) -> Result<(), test::Fail> {
     let mut out = BufWriter::new(rt.alloc(), Vec::new(rt.alloc()))?;
     let mut err = Vec::new(rt.alloc());
-    let words = ["en", "custom:::Indian:-"];
+    let format = CustomFormat::builder()
+        .separator(":")
+        .grouping(Grouping::Indian)
+        .build()?;
+    let formats = to(format);
     assert_eq!(rt;
-        run(&STRICT, &words, b"100,000\n".as_slice(), &mut out, &mut err),
+        run(
+            &STRICT,
+            &formats,
+            b"100,000\n".as_slice(),
+            &mut out,
+            &mut err
+        ),
         REGROUPED
     );
     assert_eq!(rt;
         run(
             &STRICT,
-            &words,
+            &formats,
             b"-1,000\nx\n".as_slice(),
             &mut out,
             &mut err

@@ -1,0 +1,65 @@
+//! Texts in messages.
+ghost use Rattle.std.specs.Prelude.{◌≡◌, ◌+◌, ◌<◌, ◌≤◌, ◌++◌, IsTrue};
+ghost use Rattle.arrayvec.specs.ArrayString.{array_string_len};
+ghost use Rattle.regroup_shared.specs.Quoting.{hex_digit, is_shown, quoted, shown};
+
+use arrayvec::ArrayString;
+
+/// The most bytes of a text that are shown.
+pub const MAX_SHOWN_LEN: usize = 64;
+
+/// The most bytes of a text in quotes: four for each byte that is shown.
+pub const MAX_QUOTED_LEN: usize = 4 * MAX_SHOWN_LEN + 2;
+
+/// Returns the first 64 bytes of a text, in quotes. Printable ASCII is shown as it is, but for the quote and the
+/// backslash. Any other byte is `\x` and two digits, so that no terminal takes it for a command.
+///
+/// ```text
+/// quoted(b"12.5O")       // '12.5O'
+/// quoted(b"\x1b[2J'\n")  // '\x1B[2J\x27\x0A'
+/// ```
+pub fn quoted(text: &[u8]) -> ArrayString<MAX_QUOTED_LEN>
+    ensures { result.bytes ≡ quoted text.now }
+{
+    let first = &text[..MAX_SHOWN_LEN.min(text.len())];
+    let mut message = ArrayString::new();
+    message.push('\'');
+    for byte in first {
+        push_shown(&mut message, *byte);
+    }
+    message.push('\'');
+    message
+}
+
+/// Appends a byte as it is shown.
+#[tactic(auto, using(std::proofs::lemmas::Str::encode_ascii))]
+fn push_shown(message: &mut ArrayString<MAX_QUOTED_LEN>, byte: u8)
+    requires { array_string_len message.old + 4 ≤ MAX_QUOTED_LEN }
+    ensures bytes { message.new.bytes ≡ message.old.bytes ++ shown byte }
+    ensures len { array_string_len message.new ≤ array_string_len message.old + 4 }
+{
+    if is_shown(byte) {
+        message.push(byte as char);
+        return;
+    }
+    message.push_str("\\x");
+    message.push(hex_digit(byte / 16) as char);
+    message.push(hex_digit(byte % 16) as char);
+}
+
+/// Returns whether a byte is shown as it is.
+fn is_shown(byte: u8) -> bool
+    ensures value { result ≡ is_shown byte }
+    ensures ascii { IsTrue result → byte < 128 }
+{
+    (byte.is_ascii_graphic() || byte == b' ') && byte != b'\'' && byte != b'\\'
+}
+
+/// Returns a digit of base 16.
+fn hex_digit(n: u8) -> u8
+    requires { n < 16 }
+    ensures digit { result ≡ hex_digit n }
+    ensures ascii { result < 128 }
+{
+    if n < 10 { n + b'0' } else { n - 10 + b'A' }
+}
