@@ -52,7 +52,8 @@ def install(python, folder, library, *flags):
     env = {**os.environ, "NUM_FORMAT_LIBRARY": str(library), "PIP_DISABLE_PIP_VERSION_CHECK": "1"}
     # No cache of pip's, no settings of the user's.
     env |= {"HOME": str(folder), "PIP_CONFIG_FILE": os.devnull}
-    env |= {"CFLAGS": " ".join([os.environ.get("CFLAGS", ""), "-Werror", *flags]), "LDFLAGS": " ".join(flags)}
+    for name, more in [("CFLAGS", ["-Werror", *flags]), ("LDFLAGS", flags)]:
+        env[name] = " ".join([os.environ.get(name, ""), *more])
     pip = [made, "-m", "pip", "install", "--quiet", "--no-index", "--no-build-isolation", "--no-cache-dir", package]
     for words in [[python, "-m", "venv", "--system-site-packages", environment], pip]:
         if subprocess.run(words, env=env, check=False).returncode:
