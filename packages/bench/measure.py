@@ -59,6 +59,8 @@ class Given(NamedTuple):
     #: `LOCALE` if it could be made, else `-`.
     locale: str
     cargo: list
+    #: Of which package what was skipped, and why.
+    skipped: list
 
 
 def prepared(library, folder, rows, cargo):
@@ -74,7 +76,7 @@ def prepared(library, folder, rows, cargo):
     os.environ["LOCPATH"] = str(folder)
     words = ["localedef", "-i", "en_US", "-f", "UTF-8", folder / LOCALE]
     has_locale = shutil.which(words[0]) is not None and not subprocess.run(words, check=False).returncode
-    return Given(library, folder, path, LOCALE if has_locale else "-", cargo)
+    return Given(library, folder, path, LOCALE if has_locale else "-", cargo, [])
 
 
 def output(*words, **how):
@@ -88,6 +90,12 @@ def need(*tools):
             raise Lack(f"there is no `{tool}`")
 
 
+def skip_locale(given, name):
+    """Says that the calls which need the locale are skipped, if it is missing."""
+    if given.locale == "-":
+        given.skipped.append((name, f"`localedef` made no {LOCALE}"))
+
+
 def rows_of(printed):
     """The rows that a program printed, and the lines after them."""
     lines = printed.splitlines()
@@ -97,6 +105,7 @@ def rows_of(printed):
 
 def in_c(given):
     need("cc")
+    skip_locale(given, "C")
     made = given.folder / "in_c"
     output("cc", "-std=c11", "-Wall", "-Wextra", "-Werror", "-O2", "-I", CRATE, HERE / "c.c", given.library, "-o", made)
     return rows_of(output(made, given.numbers, given.locale))[0]
@@ -106,6 +115,9 @@ def in_python(given):
     python, lacking = environment.find_python([*environment.NEEDED, "numpy"], ["babel"])
     if lacking:
         raise Lack(f"Python lacks {', '.join(lacking)}")
+    skip_locale(given, "Python")
+    if environment.missing(python, ["babel"]):
+        given.skipped.append(("Python", "there is no module `babel`"))
     made = environment.install(python, given.folder, given.library)
     if made is None:
         raise RuntimeError("the package was not installed")

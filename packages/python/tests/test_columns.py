@@ -70,20 +70,18 @@ def test_layout_of_nulls_is_that_of_arrow():
     assert column.buffers() == (column.offsets, column.data, column.validity)
 
 
-@pytest.mark.parametrize("large", [False, True])
-@pytest.mark.parametrize("is_masked", [False, True])
-def test_pyarrow(large, is_masked):
+def test_pyarrow():
     pyarrow = pytest.importorskip("pyarrow")
-    kind = pyarrow.LargeStringArray if large else pyarrow.StringArray
-    numbers = np.ma.array([1234, -5, 0, 7], mask=[0, 0, 1, 0]) if is_masked else np.array([1234, -5, 0, 7])
-    column = columns.format_column(numbers, "sv", large=large)
-    array = kind.from_buffers(len(column), *map(pyarrow.py_buffer, column.buffers()))
-    array.validate(full=True)
-    assert array.to_pylist() == column.tolist()
-    validity, offsets, data = array.buffers()
-    assert data.address == column.data.ctypes.data
-    again = columns.StringColumn(np.frombuffer(offsets, dtype=column.offsets.dtype), data, validity)
-    assert columns.parse_column(again, "sv").tolist() == numbers.tolist()
+    for numbers in [np.array([1234, -5, 0, 7]), np.ma.array([1234, -5, 0, 7], mask=[0, 0, 1, 0])]:
+        for large, kind in [(False, pyarrow.StringArray), (True, pyarrow.LargeStringArray)]:
+            column = columns.format_column(numbers, "sv", large=large)
+            array = kind.from_buffers(len(column), *map(pyarrow.py_buffer, column.buffers()))
+            array.validate(full=True)
+            assert array.to_pylist() == column.tolist()
+            validity, offsets, data = array.buffers()
+            assert data.address == column.data.ctypes.data
+            again = columns.StringColumn(np.frombuffer(offsets, dtype=column.offsets.dtype), data, validity)
+            assert columns.parse_column(again, "sv").tolist() == numbers.tolist()
 
 
 def test_nulls():

@@ -1,4 +1,5 @@
 """Columns of decimals: units at a scale, and back."""
+import random
 from decimal import Decimal
 
 import pytest
@@ -66,6 +67,35 @@ def test_as_single_decimals():
         decimals = [Decimal(f"{number}E-{scale}") for number in units.tolist()]
         assert column.tolist() == [num_format.format(number, name) for number in decimals]
         assert (columns.parse_decimal_column(column, scale, name) == units).all()
+
+
+def parsed_alone(text, form, scale):
+    """The cause and the units at the scale by the call for one text."""
+    try:
+        number = num_format.parse_decimal(text, form)
+    except ParseError as error:
+        return error.cause, 0
+    if -number.as_tuple().exponent > scale:
+        return Cause.TOO_MANY_DECIMALS, 0
+    return 0, int(f"{number:.{scale}f}".replace(".", ""))
+
+
+def test_changed_texts_as_single_decimals():
+    chance = random.Random(35)
+    for form in [num_format.Format.locale("en"), num_format.Format.locale("sv"), num_format.Format(separator=", ")]:
+        characters = [*"0123456789,.- x", "", form.separator, form.minus_sign, form.decimal_mark]
+        texts = []
+        for _ in range(3000):
+            units = chance.randrange(-(10**20), 10**20) >> chance.randrange(66)
+            changed = num_format.format(Decimal(f"{units}E-{chance.randrange(4)}"), form)
+            for _ in range(chance.randrange(3)):
+                at = chance.randrange(len(changed) + 1)
+                changed = changed[:at] + chance.choice(characters) + changed[at + chance.randrange(2) :]
+            texts.append(changed)
+        units, causes = columns.try_parse_decimal_column(texts, 2, form, columns.WIDE)
+        assert 500 < np.count_nonzero(causes) < 2500
+        found = list(zip(causes.tolist(), whole(units)))
+        assert found == [parsed_alone(changed, form, 2) for changed in texts]
 
 
 def test_fewer_and_more_decimals():
@@ -148,4 +178,4 @@ def test_more_bytes_than_offsets_of_32_bits_say(monkeypatch):
     lowered = np.iinfo(np.int8)
     monkeypatch.setattr(columns.np, "iinfo", lambda dtype: lowered)
     with pytest.raises(OverflowError, match="large=True"):
-        columns.format_decimal_column(np.full(100, 5), 0 + 2, "en")
+        columns.format_decimal_column(np.full(100, 5), 2, "en")

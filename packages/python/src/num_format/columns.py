@@ -416,7 +416,9 @@ def format_decimal_column(
         more = (len(wide) - done) * (mean + 8) + lib.NUM_FORMAT_DECIMAL_MAX
         data = np.concatenate([data[:size], np.empty(more, dtype=np.uint8)])
         output = ffi.from_buffer("char[]", data)
-        done = lib.print_decimals(struct, pointer, scale, done, len(wide), starts, output, len(data))
+        before, done = done, lib.print_decimals(struct, pointer, scale, done, len(wide), starts, output, len(data))
+        if done == before:
+            raise AssertionError(f"the library printed no decimal at row {done}")
     if not large and offsets[-1] > np.iinfo(np.int32).max:
         _check(lib.NUM_FORMAT_TOO_MANY_BYTES)
     return _unchecked(offsets if large else offsets.astype(np.int32), data[: offsets[-1]])
