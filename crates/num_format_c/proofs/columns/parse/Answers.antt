@@ -1,4 +1,4 @@
-use Rattle.std.proofs.Common.{◌≡◌, ℕ, length, min, rules, refl, arith, subst}
+use Rattle.std.proofs.Common.{◌≡◌, length, min, rules, refl, arith, subst}
 use Rattle.num_format_columns.specs.Columns.{AreOffsets}
 use Rattle.num_format_c.proofs.columns.parse.Goals as goal
 

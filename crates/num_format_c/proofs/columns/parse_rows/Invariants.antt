@@ -1,4 +1,4 @@
-use Rattle.std.proofs.Common.{◌≡◌, ℕ, ◌<◌, ◌≤◌, length, get_or}
+use Rattle.std.proofs.Common.{◌≡◌, ℕ, ◌≤◌, length, get_or}
 use Rattle.num_format_c.specs.Columns.{AreParsed}
 use Rattle.num_format_c.proofs.columns.parse_rows.Given as goal
 
