@@ -21,14 +21,19 @@ PROGRAM = CRATE / "out" / CRATE.name
 EXAMPLES = ROOT / "examples"
 
 TRY_HELP = b"Try 'regroup-lines --help' for more information.\n"
-TOO_LONG = b"More than 4096 bytes.\n"
-NOT_TEXT = b"Not UTF-8.\n"
-FEW_FIELDS = b"Too few fields.\n"
+TOO_LONG = b"more than 4096 bytes"
+NOT_TEXT = b"not UTF-8"
+FEW_FIELDS = b"too few fields"
+
+
+def fault(number, cause):
+    """The message of the line of this number."""
+    return b"regroup-lines: %d: %s\n" % (number, cause)
 
 
 def unparsed(text):
-    """The message of a text that is no number."""
-    return b"Failed to parse " + text + b" into a number.\n"
+    """What a message says of a text, as messages show it, that is no number."""
+    return b"'" + text + b"': not a number"
 
 
 def unknown(word):
@@ -54,19 +59,19 @@ INPUTS = [
     ("de", "en", b"1.234,50\n1234,5\n", 0, b"1,234.50\n1,234.5\n", b""),
     ("en", "en_IN", b"1234567.89\n", 0, b"12,34,567.89\n", b""),
     ("en", "de", b"0." + 37 * b"0" + b"1\n", 0, b"0," + 37 * b"0" + b"1\n", b""),
-    ("en", "de", b"1\n0." + 39 * b"0" + b"\n", 1, b"1\n", b"line 2: " + unparsed(b"0." + 39 * b"0")),
+    ("en", "de", b"1\n0." + 39 * b"0" + b"\n", 1, b"1\n", fault(2, unparsed(b"0." + 39 * b"0"))),
     ("en", "de", b"\t1,000\n  -2.5 \r\n 3", 0, b"\t1.000\n  -2,5 \r\n 3\n", b""),
-    ("en", "de", b"1\n2 3\n", 1, b"1\n", b"line 2: " + unparsed(b"2 3")),
-    ("en", "de", b"1\n \t\n", 1, b"1\n", b"line 2: " + unparsed(b"")),
-    ("en", "de", b"1\n12,34\n", 1, b"1\n", b"line 2: " + unparsed(b"12,34")),
-    ("en", "de", b"1\n1.234,50\n", 1, b"1\n", b"line 2: " + unparsed(b"1.234,50")),
+    ("en", "de", b"1\n2 3\n", 1, b"1\n", fault(2, unparsed(b"2 3"))),
+    ("en", "de", b"1\n \t\n", 1, b"1\n", fault(2, unparsed(b""))),
+    ("en", "de", b"1\n12,34\n", 1, b"1\n", fault(2, unparsed(b"12,34"))),
+    ("en", "de", b"1\n1.234,50\n", 1, b"1\n", fault(2, unparsed(b"1.234,50"))),
     ("en", "custom:':Standard:-", b"-1234567\n", 0, b"-1'234'567\n", b""),
     ("en", "custom:::Standard:~", b"-1234567\n", 0, b"~1:234:567\n", b""),
     ("en", "custom::Indian:", b"-100000\n", 0, b"100000\n", b""),
     ("custom:':Myriad:m", "en", b"m1'0000\n7.5\n", 0, b"-10,000\n7.5\n", b""),
     ("de", "plain", b"-1.234,50\n1234\n", 0, b"-1234.50\n1234\n", b""),
     ("plain", "en", b"-1234.50\n1234567\n", 0, b"-1,234.50\n1,234,567\n", b""),
-    ("plain", "en", b"1\n1,234\n", 1, b"1\n", b"line 2: " + unparsed(b"1,234")),
+    ("plain", "en", b"1\n1,234\n", 1, b"1\n", fault(2, unparsed(b"1,234"))),
     ("en", "custom: :Sparse:-", b"1,234\n12,345\n", 0, b"1234\n12 345\n", b""),
     ("en", "custom:7:Standard:17", b"1,000\n-1000\n", 0, b"17000\n1717000\n", b""),
     # Language tags.
@@ -78,16 +83,18 @@ INPUTS = [
     # A format whose mark is its separator, or has no minus sign, may be written.
     ("en", "custom:.:Standard:-", b"1000.5\n", 0, b"1.000.5\n", b""),
     ("custom:.:Posix:-", "de", b"1000.5\n", 0, b"1.000,5\n", b""),
-    ("en", "de", b"\n", 1, b"", b"line 1: " + unparsed(b"")),
-    ("en", "de", b"1\n2\n\n4\n", 1, b"1\n2\n", b"line 3: " + unparsed(b"")),
-    ("en", "de", b"1\r\n\r\n", 1, b"1\r\n", b"line 2: " + unparsed(b"")),
-    ("en", "de", b"7,000\nabc\n9\n", 1, b"7.000\n", b"line 2: " + unparsed(b"abc")),
-    ("en", "de", b"7,000\nabc", 1, b"7.000\n", b"line 2: " + unparsed(b"abc")),
-    ("en", "de", b"1\n\xff\n", 1, b"1\n", b"line 2: " + NOT_TEXT),
-    ("en", "de", 300 * b"a", 1, b"", b"line 1: " + unparsed(256 * b"a")),
-    ("en", "de", 4096 * b" " + b"1\n", 1, b"", b"line 1: " + TOO_LONG),
-    ("en", "de", b"8\n" + 4096 * b" " + b"1", 1, b"8\n", b"line 2: " + TOO_LONG),
-    ("en", "de", 100_000 * b" ", 1, b"", b"line 1: " + TOO_LONG),
+    ("en", "de", b"\n", 1, b"", fault(1, unparsed(b""))),
+    ("en", "de", b"1\n2\n\n4\n", 1, b"1\n2\n", fault(3, unparsed(b""))),
+    ("en", "de", b"1\r\n\r\n", 1, b"1\r\n", fault(2, unparsed(b""))),
+    ("en", "de", b"7,000\nabc\n9\n", 1, b"7.000\n", fault(2, unparsed(b"abc"))),
+    ("en", "de", b"7,000\nabc", 1, b"7.000\n", fault(2, unparsed(b"abc"))),
+    ("en", "de", b"1\n\x1b[2J'\\\r\t~\x7f\n", 1, b"1\n", fault(2, unparsed(rb"\x1B[2J\x27\x5C\x0D\x09~\x7F"))),
+    ("en", "de", "1\n5\u20ac\n".encode(), 1, b"1\n", fault(2, unparsed(rb"5\xE2\x82\xAC"))),
+    ("en", "de", b"1\n\xff\n", 1, b"1\n", fault(2, NOT_TEXT)),
+    ("en", "de", 300 * b"a", 1, b"", fault(1, unparsed(64 * b"a"))),
+    ("en", "de", 4096 * b" " + b"1\n", 1, b"", fault(1, TOO_LONG)),
+    ("en", "de", b"8\n" + 4096 * b" " + b"1", 1, b"8\n", fault(2, TOO_LONG)),
+    ("en", "de", 100_000 * b" ", 1, b"", fault(1, TOO_LONG)),
 ]
 
 # The same of lines that are read leniently.
@@ -99,7 +106,7 @@ LENIENT = [
     ("custom:7:Standard:17", "en", b"17000\n5\n", 0, b"-17,000\n5\n", b""),
     ("custom:,:Standard:", "en", b"5\n1,000\n", 0, b"-5\n-1,000\n", b""),
     ("en", "de", 4095 * b"x" + b"1\n", 0, b"1\n", b""),
-    ("en", "de", b"1\r\n\r\n", 1, b"1\r\n", b"line 2: " + unparsed(b"")),
+    ("en", "de", b"1\r\n\r\n", 1, b"1\r\n", fault(2, unparsed(b""))),
 ]
 
 # Options, standard input, the status, standard output and standard error, from `en` to `de`.
@@ -108,25 +115,25 @@ OPTIONS = [
     ("--field 1", b"1,000\n2,000\tx\n", 0, b"1.000\n2.000\tx\n", b""),
     ("--field=3", b"\t\t 1,000 \r\n", 0, b"\t\t 1.000 \r\n", b""),
     ("--field 2", b"\xff\t5\n", 0, b"\xff\t5\n", b""),
-    ("--field 2", b"1\t2\n3\n", 1, b"1\t2\n", b"line 2: " + FEW_FIELDS),
-    ("--field 2", b"1\t2\n3\t\n", 1, b"1\t2\n", b"line 2: " + unparsed(b"")),
-    ("--field 2", b"1\t2\n3\tx\n", 1, b"1\t2\n", b"line 2: " + unparsed(b"x")),
-    ("--field 18446744073709551615", b"1\n", 1, b"", b"line 1: " + FEW_FIELDS),
+    ("--field 2", b"1\t2\n3\n", 1, b"1\t2\n", fault(2, FEW_FIELDS)),
+    ("--field 2", b"1\t2\n3\t\n", 1, b"1\t2\n", fault(2, unparsed(b""))),
+    ("--field 2", b"1\t2\n3\tx\n", 1, b"1\t2\n", fault(2, unparsed(b"x"))),
+    ("--field 18446744073709551615", b"1\n", 1, b"", fault(1, FEW_FIELDS)),
     ("--field 2 -d;", b"1,000;2,000;3,000\n", 0, b"1,000;2.000;3,000\n", b""),
     ("--field 2 --delimiter ,", b"1,2,3\n", 0, b"1,2,3\n", b""),
     ("--lenient --field 2", b"a\t$1,234\tb\n", 0, b"a\t1.234\tb\n", b""),
     ("--header", b"x\n1,000\n", 0, b"x\n1.000\n", b""),
     ("--header", b"", 0, b"", b""),
     ("--header-lines 2", b"1,000\n\xff\n1,000\n", 0, b"1,000\n\xff\n1.000\n", b""),
-    ("--header-lines 0", b"x\n", 1, b"", b"line 1: " + unparsed(b"x")),
-    ("--header", 4097 * b"x" + b"\n", 1, b"", b"line 1: " + TOO_LONG),
+    ("--header-lines 0", b"x\n", 1, b"", fault(1, unparsed(b"x"))),
+    ("--header", 4097 * b"x" + b"\n", 1, b"", fault(1, TOO_LONG)),
     ("--empty", b"\n1,000\n \r\n", 0, b"\n1.000\n \r\n", b""),
     ("--empty --field 2", b"a\t\tb\n", 0, b"a\t\tb\n", b""),
-    ("--empty --field 2", b"\n", 1, b"", b"line 1: " + FEW_FIELDS),
+    ("--empty --field 2", b"\n", 1, b"", fault(1, FEW_FIELDS)),
     ("--invalid ignore", b"1,000\nx\n\xff\n2,000", 0, b"1.000\nx\n\xff\n2.000\n", b""),
     ("--invalid=ignore --field 2", b"1\na\t1,000\n", 0, b"1\na\t1.000\n", b""),
-    ("--invalid ignore", b"1\n" + 4097 * b"x", 1, b"1\n", b"line 2: " + TOO_LONG),
-    ("--invalid abort", b"1\nx\n", 1, b"1\n", b"line 2: " + unparsed(b"x")),
+    ("--invalid ignore", b"1\n" + 4097 * b"x", 1, b"1\n", fault(2, TOO_LONG)),
+    ("--invalid abort", b"1\nx\n", 1, b"1\n", fault(2, unparsed(b"x"))),
 ]
 
 # Words that do not name two formats, and the message.
@@ -171,22 +178,26 @@ REFUSED = [
     (["en", b"\xff"], b"regroup-lines: an argument is not UTF-8\n"),
 ]
 
-# Standard input, the output that fails, and what the other output receives.
+# Standard input, the output that fails, and what the other output receives where it is full and where it is closed.
+WRITE_ERRORS = [
+    b"regroup-lines: write error: No space left on device\n",
+    b"regroup-lines: write error\n",
+]
 FAILURES = [
-    (b"1000\n", "stdout", b""),
-    (100_000 * b"1000\n", "stdout", b""),
-    (b"1000\nx\n", "stdout", b""),
-    (b"1000\nx\n", "stderr", b"1.000\n"),
+    (b"1000\n", "stdout", WRITE_ERRORS),
+    (100_000 * b"1000\n", "stdout", WRITE_ERRORS),
+    (b"1000\nx\n", "stdout", WRITE_ERRORS),
+    (b"1000\nx\n", "stderr", 2 * [b"1.000\n"]),
 ]
 
 # The lines before a fault, each `1`, what stands after them, and the message.
 FAULTS = [
-    (999_999, b"x", b"line 1000000: " + unparsed(b"x")),
-    (999_999, 300 * b"a", b"line 1000000: " + unparsed(256 * b"a")),
-    (1_000_000, b"x\n", b"line 1000001: " + unparsed(b"x")),
-    (1_000_000, b"\n", b"line 1000001: " + unparsed(b"")),
-    (1_000_000, b"\xff\n1\n", b"line 1000001: " + NOT_TEXT),
-    (2_000_000, 4096 * b" " + b"1\n", b"line 2000001: " + TOO_LONG),
+    (999_999, b"x", fault(1000000, unparsed(b"x"))),
+    (999_999, 300 * b"a", fault(1000000, unparsed(64 * b"a"))),
+    (1_000_000, b"x\n", fault(1000001, unparsed(b"x"))),
+    (1_000_000, b"\n", fault(1000001, unparsed(b""))),
+    (1_000_000, b"\xff\n1\n", fault(1000001, NOT_TEXT)),
+    (2_000_000, 4096 * b" " + b"1\n", fault(2000001, TOO_LONG)),
 ]
 
 # How many lines a long input has, and how many of them stand before the line at fault.
@@ -286,25 +297,24 @@ def check_example(tally, program):
     ended = regroup(program, ["--invalid", "ignore", *words], table)
     compare(tally, "all lines", ended, 0, expected, b"")
     before = b"".join(expected.splitlines(keepends=True)[:7])
-    message = b"line 8: " + unparsed(b"12.5O")
+    message = fault(8, unparsed(b"12.5O"))
     compare(tally, "up to line 8", regroup(program, words, table), 1, before, message)
 
 
 def check_failures(tally, program):
     heading("outputs and inputs that fail")
     with open("/dev/full", "wb") as full:
-        for state, how in [("full", lambda _: full), ("closed", lambda _: None)]:
-            for text, output, other in FAILURES:
-                compare_failed(tally, program, ["en", "de"], text, output, state, how(output), other)
-            words = ["en", "xx"]
-            compare_failed(tally, program, words, b"", "stderr", state, how("stderr"), b"")
+        for place, (state, stream) in enumerate([("full", full), ("closed", None)]):
+            for text, output, others in FAILURES:
+                compare_failed(tally, program, ["en", "de"], text, output, state, stream, others[place])
+            compare_failed(tally, program, ["en", "xx"], b"", "stderr", state, stream, b"")
     words = [program, "en", "de"]
     ended = run(words, preexec_fn=lambda: os.close(0), capture_output=True)
-    compare(tally, "a closed input", ended, 3, b"", b"")
+    compare(tally, "a closed input", ended, 3, b"", b"regroup-lines: read error\n")
     folder = os.open(ROOT, os.O_RDONLY)
     ended = run(words, stdin=folder, capture_output=True)
     os.close(folder)
-    compare(tally, "a folder as the input", ended, 3, b"", b"")
+    compare(tally, "a folder as the input", ended, 3, b"", b"regroup-lines: read error: Is a directory\n")
 
 
 def compare_failed(tally, program, words, text, output, state, stream, received):
@@ -329,7 +339,7 @@ def check_closed_pipe(tally, program):
             line = ended.stdout.readline()
             ended.stdout.close()
             found = (line, ended.wait(RUN_SECONDS), ended.stderr.read())
-    tally.compare("one line", found, (b"1.000\n", 3, b""))
+    tally.compare("one line", found, (b"1.000\n", 141, b""))
 
 
 def check_long(tally, program):
@@ -340,7 +350,7 @@ def check_long(tally, program):
         ended = regroup(program, ["en", "de"], lines * b"1,000\n", **limited)
         compare(tally, name, ended, 0, lines * b"1.000\n", b"")
     text = SOUND_LINES * b"1,000\n" + b"x\n" + (LINES - SOUND_LINES - 1) * b"1,000\n"
-    message = b"line 2400001: " + unparsed(b"x")
+    message = fault(2400001, unparsed(b"x"))
     ended = regroup(program, ["en", "de"], text, **limited)
     compare(tally, "a fault in line 2400001", ended, 1, SOUND_LINES * b"1.000\n", message)
     for sound, rest, message in FAULTS:

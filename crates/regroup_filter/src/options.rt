@@ -19,7 +19,7 @@ minus sign, and a decimal mark that is not its separator.
 
 The status is 0 if all lines were written; 1, after the lines before it, at a line at fault: its number is
 none, it has too few fields, or more than 4,096 bytes; 2 for other arguments, also such that are not UTF-8;
-and 3 if a read or a write failed.";
+3 if a read or a write failed; and 141 if standard output was closed.";
 
 /// Returns the command line of the program.
 ///

@@ -1,27 +1,34 @@
 //! Lines of numbers from one format to another, as many as a `u64` counts: the program `regroup-lines`
 //! over any reader and any two writers.
 //!
-//! | Status | Output |
-//! |---|---|
-//! | 0 | each line on standard output |
-//! | 1 | the lines before the one at fault, and its message on standard error |
-//! | 2 | what is wrong with the words, on standard error |
-//! | 3 | a part of one of these: a read or a write failed |
+//! | Status | Standard output | Standard error |
+//! |---|---|---|
+//! | 0 | each line | nothing |
+//! | 1 | the lines before the one at fault | its message |
+//! | 2 | nothing | what is wrong with the words |
+//! | 3 | the lines before a read or a write failed | which, and why if it is known |
+//! | 141 | the lines before it was closed | nothing |
+//!
+//! The status is 3 also where the message could not be written.
 #![tactic(auto)]
 
-mod fault;
+mod ending;
+mod watched;
 mod words;
 
-ghost use Rattle.std.specs.Prelude.{◌≡◌, ◌≢◌, [], IfOk, OnOk, OnErr};
+ghost use Rattle.std.specs.Prelude.{◌≡◌};
 ghost use Rattle.std.specs.Io.Buffered.{writer_buffer, writer_contents};
-ghost use Rattle.regroup_stream.specs.Stream.{RegroupsAll, StopsAll};
+ghost use Rattle.std.specs.Result.{result_map_both};
+ghost use Rattle.regroup_lines.specs.Fault.{fault_of};
+ghost use Rattle.regroup_stream.specs.Ending.{end_of};
+ghost use Rattle.regroup_stream.specs.Stream.{IsEndOf, RegroupsAll, Runs};
 
-use crate::fault::{is_of_line, send_fault};
+use crate::ending::{Cause, Ending};
+use crate::watched::Watched;
 pub use crate::words::{Formats, Misuse, formats_named};
-use regroup_lines::regroup_at_most;
 pub use regroup_lines::{Field, Reading, Rules, Span};
-use std::io;
-use std::io::{BufWriter, Read, Write};
+use regroup_lines::{RegroupFault, regroup_at_most};
+use std::io::{BufWriter, ErrorKind, Read, Write};
 
 /// The status where each line was regrouped.
 pub const REGROUPED: u8 = 0;
@@ -35,14 +42,18 @@ pub const MISUSED: u8 = 2;
 /// The status where a read or a write failed.
 pub const FAILED: u8 = 3;
 
+/// The status where standard output was closed, as a shell has it of a program that the signal `SIGPIPE` ended.
+pub const CLOSED: u8 = 141;
+
 /// Regroups the lines of `input` from one format to another, flushes `out`, and returns the exit status.
 ///
 /// - [`REGROUPED`] (0): `out` received each line, and `err` nothing.
 /// - [`FAULTY`] (1): `out` received the lines before the first one at fault, and `err` its message and
 ///   a newline. Lines are numbered from 1.
-/// - [`FAILED`] (3): a read failed, also one that was interrupted, or a write to `out`, a flush of it,
-///   or a write of the message; or there are more lines than a `u64` counts. `out` and
-///   `err` each received a prefix of what they receive otherwise.
+/// - [`FAILED`] (3): a read failed, also one that was interrupted, a write to `out` or a flush of it, and `err` received
+///   a message with the kind of the error if it is known. `out` received the lines before that, or a prefix of them where a
+///   write failed. So too where there are more lines than a `u64` counts. Or else `err` did not receive all of its message.
+/// - [`CLOSED`] (141): a write or a flush failed since nothing reads `out`, and `err` received nothing.
 ///
 /// ```text
 /// let formats = formats_named(rules.reading, "en", "de").unwrap();
@@ -55,48 +66,44 @@ pub fn run<R: Read + Drop, O: Write + Drop, E: Write>(
     out: &mut BufWriter<O>,
     err: &mut E,
 ) -> u8
-    ensures ends { result ≢ FAILED → RegroupsAll rules.now formats.now.from formats.now.to result
-        (R.remaining input)
-        (writer_contents O.contents out.old) (writer_contents O.contents out.new)
+    ensures { Runs rules.now formats.now.from formats.now.to result (R.remaining input)
+        (writer_contents O.contents out.old) (writer_contents O.contents out.new) (writer_buffer out.new)
         (E.contents err.old) (E.contents err.new) }
-    ensures failed { result ≡ FAILED → StopsAll rules.now formats.now.from formats.now.to (R.remaining input)
-        (writer_contents O.contents out.old) (writer_contents O.contents out.new)
-        (E.contents err.old) (E.contents err.new) }
-    ensures flushed { result ≢ FAILED → writer_buffer out.new ≡ [] }
 {
-    try_run(rules, formats, input, out, err).unwrap_or(FAILED)
+    regroup(rules, formats, input, out).finish(err)
 }
 
-/// Regroups the lines, flushes `out`, and returns the status.
-///
-/// # Errors
-///
-/// Returns the error of a flush, or of a write of the message of a fault, that failed.
-fn try_run<R: Read + Drop, O: Write + Drop, E: Write>(
+/// Regroups the lines, flushes `out`, and returns how that ends.
+fn regroup<R: Read + Drop, O: Write + Drop>(
     rules: &Rules,
     formats: &Formats,
-    mut input: R,
+    input: R,
     out: &mut BufWriter<O>,
-    err: &mut E,
-) -> io::Result<u8>
-    ensures ends { IfOk result (λ status. status ≢ FAILED → RegroupsAll rules.now formats.now.from formats.now.to status
-        (R.remaining input)
-        (writer_contents O.contents out.old) (writer_contents O.contents out.new)
-        (E.contents err.old) (E.contents err.new)) }
-    ensures failed { IfOk result (λ status. status ≡ FAILED → StopsAll rules.now formats.now.from formats.now.to
-        (R.remaining input)
-        (writer_contents O.contents out.old) (writer_contents O.contents out.new)
-        (E.contents err.old) (E.contents err.new)) }
-    ensures broken { OnErr result (StopsAll rules.now formats.now.from formats.now.to (R.remaining input)
-        (writer_contents O.contents out.old) (writer_contents O.contents out.new)
-        (E.contents err.old) (E.contents err.new)) }
-    ensures flushed { OnOk result (writer_buffer out.new ≡ []) }
+) -> Ending
+    ensures { RegroupsAll rules.now formats.now.from formats.now.to (end_of result) (R.remaining input)
+        (writer_contents O.contents out.old) (writer_contents O.contents out.new) (writer_buffer out.new) }
 {
-    let regrouped = regroup_at_most(u64::MAX, rules, &mut input, out, &formats.from, &formats.to);
-    out.flush()?;
+    let mut input = Watched::new(input);
+    let (from, to) = (&formats.from, &formats.to);
+    let regrouped = regroup_at_most(u64::MAX, rules, &mut input, out, from, to);
+    match out.flush() {
+        Ok(()) => ending_of(regrouped, input.failure()),
+        Err(error) => Ending::WriteFailed(Some(error.kind())),
+    }
+}
+
+/// Returns how a run with this result ends, if this is why its last read failed.
+fn ending_of(regrouped: Result<u64, RegroupFault>, failure: Option<ErrorKind>) -> Ending
+    ensures { IsEndOf (result_map_both (λ count. count) fault_of regrouped) (end_of result) }
+{
     match regrouped {
-        Ok(_) => Ok(REGROUPED),
-        Err(fault) if is_of_line(&fault) => send_fault(&fault, err).and(Ok(FAULTY)),
-        Err(_) => Ok(FAILED),
+        Ok(_) => Ending::Regrouped,
+        Err(RegroupFault::Read) => Ending::ReadFailed(failure),
+        Err(RegroupFault::Write) => Ending::WriteFailed(None),
+        Err(RegroupFault::TooMany) => Ending::TooManyLines,
+        Err(RegroupFault::TooLong(number)) => Ending::Faulty(number, Cause::TooLong),
+        Err(RegroupFault::FewFields(number)) => Ending::Faulty(number, Cause::FewFields),
+        Err(RegroupFault::NotText(number)) => Ending::Faulty(number, Cause::NotText),
+        Err(RegroupFault::Line(number, error)) => Ending::Faulty(number, Cause::NotANumber(error)),
     }
 }

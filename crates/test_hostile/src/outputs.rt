@@ -102,15 +102,18 @@ fn assert_run(rt: &impl Abort, alloc: Global, case: &Case<'_>) -> Result<(), Fai
         to: CustomFormat::from(Locale::en_IN),
     };
     let status = run(&LENIENT, &formats, reader(case), &mut out, &mut err);
-    let expected = if matches!(case.2, Ended::Lines(_)) {
-        REGROUPED
+    let (expected, messages) = if matches!(case.2, Ended::Lines(_)) {
+        (REGROUPED, 0)
     } else {
-        FAILED
+        (FAILED, 1)
     };
     assert_eq!(rt; status, expected);
     let writer = out.get_ref();
     assert_eq!(rt; writer.received.as_slice(), case.3.as_bytes());
-    assert_eq!(rt; [writer.calls, writer.flushes, err.calls], [case.5, 1, 0]);
+    assert_eq!(rt;
+        [writer.calls, writer.flushes, err.calls],
+        [case.5, 1, messages]
+    );
     Ok(())
 }
 

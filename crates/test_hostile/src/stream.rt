@@ -5,7 +5,7 @@ use crate::Step::{Interrupt, Take, Zero};
 use crate::{Scripted, ScriptedReader, Step};
 use num_format::{CustomFormat, Grouping, Locale};
 use regroup_stream::{
-    FAILED, FAULTY, Formats, MISUSED, Misuse, REGROUPED, Reading, Rules, Span, run,
+    CLOSED, FAILED, FAULTY, Formats, MISUSED, Misuse, REGROUPED, Reading, Rules, Span, run,
 };
 use std::alloc::Global;
 use std::io::{BufWriter, ErrorKind, Write};
@@ -34,9 +34,10 @@ fn to_de() -> Formats {
     to(CustomFormat::from(Locale::de))
 }
 
-/// Accepts all bytes, and fails the first time that it is flushed.
+/// Accepts all bytes, and fails the first time that it is flushed, for this cause.
 #[derive(Drop)]
 struct Unflushed {
+    cause: ErrorKind,
     flushes: usize,
 }
 
@@ -48,13 +49,13 @@ impl Write for Unflushed {
     fn flush(&mut self) -> io::Result<()> {
         self.flushes = self.flushes.saturating_add(1);
         if self.flushes == 1 {
-            return Err(io::Error::from(ErrorKind::BrokenPipe));
+            return Err(io::Error::from(self.cause));
         }
         Ok(())
     }
 }
 
-/// A failed read is not the end: the lines before it are written, and the status is 3.
+/// A failed read is not the end: the lines before it are written, and a message, and the status is 3.
 #[test]
 fn a_read_fails(rt: HostRuntime) -> Result<(), test::Fail> {
     for text in [b"1,000\n".as_slice(), b"1,000\n2", b"1,000\nx"] {
@@ -68,20 +69,31 @@ fn a_read_fails(rt: HostRuntime) -> Result<(), test::Fail> {
         let status = run(&STRICT, &to_de(), reader, &mut out, &mut err);
         assert_eq!(rt; status, FAILED);
         assert_eq!(rt; out.get_ref().as_slice(), b"1.000\n".as_slice());
-        assert!(rt; err.is_empty());
+        assert_eq!(rt;
+            err.as_slice(),
+            b"regroup-lines: read error: Broken pipe\n".as_slice()
+        );
     }
     Ok(())
 }
 
-/// A failed flush is a failed write. No message follows it, and it is not tried again.
+/// A failed flush is a failed write, and is not tried again. No message of a line follows it, and none at all where
+/// the output was closed.
 #[test]
 fn a_flush_fails(rt: HostRuntime) -> Result<(), test::Fail> {
+    let full = b"regroup-lines: write error: No space left on device\n".as_slice();
     for text in [b"".as_slice(), b"1,000\n", b"x\n"] {
-        let mut out = BufWriter::new(rt.alloc(), Unflushed { flushes: 0 })?;
-        let mut err = Vec::new(rt.alloc());
-        assert_eq!(rt; run(&STRICT, "en", "de", text, &mut out, &mut err), FAILED);
-        assert_eq!(rt; out.get_ref().flushes, 1);
-        assert!(rt; err.is_empty());
+        for (cause, status, message) in [
+            (ErrorKind::BrokenPipe, CLOSED, b"".as_slice()),
+            (ErrorKind::StorageFull, FAILED, full),
+        ] {
+            let writer = Unflushed { cause, flushes: 0 };
+            let mut out = BufWriter::new(rt.alloc(), writer)?;
+            let mut err = Vec::new(rt.alloc());
+            assert_eq!(rt; run(&STRICT, &to_de(), text, &mut out, &mut err), status);
+            assert_eq!(rt; out.get_ref().flushes, 1);
+            assert_eq!(rt; err.as_slice(), message);
+        }
     }
     Ok(())
 }
@@ -168,7 +180,7 @@ fn a_line_is_at_fault(rt: HostRuntime) -> Result<(), test::Fail> {
     assert_eq!(rt; out.get_ref().as_slice(), b"1:00:000\n-1:000\n".as_slice());
     assert_eq!(rt;
         err.as_slice(),
-        b"line 2: Failed to parse x into a number.\n".as_slice()
+        b"regroup-lines: 2: 'x': not a number\n".as_slice()
     );
     Ok(())
 }

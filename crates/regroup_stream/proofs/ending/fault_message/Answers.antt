@@ -1,0 +1,9 @@
+use Rattle.std.proofs.Common.{List, ℕ, ◌++◌, ◌∙◌, ap, codes}
+use Rattle.regroup_stream.specs.Ending.{line_message}
+use Rattle.regroup_stream.proofs.ending.fault_message.Goals as goal
+
+pub returns-in-NotANumber : goal.returns-in-NotANumber
+returns-in-NotANumber c =
+    rw c.in-NotANumber.is
+    (c.line_message-in-NotANumber.ensures
+    ∙ ap (λ (t : List ℕ). line_message c.args.number (t ++ codes ": not a number")) (c.as_str.ensures.value ∙ c.quoted_in.ensures))

@@ -1,0 +1,168 @@
+//! How a run ends: the status, and the message on standard error.
+ghost use Rattle.std.specs.Prelude.{◌≡◌, ◌≤◌, ◌++◌, length};
+ghost use Rattle.num_format.specs.Refusal.{refusal_of};
+ghost use Rattle.regroup_shared.specs.Quoting.{quoted};
+ghost use Rattle.regroup_stream.specs.Ending.{Finishes, cause_shown, end_of, failure_message, fault_message, kept_in, line_message, message_of_end, reason_of, status_of};
+
+use crate::{CLOSED, FAILED, FAULTY, REGROUPED};
+use arrayvec::ArrayString;
+use num_format::to_formatted_string::write_whole;
+use num_format::{Error, ErrorKind};
+use regroup_shared::{MAX_QUOTED_LEN, quoted};
+use std::io;
+use std::io::Write;
+
+/// The most bytes that a message has besides a text in quotes.
+const MAX_ADDED_LEN: usize = 72;
+
+/// The most bytes of a message.
+const MAX_ENDING_LEN: usize = MAX_QUOTED_LEN + MAX_ADDED_LEN;
+
+/// Why a line is at fault.
+#[derive(Drop)]
+pub(crate) enum Cause {
+    /// It has more than 4,096 bytes.
+    TooLong,
+    /// It has too few fields.
+    FewFields,
+    /// Its number is not UTF-8.
+    NotText,
+    /// Its number is none.
+    NotANumber(Error),
+}
+
+/// How a run ends. Of a read or a write that failed it has the kind of the error, if that is known.
+#[derive(Drop)]
+pub(crate) enum Ending {
+    /// Each line was regrouped.
+    Regrouped,
+    /// The line of this number is at fault.
+    Faulty(u64, Cause),
+    /// A read failed.
+    ReadFailed(Option<io::ErrorKind>),
+    /// A write to standard output failed, or a flush of it.
+    WriteFailed(Option<io::ErrorKind>),
+    /// There are more lines than are counted.
+    TooManyLines,
+}
+
+impl Ending {
+    /// Sends the message, and returns the status: [`FAILED`] if not all of the message could be sent.
+    pub(crate) fn finish<E: Write>(&self, err: &mut E) -> u8
+        ensures { Finishes (end_of self.now) result (E.contents err.old) (E.contents err.new) }
+    {
+        match write_whole(self.message().as_str().as_bytes(), err) {
+            Ok(_) => self.status(),
+            Err(_) => FAILED,
+        }
+    }
+
+    /// Returns the status.
+    fn status(&self) -> u8
+        ensures { result ≡ status_of (end_of self.now) }
+    {
+        match self {
+            Ending::Regrouped => REGROUPED,
+            Ending::Faulty(..) => FAULTY,
+            Ending::WriteFailed(Some(io::ErrorKind::BrokenPipe)) => CLOSED,
+            Ending::WriteFailed(_) | Ending::ReadFailed(_) | Ending::TooManyLines => FAILED,
+        }
+    }
+
+    /// Returns the message, with its newline.
+    fn message(&self) -> ArrayString<MAX_ENDING_LEN>
+        ensures { result.bytes ≡ message_of_end (end_of self.now) }
+    {
+        match self {
+            Ending::Regrouped | Ending::WriteFailed(Some(io::ErrorKind::BrokenPipe)) => {
+                ArrayString::new()
+            }
+            Ending::Faulty(number, cause) => fault_message(*number, cause),
+            Ending::ReadFailed(kind) => failure_message("read error", *kind),
+            Ending::WriteFailed(kind) => failure_message("write error", *kind),
+            Ending::TooManyLines => failure_message("too many lines", None),
+        }
+    }
+}
+
+/// Returns the message of a line at fault.
+fn fault_message(number: u64, cause: &Cause) -> ArrayString<MAX_ENDING_LEN>
+    ensures { result.bytes ≡ fault_message number (cause_shown cause.now) }
+{
+    match cause {
+        Cause::TooLong => line_message(number, "more than 4096 bytes", ""),
+        Cause::FewFields => line_message(number, "too few fields", ""),
+        Cause::NotText => line_message(number, "not UTF-8", ""),
+        Cause::NotANumber(error) => {
+            line_message(number, quoted_in(error).as_str(), ": not a number")
+        }
+    }
+}
+
+/// Returns a message with the number of a line before the text and the cause.
+fn line_message(number: u64, text: &str, cause: &str) -> ArrayString<MAX_ENDING_LEN>
+    requires text { length text.now ≤ MAX_QUOTED_LEN }
+    requires cause { length cause.now ≤ 14 }
+    ensures { result.bytes ≡ line_message number (text.now ++ cause.now) }
+{
+    let mut digits = itoa::Buffer::new();
+    let mut message = ArrayString::new();
+    message.push_str("regroup-lines: ");
+    message.push_str(digits.format(number));
+    message.push_str(": ");
+    message.push_str(text);
+    message.push_str(cause);
+    message.push('\n');
+    message
+}
+
+/// Returns the text that an error keeps, in quotes.
+fn quoted_in(error: &Error) -> ArrayString<MAX_QUOTED_LEN>
+    ensures { result.bytes ≡ quoted (kept_in (refusal_of error.now)) }
+{
+    match error.kind() {
+        ErrorKind::ParseNumber(text) => quoted(text.as_str().as_bytes()),
+        ErrorKind::ParseLocale(name) => quoted(name.as_str().as_bytes()),
+        ErrorKind::Other(message) => quoted(message.as_str().as_bytes()),
+        ErrorKind::Capacity { .. } => quoted(b""),
+    }
+}
+
+/// Returns the message of a failure, with its cause if that is known.
+fn failure_message(failure: &str, kind: Option<io::ErrorKind>) -> ArrayString<MAX_ENDING_LEN>
+    requires { length failure.now ≤ 16 }
+    ensures { result.bytes ≡ failure_message failure.now kind }
+{
+    let mut message = ArrayString::new();
+    message.push_str("regroup-lines: ");
+    message.push_str(failure);
+    if let Some(kind) = kind {
+        message.push_str(reason(kind));
+    }
+    message.push('\n');
+    message
+}
+
+/// Returns what a message says of the kind of an error, after a colon. It says nothing of kinds that reads and writes
+/// do not have, and of those that have no cause.
+fn reason(kind: io::ErrorKind) -> &'static str
+    ensures text { result.now ≡ reason_of kind }
+    ensures short { length result.now ≤ 40 }
+{
+    match kind {
+        io::ErrorKind::BrokenPipe => ": Broken pipe",
+        io::ErrorKind::ConnectionReset => ": Connection reset by peer",
+        io::ErrorKind::FileTooLarge => ": File too large",
+        io::ErrorKind::Interrupted => ": Interrupted system call",
+        io::ErrorKind::InvalidInput => ": Invalid argument",
+        io::ErrorKind::IsADirectory => ": Is a directory",
+        io::ErrorKind::PermissionDenied => ": Permission denied",
+        io::ErrorKind::QuotaExceeded => ": Disk quota exceeded",
+        io::ErrorKind::ReadOnlyFilesystem => ": Read-only file system",
+        io::ErrorKind::StorageFull => ": No space left on device",
+        io::ErrorKind::TimedOut => ": Connection timed out",
+        io::ErrorKind::WouldBlock => ": Resource temporarily unavailable",
+        io::ErrorKind::WriteZero => ": No byte was written",
+        _ => "",
+    }
+}
