@@ -148,7 +148,8 @@ def in_sqlite(given):
         .separator |
         .import {given.numbers} given
         CREATE TABLE numbers AS SELECT n, d, num_format(n, 'en') AS t, num_format(d, 'en') AS td FROM given;
-        SELECT 'unequal' FROM numbers WHERE printf('%,d', n) <> t OR num_parse(t, 'en') <> n;
+        SELECT 'unequal' FROM numbers
+            WHERE printf('%,d', n) <> t OR num_parse(t, 'en') <> n OR num_parse_decimal(td, 'en') <> d;
         .timer on\n""".replace("\n        ", "\n")
     # With `+`, SQLite reads the column, and not its type alone.
     columns = [f"+{column}" for column in columns_of(IN_SQLITE)]
@@ -172,7 +173,7 @@ def in_postgresql(given):
         \\copy given FROM '{given.numbers}' (DELIMITER '|')
         CREATE TABLE numbers AS SELECT n, d, num_format(n, 'en') AS t, num_format(d, 'en') AS td FROM given;
         VACUUM ANALYZE numbers;
-        SELECT 'unequal' FROM numbers WHERE num_parse(t, 'en') <> n
+        SELECT 'unequal' FROM numbers WHERE num_parse(t, 'en') <> n OR num_parse_decimal(td, 'en') <> d
             OR to_char(n, 'FM9,999,999,999,999,999,999') <> t OR to_char(d, 'FM99,999,999,999,999,990.00') <> td;"""
     turn = "SET max_parallel_workers_per_gather = 0;\nSET jit = off;\n"
     turn += "SET client_min_messages = log;\nSET log_executor_stats = on;\n"

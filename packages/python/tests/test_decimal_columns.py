@@ -133,7 +133,7 @@ def test_nulls():
 
 
 def test_texts_of_very_different_lengths():
-    """The room for the texts is guessed by the rows before."""
+    """The capacity is estimated from the rows before."""
     units = wide([1] * 1000 + [I128[0]] * 1000 + [1] * 1000 + [I128[1]])
     form = num_format.Format(separator="12345678", minus_sign="12345678", decimal_mark="12345678")
     column = columns.format_decimal_column(units, 3, form)

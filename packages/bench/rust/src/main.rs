@@ -131,6 +131,12 @@ fn main() -> Result<(), Box<dyn Error>> {
         return Err("the two crates have different results".into());
     }
     let texts: Vec<_> = texts.into_iter().map(|(text, _)| text).collect();
+    let strictly = texts
+        .iter()
+        .map(|text| text.parse_strict(&proved::Locale::en));
+    if strictly.collect::<Result<Vec<i64>, _>>()? != numbers {
+        return Err("strict parsing has other results".into());
+    }
     let mut best = [(f64::INFINITY, f64::INFINITY); ROWS.len()];
     for _ in 0..TURNS {
         for (row, (print, parse)) in ROWS.iter().zip(&mut best) {

@@ -170,7 +170,9 @@ class Format:
         return bytes(array[0:length]).decode()
 
     def __eq__(self, other: object) -> bool:
-        return self._bytes == other._bytes if isinstance(other, Format) else NotImplemented
+        if not isinstance(other, Format):
+            return NotImplemented
+        return self._bytes == other._bytes
 
     def __hash__(self) -> int:
         return hash(self._bytes)

@@ -410,10 +410,11 @@ def format_decimal_column(
     starts = ffi.from_buffer("int64_t[]", offsets)
     done, data = 0, np.empty(0, dtype=np.uint8)
     while done < len(wide):
-        # For each row as many bytes as the rows before had, and some; and for one the most that it can have.
+        # As many bytes for a row as the rows before had, and some; at least twice as many in all; and the most that
+        # one row can have.
         size = int(offsets[done])
         mean = size // done if done else scale
-        more = (len(wide) - done) * (mean + 8) + lib.NUM_FORMAT_DECIMAL_MAX
+        more = max((len(wide) - done) * (mean + 8), size) + lib.NUM_FORMAT_DECIMAL_MAX
         data = np.concatenate([data[:size], np.empty(more, dtype=np.uint8)])
         output = ffi.from_buffer("char[]", data)
         before, done = done, lib.print_decimals(struct, pointer, scale, done, len(wide), starts, output, len(data))
