@@ -28,7 +28,7 @@ use std::error::Error;
 use std::hint::black_box;
 use std::time::{Duration, Instant};
 use table::{Cell, Table, Times};
-use texts::{Cause, Texts};
+use texts::{Cause, Grouped, Texts};
 
 // Unused bytes, which the linker keeps and places before the code of the libraries.
 global_asm!(
@@ -184,47 +184,46 @@ impl Run {
             "another numeral",
             texts::with_other_numeral::<N>(&mut random),
         );
-        refuse("out of range", texts::out_of_range::<N>(&mut random));
+        refuse("out of range", texts::out_of_range::<N>(0));
     }
 
-    /// Measures what strict parsing refuses, by the cause, as a type.
-    fn measure_strict_refusing<N: Number>(&mut self) {
+    /// Measures what strict parsing refuses, by the cause, as a type and under a format.
+    fn measure_strict_refusing<N: Number>(&mut self, format: &Grouped) {
         let mut random = Random::new();
         let mut refuse = |kind: &'static str, texts: Vec<(String, Cause)>| {
             let cell = Cell {
                 operation: REFUSE_STRICTLY,
-                format: "",
+                format: FORMATS[format.code as usize],
                 type_name: N::NAME,
                 sizes: String::from(kind),
                 group: kind,
             };
             let (texts, causes): (Vec<String>, Vec<Cause>) = texts.into_iter().unzip();
             self.measure(cell, |name| {
-                measure_strict_refusing::<N>(name, &Texts::from_all(texts), &causes)
+                let texts = Texts::from_all(texts);
+                measure_strict_refusing::<N>(name, &texts, &causes, format.code)
             });
         };
         refuse(
-            "unexpected byte: decimals",
-            texts::with_decimals::<N>(&mut random),
+            "unexpected byte: one to three digits",
+            format.short_with_letter::<N>(),
         );
-        refuse("no digit", texts::signs_alone::<N>(&mut random));
-        refuse(
-            "misspelled: leading zero",
-            texts::with_leading_zero::<N>(&mut random),
-        );
+        refuse("unexpected byte: decimals", format.with_decimals::<N>());
+        refuse("no digit", format.signs_alone(&mut random));
+        refuse("misspelled: leading zero", format.with_leading_zero::<N>());
         refuse(
             "misspelled: long group",
-            texts::with_long_group::<N>(&mut random),
+            format.with_long_group::<N>(&mut random),
         );
         refuse(
             "misspelled: separator at the end",
-            texts::with_separator_at_end::<N>(&mut random),
+            format.with_separator_at_end::<N>(),
         );
         refuse(
             "misspelled: a separator missing",
-            texts::without_a_separator::<N>(&mut random),
+            format.without_a_separator::<N>(&mut random),
         );
-        refuse("out of range", texts::too_large::<N>(&mut random));
+        refuse("out of range", format.too_large::<N>());
     }
 
     /// Measures the groupings that the original does not have at all sizes of a type.
@@ -318,8 +317,10 @@ impl Run {
         self.measure_groupings::<i64>();
         self.measure_groupings::<u64>();
         self.measure_groupings::<u128>();
-        self.measure_strict_refusing::<i64>();
-        self.measure_strict_refusing::<u128>();
+        for format in &texts::GROUPED {
+            self.measure_strict_refusing::<i64>(format);
+            self.measure_strict_refusing::<u128>(format);
+        }
         self.measure_decimals();
         self.measure_c();
         self.measure_columns();
@@ -619,7 +620,12 @@ fn measure_strict_reading<N: Number>(
 }
 
 /// Measures strict refusing of texts beside the port's own reading, which accepts some of them.
-fn measure_strict_refusing<N: Number>(name: &str, texts: &Texts, causes: &[Cause]) -> Times {
+fn measure_strict_refusing<N: Number>(
+    name: &str,
+    texts: &Texts,
+    causes: &[Cause],
+    format: u8,
+) -> Times {
     let Texts { text, lengths } = texts;
     let untouched = vec![N::default(); lengths.len()];
     let mut strictly = untouched.clone();
@@ -628,8 +634,15 @@ fn measure_strict_refusing<N: Number>(name: &str, texts: &Texts, causes: &[Cause
     let [port, reference] = best(
         lengths.len(),
         [
-            &mut || sum = rattle::read_strictly(black_box(text), lengths, 0, &mut strictly),
-            &mut || _ = black_box(rattle::read(black_box(text), lengths, 0, &mut leniently)),
+            &mut || sum = rattle::read_strictly(black_box(text), lengths, format, &mut strictly),
+            &mut || {
+                _ = black_box(rattle::read(
+                    black_box(text),
+                    lengths,
+                    format,
+                    &mut leniently,
+                ))
+            },
         ],
     );
     assert_eq!(sum, Cause::sum(causes), "{name}");

@@ -6,18 +6,18 @@ use Rattle.std.specs.List.{list_all, starts_with}
 use Rattle.std.proofs.lemmas.Bool.{cases_Bool, both_ways, and_parts}
 use Rattle.std.proofs.lemmas.Bool.Decides.{Decides-eqb}
 use Rattle.std.proofs.lemmas.List.{append_cancel_left, drop_all, drop_at, drop_more, get_or-drop}
-use Rattle.std.proofs.lemmas.List.Elements.{All-nil, All-append, All-drop, All-take, All-head, All-tail}
+use Rattle.std.proofs.lemmas.List.Elements.{All-append, All-drop, All-take, All-head, All-tail}
 use Rattle.std.proofs.lemmas.Slice.Eq.{starts_is}
 use Rattle.num_format_int.specs.Grouped.{separated}
 use Rattle.num_format_int.specs.Groups.{plain, HasGroups, BeginsWithSeparator}
 use Rattle.num_format_int.proofs.DigitLemmas.{AreDigits}
 use Rattle.num_format_int.proofs.GroupLemmas.{put-group, put-first_group}
 use Rattle.num_format_int.proofs.GroupedLemmas.{separated-plain}
-use Rattle.num_format_parsing.specs.Parts.{are_digits_between, figures_between, WriteFew, HasReadDigits, HasReadGroup, LacksGroup, without_separator, without_digit, HasReadGroups, HasOnlyGroups, LacksGroups}
+use Rattle.num_format_parsing.specs.Parts.{are_digits_between, figures_between, WriteModulo, HasReadDigits, HasReadGroup, LacksGroup, without_separator, without_digit, HasReadGroups, HasOnlyGroups, LacksGroups}
 use Rattle.num_format_parsing.specs.Shapes.{byte_figures}
 use Rattle.num_format_parsing.specs.Strict.{begins, unread}
 use Rattle.num_format_parsing.proofs.GroupsLemmas.{slice-split}
-use Rattle.num_format_parsing.proofs.PartLemmas.{digits-split, plain-first, unread-between, unread-separator}
+use Rattle.num_format_parsing.proofs.PartLemmas.{digits-split, plain-first, unread-between, unread-separator, write-none}
 use Rattle.num_format_parsing.proofs.ReadingLemmas.{is_ascii_digit-digit}
 use Rattle.num_format_parsing.proofs.UnreadLemmas.{begins-given}
 
@@ -158,12 +158,12 @@ lacks-read s text start count place some plain_separator within (without_digit b
     (omega arith, unread-separator s text start behind some found ∙ unread-between s text behind place plain_separator order all)
 
 -- groups were read up to a place: these digits, and what has to follow
-pub record HasReadSome (most last size : ℕ) (s text : List ℕ) (start end count n : ℕ) : Type 0 where
+pub record HasReadSome (bound last size : ℕ) (s text : List ℕ) (start end count n : ℕ) : Type 0 where
   pub within : end ≤ length text
   pub left : List ℕ
   pub below : AreDigits left
   pub figures : count ≡ length left
-  pub number : WriteFew most left n
+  pub number : WriteModulo bound left n
   pub spelled : (is_due : ℕ → Bool) → HasGroups is_due size → (right : List ℕ) → BeginsWithSeparator is_due s right (drop end text) → drop start text ≡ separated is_due s (left ++ right)
   pub rest : unread s 0 (drop start text) ≡ unread s 0 (drop end text)
   pub next : (is_due : ℕ → Bool) → HasOnlyGroups is_due last size → (ds : List ℕ) → AreDigits ds → drop start text ≡ separated is_due s ds → HasNext is_due last size s (drop end text)
@@ -181,8 +181,8 @@ due-first is_due s ds text start end some plain_separator below order inside all
         subst (λ r. IsDue is_due s ds (x ∷ xs) r) (sym front) (due-there is_due s ds xs t x b some plain_separator below all other (same ∙ ap (λ r. (x ∷ xs) ++ r) front))
 
 -- the first digits
-pub some-first : {most : ℕ} (last size : ℕ) (s text : List ℕ) (start end count n : ℕ) → 0 < length s → byte_figures s ≡ [] → 0 < size → HasReadDigits most text start end 0 n → start < end → end < length text → end - start ≤ size →
-    is_ascii_digit (get_or text end 0) ≡ false → count + start ≡ end → HasReadSome most last size s text start end count n
+pub some-first : {bound : ℕ} (last size : ℕ) (s text : List ℕ) (start end count n : ℕ) → 0 < length s → byte_figures s ≡ [] → 0 < size → HasReadDigits bound text start end 0 n → start < end → end < length text → end - start ≤ size →
+    is_ascii_digit (get_or text end 0) ≡ false → count + start ≡ end → HasReadSome bound last size s text start end count n
 some-first last size s text start end count n some plain_separator given read order inside few other counted =
     let here = digits-split text start end read.order read.within read.digits in
     let figures = figures_between text start end in
@@ -191,7 +191,7 @@ some-first last size s text start end count n some plain_separator given read or
       left = figures;
       below = here.below;
       figures = omega (arith, here.count, counted);
-      number = read.number [] (All-nil (λ d. d < 10)) (λ none. (refl, lit< tt));
+      number = read.number [] (write-none _ 0 refl);
       spelled = λ is_due groups right begin. here.split ∙ put-first_group is_due s figures right (drop end text) size groups (omega (arith, here.count)) (omega (arith, here.count)) begin;
       rest = unread-between s text start end plain_separator (omega arith) read.digits;
       next = λ is_due only ds below same.
@@ -212,14 +212,14 @@ lacks-first last size s text start end some plain_separator given order inside a
 }
 
 -- a separator and digits after it
-group-split : {most : ℕ} (s text : List ℕ) (start end count n more : ℕ) → (read : HasReadGroup most s text start end count n more) → drop start text ≡ s ++ (plain (figures_between text read.behind end) ++ drop end text)
+group-split : {bound : ℕ} (s text : List ℕ) (start end count n more : ℕ) → (read : HasReadGroup bound s text start end count n more) → drop start text ≡ s ++ (plain (figures_between text read.behind end) ++ drop end text)
 group-split s text start end count n more read =
     let here = digits-split text read.behind end read.read.order read.read.within read.read.digits in
     read.separator.text ∙ ap (λ xs. s ++ xs) here.split
 
 -- one group more
-pub some-more : {most : ℕ} (last size : ℕ) (s text : List ℕ) (start end count n new more : ℕ) → 0 < length s → byte_figures s ≡ [] → 0 < size → HasReadSome most last size s text start end count n →
-    HasReadGroup most s text end new size n more → last + length s < length text - end → HasReadSome most last size s text start new (count + size) more
+pub some-more : {bound : ℕ} (last size : ℕ) (s text : List ℕ) (start end count n new more : ℕ) → 0 < length s → byte_figures s ≡ [] → 0 < size → HasReadSome bound last size s text start end count n →
+    HasReadGroup bound s text end new size n more → last + length s < length text - end → HasReadSome bound last size s text start new (count + size) more
 some-more last size s text start end count n new more some plain_separator given before read long =
     let here = digits-split text read.behind new read.read.order read.read.within read.read.digits in
     let figures = figures_between text read.behind new in
@@ -230,7 +230,7 @@ some-more last size s text start end count n new more some plain_separator given
       left = before.left ++ figures;
       below = All-append (λ d. d < 10) before.left figures before.below here.below;
       figures = omega (arith, length-append before.left figures, before.figures, width);
-      number = read.read.number before.left before.below before.number;
+      number = read.read.number before.left before.number;
       spelled = λ is_due groups right begin.
           before.spelled is_due groups (figures ++ right)
           (subst (BeginsWithSeparator is_due s (figures ++ right)) (sym split) (put-group is_due s figures right (drop new text) size groups given width begin))
@@ -249,7 +249,7 @@ some-more last size s text start end count n new more some plain_separator given
     }
 
 -- a group that lacks where one has to follow
-pub lacks-more : {most : ℕ} (last size : ℕ) (s text : List ℕ) (start end count n place : ℕ) → 0 < length s → byte_figures s ≡ [] → HasReadSome most last size s text start end count n →
+pub lacks-more : {bound : ℕ} (last size : ℕ) (s text : List ℕ) (start end count n place : ℕ) → 0 < length s → byte_figures s ≡ [] → HasReadSome bound last size s text start end count n →
     LacksGroup s text end size place → last + length s < length text - end → LacksGroups last size s text start place
 lacks-more last size s text start end count n place some plain_separator before lacks long =
     let read = lacks-read s text end size place some plain_separator before.within lacks in
@@ -265,7 +265,7 @@ lacks-more last size s text start end count n place some plain_separator before 
     }
 
 -- fewer bytes than a last group, or more, but no other group
-pub lacks-length : {most : ℕ} (last size : ℕ) (s text : List ℕ) (start end count n : ℕ) → 0 < size → HasReadSome most last size s text start end count n →
+pub lacks-length : {bound : ℕ} (last size : ℕ) (s text : List ℕ) (start end count n : ℕ) → 0 < size → HasReadSome bound last size s text start end count n →
     length text - end ≤ last + length s → ¬ (length text - end ≡ last + length s) → LacksGroups last size s text start end
 lacks-length last size s text start end count n given before few other = record {
   within = before.within;
@@ -280,7 +280,7 @@ lacks-length last size s text start end count n given before few other = record 
 }
 
 -- a last group that lacks
-pub lacks-last : {most : ℕ} (last size : ℕ) (s text : List ℕ) (start end count n place : ℕ) → 0 < length s → byte_figures s ≡ [] → 0 < size → HasReadSome most last size s text start end count n →
+pub lacks-last : {bound : ℕ} (last size : ℕ) (s text : List ℕ) (start end count n place : ℕ) → 0 < length s → byte_figures s ≡ [] → 0 < size → HasReadSome bound last size s text start end count n →
     LacksGroup s text end last place → length text - end ≡ last + length s → LacksGroups last size s text start place
 lacks-last last size s text start end count n place some plain_separator given before lacks long =
     let read = lacks-read s text end last place some plain_separator before.within lacks in
@@ -296,8 +296,8 @@ lacks-last last size s text start end count n place some plain_separator given b
     }
 
 -- the last group
-pub groups-read : {most : ℕ} (last size : ℕ) (s text : List ℕ) (start end count n new more : ℕ) → HasReadSome most last size s text start end count n →
-    HasReadGroup most s text end new last n more → length text - end ≡ last + length s → HasReadGroups most last size s text start (count + last) more
+pub groups-read : {bound : ℕ} (last size : ℕ) (s text : List ℕ) (start end count n new more : ℕ) → HasReadSome bound last size s text start end count n →
+    HasReadGroup bound s text end new last n more → length text - end ≡ last + length s → HasReadGroups bound last size s text start (count + last) more
 groups-read last size s text start end count n new more before read long =
     let here = digits-split text read.behind new read.read.order read.read.within read.read.digits in
     let figures = figures_between text read.behind new in
@@ -317,7 +317,7 @@ groups-read last size s text start end count n new more before read long =
             });
       };
       figures = omega (arith, length-append before.left figures, before.figures, width);
-      number = read.read.number before.left before.below before.number;
+      number = read.read.number before.left before.number;
     }
 
 -- what follows of a value, and of an error

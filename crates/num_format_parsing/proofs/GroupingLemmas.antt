@@ -169,7 +169,7 @@ pub record HasFirstDigits (f : FormatData) (t : List ℕ) (start end : ℕ) : Ty
   pub digits : are_digits_between t start end ≡ true
   pub other : is_ascii_digit (get_or t end 0) ≡ false
 
-pub first-digits : {most : ℕ} (f : FormatData) (t : List ℕ) (start end n more : ℕ) → IsPlainStart f t start → BeginsWithDigit (drop start t) → HasReadDigits most t start end n more →
+pub first-digits : {bound : ℕ} (f : FormatData) (t : List ℕ) (start end n more : ℕ) → IsPlainStart f t start → BeginsWithDigit (drop start t) → HasReadDigits bound t start end n more →
     (end < length t → is_ascii_digit (get_or t end 0) ≡ false) → ¬ (end ≡ length t) → HasFirstDigits f t start end
 first-digits f t start end n more sign begin read stop early =
     let inside : end < length t = omega (arith, read.within, early) in

@@ -1,15 +1,15 @@
 -- Digits alone and in groups spell a number.
-use Rattle.std.proofs.Common.{◌⊎◌, inl, inr, Bool, ◌≡◌, ℕ, ◌+◌, ◌-◌, ◌*◌, ◌/◌, ◌<◌, ◌≤◌, true, false, List, [], ◌∷◌, ◌++◌, length, refl, ap, ◌∙◌, sym, arith, take, drop, length-append, take-append-drop, drop-drop, subst, IsUtf8}
+use Rattle.std.proofs.Common.{◌⊎◌, inl, inr, Bool, ◌&&◌, ◌≡◌, ℕ, ◌+◌, ◌-◌, ◌*◌, ◌/◌, ◌<◌, ◌≤◌, true, false, List, [], ◌∷◌, ◌++◌, length, refl, ap, ◌∙◌, sym, arith, take, drop, get_or, length-drop, take-append-drop, drop-drop, subst, IsUtf8}
 use Rattle.std.specs.Char.{is_ascii_digit}
 use Rattle.std.specs.Int.Digits.{number_from_digits}
 use Rattle.std.specs.List.{list_all, list_any}
 use Rattle.std.specs.Str.{chars}
-use Rattle.std.proofs.lemmas.Bool.{and_parts}
+use Rattle.std.proofs.lemmas.Bool.{and_parts, cases_Bool}
 use Rattle.std.proofs.lemmas.Bool.Decides.{Decides-eqb}
-use Rattle.std.proofs.lemmas.List.{length-map, nil_from_length, take_at}
+use Rattle.std.proofs.lemmas.List.{get_or-drop, length-map, length-take, take_at}
 use Rattle.std.proofs.Math.Nat.{mul-le-mul_right}
 use Rattle.std.proofs.lemmas.Slice.Eq.{starts_is}
-use Rattle.std.proofs.lemmas.Str.{IsUtf8-nil, IsUtf8-append}
+use Rattle.std.proofs.lemmas.Str.{chars-nil, IsUtf8-nil, IsUtf8-append}
 use Rattle.num_format_text.specs.declared.grouping.Grouping.TheVariants.{Standard, Posix}
 use Rattle.num_format_text.specs.Format.{FormatData}
 use Rattle.num_format_int.specs.Grouped.{grouped, separated, stands}
@@ -19,10 +19,9 @@ use Rattle.num_format_int.proofs.DigitLemmas.{AreDigits}
 use Rattle.num_format_int.proofs.GroupLemmas.{last_group-Standard, groups-Standard}
 use Rattle.num_format_int.proofs.GroupedLemmas.{grouped-Posix, length-grouped}
 use Rattle.num_format_parsing.proofs.ReadingLemmas.{digits_among-separated}
-use Rattle.num_format_parsing.specs.Strict.{SpellsNumber}
-use Rattle.num_format_parsing.specs.Shapes.{byte_figures, BeginsWithDigit, HasNoNumeric, HasPlainSign, IsInGroups, IsPlainStart}
+use Rattle.num_format_parsing.specs.Strict.{SpellsNumber, sign_len}
+use Rattle.num_format_parsing.specs.Shapes.{byte_figures, BeginsWithDigit, IsInGroups, IsPlainStart}
 use Rattle.num_format_parsing.proofs.FigureLemmas.{digit_char, figures-digit, figures-below, figures-none, number-after_zeros, writes}
-use Rattle.num_format_parsing.proofs.NumberLemmas.{no_other-bytes}
 use Rattle.num_format_parsing.proofs.SpellingLemmas.{spells-more, utf8-separated}
 
 -- bytes that are digits are their figures as text
@@ -80,30 +79,39 @@ spells-groups f t s start last size sign separator separator_utf8 plain_separato
 pub plain-unsigned : (f : FormatData) (t : List ℕ) → is_negative_text f t ≡ false → IsPlainStart f t 0
 plain-unsigned f t positive = record { utf8 = IsUtf8-nil; within = omega arith; sign = rw positive refl; plain = refl }
 
--- and with it
-pub plain-signed : (f : FormatData) (t : List ℕ) → IsUtf8 f.minus_sign → is_negative_text f t ≡ true → length (byte_figures f.minus_sign) ≡ 0 → IsPlainStart f t (length f.minus_sign)
+-- what a text with it begins with
+sign-front : (f : FormatData) (t : List ℕ) → is_negative_text f t ≡ true → take (length f.minus_sign) t ≡ f.minus_sign
+sign-front f t negative =
+    ap (take (length f.minus_sign)) ((starts_is Decides-eqb t f.minus_sign (is_negative_text f t) refl).0 negative) ∙ take_at f.minus_sign (drop (length f.minus_sign) t) (length f.minus_sign) refl
+
+pub plain-signed : (f : FormatData) (t : List ℕ) → IsUtf8 f.minus_sign → is_negative_text f t ≡ true → byte_figures f.minus_sign ≡ [] → IsPlainStart f t (length f.minus_sign)
 plain-signed f t utf8 negative none =
-    let split = (starts_is Decides-eqb t f.minus_sign (is_negative_text f t) refl).0 negative in
-    let front : take (length f.minus_sign) t ≡ f.minus_sign = ap (take (length f.minus_sign)) split ∙ take_at f.minus_sign (drop (length f.minus_sign) t) (length f.minus_sign) refl in
+    let front = sign-front f t negative in
     record {
       utf8 = subst IsUtf8 (sym front) utf8;
-      within = omega (arith, ap length split, length-append f.minus_sign (drop (length f.minus_sign) t));
+      within = omega (arith, ap length front, length-take (length f.minus_sign) t);
       sign = rw negative refl;
-      plain = ap byte_figures front ∙ nil_from_length (byte_figures f.minus_sign) none;
+      plain = ap byte_figures front ∙ none;
     }
 
--- the same for all numeric characters
-pub plain-positive : (f : FormatData) (t : List ℕ) → is_negative_text f t ≡ false → HasPlainSign f t 0
-plain-positive f t positive = record { begin = plain-unsigned f t positive; others = no_other-bytes [] refl }
+-- the start of a text, where its minus sign has no digit
+pub plain-sign : (f : FormatData) (t : List ℕ) (start : ℕ) → IsUtf8 f.minus_sign → start ≡ sign_len f t → (is_negative_text f t && list_any is_ascii_digit f.minus_sign) ≡ false → IsPlainStart f t start
+plain-sign f t start utf8 same none =
+    subst (IsPlainStart f t) (sym same) (elim (cases_Bool (is_negative_text f t)) [
+      | inl negative ↦
+          let plain : list_any is_ascii_digit f.minus_sign ≡ false = rw negative at none in
+          let long : length f.minus_sign ≡ sign_len f t = rw negative refl in
+          subst (IsPlainStart f t) long (plain-signed f t utf8 negative (figures-none f.minus_sign plain))
+      | inr positive ↦ let long : 0 ≡ sign_len f t = rw positive refl in subst (IsPlainStart f t) long (plain-unsigned f t positive)
+    ])
 
-pub plain-negative : (f : FormatData) (t : List ℕ) → IsUtf8 f.minus_sign → is_negative_text f t ≡ true → HasNoNumeric f.minus_sign → HasPlainSign f t (length f.minus_sign)
-plain-negative f t utf8 negative none =
-    let split = (starts_is Decides-eqb t f.minus_sign (is_negative_text f t) refl).0 negative in
-    let front : take (length f.minus_sign) t ≡ f.minus_sign = ap (take (length f.minus_sign)) split ∙ take_at f.minus_sign (drop (length f.minus_sign) t) (length f.minus_sign) refl in
-    record {
-      begin = plain-signed f t utf8 negative (ap length (figures-none f.minus_sign none.digits));
-      others = subst (λ xs. list_any is_other_numeral (chars xs) ≡ false) (sym front) none.others;
-    }
+-- the numeric characters of the minus sign, where a text begins with it
+pub sign-numeral : (f : FormatData) (t : List ℕ) → list_any is_other_numeral (chars (take (sign_len f t) t)) ≡ (is_negative_text f t && list_any is_other_numeral (chars f.minus_sign))
+sign-numeral f t =
+    elim (cases_Bool (is_negative_text f t)) [
+      | inl negative ↦ rw negative (ap (λ xs. list_any is_other_numeral (chars xs)) (sign-front f t negative))
+      | inr positive ↦ rw positive (ap (list_any is_other_numeral) chars-nil)
+    ]
 
 -- groups that are longer than four digits and a separator have five digits at least
 pub many-digits : (s body : List ℕ) (found : IsInGroups 3 3 s body) → 4 + length s < length body → 5 ≤ length found.ds
@@ -120,3 +128,29 @@ many-digits s body found long =
           let least : (d - 1) / 3 * length s ≤ 1 * length s = mul-le-mul_right (length s) one in
           absurd (omega (arith, count, least, long, few))
     ]
+
+-- the first of the digits that stand in a text from a place on
+pub record HasFirstByte (text : List ℕ) (start : ℕ) (ds : List ℕ) : Type 0 where
+  pub rest : List ℕ
+  pub first : ds ≡ (get_or text start 0 - 48) ∷ rest
+
+byte-at : (text : List ℕ) (start : ℕ) → get_or text start 0 ≡ get_or (drop start text) 0 0
+byte-at text start = sym (get_or-drop start text 0 0 ∙ ap (λ i. get_or text i 0) (let e : start + 0 ≡ start = omega arith in e))
+
+pub first-byte : (text : List ℕ) (start : ℕ) (is_due : ℕ → Bool) (s ds : List ℕ) → BeginsWithDigit (drop start text) → drop start text ≡ separated is_due s ds → HasFirstByte text start ds
+first-byte text start is_due s [] begin same = absurd (omega (arith, ap length (sym same ∙ begin.same)))
+first-byte text start is_due s (d ∷ ds) begin same =
+    let byte : get_or text start 0 ≡ 48 + d = byte-at text start ∙ ap (λ xs. get_or xs 0 0) same in
+    let digit : d ≡ get_or text start 0 - 48 = omega (arith, byte) in
+    record { rest = ds; first = ap (λ x. x ∷ ds) digit }
+
+-- a place where a text goes on with a digit other than zero
+pub record IsDigitPlace (text : List ℕ) (start : ℕ) : Type 0 where
+  pub inside : start < length text
+  pub above : 48 ≤ get_or text start 0
+
+pub digit-place : (text : List ℕ) (start : ℕ) → BeginsWithDigit (drop start text) → IsDigitPlace text start
+digit-place text start begin = record {
+  inside = omega (arith, ap length begin.same, length-drop start text);
+  above = let byte : get_or text start 0 ≡ 48 + begin.digit = byte-at text start ∙ ap (λ xs. get_or xs 0 0) begin.same in omega (arith, byte);
+}

@@ -1,11 +1,8 @@
 -- What the steps of strict parsing find in the bytes of a text.
-use Rattle.std.specs.Prelude.{◌≡◌, false, ℕ, ◌+◌, ◌-◌, ◌<◌, ◌≤◌, List, [], ◌∷◌, ◌++◌, All, length, take, drop, map, filter, IsUtf8}
+use Rattle.std.specs.Prelude.{◌≡◌, ℕ, ◌+◌, ◌-◌, ◌<◌, ◌≤◌, List, [], ◌∷◌, ◌++◌, All, length, take, drop, map, filter, IsUtf8}
 use Rattle.std.specs.Char.{is_ascii_digit}
-use Rattle.std.specs.List.{list_any}
-use Rattle.std.specs.Str.{chars}
 use Rattle.num_format_text.specs.Format.{FormatData}
 use Rattle.num_format_int.specs.Groups.{IsGrouped}
-use Rattle.num_format_parsing.specs.Reading.{is_other_numeral}
 use Rattle.num_format_parsing.specs.Strict.{sign_len}
 
 -- the digits among bytes: the figures of a text in UTF-8, without its characters; 48 is the character 0
@@ -37,13 +34,3 @@ pub record IsPlainStart (f : FormatData) (t : List ℕ) (start : ℕ) : Type 0 w
   pub within : start ≤ length t
   pub sign : start ≡ sign_len f t
   pub plain : byte_figures (take start t) ≡ []
-
--- no character of a text is numeric
-pub record HasNoNumeric (t : List ℕ) : Type 0 where
-  pub digits : list_any is_ascii_digit t ≡ false
-  pub others : list_any is_other_numeral (chars t) ≡ false
-
--- the minus sign at the start of a text has that length, and no numeric character
-pub record HasPlainSign (f : FormatData) (t : List ℕ) (start : ℕ) : Type 0 where
-  pub begin : IsPlainStart f t start
-  pub others : list_any is_other_numeral (chars (take start t)) ≡ false

@@ -1,18 +1,15 @@
 //! Strict parsing of most texts in one pass: of digits, alone or in groups with a separator between them.
-ghost use Rattle.std.specs.Prelude.{◌≡◌, ℕ, List, ◌+◌, ◌-◌, ◌<◌, ◌≤◌, [], true, false, length, take, drop, slice_index, IsTrue, IsUtf8, IfSome, MatchOption, MatchResult};
-ghost use Rattle.std.specs.Char.{is_ascii, is_ascii_digit};
-ghost use Rattle.std.specs.List.{list_all, list_any};
-ghost use Rattle.std.specs.Str.{chars};
+ghost use Rattle.std.specs.Prelude.{◌≡◌, ℕ, List, ◌+◌, ◌-◌, ◌<◌, ◌≤◌, [], true, false, length, drop, slice_index, IsTrue, IfSome, MatchOption, MatchResult};
+ghost use Rattle.std.specs.Char.{is_ascii_digit};
+ghost use Rattle.std.specs.Int.Digits.{number_from_digits};
 ghost use Rattle.num_format_text.specs.declared.grouping.Grouping.TheVariants.{Posix};
 ghost use Rattle.num_format_text.specs.Format.{FormatData};
-ghost use Rattle.num_format_parsing.specs.Parts.{GroupsBy, HasReading, HasReadDigits, HasReadGroup, HasReadGroups, HasReadNumber, LacksGroup, LacksGroups};
-ghost use Rattle.num_format_parsing.specs.Shapes.{HasPlainSign, IsPlainStart, BeginsWithDigit, byte_figures};
-ghost use Rattle.num_format_parsing.specs.Reading.{denoted, is_other_numeral};
-ghost use Rattle.num_format_parsing.specs.Strict.{SpellsNumber, sign_len};
+ghost use Rattle.num_format_parsing.specs.Parts.{GroupsBy, HasReading, HasReadDigits, HasReadGroup, HasReadGroups, IsReadWhole, LacksGroup, LacksGroups, WriteWhole};
+ghost use Rattle.num_format_parsing.specs.Shapes.{IsPlainStart, BeginsWithDigit, byte_figures};
 
-use crate::numeral::is_plain;
+use crate::numeral::has_other_numeral;
 use crate::parsing::Accumulator;
-use crate::strict::{begins_with, begins_with_digit};
+use crate::strict::{begins_with, begins_with_digit, has_digit};
 use num_format_text::{Format, Grouping};
 
 /// What one pass over a text found.
@@ -27,12 +24,12 @@ pub(crate) enum Reading<A> {
         /// The number of these bytes.
         place: usize,
     },
-    /// One pass does not tell, since the separator has a numeric character.
+    /// One pass does not tell, since the separator has a digit.
     Unknown,
 }
 
 /// What was read of a text: its first bytes, how many digits are among them after the minus sign, and the
-/// number that these write, if they are at most [`Accumulator::safe_figures`].
+/// number that these write, modulo the bound of the accumulator.
 #[derive(Clone, Copy)]
 struct Part<A> {
     end: usize,
@@ -58,10 +55,8 @@ pub(crate) fn read_text<F: Format, A: Accumulator>(
     most: usize,
     format: &F,
 ) -> Reading<A>
-    requires sign { HasPlainSign (F.answers format.now) text.now start }
-    requires within { start ≤ length text.now }
-    requires few { most ≤ A.safe }
-    ensures { HasReading A.number (F.answers format.now) text.now most result }
+    requires { IsPlainStart (F.answers format.now) text.now start }
+    ensures { HasReading A.number (F.answers format.now) text.now start most result }
 {
     if !begins_with_digit(&text[start..]) {
         return read_zero(text, start, most);
@@ -73,7 +68,7 @@ pub(crate) fn read_text<F: Format, A: Accumulator>(
     };
     let first = read_digits(text, none, text.len());
     if first.end == text.len() {
-        return spelled(first, most);
+        return spelled(text, start, first, most);
     }
     read_grouped(text, start, first.end, first.magnitude, most, format)
 }
@@ -91,13 +86,12 @@ fn read_grouped<F: Format, A: Accumulator>(
     most: usize,
     format: &F,
 ) -> Reading<A>
-    requires sign { HasPlainSign (F.answers format.now) text.now start }
+    requires sign { IsPlainStart (F.answers format.now) text.now start }
     requires begin { BeginsWithDigit (drop start text.now) }
-    requires read { HasReadDigits A.safe text.now start end 0 (A.number magnitude) }
+    requires read { HasReadDigits A.bound text.now start end 0 (A.number magnitude) }
     requires inside { end < length text.now }
     requires stop { is_ascii_digit (slice_index text.now end) ≡ false }
-    requires few { most ≤ A.safe }
-    ensures { HasReading A.number (F.answers format.now) text.now most result }
+    ensures { HasReading A.number (F.answers format.now) text.now start most result }
 {
     let Some(groups) = groups_of(format.grouping()) else {
         return Reading::Unspelled { place: end };
@@ -107,7 +101,7 @@ fn read_grouped<F: Format, A: Accumulator>(
     if bytes.is_empty() {
         return Reading::Unspelled { place: end };
     }
-    if !is_plain(separator) {
+    if has_digit(bytes) {
         return Reading::Unknown;
     }
     if text.len() - start < groups.least + bytes.len() {
@@ -119,7 +113,13 @@ fn read_grouped<F: Format, A: Accumulator>(
         magnitude,
     };
     match read_by(text, start, first, bytes, groups) {
-        Ok(whole) => spelled(whole, most),
+        Ok(whole) => {
+            // Only a text that spells a number is worth a look at the characters of the separator.
+            if has_other_numeral(separator) {
+                return Reading::Spelled;
+            }
+            spelled(text, start, whole, most)
+        }
         Err(place) => Reading::Unspelled { place },
     }
 }
@@ -129,7 +129,8 @@ fn read_grouped<F: Format, A: Accumulator>(
 fn read_zero<A: Accumulator>(text: &[u8], start: usize, most: usize) -> Reading<A>
     requires within { start ≤ length text.now }
     requires other { ¬ (BeginsWithDigit (drop start text.now)) }
-    ensures { (f : FormatData) → IsPlainStart f text.now start → HasReading A.number f text.now most result }
+    ensures { (f : FormatData) → IsPlainStart f text.now start
+        → HasReading A.number f text.now start most result }
 {
     if text.len() != 1 {
         return Reading::Unspelled { place: start };
@@ -145,17 +146,35 @@ fn read_zero<A: Accumulator>(text: &[u8], start: usize, most: usize) -> Reading<
 }
 
 /// Returns what was found in a text that was read to its end and spells the number that it denotes: that
-/// number, if it is short.
+/// number, if it fits the accumulator and has few digits.
 #[inline]
-fn spelled<A: Accumulator>(whole: Part<A>, most: usize) -> Reading<A>
-    ensures { (f : FormatData) (t : List ℕ) → IsUtf8 t → SpellsNumber f t (denoted f t)
-        → (whole.figures ≤ most → HasReadNumber f t most (A.number whole.magnitude))
-        → HasReading A.number f t most result }
+fn spelled<A: Accumulator>(text: &[u8], start: usize, whole: Part<A>, most: usize) -> Reading<A>
+    requires { BeginsWithDigit (drop start text.now) }
+    ensures { (f : FormatData) → IsReadWhole A.bound f text.now start most whole.figures (A.number whole.magnitude)
+        → HasReading A.number f text.now start most result }
 {
     if whole.figures > most {
         return Reading::Spelled;
     }
+    if !is_exact(text, start, whole) {
+        return Reading::Spelled;
+    }
     Reading::Number(whole.magnitude)
+}
+
+/// Returns whether the number of a text that was read to its end is that of its digits, and not only modulo
+/// the bound.
+#[inline]
+fn is_exact<A: Accumulator>(text: &[u8], start: usize, whole: Part<A>) -> bool
+    requires { BeginsWithDigit (drop start text.now) }
+    ensures { (ds : List ℕ) → WriteWhole A.bound text.now start ds whole.figures (A.number whole.magnitude)
+        → IsTrue result → A.number whole.magnitude ≡ number_from_digits 10 ds }
+{
+    let safe = A::safe_figures();
+    if whole.figures <= safe {
+        return true;
+    }
+    whole.figures - 1 == safe && whole.magnitude.is_whole(text[start] - b'0')
 }
 
 /// Returns how a grouping groups digits, or `None` if it does not.
@@ -195,7 +214,7 @@ fn read_digits<A: Accumulator>(text: &[u8], from: Part<A>, end: usize) -> Part<A
     requires order { from.end ≤ end }
     requires within { end ≤ length text.now }
     requires figures { from.figures ≤ from.end }
-    ensures read { HasReadDigits A.safe text.now from.end result.end (A.number from.magnitude) (A.number result.magnitude) }
+    ensures read { HasReadDigits A.bound text.now from.end result.end (A.number from.magnitude) (A.number result.magnitude) }
     ensures within { result.end ≤ end }
     ensures figures { result.figures + from.end ≡ from.figures + result.end }
     ensures stop { result.end < end → is_ascii_digit (slice_index text.now result.end) ≡ false }
@@ -236,7 +255,7 @@ fn digit_at(text: &[u8], place: usize) -> Option<u16>
 #[inline(always)]
 fn push_few<A: Accumulator>(text: &[u8], place: usize, count: usize, magnitude: A) -> Option<A>
     requires { place + count ≤ length text.now }
-    ensures { IfSome result (λ more. HasReadDigits A.safe text.now place (place + count)
+    ensures { IfSome result (λ more. HasReadDigits A.bound text.now place (place + count)
         (A.number magnitude) (A.number more)) }
 {
     if count < 2 {
@@ -269,7 +288,7 @@ fn read_slowly<A: Accumulator>(text: &[u8], from: Part<A>, end: usize) -> Part<A
     requires order { from.end ≤ end }
     requires within { end ≤ length text.now }
     requires figures { from.figures ≤ from.end }
-    ensures read { HasReadDigits A.safe text.now from.end result.end (A.number from.magnitude) (A.number result.magnitude) }
+    ensures read { HasReadDigits A.bound text.now from.end result.end (A.number from.magnitude) (A.number result.magnitude) }
     ensures within { result.end ≤ end }
     ensures figures { result.figures + from.end ≡ from.figures + result.end }
     ensures stop { result.end < end → is_ascii_digit (slice_index text.now result.end) ≡ false }
@@ -292,7 +311,7 @@ fn read_group<A: Accumulator>(
     requires figures { from.figures ≤ from.end }
     requires some { 0 < count }
     ensures { MatchResult result
-        (λ part. HasReadGroup A.safe separator.now text.now from.end part.end count
+        (λ part. HasReadGroup A.bound separator.now text.now from.end part.end count
         (A.number from.magnitude) (A.number part.magnitude)
         × (part.figures ≡ from.figures + count))
         (λ place. LacksGroup separator.now text.now from.end count place) }
@@ -336,7 +355,7 @@ fn read_by<A: Accumulator>(
     separator: &[u8],
     groups: Groups,
 ) -> Result<Part<A>, usize>
-    requires read { HasReadDigits A.safe text.now start first.end 0 (A.number first.magnitude) }
+    requires read { HasReadDigits A.bound text.now start first.end 0 (A.number first.magnitude) }
     requires some { start < first.end }
     requires figures { first.figures + start ≡ first.end }
     requires inside { first.end < length text.now }
@@ -347,7 +366,7 @@ fn read_by<A: Accumulator>(
     requires last { groups.size ≤ groups.last }
     requires few { groups.last < 8 }
     ensures { MatchResult result
-        (λ whole. HasReadGroups A.safe groups.last groups.size separator.now text.now start
+        (λ whole. HasReadGroups A.bound groups.last groups.size separator.now text.now start
         whole.figures (A.number whole.magnitude))
         (λ place. LacksGroups groups.last groups.size separator.now text.now start place) }
 {
@@ -370,7 +389,7 @@ fn read_groups<A: Accumulator>(
     separator: &[u8],
     groups: Groups,
 ) -> Result<Part<A>, usize>
-    requires read { HasReadDigits A.safe text.now start first.end 0 (A.number first.magnitude) }
+    requires read { HasReadDigits A.bound text.now start first.end 0 (A.number first.magnitude) }
     requires some { start < first.end }
     requires figures { first.figures + start ≡ first.end }
     requires inside { first.end < length text.now }
@@ -381,7 +400,7 @@ fn read_groups<A: Accumulator>(
     requires last { groups.size ≤ groups.last }
     requires few { groups.last < 8 }
     ensures { MatchResult result
-        (λ whole. HasReadGroups A.safe groups.last groups.size separator.now text.now start
+        (λ whole. HasReadGroups A.bound groups.last groups.size separator.now text.now start
         whole.figures (A.number whole.magnitude))
         (λ place. LacksGroups groups.last groups.size separator.now text.now start place) }
 {

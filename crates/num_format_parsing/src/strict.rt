@@ -2,19 +2,20 @@
 //!
 //! A text *spells* a number if it is the text of the number under the format, or that text without
 //! separators. Strict parsing returns the number that a text spells, and refuses every other text.
-ghost use Rattle.std.specs.Prelude.{◌≡◌, ◌↔◌, nat_eq, ◌-◌, ◌<◌, ◌≤◌, [], true, if◌then◌else◌, IsTrue, take, drop, length, Some, IsUtf8, MatchOption, MatchResult};
+ghost use Rattle.std.specs.Prelude.{◌≡◌, ◌↔◌, nat_eq, ◌-◌, ◌<◌, ◌≤◌, ◌&&◌, [], IsTrue, take, drop, length, Some, IsUtf8, MatchOption, MatchResult};
 ghost use Rattle.std.specs.Char.{is_ascii_digit};
 ghost use Rattle.std.specs.Int.Digits.{number_from_digits};
 ghost use Rattle.std.specs.List.{list_any, starts_with};
+ghost use Rattle.std.specs.Str.{chars};
 ghost use Rattle.num_format_int.specs.Grouped.{stands, grouped, printed_separator};
 ghost use Rattle.num_format_int.specs.Kind.{Kind};
-ghost use Rattle.num_format_parsing.specs.Reading.{denoted, figures};
+ghost use Rattle.num_format_parsing.specs.Reading.{denoted, figures, is_other_numeral};
 ghost use Rattle.num_format_parsing.specs.Strict.{SpellsNumber, ParsesStrictly, IsCause, IsExpected, begins, unread, unexpected, sign_len, strict_message_of};
 ghost use Rattle.num_format_parsing.specs.Parts.{IsUnspelled};
-ghost use Rattle.num_format_parsing.specs.Shapes.{BeginsWithDigit, HasNoNumeric, byte_figures};
+ghost use Rattle.num_format_parsing.specs.Shapes.{BeginsWithDigit, byte_figures};
 
-use crate::numeral::is_plain;
-use crate::parsing::{Accumulator, SAFE_FIGURES, parse};
+use crate::numeral::{has_other_numeral, is_ascii};
+use crate::parsing::{Accumulator, SAFE_FIGURES, most_figures, parse};
 use crate::reading::{Reading, read_text};
 use num_format_int::sealed::Sealed;
 use num_format_text::{Format, Grouping};
@@ -99,12 +100,15 @@ fn parse_by<N: Sealed, F: Format, A: Accumulator>(
     let minus_sign = format.minus_sign().into_str();
     let is_negative = is_prefix(bytes, minus_sign.as_bytes());
     let start = if is_negative { minus_sign.len() } else { 0 };
-    if !has_plain_sign(minus_sign, is_negative) {
+    if has_digit_in_sign(minus_sign, is_negative) {
         return parse_unknown(bytes, is_text, start, format);
     }
-    let most = most_figures(N::limit(), is_negative, A::safe_figures());
+    let most = most_figures::<N>(is_negative);
     match read_text::<F, A>(bytes, start, most, format) {
         Reading::Number(magnitude) => {
+            if has_numeral_in_sign(minus_sign, is_negative) {
+                return Err(StrictError::OutOfRange);
+            }
             match N::from_sign_and_magnitude(is_negative, magnitude.number()) {
                 Some(number) => Ok(number),
                 None => Err(StrictError::OutOfRange),
@@ -116,17 +120,25 @@ fn parse_by<N: Sealed, F: Format, A: Accumulator>(
     }
 }
 
-/// Returns true only if the minus sign of a negative text has no numeric character.
-///
-/// One of one byte is tested for each text, since the processor mistakes a branch on the sign.
+/// Returns whether the minus sign of a negative text has a digit. Few minus signs have one, so no branch depends
+/// on the sign, which the processor would mistake.
 #[inline]
-fn has_plain_sign(minus_sign: &str, is_negative: bool) -> bool
-    ensures { IsTrue result → is_negative ≡ true → HasNoNumeric minus_sign.now }
+fn has_digit_in_sign(minus_sign: &str, is_negative: bool) -> bool
+    ensures { result ≡ (is_negative && list_any is_ascii_digit minus_sign.now) }
 {
-    if minus_sign.len() != 1 && !is_negative {
-        return true;
+    has_digit(minus_sign.as_bytes()) && is_negative
+}
+
+/// Returns whether the minus sign of a negative text has a numeric character that is none of the digits `0` to
+/// `9`. Most minus signs are ASCII, and have none.
+#[inline]
+fn has_numeral_in_sign(minus_sign: &str, is_negative: bool) -> bool
+    ensures { result ≡ (is_negative && list_any is_other_numeral (chars minus_sign.now)) }
+{
+    if is_ascii(minus_sign.as_bytes()) {
+        return false;
     }
-    is_plain(minus_sign)
+    is_negative && has_other_numeral(minus_sign)
 }
 
 /// Returns whether a text begins with a prefix. Most are one byte, whose comparison takes less time than a
@@ -139,15 +151,6 @@ pub(crate) fn is_prefix(text: &[u8], prefix: &[u8]) -> bool
         return text[0] == prefix[0];
     }
     text.starts_with(prefix)
-}
-
-/// Returns how many digits a text may have: at most the limit, of which a minus sign counts as one, and
-/// what is safe.
-fn most_figures(limit: usize, is_negative: bool, safe: usize) -> usize
-    ensures within { result ≤ limit - (if is_negative then 1 else 0) }
-    ensures few { result ≤ safe }
-{
-    limit.saturating_sub(is_negative as usize).min(safe)
 }
 
 /// Returns the number that the text spells, if parsing returns it.

@@ -37,7 +37,7 @@ loop-part-preserved g c =
     let next = c.in_ok-next.next in
     let read = c.in_ok-next.ensures in
     record {
-      read = subst (λ count. HasReadSome g.A.Accumulator.safe groups.last groups.size c.args.separator.now c.args.text.now c.args.start next.end count (g.A.Accumulator.number next.magnitude)) (sym read.1)
+      read = subst (λ count. HasReadSome g.A.Accumulator.bound groups.last groups.size c.args.separator.now c.args.text.now c.args.start next.end count (g.A.Accumulator.number next.magnitude)) (sym read.1)
           (some-more groups.last groups.size c.args.separator.now c.args.text.now c.args.start l.part.end l.part.figures (g.A.Accumulator.number l.part.magnitude) next.end (g.A.Accumulator.number next.magnitude) r.separator r.plain r.size l.invariant.read read.0 c.loop-part-test.true);
       figures = omega (arith, l.invariant.figures, read.1, read.0.long, read.0.separator.within);
     }
@@ -56,7 +56,7 @@ returns g c =
     let s = c.args.separator.now in
     let text = c.args.text.now in
     map_result c.read_group-2.result
-    (λ whole read. subst (λ count. HasReadGroups g.A.Accumulator.safe groups.last groups.size s text c.args.start count (g.A.Accumulator.number whole.magnitude)) (sym read.1)
+    (λ whole read. subst (λ count. HasReadGroups g.A.Accumulator.bound groups.last groups.size s text c.args.start count (g.A.Accumulator.number whole.magnitude)) (sym read.1)
     (groups-read groups.last groups.size s text c.args.start l.part.end l.part.figures (g.A.Accumulator.number l.part.magnitude) whole.end (g.A.Accumulator.number whole.magnitude) l.invariant.read read.0 c.if-text-part.false))
     (λ place lacks. lacks-last groups.last groups.size s text c.args.start l.part.end l.part.figures (g.A.Accumulator.number l.part.magnitude) place r.separator r.plain r.size l.invariant.read lacks c.if-text-part.false)
     c.read_group-2.ensures

@@ -4,7 +4,7 @@ use Rattle.num_format_parsing.proofs.reading.read_groups.Given as goal
 
 abbrev pub invariant-loop-part : goal.invariant-loop-part
 invariant-loop-part g l = record {
-  read : HasReadSome g.A.Accumulator.safe l.fn.groups.last l.fn.groups.size l.separator l.text l.fn.start l.part.end l.part.figures (g.A.Accumulator.number l.part.magnitude);
+  read : HasReadSome g.A.Accumulator.bound l.fn.groups.last l.fn.groups.size l.separator l.text l.fn.start l.part.end l.part.figures (g.A.Accumulator.number l.part.magnitude);
   figures : l.part.figures ≤ l.part.end;
 }
 

@@ -11,7 +11,7 @@ pub returns-then-byte-ne48 : goal.returns-then-byte-ne48
 returns-then-byte-ne48 g c = λ f sign. unspelled-zero f c.args.text.now c.args.start sign c.requires.other (λ same. c.if-byte-ne48.true (ap (λ xs. get_or xs 0 0) same))
 
 pub returns-then-most-eq0 : goal.returns-then-most-eq0
-returns-then-most-eq0 g c = λ f sign. let read = zero-read f c.args.text.now 1 c.if-text-ne1.false c.if-byte-ne48.false (λ none. omega arith) in (read.utf8, read.spelled)
+returns-then-most-eq0 g c = λ f sign. let read = zero-read f c.args.text.now c.args.start 1 c.if-text-ne1.false c.if-byte-ne48.false (λ none. omega arith) in (read.utf8, read.spelled)
 
 pub returns : goal.returns
-returns g c = λ f sign. subst (HasReadNumber f c.args.text.now c.args.most) (sym c.zero.ensures) (zero-read f c.args.text.now c.args.most c.if-text-ne1.false c.if-byte-ne48.false c.if-most-eq0.false)
+returns g c = λ f sign. subst (HasReadNumber f c.args.text.now c.args.start c.args.most) (sym c.zero.ensures) (zero-read f c.args.text.now c.args.start c.args.most c.if-text-ne1.false c.if-byte-ne48.false c.if-most-eq0.false)
