@@ -1,36 +1,39 @@
 -- Decimals that are read in one pass.
-use Rattle.std.proofs.Common.{◌≡◌, ℕ, zero, suc, ◌+◌, ◌-◌, ◌*◌, ◌/◌, ◌%◌, ◌^◌, ◌<◌, ◌≤◌, Bool, true, false, List, [], ◌∷◌, ◌++◌, length, get_or, take, drop, refl, ap, ◌∙◌, sym, subst, arith, append-nil, length-drop, ℤ, pos, unsigned_abs}
+use Rattle.std.proofs.Common.{◌≡◌, ℕ, zero, suc, ◌+◌, ◌-◌, ◌*◌, ◌/◌, ◌%◌, ◌^◌, ◌<◌, ◌≤◌, Bool, true, false, List, [], ◌∷◌, ◌++◌, length, get_or, take, drop, take-append-drop, refl, ap, ◌∙◌, sym, subst, arith, append-nil, length-drop, inl, inr, ◌⊎◌, ℤ, pos, unsigned_abs}
 use Rattle.std.specs.Prelude.{nat_eq, nat_lt, if◌then◌else◌, Option, Some, None, IfSome, SomeIff}
 use Rattle.std.specs.Char.{is_ascii_digit}
 use Rattle.std.specs.Int.{is_negative}
 use Rattle.std.specs.Int.Digits.{number_from_digits}
 use Rattle.std.specs.List.{list_all, starts_with}
-use Rattle.std.proofs.Math.Nat.{pow-suc}
-use Rattle.std.proofs.Math.Seq.{take-suc}
-use Rattle.std.proofs.lemmas.Bool.{both_ways, true_from_ne_false}
+use Rattle.std.proofs.Math.Nat.{pow-le-pow_right, pow-suc}
+use Rattle.std.proofs.Math.Seq.{drop-length, take-suc}
+use Rattle.std.proofs.lemmas.Bool.{and_from, both_ways, cases_eq, true_from_ne_false}
 use Rattle.std.proofs.lemmas.Bool.Decides.{nat_tests, Decides-eqb}
 use Rattle.std.proofs.lemmas.Int.Digits.{number_after_append}
-use Rattle.std.proofs.lemmas.List.{length-map, take_at}
-use Rattle.std.proofs.lemmas.List.Folds.{list_all_at}
+use Rattle.std.proofs.lemmas.List.{length-map, take_at, take_rest}
+use Rattle.std.proofs.lemmas.List.Folds.{list_all-append, list_all_at}
 use Rattle.std.proofs.lemmas.Nat.{div-mul-add, mod-mul-add}
 use Rattle.std.proofs.lemmas.Slice.Eq.{starts_is}
 use Rattle.num_format_text.specs.Format.{FormatData}
 use Rattle.num_format_int.specs.Groups.{last_digits, plain}
-use Rattle.num_format_int.specs.Text.{body_of}
+use Rattle.num_format_int.specs.Digits.{digits}
+use Rattle.num_format_int.specs.Text.{body_of, text_of}
 use Rattle.num_format_int.proofs.DigitLemmas.{last_digits-mod}
+use Rattle.num_format_int.proofs.GroupedLemmas.{grouped-Posix}
 use Rattle.num_format_parsing.specs.Reading.{signed_number}
 use Rattle.num_format_parsing.specs.Shapes.{byte_figures}
 use Rattle.num_format_parsing.specs.Strict.{SpellsNumber, with_separators, without_separators, begins, ungrouped}
-use Rattle.num_format_parsing.proofs.FigureLemmas.{figures-below, figures-digit}
+use Rattle.num_format_parsing.proofs.FigureLemmas.{begins-at, figures-below, figures-digit, writes}
 use Rattle.num_format_parsing.proofs.GroupsLemmas.{plain-all}
 use Rattle.num_format_parsing.proofs.ReadingLemmas.{digits_among-append}
 use Rattle.num_format_certificates.proofs.RoundTripLemmas.{is_negative-pos}
 use Rattle.num_format_decimal.specs.FixedPoint.{FixedPoint, fixed_point}
 use Rattle.num_format_decimal.specs.Parsing.{SpellsDecimal}
-use Rattle.num_format_decimal.specs.Shapes.{IsBody, IsSpelled, StandsAt, mark_at, sign_of, with_groups, without_groups}
+use Rattle.num_format_decimal.specs.Shapes.{IsBody, IsMarkedAt, IsSpelled, StandsAt, mark_at, marked, sign_of, unmarked, with_groups, without_groups}
 use Rattle.num_format_decimal.specs.Values.{HasUnits}
 use Rattle.num_format_decimal.proofs.ScaleLemmas.{power_le}
-use Rattle.num_format_decimal.proofs.SpelledLemmas.{IsCutAt, last_digits-number, number-below, signed-abs, spelled-from_parts, spelled-marked}
+use Rattle.num_format_decimal.proofs.SpelledLemmas.{IsCutAt, last_digits-number, number-below, signed-abs, spelled-from_parts, spelled-marked, zero_body}
+use Rattle.num_format_decimal.proofs.TextLemmas.{text_of_whole}
 
 -- each byte of digits is one
 pub digit_at : (t : List ℕ) (i : ℕ) → i < length t → list_all is_ascii_digit t ≡ true → is_ascii_digit (get_or t i 0) ≡ true
@@ -40,12 +43,12 @@ pub digit_bounds : (b : ℕ) → is_ascii_digit b ≡ true → (48 ≤ b) × (b 
 digit_bounds b digit = (grind (arith, nat_tests, digit), grind (arith, nat_tests, digit))
 
 -- the number that one digit more writes
-pub more_digits : (t : List ℕ) (i n : ℕ) → i < length t → list_all is_ascii_digit t ≡ true → n ≡ number_from_digits 10 (byte_figures (take i t)) →
+pub one_more_digit : (t : List ℕ) (i n : ℕ) → i < length t → is_ascii_digit (get_or t i 0) ≡ true → n ≡ number_from_digits 10 (byte_figures (take i t)) →
     10 * n + (get_or t i 0 - 48) ≡ number_from_digits 10 (byte_figures (take (i + 1) t))
-more_digits t i n inside all number =
+one_more_digit t i n inside digit number =
     let b = get_or t i 0 in
     let next : i + 1 ≡ suc i = omega arith in
-    let one : byte_figures (b ∷ []) ≡ (b - 48) ∷ [] = figures-digit b [] (digit_at t i inside all) in
+    let one : byte_figures (b ∷ []) ≡ (b - 48) ∷ [] = figures-digit b [] digit in
     let joined : byte_figures (take (i + 1) t) ≡ byte_figures (take i t) ++ ((b - 48) ∷ []) =
     ap (λ j. byte_figures (take j t)) next
     ∙ ap byte_figures (take-suc t i 0 inside)
@@ -57,11 +60,30 @@ more_digits t i n inside all number =
     ∙ sym (number_after_append 10 0 (byte_figures (take i t)) ((b - 48) ∷ []))
     ∙ sym (ap (number_from_digits 10) joined)
 
+pub more_digits : (t : List ℕ) (i n : ℕ) → i < length t → list_all is_ascii_digit t ≡ true → n ≡ number_from_digits 10 (byte_figures (take i t)) →
+    10 * n + (get_or t i 0 - 48) ≡ number_from_digits 10 (byte_figures (take (i + 1) t))
+more_digits t i n inside all number = one_more_digit t i n inside (digit_at t i inside all) number
+
+-- one byte more that is a digit
+pub more_are_digits : (t : List ℕ) (i : ℕ) → i < length t → list_all is_ascii_digit (take i t) ≡ true → is_ascii_digit (get_or t i 0) ≡ true → list_all is_ascii_digit (take (i + 1) t) ≡ true
+more_are_digits t i inside all digit =
+    let next : i + 1 ≡ suc i = omega arith in
+    let b = get_or t i 0 in
+    ap (λ j. list_all is_ascii_digit (take j t)) next
+    ∙ ap (list_all is_ascii_digit) (take-suc t i 0 inside)
+    ∙ list_all-append is_ascii_digit (take i t) (b ∷ [])
+    ∙ and_from _ _ all (and_from _ _ digit refl)
+
 pub more_small : (n i d : ℕ) → n < 10 ^ i → d ≤ 9 → 10 * n + d < 10 ^ (i + 1)
 more_small n i d small digit =
     let next : i + 1 ≡ suc i = omega arith in
     let power = ap (λ j. 10 ^ j) next ∙ pow-suc 10 i in
     omega (arith, power)
+
+pub few_fit : (n i d len : ℕ) → n < 10 ^ i → d ≤ 9 → i < len → len ≤ 19 → 10 * n + d < 2 ^ 64
+few_fit n i d len small digit inside few =
+    let power : 10 ^ (i + 1) ≤ 10 ^ 19 = pow-le-pow_right {n = 10} (omega arith) {i = i + 1} {j = 19} (omega arith) in
+    omega (arith, more_small n i d small digit, power)
 
 pub more_fits : (n i d len : ℕ) → n < 10 ^ i → d ≤ 9 → i < len → len ≤ 38 → 10 * n + d < 2 ^ 128
 more_fits n i d len small digit inside few = omega (arith, more_small n i d small digit, power_le (i + 1) (omega arith))
@@ -89,22 +111,7 @@ number_parts : (f : FormatData) (t : List ℕ) (z : ℤ) → SpellsNumber f t z 
 number_parts f t z (with_separators same) = (body_of f (unsigned_abs z), (same, with_groups refl))
 number_parts f t z (without_separators same) = (body_of (ungrouped f) (unsigned_abs z), (same, without_groups refl))
 
--- it spells the decimal at scale 0
-pub whole_read : (f : FormatData) (t : List ℕ) (z : ℤ) → SpellsNumber f t z → HasUnits (fixed_point z 0) → IsSpelled f t (fixed_point z 0)
-whole_read f t z spells fits =
-    let parts = number_parts f t z spells in
-    let body = parts.0 in
-    let all : unsigned_abs z ≡ unsigned_abs z / 10 ^ 0 = omega arith in
-    record {
-      spelled = spelled-from_parts f t z 0 body (record {
-        split = parts.1.0 ∙ ap (λ b. sign_of f z ++ b) (sym (append-nil body));
-        whole = subst (IsBody f body) all parts.1.1;
-      });
-      bound = omega arith;
-      fits = fits;
-    }
-
--- and a number without a sign is a body
+-- a number without a sign is a body
 body_read : (f : FormatData) (t : List ℕ) (n : ℕ) → SpellsNumber f t (pos n) → IsBody f t n
 body_read f t n spells =
     let parts = number_parts f t (pos n) spells in
@@ -145,6 +152,64 @@ marked_read f t body b start place end k m n mark all some order digit sign betw
     let whole : m ≡ unsigned_abs z / 10 ^ k = sym read.1 ∙ ap (λ j. j / 10 ^ k) abs in
     (spelled-marked f t f.decimal body z start end k place cut same mark.after order (begins_starts f.decimal (drop place t) mark.there) between).0
     (subst (IsBody f body) whole (body_read f body m spells))
+
+-- digits that begin with no zero, and zero alone, are a number as it is printed
+pub digits_spell : (f : FormatData) (t : List ℕ) (n : ℕ) → 0 < length t → list_all is_ascii_digit t ≡ true → (¬ (get_or t 0 0 ≡ 48)) ⊎ (length t ≤ 1) → n ≡ number_from_digits 10 (byte_figures t) → SpellsNumber f t (pos n)
+digits_spell f t n some all either number =
+    elim (cases_eq (get_or t 0 0) 48) [
+      | inr other ↦
+          let write = writes t (begins-at t 0 some (digit_at t 0 some all) other) in
+          without_separators (
+          plain-all t all
+          ∙ ap plain (sym write.same ∙ ap digits (sym number))
+          ∙ sym (grouped-Posix f.separator (digits n))
+          ∙ sym (text_of_whole (ungrouped f) n))
+      | inl nought ↦ elim either [
+        | inl other ↦ absurd (other nought)
+        | inr short ↦ zero_spells f t n (alone t some short nought) number
+      ]
+    ]
+  where
+    alone : (t : List ℕ) → 0 < length t → length t ≤ 1 → get_or t 0 0 ≡ 48 → t ≡ 48 ∷ []
+    alone [] some short nought = absurd (omega arith)
+    alone (b ∷ []) some short nought = ap (λ c. c ∷ []) nought
+    alone (b ∷ c ∷ t) some short nought = absurd (omega arith)
+
+    zero_spells : (f : FormatData) (t : List ℕ) (n : ℕ) → t ≡ 48 ∷ [] → n ≡ number_from_digits 10 (byte_figures t) → SpellsNumber f t (pos n)
+    zero_spells f t n same number =
+        let none : n ≡ 0 = number ∙ ap (λ xs. number_from_digits 10 (byte_figures xs)) same in
+        with_separators (same ∙ sym (zero_body f) ∙ sym (text_of_whole f 0) ∙ ap (λ m. text_of f (pos m)) (sym none))
+
+-- a sign and a body
+unmarked_read : (f : FormatData) (t : List ℕ) (b : Bool) (start n : ℕ) → take start t ≡ (if b then f.minus_sign else []) → SpellsNumber f (drop start t) (pos n) → (b ≡ true → 0 < n) →
+    SpellsDecimal f t (fixed_point (signed_number b n) 0)
+unmarked_read f t b start n sign spells signed =
+    let z = signed_number b n in
+    let body = drop start t in
+    let abs : n ≡ unsigned_abs z / 10 ^ 0 = omega (arith, signed-abs b n) in
+    spelled-from_parts f t z 0 body (record {
+      split =
+          sym (take-append-drop start t)
+          ∙ ap (λ xs. xs ++ body) (sign ∙ ap (λ (c : Bool). if c then f.minus_sign else []) (sym (negative_read b n signed)))
+          ∙ ap (λ xs. sign_of f z ++ xs) (sym (append-nil body));
+      whole = subst (IsBody f body) abs (body_read f body n spells);
+    })
+
+-- a sign, a body, and the mark with digits if there are any
+pub parts_read : (f : FormatData) (t body : List ℕ) (b : Bool) (start place end k m n : ℕ) → IsMarkedAt f.decimal t place end → end + k ≡ length t → start ≤ place →
+    list_all is_ascii_digit (drop end t) ≡ true → take start t ≡ (if b then f.minus_sign else []) → body ≡ take (place - start) (drop start t) → SpellsNumber f body (pos m) →
+    n ≡ m * 10 ^ k + number_from_digits 10 (byte_figures (drop end t)) → (b ≡ true → 0 < n) → SpellsDecimal f t (fixed_point (signed_number b n) k)
+parts_read f t body b start place end k m n marks all order digit sign between spells sum signed =
+    elim marks [
+      | marked more stands ↦ marked_read f t body b start place end k m n stands all (omega arith) order digit sign between spells sum signed
+      | unmarked at_place at_end ↦
+          let none : k ≡ 0 = omega arith in
+          let rest : drop end t ≡ [] = ap (λ i. drop i t) at_end ∙ drop-length t in
+          let same : n ≡ m = sum ∙ ap (λ j. m * 10 ^ j + number_from_digits 10 (byte_figures (drop end t))) none ∙ ap (λ xs. m * 10 ^ 0 + number_from_digits 10 (byte_figures xs)) rest ∙ omega arith in
+          let whole : body ≡ drop start t = between ∙ ap (λ i. take (i - start) (drop start t)) at_place ∙ take_rest t start in
+          let spelled : SpellsNumber f (drop start t) (pos n) = subst (λ xs. SpellsNumber f xs (pos n)) whole (subst (λ j. SpellsNumber f body (pos j)) (sym same) spells) in
+          subst (λ j. SpellsDecimal f t (fixed_point (signed_number b n) j)) (sym none) (unmarked_read f t b start n sign spelled signed)
+    ]
 
 -- the decimal with that sign, if there is one
 pub signed_read : (f : FormatData) (t : List ℕ) (d : FixedPoint) (result : Option FixedPoint) → SomeIff result (HasUnits d) d → d.scale ≤ 38 → SpellsDecimal f t d → IfSome result (λ x. IsSpelled f t x)

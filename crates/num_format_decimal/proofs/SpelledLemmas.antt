@@ -144,7 +144,7 @@ parts-spelled f t z k spells =
     ]
 
 -- zero as a whole number
-zero_body : (f : FormatData) → body_of f 0 ≡ 48 ∷ []
+pub zero_body : (f : FormatData) → body_of f 0 ≡ 48 ∷ []
 zero_body f = ap (grouped f.grouping f.separator) (digits-small 0 (lit< tt)) ∙ grouped-short f.grouping f.separator (0 ∷ []) (omega arith)
 
 pub body-zero : (f : FormatData) (t : List ℕ) (n : ℕ) → n ≡ 0 → (t ≡ 48 ∷ []) ↔ IsBody f t n

@@ -1,6 +1,8 @@
 -- What the steps of parsing a decimal find in a text.
 use Rattle.std.specs.Prelude.{◌≡◌, ℕ, ◌+◌, ◌<◌, ◌≤◌, nat_lt, true, List, [], drop, length, if◌then◌else◌, ℤ}
+use Rattle.std.specs.Char.{is_ascii_digit}
 use Rattle.std.specs.Int.{is_negative}
+use Rattle.std.specs.List.{list_all}
 use Rattle.num_format_text.specs.Format.{FormatData}
 use Rattle.num_format_int.specs.Text.{body_of}
 use Rattle.num_format_parsing.specs.Strict.{begins, ungrouped}
@@ -19,6 +21,21 @@ pub record IsSpelled (f : FormatData) (t : List ℕ) (d : FixedPoint) : Type 0 w
 pub record StandsAt (mark t : List ℕ) (place end : ℕ) : Type 0 where
   pub there : begins mark (drop place t) ≡ true
   pub after : place + length mark ≡ end
+
+-- a mark stands between a place and the digits at the end of a text; or none does, and both places are the end
+pub data IsMarkedAt (mark t : List ℕ) (place end : ℕ) : Type 0 where
+  marked : end < length t → StandsAt mark t place end → IsMarkedAt mark t place end
+  unmarked : place ≡ length t → end ≡ length t → IsMarkedAt mark t place end
+
+-- a text is cut after its sign: the mark, if there is one, stands between the places, and the digits at the end, if there is a mark, are
+-- no more than the largest scale
+pub record IsCut (mark t : List ℕ) (start place end : ℕ) : Type 0 where
+  pub order : start ≤ place
+  pub before : place ≤ end
+  pub within : end ≤ length t
+  pub few : length t ≤ end + MAX_SCALE
+  pub digits : list_all is_ascii_digit (drop end t) ≡ true
+  pub found : IsMarkedAt mark t place end
 
 -- the sign of a number: nothing, unless it is negative
 abbrev pub sign_of : FormatData → ℤ → List ℕ

@@ -1,5 +1,5 @@
 //! The check of a format's decimal mark.
-ghost use Rattle.std.specs.Prelude.{◌≡◌, ◌↔◌, ◌⊎◌, IsTrue, IsUtf8};
+ghost use Rattle.std.specs.Prelude.{◌≡◌, ◌↔◌, ◌⊎◌, ◌<◌, IsTrue, length};
 ghost use Rattle.std.specs.List.{list_any};
 ghost use Rattle.std.specs.Str.{chars};
 ghost use Rattle.num_format_parsing.specs.Reading.{is_other_numeral};
@@ -38,25 +38,57 @@ pub fn marks_decimals<F: Format>(format: &F) -> bool
 }
 
 /// Returns whether no character of a text is numeric.
-///
-/// Most minus signs, separators and marks are one byte, and need no search of characters.
 #[inline]
 pub(crate) fn is_plain(text: &str) -> bool
     ensures { IsTrue result ↔ HasNoNumeral text.now }
 {
-    if is_plain_byte(text.as_bytes()) {
+    if is_usual(text) {
         return true;
     }
     has_no_numeral(text)
 }
 
-/// Returns whether a text is one byte that is ASCII and no digit.
+/// Returns whether a text is a usual minus sign, separator or mark: a byte before the digits, as `-`, `,`, `.` and a
+/// blank are, or one of four characters beyond ASCII.
 #[inline(always)]
-fn is_plain_byte(text: &[u8]) -> bool
-    requires { IsUtf8 text.now }
-    ensures { IsTrue result → HasNoNumeral text.now }
+pub(crate) fn is_usual(text: &str) -> bool
+    ensures plain { IsTrue result → HasNoNumeral text.now }
+    ensures given { IsTrue result → 0 < length text.now }
 {
-    text.len() == 1 && text[0].is_ascii() && !text[0].is_ascii_digit()
+    let bytes = text.as_bytes();
+    if bytes.len() == 1 {
+        return bytes[0] < b'0';
+    }
+    if bytes.len() == 2 {
+        return is_usual_pair(bytes[0], bytes[1]);
+    }
+    if bytes.len() == 3 {
+        return is_usual_triple(bytes[0], bytes[1], bytes[2]);
+    }
+    false
+}
+
+/// Returns whether two bytes are U+00A0, a space.
+#[inline(always)]
+fn is_usual_pair(first: u8, second: u8) -> bool
+    ensures { IsTrue result → (first ≡ 194) × (second ≡ 160) }
+{
+    first == 0xC2 && second == 0xA0
+}
+
+/// Returns whether three bytes are U+202F, a space, U+2019, an apostrophe, or U+2212, a minus sign.
+#[inline(always)]
+fn is_usual_triple(first: u8, second: u8, third: u8) -> bool
+    ensures { IsTrue result → (first ≡ 226)
+        × (((second ≡ 128) × ((third ≡ 175) ⊎ (third ≡ 153))) ⊎ ((second ≡ 136) × (third ≡ 146))) }
+{
+    if first != 0xE2 {
+        return false;
+    }
+    if second == 0x80 {
+        return third == 0xAF || third == 0x99;
+    }
+    second == 0x88 && third == 0x92
 }
 
 /// Returns the same as [`is_plain`], character by character.

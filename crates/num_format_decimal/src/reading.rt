@@ -2,28 +2,40 @@
 //!
 //! The digits at the end of a text are its decimals if the mark stands before them, and what stands between the
 //! sign and the mark is a whole number. Under most formats no other scale is possible.
-ghost use Rattle.std.specs.Prelude.{◌≡◌, ◌+◌, ◌-◌, ◌<◌, ◌≤◌, [], true, IsTrue, IsUtf8, IfSome, take, drop, length, if◌then◌else◌};
+ghost use Rattle.std.specs.Prelude.{◌≡◌, ◌+◌, ◌*◌, ◌^◌, ◌<◌, ◌≤◌, [], true, IsTrue, IsUtf8, IfSome, pos, take, drop, length, if◌then◌else◌};
 ghost use Rattle.std.specs.Char.{is_ascii_digit};
 ghost use Rattle.std.specs.Int.Digits.{number_from_digits};
 ghost use Rattle.std.specs.List.{list_all};
+ghost use Rattle.num_format_text.specs.Format.{FormatData};
 ghost use Rattle.num_format_int.specs.Grouped.{printed_separator};
 ghost use Rattle.num_format_parsing.specs.Shapes.{byte_figures};
+ghost use Rattle.num_format_parsing.specs.Strict.{SpellsNumber};
 ghost use Rattle.num_format_decimal.specs.Marks.{TellsDecimals};
 ghost use Rattle.num_format_decimal.specs.Parsing.{ParsesDecimal};
-ghost use Rattle.num_format_decimal.specs.Shapes.{IsSpelled, StandsAt};
+ghost use Rattle.num_format_decimal.specs.Shapes.{IsCut, IsSpelled, StandsAt};
 
 use crate::decimal::{Decimal, MAX_SCALE};
-use crate::marks::{is_apart, is_plain};
-use crate::powers::power_of_ten;
+use crate::marks::{is_apart, is_plain, is_usual};
+use crate::powers::{narrow_power_of_ten, power_of_ten};
 use crate::spelling::trailing_digits;
 use num_format_parsing::FromFormattedStr;
 use num_format_parsing::strict::begins_with;
 use num_format_text::{Format, Grouping};
 
+/// So many digits fit 64 bits, whatever they are.
+const SAFE_DIGITS: usize = 19;
+
+/// The most digits that have no separator among them under any grouping.
+const FIRST_DIGITS: usize = 3;
+
 /// Returns the decimal that a text spells, or `None` if one pass does not tell.
+#[inline(always)]
 pub(crate) fn read<F: Format>(text: &[u8], format: &F) -> Option<Decimal>
     ensures { IfSome result (λ d. ParsesDecimal (F.answers format.now) text.now d) }
 {
+    if text.is_empty() {
+        return None;
+    }
     if !tells_decimals(format) {
         return None;
     }
@@ -32,7 +44,30 @@ pub(crate) fn read<F: Format>(text: &[u8], format: &F) -> Option<Decimal>
 
 /// Returns whether a text tells of which decimal it is: neither the minus sign, the separator nor the mark can be
 /// taken for digits, or one for the other.
+///
+/// Under most formats the three are a few usual texts, of which no character is looked up.
+#[inline(always)]
 fn tells_decimals<F: Format>(format: &F) -> bool
+    ensures { IsTrue result → TellsDecimals (F.answers format.now) }
+{
+    let mark = format.decimal().into_str();
+    let minus_sign = format.minus_sign().into_str();
+    let separator = format.separator().into_str();
+    if !is_usual(mark) || !is_usual(minus_sign) || !is_usual(separator) {
+        return tells_slowly(format);
+    }
+    let first = mark.as_bytes()[0];
+    let other = separator.as_bytes()[0];
+    if first == other {
+        return tells_slowly(format);
+    }
+    true
+}
+
+/// Returns the same of any format.
+#[cold]
+#[inline(never)]
+fn tells_slowly<F: Format>(format: &F) -> bool
     ensures { IsTrue result → TellsDecimals (F.answers format.now) }
 {
     let mark = format.decimal().into_str();
@@ -61,60 +96,128 @@ fn separator<F: Format>(format: &F) -> &str
 }
 
 /// Returns the decimal that a text spells, if it is not zero with a sign, and its units are an `i128`.
+#[inline(always)]
 fn read_decimal<F: Format>(text: &[u8], format: &F) -> Option<Decimal>
+    requires { 0 < length text.now }
     ensures { IfSome result (λ d. IsSpelled (F.answers format.now) text.now d) }
+{
+    let (is_negative, start) = sign(text, format);
+    let (place, end) = mark_places(text, start, format.decimal().into_str());
+    let whole = read_whole(&text[start..place], format)?;
+    let decimals = &text[end..];
+    let magnitude = joined(whole, decimals)?;
+    if magnitude == 0 && is_negative {
+        return None;
+    }
+    Decimal::with_magnitude(is_negative, magnitude, decimals.len() as u8)
+}
+
+/// Returns where the mark stands and where the digits after it begin, or the length twice where there is no mark.
+#[inline(always)]
+fn mark_places(text: &[u8], start: usize, mark: &str) -> (usize, usize)
+    requires { start ≤ length text.now }
+    ensures { IsCut mark.now text.now start result.0 result.1 }
+{
+    match mark_place(text, start, mark) {
+        Some(place) => (place, place + mark.len()),
+        None => (text.len(), text.len()),
+    }
+}
+
+/// Returns where the mark stands before the digits at the end of a text, if it does and they are no more than the
+/// largest scale.
+#[inline(always)]
+fn mark_place(text: &[u8], start: usize, mark: &str) -> Option<usize>
+    ensures order { IfSome result (λ place. start ≤ place) }
+    ensures mark { IfSome result (λ place. StandsAt mark.now text.now place (place + length mark.now)) }
+    ensures some { IfSome result (λ place. place + length mark.now < length text.now) }
+    ensures few { IfSome result (λ place. length text.now ≤ place + length mark.now + MAX_SCALE) }
+    ensures digits { IfSome result (λ place.
+        list_all is_ascii_digit (drop (place + length mark.now) text.now) ≡ true) }
 {
     let count = trailing_digits(text);
     if count == 0 || count > MAX_SCALE as usize {
-        return read_whole(text, format);
+        return None;
     }
     let end = text.len() - count;
-    let mark = format.decimal().into_str().as_bytes();
-    let Some(place) = end.checked_sub(mark.len()) else {
-        return read_whole(text, format);
-    };
-    if !begins_with(&text[place..], mark) {
-        return read_whole(text, format);
+    let place = end.checked_sub(mark.len())?;
+    if place < start {
+        return None;
     }
-    read_marked(text, place, end, format)
+    if !begins_with(&text[place..], mark.as_bytes()) {
+        return None;
+    }
+    Some(place)
 }
 
-/// Returns the decimal that a text without a mark spells.
-fn read_whole<F: Format>(text: &[u8], format: &F) -> Option<Decimal>
-    ensures { IfSome result (λ d. IsSpelled (F.answers format.now) text.now d) }
+/// Returns the whole number that a text without a sign spells.
+#[inline(always)]
+fn read_whole<F: Format>(text: &[u8], format: &F) -> Option<u128>
+    ensures { IfSome result (λ n. SpellsNumber (F.answers format.now) text.now (pos n)) }
 {
-    match i128::from_strict_bytes(text, format) {
-        Ok(units) => Some(Decimal::of(units, 0)),
+    if text.len() <= FIRST_DIGITS {
+        return match read_short(text) {
+            Some(n) => Some(n as u128),
+            None => None,
+        };
+    }
+    // Most numbers are short: their digits fit 64 bits, which take less time than 128.
+    if text.len() <= SAFE_DIGITS {
+        return match u64::from_strict_bytes(text, format) {
+            Ok(n) => Some(n as u128),
+            Err(_) => None,
+        };
+    }
+    match u128::from_strict_bytes(text, format) {
+        Ok(n) => Some(n),
         Err(_) => None,
     }
 }
 
-/// Returns the decimal that a text spells whose mark stands at a place and whose decimals begin at `end`.
-fn read_marked<F: Format>(text: &[u8], place: usize, end: usize, format: &F) -> Option<Decimal>
-    requires order { place ≤ end }
-    requires within { end < length text.now }
-    requires few { length text.now - end ≤ MAX_SCALE }
-    requires digits { list_all is_ascii_digit (drop end text.now) ≡ true }
-    requires mark { StandsAt (F.answers format.now).decimal text.now place end }
-    ensures { IfSome result (λ d. IsSpelled (F.answers format.now) text.now d) }
+/// Returns the whole number that a text of a few digits spells.
+#[inline(always)]
+fn read_short(text: &[u8]) -> Option<u64>
+    requires { length text.now ≤ FIRST_DIGITS }
+    ensures { IfSome result (λ n. (f : FormatData) → SpellsNumber f text.now (pos n)) }
 {
-    let (is_negative, start) = sign(text, format);
-    if place < start {
+    if text.is_empty() {
         return None;
     }
-    let Ok(whole) = u128::from_strict_bytes(&text[start..place], format) else {
-        return None;
-    };
-    let scale = (text.len() - end) as u8;
-    let rest = read_digits(&text[end..]);
-    let magnitude = whole.checked_mul(power_of_ten(scale))?.checked_add(rest)?;
-    if magnitude == 0 && is_negative {
+    if text[0] == b'0' && text.len() > 1 {
         return None;
     }
-    Decimal::with_magnitude(is_negative, magnitude, scale)
+    let mut n = 0u64;
+    for byte in text {
+        if !byte.is_ascii_digit() {
+            return None;
+        }
+        n = 10 * n + (*byte - b'0') as u64;
+    }
+    Some(n)
+}
+
+/// Returns the number that the digits of a whole number and its decimals write together.
+#[inline(always)]
+fn joined(whole: u128, decimals: &[u8]) -> Option<u128>
+    requires all { list_all is_ascii_digit decimals.now ≡ true }
+    requires few { length decimals.now ≤ MAX_SCALE }
+    ensures { IfSome result (λ n. n
+        ≡ whole * 10 ^ length decimals.now + number_from_digits 10 (byte_figures decimals.now)) }
+{
+    if decimals.is_empty() {
+        return Some(whole);
+    }
+    if whole <= u64::MAX as u128 && decimals.len() <= SAFE_DIGITS {
+        let one = narrow_power_of_ten(decimals.len() as u8);
+        let rest = read_few_digits(decimals);
+        return Some(whole as u64 as u128 * one as u128 + rest as u128);
+    }
+    let one = power_of_ten(decimals.len() as u8);
+    whole.checked_mul(one)?.checked_add(read_digits(decimals))
 }
 
 /// Returns whether a text begins with the minus sign, and the length of that.
+#[inline(always)]
 fn sign<F: Format>(text: &[u8], format: &F) -> (bool, usize)
     requires { 0 < length text.now }
     ensures within { result.1 ≤ length text.now }
@@ -128,7 +231,21 @@ fn sign<F: Format>(text: &[u8], format: &F) -> (bool, usize)
     }
 }
 
-/// Returns the number that digits write.
+/// Returns the number that digits write, which fits 64 bits.
+#[inline(always)]
+fn read_few_digits(digits: &[u8]) -> u64
+    requires all { list_all is_ascii_digit digits.now ≡ true }
+    requires few { length digits.now ≤ SAFE_DIGITS }
+    ensures { result ≡ number_from_digits 10 (byte_figures digits.now) }
+{
+    let mut n = 0u64;
+    for byte in digits {
+        n = 10 * n + (*byte - b'0') as u64;
+    }
+    n
+}
+
+/// Returns the same of any digits.
 fn read_digits(digits: &[u8]) -> u128
     requires all { list_all is_ascii_digit digits.now ≡ true }
     requires few { length digits.now ≤ MAX_SCALE }

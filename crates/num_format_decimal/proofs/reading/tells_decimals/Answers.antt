@@ -1,7 +1,8 @@
-use Rattle.std.proofs.Common.{◌≡◌, ◌∙◌, inl, inr, length, ap, subst, arith, rules}
+use Rattle.std.proofs.Common.{◌≡◌, ◌∙◌, [], inr, length, get_or, ap, sym, subst, arith, rules}
 use Rattle.std.specs.Prelude.{IsUtf8}
-use Rattle.std.proofs.lemmas.Bool.Decides.{nat_tests}
 use Rattle.num_format_certificates.specs.RoundTrips.{HasNoNumeral}
+use Rattle.num_format_certificates.proofs.RoundTripLemmas.{empty_plain}
+use Rattle.num_format_certificates.proofs.TextCharacterLemmas.{of_printed}
 use Rattle.num_format_decimal.proofs.reading.tells_decimals.Goals as goal
 
 pub returns : goal.returns
@@ -9,18 +10,19 @@ returns g c =
     let f = g.F.Format.answers c.args.format.now in
     let mark : c.into_str-mark.result.now ≡ f.decimal = c.into_str-mark.ensures.same ∙ c.decimal.ensures in
     let minus : c.into_str-minus_sign.result.now ≡ f.minus_sign = c.into_str-minus_sign.ensures.same ∙ c.minus_sign.ensures in
-    λ apart. record {
+    let separator : c.into_str-separator.result.now ≡ f.separator = c.into_str-separator.ensures.same ∙ c.separator.ensures in
+    λ _. record {
       plain = record {
         sign_utf8 = subst IsUtf8 minus (search rules);
-        separator_utf8 = c.separator-separator.ensures.utf8;
+        separator_utf8 = subst IsUtf8 separator (search rules);
         mark_utf8 = subst IsUtf8 mark (search rules);
         unambiguous = record {
-          sign_given = λ none. let long = ap length (minus ∙ none) in grind (arith, nat_tests, long, c.is_empty-else-is_empty.ensures, c.if-is_empty-2.false);
-          sign = subst HasNoNumeral minus (c.is_plain-else-not-is_plain.ensures.0 c.if-not-is_plain-2.false);
-          separator = subst HasNoNumeral c.separator-separator.ensures.printed (c.is_plain-else-not-is_plain-2.ensures.0 c.if-not-is_plain-3.false);
+          sign_given = λ none. let long = ap length (minus ∙ none) in omega (arith, long, c.is_usual-else-not-is_usual.ensures.given c.if-not-is_usual-2.false);
+          sign = subst HasNoNumeral minus (c.is_usual-else-not-is_usual.ensures.plain c.if-not-is_usual-2.false);
+          separator = of_printed HasNoNumeral empty_plain f.grouping f.separator (subst HasNoNumeral separator (c.is_usual-else-not-is_usual-2.ensures.plain c.if-not-is_usual-3.false));
         };
-        given = λ none. let long = ap length (mark ∙ none) in grind (arith, nat_tests, long, c.is_empty.ensures, c.if-is_empty.false);
-        mark = subst HasNoNumeral mark (c.is_plain.ensures.0 c.if-not-is_plain.false);
+        given = λ none. let long = ap length (mark ∙ none) in omega (arith, long, c.is_usual.ensures.given c.if-not-is_usual.false);
+        mark = subst HasNoNumeral mark (c.is_usual.ensures.plain c.if-not-is_usual.false);
       };
-      apart = elim (c.is_apart.ensures.0 apart) [ inl posix ↦ inl posix | inr other ↦ inr (λ same. other (mark ∙ same)) ];
+      apart = inr (λ same. c.if-first-other.false (ap (λ xs. get_or xs 0 0) (c.as_bytes.ensures.value ∙ mark ∙ same ∙ sym separator ∙ sym c.as_bytes-2.ensures.value)));
     }
