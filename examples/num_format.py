@@ -50,7 +50,9 @@ class Format(ctypes.Structure):
         _call("locale", ctypes.byref(self), *_bytes(locale))
 
     def print(self, number):
-        """Returns the text of a number of 64 bits."""
+        """Returns the text of a number of 64 bits, and raises OverflowError for a larger one."""
+        if not -(2**63) <= number < 2**63:
+            raise OverflowError(f"{number} has more than 64 bits")
         text = ctypes.create_string_buffer(191)
         length = _call("print_i64", ctypes.byref(self), ctypes.c_int64(number), text, ctypes.c_size_t(191))
         return text.raw[:length].decode()
