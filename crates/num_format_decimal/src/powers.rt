@@ -68,6 +68,9 @@ pub(crate) fn split(n: u128, scale: u8) -> (u128, u128)
     ensures whole { result.0 ≡ n / 10 ^ scale }
     ensures rest { result.1 ≡ n % 10 ^ scale }
 {
+    if scale == 0 {
+        return (n, 0);
+    }
     // A division of 128 bits is a call, so 64 are used where they are enough.
     if n > u64::MAX as u128 {
         divide(n, power_of_ten(scale))

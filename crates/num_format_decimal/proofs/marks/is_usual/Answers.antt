@@ -1,4 +1,4 @@
-use Rattle.std.proofs.Common.{◌≡◌, ◌<◌, ◌∙◌, length, false, get_or, ap, arith, subst}
+use Rattle.std.proofs.Common.{◌≡◌, ◌<◌, false, get_or, arith, subst}
 use Rattle.std.specs.Char.{is_ascii_digit}
 use Rattle.std.proofs.lemmas.Bool.Decides.{nat_tests}
 use Rattle.num_format_certificates.specs.RoundTrips.{HasNoNumeral}

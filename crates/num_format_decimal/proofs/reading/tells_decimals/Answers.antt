@@ -1,4 +1,4 @@
-use Rattle.std.proofs.Common.{◌≡◌, ◌∙◌, [], inr, length, get_or, ap, sym, subst, arith, rules}
+use Rattle.std.proofs.Common.{◌≡◌, ◌∙◌, inr, length, get_or, ap, sym, subst, arith, rules}
 use Rattle.std.specs.Prelude.{IsUtf8}
 use Rattle.num_format_certificates.specs.RoundTrips.{HasNoNumeral}
 use Rattle.num_format_certificates.proofs.RoundTripLemmas.{empty_plain}
