@@ -26,9 +26,9 @@ NOT_TEXT = b"not UTF-8"
 FEW_FIELDS = b"too few fields"
 
 
-def fault(number, cause):
-    """The message of the line of this number."""
-    return b"regroup-lines: %d: %s\n" % (number, cause)
+def fault(number, cause, name=b"-"):
+    """The message of the line of this number, of standard input or of the file of this name."""
+    return b"regroup-lines: %s:%d: %s\n" % (name, number, cause)
 
 
 def unparsed(text):
@@ -142,6 +142,8 @@ MISUSES = [
     (["xx", "yy"], unknown(b"'xx'")),
     (["en", "xx"], unknown(b"'xx'")),
     (["en", ""], unknown(b"''")),
+    (["", "en", "de"], unknown(b"''")),
+    (["en", "xx", "missing.tsv"], unknown(b"'xx'")),
     (["en", "english"], unknown(b"'english'")),
     (["en", "Plain"], unknown(b"'Plain'")),
     (["en", "custom"], unknown(b"'custom'")),
@@ -165,8 +167,6 @@ MISUSES = [
 REFUSED = [
     ([], b"error: the following required arguments were not provided"),
     (["en"], b"error: the following required arguments were not provided"),
-    (["en", "de", "fr"], b"error: unexpected argument 'fr' found"),
-    (["", "en", "de"], b"error: unexpected argument 'de' found"),
     (["--strict", "en", "de"], b"error: unexpected argument '--strict' found"),
     (["--field", "0", "en", "de"], b"error: invalid value '0' for '--field <N>'"),
     (["--field", "x", "en", "de"], b"error: invalid value 'x' for '--field <N>'"),
@@ -176,6 +176,43 @@ REFUSED = [
     (["--header", "--header-lines=2", "en", "de"], b"error: the argument '--header' cannot be used with"),
     (["--invalid", "warn", "en", "de"], b"error: invalid value 'warn' for '--invalid <MODE>'"),
     (["en", b"\xff"], b"regroup-lines: an argument is not UTF-8\n"),
+]
+
+# The files of a folder, which has the folder `inner` too.
+FILES = {
+    "a.txt": b"x\n1,000\n",
+    "b.txt": b"y\n2,000",
+    "bad.txt": b"3\nabc\n4\n",
+    "empty.txt": b"",
+    "-": b"-,6\n",
+    "-d": b"7,000\n",
+}
+
+
+def unopened(name, reason):
+    """The message of a file, its name as messages show it, that cannot be opened."""
+    return b"regroup-lines: " + name + b": cannot open: " + reason + b"\n"
+
+
+MISSING = b"No such file or directory"
+
+# Words after `en de` in that folder, standard input, the status, standard output and standard error.
+OPERANDS = [
+    (["b.txt", "--header", "a.txt"], b"z\n", 0, b"y\n2.000\nx\n1.000\n", b""),
+    (["--header", "a.txt", "-", "b.txt"], b"z\n5,000", 0, b"x\n1.000\nz\n5.000\ny\n2.000\n", b""),
+    (["-", "-"], b"1,000\n", 0, b"1.000\n", b""),
+    (["empty.txt"], b"1\n", 0, b"", b""),
+    (["--field=2", "-d,", "./-"], b"", 0, b"-,6\n", b""),
+    (["--", "-d"], b"", 0, b"7.000\n", b""),
+    (["bad.txt", "a.txt"], b"", 1, b"3\n", fault(2, unparsed(b"abc"), b"bad.txt")),
+    (["empty.txt", "-"], b"1\nx\n", 1, b"1\n", fault(2, unparsed(b"x"))),
+    (["c.txt", "-"], b"1,000\n", 1, b"1.000\n", unopened(b"c.txt", MISSING)),
+    (["c", "", "-"], b"2", 1, b"2\n", unopened(b"c", MISSING) + unopened(b"", MISSING)),
+    (["c", "bad.txt"], b"", 1, b"3\n", unopened(b"c", MISSING) + fault(2, unparsed(b"abc"), b"bad.txt")),
+    (["a.txt/b"], b"", 1, b"", unopened(b"a.txt/b", b"Not a directory")),
+    (["\x1b[2J\n"], b"", 1, b"", unopened(rb"\x1B[2J\x0A", MISSING)),
+    ([300 * "n"], b"", 1, b"", unopened(256 * b"n", b"File name too long")),
+    (["c", "inner", "-"], b"1\n", 3, b"", unopened(b"c", MISSING) + b"regroup-lines: inner: read error: Is a directory\n"),
 ]
 
 # Standard input, the output that fails, and what the other output receives where it is full and where it is closed.
@@ -288,6 +325,18 @@ def check_open_input(tally, program):
     compare(tally, "an input that stays open", ended, 2, b"", unknown(b"'xx'"))
 
 
+def check_files(tally, program):
+    heading("files as operands")
+    with tempfile.TemporaryDirectory() as name:
+        folder = Path(name)
+        (folder / "inner").mkdir()
+        for file, content in FILES.items():
+            (folder / file).write_bytes(content)
+        for words, text, *expected in OPERANDS:
+            ended = regroup(program, ["en", "de", *words], text, cwd=folder)
+            compare(tally, shown(" ".join(words)), ended, *expected)
+
+
 def check_example(tally, program):
     """Regroups the third column of a table. Two amounts are none, and are passed on or end the program."""
     heading("a table")
@@ -310,11 +359,11 @@ def check_failures(tally, program):
             compare_failed(tally, program, ["en", "xx"], b"", "stderr", state, stream, b"")
     words = [program, "en", "de"]
     ended = run(words, preexec_fn=lambda: os.close(0), capture_output=True)
-    compare(tally, "a closed input", ended, 3, b"", b"regroup-lines: read error\n")
+    compare(tally, "a closed input", ended, 3, b"", b"regroup-lines: -: read error\n")
     folder = os.open(ROOT, os.O_RDONLY)
     ended = run(words, stdin=folder, capture_output=True)
     os.close(folder)
-    compare(tally, "a folder as the input", ended, 3, b"", b"regroup-lines: read error: Is a directory\n")
+    compare(tally, "a folder as the input", ended, 3, b"", b"regroup-lines: -: read error: Is a directory\n")
 
 
 def compare_failed(tally, program, words, text, output, state, stream, received):
@@ -366,6 +415,7 @@ def check_all(tally, program):
     """All checks of the program."""
     check_inputs(tally, program)
     check_words(tally, program)
+    check_files(tally, program)
     check_example(tally, program)
     check_failures(tally, program)
     check_closed_pipe(tally, program)

@@ -8,4 +8,4 @@ _regroup_lines() {
     esac
     mapfile -t COMPREPLY < <(compgen -W "$words" -- "$word")
 }
-complete -F _regroup_lines regroup-lines
+complete -o default -F _regroup_lines regroup-lines

@@ -1,14 +1,15 @@
-//! The program `regroup-lines`: numbers on standard input, one a line, from one format to another.
+//! The program `regroup-lines`: numbers in files or on standard input, one a line, from one format to another.
 //!
 //! The crate `regroup_stream` states what is proved of it.
 #![tactic(auto)]
 
 mod options;
 
-use crate::options::{command, rules_of, words_of};
+use crate::options::{command, files_of, rules_of, words_of};
 use clap::error::ErrorKind;
-use regroup_stream::{FAILED, MISUSED, formats_named, run};
-use std::io::{BufReader, BufWriter};
+use regroup_stream::{FAILED, Formats, MISUSED, REGROUPED, Rules, formats_named, refuse, run};
+use std::fs::File;
+use std::io::{BufReader, BufWriter, Read, Stdin};
 use std::process::ExitCode;
 use std::{env, io};
 
@@ -53,7 +54,68 @@ fn try_main(rt: &HostRuntime) -> io::Result<u8> {
         Ok(formats) => formats,
         Err(misuse) => return Ok(misuse.send(&mut rt.stderr())),
     };
-    let input = BufReader::with_capacity(rt.alloc(), CAPACITY, rt.stdin())?;
+    regroup_files(rt, &rules, &formats, files_of(&matches))
+}
+
+/// Regroups the lines of the files in turn, up to the first whose lines are not all regrouped, and returns the highest
+/// status. A file that cannot be opened is left out.
+///
+/// # Errors
+///
+/// Returns an error if there is no memory for the buffers.
+fn regroup_files(
+    rt: &HostRuntime,
+    rules: &Rules,
+    formats: &Formats,
+    names: &[&str],
+) -> io::Result<u8> {
     let mut out = BufWriter::with_capacity(rt.alloc(), CAPACITY, rt.stdout())?;
-    Ok(run(&rules, &formats, input, &mut out, &mut rt.stderr()))
+    let mut err = rt.stderr();
+    let mut status = REGROUPED;
+    for name in names {
+        let ended = match Input::open(rt, name) {
+            Ok(input) => {
+                let input = BufReader::with_capacity(rt.alloc(), CAPACITY, input)?;
+                run(rules, formats, name, input, &mut out, &mut err)
+            }
+            Err(error) => {
+                status = status.max(refuse(name, error.kind(), &mut err));
+                continue;
+            }
+        };
+        if ended != REGROUPED {
+            return Ok(status.max(ended));
+        }
+    }
+    Ok(status)
+}
+
+/// What is read.
+#[derive(Drop)]
+enum Input {
+    Stdin(Stdin),
+    File(File),
+}
+
+impl Input {
+    /// Opens the file of that name. The name `-` is that of standard input.
+    ///
+    /// # Errors
+    ///
+    /// Returns the error of a file that cannot be opened.
+    fn open(rt: &HostRuntime, name: &str) -> io::Result<Input> {
+        match name {
+            "-" => Ok(Input::Stdin(rt.stdin())),
+            _ => Ok(Input::File(File::open(rt, name)?)),
+        }
+    }
+}
+
+impl Read for Input {
+    fn read(&mut self, buf: &mut [u8]) -> io::Result<usize> {
+        match self {
+            Input::Stdin(input) => input.read(buf),
+            Input::File(input) => input.read(buf),
+        }
+    }
 }

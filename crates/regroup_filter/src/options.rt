@@ -17,9 +17,10 @@ as it has. Spaces, tabs and carriage returns around it are passed on. A last lin
 written with one. Without --lenient, each decimal under FROM has to parse back from its text: FROM needs a
 minus sign, and a decimal mark that is not its separator.
 
-The status is 0 if all lines were written; 1, after the lines before it, at a line at fault: its number is
-none, it has too few fields, or more than 4,096 bytes; 2 for other arguments, also such that are not UTF-8;
-3 if a read or a write failed; and 141 if standard output was closed.";
+Lines are numbered in each file, and each has its header. A file that cannot be opened is left out. The status
+is 0 if all lines were written; 1 if a file was left out, or, after the lines before it, at a line at fault: its
+number is none, it has too few fields, or more than 4,096 bytes; 2 for other arguments, also such that are not
+UTF-8; 3 if a read or a write failed; and 141 if standard output was closed.";
 
 /// Returns the command line of the program.
 ///
@@ -33,13 +34,17 @@ pub(crate) fn command<'a>(alloc: Global) -> Result<Command<'a>, AllocError> {
     let to = Arg::new(alloc, "TO")
         .required(true)
         .help("The format of the numbers that are written");
+    let file = Arg::new(alloc, "FILE")
+        .num_args(0..)
+        .help("The files to read, and - for standard input [default: -]");
     let command = Command::new(alloc, "regroup-lines")
         .no_binary_name(true)
         .version(VERSION)
-        .about("Writes the number in each line of standard input under another format.")
+        .about("Writes the number in each line of the files under another format.")
         .after_help(AFTER_HELP)
         .arg(from)?
-        .arg(to)?;
+        .arg(to)?
+        .arg(file)?;
     with_options(alloc, command)
 }
 
@@ -129,6 +134,11 @@ fn span_of(matches: &ArgMatches<'_>) -> Option<Span> {
         before: number.saturating_sub(1),
         delimiter,
     }))
+}
+
+/// Returns the names of the files.
+pub(crate) fn files_of<'m, 'a>(matches: &'m ArgMatches<'a>) -> &'m [&'a str] {
+    matches.get_strs("FILE").unwrap_or(&["-"])
 }
 
 /// Returns the words that name the formats.

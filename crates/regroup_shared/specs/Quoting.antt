@@ -18,9 +18,13 @@ abbrev pub hex_digit : ℕ → ℕ
 hex_digit n = if nat_lt n 10 then n + 48 else n + 55
 
 -- a byte, or `\x` and its two digits of base 16
-abbrev pub shown : ℕ → List ℕ
-shown b = if is_shown b then b ∷ [] else BACKSLASH ∷ byte "x" ∷ hex_digit (b / 16) ∷ hex_digit (b % 16) ∷ []
+abbrev pub shown_byte : ℕ → List ℕ
+shown_byte b = if is_shown b then b ∷ [] else BACKSLASH ∷ byte "x" ∷ hex_digit (b / 16) ∷ hex_digit (b % 16) ∷ []
 
--- the first bytes of a text, each shown, in quotes
+-- so many bytes of a text at most, each shown
+abbrev pub shown : ℕ → List ℕ → List ℕ
+shown most text = flat_map shown_byte (take most text)
+
+-- the first bytes of an input, shown, in quotes
 abbrev pub quoted : List ℕ → List ℕ
-quoted text = byte "'" ∷ (flat_map shown (take MAX_SHOWN_LEN text) ++ byte "'" ∷ [])
+quoted text = byte "'" ∷ (shown MAX_SHOWN_LEN text ++ byte "'" ∷ [])

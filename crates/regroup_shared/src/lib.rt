@@ -10,5 +10,5 @@ mod quoting;
 mod sending;
 
 pub use crate::formats::{custom_format, locale_named};
-pub use crate::quoting::{MAX_QUOTED_LEN, MAX_SHOWN_LEN, quoted};
+pub use crate::quoting::{MAX_QUOTED_LEN, MAX_SHOWN_LEN, quoted, shown};
 pub use crate::sending::{MAX_SENT_LEN, MAX_SENT_LINE_LEN, send_line, send_number};

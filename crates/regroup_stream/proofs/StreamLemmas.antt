@@ -1,5 +1,5 @@
 -- What the program wrote, after a flush of standard output.
-use Rattle.std.proofs.Common.{◌≡◌, ℕ, true, List, [], Result, subst}
+use Rattle.std.proofs.Common.{◌≡◌, ℕ, Bool, true, false, List, [], Result, subst, sym}
 use Rattle.std.specs.Prelude.{Option}
 use Rattle.std.specs.Io.KnownBytes.{Keeps}
 use Rattle.std.proofs.KnownBytes.{Appends-kept}

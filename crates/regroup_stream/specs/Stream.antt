@@ -4,7 +4,7 @@ use Rattle.std.specs.declared.io.ErrorKind.{ErrorKind}
 use Rattle.num_format.specs.Format.{FormatData}
 use Rattle.num_format.specs.Refusal.{Refusal}
 use Rattle.regroup_lines.specs.Fault.{Fault}
-use Rattle.regroup_lines.specs.Fault.Fault.{TooMany, TooLong, FewFields, Read, NotText, Line}
+use Rattle.regroup_lines.specs.Fault.Fault.{TooMany, TooLong, FewFields, Read, NotText, Line, Write}
 use Rattle.regroup_lines.specs.Sending.{Regroups}
 use Rattle.regroup_lines.specs.declared.rules.Rules.{Rules}
 use Rattle.regroup_stream.specs.Ending.{End, Finishes}
@@ -40,8 +40,8 @@ pub record RegroupsAll (rules : Rules) (from to : FormatData) (end : End) (read_
   pub is : IsEndOf result end
   pub flushed : is_written end ≡ true → buffered ≡ []
 
--- what the program does with two formats, and with which status
-pub record Runs (rules : Rules) (from to : FormatData) (status : ℕ) (read_old out_old out_new : Option (List ℕ)) (buffered : List ℕ) (err_old err_new : Option (List ℕ)) : Type 0 where
+-- what the program does with two formats and an input of this name, and with which status
+pub record Runs (rules : Rules) (from to : FormatData) (name : List ℕ) (status : ℕ) (read_old out_old out_new : Option (List ℕ)) (buffered : List ℕ) (err_old err_new : Option (List ℕ)) : Type 0 where
   pub end : End
   pub regrouped : RegroupsAll rules from to end read_old out_old out_new buffered
-  pub finishes : Finishes end status err_old err_new
+  pub finishes : Finishes name end status err_old err_new

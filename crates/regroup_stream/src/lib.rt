@@ -4,12 +4,12 @@
 //! | Status | Standard output | Standard error |
 //! |---|---|---|
 //! | 0 | each line | nothing |
-//! | 1 | the lines before the one at fault | its message |
+//! | 1 | the lines before the one at fault; or nothing of an input that cannot be opened | its message |
 //! | 2 | nothing | what is wrong with the words |
 //! | 3 | the lines before a read or a write failed | which, and why if it is known |
 //! | 141 | the lines before it was closed | nothing |
 //!
-//! The status is 3 also where the message could not be written.
+//! The status is 3 also where the message could not be written. That of several inputs is the highest.
 #![tactic(auto)]
 
 mod ending;
@@ -20,7 +20,8 @@ ghost use Rattle.std.specs.Prelude.{◌≡◌};
 ghost use Rattle.std.specs.Io.Buffered.{writer_buffer, writer_contents};
 ghost use Rattle.std.specs.Result.{result_map_both};
 ghost use Rattle.regroup_lines.specs.Fault.{fault_of};
-ghost use Rattle.regroup_stream.specs.Ending.{end_of};
+ghost use Rattle.regroup_stream.specs.Ending.{Finishes, end_of};
+ghost use Rattle.regroup_stream.specs.Ending.End.{Unopened};
 ghost use Rattle.regroup_stream.specs.Stream.{IsEndOf, RegroupsAll, Runs};
 
 use crate::ending::{Cause, Ending};
@@ -45,7 +46,8 @@ pub const FAILED: u8 = 3;
 /// The status where standard output was closed, as a shell has it of a program that the signal `SIGPIPE` ended.
 pub const CLOSED: u8 = 141;
 
-/// Regroups the lines of `input` from one format to another, flushes `out`, and returns the exit status.
+/// Regroups the lines of `input` from one format to another, flushes `out`, and returns the exit status. Messages
+/// have the name of the input, which is `-` for standard input.
 ///
 /// - [`REGROUPED`] (0): `out` received each line, and `err` nothing.
 /// - [`FAULTY`] (1): `out` received the lines before the first one at fault, and `err` its message and
@@ -57,20 +59,34 @@ pub const CLOSED: u8 = 141;
 ///
 /// ```text
 /// let formats = formats_named(rules.reading, "en", "de").unwrap();
-/// run(&rules, &formats, b"1,000\n".as_slice(), &mut out, &mut err)    // 0, and "1.000\n" in `out`
+/// run(&rules, &formats, "-", b"1,000\n".as_slice(), &mut out, &mut err)    // 0, and "1.000\n" in `out`
 /// ```
 pub fn run<R: Read + Drop, O: Write + Drop, E: Write>(
     rules: &Rules,
     formats: &Formats,
+    name: &str,
     input: R,
     out: &mut BufWriter<O>,
     err: &mut E,
 ) -> u8
-    ensures { Runs rules.now formats.now.from formats.now.to result (R.remaining input)
+    ensures { Runs rules.now formats.now.from formats.now.to name.now result (R.remaining input)
         (writer_contents O.contents out.old) (writer_contents O.contents out.new) (writer_buffer out.new)
         (E.contents err.old) (E.contents err.new) }
 {
-    regroup(rules, formats, input, out).finish(err)
+    regroup(rules, formats, input, out).finish(name, err)
+}
+
+/// Sends the message of an input that cannot be opened, and returns the status: [`FAULTY`], or [`FAILED`] if not all
+/// of the message could be sent.
+///
+/// ```text
+/// refuse("x.tsv", ErrorKind::NotFound, &mut err)    // 1, and in `err`
+/// regroup-lines: x.tsv: cannot open: No such file or directory
+/// ```
+pub fn refuse<E: Write>(name: &str, kind: ErrorKind, err: &mut E) -> u8
+    ensures { Finishes name.now (Unopened kind) result (E.contents err.old) (E.contents err.new) }
+{
+    Ending::Unopened(kind).finish(name, err)
 }
 
 /// Regroups the lines, flushes `out`, and returns how that ends.

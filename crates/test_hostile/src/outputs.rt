@@ -101,7 +101,7 @@ fn assert_run(rt: &impl Abort, alloc: Global, case: &Case<'_>) -> Result<(), Fai
         from: CustomFormat::from(Locale::en),
         to: CustomFormat::from(Locale::en_IN),
     };
-    let status = run(&LENIENT, &formats, reader(case), &mut out, &mut err);
+    let status = run(&LENIENT, &formats, "-", reader(case), &mut out, &mut err);
     let (expected, messages) = if matches!(case.2, Ended::Lines(_)) {
         (REGROUPED, 0)
     } else {

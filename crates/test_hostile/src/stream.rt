@@ -66,12 +66,12 @@ fn a_read_fails(rt: HostRuntime) -> Result<(), test::Fail> {
             steps: &[Give(3), Give(9), Fail],
             calls: 0,
         };
-        let status = run(&STRICT, &to_de(), reader, &mut out, &mut err);
+        let status = run(&STRICT, &to_de(), "-", reader, &mut out, &mut err);
         assert_eq!(rt; status, FAILED);
         assert_eq!(rt; out.get_ref().as_slice(), b"1.000\n".as_slice());
         assert_eq!(rt;
             err.as_slice(),
-            b"regroup-lines: read error: Broken pipe\n".as_slice()
+            b"regroup-lines: -: read error: Broken pipe\n".as_slice()
         );
     }
     Ok(())
@@ -90,7 +90,10 @@ fn a_flush_fails(rt: HostRuntime) -> Result<(), test::Fail> {
             let writer = Unflushed { cause, flushes: 0 };
             let mut out = BufWriter::new(rt.alloc(), writer)?;
             let mut err = Vec::new(rt.alloc());
-            assert_eq!(rt; run(&STRICT, &to_de(), text, &mut out, &mut err), status);
+            assert_eq!(rt;
+                run(&STRICT, &to_de(), "-", text, &mut out, &mut err),
+                status
+            );
             assert_eq!(rt; out.get_ref().flushes, 1);
             assert_eq!(rt; err.as_slice(), message);
         }
@@ -109,7 +112,10 @@ fn assert_calls(
 ) -> Result<(), test::Fail> {
     let mut out = BufWriter::new(alloc, Scripted::new(alloc, 64, &[])?)?;
     let mut err = Scripted::new(alloc, 128, err_steps)?;
-    assert_eq!(rt; run(&STRICT, &to_de(), text, &mut out, &mut err), status);
+    assert_eq!(rt;
+        run(&STRICT, &to_de(), "-", text, &mut out, &mut err),
+        status
+    );
     let written = out.get_ref();
     assert_eq!(rt;
         [written.calls, written.flushes, err.calls, err.flushes],
@@ -171,6 +177,7 @@ fn a_line_is_at_fault(rt: HostRuntime) -> Result<(), test::Fail> {
         run(
             &STRICT,
             &formats,
+            "x.tsv",
             b"-1,000\nx\n".as_slice(),
             &mut out,
             &mut err
@@ -180,7 +187,7 @@ fn a_line_is_at_fault(rt: HostRuntime) -> Result<(), test::Fail> {
     assert_eq!(rt; out.get_ref().as_slice(), b"1:00:000\n-1:000\n".as_slice());
     assert_eq!(rt;
         err.as_slice(),
-        b"regroup-lines: 2: 'x': not a number\n".as_slice()
+        b"regroup-lines: x.tsv:2: 'x': not a number\n".as_slice()
     );
     Ok(())
 }

@@ -2,8 +2,11 @@ use Rattle.std.proofs.Common.{List, ℕ, ◌++◌, ◌∙◌, ap, codes}
 use Rattle.regroup_stream.specs.Ending.{line_message}
 use Rattle.regroup_stream.proofs.ending.fault_message.Goals as goal
 
+pub returns-in-TooLong : goal.returns-in-TooLong
+returns-in-TooLong c = rw c.in-TooLong.is c.line_message.ensures
+
 pub returns-in-NotANumber : goal.returns-in-NotANumber
 returns-in-NotANumber c =
     rw c.in-NotANumber.is
     (c.line_message-in-NotANumber.ensures
-    ∙ ap (λ (t : List ℕ). line_message c.args.number (t ++ codes ": not a number")) (c.as_str.ensures.value ∙ c.quoted_in.ensures))
+    ∙ ap (λ (t : List ℕ). line_message c.args.name.now c.args.number (t ++ codes ": not a number")) (c.as_str.ensures.value ∙ c.quoted_in.ensures))
