@@ -13,17 +13,17 @@ use Rattle.num_format_int.specs.Digits.{digits}
 use Rattle.num_format_int.specs.Grouped.{stands, separated, grouped, printed_separator}
 use Rattle.num_format_int.proofs.DigitLemmas.{by_digits, digits-small, digits-more}
 use Rattle.num_format_int.proofs.GroupLemmas.{last_group-Standard, groups-Standard, last_group-Indian, groups-Indian, last_group-Myriad, groups-Myriad, last_group-Sparse, groups-Sparse}
-use Rattle.num_format_int.proofs.GroupedLemmas.{grouped-Posix, grouped-empty}
-use Rattle.num_format_parsing.specs.Parts.{are_digits_between, HasReadDigits, HasOnlyGroups, LacksGroups, GroupsBy, IsUnspelled}
+use Rattle.num_format_int.proofs.GroupedLemmas.{grouped-Posix}
+use Rattle.num_format_parsing.specs.Parts.{are_digits_between, HasReadDigits, HasOnlyGroups, LacksGroups, GroupsBy, IsUnexpected, IsUnspelled}
 use Rattle.num_format_parsing.specs.Reading.{denoted, magnitude_of}
 use Rattle.num_format_parsing.specs.Shapes.{byte_figures, BeginsWithDigit, IsPlainStart}
-use Rattle.num_format_parsing.specs.Strict.{SpellsNumber, with_separators, without_separators, ungrouped, sign_len, unread}
+use Rattle.num_format_parsing.specs.Strict.{SpellsNumber, with_separators, without_separators, ungrouped, begins, sign_len, unread}
 use Rattle.num_format_parsing.proofs.ExpectedLemmas.{due-first, length-separated}
 use Rattle.num_format_parsing.proofs.FigureLemmas.{begin-digit, figures-below, figures-bytes, writes}
 use Rattle.num_format_parsing.proofs.GroupsLemmas.{figures-behind, many-digits}
 use Rattle.num_format_parsing.proofs.PartLemmas.{unread-between}
 use Rattle.num_format_parsing.proofs.SpellingLemmas.{spells-more, spells-zero}
-use Rattle.num_format_parsing.proofs.UnreadLemmas.{behind-sign}
+use Rattle.num_format_parsing.proofs.UnreadLemmas.{behind-sign, unread-stop}
 
 only-Standard : (d : ℕ) → HasOnlyGroups (stands Standard d) 3 3
 only-Standard d = record {
@@ -215,27 +215,40 @@ printed-plain Posix s none = refl
 printed-plain Myriad s none = none
 printed-plain Sparse s none = none
 
--- under Posix there are no groups
-pub unspelled-Posix : (f : FormatData) (t : List ℕ) (start end : ℕ) → f.grouping ≡ Posix → HasFirstDigits f t start end → IsUnspelled f t end
-unspelled-Posix f t start end none first = record {
-  within = omega (arith, first.inside);
-  rest =
-      ap (λ k. unread (printed_separator f.grouping f.separator) 0 (drop k t)) (sym first.sign.sign)
-      ∙ unread-between (printed_separator f.grouping f.separator) t start end (rw none refl) (omega (arith, first.order)) first.digits;
-  wrong = unspelled-groups f t start end first (λ same. not_plain f t start end f.separator first (rw none at same));
-}
+-- the byte after the first digits is unexpected, if no separator begins there
+unexpected-digits : (f : FormatData) (t : List ℕ) (start end : ℕ) → byte_figures (printed_separator f.grouping f.separator) ≡ [] → begins (printed_separator f.grouping f.separator) (drop end t) ≡ false →
+    HasFirstDigits f t start end → IsUnexpected f t end
+unexpected-digits f t start end none off first =
+    let s = printed_separator f.grouping f.separator in
+    record {
+      inside = first.inside;
+      rest = ap (λ k. unread s 0 (drop k t)) (sym first.sign.sign) ∙ unread-between s t start end none (omega (arith, first.order)) first.digits ∙ unread-stop s t end first.inside off first.other;
+    }
 
--- nor does an empty separator show any
-pub unspelled-empty : (f : FormatData) (t : List ℕ) (start end : ℕ) → length f.separator ≡ 0 → HasFirstDigits f t start end → IsUnspelled f t end
-unspelled-empty f t start end none first = record {
-  within = omega (arith, first.inside);
-  rest =
-      ap (λ k. unread (printed_separator f.grouping f.separator) 0 (drop k t)) (sym first.sign.sign)
-      ∙ unread-between (printed_separator f.grouping f.separator) t start end (printed-plain f.grouping f.separator (rw (nil_from_length f.separator none) refl)) (omega (arith, first.order)) first.digits;
-  wrong = unspelled-groups f t start end first (λ same.
-      let ds = byte_figures (drop start t) in
-      not_plain f t start end f.separator first (same ∙ grouped-empty f.grouping f.separator ds none ∙ sym (grouped-Posix f.separator ds)));
-}
+unexpected-nil : (f : FormatData) (t : List ℕ) (start end : ℕ) → printed_separator f.grouping f.separator ≡ [] → HasFirstDigits f t start end → IsUnexpected f t end
+unexpected-nil f t start end none first = unexpected-digits f t start end (ap byte_figures none) (ap (λ s. begins s (drop end t)) none) first
+
+-- under Posix there is none
+pub unexpected-Posix : (f : FormatData) (t : List ℕ) (start end : ℕ) → f.grouping ≡ Posix → HasFirstDigits f t start end → IsUnexpected f t end
+unexpected-Posix f t start end none first = unexpected-nil f t start end (rw none refl) first
+
+printed-nil : (g : Grouping) → printed_separator g [] ≡ []
+printed-nil Standard = refl
+printed-nil Indian = refl
+printed-nil Posix = refl
+printed-nil Myriad = refl
+printed-nil Sparse = refl
+
+-- nor does an empty one begin anywhere
+pub unexpected-empty : (f : FormatData) (t : List ℕ) (start end : ℕ) → length f.separator ≡ 0 → HasFirstDigits f t start end → IsUnexpected f t end
+unexpected-empty f t start end none first = unexpected-nil f t start end (ap (printed_separator f.grouping) (nil_from_length f.separator none) ∙ printed-nil f.grouping) first
+
+-- another begins there or not
+pub unexpected-other : (f : FormatData) (t : List ℕ) (start end last size least : ℕ) → GroupsBy f.grouping last size least → byte_figures f.separator ≡ [] → begins f.separator (drop end t) ≡ false →
+    HasFirstDigits f t start end → IsUnexpected f t end
+unexpected-other f t start end last size least by none off first =
+    let prints = by.prints f.separator in
+    unexpected-digits f t start end (ap byte_figures prints ∙ none) (ap (λ s. begins s (drop end t)) prints ∙ off) first
 
 -- a text that is shorter than any number with a separator
 pub unspelled-short : (f : FormatData) (t : List ℕ) (start end last size least : ℕ) → GroupsBy f.grouping last size least → 0 < length f.separator → byte_figures f.separator ≡ [] →

@@ -1,7 +1,7 @@
 -- The number of a text that spells one.
 use Rattle.std.proofs.Common.{◌≡◌, ℕ, zero, suc, ◌+◌, ◌-◌, ◌*◌, ◌^◌, ◌<◌, ◌≤◌, Bool, true, false, ◌||◌, ℤ, List, [], ◌∷◌, ◌++◌, length, refl, ap, ◌∙◌, sym, arith, take, drop, get_or, take-append-drop, subst, lit<, IsUtf8}
 use Rattle.std.specs.Prelude.{if◌then◌else◌}
-use Rattle.std.specs.Char.{is_ascii, is_ascii_digit}
+use Rattle.std.specs.Char.{is_ascii}
 use Rattle.std.specs.Int.Digits.{number_from_digits, number_from_digits_after, AllBelowBase}
 use Rattle.std.specs.List.{list_all, list_any}
 use Rattle.std.specs.Str.{chars, IsAscii}
@@ -50,6 +50,10 @@ no_other-ascii t ascii = ap (list_any is_other_numeral) (chars-IsAscii t ascii) 
 -- as in a text whose bytes are tested
 pub no_other-bytes : (t : List ℕ) → list_all is_ascii t ≡ true → HasNoOther t
 no_other-bytes t all = no_other-ascii t (ascii-all t all)
+
+-- one byte of ASCII
+pub one_ascii : (b : ℕ) → b < 128 → list_all is_ascii (b ∷ []) ≡ true
+one_ascii b small = grind (arith, nat_tests)
 
 no_other-append : (xs ys : List ℕ) → IsUtf8 xs → HasNoOther xs → HasNoOther ys → HasNoOther (xs ++ ys)
 no_other-append xs ys utf8 first second =

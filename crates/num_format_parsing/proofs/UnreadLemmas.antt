@@ -6,7 +6,7 @@ use Rattle.std.specs.Int.Digits.{number_from_digits}
 use Rattle.std.specs.List.{starts_with}
 use Rattle.std.proofs.lemmas.Bool.{cases_Bool, both_ways, false_from_ne_true}
 use Rattle.std.proofs.lemmas.Bool.Decides.{nat_tests, Decides-eqb}
-use Rattle.std.proofs.lemmas.List.{append_cancel_left, drop_all, drop_at}
+use Rattle.std.proofs.lemmas.List.{append_cancel_left, drop_all, drop_at, drop_more}
 use Rattle.std.proofs.lemmas.List.Elements.{All-head, All-tail}
 use Rattle.std.proofs.lemmas.Slice.Eq.{starts_is}
 use Rattle.num_format_text.specs.declared.grouping.Grouping.{Grouping}
@@ -39,6 +39,15 @@ unread-begins (c ∷ s) (b ∷ t) begin =
 -- a digit where no separator stands
 pub unread-digit : (s t : List ℕ) (b : ℕ) → begins s (b ∷ t) ≡ false → is_ascii_digit b ≡ true → unread s 0 (b ∷ t) ≡ unread s 0 t
 unread-digit s t b none digit = rw (none, digit)
+
+-- nothing is read from another byte on
+unread-other : (s t : List ℕ) (b : ℕ) → begins s (b ∷ t) ≡ false → is_ascii_digit b ≡ false → unread s 0 (b ∷ t) ≡ b ∷ t
+unread-other s t b none other = rw (none, other)
+
+pub unread-stop : (s t : List ℕ) (place : ℕ) → place < length t → begins s (drop place t) ≡ false → is_ascii_digit (get_or t place 0) ≡ false → unread s 0 (drop place t) ≡ drop place t
+unread-stop s t place inside off other =
+    let here = drop_more t place 0 inside in
+    ap (unread s 0) here ∙ unread-other s (drop (place + 1) t) (get_or t place 0) (ap (begins s) (sym here) ∙ off) other ∙ sym here
 
 pub begins-given : (s t : List ℕ) → 0 < length s → begins s t ≡ starts_with nat_eq t s
 begins-given [] t some = absurd (omega arith)

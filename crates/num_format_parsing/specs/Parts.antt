@@ -13,7 +13,7 @@ use Rattle.num_format_parsing.specs.Reading.{denoted, is_other_numeral}
 use Rattle.num_format_parsing.specs.Shapes.{byte_figures, EndsSeparator, IsInGroups}
 use Rattle.num_format_parsing.specs.Strict.{SpellsNumber, begins, unread, unexpected}
 use Rattle.num_format_parsing.specs.declared.reading.Reading.{Reading}
-use Rattle.num_format_parsing.specs.declared.reading.Reading.TheVariants.{Number, Spelled, Unspelled, Unknown}
+use Rattle.num_format_parsing.specs.declared.reading.Reading.TheVariants.{Number, Spelled, Unexpected, Unspelled, Unknown}
 
 -- the bytes from a place to before another are digits
 abbrev pub are_digits_between : List ℕ → ℕ → ℕ → Bool
@@ -105,9 +105,15 @@ pub record IsUnspelled (f : FormatData) (t : List ℕ) (place : ℕ) : Type 0 wh
   pub rest : unexpected f t ≡ unread (printed_separator f.grouping f.separator) 0 (drop place t)
   pub wrong : IsUtf8 t → ¬ (SpellsNumber f t (denoted f t))
 
+-- the byte at a place is not the minus sign, a digit or of a separator, and those before it are
+pub record IsUnexpected (f : FormatData) (t : List ℕ) (at : ℕ) : Type 0 where
+  pub inside : at < length t
+  pub rest : unexpected f t ≡ drop at t
+
 -- what was found holds of a text, whose number is that of an accumulator
 abbrev pub HasReading : {A : Type 0} → (A → ℕ) → FormatData → List ℕ → ℕ → ℕ → Reading A → Type 0
 HasReading number f t start most (Number n) = HasReadNumber f t start most (number n)
 HasReading number f t start most Spelled = IsUtf8 t × SpellsNumber f t (denoted f t)
+HasReading number f t start most (Unexpected at) = IsUnexpected f t at
 HasReading number f t start most (Unspelled place) = IsUnspelled f t place
 HasReading number f t start most Unknown = Unit {0}

@@ -7,9 +7,9 @@ ghost use Rattle.num_format_text.specs.Format.{FormatData};
 ghost use Rattle.num_format_parsing.specs.Parts.{GroupsBy, HasReading, HasReadDigits, HasReadGroup, HasReadGroups, IsReadWhole, LacksGroup, LacksGroups, WriteWhole};
 ghost use Rattle.num_format_parsing.specs.Shapes.{IsPlainStart, BeginsWithDigit, byte_figures};
 
-use crate::numeral::has_other_numeral;
+use crate::numeral::{has_digit_in_symbol, has_numeral_in_symbol};
 use crate::parsing::Accumulator;
-use crate::strict::{begins_with, begins_with_digit, has_digit};
+use crate::strict::{begins_with, begins_with_digit};
 use num_format_text::{Format, Grouping};
 
 /// What one pass over a text found.
@@ -18,6 +18,11 @@ pub(crate) enum Reading<A> {
     Number(A),
     /// The text spells the number that it denotes.
     Spelled,
+    /// The byte at the place is unexpected, if the bytes are UTF-8.
+    Unexpected {
+        /// The number of bytes before it.
+        at: usize,
+    },
     /// The text spells no number. The bytes before the place are the minus sign, digits and whole
     /// separators.
     Unspelled {
@@ -94,15 +99,18 @@ fn read_grouped<F: Format, A: Accumulator>(
     ensures { HasReading A.number (F.answers format.now) text.now start most result }
 {
     let Some(groups) = groups_of(format.grouping()) else {
-        return Reading::Unspelled { place: end };
+        return Reading::Unexpected { at: end };
     };
     let separator = format.separator().into_str();
     let bytes = separator.as_bytes();
     if bytes.is_empty() {
-        return Reading::Unspelled { place: end };
+        return Reading::Unexpected { at: end };
     }
-    if has_digit(bytes) {
+    if has_digit_in_symbol(bytes) {
         return Reading::Unknown;
+    }
+    if !begins_with(&text[end..], bytes) {
+        return Reading::Unexpected { at: end };
     }
     if text.len() - start < groups.least + bytes.len() {
         return Reading::Unspelled { place: end };
@@ -115,7 +123,7 @@ fn read_grouped<F: Format, A: Accumulator>(
     match read_by(text, start, first, bytes, groups) {
         Ok(whole) => {
             // Only a text that spells a number is worth a look at the characters of the separator.
-            if has_other_numeral(separator) {
+            if has_numeral_in_symbol(separator) {
                 return Reading::Spelled;
             }
             spelled(text, start, whole, most)

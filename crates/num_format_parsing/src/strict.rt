@@ -14,7 +14,7 @@ ghost use Rattle.num_format_parsing.specs.Strict.{SpellsNumber, ParsesStrictly, 
 ghost use Rattle.num_format_parsing.specs.Parts.{IsUnspelled};
 ghost use Rattle.num_format_parsing.specs.Shapes.{BeginsWithDigit, byte_figures};
 
-use crate::numeral::{has_other_numeral, is_ascii};
+use crate::numeral::{has_digit_in_symbol, has_numeral_in_symbol};
 use crate::parsing::{Accumulator, SAFE_FIGURES, most_figures, parse};
 use crate::reading::{Reading, read_text};
 use num_format_int::sealed::Sealed;
@@ -115,6 +115,12 @@ fn parse_by<N: Sealed, F: Format, A: Accumulator>(
             }
         }
         Reading::Spelled => parse_spelled(bytes, format),
+        Reading::Unexpected { at } => {
+            if !is_utf8(bytes, is_text) {
+                return Err(StrictError::NotUtf8);
+            }
+            Err(StrictError::Unexpected { at })
+        }
         Reading::Unspelled { place } => Err(cause(bytes, is_text, place, format)),
         Reading::Unknown => parse_unknown(bytes, is_text, start, format),
     }
@@ -126,19 +132,21 @@ fn parse_by<N: Sealed, F: Format, A: Accumulator>(
 fn has_digit_in_sign(minus_sign: &str, is_negative: bool) -> bool
     ensures { result ≡ (is_negative && list_any is_ascii_digit minus_sign.now) }
 {
-    has_digit(minus_sign.as_bytes()) && is_negative
+    has_digit_in_symbol(minus_sign.as_bytes()) && is_negative
 }
 
 /// Returns whether the minus sign of a negative text has a numeric character that is none of the digits `0` to
-/// `9`. Most minus signs are ASCII, and have none.
+/// `9`.
+///
+/// One of one byte is tested for each text, since the processor mistakes a branch on the sign.
 #[inline]
 fn has_numeral_in_sign(minus_sign: &str, is_negative: bool) -> bool
     ensures { result ≡ (is_negative && list_any is_other_numeral (chars minus_sign.now)) }
 {
-    if is_ascii(minus_sign.as_bytes()) {
+    if minus_sign.len() != 1 && !is_negative {
         return false;
     }
-    is_negative && has_other_numeral(minus_sign)
+    has_numeral_in_symbol(minus_sign) && is_negative
 }
 
 /// Returns whether a text begins with a prefix. Most are one byte, whose comparison takes less time than a
