@@ -31,9 +31,10 @@ def fault(number, cause, name=b"-"):
     return b"regroup-lines: %s:%d: %s\n" % (name, number, cause)
 
 
-def unparsed(text):
-    """What a message says of a text, as messages show it, that is no number."""
-    return b"'" + text + b"': not a number"
+def unparsed(text, byte=None):
+    """What a message says of a text, as messages show it, that is no number, of which this byte is unexpected."""
+    place = b"" if byte is None else b" at byte %d" % byte
+    return b"'" + text + b"': not a number" + place
 
 
 def unknown(word):
@@ -61,17 +62,17 @@ INPUTS = [
     ("en", "de", b"0." + 37 * b"0" + b"1\n", 0, b"0," + 37 * b"0" + b"1\n", b""),
     ("en", "de", b"1\n0." + 39 * b"0" + b"\n", 1, b"1\n", fault(2, unparsed(b"0." + 39 * b"0"))),
     ("en", "de", b"\t1,000\n  -2.5 \r\n 3", 0, b"\t1.000\n  -2,5 \r\n 3\n", b""),
-    ("en", "de", b"1\n2 3\n", 1, b"1\n", fault(2, unparsed(b"2 3"))),
+    ("en", "de", b"1\n2 3\n", 1, b"1\n", fault(2, unparsed(b"2 3", 2))),
     ("en", "de", b"1\n \t\n", 1, b"1\n", fault(2, unparsed(b""))),
     ("en", "de", b"1\n12,34\n", 1, b"1\n", fault(2, unparsed(b"12,34"))),
-    ("en", "de", b"1\n1.234,50\n", 1, b"1\n", fault(2, unparsed(b"1.234,50"))),
+    ("en", "de", b"1\n1.234,50\n", 1, b"1\n", fault(2, unparsed(b"1.234,50", 6))),
     ("en", "custom:':Standard:-", b"-1234567\n", 0, b"-1'234'567\n", b""),
     ("en", "custom:::Standard:~", b"-1234567\n", 0, b"~1:234:567\n", b""),
     ("en", "custom::Indian:", b"-100000\n", 0, b"100000\n", b""),
     ("custom:':Myriad:m", "en", b"m1'0000\n7.5\n", 0, b"-10,000\n7.5\n", b""),
     ("de", "plain", b"-1.234,50\n1234\n", 0, b"-1234.50\n1234\n", b""),
     ("plain", "en", b"-1234.50\n1234567\n", 0, b"-1,234.50\n1,234,567\n", b""),
-    ("plain", "en", b"1\n1,234\n", 1, b"1\n", fault(2, unparsed(b"1,234"))),
+    ("plain", "en", b"1\n1,234\n", 1, b"1\n", fault(2, unparsed(b"1,234", 2))),
     ("en", "custom: :Sparse:-", b"1,234\n12,345\n", 0, b"1234\n12 345\n", b""),
     ("en", "custom:7:Standard:17", b"1,000\n-1000\n", 0, b"17000\n1717000\n", b""),
     # Language tags.
@@ -86,12 +87,12 @@ INPUTS = [
     ("en", "de", b"\n", 1, b"", fault(1, unparsed(b""))),
     ("en", "de", b"1\n2\n\n4\n", 1, b"1\n2\n", fault(3, unparsed(b""))),
     ("en", "de", b"1\r\n\r\n", 1, b"1\r\n", fault(2, unparsed(b""))),
-    ("en", "de", b"7,000\nabc\n9\n", 1, b"7.000\n", fault(2, unparsed(b"abc"))),
-    ("en", "de", b"7,000\nabc", 1, b"7.000\n", fault(2, unparsed(b"abc"))),
-    ("en", "de", b"1\n\x1b[2J'\\\r\t~\x7f\n", 1, b"1\n", fault(2, unparsed(rb"\x1B[2J\x27\x5C\x0D\x09~\x7F"))),
-    ("en", "de", "1\n5\u20ac\n".encode(), 1, b"1\n", fault(2, unparsed(rb"5\xE2\x82\xAC"))),
+    ("en", "de", b"7,000\nabc\n9\n", 1, b"7.000\n", fault(2, unparsed(b"abc", 1))),
+    ("en", "de", b"7,000\nabc", 1, b"7.000\n", fault(2, unparsed(b"abc", 1))),
+    ("en", "de", b"1\n\x1b[2J'\\\r\t~\x7f\n", 1, b"1\n", fault(2, unparsed(rb"\x1B[2J\x27\x5C\x0D\x09~\x7F", 1))),
+    ("en", "de", "1\n5\u20ac\n".encode(), 1, b"1\n", fault(2, unparsed(rb"5\xE2\x82\xAC", 2))),
     ("en", "de", b"1\n\xff\n", 1, b"1\n", fault(2, NOT_TEXT)),
-    ("en", "de", 300 * b"a", 1, b"", fault(1, unparsed(64 * b"a"))),
+    ("en", "de", 300 * b"a", 1, b"", fault(1, unparsed(64 * b"a", 1))),
     ("en", "de", 4096 * b" " + b"1\n", 1, b"", fault(1, TOO_LONG)),
     ("en", "de", b"8\n" + 4096 * b" " + b"1", 1, b"8\n", fault(2, TOO_LONG)),
     ("en", "de", 100_000 * b" ", 1, b"", fault(1, TOO_LONG)),
@@ -106,6 +107,7 @@ LENIENT = [
     ("custom:7:Standard:17", "en", b"17000\n5\n", 0, b"-17,000\n5\n", b""),
     ("custom:,:Standard:", "en", b"5\n1,000\n", 0, b"-5\n-1,000\n", b""),
     ("en", "de", 4095 * b"x" + b"1\n", 0, b"1\n", b""),
+    ("en", "de", b"1\n-$\n", 1, b"1\n", fault(2, unparsed(b"-$"))),
     ("en", "de", b"1\r\n\r\n", 1, b"1\r\n", fault(2, unparsed(b""))),
 ]
 
@@ -117,7 +119,7 @@ OPTIONS = [
     ("--field 2", b"\xff\t5\n", 0, b"\xff\t5\n", b""),
     ("--field 2", b"1\t2\n3\n", 1, b"1\t2\n", fault(2, FEW_FIELDS)),
     ("--field 2", b"1\t2\n3\t\n", 1, b"1\t2\n", fault(2, unparsed(b""))),
-    ("--field 2", b"1\t2\n3\tx\n", 1, b"1\t2\n", fault(2, unparsed(b"x"))),
+    ("--field 2", b"1\t2\n3\tx\n", 1, b"1\t2\n", fault(2, unparsed(b"x", 1))),
     ("--field 18446744073709551615", b"1\n", 1, b"", fault(1, FEW_FIELDS)),
     ("--field 2 -d;", b"1,000;2,000;3,000\n", 0, b"1,000;2.000;3,000\n", b""),
     ("--field 2 --delimiter ,", b"1,2,3\n", 0, b"1,2,3\n", b""),
@@ -125,7 +127,7 @@ OPTIONS = [
     ("--header", b"x\n1,000\n", 0, b"x\n1.000\n", b""),
     ("--header", b"", 0, b"", b""),
     ("--header-lines 2", b"1,000\n\xff\n1,000\n", 0, b"1,000\n\xff\n1.000\n", b""),
-    ("--header-lines 0", b"x\n", 1, b"", fault(1, unparsed(b"x"))),
+    ("--header-lines 0", b"x\n", 1, b"", fault(1, unparsed(b"x", 1))),
     ("--header", 4097 * b"x" + b"\n", 1, b"", fault(1, TOO_LONG)),
     ("--empty", b"\n1,000\n \r\n", 0, b"\n1.000\n \r\n", b""),
     ("--empty --field 2", b"a\t\tb\n", 0, b"a\t\tb\n", b""),
@@ -133,7 +135,7 @@ OPTIONS = [
     ("--invalid ignore", b"1,000\nx\n\xff\n2,000", 0, b"1.000\nx\n\xff\n2.000\n", b""),
     ("--invalid=ignore --field 2", b"1\na\t1,000\n", 0, b"1\na\t1.000\n", b""),
     ("--invalid ignore", b"1\n" + 4097 * b"x", 1, b"1\n", fault(2, TOO_LONG)),
-    ("--invalid abort", b"1\nx\n", 1, b"1\n", fault(2, unparsed(b"x"))),
+    ("--invalid abort", b"1\nx\n", 1, b"1\n", fault(2, unparsed(b"x", 1))),
 ]
 
 # Words that do not name two formats, and the message.
@@ -204,11 +206,11 @@ OPERANDS = [
     (["empty.txt"], b"1\n", 0, b"", b""),
     (["--field=2", "-d,", "./-"], b"", 0, b"-,6\n", b""),
     (["--", "-d"], b"", 0, b"7.000\n", b""),
-    (["bad.txt", "a.txt"], b"", 1, b"3\n", fault(2, unparsed(b"abc"), b"bad.txt")),
-    (["empty.txt", "-"], b"1\nx\n", 1, b"1\n", fault(2, unparsed(b"x"))),
+    (["bad.txt", "a.txt"], b"", 1, b"3\n", fault(2, unparsed(b"abc", 1), b"bad.txt")),
+    (["empty.txt", "-"], b"1\nx\n", 1, b"1\n", fault(2, unparsed(b"x", 1))),
     (["c.txt", "-"], b"1,000\n", 1, b"1.000\n", unopened(b"c.txt", MISSING)),
     (["c", "", "-"], b"2", 1, b"2\n", unopened(b"c", MISSING) + unopened(b"", MISSING)),
-    (["c", "bad.txt"], b"", 1, b"3\n", unopened(b"c", MISSING) + fault(2, unparsed(b"abc"), b"bad.txt")),
+    (["c", "bad.txt"], b"", 1, b"3\n", unopened(b"c", MISSING) + fault(2, unparsed(b"abc", 1), b"bad.txt")),
     (["a.txt/b"], b"", 1, b"", unopened(b"a.txt/b", b"Not a directory")),
     (["\x1b[2J\n"], b"", 1, b"", unopened(rb"\x1B[2J\x0A", MISSING)),
     ([300 * "n"], b"", 1, b"", unopened(256 * b"n", b"File name too long")),
@@ -229,9 +231,9 @@ FAILURES = [
 
 # The lines before a fault, each `1`, what stands after them, and the message.
 FAULTS = [
-    (999_999, b"x", fault(1000000, unparsed(b"x"))),
-    (999_999, 300 * b"a", fault(1000000, unparsed(64 * b"a"))),
-    (1_000_000, b"x\n", fault(1000001, unparsed(b"x"))),
+    (999_999, b"x", fault(1000000, unparsed(b"x", 1))),
+    (999_999, 300 * b"a", fault(1000000, unparsed(64 * b"a", 1))),
+    (1_000_000, b"x\n", fault(1000001, unparsed(b"x", 1))),
     (1_000_000, b"\n", fault(1000001, unparsed(b""))),
     (1_000_000, b"\xff\n1\n", fault(1000001, NOT_TEXT)),
     (2_000_000, 4096 * b" " + b"1\n", fault(2000001, TOO_LONG)),
@@ -346,7 +348,7 @@ def check_example(tally, program):
     ended = regroup(program, ["--invalid", "ignore", *words], table)
     compare(tally, "all lines", ended, 0, expected, b"")
     before = b"".join(expected.splitlines(keepends=True)[:7])
-    message = fault(8, unparsed(b"12.5O"))
+    message = fault(8, unparsed(b"12.5O", 5))
     compare(tally, "up to line 8", regroup(program, words, table), 1, before, message)
 
 
@@ -399,7 +401,7 @@ def check_long(tally, program):
         ended = regroup(program, ["en", "de"], lines * b"1,000\n", **limited)
         compare(tally, name, ended, 0, lines * b"1.000\n", b"")
     text = SOUND_LINES * b"1,000\n" + b"x\n" + (LINES - SOUND_LINES - 1) * b"1,000\n"
-    message = fault(2400001, unparsed(b"x"))
+    message = fault(2400001, unparsed(b"x", 1))
     ended = regroup(program, ["en", "de"], text, **limited)
     compare(tally, "a fault in line 2400001", ended, 1, SOUND_LINES * b"1.000\n", message)
     for sound, rest, message in FAULTS:

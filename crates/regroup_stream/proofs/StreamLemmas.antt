@@ -1,5 +1,5 @@
 -- What the program wrote, after a flush of standard output.
-use Rattle.std.proofs.Common.{◌≡◌, ℕ, Bool, true, false, List, [], Result, subst, sym}
+use Rattle.std.proofs.Common.{◌≡◌, ℕ, true, List, [], Result, subst}
 use Rattle.std.specs.Prelude.{Option}
 use Rattle.std.specs.Io.KnownBytes.{Keeps}
 use Rattle.std.proofs.KnownBytes.{Appends-kept}
@@ -37,7 +37,7 @@ module _ (rules : Rules) (from to : FormatData) (q r s a b c : Option (List ℕ)
   })
 
   -- the run has the end of the result
-  pub RegroupsAll-flushed : (end : End) (buffer : List ℕ) → IsEndOf result end → (is_written end ≡ true → buffer ≡ []) →
+  pub RegroupsAll-flushed : (end : End) (buffer : List ℕ) → IsEndOf rules.reading from result end → (is_written end ≡ true → buffer ≡ []) →
       RegroupsAll rules from to end r a c buffer
   RegroupsAll-flushed end buffer is empty = record {
     result = result;

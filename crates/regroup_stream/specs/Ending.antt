@@ -1,5 +1,5 @@
 -- How a run ends: the status, and the message on standard error.
-use Rattle.std.specs.Prelude.{◌≡◌, ◌⊎◌, ℕ, List, [], ◌++◌, codes, Option, None, Some}
+use Rattle.std.specs.Prelude.{◌≡◌, ◌⊎◌, ℕ, ◌+◌, List, [], ◌++◌, codes, Option, None, Some}
 use Rattle.std.specs.Fmt.{decimal}
 use Rattle.std.specs.Io.KnownBytes.{Appends}
 use Rattle.std.specs.declared.io.ErrorKind.{ErrorKind}
@@ -13,19 +13,19 @@ use Rattle.regroup_stream.specs.declared.ending.Cause.TheVariants as cause
 use Rattle.regroup_stream.specs.declared.ending.Ending.{Ending}
 use Rattle.regroup_stream.specs.declared.ending.Ending.TheVariants as ending
 
--- why a line is at fault; an error is what clauses see of it
+-- why a line is at fault; an error is what clauses see of it, and so many bytes of its text are before an unexpected one
 pub data Why : Type 0 where
   Long : Why
   Few : Why
   NoText : Why
-  NotANumber : Refusal → Why
+  NotANumber : Refusal → Option ℕ → Why
 
 -- the `Why` of a `Cause`
 abbrev pub cause_shown : Cause → Why
 cause_shown cause.TooLong = Long
 cause_shown cause.FewFields = Few
 cause_shown cause.NotText = NoText
-cause_shown (cause.NotANumber error) = NotANumber (refusal_of error)
+cause_shown (cause.NotANumber error before) = NotANumber (refusal_of error) before
 
 -- how a run ends: each line was regrouped, the line of this number is at fault, a read or a write failed, for this reason if it is
 -- known, there are more lines than are counted, or the input cannot be opened
@@ -63,12 +63,17 @@ kept_in (ParseLocale text) = text
 kept_in (Other text) = text
 kept_in (Capacity len cap) = []
 
+-- which byte it is that so many others are before, counted from 1
+abbrev pub byte_text : Option ℕ → List ℕ
+byte_text (Some before) = codes " at byte " ++ decimal (before + 1)
+byte_text None = []
+
 -- why a line is at fault, in words
 abbrev pub why_text : Why → List ℕ
 why_text Long = codes "more than 4096 bytes"
 why_text Few = codes "too few fields"
 why_text NoText = codes "not UTF-8"
-why_text (NotANumber refusal) = quoted (kept_in refusal) ++ codes ": not a number"
+why_text (NotANumber refusal before) = quoted (kept_in refusal) ++ (codes ": not a number" ++ byte_text before)
 
 -- what a message says of the kind of an error
 abbrev pub reason_of : ErrorKind → List ℕ

@@ -1,8 +1,7 @@
 //! How a run ends: the status, and the message on standard error.
 ghost use Rattle.std.specs.Prelude.{◌≡◌, ◌≤◌, ◌++◌, length};
 ghost use Rattle.num_format.specs.Refusal.{refusal_of};
-ghost use Rattle.regroup_shared.specs.Quoting.{quoted};
-ghost use Rattle.regroup_stream.specs.Ending.{Finishes, cause_shown, end_of, failure_message, fault_message, kept_in, known_reason, line_message, message_of_end, reason_of, status_of};
+ghost use Rattle.regroup_stream.specs.Ending.{Finishes, byte_text, cause_shown, end_of, failure_message, fault_message, kept_in, known_reason, line_message, message_of_end, reason_of, status_of};
 
 use crate::{CLOSED, FAILED, FAULTY, REGROUPED};
 use arrayvec::ArrayString;
@@ -15,8 +14,11 @@ use std::io::Write;
 /// The most bytes of what is shown of a name: four for each of its bytes.
 const MAX_NAME_LEN: usize = 1024;
 
+/// The most bytes of ` at byte ` and a number.
+const MAX_BYTE_TEXT_LEN: usize = 50;
+
 /// The most bytes that a message has besides a name and a text in quotes.
-const MAX_ADDED_LEN: usize = 72;
+const MAX_ADDED_LEN: usize = 128;
 
 /// The most bytes of a message.
 const MAX_ENDING_LEN: usize = MAX_NAME_LEN + MAX_QUOTED_LEN + MAX_ADDED_LEN;
@@ -30,8 +32,8 @@ pub(crate) enum Cause {
     FewFields,
     /// Its number is not UTF-8.
     NotText,
-    /// Its number is none.
-    NotANumber(Error),
+    /// Its number is none. So many bytes of it are before the first one that is unexpected, if one is.
+    NotANumber(Error, Option<usize>),
 }
 
 /// How a run ends. Of a read or a write that failed it has the kind of the error, if that is known.
@@ -96,20 +98,28 @@ fn fault_message(name: &str, number: u64, cause: &Cause) -> ArrayString<MAX_ENDI
     ensures { result.bytes ≡ fault_message name.now number (cause_shown cause.now) }
 {
     match cause {
-        Cause::TooLong => line_message(name, number, "more than 4096 bytes", ""),
-        Cause::FewFields => line_message(name, number, "too few fields", ""),
-        Cause::NotText => line_message(name, number, "not UTF-8", ""),
-        Cause::NotANumber(error) => {
-            line_message(name, number, quoted_in(error).as_str(), ": not a number")
+        Cause::TooLong => line_message(name, number, "more than 4096 bytes", "", None),
+        Cause::FewFields => line_message(name, number, "too few fields", "", None),
+        Cause::NotText => line_message(name, number, "not UTF-8", "", None),
+        Cause::NotANumber(error, before) => {
+            let text = quoted(kept_in(error).as_bytes());
+            line_message(name, number, text.as_str(), ": not a number", *before)
         }
     }
 }
 
-/// Returns a message with the name of the input and the number of a line before the text and the cause.
-fn line_message(name: &str, number: u64, text: &str, cause: &str) -> ArrayString<MAX_ENDING_LEN>
+/// Returns a message with the name of the input and the number of a line before the text and the cause, and after
+/// them the byte that is after so many others.
+fn line_message(
+    name: &str,
+    number: u64,
+    text: &str,
+    cause: &str,
+    before: Option<usize>,
+) -> ArrayString<MAX_ENDING_LEN>
     requires text { length text.now ≤ MAX_QUOTED_LEN }
     requires cause { length cause.now ≤ 14 }
-    ensures { result.bytes ≡ line_message name.now number (text.now ++ cause.now) }
+    ensures { result.bytes ≡ line_message name.now number (text.now ++ (cause.now ++ byte_text before)) }
 {
     let mut digits = itoa::Buffer::new();
     let mut message = ArrayString::new();
@@ -120,19 +130,33 @@ fn line_message(name: &str, number: u64, text: &str, cause: &str) -> ArrayString
     message.push_str(": ");
     message.push_str(text);
     message.push_str(cause);
+    message.push_str(byte_text(before).as_str());
     message.push('\n');
     message
 }
 
-/// Returns the text that an error keeps, in quotes.
-fn quoted_in(error: &Error) -> ArrayString<MAX_QUOTED_LEN>
-    ensures { result.bytes ≡ quoted (kept_in (refusal_of error.now)) }
+/// Returns which byte it is that so many others are before, counted from 1.
+fn byte_text(before: Option<usize>) -> ArrayString<MAX_BYTE_TEXT_LEN>
+    ensures { result.bytes ≡ byte_text before }
+{
+    let mut text = ArrayString::new();
+    if let Some(before) = before {
+        let mut digits = itoa::Buffer::new();
+        text.push_str(" at byte ");
+        text.push_str(digits.format(before as u128 + 1));
+    }
+    text
+}
+
+/// Returns the text that an error keeps, if it keeps one.
+pub(crate) fn kept_in(error: &Error) -> &str
+    ensures { result.now ≡ kept_in (refusal_of error.now) }
 {
     match error.kind() {
-        ErrorKind::ParseNumber(text) => quoted(text.as_str().as_bytes()),
-        ErrorKind::ParseLocale(name) => quoted(name.as_str().as_bytes()),
-        ErrorKind::Other(message) => quoted(message.as_str().as_bytes()),
-        ErrorKind::Capacity { .. } => quoted(b""),
+        ErrorKind::ParseNumber(text) => text.as_str(),
+        ErrorKind::ParseLocale(name) => name.as_str(),
+        ErrorKind::Other(message) => message.as_str(),
+        ErrorKind::Capacity { .. } => "",
     }
 }
 

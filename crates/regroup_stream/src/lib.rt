@@ -22,11 +22,13 @@ ghost use Rattle.std.specs.Result.{result_map_both};
 ghost use Rattle.regroup_lines.specs.Fault.{fault_of};
 ghost use Rattle.regroup_stream.specs.Ending.{Finishes, end_of};
 ghost use Rattle.regroup_stream.specs.Ending.End.{Unopened};
-ghost use Rattle.regroup_stream.specs.Stream.{IsEndOf, RegroupsAll, Runs};
+ghost use Rattle.regroup_stream.specs.Stream.{IsBefore, IsEndOf, RegroupsAll, Runs, before_in};
 
-use crate::ending::{Cause, Ending};
+use crate::ending::{Cause, Ending, kept_in};
 use crate::watched::Watched;
 pub use crate::words::{Formats, Misuse, formats_named};
+use num_format::CustomFormat;
+use num_format_decimal::{Decimal, ParseDecimalError};
 pub use regroup_lines::{Field, Reading, Rules, Span};
 use regroup_lines::{RegroupFault, regroup_at_most};
 use std::io::{BufWriter, ErrorKind, Read, Write};
@@ -103,14 +105,19 @@ fn regroup<R: Read + Drop, O: Write + Drop>(
     let (from, to) = (&formats.from, &formats.to);
     let regrouped = regroup_at_most(u64::MAX, rules, &mut input, out, from, to);
     match out.flush() {
-        Ok(()) => ending_of(regrouped, input.failure()),
+        Ok(()) => ending_of(rules.reading, from, regrouped, input.failure()),
         Err(error) => Ending::WriteFailed(Some(error.kind())),
     }
 }
 
 /// Returns how a run with this result ends, if this is why its last read failed.
-fn ending_of(regrouped: Result<u64, RegroupFault>, failure: Option<ErrorKind>) -> Ending
-    ensures { IsEndOf (result_map_both (λ count. count) fault_of regrouped) (end_of result) }
+fn ending_of(
+    reading: Reading,
+    from: &CustomFormat,
+    regrouped: Result<u64, RegroupFault>,
+    failure: Option<ErrorKind>,
+) -> Ending
+    ensures { IsEndOf reading from.now (result_map_both (λ count. count) fault_of regrouped) (end_of result) }
 {
     match regrouped {
         Ok(_) => Ending::Regrouped,
@@ -120,6 +127,37 @@ fn ending_of(regrouped: Result<u64, RegroupFault>, failure: Option<ErrorKind>) -
         Err(RegroupFault::TooLong(number)) => Ending::Faulty(number, Cause::TooLong),
         Err(RegroupFault::FewFields(number)) => Ending::Faulty(number, Cause::FewFields),
         Err(RegroupFault::NotText(number)) => Ending::Faulty(number, Cause::NotText),
-        Err(RegroupFault::Line(number, error)) => Ending::Faulty(number, Cause::NotANumber(error)),
+        Err(RegroupFault::Line(number, error)) => {
+            let before = before_unexpected(reading, kept_in(&error), from);
+            Ending::Faulty(number, Cause::NotANumber(error, before))
+        }
+    }
+}
+
+/// Returns how many bytes of a text are before the one for which strict parsing refuses it, if it does so for one.
+/// Returns `None` of a text that is read leniently.
+fn before_unexpected(reading: Reading, text: &str, from: &CustomFormat) -> Option<usize>
+    ensures { IsBefore reading from.now text.now result }
+{
+    match reading {
+        Reading::Lenient => None,
+        Reading::Strict => match Decimal::from_strict_str(text, from) {
+            Ok(_) => None,
+            Err(error) => before_in(error),
+        },
+    }
+}
+
+/// Returns how many bytes are before the unexpected one, if a text is refused for such a byte.
+fn before_in(error: ParseDecimalError) -> Option<usize>
+    ensures { result ≡ before_in error }
+{
+    match error {
+        ParseDecimalError::Unexpected { at } => Some(at),
+        ParseDecimalError::NotUtf8
+        | ParseDecimalError::NoDigit
+        | ParseDecimalError::TooManyDecimals
+        | ParseDecimalError::Misspelled
+        | ParseDecimalError::OutOfRange => None,
     }
 }

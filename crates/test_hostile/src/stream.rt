@@ -167,6 +167,7 @@ fn a_line_is_at_fault(rt: HostRuntime) -> Result<(), test::Fail> {
         run(
             &STRICT,
             &formats,
+            "-",
             b"100,000\n".as_slice(),
             &mut out,
             &mut err
@@ -187,7 +188,7 @@ fn a_line_is_at_fault(rt: HostRuntime) -> Result<(), test::Fail> {
     assert_eq!(rt; out.get_ref().as_slice(), b"1:00:000\n-1:000\n".as_slice());
     assert_eq!(rt;
         err.as_slice(),
-        b"regroup-lines: x.tsv:2: 'x': not a number\n".as_slice()
+        b"regroup-lines: x.tsv:2: 'x': not a number at byte 1\n".as_slice()
     );
     Ok(())
 }

@@ -1,4 +1,5 @@
-use Rattle.regroup_stream.specs.Stream.{IsEndOf}
+use Rattle.std.proofs.Common.{List, ℕ, subst}
+use Rattle.regroup_stream.specs.Stream.{IsBefore, IsEndOf}
 use Rattle.regroup_stream.proofs.ending_of.Goals as goal
 
 pub returns-in-Ok : goal.returns-in-Ok
@@ -23,4 +24,7 @@ pub returns-in-Err-NotText : goal.returns-in-Err-NotText
 returns-in-Err-NotText c = rw (c.in-Err-NotText.is, c.in-Err-NotText.field-0-is) (IsEndOf.not_text _)
 
 pub returns-in-Err-Line : goal.returns-in-Err-Line
-returns-in-Err-Line c = rw (c.in-Err-Line.is, c.in-Err-Line.field-0-is) (IsEndOf.not_a_number _ _)
+returns-in-Err-Line c =
+    let before = subst (λ (text : List ℕ). IsBefore c.args.reading c.args.from.now text c.before_unexpected-before.result) c.kept_in.ensures
+    c.before_unexpected-before.ensures in
+    rw (c.in-Err-Line.is, c.in-Err-Line.field-0-is) (IsEndOf.not_a_number _ _ _ before)
