@@ -2,7 +2,9 @@
 pub mod AroundLemmas
 mod DecimalLemmas
 mod Examples
+mod FieldLemmas
 mod InputLemmas
 mod LineLemmas
+mod ListLemmas
 mod PlaceLemmas
 mod TextLemmas

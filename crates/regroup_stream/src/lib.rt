@@ -22,7 +22,7 @@ use crate::fault::{is_of_line, send_fault};
 use crate::words::formats_named;
 use num_format::CustomFormat;
 use regroup_lines::regroup_at_most;
-pub use regroup_lines::{Field, Reading, Rules, Span};
+pub use regroup_lines::{FieldRange, Fields, Reading, Rules, Span, field_list};
 use regroup_shared::send_line;
 use std::io;
 use std::io::{BufWriter, Read, Write};
