@@ -6,5 +6,6 @@ mod FieldLemmas
 mod InputLemmas
 mod LineLemmas
 mod ListLemmas
+mod OneFieldLemmas
 mod PlaceLemmas
 mod TextLemmas

@@ -1,23 +1,26 @@
 //! The fields of a line: those that are chosen have a number each.
-ghost use Rattle.std.specs.Prelude.{◌≡◌, ◌≤◌, ◌<◌, ◌+◌, ◌==◌, [], ◌∷◌, drop, length, slice_range};
+ghost use Rattle.std.specs.Prelude.{◌≡◌, ◌≤◌, ◌<◌, ◌+◌, ◌==◌, [], ◌∷◌, drop, length, slice_range, IfSome};
 ghost use Rattle.std.specs.List.{slice_split};
+ghost use Rattle.std.specs.Option.{option_map};
 ghost use Rattle.std.specs.Result.{result_map_both};
 ghost use Rattle.num_format.specs.Format.{FormatData};
 ghost use Rattle.regroup_shared.specs.Sending.{line};
 ghost use Rattle.regroup_lines.specs.Fault.{fault_of};
 ghost use Rattle.regroup_lines.specs.Fields.{SendsIfOk, checked};
 ghost use Rattle.regroup_lines.specs.Lines.{field_written, fields_replaced, fields_written};
+ghost use Rattle.regroup_lines.specs.Places.{field_place, place_of};
 ghost use Rattle.regroup_lines.specs.Sending.{SendsLine};
 ghost use Rattle.regroup_lines.specs.declared.rules.Rules.{Rules};
 
 use crate::fault::RegroupFault;
 use crate::number::{Around, Number};
-use crate::pass_on;
 use crate::rules::{Fields, Rules, trim};
+use crate::{pass_on, regroup_place};
 use memchr::memchr;
 use num_format::Format;
 use num_format::to_formatted_string::write_whole;
 use std::io::Write;
+use std::ops::Range;
 
 /// Sends a line with the number in each chosen field regrouped, and a newline.
 pub(crate) fn regroup_fields<W: Write, F: Format, G: Format>(
@@ -32,8 +35,49 @@ pub(crate) fn regroup_fields<W: Write, F: Format, G: Format>(
     ensures { SendsLine (fields_replaced fields.now rules.now (F.answers from.now) (G.answers to.now) number text.now)
         (W.contents w.old) (W.contents w.new) (result_map_both (λ sent. sent) fault_of result) }
 {
+    // One field is read once, and the bytes before it and after it are sent as they are.
+    match fields.only() {
+        Some(field) => match field_place(fields.delimiter, text, field - 1) {
+            Some(place) => regroup_place(rules, text, trim(text, place), number, w, from, to),
+            None => Err(RegroupFault::FewFields(number)),
+        },
+        None => regroup_each(rules, fields, text, number, w, from, to),
+    }
+}
+
+/// Does the same for any fields: reads the number in each, and reads and sends it again if none is at fault.
+fn regroup_each<W: Write, F: Format, G: Format>(
+    rules: &Rules,
+    fields: &Fields,
+    text: &[u8],
+    number: u64,
+    w: &mut W,
+    from: &F,
+    to: &G,
+) -> Result<(), RegroupFault>
+    ensures { SendsLine (fields_replaced fields.now rules.now (F.answers from.now) (G.answers to.now) number text.now)
+        (W.contents w.old) (W.contents w.new) (result_map_both (λ sent. sent) fault_of result) }
+{
     check_fields(rules, fields, text, number, from)?;
     send_fields(rules, fields, text, number, w, from, to)
+}
+
+/// Returns the place of the field that so many others are before, or `None` if the line has too few.
+fn field_place(delimiter: u8, text: &[u8], before: u64) -> Option<Range<usize>>
+    ensures place { option_map place_of result
+        ≡ field_place 0 (slice_split (λ b. b == delimiter) text.now) before }
+    ensures ordered { IfSome result (λ place. place.start ≤ place.end) }
+    ensures within { IfSome result (λ place. place.end ≤ length text.now) }
+{
+    let mut start = 0;
+    for _ in 0..before {
+        let end = field_end(delimiter, text, start);
+        if end == text.len() {
+            return None;
+        }
+        start = end + 1;
+    }
+    Some(start..field_end(delimiter, text, start))
 }
 
 /// Reads the number in each chosen field of a line.

@@ -1,5 +1,6 @@
 //! How the lines of an input are regrouped, and where the numbers of a line are.
-ghost use Rattle.std.specs.Prelude.{◌≡◌, ◌≤◌, ◌+◌, length};
+ghost use Rattle.std.specs.Prelude.{◌≡◌, ◌<◌, ◌≤◌, [], ◌∷◌, length, IfSome};
+ghost use Rattle.regroup_lines.specs.Lists.{one_field};
 ghost use Rattle.regroup_lines.specs.Places.{are_enough, is_at_most, is_chosen, is_chosen_from, is_enough, is_in_range, place_of, trimmed};
 
 use std::ops::Range;
@@ -91,6 +92,21 @@ impl FieldRange {
 }
 
 impl Fields<'_> {
+    /// Returns the number of the field, if exactly one has a number.
+    pub(crate) fn only(&self) -> Option<u64>
+        ensures { IfSome result (λ number. (0 < number) × (self.now.list.now ≡ one_field number ∷ [])) }
+    {
+        match self.list {
+            [
+                FieldRange {
+                    first,
+                    last: Some(last),
+                },
+            ] if first == last && *first > 0 => Some(*first),
+            _ => None,
+        }
+    }
+
     /// Returns whether the field of this number has a number.
     pub(crate) fn contain(&self, number: u64) -> bool
         ensures { result ≡ is_chosen self.now.list.now number }
