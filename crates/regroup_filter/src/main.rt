@@ -5,7 +5,7 @@
 
 mod options;
 
-use crate::options::{command, files_of, rules_of, words_of};
+use crate::options::{command, files_of, list_of, rules_of, words_of};
 use clap::error::ErrorKind;
 use regroup_stream::{FAILED, Formats, MISUSED, REGROUPED, Rules, formats_named, refuse, run};
 use std::fs::File;
@@ -45,7 +45,11 @@ fn try_main(rt: &HostRuntime) -> io::Result<u8> {
             return Ok(error.exit_code() as u8);
         }
     };
-    let Some(rules) = rules_of(&matches) else {
+    let Some(list) = list_of(rt.alloc(), &matches)? else {
+        eprintln!(rt; "regroup-lines: the fields are no list, as 1,3-5 or 2-")?;
+        return Ok(MISUSED);
+    };
+    let Some(rules) = rules_of(&matches, &list) else {
         eprintln!(rt; "regroup-lines: the delimiter is not one ASCII character")?;
         return Ok(MISUSED);
     };

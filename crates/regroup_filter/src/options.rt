@@ -1,7 +1,7 @@
 //! The options and words of the command line.
 
 use clap::{Arg, ArgAction, ArgMatches, Command, value_parser};
-use regroup_stream::{Field, Reading, Rules, Span};
+use regroup_stream::{FieldRange, Fields, Reading, Rules, Span, field_list};
 use std::alloc::{AllocError, Global};
 
 /// The version of the project, which the file VERSION has too.
@@ -11,6 +11,9 @@ const VERSION: &str = "0.1.0";
 const AFTER_HELP: &str = "\
 FROM and TO are each plain, as in -1234.5, a locale, as en-US, de_DE.UTF-8 or C, or custom:SEP:GROUPING:MINUS:
 the format of en with these three fields. GROUPING is Standard, Indian, Posix, Myriad or Sparse.
+
+LIST has parts N, N-M, N- or -M, with commas between them, as 1,3-5: fields are counted from 1. A line needs each
+field that LIST names, and of N- the field N.
 
 A number is read exactly as it is printed under FROM, grouped or not, and is written with as many decimals
 as it has. Spaces, tabs and carriage returns around it are passed on. A last line without a newline is
@@ -52,9 +55,9 @@ pub(crate) fn command<'a>(alloc: Global) -> Result<Command<'a>, AllocError> {
 fn with_options<'a>(alloc: Global, command: Command<'a>) -> Result<Command<'a>, AllocError> {
     let field = Arg::new(alloc, "field")
         .long("field")
-        .value_name("N")
-        .value_parser(value_parser!(u64).range(1..))
-        .help("Read the number in this field of each line, counted from 1, and pass on the others");
+        .value_name("LIST")
+        .allow_negative_numbers(true)
+        .help("Read the number in each of these fields of a line, and pass on the others");
     let delimiter = Arg::new(alloc, "delimiter")
         .short('d')
         .long("delimiter")
@@ -100,8 +103,23 @@ fn with_fault_options<'a>(alloc: Global, command: Command<'a>) -> Result<Command
     command.arg(invalid)?.arg(empty)?.arg(lenient)
 }
 
+/// Returns the fields that are chosen: none without `--field`. Returns `None` if its value is no list.
+///
+/// # Errors
+///
+/// Returns an error if there is no memory for them.
+pub(crate) fn list_of(
+    alloc: Global,
+    matches: &ArgMatches<'_>,
+) -> Result<Option<Vec<FieldRange>>, AllocError> {
+    match matches.get_str("field") {
+        Some(text) => field_list(alloc, text),
+        None => Ok(Some(Vec::new(alloc))),
+    }
+}
+
 /// Returns how the lines are regrouped, or `None` if the delimiter is not one ASCII character.
-pub(crate) fn rules_of(matches: &ArgMatches<'_>) -> Option<Rules> {
+pub(crate) fn rules_of<'a>(matches: &ArgMatches<'_>, list: &'a [FieldRange]) -> Option<Rules<'a>> {
     let reading = if matches.get_flag("lenient") {
         Reading::Lenient
     } else {
@@ -113,7 +131,7 @@ pub(crate) fn rules_of(matches: &ArgMatches<'_>) -> Option<Rules> {
         matches.get_one::<u64>("header-lines").unwrap_or(0)
     };
     Some(Rules {
-        span: span_of(matches)?,
+        span: span_of(matches, list)?,
         reading,
         header_lines,
         passes_empty: matches.get_flag("empty"),
@@ -121,19 +139,16 @@ pub(crate) fn rules_of(matches: &ArgMatches<'_>) -> Option<Rules> {
     })
 }
 
-/// Returns where the number of a line is, or `None` if the delimiter is not one ASCII character.
-fn span_of(matches: &ArgMatches<'_>) -> Option<Span> {
-    let Some(number) = matches.get_one::<u64>("field") else {
+/// Returns where the numbers of a line are, or `None` if the delimiter is not one ASCII character.
+fn span_of<'a>(matches: &ArgMatches<'_>, list: &'a [FieldRange]) -> Option<Span<'a>> {
+    if list.is_empty() {
         return Some(Span::Trimmed);
-    };
+    }
     let delimiter = match matches.get_str("delimiter").unwrap_or("\t").as_bytes() {
         [byte] if byte.is_ascii() => *byte,
         _ => return None,
     };
-    Some(Span::Field(Field {
-        before: number.saturating_sub(1),
-        delimiter,
-    }))
+    Some(Span::Fields(Fields { list, delimiter }))
 }
 
 /// Returns the names of the files.

@@ -2,7 +2,10 @@
 pub mod AroundLemmas
 mod DecimalLemmas
 mod Examples
+mod FieldLemmas
 mod InputLemmas
 mod LineLemmas
+mod ListLemmas
+mod OneFieldLemmas
 mod PlaceLemmas
 mod TextLemmas

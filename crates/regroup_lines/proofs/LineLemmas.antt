@@ -1,13 +1,13 @@
 -- What regrouping writes and returns, line after line.
 use Rattle.std.proofs.Common.{◌≡◌, ◌≢◌, ℕ, ◌+◌, ◌<◌, ◌≤◌, ◌==◌, Bool, true, false, List, [], ◌∷◌, ◌++◌, length, Option, Some, None, Result, Ok, Err, if◌then◌else◌, refl, sym, ap, subst, ◌∙◌, arith, append_assoc, append-nil}
 use Rattle.std.specs.Prelude.{ℤ, nat_le, nat_lt, ◌&&◌, take, drop, slice_range}
-use Rattle.std.specs.List.{slice_split, onto_first}
+use Rattle.std.specs.List.{join_with_byte, slice_split, onto_first}
 use Rattle.std.specs.Option.{ok_or}
 use Rattle.std.specs.Result.{result_map_both}
 use Rattle.std.specs.Str.{is_utf8}
 use Rattle.std.specs.Io.KnownBytes.{Appends, Consumes, IsAtEnd, Keeps}
 use Rattle.std.proofs.KnownBytes.{Appends-nil, Appends-trans, Consumes-kept, Consumes-nil, Consumes-trans}
-use Rattle.std.proofs.lemmas.Bool.{eqb-true, false_from_ne_true}
+use Rattle.std.proofs.lemmas.Bool.{eqb-true, false_from_ne_true, lt-leb}
 use Rattle.std.proofs.lemmas.Bool.Decides.{Decides-ltb}
 use Rattle.std.proofs.lemmas.List.Splits.{length-slice_split, slice_split_at, slice_split_none}
 use Rattle.num_format.specs.Format.{FormatData}
@@ -17,16 +17,21 @@ use Rattle.num_format.specs.Writing.{StopsWithin}
 use Rattle.regroup_shared.specs.Reading.{number_read}
 use Rattle.regroup_shared.specs.Sending.{line}
 use Rattle.regroup_shared.proofs.SendingLemmas.{StopsWithin_prefix, StopsWithin_suffix}
-use Rattle.regroup_lines.specs.Fault.{Fault}
+use Rattle.regroup_lines.specs.Fault.{Fault, fault_of}
 use Rattle.regroup_lines.specs.Fault.Fault.{FewFields, Line, NotText, Read, TooLong, TooMany, Write}
 use Rattle.regroup_lines.specs.Input.{HasNoNewline, Reads}
-use Rattle.regroup_lines.specs.Lines.{Regrouped, Stop, line_written, between, body_written, number_in_text, number_replaced, number_written, or_itself, text_written, regrouped, regrouped_after, regrouped_parts, regrouped_rest, returned_unfinished, returning, size_fault, unless_fault, writing, writing_line}
+use Rattle.regroup_lines.specs.Lines.{Regrouped, Stop, line_written, between, body_written, field_written, fields_written, number_in_text, number_written, numbers_replaced, or_itself, place_written, text_written, regrouped, regrouped_after, regrouped_parts, regrouped_rest, returned_unfinished, returning, size_fault, unless_fault, with_first, writing, writing_line}
 use Rattle.regroup_lines.specs.Lines.Stop.{Ended, Failed, Unread}
-use Rattle.regroup_lines.specs.Places.{line_place}
+use Rattle.regroup_lines.specs.Places.{are_enough, is_chosen, trimmed}
 use Rattle.regroup_lines.specs.Sending.{Regroups, SendsLine}
+use Rattle.regroup_lines.specs.declared.fault.RegroupFault.{RegroupFault}
+use Rattle.regroup_lines.specs.declared.fault.RegroupFault.TheVariants as fault
+use Rattle.regroup_lines.specs.declared.rules.FieldRange.{FieldRange}
 use Rattle.regroup_lines.specs.declared.rules.Reading.{Reading}
 use Rattle.regroup_lines.specs.declared.rules.Reading.TheVariants.{Lenient, Strict}
 use Rattle.regroup_lines.specs.declared.rules.Rules.{Rules}
+use Rattle.regroup_lines.specs.declared.rules.Span.{Span}
+use Rattle.regroup_lines.specs.declared.rules.Span.TheVariants as span
 use Rattle.regroup_lines.specs.declared.TheConstants.{MAX_LINE_LEN}
 
 not_less : (a b : ℕ) → b ≤ a → nat_lt a b ≡ false
@@ -76,19 +81,45 @@ empty-fault : (empty : Bool) (text : List ℕ) (written : Result (List ℕ) Faul
 empty-fault true text written other is = cc
 empty-fault false text written other is = other is
 
-few-fault : (number : ℕ) (written : Result (List ℕ) Fault) → written ≡ Err (FewFields number) → written ≢ Err Write
-few-fault number written few is = cc
-
-replaced-fault : (rules : Rules) (from to : FormatData) (number : ℕ) (text : List ℕ) (place : Option (ℕ × ℕ)) →
-    number_replaced rules from to number text place ≢ Err Write
-replaced-fault rules from to number text None = few-fault number (Err (FewFields number)) refl
-replaced-fault rules from to number text (Some place) =
+place-fault : (rules : Rules) (from to : FormatData) (number : ℕ) (text : List ℕ) (place : ℕ × ℕ) → place_written rules from to number text place ≢ Err Write
+place-fault rules from to number text place =
     let bytes = slice_range text place.0 place.1 in
     empty-fault (rules.passes_empty && (place.0 == place.1)) text _
     (between-fault (take place.0 text) (drop place.1 text) _ (number_written-fault rules.reading from to number bytes))
 
+-- nor is a field, nor fields
+field-fault : (rules : Rules) (from to : FormatData) (number : ℕ) (chosen : Bool) (field : List ℕ) → field_written rules from to number chosen field ≢ Err Write
+field-fault rules from to number true field is = place-fault rules from to number field (trimmed field (0, length field)) is
+field-fault rules from to number false field is = cc
+
+first-fault : (first : Result (List ℕ) Fault) (rest : Result (List (List ℕ)) Fault) → first ≢ Err Write → rest ≢ Err Write → with_first first rest ≢ Err Write
+first-fault (Ok text) (Ok texts) here there is = cc
+first-fault (Ok text) (Err fault) here there is = there is
+first-fault (Err fault) rest here there is = here (ap (λ r. result_map_both (λ texts. []) (λ fault. fault) r) is)
+
+count-fault : (enough : Bool) (number : ℕ) → if◌then◌else◌ {A = Result (List (List ℕ)) Fault} enough (Ok []) (Err (FewFields number)) ≢ Err Write
+count-fault true number is = cc
+count-fault false number is = cc
+
+fields-fault : (rules : Rules) (list : List FieldRange) (from to : FormatData) (number before : ℕ) (fields : List (List ℕ)) →
+    fields_written rules list from to number before fields ≢ Err Write
+fields-fault rules list from to number before [] = count-fault (are_enough list before) number
+fields-fault rules list from to number before (field ∷ fields) =
+    first-fault _ _ (field-fault rules from to number (is_chosen list (before + 1)) field) (fields-fault rules list from to number (before + 1) fields)
+
+joined-fault : (delimiter : ℕ) (texts : Result (List (List ℕ)) Fault) → texts ≢ Err Write →
+    result_map_both (join_with_byte delimiter) (λ fault. fault) texts ≢ Err Write
+joined-fault delimiter (Ok texts) other is = cc
+joined-fault delimiter (Err fault) other is = other (cc)
+
+numbers-fault : (span : Span) (rules : Rules) (from to : FormatData) (number : ℕ) (text : List ℕ) → numbers_replaced span rules from to number text ≢ Err Write
+numbers-fault span.Line rules from to number text = place-fault rules from to number text (0, length text)
+numbers-fault span.Trimmed rules from to number text = place-fault rules from to number text (trimmed text (0, length text))
+numbers-fault (span.Fields fields) rules from to number text =
+    joined-fault fields.delimiter _ (fields-fault rules fields.list.now from to number 0 (slice_split (λ b. b == fields.delimiter) text))
+
 pub body_written-fault : (rules : Rules) (from to : FormatData) (number : ℕ) (text : List ℕ) → body_written rules from to number text ≢ Err Write
-body_written-fault rules from to number text = replaced-fault rules from to number text (line_place rules.span text)
+body_written-fault rules from to number text = numbers-fault rules.span rules from to number text
 
 itself-fault : (passes : Bool) (text : List ℕ) (written : Result (List ℕ) Fault) → written ≢ Err Write → (if passes then or_itself text written else written) ≢ Err Write
 itself-fault true text (Ok written) other is = cc
@@ -98,6 +129,55 @@ itself-fault false text written other is = other is
 text_written-fault : (rules : Rules) (from to : FormatData) (number : ℕ) (text : List ℕ) → text_written rules from to number text ≢ Err Write
 text_written-fault rules from to number text =
     empty-fault (nat_le number rules.header_lines) text _ (itself-fault rules.passes_faulty text _ (body_written-fault rules from to number text))
+
+-- where a write fails, the line is at no fault
+write-kept : (passes : Bool) (text : List ℕ) (body : Result (List ℕ) Fault) (a b : Option (List ℕ)) → body ≢ Err Write → SendsLine {T = Unit {0}} body a b (Err Write) →
+    SendsLine {T = Unit {0}} (if passes then or_itself text body else body) a b (Err Write)
+write-kept true text (Ok written) a b other sends = sends
+write-kept true text (Err fault) a b other sends = absurd (other (ap Err (sym sends.0)))
+write-kept false text body a b other sends = sends
+
+-- where a line at fault is passed on, nothing was sent of it before
+fault-passed : {U : Type 0} (T : Type 0) (text : List ℕ) (body : Result (List ℕ) Fault) (a b c : Option (List ℕ)) (fault : Fault) → fault ≢ Write → SendsLine {T = T} body a b (Err fault) →
+    (result : Result U Fault) → SendsLine (Ok text) b c result → SendsLine (or_itself text body) a c result
+fault-passed T text (Ok written) a b c fault other sends result passed = absurd (other sends.0)
+fault-passed T text (Err f) a b c fault other sends result passed = subst (λ s. SendsLine (Ok text) s c result) sends.1 passed
+
+module _ (rules : Rules) (from to : FormatData) (number : ℕ) (text : List ℕ) (a b : Option (List ℕ)) (below : rules.header_lines < number) where
+  abbrev body : Result (List ℕ) Fault
+  body = body_written rules from to number text
+
+  -- a line that is no header
+  no_header : {T : Type 0} (c : Option (List ℕ)) (result : Result T Fault) → SendsLine (if rules.passes_faulty then or_itself text body else body) a c result →
+      SendsLine (text_written rules from to number text) a c result
+  no_header c result sends =
+      subst (λ (header : Bool). SendsLine (if header then Ok text else (if rules.passes_faulty then or_itself text body else body)) a c result)
+      (sym (lt-leb number rules.header_lines below)) sends
+
+  pub text_written-unwritten : SendsLine {T = Unit {0}} (body_written rules from to number text) a b (Err Write) → SendsLine {T = Unit {0}} (text_written rules from to number text) a b (Err Write)
+  text_written-unwritten sends = no_header b (Err Write) (write-kept rules.passes_faulty text body a b (body_written-fault rules from to number text) sends)
+
+  pub text_written-passed : {U : Type 0} (c : Option (List ℕ)) (fault : Fault) → rules.passes_faulty ≡ true → fault ≢ Write →
+      SendsLine {T = Unit {0}} (body_written rules from to number text) a b (Err fault) → (result : Result U Fault) → SendsLine (Ok text) b c result →
+      SendsLine (text_written rules from to number text) a c result
+  text_written-passed c fault passes other sends result passed =
+      no_header c result (subst (λ (p : Bool). SendsLine (if p then or_itself text body else body) a c result) (sym passes)
+      (fault-passed (Unit {0}) text body a b c fault other sends result passed))
+
+  pub text_written-fault_kept : {T : Type 0} (result : Result T Fault) → rules.passes_faulty ≡ false → SendsLine (body_written rules from to number text) a b result →
+      SendsLine (text_written rules from to number text) a b result
+  text_written-fault_kept result keeps sends =
+      no_header b result (subst (λ (p : Bool). SendsLine (if p then or_itself text body else body) a b result) (sym keeps) sends)
+
+-- a fault that is no failed write
+pub other_fault : (f : RegroupFault) → f ≢ fault.Write → fault_of f ≢ Write
+other_fault fault.TooMany other is = cc
+other_fault (fault.TooLong number) other is = cc
+other_fault (fault.FewFields number) other is = cc
+other_fault fault.Read other is = cc
+other_fault (fault.NotText number) other is = cc
+other_fault (fault.Line number error) other is = cc
+other_fault fault.Write other is = other refl
 
 module _ (rules : Rules) (most : ℕ) (from to : FormatData) where
   line_written-text : (number : ℕ) (text : List ℕ) → number ≤ most → length text ≤ MAX_LINE_LEN → line_written rules most from to number text ≡ text_written rules from to number text

@@ -1,6 +1,6 @@
 -- Where the number is in the text of a line.
 use Rattle.std.proofs.Common.{◌≡◌, ◌≢◌, ℕ, ◌+◌, ◌-◌, ◌<◌, ◌≤◌, ◌==◌, Bool, true, false, List, [], ◌∷◌, ◌++◌, length, take, drop, get_or, Option, Some, None, refl, sym, ap, subst, ◌∙◌, arith, eq-eqb, take-append-drop}
-use Rattle.std.specs.Prelude.{All, zero, suc, slice_range}
+use Rattle.std.specs.Prelude.{All, slice_range}
 use Rattle.std.specs.Char.{is_ascii_whitespace}
 use Rattle.std.specs.List.{prefix_len, slice_split, suffix_len}
 use Rattle.std.specs.Str.{IsTrimAsciiEnd, IsTrimAsciiStart}
@@ -12,7 +12,7 @@ use Rattle.std.proofs.lemmas.List.Sums.{prefix_len-le-length, suffix_len-le-leng
 use Rattle.std.proofs.lemmas.Str.Ascii.{trim_ascii_end_is, trim_ascii_start_is}
 use Rattle.memchr.specs.Find.{IsFirstByte, is_byte}
 use Rattle.regroup_lines.proofs.InputLemmas.{range-later}
-use Rattle.regroup_lines.specs.Places.{field_place, trimmed}
+use Rattle.regroup_lines.specs.Places.{trimmed}
 
 -- a place without the whitespace at its ends
 module _ (text field rest number : List ℕ) (start end : ℕ) (is : field ≡ slice_range text start end) (ordered : start ≤ end) (within : end ≤ length text)
@@ -82,53 +82,8 @@ module _ (d : ℕ) where
       ap (slice_split (λ b. b == d)) whole
       ∙ slice_split_at (λ b. b == d) (take k text) d (drop (k + 1) text) (none_before text k found) (eq-eqb d d refl)
 
-  module _ (text : List ℕ) where
-    -- one field more is passed over
-    pub field-next : (start before k : ℕ) → start ≤ length text → IsFirstByte (is_byte d) (drop start text) (Some k) →
-        field_place start (slice_split (λ b. b == d) (drop start text)) (before + 1)
-        ≡ field_place (start + (k + 1)) (slice_split (λ b. b == d) (drop (start + (k + 1)) text)) before
-    unfolding field_place
-    field-next start before k within found =
-        let rest = drop start text in
-        let more = drop (k + 1) rest in
-        let high : k < length rest = found.0.high in
-        let len : length (take k rest) ≡ k = length-take-le k rest (omega arith) in
-        let next : before + 1 ≡ suc before = omega arith in
-        let sum : start + length (take k rest) + 1 ≡ start + (k + 1) = omega (arith, len) in
-        ap (field_place start (slice_split (λ b. b == d) rest)) next
-        ∙ ap (λ fields. field_place start fields (suc before)) (fields-at rest k found)
-        ∙ ap (λ place. field_place place (slice_split (λ b. b == d) more) before) sum
-        ∙ ap (λ l. field_place (start + (k + 1)) (slice_split (λ b. b == d) l) before) (drop-drop (k + 1) start text)
-
-    -- the field begins here, and a delimiter follows
-    pub field-here : (start k : ℕ) → start ≤ length text → IsFirstByte (is_byte d) (drop start text) (Some k) →
-        field_place start (slice_split (λ b. b == d) (drop start text)) 0 ≡ Some (start, start + k)
-    unfolding field_place
-    field-here start k within found =
-        let rest = drop start text in
-        let high : k < length rest = found.0.high in
-        ap (λ fields. field_place start fields 0) (fields-at rest k found)
-        ∙ ap (λ n. Some (start, start + n)) (length-take-le k rest (omega arith))
-
-    -- or none does
-    pub field-last : (start : ℕ) → start ≤ length text → IsFirstByte (is_byte d) (drop start text) None →
-        field_place start (slice_split (λ b. b == d) (drop start text)) 0 ≡ Some (start, start + (length text - start))
-    unfolding field_place
-    field-last start within nowhere =
-        ap (λ fields. field_place start fields 0) (slice_split_none (λ b. b == d) (drop start text) (none_of (drop start text) nowhere))
-        ∙ ap (λ n. Some (start, start + n)) (length-drop start text)
-
-    -- too few fields
-    pub field-few : (start before : ℕ) → IsFirstByte (is_byte d) (drop start text) None →
-        field_place start (slice_split (λ b. b == d) (drop start text)) (before + 1) ≡ None
-    unfolding field_place
-    field-few start before nowhere =
-        let next : before + 1 ≡ suc before = omega arith in
-        ap (field_place start (slice_split (λ b. b == d) (drop start text))) next
-        ∙ ap (λ fields. field_place start fields (suc before)) (slice_split_none (λ b. b == d) (drop start text) (none_of (drop start text) nowhere))
-
-  -- the same of what a search returned in the slice from `start` on, where `counter` of `n` fields were passed over
-  module _ (text : List ℕ) (start n counter : ℕ) (r : Option ℕ) (within : start ≤ length text)
+  -- the field that begins at `start`, by what a search returned in the slice from there on
+  module _ (text : List ℕ) (start : ℕ) (r : Option ℕ) (within : start ≤ length text)
       (search : IsFirstByte (is_byte d) (take (length text - start) (drop start text)) r) where
     there : (k : ℕ) → r ≡ Some k → IsFirstByte (is_byte d) (drop start text) (Some k)
     there k is =
@@ -140,31 +95,19 @@ module _ (d : ℕ) where
         subst (λ l. IsFirstByte (is_byte d) l None) (take_rest text start)
         (subst (IsFirstByte (is_byte d) (take (length text - start) (drop start text))) is search)
 
-    pub place-bound : (k : ℕ) → r ≡ Some k → start + (k + 1) ≤ length text
-    place-bound k is = let high = (there k is).0.high in let len = length-drop start text in omega (arith, high, len)
+    pub end-bound : (k : ℕ) → r ≡ Some k → start + k < length text
+    end-bound k is = let high = (there k is).0.high in let len = length-drop start text in omega (arith, high, len)
 
-    pub place-next : (k : ℕ) → r ≡ Some k → counter < n →
-        field_place start (slice_split (λ b. b == d) (drop start text)) (n - counter)
-        ≡ field_place (start + (k + 1)) (slice_split (λ b. b == d) (drop (start + (k + 1)) text)) (n - (counter + 1))
-    place-next k is more =
-        let fewer : n - counter ≡ (n - (counter + 1)) + 1 = omega arith in
-        ap (field_place start (slice_split (λ b. b == d) (drop start text))) fewer
-        ∙ field-next text start (n - (counter + 1)) k within (there k is)
+    pub end-found : (k : ℕ) → r ≡ Some k →
+        slice_split (λ b. b == d) (drop start text) ≡ slice_range text start (start + k) ∷ slice_split (λ b. b == d) (drop (start + k + 1) text)
+    end-found k is =
+        let len : start + k - start ≡ k = omega arith in
+        let sum : start + (k + 1) ≡ start + k + 1 = omega arith in
+        fields-at (drop start text) k (there k is)
+        ∙ ap (λ n. take n (drop start text) ∷ slice_split (λ b. b == d) (drop (k + 1) (drop start text))) (sym len)
+        ∙ ap (λ l. slice_range text start (start + k) ∷ slice_split (λ b. b == d) l) (drop-drop (k + 1) start text ∙ ap (λ n. drop n text) sum)
 
-    pub place-few : r ≡ None → counter < n → field_place start (slice_split (λ b. b == d) (drop start text)) (n - counter) ≡ None
-    place-few is more =
-        let fewer : n - counter ≡ (n - (counter + 1)) + 1 = omega arith in
-        ap (field_place start (slice_split (λ b. b == d) (drop start text))) fewer
-        ∙ field-few text start (n - (counter + 1)) (nowhere is)
-
-    pub place-here : (k : ℕ) → r ≡ Some k → n ≤ counter → field_place start (slice_split (λ b. b == d) (drop start text)) (n - counter) ≡ Some (start, start + k)
-    place-here k is all =
-        let none : n - counter ≡ 0 = omega arith in
-        ap (field_place start (slice_split (λ b. b == d) (drop start text))) none ∙ field-here text start k within (there k is)
-
-    pub place-last : (k : ℕ) → r ≡ None → k ≡ length text - start → n ≤ counter →
-        field_place start (slice_split (λ b. b == d) (drop start text)) (n - counter) ≡ Some (start, start + k)
-    place-last k is rest all =
-        let none : n - counter ≡ 0 = omega arith in
-        ap (field_place start (slice_split (λ b. b == d) (drop start text))) none ∙ field-last text start within (nowhere is)
-        ∙ ap (λ m. Some (start, start + m)) (sym rest)
+    pub end-last : r ≡ None → slice_split (λ b. b == d) (drop start text) ≡ slice_range text start (length text) ∷ []
+    end-last is =
+        slice_split_none (λ b. b == d) (drop start text) (none_of (drop start text) (nowhere is))
+        ∙ ap (λ l. l ∷ []) (sym (take_rest text start))

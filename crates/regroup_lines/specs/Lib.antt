@@ -1,7 +1,10 @@
 -- The definitions that the contracts of this crate use.
 pub mod Decimals
 pub mod Fault
+pub mod Fields
 pub mod Input
 pub mod Lines
+pub mod Lists
+pub mod Numbers
 pub mod Places
 pub mod Sending

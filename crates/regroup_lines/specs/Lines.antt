@@ -1,6 +1,6 @@
 -- What regrouping the lines of an input writes and returns.
 use Rattle.std.specs.Prelude.{ℕ, ◌+◌, ◌==◌, nat_le, nat_lt, Bool, true, false, ◌&&◌, ℤ, if◌then◌else◌, List, [], ◌∷◌, ◌++◌, length, take, drop, slice_range, Option, None, Some, Result, Ok, Err}
-use Rattle.std.specs.List.{slice_split}
+use Rattle.std.specs.List.{join_with_byte, slice_split}
 use Rattle.std.specs.Option.{ok_or, option_map}
 use Rattle.std.specs.Result.{result_map_both}
 use Rattle.std.specs.Str.{is_utf8}
@@ -14,10 +14,13 @@ use Rattle.regroup_shared.specs.Sending.{line}
 use Rattle.regroup_lines.specs.Decimals.{decimal_read}
 use Rattle.regroup_lines.specs.Fault.{Fault}
 use Rattle.regroup_lines.specs.Fault.Fault.{TooMany, TooLong, FewFields, Read, NotText, Line}
-use Rattle.regroup_lines.specs.Places.{line_place}
+use Rattle.regroup_lines.specs.Places.{are_enough, is_chosen, trimmed}
+use Rattle.regroup_lines.specs.declared.rules.FieldRange.{FieldRange}
+use Rattle.regroup_lines.specs.declared.rules.Fields.{Fields}
 use Rattle.regroup_lines.specs.declared.rules.Reading.{Reading}
 use Rattle.regroup_lines.specs.declared.rules.Reading.TheVariants.{Lenient, Strict}
 use Rattle.regroup_lines.specs.declared.rules.Rules.{Rules}
+use Rattle.regroup_lines.specs.declared.rules.Span.{Span}
 use Rattle.regroup_lines.specs.declared.rules.Span.TheVariants as span
 use Rattle.regroup_lines.specs.declared.TheConstants.{MAX_LINE_LEN}
 
@@ -66,20 +69,47 @@ number_written Strict from to number text =
 abbrev pub between : (before after : List ℕ) → Result (List ℕ) Fault → Result (List ℕ) Fault
 between before after written = result_map_both (λ text. before ++ (text ++ after)) (λ fault. fault) written
 
--- a line with the number at this place: the other bytes are passed on, and so are all where the number has no byte and that is no fault
+-- a text with the number at this place: the other bytes are passed on, and so are all where the number has no byte and that is no fault
 abbrev pub place_written : Rules → FormatData → FormatData → ℕ → List ℕ → ℕ × ℕ → Result (List ℕ) Fault
 place_written rules from to number text place =
     if rules.passes_empty && (place.0 == place.1) then Ok text else
     between (take place.0 text) (drop place.1 text) (number_written rules.reading from to number (slice_range text place.0 place.1))
 
--- a line with the number where the rules say
-abbrev pub number_replaced : Rules → FormatData → FormatData → ℕ → List ℕ → Option (ℕ × ℕ) → Result (List ℕ) Fault
-number_replaced rules from to number text None = Err (FewFields number)
-number_replaced rules from to number text (Some place) = place_written rules from to number text place
+-- a text with the number in it, without the ASCII whitespace at its ends
+abbrev pub number_replaced : Rules → FormatData → FormatData → ℕ → List ℕ → Result (List ℕ) Fault
+number_replaced rules from to number text = place_written rules from to number text (trimmed text (0, length text))
+
+-- a field, which may be chosen
+abbrev pub field_written : Rules → FormatData → FormatData → ℕ → (chosen : Bool) → List ℕ → Result (List ℕ) Fault
+field_written rules from to number chosen field = if chosen then number_replaced rules from to number field else Ok field
+
+-- a text before others, or the first fault
+abbrev pub with_first : Result (List ℕ) Fault → Result (List (List ℕ)) Fault → Result (List (List ℕ)) Fault
+with_first (Ok text) (Ok texts) = Ok (text ∷ texts)
+with_first (Ok text) (Err fault) = Err fault
+with_first (Err fault) texts = Err fault
+
+-- the fields of a line that so many others are before, or the first fault; where they end, the line may have too few
+abbrev pub fields_written : Rules → List FieldRange → FormatData → FormatData → ℕ → (before : ℕ) → List (List ℕ) → Result (List (List ℕ)) Fault
+fields_written rules list from to number before [] = if are_enough list before then Ok [] else Err (FewFields number)
+fields_written rules list from to number before (field ∷ fields) =
+    with_first (field_written rules from to number (is_chosen list (before + 1)) field) (fields_written rules list from to number (before + 1) fields)
+
+-- a line split at the delimiter, with the number in each chosen field replaced, and joined again
+abbrev pub fields_replaced : Fields → Rules → FormatData → FormatData → ℕ → List ℕ → Result (List ℕ) Fault
+fields_replaced fields rules from to number text =
+    result_map_both (join_with_byte fields.delimiter) (λ fault. fault)
+    (fields_written rules fields.list.now from to number 0 (slice_split (λ b. b == fields.delimiter) text))
+
+-- a line with the numbers where the rules say replaced
+abbrev pub numbers_replaced : Span → Rules → FormatData → FormatData → ℕ → List ℕ → Result (List ℕ) Fault
+numbers_replaced span.Line rules from to number text = place_written rules from to number text (0, length text)
+numbers_replaced span.Trimmed rules from to number text = number_replaced rules from to number text
+numbers_replaced (span.Fields fields) rules from to number text = fields_replaced fields rules from to number text
 
 -- a line that is no header
 abbrev pub body_written : Rules → FormatData → FormatData → ℕ → List ℕ → Result (List ℕ) Fault
-body_written rules from to number text = number_replaced rules from to number text (line_place rules.span text)
+body_written rules from to number text = numbers_replaced rules.span rules from to number text
 
 -- the line itself in place of a fault
 abbrev pub or_itself : List ℕ → Result (List ℕ) Fault → Result (List ℕ) Fault

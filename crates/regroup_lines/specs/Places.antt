@@ -1,16 +1,14 @@
--- Where the number is in the text of a line: the places from the first of two on and before the second.
-use Rattle.std.specs.Prelude.{ℕ, zero, suc, ◌+◌, ◌-◌, ◌==◌, List, [], ◌∷◌, length, slice_range, Option, None, Some}
+-- Where the number is in a text, and which fields of a line have one. A place is from the first of two numbers on and before the second.
+use Rattle.std.specs.Prelude.{ℕ, zero, suc, ◌+◌, ◌-◌, nat_le, Bool, true, ◌&&◌, List, [], ◌∷◌, length, slice_range, Option, None, Some}
 use Rattle.std.specs.Char.{is_ascii_whitespace}
-use Rattle.std.specs.List.{prefix_len, slice_split, suffix_len}
-use Rattle.std.specs.Option.{option_map}
+use Rattle.std.specs.List.{list_all, list_any, prefix_len, suffix_len}
+use Rattle.std.specs.Option.{unwrap_or}
 use Rattle.std.specs.declared.ops.Range.{Range}
-use Rattle.regroup_lines.specs.declared.rules.Field.{Field}
-use Rattle.regroup_lines.specs.declared.rules.Span.{Span}
-use Rattle.regroup_lines.specs.declared.rules.Span.TheVariants as span
+use Rattle.regroup_lines.specs.declared.rules.FieldRange.{FieldRange}
 
 -- a place as clauses compare it
-abbrev pub place_shown : Option (Range ℕ) → Option (ℕ × ℕ)
-place_shown place = option_map (λ r. (r.start, r.end)) place
+abbrev pub place_of : Range ℕ → ℕ × ℕ
+place_of range = (range.start, range.end)
 
 -- what is left of a place in a text without the ASCII whitespace at its ends
 abbrev pub trimmed : List ℕ → ℕ × ℕ → ℕ × ℕ
@@ -18,14 +16,33 @@ trimmed text place =
     let start = place.0 + prefix_len is_ascii_whitespace (slice_range text place.0 place.1) in
     (start, place.1 - suffix_len is_ascii_whitespace (slice_range text start place.1))
 
+-- whether a number is at most the last one of a range, which may have none
+abbrev pub is_at_most : ℕ → Option ℕ → Bool
+is_at_most n None = true
+is_at_most n (Some last) = nat_le n last
+
+-- whether the field of this number is in the range
+abbrev pub is_in_range : ℕ → FieldRange → Bool
+is_in_range n range = nat_le range.first n && is_at_most n range.last
+
+-- whether a line of so many fields has the last one of the range, or else the first one
+abbrev pub is_enough : ℕ → FieldRange → Bool
+is_enough count range = nat_le (unwrap_or range.last range.first) count
+
+-- whether the field of this number is chosen
+abbrev pub is_chosen : List FieldRange → ℕ → Bool
+is_chosen list n = list_any (is_in_range n) list
+
+-- whether one of this number or above may be
+abbrev pub is_chosen_from : List FieldRange → ℕ → Bool
+is_chosen_from list n = list_any (λ range. is_at_most n range.last) list
+
+-- whether a line of so many fields has all that are wanted of it
+abbrev pub are_enough : List FieldRange → ℕ → Bool
+are_enough list count = list_all (is_enough count) list
+
 -- where the field is that so many others are before, if the first of the fields begins at this place and one byte is between two
 unfoldable pub field_place : (start : ℕ) → List (List ℕ) → (before : ℕ) → Option (ℕ × ℕ)
 field_place start [] before = None
 field_place start (field ∷ fields) zero = Some (start, start + length field)
 field_place start (field ∷ fields) (suc before) = field_place (start + length field + 1) fields before
-
--- where the number is in a line: it is the line, or the line or a field without the ASCII whitespace at its ends
-abbrev pub line_place : Span → List ℕ → Option (ℕ × ℕ)
-line_place span.Line text = Some (0, length text)
-line_place span.Trimmed text = Some (trimmed text (0, length text))
-line_place (span.Field field) text = option_map (trimmed text) (field_place 0 (slice_split (λ b. b == field.delimiter) text) field.before)

@@ -9,36 +9,37 @@
 //! regroup_lines(&mut reader, &mut out, &Locale::en, &Locale::en_IN)    // Ok(2), and "10,00,000\n-5\n" in `out`
 //! ```
 //!
-//! The input is read into an array of 4,096 bytes, and parsed there. Nothing here allocates.
+//! The input is read into an array of 4,096 bytes, and parsed there. Only [`field_list`] allocates.
 #![tactic(auto)]
 
 mod fault;
+mod fields;
 mod input;
 pub mod laws;
+mod list;
+mod number;
 pub mod rules;
 
-ghost use Rattle.std.specs.Prelude.{◌≡◌, ◌<◌, ◌++◌, length, IsUtf8};
+ghost use Rattle.std.specs.Prelude.{◌≤◌, length};
 ghost use Rattle.std.specs.Result.{result_map_both};
-ghost use Rattle.num_format.specs.Cut.{cut_text};
-ghost use Rattle.num_format.specs.Refusal.{ParseNumber};
 ghost use Rattle.regroup_shared.specs.Sending.{Sends, line};
-ghost use Rattle.regroup_lines.specs.Fault.Fault.{Line, NotText};
 ghost use Rattle.regroup_lines.specs.Fault.{fault_of};
-ghost use Rattle.regroup_lines.specs.Lines.{between, body_written, lenient, number_written, text_written};
+ghost use Rattle.regroup_lines.specs.Lines.{body_written, lenient, place_written, text_written};
+ghost use Rattle.regroup_lines.specs.Places.{place_of};
 ghost use Rattle.regroup_lines.specs.Sending.{Regroups, SendsLine};
-ghost use Rattle.regroup_lines.specs.declared.rules.Reading.TheVariants.{Lenient, Strict};
 
 pub use crate::fault::RegroupFault;
+use crate::fields::regroup_fields;
 use crate::input::{Input, Piece};
-pub use crate::rules::{Field, Reading, Rules, Span};
-use num_format::error::cut;
-use num_format::parsing::FromFormattedStr;
+pub use crate::list::field_list;
+use crate::number::{Around, Number};
+use crate::rules::trim;
+pub use crate::rules::{FieldRange, Fields, Reading, Rules, Span};
+use num_format::Format;
 use num_format::to_formatted_string::write_whole;
-use num_format::{Buffer, Error, ErrorKind, Format};
-use num_format_decimal::{Decimal, DecimalBuffer};
-use regroup_shared::{MAX_SENT_LINE_LEN, send_line};
+use std::io;
 use std::io::{Read, Write};
-use std::{io, str};
+use std::ops::Range;
 
 /// The most bytes of a line, without its newline.
 pub const MAX_LINE_LEN: usize = 4096;
@@ -152,13 +153,15 @@ fn regroup_line<W: Write, F: Format, G: Format>(
     }
     match regroup_body(rules, text, number, w, from, to) {
         Ok(()) => Ok(()),
-        Err(RegroupFault::Write) => Err(RegroupFault::Write),
-        Err(_) if rules.passes_faulty => pass_on(text, w).or(Err(RegroupFault::Write)),
-        Err(fault) => Err(fault),
+        Err(fault) => match fault {
+            RegroupFault::Write => Err(RegroupFault::Write),
+            _ if rules.passes_faulty => pass_on(text, w).or(Err(RegroupFault::Write)),
+            _ => Err(fault),
+        },
     }
 }
 
-/// Sends a line that is no header, with its number regrouped, and a newline.
+/// Sends a line that is no header, with its numbers regrouped, and a newline.
 fn regroup_body<W: Write, F: Format, G: Format>(
     rules: &Rules,
     text: &[u8],
@@ -170,9 +173,29 @@ fn regroup_body<W: Write, F: Format, G: Format>(
     ensures { SendsLine (body_written rules.now (F.answers from.now) (G.answers to.now) number text.now)
         (W.contents w.old) (W.contents w.new) (result_map_both (λ sent. sent) fault_of result) }
 {
-    let Some(place) = rules.span.place(text) else {
-        return Err(RegroupFault::FewFields(number));
-    };
+    let whole = 0..text.len();
+    match &rules.span {
+        Span::Line => regroup_place(rules, text, whole, number, w, from, to),
+        Span::Trimmed => regroup_place(rules, text, trim(text, whole), number, w, from, to),
+        Span::Fields(fields) => regroup_fields(rules, fields, text, number, w, from, to),
+    }
+}
+
+/// Sends a line with the number at a place regrouped, and a newline.
+fn regroup_place<W: Write, F: Format, G: Format>(
+    rules: &Rules,
+    text: &[u8],
+    place: Range<usize>,
+    number: u64,
+    w: &mut W,
+    from: &F,
+    to: &G,
+) -> Result<(), RegroupFault>
+    requires ordered { place.start ≤ place.end }
+    requires within { place.end ≤ length text.now }
+    ensures { SendsLine (place_written rules.now (F.answers from.now) (G.answers to.now) number text.now (place_of place))
+        (W.contents w.old) (W.contents w.new) (result_map_both (λ sent. sent) fault_of result) }
+{
     let (start, end) = (place.start, place.end);
     if rules.passes_empty && start == end {
         return pass_on(text, w).or(Err(RegroupFault::Write));
@@ -181,81 +204,8 @@ fn regroup_body<W: Write, F: Format, G: Format>(
         before: &text[..start],
         after: &text[end..],
     };
-    match rules.reading {
-        Reading::Strict => regroup_decimal(&around, &text[start..end], number, w, from, to),
-        Reading::Lenient => regroup_number(&around, &text[start..end], number, w, from, to),
-    }
-}
-
-/// The bytes of a line around its number.
-#[derive(Clone, Copy)]
-struct Around<'a> {
-    before: &'a [u8],
-    after: &'a [u8],
-}
-
-/// Sends the bytes of a line around its number, the decimal in its text between them, and a newline.
-fn regroup_decimal<W: Write, F: Format, G: Format>(
-    around: &Around<'_>,
-    text: &[u8],
-    number: u64,
-    w: &mut W,
-    from: &F,
-    to: &G,
-) -> Result<(), RegroupFault>
-    ensures { SendsLine (between around.now.before.now around.now.after.now
-        (number_written Strict (F.answers from.now) (G.answers to.now) number text.now))
-        (W.contents w.old) (W.contents w.new) (result_map_both (λ sent. sent) fault_of result) }
-{
-    match Decimal::from_strict_bytes(text, from) {
-        Ok(value) => send_between(around, DecimalBuffer::of(&value, to).as_str(), w).or(Err(
-            RegroupFault::Write,
-        )),
-        Err(_) => Err(text_fault(text, number)),
-    }
-}
-
-/// Sends the bytes of a line around its number, the number in its text between them, and a newline.
-fn regroup_number<W: Write, F: Format, G: Format>(
-    around: &Around<'_>,
-    text: &[u8],
-    number: u64,
-    w: &mut W,
-    from: &F,
-    to: &G,
-) -> Result<(), RegroupFault>
-    ensures { SendsLine (between around.now.before.now around.now.after.now
-        (number_written Lenient (F.answers from.now) (G.answers to.now) number text.now))
-        (W.contents w.old) (W.contents w.new) (result_map_both (λ sent. sent) fault_of result) }
-{
-    match i128::from_formatted_bytes(text, from) {
-        Ok(value) => send_between(around, Buffer::of(&value, to).as_str(), w).or(Err(
-            RegroupFault::Write,
-        )),
-        Err(_) => Err(text_fault(text, number)),
-    }
-}
-
-/// Sends the bytes of a line around a text, the text between them, and a newline. A text that is the whole line is
-/// sent with the newline, by one write if that writes both.
-///
-/// # Errors
-///
-/// Returns the error of the first write that fails, also of one that was interrupted, or that writes no bytes.
-#[tactic(auto, using(crate::proofs::AroundLemmas::around_first, crate::proofs::AroundLemmas::around_second, crate::proofs::AroundLemmas::around_third, crate::proofs::AroundLemmas::around_fourth, crate::proofs::AroundLemmas::around_whole))]
-fn send_between<W: Write>(around: &Around<'_>, text: &str, w: &mut W) -> io::Result<()>
-    requires { length text.now < MAX_SENT_LINE_LEN }
-    ensures { Sends result (W.contents w.old) (W.contents w.new)
-        (line (around.now.before.now ++ (text.now ++ around.now.after.now))) }
-{
-    if around.before.is_empty() && around.after.is_empty() {
-        return send_line(text, w);
-    }
-    write_whole(around.before, w)?;
-    write_whole(text.as_bytes(), w)?;
-    write_whole(around.after, w)?;
-    write_whole(b"\n", w)?;
-    Ok(())
+    let value = Number::read(rules.reading, &text[start..end], number, from)?;
+    value.send_line(&around, w, to).or(Err(RegroupFault::Write))
 }
 
 /// Sends a line as it is, and a newline.
@@ -270,19 +220,4 @@ fn pass_on<W: Write>(text: &[u8], w: &mut W) -> io::Result<()>
     write_whole(text, w)?;
     write_whole(b"\n", w)?;
     Ok(())
-}
-
-/// Returns the fault of a text that does not parse. It keeps a prefix of the text, so it is made
-/// where nothing else waits for it.
-#[cold]
-#[inline(never)]
-fn text_fault(text: &[u8], number: u64) -> RegroupFault
-    ensures not_text { ¬ (IsUtf8 text.now) → fault_of result ≡ NotText number }
-    ensures refused { IsUtf8 text.now
-        → fault_of result ≡ Line number (ParseNumber (cut_text text.now)) }
-{
-    match str::from_utf8(text) {
-        Ok(text) => RegroupFault::Line(number, Error::from(ErrorKind::ParseNumber(cut(text)))),
-        Err(_) => RegroupFault::NotText(number),
-    }
 }

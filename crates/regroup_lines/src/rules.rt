@@ -1,9 +1,8 @@
-//! How the lines of an input are regrouped, and where the number of a line is.
-ghost use Rattle.std.specs.Prelude.{◌≡◌, ◌≤◌, ◌==◌, length, IfSome};
-ghost use Rattle.std.specs.List.{slice_split};
-ghost use Rattle.regroup_lines.specs.Places.{field_place, line_place, place_shown, trimmed};
+//! How the lines of an input are regrouped, and where the numbers of a line are.
+ghost use Rattle.std.specs.Prelude.{◌≡◌, ◌<◌, ◌≤◌, [], ◌∷◌, length, IfSome};
+ghost use Rattle.regroup_lines.specs.Lists.{one_field};
+ghost use Rattle.regroup_lines.specs.Places.{are_enough, is_at_most, is_chosen, is_chosen_from, is_enough, is_in_range, place_of, trimmed};
 
-use memchr::memchr;
 use std::ops::Range;
 
 /// How the text of a number is read.
@@ -16,82 +15,125 @@ pub enum Reading {
     Lenient,
 }
 
-/// A field of a line: the bytes between two delimiters.
+/// Fields that follow one another, by their numbers, which are counted from 1.
+///
+/// ```text
+/// FieldRange { first: 3, last: Some(5) }    // the fields 3, 4 and 5: a line has to have all of them
+/// FieldRange { first: 2, last: None }       // all fields from 2 on: a line has to have field 2
+/// ```
 #[derive(Clone, Copy, Debug, PartialEq, Eq)]
-pub struct Field {
-    /// How many fields are before it.
-    pub before: u64,
+pub struct FieldRange {
+    /// The number of the first field.
+    pub first: u64,
+    /// The number of the last field, or `None` for that of the line.
+    pub last: Option<u64>,
+}
+
+/// The fields of a line that have a number: those that are in any of the ranges, in any order.
+#[derive(Clone, Copy, Debug, PartialEq, Eq)]
+pub struct Fields<'a> {
+    /// The ranges.
+    pub list: &'a [FieldRange],
     /// The byte between two fields.
     pub delimiter: u8,
 }
 
-/// Where the number of a line is. ASCII whitespace around it, as a carriage return, is not part of it, but for
-/// [`Span::Line`].
+/// Where the numbers of a line are. ASCII whitespace around a number, as a carriage return, is not part of it, but
+/// for [`Span::Line`].
 #[derive(Clone, Copy, Debug, PartialEq, Eq)]
-pub enum Span {
+pub enum Span<'a> {
     /// All bytes of the line.
     Line,
     /// The line without the ASCII whitespace at its ends.
     Trimmed,
-    /// A field without the ASCII whitespace at its ends.
-    Field(Field),
+    /// Each of these fields without the ASCII whitespace at its ends.
+    Fields(Fields<'a>),
 }
 
 /// How the lines of an input are regrouped.
 #[derive(Clone, Copy, Debug, PartialEq, Eq)]
-pub struct Rules {
-    /// Where the number of a line is. The other bytes of the line are passed on.
-    pub span: Span,
-    /// How the number is read.
+pub struct Rules<'a> {
+    /// Where the numbers of a line are. The other bytes of the line are passed on.
+    pub span: Span<'a>,
+    /// How the numbers are read.
     pub reading: Reading,
     /// How many lines at the start are passed on as they are.
     pub header_lines: u64,
-    /// Whether a line is passed on as it is where the number has no byte.
+    /// Whether a place is passed on as it is where a number has no byte.
     pub passes_empty: bool,
     /// Whether a line at fault is passed on as it is, unless it is too long.
     pub passes_faulty: bool,
 }
 
-impl Span {
-    /// Returns the place of the number in the text of a line, or `None` if the line has too few fields.
-    pub(crate) fn place(&self, text: &[u8]) -> Option<Range<usize>>
-        ensures place { place_shown result ≡ line_place self.now text.now }
-        ensures ordered { IfSome result (λ place. place.start ≤ place.end) }
-        ensures within { IfSome result (λ place. place.end ≤ length text.now) }
+impl FieldRange {
+    /// Returns whether the field of this number is in the range.
+    fn contains(&self, number: u64) -> bool
+        ensures { result ≡ is_in_range number self.now }
     {
-        match self {
-            Span::Line => Some(0..text.len()),
-            Span::Trimmed => Some(trim(text, 0..text.len())),
-            Span::Field(field) => Some(trim(text, field.place(text)?)),
+        self.first <= number && self.reaches(number)
+    }
+
+    /// Returns whether the number is at most that of the last field.
+    fn reaches(&self, number: u64) -> bool
+        ensures { result ≡ is_at_most number self.now.last }
+    {
+        match self.last {
+            Some(last) => number <= last,
+            None => true,
         }
+    }
+
+    /// Returns whether a line of so many fields has all that are wanted of it.
+    fn is_enough(&self, count: u64) -> bool
+        ensures { result ≡ is_enough count self.now }
+    {
+        self.last.unwrap_or(self.first) <= count
     }
 }
 
-impl Field {
-    /// Returns the place of the field in the text of a line, or `None` if the line has too few fields.
-    fn place(&self, text: &[u8]) -> Option<Range<usize>>
-        ensures place { place_shown result
-            ≡ field_place 0 (slice_split (λ b. b == self.now.delimiter) text.now) self.now.before }
-        ensures ordered { IfSome result (λ place. place.start ≤ place.end) }
-        ensures within { IfSome result (λ place. place.end ≤ length text.now) }
+impl Fields<'_> {
+    /// Returns the number of the field, if exactly one has a number.
+    pub(crate) fn only(&self) -> Option<u64>
+        ensures { IfSome result (λ number. (0 < number) × (self.now.list.now ≡ one_field number ∷ [])) }
     {
-        let mut start = 0;
-        for _ in 0..self.before {
-            start += memchr(self.delimiter, &text[start..])? + 1;
+        match self.list {
+            [
+                FieldRange {
+                    first,
+                    last: Some(last),
+                },
+            ] if first == last && *first > 0 => Some(*first),
+            _ => None,
         }
-        let len = match memchr(self.delimiter, &text[start..]) {
-            Some(len) => len,
-            None => text.len() - start,
-        };
-        Some(start..start + len)
+    }
+
+    /// Returns whether the field of this number has a number.
+    pub(crate) fn contain(&self, number: u64) -> bool
+        ensures { result ≡ is_chosen self.now.list.now number }
+    {
+        self.list.iter().any(|range| range.contains(number))
+    }
+
+    /// Returns whether the field of this number, or one after it, may have a number.
+    pub(crate) fn reach(&self, number: u64) -> bool
+        ensures { result ≡ is_chosen_from self.now.list.now number }
+    {
+        self.list.iter().any(|range| range.reaches(number))
+    }
+
+    /// Returns whether a line of so many fields has all that are wanted of it.
+    pub(crate) fn are_enough(&self, count: u64) -> bool
+        ensures { result ≡ are_enough self.now.list.now count }
+    {
+        self.list.iter().all(|range| range.is_enough(count))
     }
 }
 
 /// Returns what is left of a place without the ASCII whitespace at its ends.
-fn trim(text: &[u8], place: Range<usize>) -> Range<usize>
+pub(crate) fn trim(text: &[u8], place: Range<usize>) -> Range<usize>
     requires ordered { place.start ≤ place.end }
     requires within { place.end ≤ length text.now }
-    ensures place { (result.start, result.end) ≡ trimmed text.now (place.start, place.end) }
+    ensures place { place_of result ≡ trimmed text.now (place_of place) }
     ensures ordered { result.start ≤ result.end }
     ensures within { result.end ≤ length text.now }
 {

@@ -29,7 +29,7 @@ use crate::watched::Watched;
 pub use crate::words::{Formats, Misuse, formats_named};
 use num_format::CustomFormat;
 use num_format_decimal::{Decimal, ParseDecimalError};
-pub use regroup_lines::{Field, Reading, Rules, Span};
+pub use regroup_lines::{FieldRange, Fields, Reading, Rules, Span, field_list};
 use regroup_lines::{RegroupFault, regroup_at_most};
 use std::io::{BufWriter, ErrorKind, Read, Write};
 

@@ -1,0 +1,15 @@
+use Rattle.std.proofs.Common.{◌≡◌, ◌∙◌, true, rules}
+use Rattle.std.specs.Char.{is_ascii_digit}
+use Rattle.std.specs.List.{list_all}
+use Rattle.regroup_lines.proofs.ListLemmas.{number-err, number-ok}
+use Rattle.regroup_lines.proofs.list.field_number.Goals as goal
+
+pub returns-in-Ok : goal.returns-in-Ok
+returns-in-Ok c =
+    let digits : list_all is_ascii_digit c.args.text.now ≡ true = search rules in
+    c.counted.ensures ∙ number-ok c.args.text.now c.in-Ok.number c.parse.result c.in-Ok.is c.parse.ensures.value.0 digits
+
+pub returns-in-Err : goal.returns-in-Err
+returns-in-Err c =
+    let digits : list_all is_ascii_digit c.args.text.now ≡ true = search rules in
+    number-err c.args.text.now c.in-Err.field-0 c.parse.result c.in-Err.is c.parse.ensures.value.0 digits

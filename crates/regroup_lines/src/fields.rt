@@ -1,0 +1,242 @@
+//! The fields of a line: those that are chosen have a number each.
+ghost use Rattle.std.specs.Prelude.{◌≡◌, ◌≤◌, ◌<◌, ◌+◌, ◌==◌, [], ◌∷◌, drop, length, slice_range, IfSome};
+ghost use Rattle.std.specs.List.{slice_split};
+ghost use Rattle.std.specs.Option.{option_map};
+ghost use Rattle.std.specs.Result.{result_map_both};
+ghost use Rattle.num_format.specs.Format.{FormatData};
+ghost use Rattle.regroup_shared.specs.Sending.{line};
+ghost use Rattle.regroup_lines.specs.Fault.{fault_of};
+ghost use Rattle.regroup_lines.specs.Fields.{SendsIfOk, checked};
+ghost use Rattle.regroup_lines.specs.Lines.{field_written, fields_replaced, fields_written};
+ghost use Rattle.regroup_lines.specs.Places.{field_place, place_of};
+ghost use Rattle.regroup_lines.specs.Sending.{SendsLine};
+ghost use Rattle.regroup_lines.specs.declared.rules.Rules.{Rules};
+
+use crate::fault::RegroupFault;
+use crate::number::{Around, Number};
+use crate::rules::{Fields, Rules, trim};
+use crate::{pass_on, regroup_place};
+use memchr::memchr;
+use num_format::Format;
+use num_format::to_formatted_string::write_whole;
+use std::io::Write;
+use std::ops::Range;
+
+/// Sends a line with the number in each chosen field regrouped, and a newline.
+pub(crate) fn regroup_fields<W: Write, F: Format, G: Format>(
+    rules: &Rules,
+    fields: &Fields,
+    text: &[u8],
+    number: u64,
+    w: &mut W,
+    from: &F,
+    to: &G,
+) -> Result<(), RegroupFault>
+    ensures { SendsLine (fields_replaced fields.now rules.now (F.answers from.now) (G.answers to.now) number text.now)
+        (W.contents w.old) (W.contents w.new) (result_map_both (λ sent. sent) fault_of result) }
+{
+    // One field is read once, and the bytes before it and after it are sent as they are.
+    match fields.only() {
+        Some(field) => match field_place(fields.delimiter, text, field - 1) {
+            Some(place) => regroup_place(rules, text, trim(text, place), number, w, from, to),
+            None => Err(RegroupFault::FewFields(number)),
+        },
+        None => regroup_each(rules, fields, text, number, w, from, to),
+    }
+}
+
+/// Does the same for any fields: reads the number in each, and reads and sends it again if none is at fault.
+fn regroup_each<W: Write, F: Format, G: Format>(
+    rules: &Rules,
+    fields: &Fields,
+    text: &[u8],
+    number: u64,
+    w: &mut W,
+    from: &F,
+    to: &G,
+) -> Result<(), RegroupFault>
+    ensures { SendsLine (fields_replaced fields.now rules.now (F.answers from.now) (G.answers to.now) number text.now)
+        (W.contents w.old) (W.contents w.new) (result_map_both (λ sent. sent) fault_of result) }
+{
+    check_fields(rules, fields, text, number, from)?;
+    send_fields(rules, fields, text, number, w, from, to)
+}
+
+/// Returns the place of the field that so many others are before, or `None` if the line has too few.
+fn field_place(delimiter: u8, text: &[u8], before: u64) -> Option<Range<usize>>
+    ensures place { option_map place_of result
+        ≡ field_place 0 (slice_split (λ b. b == delimiter) text.now) before }
+    ensures ordered { IfSome result (λ place. place.start ≤ place.end) }
+    ensures within { IfSome result (λ place. place.end ≤ length text.now) }
+{
+    let mut start = 0;
+    for _ in 0..before {
+        let end = field_end(delimiter, text, start);
+        if end == text.len() {
+            return None;
+        }
+        start = end + 1;
+    }
+    Some(start..field_end(delimiter, text, start))
+}
+
+/// Reads the number in each chosen field of a line.
+///
+/// # Errors
+///
+/// Returns the fault of the first field at fault, or that the line has too few fields.
+fn check_fields<F: Format>(
+    rules: &Rules,
+    fields: &Fields,
+    text: &[u8],
+    number: u64,
+    from: &F,
+) -> Result<(), RegroupFault>
+    ensures { (to : FormatData) → result_map_both (λ done. done) fault_of result
+        ≡ checked (fields_written rules.now fields.now.list.now (F.answers from.now) to number 0
+        (slice_split (λ b. b == fields.now.delimiter) text.now)) }
+{
+    let mut start = 0;
+    let mut count = 0;
+    'fields: while fields.reach(count + 1) {
+        let end = field_end(fields.delimiter, text, start);
+        count += 1;
+        check_field(
+            rules,
+            fields.contain(count),
+            &text[start..end],
+            number,
+            from,
+        )?;
+        if end == text.len() {
+            return check_count(fields, count, number);
+        }
+        start = end + 1;
+    }
+    Ok(())
+}
+
+/// Sends a line without a fault, with the number in each chosen field regrouped, and a newline.
+fn send_fields<W: Write, F: Format, G: Format>(
+    rules: &Rules,
+    fields: &Fields,
+    text: &[u8],
+    number: u64,
+    w: &mut W,
+    from: &F,
+    to: &G,
+) -> Result<(), RegroupFault>
+    ensures { SendsIfOk (result_map_both line (λ fault. fault)
+        (fields_replaced fields.now rules.now (F.answers from.now) (G.answers to.now) number text.now))
+        (W.contents w.old) (W.contents w.new) (result_map_both (λ sent. sent) fault_of result) }
+{
+    let mut start = 0;
+    let mut count = 0;
+    'fields: while fields.reach(count + 1) {
+        let end = field_end(fields.delimiter, text, start);
+        count += 1;
+        let is_chosen = fields.contain(count);
+        send_field(rules, is_chosen, &text[start..end], number, w, from, to)?;
+        if end == text.len() {
+            return send_bytes(b"\n", w);
+        }
+        send_bytes(&[fields.delimiter], w)?;
+        start = end + 1;
+    }
+    pass_on(&text[start..], w).or(Err(RegroupFault::Write))
+}
+
+/// Returns where the field ends that begins at `start`: at the next delimiter, or at the end of the line.
+fn field_end(delimiter: u8, text: &[u8], start: usize) -> usize
+    requires { start ≤ length text.now }
+    ensures ordered { start ≤ result }
+    ensures within { result ≤ length text.now }
+    ensures more { result < length text.now → slice_split (λ b. b == delimiter) (drop start text.now)
+        ≡ slice_range text.now start result ∷ slice_split (λ b. b == delimiter) (drop (result + 1) text.now) }
+    ensures last { result ≡ length text.now → slice_split (λ b. b == delimiter) (drop start text.now)
+        ≡ slice_range text.now start result ∷ [] }
+{
+    match memchr(delimiter, &text[start..]) {
+        Some(len) => start + len,
+        None => text.len(),
+    }
+}
+
+/// Reads the number in a field that is chosen.
+///
+/// # Errors
+///
+/// Returns the fault of a field at fault.
+fn check_field<F: Format>(
+    rules: &Rules,
+    is_chosen: bool,
+    field: &[u8],
+    number: u64,
+    from: &F,
+) -> Result<(), RegroupFault>
+    ensures { (to : FormatData) → result_map_both (λ done. done) fault_of result
+        ≡ checked (field_written rules.now (F.answers from.now) to number is_chosen field.now) }
+{
+    if !is_chosen {
+        return Ok(());
+    }
+    let place = trim(field, 0..field.len());
+    let (start, end) = (place.start, place.end);
+    if rules.passes_empty && start == end {
+        return Ok(());
+    }
+    Number::read(rules.reading, &field[start..end], number, from)?;
+    Ok(())
+}
+
+/// Returns the fault of a line of so many fields, if it has too few.
+fn check_count(fields: &Fields, count: u64, number: u64) -> Result<(), RegroupFault>
+    ensures { (rules : Rules) (from to : FormatData) → result_map_both (λ done. done) fault_of result
+        ≡ checked (fields_written rules fields.now.list.now from to number count []) }
+{
+    if fields.are_enough(count) {
+        Ok(())
+    } else {
+        Err(RegroupFault::FewFields(number))
+    }
+}
+
+/// Sends a field without a fault, with the number in it regrouped if it is chosen.
+fn send_field<W: Write, F: Format, G: Format>(
+    rules: &Rules,
+    is_chosen: bool,
+    field: &[u8],
+    number: u64,
+    w: &mut W,
+    from: &F,
+    to: &G,
+) -> Result<(), RegroupFault>
+    ensures { SendsIfOk (field_written rules.now (F.answers from.now) (G.answers to.now) number is_chosen field.now)
+        (W.contents w.old) (W.contents w.new) (result_map_both (λ sent. sent) fault_of result) }
+{
+    if !is_chosen {
+        return send_bytes(field, w);
+    }
+    let place = trim(field, 0..field.len());
+    let (start, end) = (place.start, place.end);
+    if rules.passes_empty && start == end {
+        return send_bytes(field, w);
+    }
+    let around = Around {
+        before: &field[..start],
+        after: &field[end..],
+    };
+    let value = Number::read(rules.reading, &field[start..end], number, from)?;
+    value.send(&around, w, to).or(Err(RegroupFault::Write))
+}
+
+/// Sends bytes.
+fn send_bytes<W: Write>(bytes: &[u8], w: &mut W) -> Result<(), RegroupFault>
+    ensures { SendsIfOk (Ok bytes.now) (W.contents w.old) (W.contents w.new)
+        (result_map_both (λ sent. sent) fault_of result) }
+{
+    match write_whole(bytes, w) {
+        Ok(_) => Ok(()),
+        Err(_) => Err(RegroupFault::Write),
+    }
+}

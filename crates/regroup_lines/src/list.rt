@@ -1,0 +1,104 @@
+//! The list that chooses fields.
+ghost use Rattle.std.specs.Prelude.{◌≡◌, IfOk};
+ghost use Rattle.std.specs.Char.{is_ascii_digit};
+ghost use Rattle.std.specs.List.{list_all};
+ghost use Rattle.std.specs.Option.{option_map};
+ghost use Rattle.regroup_lines.specs.Lists.{counted, field_number, list_read, range_between, range_from_to, range_in};
+
+use crate::rules::FieldRange;
+use std::alloc::{AllocError, Global};
+
+/// Returns the ranges that a list names, as that of `cut`: its parts, between commas, are each `N`, `N-M`, `N-` or
+/// `-M`. The fields are counted from 1.
+///
+/// Returns `None` if a part is none of these: it is empty, has another character or a number that a `u64` does not
+/// hold, or decreases, or if a number is 0. Parts may be in any order, and name a field twice.
+///
+/// ```text
+/// field_list(alloc, "1,3-")?     // the ranges from 1 to 1, and from 3 on
+/// field_list(alloc, "5-3")?      // None
+/// ```
+///
+/// # Errors
+///
+/// Returns an error if there is no memory for the ranges.
+pub fn field_list(alloc: Global, text: &str) -> Result<Option<Vec<FieldRange>>, AllocError>
+    ensures { IfOk result (λ list. option_map (λ ranges. ranges.items) list ≡ list_read text.now) }
+{
+    let mut list = Vec::new(alloc);
+    for part in text.split(',') {
+        let Some(range) = range_in(part) else {
+            return Ok(None);
+        };
+        list.push(range)?;
+    }
+    Ok(Some(list))
+}
+
+/// Returns the range that a part of a list names.
+fn range_in(part: &str) -> Option<FieldRange>
+    ensures { result ≡ range_in part.now }
+{
+    match part.split_once('-') {
+        Some((before, after)) => range_between(before, after),
+        None => {
+            let number = field_number(part)?;
+            Some(FieldRange {
+                first: number,
+                last: Some(number),
+            })
+        }
+    }
+}
+
+/// Returns the range that the texts before and after a `-` name.
+fn range_between(before: &str, after: &str) -> Option<FieldRange>
+    ensures { result ≡ range_between before.now after.now }
+{
+    match (before.is_empty(), after.is_empty()) {
+        (true, true) => None,
+        (true, false) => range_from_to(1, field_number(after)?),
+        (false, true) => Some(FieldRange {
+            first: field_number(before)?,
+            last: None,
+        }),
+        (false, false) => range_from_to(field_number(before)?, field_number(after)?),
+    }
+}
+
+/// Returns the range from one number to another, if they do not decrease.
+fn range_from_to(first: u64, last: u64) -> Option<FieldRange>
+    ensures { result ≡ range_from_to (Some first) (Some last) }
+{
+    (first <= last).then_some(FieldRange {
+        first,
+        last: Some(last),
+    })
+}
+
+/// Returns the number of a field that decimal digits write.
+fn field_number(text: &str) -> Option<u64>
+    ensures { result ≡ field_number text.now }
+{
+    if !is_digits(text) {
+        return None;
+    }
+    match text.parse::<u64>() {
+        Ok(number) => counted(number),
+        Err(_) => None,
+    }
+}
+
+/// Returns whether each character is a decimal digit.
+fn is_digits(text: &str) -> bool
+    ensures { result ≡ list_all is_ascii_digit text.now }
+{
+    text.as_bytes().iter().all(|byte| byte.is_ascii_digit())
+}
+
+/// Returns the number, if it is one of a field: they are counted from 1.
+fn counted(number: u64) -> Option<u64>
+    ensures { result ≡ counted number }
+{
+    (number > 0).then_some(number)
+}

@@ -1,0 +1,165 @@
+//! A number in a line: how it is read and sent.
+ghost use Rattle.std.specs.Prelude.{◌≡◌, ◌<◌, ◌++◌, length, IsUtf8};
+ghost use Rattle.std.specs.Result.{result_map_both};
+ghost use Rattle.num_format.specs.Cut.{cut_text};
+ghost use Rattle.num_format.specs.Format.{FormatData};
+ghost use Rattle.num_format.specs.Refusal.{ParseNumber};
+ghost use Rattle.regroup_shared.specs.Sending.{Sends, line};
+ghost use Rattle.regroup_lines.specs.Fault.Fault.{Line, NotText};
+ghost use Rattle.regroup_lines.specs.Fault.{fault_of};
+ghost use Rattle.regroup_lines.specs.Lines.{number_written};
+ghost use Rattle.regroup_lines.specs.Numbers.{number_text};
+
+use crate::fault::RegroupFault;
+use crate::rules::Reading;
+use num_format::error::cut;
+use num_format::parsing::FromFormattedStr;
+use num_format::to_formatted_string::write_whole;
+use num_format::{Buffer, Error, ErrorKind, Format};
+use num_format_decimal::{Decimal, DecimalBuffer};
+use regroup_shared::{MAX_SENT_LINE_LEN, send_line};
+use std::io::Write;
+use std::{io, str};
+
+/// A number that was read.
+#[derive(Clone, Copy)]
+pub(crate) enum Number {
+    /// The whole number of lenient reading.
+    Whole(i128),
+    /// The decimal of strict reading.
+    Decimal(Decimal),
+}
+
+/// The bytes of a line around its number.
+#[derive(Clone, Copy)]
+pub(crate) struct Around<'a> {
+    pub(crate) before: &'a [u8],
+    pub(crate) after: &'a [u8],
+}
+
+impl Number {
+    /// Returns the number that a text in the line of this number is.
+    ///
+    /// # Errors
+    ///
+    /// Returns the fault of a text that does not parse.
+    pub(crate) fn read<F: Format>(
+        reading: Reading,
+        text: &[u8],
+        number: u64,
+        from: &F,
+    ) -> Result<Number, RegroupFault>
+        ensures { (to : FormatData) → number_written reading (F.answers from.now) to number text.now
+            ≡ result_map_both (number_text to) fault_of result }
+    {
+        match reading {
+            Reading::Strict => match Decimal::from_strict_bytes(text, from) {
+                Ok(value) => Ok(Number::Decimal(value)),
+                Err(_) => Err(text_fault(text, number)),
+            },
+            Reading::Lenient => match i128::from_formatted_bytes(text, from) {
+                Ok(value) => Ok(Number::Whole(value)),
+                Err(_) => Err(text_fault(text, number)),
+            },
+        }
+    }
+
+    /// Sends the bytes of a field around the number, and its text between them.
+    ///
+    /// # Errors
+    ///
+    /// Returns the error of the first write that fails, also of one that was interrupted, or that writes no bytes.
+    pub(crate) fn send<W: Write, G: Format>(
+        &self,
+        around: &Around<'_>,
+        w: &mut W,
+        to: &G,
+    ) -> io::Result<()>
+        ensures { Sends result (W.contents w.old) (W.contents w.new)
+            (around.now.before.now ++ (number_text (G.answers to.now) self.now ++ around.now.after.now)) }
+    {
+        match self {
+            Number::Whole(value) => send_between(around, Buffer::of(value, to).as_str(), w),
+            Number::Decimal(value) => send_between(
+                around,
+                DecimalBuffer::of(value, to).as_str(),
+                w,
+            ),
+        }
+    }
+
+    /// Sends the bytes of a line around the number, its text between them, and a newline.
+    ///
+    /// # Errors
+    ///
+    /// Returns the error of the first write that fails, also of one that was interrupted, or that writes no bytes.
+    pub(crate) fn send_line<W: Write, G: Format>(
+        &self,
+        around: &Around<'_>,
+        w: &mut W,
+        to: &G,
+    ) -> io::Result<()>
+        ensures { Sends result (W.contents w.old) (W.contents w.new)
+            (line (around.now.before.now ++ (number_text (G.answers to.now) self.now ++ around.now.after.now))) }
+    {
+        match self {
+            Number::Whole(value) => send_line_between(around, Buffer::of(value, to).as_str(), w),
+            Number::Decimal(value) => send_line_between(
+                around,
+                DecimalBuffer::of(value, to).as_str(),
+                w,
+            ),
+        }
+    }
+}
+
+/// Sends the bytes around a text, and the text between them.
+///
+/// # Errors
+///
+/// Returns the error of the first write that fails, also of one that was interrupted, or that writes no bytes.
+#[tactic(auto, using(crate::proofs::AroundLemmas::around_first, crate::proofs::AroundLemmas::around_second, crate::proofs::AroundLemmas::around_third, crate::proofs::AroundLemmas::around_whole))]
+fn send_between<W: Write>(around: &Around<'_>, text: &str, w: &mut W) -> io::Result<()>
+    ensures { Sends result (W.contents w.old) (W.contents w.new)
+        (around.now.before.now ++ (text.now ++ around.now.after.now)) }
+{
+    write_whole(around.before, w)?;
+    write_whole(text.as_bytes(), w)?;
+    write_whole(around.after, w)?;
+    Ok(())
+}
+
+/// Does the same, and sends a newline. A text with nothing around it is sent with the newline, by one write if that
+/// writes both.
+///
+/// # Errors
+///
+/// Returns the error of the first write that fails, also of one that was interrupted, or that writes no bytes.
+#[tactic(auto, using(crate::proofs::AroundLemmas::passed_prefix, crate::proofs::AroundLemmas::passed_suffix, crate::proofs::AroundLemmas::passed_whole))]
+fn send_line_between<W: Write>(around: &Around<'_>, text: &str, w: &mut W) -> io::Result<()>
+    requires { length text.now < MAX_SENT_LINE_LEN }
+    ensures { Sends result (W.contents w.old) (W.contents w.new)
+        (line (around.now.before.now ++ (text.now ++ around.now.after.now))) }
+{
+    if around.before.is_empty() && around.after.is_empty() {
+        return send_line(text, w);
+    }
+    send_between(around, text, w)?;
+    write_whole(b"\n", w)?;
+    Ok(())
+}
+
+/// Returns the fault of a text that does not parse. It keeps a prefix of the text, so it is made
+/// where nothing else waits for it.
+#[cold]
+#[inline(never)]
+fn text_fault(text: &[u8], number: u64) -> RegroupFault
+    ensures not_text { ¬ (IsUtf8 text.now) → fault_of result ≡ NotText number }
+    ensures refused { IsUtf8 text.now
+        → fault_of result ≡ Line number (ParseNumber (cut_text text.now)) }
+{
+    match str::from_utf8(text) {
+        Ok(text) => RegroupFault::Line(number, Error::from(ErrorKind::ParseNumber(cut(text)))),
+        Err(_) => RegroupFault::NotText(number),
+    }
+}
