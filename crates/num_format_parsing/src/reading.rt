@@ -109,7 +109,8 @@ fn read_grouped<F: Format, A: Accumulator>(
     if has_digit_in_symbol(bytes) {
         return Reading::Unknown;
     }
-    if !begins_with(&text[end..], bytes) {
+    // Most texts that are refused have another byte here, which takes no comparison of the whole separator.
+    if text[end] != bytes[0] {
         return Reading::Unexpected { at: end };
     }
     if text.len() - start < groups.least + bytes.len() {
