@@ -134,7 +134,7 @@ pub record HasFirstByte (text : List ℕ) (start : ℕ) (ds : List ℕ) : Type 0
   pub rest : List ℕ
   pub first : ds ≡ (get_or text start 0 - 48) ∷ rest
 
-byte-at : (text : List ℕ) (start : ℕ) → get_or text start 0 ≡ get_or (drop start text) 0 0
+pub byte-at : (text : List ℕ) (start : ℕ) → get_or text start 0 ≡ get_or (drop start text) 0 0
 byte-at text start = sym (get_or-drop start text 0 0 ∙ ap (λ i. get_or text i 0) (let e : start + 0 ≡ start = omega arith in e))
 
 pub first-byte : (text : List ℕ) (start : ℕ) (is_due : ℕ → Bool) (s ds : List ℕ) → BeginsWithDigit (drop start text) → drop start text ≡ separated is_due s ds → HasFirstByte text start ds

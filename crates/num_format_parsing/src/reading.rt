@@ -78,8 +78,8 @@ pub(crate) fn read_text<F: Format, A: Accumulator>(
     read_grouped(text, start, first.end, first.magnitude, most, format)
 }
 
-/// Returns the same of a text whose first digits, up to `end`, write `magnitude`, if they are few, and do not
-/// end it.
+/// Returns the same of a text whose first digits, up to `end`, do not end it. They write `magnitude`, modulo the
+/// bound.
 ///
 /// It is a function of its own, so that digits alone are read without its space.
 #[inline(never)]
@@ -109,7 +109,8 @@ fn read_grouped<F: Format, A: Accumulator>(
     if has_digit_in_symbol(bytes) {
         return Reading::Unknown;
     }
-    if !begins_with(&text[end..], bytes) {
+    // Most texts that are refused have another byte here, which takes no comparison of the whole separator.
+    if text[end] != bytes[0] {
         return Reading::Unexpected { at: end };
     }
     if text.len() - start < groups.least + bytes.len() {

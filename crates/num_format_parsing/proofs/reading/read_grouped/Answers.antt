@@ -1,17 +1,17 @@
-use Rattle.std.proofs.Common.{◌≡◌, ◌+◌, ◌-◌, ◌<◌, ◌∙◌, false, [], length, drop, length-drop, ap, sym, subst, arith, rules, IsUtf8}
+use Rattle.std.proofs.Common.{◌≡◌, ◌+◌, ◌-◌, ◌<◌, ◌∙◌, false, [], length, drop, length-drop, sym, subst, arith, rules, IsUtf8}
 use Rattle.std.specs.List.{list_any}
 use Rattle.std.specs.Str.{chars}
 use Rattle.std.proofs.lemmas.Bool.Decides.{nat_tests}
-use Rattle.std.proofs.lemmas.List.{take_rest}
 use Rattle.num_format_int.specs.Grouped.{stands}
 use Rattle.num_format_parsing.specs.Parts.{GroupsBy, LacksGroups}
 use Rattle.num_format_parsing.specs.Reading.{is_other_numeral}
 use Rattle.num_format_parsing.specs.Shapes.{byte_figures}
 use Rattle.num_format_parsing.specs.Strict.{begins}
 use Rattle.num_format_parsing.proofs.FigureLemmas.{figures-none}
-use Rattle.num_format_parsing.proofs.GroupsLemmas.{first-byte, spells-groups}
+use Rattle.num_format_parsing.proofs.GroupsLemmas.{byte-at, first-byte, spells-groups}
 use Rattle.num_format_parsing.proofs.GroupingLemmas.{first-digits, unexpected-Posix, unexpected-empty, unexpected-other, unspelled-short, unspelled-lacks}
 use Rattle.num_format_parsing.proofs.NumberLemmas.{number-spelled}
+use Rattle.num_format_parsing.proofs.UnreadLemmas.{begins-off}
 use Rattle.num_format_parsing.proofs.reading.read_grouped.Goals as goal
 
 pub returns-in_default : goal.returns-in_default
@@ -40,8 +40,8 @@ returns-then-is_empty g c =
     let given : length s ≡ 0 = grind (arith, nat_tests, empty) in
     unexpected-empty f t start end (subst (λ xs. length xs ≡ 0) separator given) digits
 
-pub returns-then-not-begins_with : goal.returns-then-not-begins_with
-returns-then-not-begins_with g c =
+pub returns-then-text-end : goal.returns-then-text-end
+returns-then-text-end g c =
     let f = g.F.Format.answers c.args.format.now in
     let t = c.args.text.now in
     let start = c.args.start in
@@ -52,7 +52,7 @@ returns-then-not-begins_with g c =
     let separator : s ≡ f.separator = search rules in
     let by = subst (λ k. GroupsBy k groups.last groups.size groups.least) c.grouping.ensures c.in-Some.ensures in
     let plain : byte_figures s ≡ [] = figures-none s (sym c.has_digit_in_symbol.ensures ∙ c.if-has_digit_in_symbol.false) in
-    let off : begins s (drop end t) ≡ false = ap (begins s) (sym (take_rest t end)) ∙ sym c.begins_with.ensures ∙ c.if-not-begins_with.true in
+    let off : begins s (drop end t) ≡ false = begins-off s (drop end t) (λ same. c.if-text-end.true (byte-at t end ∙ same)) in
     unexpected-other f t start end groups.last groups.size groups.least by (subst (λ xs. byte_figures xs ≡ []) separator plain) (subst (λ xs. begins xs (drop end t) ≡ false) separator off) digits
 
 pub returns-then-text-start : goal.returns-then-text-start
