@@ -27,7 +27,8 @@ pub const MAX_SCALE: u8 = 38;
 #[derive(Clone, Copy, Debug)]
 pub struct Decimal {
     units: i128,
-    scale: u8,
+    /// As wide as it is, it leaves less padding, which each move of a decimal copies in pieces.
+    scale: u64,
 }
 
 impl Model for Decimal {
@@ -71,7 +72,10 @@ impl Decimal {
         ensures decimal { result ≡ fixed_point units scale }
         ensures fits { HasUnits result }
     {
-        Decimal { units, scale }
+        Decimal {
+            units,
+            scale: scale as u64,
+        }
     }
 
     /// Returns the decimal whose units have that sign and that absolute value, or `None` if they are no `i128`.
@@ -81,7 +85,7 @@ impl Decimal {
             SomeIff result (HasUnits d) d }
     {
         let units = with_sign(is_negative, magnitude)?;
-        Some(Decimal { units, scale })
+        Some(Decimal::of(units, scale))
     }
 
     /// Returns how many units the number is, of 10 to the power of minus the scale.
@@ -111,7 +115,7 @@ impl Decimal {
         ensures scale { result ≡ self.now.scale }
         ensures bound { result ≤ MAX_SCALE }
     {
-        self.scale
+        self.scale as u8
     }
 }
 
