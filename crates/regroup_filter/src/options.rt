@@ -39,7 +39,8 @@ pub(crate) fn command<'a>(alloc: Global) -> Result<Command<'a>, AllocError> {
         .help("The format of the numbers that are written");
     let file = Arg::new(alloc, "FILE")
         .num_args(0..)
-        .help("The files to read, and - for standard input [default: -]");
+        .default_value("-")
+        .help("The files to read, and - for standard input");
     let command = Command::new(alloc, "regroup-lines")
         .no_binary_name(true)
         .version(VERSION)
@@ -153,7 +154,7 @@ fn span_of<'a>(matches: &ArgMatches<'_>, list: &'a [FieldRange]) -> Option<Span<
 
 /// Returns the names of the files.
 pub(crate) fn files_of<'m, 'a>(matches: &'m ArgMatches<'a>) -> &'m [&'a str] {
-    matches.get_strs("FILE").unwrap_or(&["-"])
+    matches.get_strs("FILE").unwrap_or_default()
 }
 
 /// Returns the words that name the formats.
