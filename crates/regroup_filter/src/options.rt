@@ -57,7 +57,7 @@ fn with_options<'a>(alloc: Global, command: Command<'a>) -> Result<Command<'a>, 
     let field = Arg::new(alloc, "field")
         .long("field")
         .value_name("LIST")
-        .allow_negative_numbers(true)
+        .allow_hyphen_values(true)
         .help("Read the number in each of these fields of a line, and pass on the others");
     let delimiter = Arg::new(alloc, "delimiter")
         .short('d')
