@@ -7,7 +7,8 @@
 
 In this order:
 
-1. tools/readme_code.py compares the code in README.md and docs/ with the crate that has it.
+1. tools/readme_code.py compares the code in README.md and docs/ with the crate that has it, and
+   tools/column_calls.py the calls for columns of the library for C with what it writes.
 2. `rt ci` has every proof from nothing, the tests, and each program as two compilers build it. It works
    on a copy of the repository. With --edits that has all; else it has no must-fail edits, not the library
    that bench/ measures, and not the crates of tests that tools/trials.py names: `rt try` runs those, with a
@@ -68,6 +69,8 @@ def compare_code(tally):
     heading("the code in README.md and docs/")
     ended = run([sys.executable, ROOT / "tools" / "readme_code.py"])
     tally.compare("tools/readme_code.py", ended.returncode, 0)
+    ended = run([sys.executable, ROOT / "tools" / "column_calls.py", "--check"])
+    tally.compare("tools/column_calls.py --check", ended.returncode, 0)
 
 
 def build(tally):
