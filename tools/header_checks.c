@@ -40,25 +40,33 @@ int32_t num_format_names(size_t, char *, size_t);
 int32_t num_format_lookup_name(const char *, size_t, char *, size_t);
 uint32_t num_format_version(void);
 
-/* The calls for columns of a type. */
-#define COLUMN_CALLS(name, type) \
-    int32_t num_format_print_##name##_column(const num_format *, const type *, size_t, int32_t *, size_t, char *, size_t); \
-    int32_t num_format_print_##name##_large_column(const num_format *, const type *, size_t, int64_t *, size_t, char *, size_t); \
-    int32_t num_format_print_##name##_column_len(const num_format *, const type *, size_t, size_t *); \
-    int32_t num_format_parse_##name##_column(const num_format *, const int32_t *, size_t, const char *, size_t, type *, size_t, int32_t *, size_t); \
-    int32_t num_format_parse_##name##_large_column(const num_format *, const int64_t *, size_t, const char *, size_t, type *, size_t, int32_t *, size_t); \
-    int32_t num_format_parse_strict_##name##_column(const num_format *, const int32_t *, size_t, const char *, size_t, type *, size_t, int32_t *, size_t); \
-    int32_t num_format_parse_strict_##name##_large_column(const num_format *, const int64_t *, size_t, const char *, size_t, type *, size_t, int32_t *, size_t)
-COLUMN_CALLS(i8, int8_t);
-COLUMN_CALLS(i16, int16_t);
-COLUMN_CALLS(i32, int32_t);
-COLUMN_CALLS(i64, int64_t);
-COLUMN_CALLS(u8, uint8_t);
-COLUMN_CALLS(u16, uint16_t);
-COLUMN_CALLS(u32, uint32_t);
-COLUMN_CALLS(u64, uint64_t);
-COLUMN_CALLS(i128, num_format_wide);
-COLUMN_CALLS(u128, num_format_wide);
+/* The calls for columns of a type: how they are named, the type of a value, and the parameters after the values. */
+#define COLUMN_CALLS(name, type, ...) \
+    int32_t num_format_print_##name##_column(const num_format *, const type *, size_t __VA_ARGS__, int32_t *, size_t, char *, size_t); \
+    int32_t num_format_print_##name##_large_column(const num_format *, const type *, size_t __VA_ARGS__, int64_t *, size_t, char *, size_t); \
+    int32_t num_format_print_##name##_column_len(const num_format *, const type *, size_t __VA_ARGS__, size_t *); \
+    PARSE_CALLS(name, type, __VA_ARGS__)
+#define PARSE_CALLS(name, type, ...) \
+    int32_t num_format_parse_##name##_column(const num_format *, const int32_t *, size_t, const char *, size_t, type *, size_t __VA_ARGS__, int32_t *, size_t); \
+    int32_t num_format_parse_##name##_large_column(const num_format *, const int64_t *, size_t, const char *, size_t, type *, size_t __VA_ARGS__, int32_t *, size_t)
+#define NULLABLE , const uint8_t *, size_t
+#define NUMBER_CALLS(name, type) \
+    COLUMN_CALLS(name, type, ); \
+    PARSE_CALLS(strict_##name, type, ); \
+    COLUMN_CALLS(nullable_##name, type, NULLABLE); \
+    PARSE_CALLS(strict_nullable_##name, type, NULLABLE)
+NUMBER_CALLS(i8, int8_t);
+NUMBER_CALLS(i16, int16_t);
+NUMBER_CALLS(i32, int32_t);
+NUMBER_CALLS(i64, int64_t);
+NUMBER_CALLS(u8, uint8_t);
+NUMBER_CALLS(u16, uint16_t);
+NUMBER_CALLS(u32, uint32_t);
+NUMBER_CALLS(u64, uint64_t);
+NUMBER_CALLS(i128, num_format_wide);
+NUMBER_CALLS(u128, num_format_wide);
+COLUMN_CALLS(decimal, num_format_wide, , uint32_t);
+COLUMN_CALLS(nullable_decimal, num_format_wide, , uint32_t NULLABLE);
 
 /* The longest text: -2^127 under Indian, with a separator and a minus sign of 8 bytes. */
 static const char longest[] =
@@ -118,13 +126,14 @@ static void check_constants(void) {
     CHECK(NUM_FORMAT_BAD_LENGTH, -15);
     CHECK(NUM_FORMAT_BAD_OFFSETS, -16);
     CHECK(NUM_FORMAT_TOO_MANY_BYTES, -17);
+    CHECK(NUM_FORMAT_DIGITS_LOST, -18);
     CHECK(num_format_version(), NUM_FORMAT_VERSION);
     check_bytes("strerror", num_format_strerror(-1), "the struct has no format");
     check_bytes("strerror of no error", num_format_strerror(0), "ok");
-    for (int32_t code = -17; code < 0; code++) {
+    for (int32_t code = -18; code < 0; code++) {
         CHECK(strcmp(num_format_strerror(code), "unknown status") != 0, 1);
     }
-    check_bytes("strerror of another", num_format_strerror(-18), "unknown status");
+    check_bytes("strerror of another", num_format_strerror(-19), "unknown status");
     CHECK(NUM_FORMAT_STANDARD, 1);
     CHECK(NUM_FORMAT_INDIAN, 2);
     CHECK(NUM_FORMAT_POSIX, 3);
@@ -421,6 +430,35 @@ static void check_longest(void) {
     check_bytes("the longest decimal", decimal, longest_decimal);
 }
 
+/* Three values of which the second is null, with offsets of either size. */
+#define CHECK_NULLABLE(name, parse, type, numbers, texts) do { \
+        static const uint8_t first_and_last = 0xfd; \
+        const int32_t wanted[] = {0, 1, 1, sizeof texts - 1}; \
+        type found[3]; \
+        int32_t ends[4], row_statuses[3] = {9, 9, 9}; \
+        int64_t large_ends[4]; \
+        char room[sizeof texts]; \
+        size_t needed = 0; \
+        memset(room, 'x', sizeof room); \
+        CHECK(num_format_print_nullable_##name##_column_len(&de, numbers, 3, &first_and_last, 1, &needed), 0); \
+        compare("length with a null for " #name, (long long)needed, sizeof texts - 1); \
+        CHECK(num_format_print_nullable_##name##_column(&de, numbers, 3, &first_and_last, 1, ends, 4, room, needed), 0); \
+        check_bytes("texts with a null of " #name, room, texts "x"); \
+        compare("offsets with a null for " #name, memcmp(ends, wanted, sizeof ends), 0); \
+        CHECK(num_format_print_nullable_##name##_large_column(&de, numbers, 3, &first_and_last, 1, large_ends, 4, room, needed), 0); \
+        compare("large offsets with a null for " #name, large_ends[1] == 1 && large_ends[2] == 1 && large_ends[3] == wanted[3], 1); \
+        memset(found, 0x55, sizeof found); \
+        const type before = found[1]; \
+        CHECK(num_format_parse_nullable_##name##_column(&de, ends, 4, room, needed, found, 3, &first_and_last, 1, row_statuses, 3), 0); \
+        compare("parsed with a null for " #name, memcmp(found, numbers, sizeof *found) == 0 && memcmp(found + 2, numbers + 2, sizeof *found) == 0, 1); \
+        compare("a null as it was for " #name, memcmp(found + 1, &before, sizeof before) == 0 && row_statuses[1] == 0, 1); \
+        CHECK(num_format_parse_##parse##_large_column(&de, large_ends, 4, room, needed, found, 3, &first_and_last, 1, row_statuses, 3), 0); \
+        compare("statuses with a null for " #name, row_statuses[0] == 0 && row_statuses[1] == 0 && row_statuses[2] == 0, 1); \
+        CHECK(num_format_print_nullable_##name##_column(&de, numbers, 3, &first_and_last, 0, ends, 4, room, needed), NUM_FORMAT_BAD_LENGTH); \
+        CHECK(num_format_print_nullable_##name##_column_len(&de, numbers, 3, &first_and_last, 0, &needed), NUM_FORMAT_BAD_LENGTH); \
+        CHECK(num_format_parse_nullable_##name##_column(&de, ends, 4, room, needed, found, 3, &first_and_last, 0, row_statuses, 3), NUM_FORMAT_BAD_LENGTH); \
+    } while (0)
+
 /* Columns of 7, a number at an end of the type and 100, printed and parsed with offsets of either size. */
 #define CHECK_COLUMNS(name, type, seven, end, hundred, end_text) do { \
         static const type numbers[] = {seven, end, hundred}; \
@@ -450,6 +488,7 @@ static void check_longest(void) {
         compare("refused for " #name, statuses[0] == NUM_FORMAT_UNEXPECTED && memcmp(&kept, parsed, sizeof kept) == 0 && statuses[1] == 0, 1); \
         CHECK(num_format_parse_strict_##name##_large_column(&de, large, 4, bytes, size, parsed, 3, statuses, 3), 0); \
         CHECK(num_format_print_##name##_column(&de, numbers, 3, offsets, 3, bytes, size), NUM_FORMAT_BAD_LENGTH); \
+        CHECK_NULLABLE(name, strict_nullable_##name, type, numbers, "7100"); \
         CHECK(num_format_print_##name##_column(&de, numbers, 3, offsets, 4, bytes, size - 1), NUM_FORMAT_TOO_SMALL); \
         CHECK(num_format_parse_##name##_column(&de, offsets, 4, bytes, size - 1, parsed, 3, statuses, 3), NUM_FORMAT_BAD_OFFSETS); \
     } while (0)
@@ -471,6 +510,59 @@ static void check_columns(void) {
     CHECK_COLUMNS(i128, num_format_wide, WIDE(7, 0), WIDE(0, (uint64_t)1 << 63), WIDE(100, 0),
                   "-170.141.183.460.469.231.731.687.303.715.884.105.728");
     CHECK_COLUMNS(u128, num_format_wide, WIDE(7, 0), WIDE(0, 1), WIDE(100, 0), "18.446.744.073.709.551.616");
+}
+
+/* Columns of decimals at scale 2: 7.05, -0.50, 1234.00. */
+static void check_decimal_columns(void) {
+    static const num_format_wide units[] = {{705, 0}, {(uint64_t)-50, UINT64_MAX}, {123400, 0}};
+    static const char texts[] = "7,05-0,501.234,00", others[] = "7,051,234,5";
+    static const int32_t other_offsets[] = {0, 1, 3, 5, 11};
+    static const uint8_t first_and_last = 5;
+    const size_t size = sizeof texts - 1;
+    num_format de;
+    num_format_wide parsed[4];
+    int32_t offsets[4], statuses[4];
+    int64_t large[4];
+    char bytes[sizeof texts];
+    size_t length = 0;
+    CHECK(num_format_locale(&de, "de", 2), 0);
+    CHECK(num_format_print_decimal_column_len(&de, units, 3, 2, &length), 0);
+    CHECK(length, (long long)size);
+    CHECK(num_format_print_decimal_column(&de, units, 3, 2, offsets, 4, bytes, size), 0);
+    check_bytes("decimals", bytes, texts);
+    CHECK(offsets[0] == 0 && offsets[1] == 4 && offsets[2] == 9 && offsets[3] == 17, 1);
+    CHECK(num_format_print_decimal_large_column(&de, units, 3, 2, large, 4, bytes, size), 0);
+    CHECK(large[0] == 0 && large[1] == 4 && large[2] == 9 && large[3] == 17, 1);
+    memset(parsed, 0x55, sizeof parsed);
+    CHECK(num_format_parse_decimal_column(&de, offsets, 4, bytes, size, parsed, 3, 2, statuses, 3), 0);
+    CHECK(memcmp(parsed, units, sizeof units) == 0 && statuses[0] == 0 && statuses[1] == 0 && statuses[2] == 0, 1);
+    CHECK(num_format_parse_decimal_large_column(&de, large, 4, bytes, size, parsed, 3, 3, statuses, 3), 0);
+    CHECK(parsed[0].low == 7050 && parsed[1].low == (uint64_t)-500 && parsed[2].low == 1234000, 1);
+    /* "7", ",0", "51" and ",234,5" at scale 0, and at a scale that the last does not have. */
+    memset(parsed, 0x55, sizeof parsed);
+    CHECK(num_format_parse_decimal_column(&de, other_offsets, 5, others, sizeof others - 1, parsed, 4, 0, statuses, 4), 0);
+    CHECK(statuses[0] == 0 && statuses[1] == NUM_FORMAT_MISSPELLED && statuses[2] == 0 && statuses[3] == NUM_FORMAT_UNEXPECTED, 1);
+    CHECK(parsed[0].low == 7 && parsed[0].high == 0 && parsed[1].low == 0x5555555555555555 && parsed[2].low == 51, 1);
+    CHECK(num_format_parse_decimal_column(&de, offsets, 4, bytes, size, parsed, 3, 1, statuses, 3), 0);
+    CHECK(statuses[0] == NUM_FORMAT_DIGITS_LOST && statuses[1] == 0 && statuses[2] == 0 && parsed[1].low == (uint64_t)-5, 1);
+    CHECK(num_format_parse_decimal_column(&de, offsets, 4, bytes, size, parsed, 3, 38, statuses, 3), 0);
+    CHECK(statuses[0] == NUM_FORMAT_OUT_OF_RANGE && statuses[1] == 0 && statuses[2] == NUM_FORMAT_OUT_OF_RANGE, 1);
+    CHECK(num_format_print_decimal_column(&de, units, 3, 39, offsets, 4, bytes, size), NUM_FORMAT_BAD_SCALE);
+    CHECK(num_format_print_decimal_column_len(&de, units, 3, 39, &length), NUM_FORMAT_BAD_SCALE);
+    CHECK(num_format_parse_decimal_column(&de, offsets, 4, bytes, size, parsed, 3, 39, statuses, 3), NUM_FORMAT_BAD_SCALE);
+    CHECK(num_format_print_decimal_column(&de, units, 3, 2, offsets, 4, bytes, size - 1), NUM_FORMAT_TOO_SMALL);
+    memset(bytes, 'x', sizeof bytes);
+    memset(parsed, 0x55, sizeof parsed);
+    CHECK(num_format_print_nullable_decimal_column_len(&de, units, 3, 2, &first_and_last, 1, &length), 0);
+    CHECK(length, 12);
+    CHECK(num_format_print_nullable_decimal_column(&de, units, 3, 2, &first_and_last, 1, offsets, 4, bytes, 12), 0);
+    check_bytes("decimals and a null", bytes, "7,051.234,00x");
+    CHECK(offsets[1] == 4 && offsets[2] == 4 && offsets[3] == 12, 1);
+    CHECK(num_format_print_nullable_decimal_large_column(&de, units, 3, 2, &first_and_last, 1, large, 4, bytes, 12), 0);
+    CHECK(large[1] == 4 && large[2] == 4 && large[3] == 12, 1);
+    CHECK(num_format_parse_nullable_decimal_column(&de, offsets, 4, bytes, 12, parsed, 3, 2, &first_and_last, 1, statuses, 3), 0);
+    CHECK(parsed[0].low == 705 && parsed[1].low == 0x5555555555555555 && parsed[2].low == 123400 && statuses[1] == 0, 1);
+    CHECK(num_format_parse_nullable_decimal_large_column(&de, large, 4, bytes, 12, parsed, 3, 2, &first_and_last, 0, statuses, 3), NUM_FORMAT_BAD_LENGTH);
 }
 
 static void check_names(void) {
@@ -533,5 +625,6 @@ int main(void) {
     check_names();
     check_lookup();
     check_columns();
+    check_decimal_columns();
     return status;
 }

@@ -7,8 +7,9 @@
 
 In this order:
 
-1. tools/readme_code.py compares the code in README.md and docs/ with the crate that has it, and tools/api_page.py
-   the page docs/api/ with the doc comments.
+1. tools/readme_code.py compares the code in README.md and docs/ with the crate that has it, tools/api_page.py
+   the page docs/api/ with the doc comments, and tools/column_calls.py the calls for columns of the library for C
+   with what it writes.
 2. `rt ci` has every proof from nothing, the tests, and each program as two compilers build it. It works
    on a copy of the repository. With --edits that has all; else it has no must-fail edits, not the library
    that bench/ measures, and not the crates of tests that tools/trials.py names: `rt try` runs those, with a
@@ -80,7 +81,7 @@ COMPILERS = ["", ".by-rattle"]
 
 def compare_code(tally):
     heading("the code in README.md and docs/")
-    for words in ["readme_code.py"], ["api_page.py", "--check"]:
+    for words in ["readme_code.py"], ["api_page.py", "--check"], ["column_calls.py", "--check"]:
         ended = run([sys.executable, ROOT / "tools" / words[0], *words[1:]])
         tally.compare(f"tools/{' '.join(words)}", ended.returncode, 0)
 

@@ -68,7 +68,8 @@ enum {
     /* The arrays of a column are refused: see num_format_print_i64_column and num_format_parse_i64_column. */
     NUM_FORMAT_BAD_LENGTH = -15,    /* there are not as many offsets or statuses as the numbers need */
     NUM_FORMAT_BAD_OFFSETS = -16,   /* an offset is below the one before it, or past the bytes */
-    NUM_FORMAT_TOO_MANY_BYTES = -17 /* the texts have more bytes than the last offset can say */
+    NUM_FORMAT_TOO_MANY_BYTES = -17, /* the texts have more bytes than the last offset can say */
+    NUM_FORMAT_DIGITS_LOST = -18    /* the text has digits other than 0 that the scale of a column has not */
 };
 
 /* The groupings: where separators stand among the digits. */
@@ -123,7 +124,9 @@ int32_t num_format_lookup(num_format *format, const char *tag, size_t length);
 int32_t num_format_custom(num_format *format, const char *separator, size_t separator_length,
                           uint32_t grouping, const char *minus_sign, size_t minus_sign_length);
 
-/* The same with a decimal mark of at most 8 bytes, which may be empty too. */
+/* The same with a decimal mark of at most 8 bytes, which may be empty too.
+ *
+ * Errors: NUM_FORMAT_NOT_UTF8, else NUM_FORMAT_TOO_LONG, else NUM_FORMAT_BAD_GROUPING. */
 int32_t num_format_custom_decimal(num_format *format, const char *separator, size_t separator_length,
                                   uint32_t grouping, const char *minus_sign, size_t minus_sign_length,
                                   const char *decimal_mark, size_t decimal_mark_length);
@@ -138,7 +141,9 @@ int32_t num_format_print_i64(const num_format *format, int64_t number, char *tex
 int32_t num_format_print_u64(const num_format *format, uint64_t number, char *text, size_t capacity);
 
 /* The same of a number of 128 bits, by its low and its high half: of an unsigned __int128 n, or of
- * an __int128 in two's complement, (uint64_t)n and (uint64_t)(n >> 64). */
+ * an __int128 in two's complement, (uint64_t)n and (uint64_t)(n >> 64).
+ *
+ * Errors: NUM_FORMAT_BAD_FORMAT, else NUM_FORMAT_TOO_SMALL. */
 int32_t num_format_print_u128(const num_format *format, uint64_t low, uint64_t high, char *text,
                               size_t capacity);
 int32_t num_format_print_i128(const num_format *format, uint64_t low, uint64_t high, char *text,
@@ -188,8 +193,9 @@ int32_t num_format_parse_i64(const num_format *format, uint32_t bits, const char
 int32_t num_format_parse_u64(const num_format *format, uint32_t bits, const char *text, size_t length,
                              uint64_t *number);
 
-/* The same of a number of 128 bits, which is written by its halves. The errors are those above but
- * NUM_FORMAT_BAD_BITS. */
+/* The same of a number of 128 bits, which is written by its halves.
+ *
+ * Errors: NUM_FORMAT_BAD_FORMAT, else NUM_FORMAT_NOT_UTF8, else NUM_FORMAT_NOT_A_NUMBER. */
 int32_t num_format_parse_u128(const num_format *format, const char *text, size_t length, uint64_t *low,
                               uint64_t *high);
 int32_t num_format_parse_i128(const num_format *format, const char *text, size_t length, uint64_t *low,
@@ -224,8 +230,10 @@ int32_t num_format_parse_strict_i64(const num_format *format, uint32_t bits, con
 int32_t num_format_parse_strict_u64(const num_format *format, uint32_t bits, const char *text,
                                     size_t length, uint64_t *number, size_t *at);
 
-/* The same of a number of 128 bits, which is written by its halves. The errors are those above but
- * NUM_FORMAT_BAD_BITS. */
+/* The same of a number of 128 bits, which is written by its halves.
+ *
+ * Errors, in this order: NUM_FORMAT_BAD_FORMAT, NUM_FORMAT_NOT_UTF8, NUM_FORMAT_UNEXPECTED, NUM_FORMAT_NO_DIGIT,
+ * NUM_FORMAT_MISSPELLED, NUM_FORMAT_OUT_OF_RANGE. */
 int32_t num_format_parse_strict_u128(const num_format *format, const char *text, size_t length,
                                      uint64_t *low, uint64_t *high, size_t *at);
 int32_t num_format_parse_strict_i128(const num_format *format, const char *text, size_t length,
@@ -287,14 +295,15 @@ uint32_t num_format_version(void);
  * offset k and ends where offset k + 1 says. Offsets are of 32 bits, or in the calls named `large` of 64
  * bits. None is below 0.
  *
- * An array is aligned as C aligns its type. An array that is empty has a length of 0, and a pointer that is
- * not null. */
+ * An array is aligned as C aligns its type. */
 
 /* A number of 128 bits in a column, by its low and its high half, as an __int128 lies in memory. */
 typedef struct num_format_wide {
     uint64_t low;
     uint64_t high;
 } num_format_wide;
+
+/* The calls for columns, which tools/column_calls.py writes. */
 
 /* Print n numbers, write the n + 1 offsets of their texts, of which the first is 0, and return 0. Text k is
  * as by num_format_print_i64. The bytes after the last text are as they were.
@@ -467,7 +476,9 @@ int32_t num_format_parse_u128_large_column(const num_format *format, const int64
 /* The same, with row k as by num_format_parse_strict_i64 but for its `at`.
  *
  * Statuses: 0, NUM_FORMAT_NOT_UTF8, NUM_FORMAT_UNEXPECTED, NUM_FORMAT_NO_DIGIT, NUM_FORMAT_MISSPELLED,
- * NUM_FORMAT_OUT_OF_RANGE. The errors are those above. */
+ * NUM_FORMAT_OUT_OF_RANGE.
+ *
+ * Errors: NUM_FORMAT_BAD_FORMAT, else NUM_FORMAT_BAD_LENGTH, else NUM_FORMAT_BAD_OFFSETS, as above. */
 int32_t num_format_parse_strict_i8_column(const num_format *format, const int32_t *offsets,
                                           size_t offsets_length, const char *bytes, size_t bytes_length,
                                           int8_t *numbers, size_t n, int32_t *statuses,
@@ -549,6 +560,393 @@ int32_t num_format_parse_strict_u128_large_column(const num_format *format, cons
                                                   size_t bytes_length, num_format_wide *numbers, size_t n,
                                                   int32_t *statuses, size_t statuses_length);
 
+/* Print n decimals of one scale. Text k is as by num_format_print_decimal, and all else as in a column of
+ * numbers.
+ *
+ * Errors: NUM_FORMAT_BAD_SCALE, else NUM_FORMAT_BAD_FORMAT, else NUM_FORMAT_BAD_LENGTH, else
+ * NUM_FORMAT_TOO_MANY_BYTES, else NUM_FORMAT_TOO_SMALL, as above. */
+int32_t num_format_print_decimal_column(const num_format *format, const num_format_wide *units, size_t n,
+                                        uint32_t scale, int32_t *offsets, size_t offsets_length,
+                                        char *bytes, size_t capacity);
+int32_t num_format_print_decimal_large_column(const num_format *format, const num_format_wide *units,
+                                              size_t n, uint32_t scale, int64_t *offsets,
+                                              size_t offsets_length, char *bytes, size_t capacity);
+
+/* Writes how many bytes the texts of n decimals of one scale have together, and returns 0.
+ *
+ * Errors: NUM_FORMAT_BAD_SCALE, else NUM_FORMAT_BAD_FORMAT, else NUM_FORMAT_TOO_MANY_BYTES. */
+int32_t num_format_print_decimal_column_len(const num_format *format, const num_format_wide *units,
+                                            size_t n, uint32_t scale, size_t *length);
+
+/* Parse n texts of a column as decimals, and write their units at one scale. Row k is as by
+ * num_format_parse_decimal but for its `at`, and the number stays the same at the scale: at scale 2 "1.5" has 150
+ * units, and so has "1.500", while "1.505" is refused. All else is as in a column of numbers.
+ *
+ * Statuses: 0, NUM_FORMAT_NOT_UTF8, NUM_FORMAT_UNEXPECTED, NUM_FORMAT_NO_DIGIT, NUM_FORMAT_TOO_MANY_DECIMALS,
+ * NUM_FORMAT_MISSPELLED, NUM_FORMAT_OUT_OF_RANGE: the units of the text or at the scale have more than 127 bits
+ * besides the sign, NUM_FORMAT_DIGITS_LOST.
+ *
+ * Errors: NUM_FORMAT_BAD_SCALE, else NUM_FORMAT_BAD_FORMAT, else NUM_FORMAT_BAD_LENGTH, else
+ * NUM_FORMAT_BAD_OFFSETS, as above. */
+int32_t num_format_parse_decimal_column(const num_format *format, const int32_t *offsets,
+                                        size_t offsets_length, const char *bytes, size_t bytes_length,
+                                        num_format_wide *units, size_t n, uint32_t scale, int32_t *statuses,
+                                        size_t statuses_length);
+int32_t num_format_parse_decimal_large_column(const num_format *format, const int64_t *offsets,
+                                              size_t offsets_length, const char *bytes, size_t bytes_length,
+                                              num_format_wide *units, size_t n, uint32_t scale,
+                                              int32_t *statuses, size_t statuses_length);
+
+/* The same with a validity bitmap: row k has a value if the bit of 1 << k % 8 is set in byte k / 8, and else it is
+ * null. The bitmap has a bit for each row at least, and what follows them is not read.
+ *
+ * The text of a null row is printed as empty. Its text is not parsed: its status is 0, and its value as it was.
+ *
+ * The errors are those above, and NUM_FORMAT_BAD_LENGTH, which comes after NUM_FORMAT_BAD_FORMAT, also where
+ * validity_length is less than n / 8, rounded up. */
+int32_t num_format_print_nullable_i8_column(const num_format *format, const int8_t *numbers, size_t n,
+                                            const uint8_t *validity, size_t validity_length,
+                                            int32_t *offsets, size_t offsets_length, char *bytes,
+                                            size_t capacity);
+int32_t num_format_print_nullable_i16_column(const num_format *format, const int16_t *numbers, size_t n,
+                                             const uint8_t *validity, size_t validity_length,
+                                             int32_t *offsets, size_t offsets_length, char *bytes,
+                                             size_t capacity);
+int32_t num_format_print_nullable_i32_column(const num_format *format, const int32_t *numbers, size_t n,
+                                             const uint8_t *validity, size_t validity_length,
+                                             int32_t *offsets, size_t offsets_length, char *bytes,
+                                             size_t capacity);
+int32_t num_format_print_nullable_i64_column(const num_format *format, const int64_t *numbers, size_t n,
+                                             const uint8_t *validity, size_t validity_length,
+                                             int32_t *offsets, size_t offsets_length, char *bytes,
+                                             size_t capacity);
+int32_t num_format_print_nullable_i128_column(const num_format *format, const num_format_wide *numbers,
+                                              size_t n, const uint8_t *validity, size_t validity_length,
+                                              int32_t *offsets, size_t offsets_length, char *bytes,
+                                              size_t capacity);
+int32_t num_format_print_nullable_u8_column(const num_format *format, const uint8_t *numbers, size_t n,
+                                            const uint8_t *validity, size_t validity_length,
+                                            int32_t *offsets, size_t offsets_length, char *bytes,
+                                            size_t capacity);
+int32_t num_format_print_nullable_u16_column(const num_format *format, const uint16_t *numbers, size_t n,
+                                             const uint8_t *validity, size_t validity_length,
+                                             int32_t *offsets, size_t offsets_length, char *bytes,
+                                             size_t capacity);
+int32_t num_format_print_nullable_u32_column(const num_format *format, const uint32_t *numbers, size_t n,
+                                             const uint8_t *validity, size_t validity_length,
+                                             int32_t *offsets, size_t offsets_length, char *bytes,
+                                             size_t capacity);
+int32_t num_format_print_nullable_u64_column(const num_format *format, const uint64_t *numbers, size_t n,
+                                             const uint8_t *validity, size_t validity_length,
+                                             int32_t *offsets, size_t offsets_length, char *bytes,
+                                             size_t capacity);
+int32_t num_format_print_nullable_u128_column(const num_format *format, const num_format_wide *numbers,
+                                              size_t n, const uint8_t *validity, size_t validity_length,
+                                              int32_t *offsets, size_t offsets_length, char *bytes,
+                                              size_t capacity);
+int32_t num_format_print_nullable_i8_large_column(const num_format *format, const int8_t *numbers, size_t n,
+                                                  const uint8_t *validity, size_t validity_length,
+                                                  int64_t *offsets, size_t offsets_length, char *bytes,
+                                                  size_t capacity);
+int32_t num_format_print_nullable_i16_large_column(const num_format *format, const int16_t *numbers,
+                                                   size_t n, const uint8_t *validity,
+                                                   size_t validity_length, int64_t *offsets,
+                                                   size_t offsets_length, char *bytes, size_t capacity);
+int32_t num_format_print_nullable_i32_large_column(const num_format *format, const int32_t *numbers,
+                                                   size_t n, const uint8_t *validity,
+                                                   size_t validity_length, int64_t *offsets,
+                                                   size_t offsets_length, char *bytes, size_t capacity);
+int32_t num_format_print_nullable_i64_large_column(const num_format *format, const int64_t *numbers,
+                                                   size_t n, const uint8_t *validity,
+                                                   size_t validity_length, int64_t *offsets,
+                                                   size_t offsets_length, char *bytes, size_t capacity);
+int32_t num_format_print_nullable_i128_large_column(const num_format *format,
+                                                    const num_format_wide *numbers, size_t n,
+                                                    const uint8_t *validity, size_t validity_length,
+                                                    int64_t *offsets, size_t offsets_length, char *bytes,
+                                                    size_t capacity);
+int32_t num_format_print_nullable_u8_large_column(const num_format *format, const uint8_t *numbers,
+                                                  size_t n, const uint8_t *validity, size_t validity_length,
+                                                  int64_t *offsets, size_t offsets_length, char *bytes,
+                                                  size_t capacity);
+int32_t num_format_print_nullable_u16_large_column(const num_format *format, const uint16_t *numbers,
+                                                   size_t n, const uint8_t *validity,
+                                                   size_t validity_length, int64_t *offsets,
+                                                   size_t offsets_length, char *bytes, size_t capacity);
+int32_t num_format_print_nullable_u32_large_column(const num_format *format, const uint32_t *numbers,
+                                                   size_t n, const uint8_t *validity,
+                                                   size_t validity_length, int64_t *offsets,
+                                                   size_t offsets_length, char *bytes, size_t capacity);
+int32_t num_format_print_nullable_u64_large_column(const num_format *format, const uint64_t *numbers,
+                                                   size_t n, const uint8_t *validity,
+                                                   size_t validity_length, int64_t *offsets,
+                                                   size_t offsets_length, char *bytes, size_t capacity);
+int32_t num_format_print_nullable_u128_large_column(const num_format *format,
+                                                    const num_format_wide *numbers, size_t n,
+                                                    const uint8_t *validity, size_t validity_length,
+                                                    int64_t *offsets, size_t offsets_length, char *bytes,
+                                                    size_t capacity);
+int32_t num_format_print_nullable_i8_column_len(const num_format *format, const int8_t *numbers, size_t n,
+                                                const uint8_t *validity, size_t validity_length,
+                                                size_t *length);
+int32_t num_format_print_nullable_i16_column_len(const num_format *format, const int16_t *numbers, size_t n,
+                                                 const uint8_t *validity, size_t validity_length,
+                                                 size_t *length);
+int32_t num_format_print_nullable_i32_column_len(const num_format *format, const int32_t *numbers, size_t n,
+                                                 const uint8_t *validity, size_t validity_length,
+                                                 size_t *length);
+int32_t num_format_print_nullable_i64_column_len(const num_format *format, const int64_t *numbers, size_t n,
+                                                 const uint8_t *validity, size_t validity_length,
+                                                 size_t *length);
+int32_t num_format_print_nullable_i128_column_len(const num_format *format, const num_format_wide *numbers,
+                                                  size_t n, const uint8_t *validity, size_t validity_length,
+                                                  size_t *length);
+int32_t num_format_print_nullable_u8_column_len(const num_format *format, const uint8_t *numbers, size_t n,
+                                                const uint8_t *validity, size_t validity_length,
+                                                size_t *length);
+int32_t num_format_print_nullable_u16_column_len(const num_format *format, const uint16_t *numbers,
+                                                 size_t n, const uint8_t *validity, size_t validity_length,
+                                                 size_t *length);
+int32_t num_format_print_nullable_u32_column_len(const num_format *format, const uint32_t *numbers,
+                                                 size_t n, const uint8_t *validity, size_t validity_length,
+                                                 size_t *length);
+int32_t num_format_print_nullable_u64_column_len(const num_format *format, const uint64_t *numbers,
+                                                 size_t n, const uint8_t *validity, size_t validity_length,
+                                                 size_t *length);
+int32_t num_format_print_nullable_u128_column_len(const num_format *format, const num_format_wide *numbers,
+                                                  size_t n, const uint8_t *validity, size_t validity_length,
+                                                  size_t *length);
+int32_t num_format_parse_nullable_i8_column(const num_format *format, const int32_t *offsets,
+                                            size_t offsets_length, const char *bytes, size_t bytes_length,
+                                            int8_t *numbers, size_t n, const uint8_t *validity,
+                                            size_t validity_length, int32_t *statuses,
+                                            size_t statuses_length);
+int32_t num_format_parse_nullable_i16_column(const num_format *format, const int32_t *offsets,
+                                             size_t offsets_length, const char *bytes, size_t bytes_length,
+                                             int16_t *numbers, size_t n, const uint8_t *validity,
+                                             size_t validity_length, int32_t *statuses,
+                                             size_t statuses_length);
+int32_t num_format_parse_nullable_i32_column(const num_format *format, const int32_t *offsets,
+                                             size_t offsets_length, const char *bytes, size_t bytes_length,
+                                             int32_t *numbers, size_t n, const uint8_t *validity,
+                                             size_t validity_length, int32_t *statuses,
+                                             size_t statuses_length);
+int32_t num_format_parse_nullable_i64_column(const num_format *format, const int32_t *offsets,
+                                             size_t offsets_length, const char *bytes, size_t bytes_length,
+                                             int64_t *numbers, size_t n, const uint8_t *validity,
+                                             size_t validity_length, int32_t *statuses,
+                                             size_t statuses_length);
+int32_t num_format_parse_nullable_i128_column(const num_format *format, const int32_t *offsets,
+                                              size_t offsets_length, const char *bytes, size_t bytes_length,
+                                              num_format_wide *numbers, size_t n, const uint8_t *validity,
+                                              size_t validity_length, int32_t *statuses,
+                                              size_t statuses_length);
+int32_t num_format_parse_nullable_u8_column(const num_format *format, const int32_t *offsets,
+                                            size_t offsets_length, const char *bytes, size_t bytes_length,
+                                            uint8_t *numbers, size_t n, const uint8_t *validity,
+                                            size_t validity_length, int32_t *statuses,
+                                            size_t statuses_length);
+int32_t num_format_parse_nullable_u16_column(const num_format *format, const int32_t *offsets,
+                                             size_t offsets_length, const char *bytes, size_t bytes_length,
+                                             uint16_t *numbers, size_t n, const uint8_t *validity,
+                                             size_t validity_length, int32_t *statuses,
+                                             size_t statuses_length);
+int32_t num_format_parse_nullable_u32_column(const num_format *format, const int32_t *offsets,
+                                             size_t offsets_length, const char *bytes, size_t bytes_length,
+                                             uint32_t *numbers, size_t n, const uint8_t *validity,
+                                             size_t validity_length, int32_t *statuses,
+                                             size_t statuses_length);
+int32_t num_format_parse_nullable_u64_column(const num_format *format, const int32_t *offsets,
+                                             size_t offsets_length, const char *bytes, size_t bytes_length,
+                                             uint64_t *numbers, size_t n, const uint8_t *validity,
+                                             size_t validity_length, int32_t *statuses,
+                                             size_t statuses_length);
+int32_t num_format_parse_nullable_u128_column(const num_format *format, const int32_t *offsets,
+                                              size_t offsets_length, const char *bytes, size_t bytes_length,
+                                              num_format_wide *numbers, size_t n, const uint8_t *validity,
+                                              size_t validity_length, int32_t *statuses,
+                                              size_t statuses_length);
+int32_t num_format_parse_nullable_i8_large_column(const num_format *format, const int64_t *offsets,
+                                                  size_t offsets_length, const char *bytes,
+                                                  size_t bytes_length, int8_t *numbers, size_t n,
+                                                  const uint8_t *validity, size_t validity_length,
+                                                  int32_t *statuses, size_t statuses_length);
+int32_t num_format_parse_nullable_i16_large_column(const num_format *format, const int64_t *offsets,
+                                                   size_t offsets_length, const char *bytes,
+                                                   size_t bytes_length, int16_t *numbers, size_t n,
+                                                   const uint8_t *validity, size_t validity_length,
+                                                   int32_t *statuses, size_t statuses_length);
+int32_t num_format_parse_nullable_i32_large_column(const num_format *format, const int64_t *offsets,
+                                                   size_t offsets_length, const char *bytes,
+                                                   size_t bytes_length, int32_t *numbers, size_t n,
+                                                   const uint8_t *validity, size_t validity_length,
+                                                   int32_t *statuses, size_t statuses_length);
+int32_t num_format_parse_nullable_i64_large_column(const num_format *format, const int64_t *offsets,
+                                                   size_t offsets_length, const char *bytes,
+                                                   size_t bytes_length, int64_t *numbers, size_t n,
+                                                   const uint8_t *validity, size_t validity_length,
+                                                   int32_t *statuses, size_t statuses_length);
+int32_t num_format_parse_nullable_i128_large_column(const num_format *format, const int64_t *offsets,
+                                                    size_t offsets_length, const char *bytes,
+                                                    size_t bytes_length, num_format_wide *numbers, size_t n,
+                                                    const uint8_t *validity, size_t validity_length,
+                                                    int32_t *statuses, size_t statuses_length);
+int32_t num_format_parse_nullable_u8_large_column(const num_format *format, const int64_t *offsets,
+                                                  size_t offsets_length, const char *bytes,
+                                                  size_t bytes_length, uint8_t *numbers, size_t n,
+                                                  const uint8_t *validity, size_t validity_length,
+                                                  int32_t *statuses, size_t statuses_length);
+int32_t num_format_parse_nullable_u16_large_column(const num_format *format, const int64_t *offsets,
+                                                   size_t offsets_length, const char *bytes,
+                                                   size_t bytes_length, uint16_t *numbers, size_t n,
+                                                   const uint8_t *validity, size_t validity_length,
+                                                   int32_t *statuses, size_t statuses_length);
+int32_t num_format_parse_nullable_u32_large_column(const num_format *format, const int64_t *offsets,
+                                                   size_t offsets_length, const char *bytes,
+                                                   size_t bytes_length, uint32_t *numbers, size_t n,
+                                                   const uint8_t *validity, size_t validity_length,
+                                                   int32_t *statuses, size_t statuses_length);
+int32_t num_format_parse_nullable_u64_large_column(const num_format *format, const int64_t *offsets,
+                                                   size_t offsets_length, const char *bytes,
+                                                   size_t bytes_length, uint64_t *numbers, size_t n,
+                                                   const uint8_t *validity, size_t validity_length,
+                                                   int32_t *statuses, size_t statuses_length);
+int32_t num_format_parse_nullable_u128_large_column(const num_format *format, const int64_t *offsets,
+                                                    size_t offsets_length, const char *bytes,
+                                                    size_t bytes_length, num_format_wide *numbers, size_t n,
+                                                    const uint8_t *validity, size_t validity_length,
+                                                    int32_t *statuses, size_t statuses_length);
+int32_t num_format_parse_strict_nullable_i8_column(const num_format *format, const int32_t *offsets,
+                                                   size_t offsets_length, const char *bytes,
+                                                   size_t bytes_length, int8_t *numbers, size_t n,
+                                                   const uint8_t *validity, size_t validity_length,
+                                                   int32_t *statuses, size_t statuses_length);
+int32_t num_format_parse_strict_nullable_i16_column(const num_format *format, const int32_t *offsets,
+                                                    size_t offsets_length, const char *bytes,
+                                                    size_t bytes_length, int16_t *numbers, size_t n,
+                                                    const uint8_t *validity, size_t validity_length,
+                                                    int32_t *statuses, size_t statuses_length);
+int32_t num_format_parse_strict_nullable_i32_column(const num_format *format, const int32_t *offsets,
+                                                    size_t offsets_length, const char *bytes,
+                                                    size_t bytes_length, int32_t *numbers, size_t n,
+                                                    const uint8_t *validity, size_t validity_length,
+                                                    int32_t *statuses, size_t statuses_length);
+int32_t num_format_parse_strict_nullable_i64_column(const num_format *format, const int32_t *offsets,
+                                                    size_t offsets_length, const char *bytes,
+                                                    size_t bytes_length, int64_t *numbers, size_t n,
+                                                    const uint8_t *validity, size_t validity_length,
+                                                    int32_t *statuses, size_t statuses_length);
+int32_t num_format_parse_strict_nullable_i128_column(const num_format *format, const int32_t *offsets,
+                                                     size_t offsets_length, const char *bytes,
+                                                     size_t bytes_length, num_format_wide *numbers,
+                                                     size_t n, const uint8_t *validity,
+                                                     size_t validity_length, int32_t *statuses,
+                                                     size_t statuses_length);
+int32_t num_format_parse_strict_nullable_u8_column(const num_format *format, const int32_t *offsets,
+                                                   size_t offsets_length, const char *bytes,
+                                                   size_t bytes_length, uint8_t *numbers, size_t n,
+                                                   const uint8_t *validity, size_t validity_length,
+                                                   int32_t *statuses, size_t statuses_length);
+int32_t num_format_parse_strict_nullable_u16_column(const num_format *format, const int32_t *offsets,
+                                                    size_t offsets_length, const char *bytes,
+                                                    size_t bytes_length, uint16_t *numbers, size_t n,
+                                                    const uint8_t *validity, size_t validity_length,
+                                                    int32_t *statuses, size_t statuses_length);
+int32_t num_format_parse_strict_nullable_u32_column(const num_format *format, const int32_t *offsets,
+                                                    size_t offsets_length, const char *bytes,
+                                                    size_t bytes_length, uint32_t *numbers, size_t n,
+                                                    const uint8_t *validity, size_t validity_length,
+                                                    int32_t *statuses, size_t statuses_length);
+int32_t num_format_parse_strict_nullable_u64_column(const num_format *format, const int32_t *offsets,
+                                                    size_t offsets_length, const char *bytes,
+                                                    size_t bytes_length, uint64_t *numbers, size_t n,
+                                                    const uint8_t *validity, size_t validity_length,
+                                                    int32_t *statuses, size_t statuses_length);
+int32_t num_format_parse_strict_nullable_u128_column(const num_format *format, const int32_t *offsets,
+                                                     size_t offsets_length, const char *bytes,
+                                                     size_t bytes_length, num_format_wide *numbers,
+                                                     size_t n, const uint8_t *validity,
+                                                     size_t validity_length, int32_t *statuses,
+                                                     size_t statuses_length);
+int32_t num_format_parse_strict_nullable_i8_large_column(const num_format *format, const int64_t *offsets,
+                                                         size_t offsets_length, const char *bytes,
+                                                         size_t bytes_length, int8_t *numbers, size_t n,
+                                                         const uint8_t *validity, size_t validity_length,
+                                                         int32_t *statuses, size_t statuses_length);
+int32_t num_format_parse_strict_nullable_i16_large_column(const num_format *format, const int64_t *offsets,
+                                                          size_t offsets_length, const char *bytes,
+                                                          size_t bytes_length, int16_t *numbers, size_t n,
+                                                          const uint8_t *validity, size_t validity_length,
+                                                          int32_t *statuses, size_t statuses_length);
+int32_t num_format_parse_strict_nullable_i32_large_column(const num_format *format, const int64_t *offsets,
+                                                          size_t offsets_length, const char *bytes,
+                                                          size_t bytes_length, int32_t *numbers, size_t n,
+                                                          const uint8_t *validity, size_t validity_length,
+                                                          int32_t *statuses, size_t statuses_length);
+int32_t num_format_parse_strict_nullable_i64_large_column(const num_format *format, const int64_t *offsets,
+                                                          size_t offsets_length, const char *bytes,
+                                                          size_t bytes_length, int64_t *numbers, size_t n,
+                                                          const uint8_t *validity, size_t validity_length,
+                                                          int32_t *statuses, size_t statuses_length);
+int32_t num_format_parse_strict_nullable_i128_large_column(const num_format *format, const int64_t *offsets,
+                                                           size_t offsets_length, const char *bytes,
+                                                           size_t bytes_length, num_format_wide *numbers,
+                                                           size_t n, const uint8_t *validity,
+                                                           size_t validity_length, int32_t *statuses,
+                                                           size_t statuses_length);
+int32_t num_format_parse_strict_nullable_u8_large_column(const num_format *format, const int64_t *offsets,
+                                                         size_t offsets_length, const char *bytes,
+                                                         size_t bytes_length, uint8_t *numbers, size_t n,
+                                                         const uint8_t *validity, size_t validity_length,
+                                                         int32_t *statuses, size_t statuses_length);
+int32_t num_format_parse_strict_nullable_u16_large_column(const num_format *format, const int64_t *offsets,
+                                                          size_t offsets_length, const char *bytes,
+                                                          size_t bytes_length, uint16_t *numbers, size_t n,
+                                                          const uint8_t *validity, size_t validity_length,
+                                                          int32_t *statuses, size_t statuses_length);
+int32_t num_format_parse_strict_nullable_u32_large_column(const num_format *format, const int64_t *offsets,
+                                                          size_t offsets_length, const char *bytes,
+                                                          size_t bytes_length, uint32_t *numbers, size_t n,
+                                                          const uint8_t *validity, size_t validity_length,
+                                                          int32_t *statuses, size_t statuses_length);
+int32_t num_format_parse_strict_nullable_u64_large_column(const num_format *format, const int64_t *offsets,
+                                                          size_t offsets_length, const char *bytes,
+                                                          size_t bytes_length, uint64_t *numbers, size_t n,
+                                                          const uint8_t *validity, size_t validity_length,
+                                                          int32_t *statuses, size_t statuses_length);
+int32_t num_format_parse_strict_nullable_u128_large_column(const num_format *format, const int64_t *offsets,
+                                                           size_t offsets_length, const char *bytes,
+                                                           size_t bytes_length, num_format_wide *numbers,
+                                                           size_t n, const uint8_t *validity,
+                                                           size_t validity_length, int32_t *statuses,
+                                                           size_t statuses_length);
+int32_t num_format_print_nullable_decimal_column(const num_format *format, const num_format_wide *units,
+                                                 size_t n, uint32_t scale, const uint8_t *validity,
+                                                 size_t validity_length, int32_t *offsets,
+                                                 size_t offsets_length, char *bytes, size_t capacity);
+int32_t num_format_print_nullable_decimal_large_column(const num_format *format,
+                                                       const num_format_wide *units, size_t n,
+                                                       uint32_t scale, const uint8_t *validity,
+                                                       size_t validity_length, int64_t *offsets,
+                                                       size_t offsets_length, char *bytes, size_t capacity);
+int32_t num_format_print_nullable_decimal_column_len(const num_format *format, const num_format_wide *units,
+                                                     size_t n, uint32_t scale, const uint8_t *validity,
+                                                     size_t validity_length, size_t *length);
+int32_t num_format_parse_nullable_decimal_column(const num_format *format, const int32_t *offsets,
+                                                 size_t offsets_length, const char *bytes,
+                                                 size_t bytes_length, num_format_wide *units, size_t n,
+                                                 uint32_t scale, const uint8_t *validity,
+                                                 size_t validity_length, int32_t *statuses,
+                                                 size_t statuses_length);
+int32_t num_format_parse_nullable_decimal_large_column(const num_format *format, const int64_t *offsets,
+                                                       size_t offsets_length, const char *bytes,
+                                                       size_t bytes_length, num_format_wide *units,
+                                                       size_t n, uint32_t scale, const uint8_t *validity,
+                                                       size_t validity_length, int32_t *statuses,
+                                                       size_t statuses_length);
+
+/* The end of the calls for columns. */
+
 /* Returns what a status means, as a text that is never freed: "ok" for 0 and above. */
 static inline const char *num_format_strerror(int32_t status) {
     switch (status) {
@@ -569,6 +967,7 @@ static inline const char *num_format_strerror(int32_t status) {
     case NUM_FORMAT_BAD_LENGTH: return "the lengths of a column's arrays do not fit one another";
     case NUM_FORMAT_BAD_OFFSETS: return "an offset is below the one before it, or past the bytes";
     case NUM_FORMAT_TOO_MANY_BYTES: return "the texts have more bytes than an offset can say";
+    case NUM_FORMAT_DIGITS_LOST: return "the text has digits other than 0 that the scale has not";
     default: return status < 0 ? "unknown status" : "ok";
     }
 }

@@ -10,6 +10,7 @@ The header num_format.h of a library that is not of pkg-config is beside it, in 
 there.
 """
 import os
+import re
 import shutil
 import subprocess
 from pathlib import Path
@@ -60,6 +61,11 @@ typedef struct num_format {
     uint8_t grouping;
 } num_format;
 
+typedef struct num_format_wide {
+    uint64_t low;
+    uint64_t high;
+} num_format_wide;
+
 int32_t num_format_locale(num_format *format, const char *name, size_t length);
 int32_t num_format_custom_decimal(num_format *format, const char *separator, size_t separator_length,
                                   uint32_t grouping, const char *minus_sign, size_t minus_sign_length,
@@ -95,47 +101,21 @@ int32_t num_format_parse_decimal(const num_format *format, const char *text, siz
 
 # Columns of decimals: the functions of decimal_columns.c.
 DECIMALS = """
-typedef struct num_format_wide {
-    uint64_t low;
-    uint64_t high;
-} num_format_wide;
-
 size_t print_decimals(const num_format *format, const num_format_wide *units, uint32_t scale, size_t row, size_t n,
                       int64_t *offsets, char *bytes, size_t capacity);
 int32_t parse_decimals(const num_format *format, const int64_t *offsets, const char *bytes, size_t length,
                        uint32_t scale, num_format_wide *units, int32_t *statuses, size_t n);
 """
 
-# The calls for columns of numbers, for each of eight types.
-COLUMN_LENGTH = """
-int32_t num_format_print_{type}_column_len(const num_format *format, const {number} *numbers, size_t n,
-                                           size_t *length);
-"""
-
-# The same for each of eight types and two widths of offsets.
-COLUMN_CALLS = """
-int32_t num_format_print_{type}{large}_column(const num_format *format, const {number} *numbers, size_t n,
-                                              {offset} *offsets, size_t offsets_length, char *bytes,
-                                              size_t capacity);
-int32_t num_format_parse_{type}{large}_column(const num_format *format, const {offset} *offsets,
-                                              size_t offsets_length, const char *bytes, size_t bytes_length,
-                                              {number} *numbers, size_t n, int32_t *statuses,
-                                              size_t statuses_length);
-int32_t num_format_parse_strict_{type}{large}_column(const num_format *format, const {offset} *offsets,
-                                                     size_t offsets_length, const char *bytes,
-                                                     size_t bytes_length, {number} *numbers, size_t n,
-                                                     int32_t *statuses, size_t statuses_length);
-"""
+# The declarations of the calls for columns are between these lines of num_format.h.
+COLUMNS = re.compile(
+    r"^/\* The calls for columns, .*? \*/$(.*)^/\* The end of the calls for columns\. \*/$", re.DOTALL | re.MULTILINE
+)
 
 
-def column_declarations():
-    """The declarations of the calls for columns."""
-    for bits in (8, 16, 32, 64):
-        for letter, sign in [("i", ""), ("u", "u")]:
-            names = {"type": f"{letter}{bits}", "number": f"{sign}int{bits}_t"}
-            yield COLUMN_LENGTH.format(**names)
-            for large, offset in [("", "int32_t"), ("_large", "int64_t")]:
-                yield COLUMN_CALLS.format(large=large, offset=offset, **names)
+def column_declarations(folder):
+    """The declarations of the calls for columns, as the header in that folder has them."""
+    return COLUMNS.search((folder / "num_format.h").read_text(encoding="utf-8"))[1]
 
 
 def installed():
@@ -176,7 +156,7 @@ def find_library():
 
 library, include = find_library()
 builder = FFI()
-builder.cdef(DECLARATIONS + DECIMALS + "".join(column_declarations()))
+builder.cdef(DECLARATIONS + DECIMALS + column_declarations(include))
 builder.set_source(
     "num_format._native",
     (HERE / "decimal_columns.c").read_text(encoding="utf-8"),

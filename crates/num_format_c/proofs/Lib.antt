@@ -1,4 +1,6 @@
+pub mod AtScaleLemmas
 pub mod CallLemmas
+pub mod ColumnCallLemmas
 pub mod DecimalLemmas
 pub mod LengthLemmas
 pub mod NameLemmas

@@ -13,15 +13,18 @@ use Rattle.num_format.specs.StrictError.{StrictError}
 use Rattle.num_format.specs.StrictError.TheVariants as cause
 use Rattle.num_format.specs.Text.{text_of}
 use Rattle.num_format_decimal.specs.FixedPoint.{FixedPoint, fixed_point}
-use Rattle.num_format_decimal.specs.Parsing.{IsDecimalCause, ParsesDecimal}
+use Rattle.num_format_decimal.specs.Parsing.{IsAtScaleCause, IsDecimalCause, ParsesAtScale, ParsesDecimal}
 use Rattle.num_format_decimal.specs.Text.{decimal_text}
 use Rattle.num_format_decimal.specs.declared.decimal.TheConstants.{MAX_SCALE}
+use Rattle.num_format_decimal.specs.declared.error.DecimalError.TheVariants as rescale
+use Rattle.num_format_decimal.specs.declared.parsing.ParseAtScaleError.{ParseAtScaleError}
+use Rattle.num_format_decimal.specs.declared.parsing.ParseAtScaleError.TheVariants.{Parse, Rescale}
 use Rattle.num_format_decimal.specs.declared.parsing.ParseDecimalError.{ParseDecimalError}
 use Rattle.num_format_decimal.specs.declared.parsing.ParseDecimalError.TheVariants as decimal
 use Rattle.num_format_c.specs.Held.{Agrees, HasFormat, IsPadded, format_of, format_with, grouping_of}
 use Rattle.num_format_c.specs.declared.format.NumFormat.{NumFormat}
 use Rattle.num_format_c.specs.declared.status.Status.{Status}
-use Rattle.num_format_c.specs.declared.status.Status.TheVariants.{BadFormat, TooSmall, NotUtf8, NotANumber, UnknownLocale, TooLong, BadGrouping, BadBits, Unexpected, NoDigit, Misspelled, OutOfRange, BadScale, TooManyDecimals, BadLength, BadOffsets, TooManyBytes}
+use Rattle.num_format_c.specs.declared.status.Status.TheVariants.{BadFormat, TooSmall, NotUtf8, NotANumber, UnknownLocale, TooLong, BadGrouping, BadBits, Unexpected, NoDigit, Misspelled, OutOfRange, BadScale, TooManyDecimals, BadLength, BadOffsets, TooManyBytes, DigitsLost}
 
 -- the number by which an error crosses to C; `negsuc n` is the number one below -n
 abbrev pub code : Status → ℤ
@@ -42,6 +45,7 @@ code TooManyDecimals = negsuc 13
 code BadLength = negsuc 14
 code BadOffsets = negsuc 15
 code TooManyBytes = negsuc 16
+code DigitsLost = negsuc 17
 
 -- the number that a call returns
 abbrev pub returned : Result ℤ Status → ℤ
@@ -145,6 +149,19 @@ pub record ParsesDecimalUnder (s : NumFormat) (text : List ℕ) (old new : ℕ) 
   pub bad_format : ¬ HasFormat s → (result ≡ Err BadFormat) × (new ≡ old)
   pub refused : HasFormat s → (e : ParseDecimalError) → IsDecimalCause (format_of s) text e → (result ≡ Err (decimal_status_of e)) × (new ≡ decimal_place_of e old)
   pub number : HasFormat s → (d : FixedPoint) → ParsesDecimal (format_of s) text d → (result ≡ Ok d) × (new ≡ old)
+
+-- the error for a cause for which a text is refused as a decimal of a scale
+abbrev pub at_scale_status_of : ParseAtScaleError → Status
+at_scale_status_of (Parse e) = decimal_status_of e
+at_scale_status_of (Rescale rescale.ScaleTooLarge) = BadScale
+at_scale_status_of (Rescale rescale.DigitsLost) = DigitsLost
+at_scale_status_of (Rescale rescale.OutOfRange) = OutOfRange
+
+-- a text is parsed under the format of a struct as a decimal of a scale
+pub record ParsesAtScaleUnder (scale : ℕ) (s : NumFormat) (text : List ℕ) (result : Result FixedPoint Status) : Type 0 where
+  pub bad_format : ¬ HasFormat s → result ≡ Err BadFormat
+  pub refused : HasFormat s → (e : ParseAtScaleError) → IsAtScaleCause (format_of s) text scale e → result ≡ Err (at_scale_status_of e)
+  pub number : HasFormat s → (d : FixedPoint) → ParsesAtScale (format_of s) text scale d → result ≡ Ok d
 
 -- a text is parsed as a decimal, which is written over another one, or the place of an unexpected byte is
 pub record ParsesDecimalInto (s : NumFormat) (text : List ℕ) (old new : FixedPoint) (at_old at_new : ℕ) (result : ℤ) : Type 0 where

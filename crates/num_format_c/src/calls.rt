@@ -9,7 +9,7 @@ ghost use Rattle.num_format.specs.Text.{text_of};
 ghost use Rattle.num_format_decimal.specs.FixedPoint.{fixed_point};
 ghost use Rattle.num_format_decimal.specs.declared.buffer.TheConstants.{MAX_DECIMAL_LEN};
 ghost use Rattle.num_format_decimal.specs.declared.decimal.TheConstants.{MAX_SCALE};
-ghost use Rattle.num_format_c.specs.Calls.{ByTag, Fills, FillsCustom, FillsLocale, FindsLocale, ReturnsLength, ReturnsDecimalLength, Parses, ParsesDecimalUnder, ParsesExactly, Prints, PrintsDecimal, Tells, Writes, WritesName, decimal_place_of, decimal_status_of, place_of, returned, signed_kind, status_of, unsigned_kind};
+ghost use Rattle.num_format_c.specs.Calls.{ByTag, Fills, FillsCustom, FillsLocale, FindsLocale, ReturnsLength, ReturnsDecimalLength, Parses, ParsesAtScaleUnder, ParsesDecimalUnder, ParsesExactly, Prints, PrintsDecimal, Tells, Writes, WritesName, at_scale_status_of, decimal_place_of, decimal_status_of, place_of, returned, signed_kind, status_of, unsigned_kind};
 ghost use Rattle.num_format_c.specs.declared.status.Status.TheVariants.{BadBits};
 ghost use Rattle.num_format_c.specs.Held.{HasFormat, format_of};
 
@@ -18,7 +18,9 @@ use crate::status::Status;
 use num_format::parsing::{FromFormattedStr, ParseBytesError, StrictError};
 use num_format::utils::{DecimalStr, MinusSignStr, SeparatorStr};
 use num_format::{Buffer, Format, Locale, ToFormattedStr};
-use num_format_decimal::{Decimal, DecimalBuffer, ParseDecimalError};
+use num_format_decimal::{
+    Decimal, DecimalBuffer, DecimalError, ParseAtScaleError, ParseDecimalError,
+};
 use num_format_int::buffer::copy_bytes;
 
 /// Fills the struct with the format of the locale, and returns 0.
@@ -304,6 +306,34 @@ pub fn parse_decimal(format: &NumFormat, text: &[u8], at: &mut usize) -> Result<
     match Decimal::from_strict_bytes(text, &format) {
         Ok(number) => Ok(number),
         Err(error) => Err(refused_decimal(error, at)),
+    }
+}
+
+/// Parses the text strictly as a decimal of a scale.
+pub fn parse_at_scale(format: &NumFormat, text: &[u8], scale: u8) -> Result<Decimal, Status>
+    ensures { ParsesAtScaleUnder scale format.now text.now result }
+{
+    let Some(format) = Held::new(format) else {
+        return Err(Status::BadFormat);
+    };
+    let Ok(text) = str::from_utf8(text) else {
+        return Err(Status::NotUtf8);
+    };
+    match Decimal::parse_at_scale(text, scale, &format) {
+        Ok(number) => Ok(number),
+        Err(error) => Err(refused_at_scale(error)),
+    }
+}
+
+/// Returns the status of an error of parsing a decimal of a scale.
+fn refused_at_scale(error: ParseAtScaleError) -> Status
+    ensures { result ≡ at_scale_status_of error }
+{
+    match error {
+        ParseAtScaleError::Parse(error) => refused_decimal(error, &mut 0),
+        ParseAtScaleError::Rescale(DecimalError::ScaleTooLarge) => Status::BadScale,
+        ParseAtScaleError::Rescale(DecimalError::DigitsLost) => Status::DigitsLost,
+        ParseAtScaleError::Rescale(DecimalError::OutOfRange) => Status::OutOfRange,
     }
 }
 

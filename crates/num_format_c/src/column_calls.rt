@@ -1,16 +1,18 @@
-//! The calls for columns.
+//! The calls for columns, which tools/column_calls.py writes.
 //!
-//! Each prints or parses the numbers of one type, with offsets of 32 or, in the calls named `large`, of 64
-//! bits.
+//! Each prints or parses the values of one type, with offsets of 32 or, in the calls named `large`, of 64
+//! bits. Those named `nullable` are passed a validity bitmap, and the rows whose bit is not set are null.
 ghost use Rattle.std.specs.Prelude.{◌-◌, ◌^◌, pos};
 ghost use Rattle.num_format.specs.Kind.{kind_of, I8, I16, I32, I64, I128, U8, U16, U32, U64, U128};
+ghost use Rattle.num_format_columns.specs.Columns.{all_valid, by_bits};
 ghost use Rattle.num_format_c.specs.Calls.{ParsesInto};
-ghost use Rattle.num_format_c.specs.Columns.{Measures, ParsesColumn, ParsesRowExactly, PrintsColumn, signed_value, unsigned_value};
+ghost use Rattle.num_format_c.specs.Columns.{MeasuresColumn, MeasuresDecimals, ParsesColumn, ParsesDecimals, ParsesRowExactly, PrintsColumn, PrintsDecimals, number_row, number_text, signed_value, unsigned_value};
 
 use crate::columns::{self, Lenient, Strict};
 use crate::format::NumFormat;
 use crate::status::returned;
 use crate::wide::{SignedWide, UnsignedWide};
+use num_format_columns::{AllValid, Bitmap};
 
 /// Prints the numbers one after another at the start of the bytes, writes the offsets of their texts, and
 /// returns 0. There is one offset more than numbers.
@@ -24,12 +26,12 @@ pub extern "C" fn num_format_print_i8_column(
     offsets: &mut [u32],
     bytes: &mut [u8],
 ) -> i32
-    ensures { PrintsColumn (λ n. n) (λ o. o) (2 ^ 31 - 1) format.now numbers.now offsets.old offsets.new bytes.old bytes.new result }
+    ensures { PrintsColumn (number_text (λ n. n)) all_valid (λ o. o) (2 ^ 31 - 1) format.now numbers.now offsets.old offsets.new bytes.old bytes.new result }
 {
-    returned(columns::print(format, numbers, offsets, bytes))
+    returned(columns::print(format, numbers, &AllValid, offsets, bytes))
 }
 
-/// Prints the numbers as [`num_format_print_i8_column`] does.
+/// Prints a column as [`num_format_print_i8_column`] does.
 #[unsafe(no_mangle)]
 pub extern "C" fn num_format_print_i8_large_column(
     format: &NumFormat,
@@ -37,9 +39,9 @@ pub extern "C" fn num_format_print_i8_large_column(
     offsets: &mut [u64],
     bytes: &mut [u8],
 ) -> i32
-    ensures { PrintsColumn (λ n. n) (λ o. o) (2 ^ 63 - 1) format.now numbers.now offsets.old offsets.new bytes.old bytes.new result }
+    ensures { PrintsColumn (number_text (λ n. n)) all_valid (λ o. o) (2 ^ 63 - 1) format.now numbers.now offsets.old offsets.new bytes.old bytes.new result }
 {
-    returned(columns::print(format, numbers, offsets, bytes))
+    returned(columns::print(format, numbers, &AllValid, offsets, bytes))
 }
 
 /// Writes how many bytes the texts of the numbers have together, and returns 0.
@@ -51,9 +53,9 @@ pub extern "C" fn num_format_print_i8_column_len(
     numbers: &[i8],
     len: &mut usize,
 ) -> i32
-    ensures { Measures (λ n. n) format.now numbers.now len.old len.new result }
+    ensures { MeasuresColumn (number_text (λ n. n)) all_valid format.now numbers.now len.old len.new result }
 {
-    returned(columns::measure(format, numbers, len))
+    returned(columns::measure(format, numbers, &AllValid, len))
 }
 
 /// Parses each text of a column, writes the number of each that is not refused, writes the status of each,
@@ -69,12 +71,14 @@ pub extern "C" fn num_format_parse_i8_column(
     numbers: &mut [i8],
     statuses: &mut [i32],
 ) -> i32
-    ensures { ParsesColumn ParsesInto (kind_of I8) (λ n. n) (λ o. o) (2 ^ 31 - 1) format.now offsets.now bytes.now numbers.old numbers.new statuses.old statuses.new result }
+    ensures { ParsesColumn (number_row ParsesInto (kind_of I8) (λ n. n)) all_valid (λ o. o) (2 ^ 31 - 1) format.now offsets.now bytes.now numbers.old numbers.new statuses.old statuses.new result }
 {
-    returned(columns::parse::<Lenient, i8, u32>(format, offsets, bytes, numbers, statuses))
+    returned(columns::parse(
+        &Lenient, format, offsets, bytes, numbers, &AllValid, statuses,
+    ))
 }
 
-/// Parses the texts as [`num_format_parse_i8_column`] does.
+/// Parses a column as [`num_format_parse_i8_column`] does.
 #[unsafe(no_mangle)]
 pub extern "C" fn num_format_parse_i8_large_column(
     format: &NumFormat,
@@ -83,9 +87,11 @@ pub extern "C" fn num_format_parse_i8_large_column(
     numbers: &mut [i8],
     statuses: &mut [i32],
 ) -> i32
-    ensures { ParsesColumn ParsesInto (kind_of I8) (λ n. n) (λ o. o) (2 ^ 63 - 1) format.now offsets.now bytes.now numbers.old numbers.new statuses.old statuses.new result }
+    ensures { ParsesColumn (number_row ParsesInto (kind_of I8) (λ n. n)) all_valid (λ o. o) (2 ^ 63 - 1) format.now offsets.now bytes.now numbers.old numbers.new statuses.old statuses.new result }
 {
-    returned(columns::parse::<Lenient, i8, u64>(format, offsets, bytes, numbers, statuses))
+    returned(columns::parse(
+        &Lenient, format, offsets, bytes, numbers, &AllValid, statuses,
+    ))
 }
 
 /// Parses the texts strictly, and else as [`num_format_parse_i8_column`] does.
@@ -97,12 +103,14 @@ pub extern "C" fn num_format_parse_strict_i8_column(
     numbers: &mut [i8],
     statuses: &mut [i32],
 ) -> i32
-    ensures { ParsesColumn ParsesRowExactly (kind_of I8) (λ n. n) (λ o. o) (2 ^ 31 - 1) format.now offsets.now bytes.now numbers.old numbers.new statuses.old statuses.new result }
+    ensures { ParsesColumn (number_row ParsesRowExactly (kind_of I8) (λ n. n)) all_valid (λ o. o) (2 ^ 31 - 1) format.now offsets.now bytes.now numbers.old numbers.new statuses.old statuses.new result }
 {
-    returned(columns::parse::<Strict, i8, u32>(format, offsets, bytes, numbers, statuses))
+    returned(columns::parse(
+        &Strict, format, offsets, bytes, numbers, &AllValid, statuses,
+    ))
 }
 
-/// Parses the texts as [`num_format_parse_strict_i8_column`] does.
+/// Parses a column as [`num_format_parse_strict_i8_column`] does.
 #[unsafe(no_mangle)]
 pub extern "C" fn num_format_parse_strict_i8_large_column(
     format: &NumFormat,
@@ -111,12 +119,151 @@ pub extern "C" fn num_format_parse_strict_i8_large_column(
     numbers: &mut [i8],
     statuses: &mut [i32],
 ) -> i32
-    ensures { ParsesColumn ParsesRowExactly (kind_of I8) (λ n. n) (λ o. o) (2 ^ 63 - 1) format.now offsets.now bytes.now numbers.old numbers.new statuses.old statuses.new result }
+    ensures { ParsesColumn (number_row ParsesRowExactly (kind_of I8) (λ n. n)) all_valid (λ o. o) (2 ^ 63 - 1) format.now offsets.now bytes.now numbers.old numbers.new statuses.old statuses.new result }
 {
-    returned(columns::parse::<Strict, i8, u64>(format, offsets, bytes, numbers, statuses))
+    returned(columns::parse(
+        &Strict, format, offsets, bytes, numbers, &AllValid, statuses,
+    ))
 }
 
-/// Prints the numbers as [`num_format_print_i8_column`] does.
+/// Prints the numbers as [`num_format_print_i8_column`] does, but an empty text for each null row. There is a bit
+/// for each row, and fewer are the same error as another number of offsets.
+#[unsafe(no_mangle)]
+pub extern "C" fn num_format_print_nullable_i8_column(
+    format: &NumFormat,
+    numbers: &[i8],
+    validity: &[u8],
+    offsets: &mut [u32],
+    bytes: &mut [u8],
+) -> i32
+    ensures { PrintsColumn (number_text (λ n. n)) (by_bits validity.now) (λ o. o) (2 ^ 31 - 1) format.now numbers.now offsets.old offsets.new bytes.old bytes.new result }
+{
+    returned(columns::print(format, numbers, &Bitmap::new(validity), offsets, bytes))
+}
+
+/// Prints a column as [`num_format_print_nullable_i8_column`] does.
+#[unsafe(no_mangle)]
+pub extern "C" fn num_format_print_nullable_i8_large_column(
+    format: &NumFormat,
+    numbers: &[i8],
+    validity: &[u8],
+    offsets: &mut [u64],
+    bytes: &mut [u8],
+) -> i32
+    ensures { PrintsColumn (number_text (λ n. n)) (by_bits validity.now) (λ o. o) (2 ^ 63 - 1) format.now numbers.now offsets.old offsets.new bytes.old bytes.new result }
+{
+    returned(columns::print(format, numbers, &Bitmap::new(validity), offsets, bytes))
+}
+
+/// Writes how many bytes the texts of the rows that are not null have together, and returns 0.
+///
+/// Errors, in this order: a struct that has no format, fewer bits than rows, more bytes than a `usize` holds.
+#[unsafe(no_mangle)]
+pub extern "C" fn num_format_print_nullable_i8_column_len(
+    format: &NumFormat,
+    numbers: &[i8],
+    validity: &[u8],
+    len: &mut usize,
+) -> i32
+    ensures { MeasuresColumn (number_text (λ n. n)) (by_bits validity.now) format.now numbers.now len.old len.new result }
+{
+    returned(columns::measure(format, numbers, &Bitmap::new(validity), len))
+}
+
+/// Parses the texts as [`num_format_parse_i8_column`] does, but for null rows: their status is 0, and their number
+/// as it was. There is a bit for each row, and fewer are the same error as another number of offsets.
+#[unsafe(no_mangle)]
+pub extern "C" fn num_format_parse_nullable_i8_column(
+    format: &NumFormat,
+    offsets: &[u32],
+    bytes: &[u8],
+    numbers: &mut [i8],
+    validity: &[u8],
+    statuses: &mut [i32],
+) -> i32
+    ensures { ParsesColumn (number_row ParsesInto (kind_of I8) (λ n. n)) (by_bits validity.now) (λ o. o) (2 ^ 31 - 1) format.now offsets.now bytes.now numbers.old numbers.new statuses.old statuses.new result }
+{
+    returned(columns::parse(
+        &Lenient,
+        format,
+        offsets,
+        bytes,
+        numbers,
+        &Bitmap::new(validity),
+        statuses,
+    ))
+}
+
+/// Parses a column as [`num_format_parse_nullable_i8_column`] does.
+#[unsafe(no_mangle)]
+pub extern "C" fn num_format_parse_nullable_i8_large_column(
+    format: &NumFormat,
+    offsets: &[u64],
+    bytes: &[u8],
+    numbers: &mut [i8],
+    validity: &[u8],
+    statuses: &mut [i32],
+) -> i32
+    ensures { ParsesColumn (number_row ParsesInto (kind_of I8) (λ n. n)) (by_bits validity.now) (λ o. o) (2 ^ 63 - 1) format.now offsets.now bytes.now numbers.old numbers.new statuses.old statuses.new result }
+{
+    returned(columns::parse(
+        &Lenient,
+        format,
+        offsets,
+        bytes,
+        numbers,
+        &Bitmap::new(validity),
+        statuses,
+    ))
+}
+
+/// Parses the texts strictly, and else as [`num_format_parse_nullable_i8_column`] does.
+#[unsafe(no_mangle)]
+pub extern "C" fn num_format_parse_strict_nullable_i8_column(
+    format: &NumFormat,
+    offsets: &[u32],
+    bytes: &[u8],
+    numbers: &mut [i8],
+    validity: &[u8],
+    statuses: &mut [i32],
+) -> i32
+    ensures { ParsesColumn (number_row ParsesRowExactly (kind_of I8) (λ n. n)) (by_bits validity.now) (λ o. o) (2 ^ 31 - 1) format.now offsets.now bytes.now numbers.old numbers.new statuses.old statuses.new result }
+{
+    returned(columns::parse(
+        &Strict,
+        format,
+        offsets,
+        bytes,
+        numbers,
+        &Bitmap::new(validity),
+        statuses,
+    ))
+}
+
+/// Parses a column as [`num_format_parse_strict_nullable_i8_column`] does.
+#[unsafe(no_mangle)]
+pub extern "C" fn num_format_parse_strict_nullable_i8_large_column(
+    format: &NumFormat,
+    offsets: &[u64],
+    bytes: &[u8],
+    numbers: &mut [i8],
+    validity: &[u8],
+    statuses: &mut [i32],
+) -> i32
+    ensures { ParsesColumn (number_row ParsesRowExactly (kind_of I8) (λ n. n)) (by_bits validity.now) (λ o. o) (2 ^ 63 - 1) format.now offsets.now bytes.now numbers.old numbers.new statuses.old statuses.new result }
+{
+    returned(columns::parse(
+        &Strict,
+        format,
+        offsets,
+        bytes,
+        numbers,
+        &Bitmap::new(validity),
+        statuses,
+    ))
+}
+
+/// Prints a column as [`num_format_print_i8_column`] does.
 #[unsafe(no_mangle)]
 pub extern "C" fn num_format_print_i16_column(
     format: &NumFormat,
@@ -124,12 +271,12 @@ pub extern "C" fn num_format_print_i16_column(
     offsets: &mut [u32],
     bytes: &mut [u8],
 ) -> i32
-    ensures { PrintsColumn (λ n. n) (λ o. o) (2 ^ 31 - 1) format.now numbers.now offsets.old offsets.new bytes.old bytes.new result }
+    ensures { PrintsColumn (number_text (λ n. n)) all_valid (λ o. o) (2 ^ 31 - 1) format.now numbers.now offsets.old offsets.new bytes.old bytes.new result }
 {
-    returned(columns::print(format, numbers, offsets, bytes))
+    returned(columns::print(format, numbers, &AllValid, offsets, bytes))
 }
 
-/// Prints the numbers as [`num_format_print_i8_column`] does.
+/// Prints a column as [`num_format_print_i8_column`] does.
 #[unsafe(no_mangle)]
 pub extern "C" fn num_format_print_i16_large_column(
     format: &NumFormat,
@@ -137,24 +284,24 @@ pub extern "C" fn num_format_print_i16_large_column(
     offsets: &mut [u64],
     bytes: &mut [u8],
 ) -> i32
-    ensures { PrintsColumn (λ n. n) (λ o. o) (2 ^ 63 - 1) format.now numbers.now offsets.old offsets.new bytes.old bytes.new result }
+    ensures { PrintsColumn (number_text (λ n. n)) all_valid (λ o. o) (2 ^ 63 - 1) format.now numbers.now offsets.old offsets.new bytes.old bytes.new result }
 {
-    returned(columns::print(format, numbers, offsets, bytes))
+    returned(columns::print(format, numbers, &AllValid, offsets, bytes))
 }
 
-/// Writes how many bytes the texts of the numbers have, as [`num_format_print_i8_column_len`] does.
+/// Measures a column as [`num_format_print_i8_column_len`] does.
 #[unsafe(no_mangle)]
 pub extern "C" fn num_format_print_i16_column_len(
     format: &NumFormat,
     numbers: &[i16],
     len: &mut usize,
 ) -> i32
-    ensures { Measures (λ n. n) format.now numbers.now len.old len.new result }
+    ensures { MeasuresColumn (number_text (λ n. n)) all_valid format.now numbers.now len.old len.new result }
 {
-    returned(columns::measure(format, numbers, len))
+    returned(columns::measure(format, numbers, &AllValid, len))
 }
 
-/// Parses the texts as [`num_format_parse_i8_column`] does.
+/// Parses a column as [`num_format_parse_i8_column`] does.
 #[unsafe(no_mangle)]
 pub extern "C" fn num_format_parse_i16_column(
     format: &NumFormat,
@@ -163,12 +310,14 @@ pub extern "C" fn num_format_parse_i16_column(
     numbers: &mut [i16],
     statuses: &mut [i32],
 ) -> i32
-    ensures { ParsesColumn ParsesInto (kind_of I16) (λ n. n) (λ o. o) (2 ^ 31 - 1) format.now offsets.now bytes.now numbers.old numbers.new statuses.old statuses.new result }
+    ensures { ParsesColumn (number_row ParsesInto (kind_of I16) (λ n. n)) all_valid (λ o. o) (2 ^ 31 - 1) format.now offsets.now bytes.now numbers.old numbers.new statuses.old statuses.new result }
 {
-    returned(columns::parse::<Lenient, i16, u32>(format, offsets, bytes, numbers, statuses))
+    returned(columns::parse(
+        &Lenient, format, offsets, bytes, numbers, &AllValid, statuses,
+    ))
 }
 
-/// Parses the texts as [`num_format_parse_i8_column`] does.
+/// Parses a column as [`num_format_parse_i8_column`] does.
 #[unsafe(no_mangle)]
 pub extern "C" fn num_format_parse_i16_large_column(
     format: &NumFormat,
@@ -177,12 +326,14 @@ pub extern "C" fn num_format_parse_i16_large_column(
     numbers: &mut [i16],
     statuses: &mut [i32],
 ) -> i32
-    ensures { ParsesColumn ParsesInto (kind_of I16) (λ n. n) (λ o. o) (2 ^ 63 - 1) format.now offsets.now bytes.now numbers.old numbers.new statuses.old statuses.new result }
+    ensures { ParsesColumn (number_row ParsesInto (kind_of I16) (λ n. n)) all_valid (λ o. o) (2 ^ 63 - 1) format.now offsets.now bytes.now numbers.old numbers.new statuses.old statuses.new result }
 {
-    returned(columns::parse::<Lenient, i16, u64>(format, offsets, bytes, numbers, statuses))
+    returned(columns::parse(
+        &Lenient, format, offsets, bytes, numbers, &AllValid, statuses,
+    ))
 }
 
-/// Parses the texts as [`num_format_parse_strict_i8_column`] does.
+/// Parses a column as [`num_format_parse_strict_i8_column`] does.
 #[unsafe(no_mangle)]
 pub extern "C" fn num_format_parse_strict_i16_column(
     format: &NumFormat,
@@ -191,12 +342,14 @@ pub extern "C" fn num_format_parse_strict_i16_column(
     numbers: &mut [i16],
     statuses: &mut [i32],
 ) -> i32
-    ensures { ParsesColumn ParsesRowExactly (kind_of I16) (λ n. n) (λ o. o) (2 ^ 31 - 1) format.now offsets.now bytes.now numbers.old numbers.new statuses.old statuses.new result }
+    ensures { ParsesColumn (number_row ParsesRowExactly (kind_of I16) (λ n. n)) all_valid (λ o. o) (2 ^ 31 - 1) format.now offsets.now bytes.now numbers.old numbers.new statuses.old statuses.new result }
 {
-    returned(columns::parse::<Strict, i16, u32>(format, offsets, bytes, numbers, statuses))
+    returned(columns::parse(
+        &Strict, format, offsets, bytes, numbers, &AllValid, statuses,
+    ))
 }
 
-/// Parses the texts as [`num_format_parse_strict_i8_column`] does.
+/// Parses a column as [`num_format_parse_strict_i8_column`] does.
 #[unsafe(no_mangle)]
 pub extern "C" fn num_format_parse_strict_i16_large_column(
     format: &NumFormat,
@@ -205,12 +358,147 @@ pub extern "C" fn num_format_parse_strict_i16_large_column(
     numbers: &mut [i16],
     statuses: &mut [i32],
 ) -> i32
-    ensures { ParsesColumn ParsesRowExactly (kind_of I16) (λ n. n) (λ o. o) (2 ^ 63 - 1) format.now offsets.now bytes.now numbers.old numbers.new statuses.old statuses.new result }
+    ensures { ParsesColumn (number_row ParsesRowExactly (kind_of I16) (λ n. n)) all_valid (λ o. o) (2 ^ 63 - 1) format.now offsets.now bytes.now numbers.old numbers.new statuses.old statuses.new result }
 {
-    returned(columns::parse::<Strict, i16, u64>(format, offsets, bytes, numbers, statuses))
+    returned(columns::parse(
+        &Strict, format, offsets, bytes, numbers, &AllValid, statuses,
+    ))
 }
 
-/// Prints the numbers as [`num_format_print_i8_column`] does.
+/// Prints a column as [`num_format_print_nullable_i8_column`] does.
+#[unsafe(no_mangle)]
+pub extern "C" fn num_format_print_nullable_i16_column(
+    format: &NumFormat,
+    numbers: &[i16],
+    validity: &[u8],
+    offsets: &mut [u32],
+    bytes: &mut [u8],
+) -> i32
+    ensures { PrintsColumn (number_text (λ n. n)) (by_bits validity.now) (λ o. o) (2 ^ 31 - 1) format.now numbers.now offsets.old offsets.new bytes.old bytes.new result }
+{
+    returned(columns::print(format, numbers, &Bitmap::new(validity), offsets, bytes))
+}
+
+/// Prints a column as [`num_format_print_nullable_i8_column`] does.
+#[unsafe(no_mangle)]
+pub extern "C" fn num_format_print_nullable_i16_large_column(
+    format: &NumFormat,
+    numbers: &[i16],
+    validity: &[u8],
+    offsets: &mut [u64],
+    bytes: &mut [u8],
+) -> i32
+    ensures { PrintsColumn (number_text (λ n. n)) (by_bits validity.now) (λ o. o) (2 ^ 63 - 1) format.now numbers.now offsets.old offsets.new bytes.old bytes.new result }
+{
+    returned(columns::print(format, numbers, &Bitmap::new(validity), offsets, bytes))
+}
+
+/// Measures a column as [`num_format_print_nullable_i8_column_len`] does.
+#[unsafe(no_mangle)]
+pub extern "C" fn num_format_print_nullable_i16_column_len(
+    format: &NumFormat,
+    numbers: &[i16],
+    validity: &[u8],
+    len: &mut usize,
+) -> i32
+    ensures { MeasuresColumn (number_text (λ n. n)) (by_bits validity.now) format.now numbers.now len.old len.new result }
+{
+    returned(columns::measure(format, numbers, &Bitmap::new(validity), len))
+}
+
+/// Parses a column as [`num_format_parse_nullable_i8_column`] does.
+#[unsafe(no_mangle)]
+pub extern "C" fn num_format_parse_nullable_i16_column(
+    format: &NumFormat,
+    offsets: &[u32],
+    bytes: &[u8],
+    numbers: &mut [i16],
+    validity: &[u8],
+    statuses: &mut [i32],
+) -> i32
+    ensures { ParsesColumn (number_row ParsesInto (kind_of I16) (λ n. n)) (by_bits validity.now) (λ o. o) (2 ^ 31 - 1) format.now offsets.now bytes.now numbers.old numbers.new statuses.old statuses.new result }
+{
+    returned(columns::parse(
+        &Lenient,
+        format,
+        offsets,
+        bytes,
+        numbers,
+        &Bitmap::new(validity),
+        statuses,
+    ))
+}
+
+/// Parses a column as [`num_format_parse_nullable_i8_column`] does.
+#[unsafe(no_mangle)]
+pub extern "C" fn num_format_parse_nullable_i16_large_column(
+    format: &NumFormat,
+    offsets: &[u64],
+    bytes: &[u8],
+    numbers: &mut [i16],
+    validity: &[u8],
+    statuses: &mut [i32],
+) -> i32
+    ensures { ParsesColumn (number_row ParsesInto (kind_of I16) (λ n. n)) (by_bits validity.now) (λ o. o) (2 ^ 63 - 1) format.now offsets.now bytes.now numbers.old numbers.new statuses.old statuses.new result }
+{
+    returned(columns::parse(
+        &Lenient,
+        format,
+        offsets,
+        bytes,
+        numbers,
+        &Bitmap::new(validity),
+        statuses,
+    ))
+}
+
+/// Parses a column as [`num_format_parse_strict_nullable_i8_column`] does.
+#[unsafe(no_mangle)]
+pub extern "C" fn num_format_parse_strict_nullable_i16_column(
+    format: &NumFormat,
+    offsets: &[u32],
+    bytes: &[u8],
+    numbers: &mut [i16],
+    validity: &[u8],
+    statuses: &mut [i32],
+) -> i32
+    ensures { ParsesColumn (number_row ParsesRowExactly (kind_of I16) (λ n. n)) (by_bits validity.now) (λ o. o) (2 ^ 31 - 1) format.now offsets.now bytes.now numbers.old numbers.new statuses.old statuses.new result }
+{
+    returned(columns::parse(
+        &Strict,
+        format,
+        offsets,
+        bytes,
+        numbers,
+        &Bitmap::new(validity),
+        statuses,
+    ))
+}
+
+/// Parses a column as [`num_format_parse_strict_nullable_i8_column`] does.
+#[unsafe(no_mangle)]
+pub extern "C" fn num_format_parse_strict_nullable_i16_large_column(
+    format: &NumFormat,
+    offsets: &[u64],
+    bytes: &[u8],
+    numbers: &mut [i16],
+    validity: &[u8],
+    statuses: &mut [i32],
+) -> i32
+    ensures { ParsesColumn (number_row ParsesRowExactly (kind_of I16) (λ n. n)) (by_bits validity.now) (λ o. o) (2 ^ 63 - 1) format.now offsets.now bytes.now numbers.old numbers.new statuses.old statuses.new result }
+{
+    returned(columns::parse(
+        &Strict,
+        format,
+        offsets,
+        bytes,
+        numbers,
+        &Bitmap::new(validity),
+        statuses,
+    ))
+}
+
+/// Prints a column as [`num_format_print_i8_column`] does.
 #[unsafe(no_mangle)]
 pub extern "C" fn num_format_print_i32_column(
     format: &NumFormat,
@@ -218,12 +506,12 @@ pub extern "C" fn num_format_print_i32_column(
     offsets: &mut [u32],
     bytes: &mut [u8],
 ) -> i32
-    ensures { PrintsColumn (λ n. n) (λ o. o) (2 ^ 31 - 1) format.now numbers.now offsets.old offsets.new bytes.old bytes.new result }
+    ensures { PrintsColumn (number_text (λ n. n)) all_valid (λ o. o) (2 ^ 31 - 1) format.now numbers.now offsets.old offsets.new bytes.old bytes.new result }
 {
-    returned(columns::print(format, numbers, offsets, bytes))
+    returned(columns::print(format, numbers, &AllValid, offsets, bytes))
 }
 
-/// Prints the numbers as [`num_format_print_i8_column`] does.
+/// Prints a column as [`num_format_print_i8_column`] does.
 #[unsafe(no_mangle)]
 pub extern "C" fn num_format_print_i32_large_column(
     format: &NumFormat,
@@ -231,24 +519,24 @@ pub extern "C" fn num_format_print_i32_large_column(
     offsets: &mut [u64],
     bytes: &mut [u8],
 ) -> i32
-    ensures { PrintsColumn (λ n. n) (λ o. o) (2 ^ 63 - 1) format.now numbers.now offsets.old offsets.new bytes.old bytes.new result }
+    ensures { PrintsColumn (number_text (λ n. n)) all_valid (λ o. o) (2 ^ 63 - 1) format.now numbers.now offsets.old offsets.new bytes.old bytes.new result }
 {
-    returned(columns::print(format, numbers, offsets, bytes))
+    returned(columns::print(format, numbers, &AllValid, offsets, bytes))
 }
 
-/// Writes how many bytes the texts of the numbers have, as [`num_format_print_i8_column_len`] does.
+/// Measures a column as [`num_format_print_i8_column_len`] does.
 #[unsafe(no_mangle)]
 pub extern "C" fn num_format_print_i32_column_len(
     format: &NumFormat,
     numbers: &[i32],
     len: &mut usize,
 ) -> i32
-    ensures { Measures (λ n. n) format.now numbers.now len.old len.new result }
+    ensures { MeasuresColumn (number_text (λ n. n)) all_valid format.now numbers.now len.old len.new result }
 {
-    returned(columns::measure(format, numbers, len))
+    returned(columns::measure(format, numbers, &AllValid, len))
 }
 
-/// Parses the texts as [`num_format_parse_i8_column`] does.
+/// Parses a column as [`num_format_parse_i8_column`] does.
 #[unsafe(no_mangle)]
 pub extern "C" fn num_format_parse_i32_column(
     format: &NumFormat,
@@ -257,12 +545,14 @@ pub extern "C" fn num_format_parse_i32_column(
     numbers: &mut [i32],
     statuses: &mut [i32],
 ) -> i32
-    ensures { ParsesColumn ParsesInto (kind_of I32) (λ n. n) (λ o. o) (2 ^ 31 - 1) format.now offsets.now bytes.now numbers.old numbers.new statuses.old statuses.new result }
+    ensures { ParsesColumn (number_row ParsesInto (kind_of I32) (λ n. n)) all_valid (λ o. o) (2 ^ 31 - 1) format.now offsets.now bytes.now numbers.old numbers.new statuses.old statuses.new result }
 {
-    returned(columns::parse::<Lenient, i32, u32>(format, offsets, bytes, numbers, statuses))
+    returned(columns::parse(
+        &Lenient, format, offsets, bytes, numbers, &AllValid, statuses,
+    ))
 }
 
-/// Parses the texts as [`num_format_parse_i8_column`] does.
+/// Parses a column as [`num_format_parse_i8_column`] does.
 #[unsafe(no_mangle)]
 pub extern "C" fn num_format_parse_i32_large_column(
     format: &NumFormat,
@@ -271,12 +561,14 @@ pub extern "C" fn num_format_parse_i32_large_column(
     numbers: &mut [i32],
     statuses: &mut [i32],
 ) -> i32
-    ensures { ParsesColumn ParsesInto (kind_of I32) (λ n. n) (λ o. o) (2 ^ 63 - 1) format.now offsets.now bytes.now numbers.old numbers.new statuses.old statuses.new result }
+    ensures { ParsesColumn (number_row ParsesInto (kind_of I32) (λ n. n)) all_valid (λ o. o) (2 ^ 63 - 1) format.now offsets.now bytes.now numbers.old numbers.new statuses.old statuses.new result }
 {
-    returned(columns::parse::<Lenient, i32, u64>(format, offsets, bytes, numbers, statuses))
+    returned(columns::parse(
+        &Lenient, format, offsets, bytes, numbers, &AllValid, statuses,
+    ))
 }
 
-/// Parses the texts as [`num_format_parse_strict_i8_column`] does.
+/// Parses a column as [`num_format_parse_strict_i8_column`] does.
 #[unsafe(no_mangle)]
 pub extern "C" fn num_format_parse_strict_i32_column(
     format: &NumFormat,
@@ -285,12 +577,14 @@ pub extern "C" fn num_format_parse_strict_i32_column(
     numbers: &mut [i32],
     statuses: &mut [i32],
 ) -> i32
-    ensures { ParsesColumn ParsesRowExactly (kind_of I32) (λ n. n) (λ o. o) (2 ^ 31 - 1) format.now offsets.now bytes.now numbers.old numbers.new statuses.old statuses.new result }
+    ensures { ParsesColumn (number_row ParsesRowExactly (kind_of I32) (λ n. n)) all_valid (λ o. o) (2 ^ 31 - 1) format.now offsets.now bytes.now numbers.old numbers.new statuses.old statuses.new result }
 {
-    returned(columns::parse::<Strict, i32, u32>(format, offsets, bytes, numbers, statuses))
+    returned(columns::parse(
+        &Strict, format, offsets, bytes, numbers, &AllValid, statuses,
+    ))
 }
 
-/// Parses the texts as [`num_format_parse_strict_i8_column`] does.
+/// Parses a column as [`num_format_parse_strict_i8_column`] does.
 #[unsafe(no_mangle)]
 pub extern "C" fn num_format_parse_strict_i32_large_column(
     format: &NumFormat,
@@ -299,12 +593,147 @@ pub extern "C" fn num_format_parse_strict_i32_large_column(
     numbers: &mut [i32],
     statuses: &mut [i32],
 ) -> i32
-    ensures { ParsesColumn ParsesRowExactly (kind_of I32) (λ n. n) (λ o. o) (2 ^ 63 - 1) format.now offsets.now bytes.now numbers.old numbers.new statuses.old statuses.new result }
+    ensures { ParsesColumn (number_row ParsesRowExactly (kind_of I32) (λ n. n)) all_valid (λ o. o) (2 ^ 63 - 1) format.now offsets.now bytes.now numbers.old numbers.new statuses.old statuses.new result }
 {
-    returned(columns::parse::<Strict, i32, u64>(format, offsets, bytes, numbers, statuses))
+    returned(columns::parse(
+        &Strict, format, offsets, bytes, numbers, &AllValid, statuses,
+    ))
 }
 
-/// Prints the numbers as [`num_format_print_i8_column`] does.
+/// Prints a column as [`num_format_print_nullable_i8_column`] does.
+#[unsafe(no_mangle)]
+pub extern "C" fn num_format_print_nullable_i32_column(
+    format: &NumFormat,
+    numbers: &[i32],
+    validity: &[u8],
+    offsets: &mut [u32],
+    bytes: &mut [u8],
+) -> i32
+    ensures { PrintsColumn (number_text (λ n. n)) (by_bits validity.now) (λ o. o) (2 ^ 31 - 1) format.now numbers.now offsets.old offsets.new bytes.old bytes.new result }
+{
+    returned(columns::print(format, numbers, &Bitmap::new(validity), offsets, bytes))
+}
+
+/// Prints a column as [`num_format_print_nullable_i8_column`] does.
+#[unsafe(no_mangle)]
+pub extern "C" fn num_format_print_nullable_i32_large_column(
+    format: &NumFormat,
+    numbers: &[i32],
+    validity: &[u8],
+    offsets: &mut [u64],
+    bytes: &mut [u8],
+) -> i32
+    ensures { PrintsColumn (number_text (λ n. n)) (by_bits validity.now) (λ o. o) (2 ^ 63 - 1) format.now numbers.now offsets.old offsets.new bytes.old bytes.new result }
+{
+    returned(columns::print(format, numbers, &Bitmap::new(validity), offsets, bytes))
+}
+
+/// Measures a column as [`num_format_print_nullable_i8_column_len`] does.
+#[unsafe(no_mangle)]
+pub extern "C" fn num_format_print_nullable_i32_column_len(
+    format: &NumFormat,
+    numbers: &[i32],
+    validity: &[u8],
+    len: &mut usize,
+) -> i32
+    ensures { MeasuresColumn (number_text (λ n. n)) (by_bits validity.now) format.now numbers.now len.old len.new result }
+{
+    returned(columns::measure(format, numbers, &Bitmap::new(validity), len))
+}
+
+/// Parses a column as [`num_format_parse_nullable_i8_column`] does.
+#[unsafe(no_mangle)]
+pub extern "C" fn num_format_parse_nullable_i32_column(
+    format: &NumFormat,
+    offsets: &[u32],
+    bytes: &[u8],
+    numbers: &mut [i32],
+    validity: &[u8],
+    statuses: &mut [i32],
+) -> i32
+    ensures { ParsesColumn (number_row ParsesInto (kind_of I32) (λ n. n)) (by_bits validity.now) (λ o. o) (2 ^ 31 - 1) format.now offsets.now bytes.now numbers.old numbers.new statuses.old statuses.new result }
+{
+    returned(columns::parse(
+        &Lenient,
+        format,
+        offsets,
+        bytes,
+        numbers,
+        &Bitmap::new(validity),
+        statuses,
+    ))
+}
+
+/// Parses a column as [`num_format_parse_nullable_i8_column`] does.
+#[unsafe(no_mangle)]
+pub extern "C" fn num_format_parse_nullable_i32_large_column(
+    format: &NumFormat,
+    offsets: &[u64],
+    bytes: &[u8],
+    numbers: &mut [i32],
+    validity: &[u8],
+    statuses: &mut [i32],
+) -> i32
+    ensures { ParsesColumn (number_row ParsesInto (kind_of I32) (λ n. n)) (by_bits validity.now) (λ o. o) (2 ^ 63 - 1) format.now offsets.now bytes.now numbers.old numbers.new statuses.old statuses.new result }
+{
+    returned(columns::parse(
+        &Lenient,
+        format,
+        offsets,
+        bytes,
+        numbers,
+        &Bitmap::new(validity),
+        statuses,
+    ))
+}
+
+/// Parses a column as [`num_format_parse_strict_nullable_i8_column`] does.
+#[unsafe(no_mangle)]
+pub extern "C" fn num_format_parse_strict_nullable_i32_column(
+    format: &NumFormat,
+    offsets: &[u32],
+    bytes: &[u8],
+    numbers: &mut [i32],
+    validity: &[u8],
+    statuses: &mut [i32],
+) -> i32
+    ensures { ParsesColumn (number_row ParsesRowExactly (kind_of I32) (λ n. n)) (by_bits validity.now) (λ o. o) (2 ^ 31 - 1) format.now offsets.now bytes.now numbers.old numbers.new statuses.old statuses.new result }
+{
+    returned(columns::parse(
+        &Strict,
+        format,
+        offsets,
+        bytes,
+        numbers,
+        &Bitmap::new(validity),
+        statuses,
+    ))
+}
+
+/// Parses a column as [`num_format_parse_strict_nullable_i8_column`] does.
+#[unsafe(no_mangle)]
+pub extern "C" fn num_format_parse_strict_nullable_i32_large_column(
+    format: &NumFormat,
+    offsets: &[u64],
+    bytes: &[u8],
+    numbers: &mut [i32],
+    validity: &[u8],
+    statuses: &mut [i32],
+) -> i32
+    ensures { ParsesColumn (number_row ParsesRowExactly (kind_of I32) (λ n. n)) (by_bits validity.now) (λ o. o) (2 ^ 63 - 1) format.now offsets.now bytes.now numbers.old numbers.new statuses.old statuses.new result }
+{
+    returned(columns::parse(
+        &Strict,
+        format,
+        offsets,
+        bytes,
+        numbers,
+        &Bitmap::new(validity),
+        statuses,
+    ))
+}
+
+/// Prints a column as [`num_format_print_i8_column`] does.
 #[unsafe(no_mangle)]
 pub extern "C" fn num_format_print_i64_column(
     format: &NumFormat,
@@ -312,12 +741,12 @@ pub extern "C" fn num_format_print_i64_column(
     offsets: &mut [u32],
     bytes: &mut [u8],
 ) -> i32
-    ensures { PrintsColumn (λ n. n) (λ o. o) (2 ^ 31 - 1) format.now numbers.now offsets.old offsets.new bytes.old bytes.new result }
+    ensures { PrintsColumn (number_text (λ n. n)) all_valid (λ o. o) (2 ^ 31 - 1) format.now numbers.now offsets.old offsets.new bytes.old bytes.new result }
 {
-    returned(columns::print(format, numbers, offsets, bytes))
+    returned(columns::print(format, numbers, &AllValid, offsets, bytes))
 }
 
-/// Prints the numbers as [`num_format_print_i8_column`] does.
+/// Prints a column as [`num_format_print_i8_column`] does.
 #[unsafe(no_mangle)]
 pub extern "C" fn num_format_print_i64_large_column(
     format: &NumFormat,
@@ -325,24 +754,24 @@ pub extern "C" fn num_format_print_i64_large_column(
     offsets: &mut [u64],
     bytes: &mut [u8],
 ) -> i32
-    ensures { PrintsColumn (λ n. n) (λ o. o) (2 ^ 63 - 1) format.now numbers.now offsets.old offsets.new bytes.old bytes.new result }
+    ensures { PrintsColumn (number_text (λ n. n)) all_valid (λ o. o) (2 ^ 63 - 1) format.now numbers.now offsets.old offsets.new bytes.old bytes.new result }
 {
-    returned(columns::print(format, numbers, offsets, bytes))
+    returned(columns::print(format, numbers, &AllValid, offsets, bytes))
 }
 
-/// Writes how many bytes the texts of the numbers have, as [`num_format_print_i8_column_len`] does.
+/// Measures a column as [`num_format_print_i8_column_len`] does.
 #[unsafe(no_mangle)]
 pub extern "C" fn num_format_print_i64_column_len(
     format: &NumFormat,
     numbers: &[i64],
     len: &mut usize,
 ) -> i32
-    ensures { Measures (λ n. n) format.now numbers.now len.old len.new result }
+    ensures { MeasuresColumn (number_text (λ n. n)) all_valid format.now numbers.now len.old len.new result }
 {
-    returned(columns::measure(format, numbers, len))
+    returned(columns::measure(format, numbers, &AllValid, len))
 }
 
-/// Parses the texts as [`num_format_parse_i8_column`] does.
+/// Parses a column as [`num_format_parse_i8_column`] does.
 #[unsafe(no_mangle)]
 pub extern "C" fn num_format_parse_i64_column(
     format: &NumFormat,
@@ -351,12 +780,14 @@ pub extern "C" fn num_format_parse_i64_column(
     numbers: &mut [i64],
     statuses: &mut [i32],
 ) -> i32
-    ensures { ParsesColumn ParsesInto (kind_of I64) (λ n. n) (λ o. o) (2 ^ 31 - 1) format.now offsets.now bytes.now numbers.old numbers.new statuses.old statuses.new result }
+    ensures { ParsesColumn (number_row ParsesInto (kind_of I64) (λ n. n)) all_valid (λ o. o) (2 ^ 31 - 1) format.now offsets.now bytes.now numbers.old numbers.new statuses.old statuses.new result }
 {
-    returned(columns::parse::<Lenient, i64, u32>(format, offsets, bytes, numbers, statuses))
+    returned(columns::parse(
+        &Lenient, format, offsets, bytes, numbers, &AllValid, statuses,
+    ))
 }
 
-/// Parses the texts as [`num_format_parse_i8_column`] does.
+/// Parses a column as [`num_format_parse_i8_column`] does.
 #[unsafe(no_mangle)]
 pub extern "C" fn num_format_parse_i64_large_column(
     format: &NumFormat,
@@ -365,12 +796,14 @@ pub extern "C" fn num_format_parse_i64_large_column(
     numbers: &mut [i64],
     statuses: &mut [i32],
 ) -> i32
-    ensures { ParsesColumn ParsesInto (kind_of I64) (λ n. n) (λ o. o) (2 ^ 63 - 1) format.now offsets.now bytes.now numbers.old numbers.new statuses.old statuses.new result }
+    ensures { ParsesColumn (number_row ParsesInto (kind_of I64) (λ n. n)) all_valid (λ o. o) (2 ^ 63 - 1) format.now offsets.now bytes.now numbers.old numbers.new statuses.old statuses.new result }
 {
-    returned(columns::parse::<Lenient, i64, u64>(format, offsets, bytes, numbers, statuses))
+    returned(columns::parse(
+        &Lenient, format, offsets, bytes, numbers, &AllValid, statuses,
+    ))
 }
 
-/// Parses the texts as [`num_format_parse_strict_i8_column`] does.
+/// Parses a column as [`num_format_parse_strict_i8_column`] does.
 #[unsafe(no_mangle)]
 pub extern "C" fn num_format_parse_strict_i64_column(
     format: &NumFormat,
@@ -379,12 +812,14 @@ pub extern "C" fn num_format_parse_strict_i64_column(
     numbers: &mut [i64],
     statuses: &mut [i32],
 ) -> i32
-    ensures { ParsesColumn ParsesRowExactly (kind_of I64) (λ n. n) (λ o. o) (2 ^ 31 - 1) format.now offsets.now bytes.now numbers.old numbers.new statuses.old statuses.new result }
+    ensures { ParsesColumn (number_row ParsesRowExactly (kind_of I64) (λ n. n)) all_valid (λ o. o) (2 ^ 31 - 1) format.now offsets.now bytes.now numbers.old numbers.new statuses.old statuses.new result }
 {
-    returned(columns::parse::<Strict, i64, u32>(format, offsets, bytes, numbers, statuses))
+    returned(columns::parse(
+        &Strict, format, offsets, bytes, numbers, &AllValid, statuses,
+    ))
 }
 
-/// Parses the texts as [`num_format_parse_strict_i8_column`] does.
+/// Parses a column as [`num_format_parse_strict_i8_column`] does.
 #[unsafe(no_mangle)]
 pub extern "C" fn num_format_parse_strict_i64_large_column(
     format: &NumFormat,
@@ -393,12 +828,147 @@ pub extern "C" fn num_format_parse_strict_i64_large_column(
     numbers: &mut [i64],
     statuses: &mut [i32],
 ) -> i32
-    ensures { ParsesColumn ParsesRowExactly (kind_of I64) (λ n. n) (λ o. o) (2 ^ 63 - 1) format.now offsets.now bytes.now numbers.old numbers.new statuses.old statuses.new result }
+    ensures { ParsesColumn (number_row ParsesRowExactly (kind_of I64) (λ n. n)) all_valid (λ o. o) (2 ^ 63 - 1) format.now offsets.now bytes.now numbers.old numbers.new statuses.old statuses.new result }
 {
-    returned(columns::parse::<Strict, i64, u64>(format, offsets, bytes, numbers, statuses))
+    returned(columns::parse(
+        &Strict, format, offsets, bytes, numbers, &AllValid, statuses,
+    ))
 }
 
-/// Prints the numbers as [`num_format_print_i8_column`] does.
+/// Prints a column as [`num_format_print_nullable_i8_column`] does.
+#[unsafe(no_mangle)]
+pub extern "C" fn num_format_print_nullable_i64_column(
+    format: &NumFormat,
+    numbers: &[i64],
+    validity: &[u8],
+    offsets: &mut [u32],
+    bytes: &mut [u8],
+) -> i32
+    ensures { PrintsColumn (number_text (λ n. n)) (by_bits validity.now) (λ o. o) (2 ^ 31 - 1) format.now numbers.now offsets.old offsets.new bytes.old bytes.new result }
+{
+    returned(columns::print(format, numbers, &Bitmap::new(validity), offsets, bytes))
+}
+
+/// Prints a column as [`num_format_print_nullable_i8_column`] does.
+#[unsafe(no_mangle)]
+pub extern "C" fn num_format_print_nullable_i64_large_column(
+    format: &NumFormat,
+    numbers: &[i64],
+    validity: &[u8],
+    offsets: &mut [u64],
+    bytes: &mut [u8],
+) -> i32
+    ensures { PrintsColumn (number_text (λ n. n)) (by_bits validity.now) (λ o. o) (2 ^ 63 - 1) format.now numbers.now offsets.old offsets.new bytes.old bytes.new result }
+{
+    returned(columns::print(format, numbers, &Bitmap::new(validity), offsets, bytes))
+}
+
+/// Measures a column as [`num_format_print_nullable_i8_column_len`] does.
+#[unsafe(no_mangle)]
+pub extern "C" fn num_format_print_nullable_i64_column_len(
+    format: &NumFormat,
+    numbers: &[i64],
+    validity: &[u8],
+    len: &mut usize,
+) -> i32
+    ensures { MeasuresColumn (number_text (λ n. n)) (by_bits validity.now) format.now numbers.now len.old len.new result }
+{
+    returned(columns::measure(format, numbers, &Bitmap::new(validity), len))
+}
+
+/// Parses a column as [`num_format_parse_nullable_i8_column`] does.
+#[unsafe(no_mangle)]
+pub extern "C" fn num_format_parse_nullable_i64_column(
+    format: &NumFormat,
+    offsets: &[u32],
+    bytes: &[u8],
+    numbers: &mut [i64],
+    validity: &[u8],
+    statuses: &mut [i32],
+) -> i32
+    ensures { ParsesColumn (number_row ParsesInto (kind_of I64) (λ n. n)) (by_bits validity.now) (λ o. o) (2 ^ 31 - 1) format.now offsets.now bytes.now numbers.old numbers.new statuses.old statuses.new result }
+{
+    returned(columns::parse(
+        &Lenient,
+        format,
+        offsets,
+        bytes,
+        numbers,
+        &Bitmap::new(validity),
+        statuses,
+    ))
+}
+
+/// Parses a column as [`num_format_parse_nullable_i8_column`] does.
+#[unsafe(no_mangle)]
+pub extern "C" fn num_format_parse_nullable_i64_large_column(
+    format: &NumFormat,
+    offsets: &[u64],
+    bytes: &[u8],
+    numbers: &mut [i64],
+    validity: &[u8],
+    statuses: &mut [i32],
+) -> i32
+    ensures { ParsesColumn (number_row ParsesInto (kind_of I64) (λ n. n)) (by_bits validity.now) (λ o. o) (2 ^ 63 - 1) format.now offsets.now bytes.now numbers.old numbers.new statuses.old statuses.new result }
+{
+    returned(columns::parse(
+        &Lenient,
+        format,
+        offsets,
+        bytes,
+        numbers,
+        &Bitmap::new(validity),
+        statuses,
+    ))
+}
+
+/// Parses a column as [`num_format_parse_strict_nullable_i8_column`] does.
+#[unsafe(no_mangle)]
+pub extern "C" fn num_format_parse_strict_nullable_i64_column(
+    format: &NumFormat,
+    offsets: &[u32],
+    bytes: &[u8],
+    numbers: &mut [i64],
+    validity: &[u8],
+    statuses: &mut [i32],
+) -> i32
+    ensures { ParsesColumn (number_row ParsesRowExactly (kind_of I64) (λ n. n)) (by_bits validity.now) (λ o. o) (2 ^ 31 - 1) format.now offsets.now bytes.now numbers.old numbers.new statuses.old statuses.new result }
+{
+    returned(columns::parse(
+        &Strict,
+        format,
+        offsets,
+        bytes,
+        numbers,
+        &Bitmap::new(validity),
+        statuses,
+    ))
+}
+
+/// Parses a column as [`num_format_parse_strict_nullable_i8_column`] does.
+#[unsafe(no_mangle)]
+pub extern "C" fn num_format_parse_strict_nullable_i64_large_column(
+    format: &NumFormat,
+    offsets: &[u64],
+    bytes: &[u8],
+    numbers: &mut [i64],
+    validity: &[u8],
+    statuses: &mut [i32],
+) -> i32
+    ensures { ParsesColumn (number_row ParsesRowExactly (kind_of I64) (λ n. n)) (by_bits validity.now) (λ o. o) (2 ^ 63 - 1) format.now offsets.now bytes.now numbers.old numbers.new statuses.old statuses.new result }
+{
+    returned(columns::parse(
+        &Strict,
+        format,
+        offsets,
+        bytes,
+        numbers,
+        &Bitmap::new(validity),
+        statuses,
+    ))
+}
+
+/// Prints a column as [`num_format_print_i8_column`] does.
 #[unsafe(no_mangle)]
 pub extern "C" fn num_format_print_i128_column(
     format: &NumFormat,
@@ -406,12 +976,12 @@ pub extern "C" fn num_format_print_i128_column(
     offsets: &mut [u32],
     bytes: &mut [u8],
 ) -> i32
-    ensures { PrintsColumn signed_value (λ o. o) (2 ^ 31 - 1) format.now numbers.now offsets.old offsets.new bytes.old bytes.new result }
+    ensures { PrintsColumn (number_text signed_value) all_valid (λ o. o) (2 ^ 31 - 1) format.now numbers.now offsets.old offsets.new bytes.old bytes.new result }
 {
-    returned(columns::print(format, numbers, offsets, bytes))
+    returned(columns::print(format, numbers, &AllValid, offsets, bytes))
 }
 
-/// Prints the numbers as [`num_format_print_i8_column`] does.
+/// Prints a column as [`num_format_print_i8_column`] does.
 #[unsafe(no_mangle)]
 pub extern "C" fn num_format_print_i128_large_column(
     format: &NumFormat,
@@ -419,24 +989,24 @@ pub extern "C" fn num_format_print_i128_large_column(
     offsets: &mut [u64],
     bytes: &mut [u8],
 ) -> i32
-    ensures { PrintsColumn signed_value (λ o. o) (2 ^ 63 - 1) format.now numbers.now offsets.old offsets.new bytes.old bytes.new result }
+    ensures { PrintsColumn (number_text signed_value) all_valid (λ o. o) (2 ^ 63 - 1) format.now numbers.now offsets.old offsets.new bytes.old bytes.new result }
 {
-    returned(columns::print(format, numbers, offsets, bytes))
+    returned(columns::print(format, numbers, &AllValid, offsets, bytes))
 }
 
-/// Writes how many bytes the texts of the numbers have, as [`num_format_print_i8_column_len`] does.
+/// Measures a column as [`num_format_print_i8_column_len`] does.
 #[unsafe(no_mangle)]
 pub extern "C" fn num_format_print_i128_column_len(
     format: &NumFormat,
     numbers: &[SignedWide],
     len: &mut usize,
 ) -> i32
-    ensures { Measures signed_value format.now numbers.now len.old len.new result }
+    ensures { MeasuresColumn (number_text signed_value) all_valid format.now numbers.now len.old len.new result }
 {
-    returned(columns::measure(format, numbers, len))
+    returned(columns::measure(format, numbers, &AllValid, len))
 }
 
-/// Parses the texts as [`num_format_parse_i8_column`] does.
+/// Parses a column as [`num_format_parse_i8_column`] does.
 #[unsafe(no_mangle)]
 pub extern "C" fn num_format_parse_i128_column(
     format: &NumFormat,
@@ -445,12 +1015,14 @@ pub extern "C" fn num_format_parse_i128_column(
     numbers: &mut [SignedWide],
     statuses: &mut [i32],
 ) -> i32
-    ensures { ParsesColumn ParsesInto (kind_of I128) signed_value (λ o. o) (2 ^ 31 - 1) format.now offsets.now bytes.now numbers.old numbers.new statuses.old statuses.new result }
+    ensures { ParsesColumn (number_row ParsesInto (kind_of I128) signed_value) all_valid (λ o. o) (2 ^ 31 - 1) format.now offsets.now bytes.now numbers.old numbers.new statuses.old statuses.new result }
 {
-    returned(columns::parse::<Lenient, SignedWide, u32>(format, offsets, bytes, numbers, statuses))
+    returned(columns::parse(
+        &Lenient, format, offsets, bytes, numbers, &AllValid, statuses,
+    ))
 }
 
-/// Parses the texts as [`num_format_parse_i8_column`] does.
+/// Parses a column as [`num_format_parse_i8_column`] does.
 #[unsafe(no_mangle)]
 pub extern "C" fn num_format_parse_i128_large_column(
     format: &NumFormat,
@@ -459,12 +1031,14 @@ pub extern "C" fn num_format_parse_i128_large_column(
     numbers: &mut [SignedWide],
     statuses: &mut [i32],
 ) -> i32
-    ensures { ParsesColumn ParsesInto (kind_of I128) signed_value (λ o. o) (2 ^ 63 - 1) format.now offsets.now bytes.now numbers.old numbers.new statuses.old statuses.new result }
+    ensures { ParsesColumn (number_row ParsesInto (kind_of I128) signed_value) all_valid (λ o. o) (2 ^ 63 - 1) format.now offsets.now bytes.now numbers.old numbers.new statuses.old statuses.new result }
 {
-    returned(columns::parse::<Lenient, SignedWide, u64>(format, offsets, bytes, numbers, statuses))
+    returned(columns::parse(
+        &Lenient, format, offsets, bytes, numbers, &AllValid, statuses,
+    ))
 }
 
-/// Parses the texts as [`num_format_parse_strict_i8_column`] does.
+/// Parses a column as [`num_format_parse_strict_i8_column`] does.
 #[unsafe(no_mangle)]
 pub extern "C" fn num_format_parse_strict_i128_column(
     format: &NumFormat,
@@ -473,12 +1047,14 @@ pub extern "C" fn num_format_parse_strict_i128_column(
     numbers: &mut [SignedWide],
     statuses: &mut [i32],
 ) -> i32
-    ensures { ParsesColumn ParsesRowExactly (kind_of I128) signed_value (λ o. o) (2 ^ 31 - 1) format.now offsets.now bytes.now numbers.old numbers.new statuses.old statuses.new result }
+    ensures { ParsesColumn (number_row ParsesRowExactly (kind_of I128) signed_value) all_valid (λ o. o) (2 ^ 31 - 1) format.now offsets.now bytes.now numbers.old numbers.new statuses.old statuses.new result }
 {
-    returned(columns::parse::<Strict, SignedWide, u32>(format, offsets, bytes, numbers, statuses))
+    returned(columns::parse(
+        &Strict, format, offsets, bytes, numbers, &AllValid, statuses,
+    ))
 }
 
-/// Parses the texts as [`num_format_parse_strict_i8_column`] does.
+/// Parses a column as [`num_format_parse_strict_i8_column`] does.
 #[unsafe(no_mangle)]
 pub extern "C" fn num_format_parse_strict_i128_large_column(
     format: &NumFormat,
@@ -487,12 +1063,147 @@ pub extern "C" fn num_format_parse_strict_i128_large_column(
     numbers: &mut [SignedWide],
     statuses: &mut [i32],
 ) -> i32
-    ensures { ParsesColumn ParsesRowExactly (kind_of I128) signed_value (λ o. o) (2 ^ 63 - 1) format.now offsets.now bytes.now numbers.old numbers.new statuses.old statuses.new result }
+    ensures { ParsesColumn (number_row ParsesRowExactly (kind_of I128) signed_value) all_valid (λ o. o) (2 ^ 63 - 1) format.now offsets.now bytes.now numbers.old numbers.new statuses.old statuses.new result }
 {
-    returned(columns::parse::<Strict, SignedWide, u64>(format, offsets, bytes, numbers, statuses))
+    returned(columns::parse(
+        &Strict, format, offsets, bytes, numbers, &AllValid, statuses,
+    ))
 }
 
-/// Prints the numbers as [`num_format_print_i8_column`] does.
+/// Prints a column as [`num_format_print_nullable_i8_column`] does.
+#[unsafe(no_mangle)]
+pub extern "C" fn num_format_print_nullable_i128_column(
+    format: &NumFormat,
+    numbers: &[SignedWide],
+    validity: &[u8],
+    offsets: &mut [u32],
+    bytes: &mut [u8],
+) -> i32
+    ensures { PrintsColumn (number_text signed_value) (by_bits validity.now) (λ o. o) (2 ^ 31 - 1) format.now numbers.now offsets.old offsets.new bytes.old bytes.new result }
+{
+    returned(columns::print(format, numbers, &Bitmap::new(validity), offsets, bytes))
+}
+
+/// Prints a column as [`num_format_print_nullable_i8_column`] does.
+#[unsafe(no_mangle)]
+pub extern "C" fn num_format_print_nullable_i128_large_column(
+    format: &NumFormat,
+    numbers: &[SignedWide],
+    validity: &[u8],
+    offsets: &mut [u64],
+    bytes: &mut [u8],
+) -> i32
+    ensures { PrintsColumn (number_text signed_value) (by_bits validity.now) (λ o. o) (2 ^ 63 - 1) format.now numbers.now offsets.old offsets.new bytes.old bytes.new result }
+{
+    returned(columns::print(format, numbers, &Bitmap::new(validity), offsets, bytes))
+}
+
+/// Measures a column as [`num_format_print_nullable_i8_column_len`] does.
+#[unsafe(no_mangle)]
+pub extern "C" fn num_format_print_nullable_i128_column_len(
+    format: &NumFormat,
+    numbers: &[SignedWide],
+    validity: &[u8],
+    len: &mut usize,
+) -> i32
+    ensures { MeasuresColumn (number_text signed_value) (by_bits validity.now) format.now numbers.now len.old len.new result }
+{
+    returned(columns::measure(format, numbers, &Bitmap::new(validity), len))
+}
+
+/// Parses a column as [`num_format_parse_nullable_i8_column`] does.
+#[unsafe(no_mangle)]
+pub extern "C" fn num_format_parse_nullable_i128_column(
+    format: &NumFormat,
+    offsets: &[u32],
+    bytes: &[u8],
+    numbers: &mut [SignedWide],
+    validity: &[u8],
+    statuses: &mut [i32],
+) -> i32
+    ensures { ParsesColumn (number_row ParsesInto (kind_of I128) signed_value) (by_bits validity.now) (λ o. o) (2 ^ 31 - 1) format.now offsets.now bytes.now numbers.old numbers.new statuses.old statuses.new result }
+{
+    returned(columns::parse(
+        &Lenient,
+        format,
+        offsets,
+        bytes,
+        numbers,
+        &Bitmap::new(validity),
+        statuses,
+    ))
+}
+
+/// Parses a column as [`num_format_parse_nullable_i8_column`] does.
+#[unsafe(no_mangle)]
+pub extern "C" fn num_format_parse_nullable_i128_large_column(
+    format: &NumFormat,
+    offsets: &[u64],
+    bytes: &[u8],
+    numbers: &mut [SignedWide],
+    validity: &[u8],
+    statuses: &mut [i32],
+) -> i32
+    ensures { ParsesColumn (number_row ParsesInto (kind_of I128) signed_value) (by_bits validity.now) (λ o. o) (2 ^ 63 - 1) format.now offsets.now bytes.now numbers.old numbers.new statuses.old statuses.new result }
+{
+    returned(columns::parse(
+        &Lenient,
+        format,
+        offsets,
+        bytes,
+        numbers,
+        &Bitmap::new(validity),
+        statuses,
+    ))
+}
+
+/// Parses a column as [`num_format_parse_strict_nullable_i8_column`] does.
+#[unsafe(no_mangle)]
+pub extern "C" fn num_format_parse_strict_nullable_i128_column(
+    format: &NumFormat,
+    offsets: &[u32],
+    bytes: &[u8],
+    numbers: &mut [SignedWide],
+    validity: &[u8],
+    statuses: &mut [i32],
+) -> i32
+    ensures { ParsesColumn (number_row ParsesRowExactly (kind_of I128) signed_value) (by_bits validity.now) (λ o. o) (2 ^ 31 - 1) format.now offsets.now bytes.now numbers.old numbers.new statuses.old statuses.new result }
+{
+    returned(columns::parse(
+        &Strict,
+        format,
+        offsets,
+        bytes,
+        numbers,
+        &Bitmap::new(validity),
+        statuses,
+    ))
+}
+
+/// Parses a column as [`num_format_parse_strict_nullable_i8_column`] does.
+#[unsafe(no_mangle)]
+pub extern "C" fn num_format_parse_strict_nullable_i128_large_column(
+    format: &NumFormat,
+    offsets: &[u64],
+    bytes: &[u8],
+    numbers: &mut [SignedWide],
+    validity: &[u8],
+    statuses: &mut [i32],
+) -> i32
+    ensures { ParsesColumn (number_row ParsesRowExactly (kind_of I128) signed_value) (by_bits validity.now) (λ o. o) (2 ^ 63 - 1) format.now offsets.now bytes.now numbers.old numbers.new statuses.old statuses.new result }
+{
+    returned(columns::parse(
+        &Strict,
+        format,
+        offsets,
+        bytes,
+        numbers,
+        &Bitmap::new(validity),
+        statuses,
+    ))
+}
+
+/// Prints a column as [`num_format_print_i8_column`] does.
 #[unsafe(no_mangle)]
 pub extern "C" fn num_format_print_u8_column(
     format: &NumFormat,
@@ -500,12 +1211,12 @@ pub extern "C" fn num_format_print_u8_column(
     offsets: &mut [u32],
     bytes: &mut [u8],
 ) -> i32
-    ensures { PrintsColumn (λ n. pos n) (λ o. o) (2 ^ 31 - 1) format.now numbers.now offsets.old offsets.new bytes.old bytes.new result }
+    ensures { PrintsColumn (number_text (λ n. pos n)) all_valid (λ o. o) (2 ^ 31 - 1) format.now numbers.now offsets.old offsets.new bytes.old bytes.new result }
 {
-    returned(columns::print(format, numbers, offsets, bytes))
+    returned(columns::print(format, numbers, &AllValid, offsets, bytes))
 }
 
-/// Prints the numbers as [`num_format_print_i8_column`] does.
+/// Prints a column as [`num_format_print_i8_column`] does.
 #[unsafe(no_mangle)]
 pub extern "C" fn num_format_print_u8_large_column(
     format: &NumFormat,
@@ -513,24 +1224,24 @@ pub extern "C" fn num_format_print_u8_large_column(
     offsets: &mut [u64],
     bytes: &mut [u8],
 ) -> i32
-    ensures { PrintsColumn (λ n. pos n) (λ o. o) (2 ^ 63 - 1) format.now numbers.now offsets.old offsets.new bytes.old bytes.new result }
+    ensures { PrintsColumn (number_text (λ n. pos n)) all_valid (λ o. o) (2 ^ 63 - 1) format.now numbers.now offsets.old offsets.new bytes.old bytes.new result }
 {
-    returned(columns::print(format, numbers, offsets, bytes))
+    returned(columns::print(format, numbers, &AllValid, offsets, bytes))
 }
 
-/// Writes how many bytes the texts of the numbers have, as [`num_format_print_i8_column_len`] does.
+/// Measures a column as [`num_format_print_i8_column_len`] does.
 #[unsafe(no_mangle)]
 pub extern "C" fn num_format_print_u8_column_len(
     format: &NumFormat,
     numbers: &[u8],
     len: &mut usize,
 ) -> i32
-    ensures { Measures (λ n. pos n) format.now numbers.now len.old len.new result }
+    ensures { MeasuresColumn (number_text (λ n. pos n)) all_valid format.now numbers.now len.old len.new result }
 {
-    returned(columns::measure(format, numbers, len))
+    returned(columns::measure(format, numbers, &AllValid, len))
 }
 
-/// Parses the texts as [`num_format_parse_i8_column`] does.
+/// Parses a column as [`num_format_parse_i8_column`] does.
 #[unsafe(no_mangle)]
 pub extern "C" fn num_format_parse_u8_column(
     format: &NumFormat,
@@ -539,12 +1250,14 @@ pub extern "C" fn num_format_parse_u8_column(
     numbers: &mut [u8],
     statuses: &mut [i32],
 ) -> i32
-    ensures { ParsesColumn ParsesInto (kind_of U8) (λ n. pos n) (λ o. o) (2 ^ 31 - 1) format.now offsets.now bytes.now numbers.old numbers.new statuses.old statuses.new result }
+    ensures { ParsesColumn (number_row ParsesInto (kind_of U8) (λ n. pos n)) all_valid (λ o. o) (2 ^ 31 - 1) format.now offsets.now bytes.now numbers.old numbers.new statuses.old statuses.new result }
 {
-    returned(columns::parse::<Lenient, u8, u32>(format, offsets, bytes, numbers, statuses))
+    returned(columns::parse(
+        &Lenient, format, offsets, bytes, numbers, &AllValid, statuses,
+    ))
 }
 
-/// Parses the texts as [`num_format_parse_i8_column`] does.
+/// Parses a column as [`num_format_parse_i8_column`] does.
 #[unsafe(no_mangle)]
 pub extern "C" fn num_format_parse_u8_large_column(
     format: &NumFormat,
@@ -553,12 +1266,14 @@ pub extern "C" fn num_format_parse_u8_large_column(
     numbers: &mut [u8],
     statuses: &mut [i32],
 ) -> i32
-    ensures { ParsesColumn ParsesInto (kind_of U8) (λ n. pos n) (λ o. o) (2 ^ 63 - 1) format.now offsets.now bytes.now numbers.old numbers.new statuses.old statuses.new result }
+    ensures { ParsesColumn (number_row ParsesInto (kind_of U8) (λ n. pos n)) all_valid (λ o. o) (2 ^ 63 - 1) format.now offsets.now bytes.now numbers.old numbers.new statuses.old statuses.new result }
 {
-    returned(columns::parse::<Lenient, u8, u64>(format, offsets, bytes, numbers, statuses))
+    returned(columns::parse(
+        &Lenient, format, offsets, bytes, numbers, &AllValid, statuses,
+    ))
 }
 
-/// Parses the texts as [`num_format_parse_strict_i8_column`] does.
+/// Parses a column as [`num_format_parse_strict_i8_column`] does.
 #[unsafe(no_mangle)]
 pub extern "C" fn num_format_parse_strict_u8_column(
     format: &NumFormat,
@@ -567,12 +1282,14 @@ pub extern "C" fn num_format_parse_strict_u8_column(
     numbers: &mut [u8],
     statuses: &mut [i32],
 ) -> i32
-    ensures { ParsesColumn ParsesRowExactly (kind_of U8) (λ n. pos n) (λ o. o) (2 ^ 31 - 1) format.now offsets.now bytes.now numbers.old numbers.new statuses.old statuses.new result }
+    ensures { ParsesColumn (number_row ParsesRowExactly (kind_of U8) (λ n. pos n)) all_valid (λ o. o) (2 ^ 31 - 1) format.now offsets.now bytes.now numbers.old numbers.new statuses.old statuses.new result }
 {
-    returned(columns::parse::<Strict, u8, u32>(format, offsets, bytes, numbers, statuses))
+    returned(columns::parse(
+        &Strict, format, offsets, bytes, numbers, &AllValid, statuses,
+    ))
 }
 
-/// Parses the texts as [`num_format_parse_strict_i8_column`] does.
+/// Parses a column as [`num_format_parse_strict_i8_column`] does.
 #[unsafe(no_mangle)]
 pub extern "C" fn num_format_parse_strict_u8_large_column(
     format: &NumFormat,
@@ -581,12 +1298,147 @@ pub extern "C" fn num_format_parse_strict_u8_large_column(
     numbers: &mut [u8],
     statuses: &mut [i32],
 ) -> i32
-    ensures { ParsesColumn ParsesRowExactly (kind_of U8) (λ n. pos n) (λ o. o) (2 ^ 63 - 1) format.now offsets.now bytes.now numbers.old numbers.new statuses.old statuses.new result }
+    ensures { ParsesColumn (number_row ParsesRowExactly (kind_of U8) (λ n. pos n)) all_valid (λ o. o) (2 ^ 63 - 1) format.now offsets.now bytes.now numbers.old numbers.new statuses.old statuses.new result }
 {
-    returned(columns::parse::<Strict, u8, u64>(format, offsets, bytes, numbers, statuses))
+    returned(columns::parse(
+        &Strict, format, offsets, bytes, numbers, &AllValid, statuses,
+    ))
 }
 
-/// Prints the numbers as [`num_format_print_i8_column`] does.
+/// Prints a column as [`num_format_print_nullable_i8_column`] does.
+#[unsafe(no_mangle)]
+pub extern "C" fn num_format_print_nullable_u8_column(
+    format: &NumFormat,
+    numbers: &[u8],
+    validity: &[u8],
+    offsets: &mut [u32],
+    bytes: &mut [u8],
+) -> i32
+    ensures { PrintsColumn (number_text (λ n. pos n)) (by_bits validity.now) (λ o. o) (2 ^ 31 - 1) format.now numbers.now offsets.old offsets.new bytes.old bytes.new result }
+{
+    returned(columns::print(format, numbers, &Bitmap::new(validity), offsets, bytes))
+}
+
+/// Prints a column as [`num_format_print_nullable_i8_column`] does.
+#[unsafe(no_mangle)]
+pub extern "C" fn num_format_print_nullable_u8_large_column(
+    format: &NumFormat,
+    numbers: &[u8],
+    validity: &[u8],
+    offsets: &mut [u64],
+    bytes: &mut [u8],
+) -> i32
+    ensures { PrintsColumn (number_text (λ n. pos n)) (by_bits validity.now) (λ o. o) (2 ^ 63 - 1) format.now numbers.now offsets.old offsets.new bytes.old bytes.new result }
+{
+    returned(columns::print(format, numbers, &Bitmap::new(validity), offsets, bytes))
+}
+
+/// Measures a column as [`num_format_print_nullable_i8_column_len`] does.
+#[unsafe(no_mangle)]
+pub extern "C" fn num_format_print_nullable_u8_column_len(
+    format: &NumFormat,
+    numbers: &[u8],
+    validity: &[u8],
+    len: &mut usize,
+) -> i32
+    ensures { MeasuresColumn (number_text (λ n. pos n)) (by_bits validity.now) format.now numbers.now len.old len.new result }
+{
+    returned(columns::measure(format, numbers, &Bitmap::new(validity), len))
+}
+
+/// Parses a column as [`num_format_parse_nullable_i8_column`] does.
+#[unsafe(no_mangle)]
+pub extern "C" fn num_format_parse_nullable_u8_column(
+    format: &NumFormat,
+    offsets: &[u32],
+    bytes: &[u8],
+    numbers: &mut [u8],
+    validity: &[u8],
+    statuses: &mut [i32],
+) -> i32
+    ensures { ParsesColumn (number_row ParsesInto (kind_of U8) (λ n. pos n)) (by_bits validity.now) (λ o. o) (2 ^ 31 - 1) format.now offsets.now bytes.now numbers.old numbers.new statuses.old statuses.new result }
+{
+    returned(columns::parse(
+        &Lenient,
+        format,
+        offsets,
+        bytes,
+        numbers,
+        &Bitmap::new(validity),
+        statuses,
+    ))
+}
+
+/// Parses a column as [`num_format_parse_nullable_i8_column`] does.
+#[unsafe(no_mangle)]
+pub extern "C" fn num_format_parse_nullable_u8_large_column(
+    format: &NumFormat,
+    offsets: &[u64],
+    bytes: &[u8],
+    numbers: &mut [u8],
+    validity: &[u8],
+    statuses: &mut [i32],
+) -> i32
+    ensures { ParsesColumn (number_row ParsesInto (kind_of U8) (λ n. pos n)) (by_bits validity.now) (λ o. o) (2 ^ 63 - 1) format.now offsets.now bytes.now numbers.old numbers.new statuses.old statuses.new result }
+{
+    returned(columns::parse(
+        &Lenient,
+        format,
+        offsets,
+        bytes,
+        numbers,
+        &Bitmap::new(validity),
+        statuses,
+    ))
+}
+
+/// Parses a column as [`num_format_parse_strict_nullable_i8_column`] does.
+#[unsafe(no_mangle)]
+pub extern "C" fn num_format_parse_strict_nullable_u8_column(
+    format: &NumFormat,
+    offsets: &[u32],
+    bytes: &[u8],
+    numbers: &mut [u8],
+    validity: &[u8],
+    statuses: &mut [i32],
+) -> i32
+    ensures { ParsesColumn (number_row ParsesRowExactly (kind_of U8) (λ n. pos n)) (by_bits validity.now) (λ o. o) (2 ^ 31 - 1) format.now offsets.now bytes.now numbers.old numbers.new statuses.old statuses.new result }
+{
+    returned(columns::parse(
+        &Strict,
+        format,
+        offsets,
+        bytes,
+        numbers,
+        &Bitmap::new(validity),
+        statuses,
+    ))
+}
+
+/// Parses a column as [`num_format_parse_strict_nullable_i8_column`] does.
+#[unsafe(no_mangle)]
+pub extern "C" fn num_format_parse_strict_nullable_u8_large_column(
+    format: &NumFormat,
+    offsets: &[u64],
+    bytes: &[u8],
+    numbers: &mut [u8],
+    validity: &[u8],
+    statuses: &mut [i32],
+) -> i32
+    ensures { ParsesColumn (number_row ParsesRowExactly (kind_of U8) (λ n. pos n)) (by_bits validity.now) (λ o. o) (2 ^ 63 - 1) format.now offsets.now bytes.now numbers.old numbers.new statuses.old statuses.new result }
+{
+    returned(columns::parse(
+        &Strict,
+        format,
+        offsets,
+        bytes,
+        numbers,
+        &Bitmap::new(validity),
+        statuses,
+    ))
+}
+
+/// Prints a column as [`num_format_print_i8_column`] does.
 #[unsafe(no_mangle)]
 pub extern "C" fn num_format_print_u16_column(
     format: &NumFormat,
@@ -594,12 +1446,12 @@ pub extern "C" fn num_format_print_u16_column(
     offsets: &mut [u32],
     bytes: &mut [u8],
 ) -> i32
-    ensures { PrintsColumn (λ n. pos n) (λ o. o) (2 ^ 31 - 1) format.now numbers.now offsets.old offsets.new bytes.old bytes.new result }
+    ensures { PrintsColumn (number_text (λ n. pos n)) all_valid (λ o. o) (2 ^ 31 - 1) format.now numbers.now offsets.old offsets.new bytes.old bytes.new result }
 {
-    returned(columns::print(format, numbers, offsets, bytes))
+    returned(columns::print(format, numbers, &AllValid, offsets, bytes))
 }
 
-/// Prints the numbers as [`num_format_print_i8_column`] does.
+/// Prints a column as [`num_format_print_i8_column`] does.
 #[unsafe(no_mangle)]
 pub extern "C" fn num_format_print_u16_large_column(
     format: &NumFormat,
@@ -607,24 +1459,24 @@ pub extern "C" fn num_format_print_u16_large_column(
     offsets: &mut [u64],
     bytes: &mut [u8],
 ) -> i32
-    ensures { PrintsColumn (λ n. pos n) (λ o. o) (2 ^ 63 - 1) format.now numbers.now offsets.old offsets.new bytes.old bytes.new result }
+    ensures { PrintsColumn (number_text (λ n. pos n)) all_valid (λ o. o) (2 ^ 63 - 1) format.now numbers.now offsets.old offsets.new bytes.old bytes.new result }
 {
-    returned(columns::print(format, numbers, offsets, bytes))
+    returned(columns::print(format, numbers, &AllValid, offsets, bytes))
 }
 
-/// Writes how many bytes the texts of the numbers have, as [`num_format_print_i8_column_len`] does.
+/// Measures a column as [`num_format_print_i8_column_len`] does.
 #[unsafe(no_mangle)]
 pub extern "C" fn num_format_print_u16_column_len(
     format: &NumFormat,
     numbers: &[u16],
     len: &mut usize,
 ) -> i32
-    ensures { Measures (λ n. pos n) format.now numbers.now len.old len.new result }
+    ensures { MeasuresColumn (number_text (λ n. pos n)) all_valid format.now numbers.now len.old len.new result }
 {
-    returned(columns::measure(format, numbers, len))
+    returned(columns::measure(format, numbers, &AllValid, len))
 }
 
-/// Parses the texts as [`num_format_parse_i8_column`] does.
+/// Parses a column as [`num_format_parse_i8_column`] does.
 #[unsafe(no_mangle)]
 pub extern "C" fn num_format_parse_u16_column(
     format: &NumFormat,
@@ -633,12 +1485,14 @@ pub extern "C" fn num_format_parse_u16_column(
     numbers: &mut [u16],
     statuses: &mut [i32],
 ) -> i32
-    ensures { ParsesColumn ParsesInto (kind_of U16) (λ n. pos n) (λ o. o) (2 ^ 31 - 1) format.now offsets.now bytes.now numbers.old numbers.new statuses.old statuses.new result }
+    ensures { ParsesColumn (number_row ParsesInto (kind_of U16) (λ n. pos n)) all_valid (λ o. o) (2 ^ 31 - 1) format.now offsets.now bytes.now numbers.old numbers.new statuses.old statuses.new result }
 {
-    returned(columns::parse::<Lenient, u16, u32>(format, offsets, bytes, numbers, statuses))
+    returned(columns::parse(
+        &Lenient, format, offsets, bytes, numbers, &AllValid, statuses,
+    ))
 }
 
-/// Parses the texts as [`num_format_parse_i8_column`] does.
+/// Parses a column as [`num_format_parse_i8_column`] does.
 #[unsafe(no_mangle)]
 pub extern "C" fn num_format_parse_u16_large_column(
     format: &NumFormat,
@@ -647,12 +1501,14 @@ pub extern "C" fn num_format_parse_u16_large_column(
     numbers: &mut [u16],
     statuses: &mut [i32],
 ) -> i32
-    ensures { ParsesColumn ParsesInto (kind_of U16) (λ n. pos n) (λ o. o) (2 ^ 63 - 1) format.now offsets.now bytes.now numbers.old numbers.new statuses.old statuses.new result }
+    ensures { ParsesColumn (number_row ParsesInto (kind_of U16) (λ n. pos n)) all_valid (λ o. o) (2 ^ 63 - 1) format.now offsets.now bytes.now numbers.old numbers.new statuses.old statuses.new result }
 {
-    returned(columns::parse::<Lenient, u16, u64>(format, offsets, bytes, numbers, statuses))
+    returned(columns::parse(
+        &Lenient, format, offsets, bytes, numbers, &AllValid, statuses,
+    ))
 }
 
-/// Parses the texts as [`num_format_parse_strict_i8_column`] does.
+/// Parses a column as [`num_format_parse_strict_i8_column`] does.
 #[unsafe(no_mangle)]
 pub extern "C" fn num_format_parse_strict_u16_column(
     format: &NumFormat,
@@ -661,12 +1517,14 @@ pub extern "C" fn num_format_parse_strict_u16_column(
     numbers: &mut [u16],
     statuses: &mut [i32],
 ) -> i32
-    ensures { ParsesColumn ParsesRowExactly (kind_of U16) (λ n. pos n) (λ o. o) (2 ^ 31 - 1) format.now offsets.now bytes.now numbers.old numbers.new statuses.old statuses.new result }
+    ensures { ParsesColumn (number_row ParsesRowExactly (kind_of U16) (λ n. pos n)) all_valid (λ o. o) (2 ^ 31 - 1) format.now offsets.now bytes.now numbers.old numbers.new statuses.old statuses.new result }
 {
-    returned(columns::parse::<Strict, u16, u32>(format, offsets, bytes, numbers, statuses))
+    returned(columns::parse(
+        &Strict, format, offsets, bytes, numbers, &AllValid, statuses,
+    ))
 }
 
-/// Parses the texts as [`num_format_parse_strict_i8_column`] does.
+/// Parses a column as [`num_format_parse_strict_i8_column`] does.
 #[unsafe(no_mangle)]
 pub extern "C" fn num_format_parse_strict_u16_large_column(
     format: &NumFormat,
@@ -675,12 +1533,147 @@ pub extern "C" fn num_format_parse_strict_u16_large_column(
     numbers: &mut [u16],
     statuses: &mut [i32],
 ) -> i32
-    ensures { ParsesColumn ParsesRowExactly (kind_of U16) (λ n. pos n) (λ o. o) (2 ^ 63 - 1) format.now offsets.now bytes.now numbers.old numbers.new statuses.old statuses.new result }
+    ensures { ParsesColumn (number_row ParsesRowExactly (kind_of U16) (λ n. pos n)) all_valid (λ o. o) (2 ^ 63 - 1) format.now offsets.now bytes.now numbers.old numbers.new statuses.old statuses.new result }
 {
-    returned(columns::parse::<Strict, u16, u64>(format, offsets, bytes, numbers, statuses))
+    returned(columns::parse(
+        &Strict, format, offsets, bytes, numbers, &AllValid, statuses,
+    ))
 }
 
-/// Prints the numbers as [`num_format_print_i8_column`] does.
+/// Prints a column as [`num_format_print_nullable_i8_column`] does.
+#[unsafe(no_mangle)]
+pub extern "C" fn num_format_print_nullable_u16_column(
+    format: &NumFormat,
+    numbers: &[u16],
+    validity: &[u8],
+    offsets: &mut [u32],
+    bytes: &mut [u8],
+) -> i32
+    ensures { PrintsColumn (number_text (λ n. pos n)) (by_bits validity.now) (λ o. o) (2 ^ 31 - 1) format.now numbers.now offsets.old offsets.new bytes.old bytes.new result }
+{
+    returned(columns::print(format, numbers, &Bitmap::new(validity), offsets, bytes))
+}
+
+/// Prints a column as [`num_format_print_nullable_i8_column`] does.
+#[unsafe(no_mangle)]
+pub extern "C" fn num_format_print_nullable_u16_large_column(
+    format: &NumFormat,
+    numbers: &[u16],
+    validity: &[u8],
+    offsets: &mut [u64],
+    bytes: &mut [u8],
+) -> i32
+    ensures { PrintsColumn (number_text (λ n. pos n)) (by_bits validity.now) (λ o. o) (2 ^ 63 - 1) format.now numbers.now offsets.old offsets.new bytes.old bytes.new result }
+{
+    returned(columns::print(format, numbers, &Bitmap::new(validity), offsets, bytes))
+}
+
+/// Measures a column as [`num_format_print_nullable_i8_column_len`] does.
+#[unsafe(no_mangle)]
+pub extern "C" fn num_format_print_nullable_u16_column_len(
+    format: &NumFormat,
+    numbers: &[u16],
+    validity: &[u8],
+    len: &mut usize,
+) -> i32
+    ensures { MeasuresColumn (number_text (λ n. pos n)) (by_bits validity.now) format.now numbers.now len.old len.new result }
+{
+    returned(columns::measure(format, numbers, &Bitmap::new(validity), len))
+}
+
+/// Parses a column as [`num_format_parse_nullable_i8_column`] does.
+#[unsafe(no_mangle)]
+pub extern "C" fn num_format_parse_nullable_u16_column(
+    format: &NumFormat,
+    offsets: &[u32],
+    bytes: &[u8],
+    numbers: &mut [u16],
+    validity: &[u8],
+    statuses: &mut [i32],
+) -> i32
+    ensures { ParsesColumn (number_row ParsesInto (kind_of U16) (λ n. pos n)) (by_bits validity.now) (λ o. o) (2 ^ 31 - 1) format.now offsets.now bytes.now numbers.old numbers.new statuses.old statuses.new result }
+{
+    returned(columns::parse(
+        &Lenient,
+        format,
+        offsets,
+        bytes,
+        numbers,
+        &Bitmap::new(validity),
+        statuses,
+    ))
+}
+
+/// Parses a column as [`num_format_parse_nullable_i8_column`] does.
+#[unsafe(no_mangle)]
+pub extern "C" fn num_format_parse_nullable_u16_large_column(
+    format: &NumFormat,
+    offsets: &[u64],
+    bytes: &[u8],
+    numbers: &mut [u16],
+    validity: &[u8],
+    statuses: &mut [i32],
+) -> i32
+    ensures { ParsesColumn (number_row ParsesInto (kind_of U16) (λ n. pos n)) (by_bits validity.now) (λ o. o) (2 ^ 63 - 1) format.now offsets.now bytes.now numbers.old numbers.new statuses.old statuses.new result }
+{
+    returned(columns::parse(
+        &Lenient,
+        format,
+        offsets,
+        bytes,
+        numbers,
+        &Bitmap::new(validity),
+        statuses,
+    ))
+}
+
+/// Parses a column as [`num_format_parse_strict_nullable_i8_column`] does.
+#[unsafe(no_mangle)]
+pub extern "C" fn num_format_parse_strict_nullable_u16_column(
+    format: &NumFormat,
+    offsets: &[u32],
+    bytes: &[u8],
+    numbers: &mut [u16],
+    validity: &[u8],
+    statuses: &mut [i32],
+) -> i32
+    ensures { ParsesColumn (number_row ParsesRowExactly (kind_of U16) (λ n. pos n)) (by_bits validity.now) (λ o. o) (2 ^ 31 - 1) format.now offsets.now bytes.now numbers.old numbers.new statuses.old statuses.new result }
+{
+    returned(columns::parse(
+        &Strict,
+        format,
+        offsets,
+        bytes,
+        numbers,
+        &Bitmap::new(validity),
+        statuses,
+    ))
+}
+
+/// Parses a column as [`num_format_parse_strict_nullable_i8_column`] does.
+#[unsafe(no_mangle)]
+pub extern "C" fn num_format_parse_strict_nullable_u16_large_column(
+    format: &NumFormat,
+    offsets: &[u64],
+    bytes: &[u8],
+    numbers: &mut [u16],
+    validity: &[u8],
+    statuses: &mut [i32],
+) -> i32
+    ensures { ParsesColumn (number_row ParsesRowExactly (kind_of U16) (λ n. pos n)) (by_bits validity.now) (λ o. o) (2 ^ 63 - 1) format.now offsets.now bytes.now numbers.old numbers.new statuses.old statuses.new result }
+{
+    returned(columns::parse(
+        &Strict,
+        format,
+        offsets,
+        bytes,
+        numbers,
+        &Bitmap::new(validity),
+        statuses,
+    ))
+}
+
+/// Prints a column as [`num_format_print_i8_column`] does.
 #[unsafe(no_mangle)]
 pub extern "C" fn num_format_print_u32_column(
     format: &NumFormat,
@@ -688,12 +1681,12 @@ pub extern "C" fn num_format_print_u32_column(
     offsets: &mut [u32],
     bytes: &mut [u8],
 ) -> i32
-    ensures { PrintsColumn (λ n. pos n) (λ o. o) (2 ^ 31 - 1) format.now numbers.now offsets.old offsets.new bytes.old bytes.new result }
+    ensures { PrintsColumn (number_text (λ n. pos n)) all_valid (λ o. o) (2 ^ 31 - 1) format.now numbers.now offsets.old offsets.new bytes.old bytes.new result }
 {
-    returned(columns::print(format, numbers, offsets, bytes))
+    returned(columns::print(format, numbers, &AllValid, offsets, bytes))
 }
 
-/// Prints the numbers as [`num_format_print_i8_column`] does.
+/// Prints a column as [`num_format_print_i8_column`] does.
 #[unsafe(no_mangle)]
 pub extern "C" fn num_format_print_u32_large_column(
     format: &NumFormat,
@@ -701,24 +1694,24 @@ pub extern "C" fn num_format_print_u32_large_column(
     offsets: &mut [u64],
     bytes: &mut [u8],
 ) -> i32
-    ensures { PrintsColumn (λ n. pos n) (λ o. o) (2 ^ 63 - 1) format.now numbers.now offsets.old offsets.new bytes.old bytes.new result }
+    ensures { PrintsColumn (number_text (λ n. pos n)) all_valid (λ o. o) (2 ^ 63 - 1) format.now numbers.now offsets.old offsets.new bytes.old bytes.new result }
 {
-    returned(columns::print(format, numbers, offsets, bytes))
+    returned(columns::print(format, numbers, &AllValid, offsets, bytes))
 }
 
-/// Writes how many bytes the texts of the numbers have, as [`num_format_print_i8_column_len`] does.
+/// Measures a column as [`num_format_print_i8_column_len`] does.
 #[unsafe(no_mangle)]
 pub extern "C" fn num_format_print_u32_column_len(
     format: &NumFormat,
     numbers: &[u32],
     len: &mut usize,
 ) -> i32
-    ensures { Measures (λ n. pos n) format.now numbers.now len.old len.new result }
+    ensures { MeasuresColumn (number_text (λ n. pos n)) all_valid format.now numbers.now len.old len.new result }
 {
-    returned(columns::measure(format, numbers, len))
+    returned(columns::measure(format, numbers, &AllValid, len))
 }
 
-/// Parses the texts as [`num_format_parse_i8_column`] does.
+/// Parses a column as [`num_format_parse_i8_column`] does.
 #[unsafe(no_mangle)]
 pub extern "C" fn num_format_parse_u32_column(
     format: &NumFormat,
@@ -727,12 +1720,14 @@ pub extern "C" fn num_format_parse_u32_column(
     numbers: &mut [u32],
     statuses: &mut [i32],
 ) -> i32
-    ensures { ParsesColumn ParsesInto (kind_of U32) (λ n. pos n) (λ o. o) (2 ^ 31 - 1) format.now offsets.now bytes.now numbers.old numbers.new statuses.old statuses.new result }
+    ensures { ParsesColumn (number_row ParsesInto (kind_of U32) (λ n. pos n)) all_valid (λ o. o) (2 ^ 31 - 1) format.now offsets.now bytes.now numbers.old numbers.new statuses.old statuses.new result }
 {
-    returned(columns::parse::<Lenient, u32, u32>(format, offsets, bytes, numbers, statuses))
+    returned(columns::parse(
+        &Lenient, format, offsets, bytes, numbers, &AllValid, statuses,
+    ))
 }
 
-/// Parses the texts as [`num_format_parse_i8_column`] does.
+/// Parses a column as [`num_format_parse_i8_column`] does.
 #[unsafe(no_mangle)]
 pub extern "C" fn num_format_parse_u32_large_column(
     format: &NumFormat,
@@ -741,12 +1736,14 @@ pub extern "C" fn num_format_parse_u32_large_column(
     numbers: &mut [u32],
     statuses: &mut [i32],
 ) -> i32
-    ensures { ParsesColumn ParsesInto (kind_of U32) (λ n. pos n) (λ o. o) (2 ^ 63 - 1) format.now offsets.now bytes.now numbers.old numbers.new statuses.old statuses.new result }
+    ensures { ParsesColumn (number_row ParsesInto (kind_of U32) (λ n. pos n)) all_valid (λ o. o) (2 ^ 63 - 1) format.now offsets.now bytes.now numbers.old numbers.new statuses.old statuses.new result }
 {
-    returned(columns::parse::<Lenient, u32, u64>(format, offsets, bytes, numbers, statuses))
+    returned(columns::parse(
+        &Lenient, format, offsets, bytes, numbers, &AllValid, statuses,
+    ))
 }
 
-/// Parses the texts as [`num_format_parse_strict_i8_column`] does.
+/// Parses a column as [`num_format_parse_strict_i8_column`] does.
 #[unsafe(no_mangle)]
 pub extern "C" fn num_format_parse_strict_u32_column(
     format: &NumFormat,
@@ -755,12 +1752,14 @@ pub extern "C" fn num_format_parse_strict_u32_column(
     numbers: &mut [u32],
     statuses: &mut [i32],
 ) -> i32
-    ensures { ParsesColumn ParsesRowExactly (kind_of U32) (λ n. pos n) (λ o. o) (2 ^ 31 - 1) format.now offsets.now bytes.now numbers.old numbers.new statuses.old statuses.new result }
+    ensures { ParsesColumn (number_row ParsesRowExactly (kind_of U32) (λ n. pos n)) all_valid (λ o. o) (2 ^ 31 - 1) format.now offsets.now bytes.now numbers.old numbers.new statuses.old statuses.new result }
 {
-    returned(columns::parse::<Strict, u32, u32>(format, offsets, bytes, numbers, statuses))
+    returned(columns::parse(
+        &Strict, format, offsets, bytes, numbers, &AllValid, statuses,
+    ))
 }
 
-/// Parses the texts as [`num_format_parse_strict_i8_column`] does.
+/// Parses a column as [`num_format_parse_strict_i8_column`] does.
 #[unsafe(no_mangle)]
 pub extern "C" fn num_format_parse_strict_u32_large_column(
     format: &NumFormat,
@@ -769,12 +1768,147 @@ pub extern "C" fn num_format_parse_strict_u32_large_column(
     numbers: &mut [u32],
     statuses: &mut [i32],
 ) -> i32
-    ensures { ParsesColumn ParsesRowExactly (kind_of U32) (λ n. pos n) (λ o. o) (2 ^ 63 - 1) format.now offsets.now bytes.now numbers.old numbers.new statuses.old statuses.new result }
+    ensures { ParsesColumn (number_row ParsesRowExactly (kind_of U32) (λ n. pos n)) all_valid (λ o. o) (2 ^ 63 - 1) format.now offsets.now bytes.now numbers.old numbers.new statuses.old statuses.new result }
 {
-    returned(columns::parse::<Strict, u32, u64>(format, offsets, bytes, numbers, statuses))
+    returned(columns::parse(
+        &Strict, format, offsets, bytes, numbers, &AllValid, statuses,
+    ))
 }
 
-/// Prints the numbers as [`num_format_print_i8_column`] does.
+/// Prints a column as [`num_format_print_nullable_i8_column`] does.
+#[unsafe(no_mangle)]
+pub extern "C" fn num_format_print_nullable_u32_column(
+    format: &NumFormat,
+    numbers: &[u32],
+    validity: &[u8],
+    offsets: &mut [u32],
+    bytes: &mut [u8],
+) -> i32
+    ensures { PrintsColumn (number_text (λ n. pos n)) (by_bits validity.now) (λ o. o) (2 ^ 31 - 1) format.now numbers.now offsets.old offsets.new bytes.old bytes.new result }
+{
+    returned(columns::print(format, numbers, &Bitmap::new(validity), offsets, bytes))
+}
+
+/// Prints a column as [`num_format_print_nullable_i8_column`] does.
+#[unsafe(no_mangle)]
+pub extern "C" fn num_format_print_nullable_u32_large_column(
+    format: &NumFormat,
+    numbers: &[u32],
+    validity: &[u8],
+    offsets: &mut [u64],
+    bytes: &mut [u8],
+) -> i32
+    ensures { PrintsColumn (number_text (λ n. pos n)) (by_bits validity.now) (λ o. o) (2 ^ 63 - 1) format.now numbers.now offsets.old offsets.new bytes.old bytes.new result }
+{
+    returned(columns::print(format, numbers, &Bitmap::new(validity), offsets, bytes))
+}
+
+/// Measures a column as [`num_format_print_nullable_i8_column_len`] does.
+#[unsafe(no_mangle)]
+pub extern "C" fn num_format_print_nullable_u32_column_len(
+    format: &NumFormat,
+    numbers: &[u32],
+    validity: &[u8],
+    len: &mut usize,
+) -> i32
+    ensures { MeasuresColumn (number_text (λ n. pos n)) (by_bits validity.now) format.now numbers.now len.old len.new result }
+{
+    returned(columns::measure(format, numbers, &Bitmap::new(validity), len))
+}
+
+/// Parses a column as [`num_format_parse_nullable_i8_column`] does.
+#[unsafe(no_mangle)]
+pub extern "C" fn num_format_parse_nullable_u32_column(
+    format: &NumFormat,
+    offsets: &[u32],
+    bytes: &[u8],
+    numbers: &mut [u32],
+    validity: &[u8],
+    statuses: &mut [i32],
+) -> i32
+    ensures { ParsesColumn (number_row ParsesInto (kind_of U32) (λ n. pos n)) (by_bits validity.now) (λ o. o) (2 ^ 31 - 1) format.now offsets.now bytes.now numbers.old numbers.new statuses.old statuses.new result }
+{
+    returned(columns::parse(
+        &Lenient,
+        format,
+        offsets,
+        bytes,
+        numbers,
+        &Bitmap::new(validity),
+        statuses,
+    ))
+}
+
+/// Parses a column as [`num_format_parse_nullable_i8_column`] does.
+#[unsafe(no_mangle)]
+pub extern "C" fn num_format_parse_nullable_u32_large_column(
+    format: &NumFormat,
+    offsets: &[u64],
+    bytes: &[u8],
+    numbers: &mut [u32],
+    validity: &[u8],
+    statuses: &mut [i32],
+) -> i32
+    ensures { ParsesColumn (number_row ParsesInto (kind_of U32) (λ n. pos n)) (by_bits validity.now) (λ o. o) (2 ^ 63 - 1) format.now offsets.now bytes.now numbers.old numbers.new statuses.old statuses.new result }
+{
+    returned(columns::parse(
+        &Lenient,
+        format,
+        offsets,
+        bytes,
+        numbers,
+        &Bitmap::new(validity),
+        statuses,
+    ))
+}
+
+/// Parses a column as [`num_format_parse_strict_nullable_i8_column`] does.
+#[unsafe(no_mangle)]
+pub extern "C" fn num_format_parse_strict_nullable_u32_column(
+    format: &NumFormat,
+    offsets: &[u32],
+    bytes: &[u8],
+    numbers: &mut [u32],
+    validity: &[u8],
+    statuses: &mut [i32],
+) -> i32
+    ensures { ParsesColumn (number_row ParsesRowExactly (kind_of U32) (λ n. pos n)) (by_bits validity.now) (λ o. o) (2 ^ 31 - 1) format.now offsets.now bytes.now numbers.old numbers.new statuses.old statuses.new result }
+{
+    returned(columns::parse(
+        &Strict,
+        format,
+        offsets,
+        bytes,
+        numbers,
+        &Bitmap::new(validity),
+        statuses,
+    ))
+}
+
+/// Parses a column as [`num_format_parse_strict_nullable_i8_column`] does.
+#[unsafe(no_mangle)]
+pub extern "C" fn num_format_parse_strict_nullable_u32_large_column(
+    format: &NumFormat,
+    offsets: &[u64],
+    bytes: &[u8],
+    numbers: &mut [u32],
+    validity: &[u8],
+    statuses: &mut [i32],
+) -> i32
+    ensures { ParsesColumn (number_row ParsesRowExactly (kind_of U32) (λ n. pos n)) (by_bits validity.now) (λ o. o) (2 ^ 63 - 1) format.now offsets.now bytes.now numbers.old numbers.new statuses.old statuses.new result }
+{
+    returned(columns::parse(
+        &Strict,
+        format,
+        offsets,
+        bytes,
+        numbers,
+        &Bitmap::new(validity),
+        statuses,
+    ))
+}
+
+/// Prints a column as [`num_format_print_i8_column`] does.
 #[unsafe(no_mangle)]
 pub extern "C" fn num_format_print_u64_column(
     format: &NumFormat,
@@ -782,12 +1916,12 @@ pub extern "C" fn num_format_print_u64_column(
     offsets: &mut [u32],
     bytes: &mut [u8],
 ) -> i32
-    ensures { PrintsColumn (λ n. pos n) (λ o. o) (2 ^ 31 - 1) format.now numbers.now offsets.old offsets.new bytes.old bytes.new result }
+    ensures { PrintsColumn (number_text (λ n. pos n)) all_valid (λ o. o) (2 ^ 31 - 1) format.now numbers.now offsets.old offsets.new bytes.old bytes.new result }
 {
-    returned(columns::print(format, numbers, offsets, bytes))
+    returned(columns::print(format, numbers, &AllValid, offsets, bytes))
 }
 
-/// Prints the numbers as [`num_format_print_i8_column`] does.
+/// Prints a column as [`num_format_print_i8_column`] does.
 #[unsafe(no_mangle)]
 pub extern "C" fn num_format_print_u64_large_column(
     format: &NumFormat,
@@ -795,24 +1929,24 @@ pub extern "C" fn num_format_print_u64_large_column(
     offsets: &mut [u64],
     bytes: &mut [u8],
 ) -> i32
-    ensures { PrintsColumn (λ n. pos n) (λ o. o) (2 ^ 63 - 1) format.now numbers.now offsets.old offsets.new bytes.old bytes.new result }
+    ensures { PrintsColumn (number_text (λ n. pos n)) all_valid (λ o. o) (2 ^ 63 - 1) format.now numbers.now offsets.old offsets.new bytes.old bytes.new result }
 {
-    returned(columns::print(format, numbers, offsets, bytes))
+    returned(columns::print(format, numbers, &AllValid, offsets, bytes))
 }
 
-/// Writes how many bytes the texts of the numbers have, as [`num_format_print_i8_column_len`] does.
+/// Measures a column as [`num_format_print_i8_column_len`] does.
 #[unsafe(no_mangle)]
 pub extern "C" fn num_format_print_u64_column_len(
     format: &NumFormat,
     numbers: &[u64],
     len: &mut usize,
 ) -> i32
-    ensures { Measures (λ n. pos n) format.now numbers.now len.old len.new result }
+    ensures { MeasuresColumn (number_text (λ n. pos n)) all_valid format.now numbers.now len.old len.new result }
 {
-    returned(columns::measure(format, numbers, len))
+    returned(columns::measure(format, numbers, &AllValid, len))
 }
 
-/// Parses the texts as [`num_format_parse_i8_column`] does.
+/// Parses a column as [`num_format_parse_i8_column`] does.
 #[unsafe(no_mangle)]
 pub extern "C" fn num_format_parse_u64_column(
     format: &NumFormat,
@@ -821,12 +1955,14 @@ pub extern "C" fn num_format_parse_u64_column(
     numbers: &mut [u64],
     statuses: &mut [i32],
 ) -> i32
-    ensures { ParsesColumn ParsesInto (kind_of U64) (λ n. pos n) (λ o. o) (2 ^ 31 - 1) format.now offsets.now bytes.now numbers.old numbers.new statuses.old statuses.new result }
+    ensures { ParsesColumn (number_row ParsesInto (kind_of U64) (λ n. pos n)) all_valid (λ o. o) (2 ^ 31 - 1) format.now offsets.now bytes.now numbers.old numbers.new statuses.old statuses.new result }
 {
-    returned(columns::parse::<Lenient, u64, u32>(format, offsets, bytes, numbers, statuses))
+    returned(columns::parse(
+        &Lenient, format, offsets, bytes, numbers, &AllValid, statuses,
+    ))
 }
 
-/// Parses the texts as [`num_format_parse_i8_column`] does.
+/// Parses a column as [`num_format_parse_i8_column`] does.
 #[unsafe(no_mangle)]
 pub extern "C" fn num_format_parse_u64_large_column(
     format: &NumFormat,
@@ -835,12 +1971,14 @@ pub extern "C" fn num_format_parse_u64_large_column(
     numbers: &mut [u64],
     statuses: &mut [i32],
 ) -> i32
-    ensures { ParsesColumn ParsesInto (kind_of U64) (λ n. pos n) (λ o. o) (2 ^ 63 - 1) format.now offsets.now bytes.now numbers.old numbers.new statuses.old statuses.new result }
+    ensures { ParsesColumn (number_row ParsesInto (kind_of U64) (λ n. pos n)) all_valid (λ o. o) (2 ^ 63 - 1) format.now offsets.now bytes.now numbers.old numbers.new statuses.old statuses.new result }
 {
-    returned(columns::parse::<Lenient, u64, u64>(format, offsets, bytes, numbers, statuses))
+    returned(columns::parse(
+        &Lenient, format, offsets, bytes, numbers, &AllValid, statuses,
+    ))
 }
 
-/// Parses the texts as [`num_format_parse_strict_i8_column`] does.
+/// Parses a column as [`num_format_parse_strict_i8_column`] does.
 #[unsafe(no_mangle)]
 pub extern "C" fn num_format_parse_strict_u64_column(
     format: &NumFormat,
@@ -849,12 +1987,14 @@ pub extern "C" fn num_format_parse_strict_u64_column(
     numbers: &mut [u64],
     statuses: &mut [i32],
 ) -> i32
-    ensures { ParsesColumn ParsesRowExactly (kind_of U64) (λ n. pos n) (λ o. o) (2 ^ 31 - 1) format.now offsets.now bytes.now numbers.old numbers.new statuses.old statuses.new result }
+    ensures { ParsesColumn (number_row ParsesRowExactly (kind_of U64) (λ n. pos n)) all_valid (λ o. o) (2 ^ 31 - 1) format.now offsets.now bytes.now numbers.old numbers.new statuses.old statuses.new result }
 {
-    returned(columns::parse::<Strict, u64, u32>(format, offsets, bytes, numbers, statuses))
+    returned(columns::parse(
+        &Strict, format, offsets, bytes, numbers, &AllValid, statuses,
+    ))
 }
 
-/// Parses the texts as [`num_format_parse_strict_i8_column`] does.
+/// Parses a column as [`num_format_parse_strict_i8_column`] does.
 #[unsafe(no_mangle)]
 pub extern "C" fn num_format_parse_strict_u64_large_column(
     format: &NumFormat,
@@ -863,12 +2003,147 @@ pub extern "C" fn num_format_parse_strict_u64_large_column(
     numbers: &mut [u64],
     statuses: &mut [i32],
 ) -> i32
-    ensures { ParsesColumn ParsesRowExactly (kind_of U64) (λ n. pos n) (λ o. o) (2 ^ 63 - 1) format.now offsets.now bytes.now numbers.old numbers.new statuses.old statuses.new result }
+    ensures { ParsesColumn (number_row ParsesRowExactly (kind_of U64) (λ n. pos n)) all_valid (λ o. o) (2 ^ 63 - 1) format.now offsets.now bytes.now numbers.old numbers.new statuses.old statuses.new result }
 {
-    returned(columns::parse::<Strict, u64, u64>(format, offsets, bytes, numbers, statuses))
+    returned(columns::parse(
+        &Strict, format, offsets, bytes, numbers, &AllValid, statuses,
+    ))
 }
 
-/// Prints the numbers as [`num_format_print_i8_column`] does.
+/// Prints a column as [`num_format_print_nullable_i8_column`] does.
+#[unsafe(no_mangle)]
+pub extern "C" fn num_format_print_nullable_u64_column(
+    format: &NumFormat,
+    numbers: &[u64],
+    validity: &[u8],
+    offsets: &mut [u32],
+    bytes: &mut [u8],
+) -> i32
+    ensures { PrintsColumn (number_text (λ n. pos n)) (by_bits validity.now) (λ o. o) (2 ^ 31 - 1) format.now numbers.now offsets.old offsets.new bytes.old bytes.new result }
+{
+    returned(columns::print(format, numbers, &Bitmap::new(validity), offsets, bytes))
+}
+
+/// Prints a column as [`num_format_print_nullable_i8_column`] does.
+#[unsafe(no_mangle)]
+pub extern "C" fn num_format_print_nullable_u64_large_column(
+    format: &NumFormat,
+    numbers: &[u64],
+    validity: &[u8],
+    offsets: &mut [u64],
+    bytes: &mut [u8],
+) -> i32
+    ensures { PrintsColumn (number_text (λ n. pos n)) (by_bits validity.now) (λ o. o) (2 ^ 63 - 1) format.now numbers.now offsets.old offsets.new bytes.old bytes.new result }
+{
+    returned(columns::print(format, numbers, &Bitmap::new(validity), offsets, bytes))
+}
+
+/// Measures a column as [`num_format_print_nullable_i8_column_len`] does.
+#[unsafe(no_mangle)]
+pub extern "C" fn num_format_print_nullable_u64_column_len(
+    format: &NumFormat,
+    numbers: &[u64],
+    validity: &[u8],
+    len: &mut usize,
+) -> i32
+    ensures { MeasuresColumn (number_text (λ n. pos n)) (by_bits validity.now) format.now numbers.now len.old len.new result }
+{
+    returned(columns::measure(format, numbers, &Bitmap::new(validity), len))
+}
+
+/// Parses a column as [`num_format_parse_nullable_i8_column`] does.
+#[unsafe(no_mangle)]
+pub extern "C" fn num_format_parse_nullable_u64_column(
+    format: &NumFormat,
+    offsets: &[u32],
+    bytes: &[u8],
+    numbers: &mut [u64],
+    validity: &[u8],
+    statuses: &mut [i32],
+) -> i32
+    ensures { ParsesColumn (number_row ParsesInto (kind_of U64) (λ n. pos n)) (by_bits validity.now) (λ o. o) (2 ^ 31 - 1) format.now offsets.now bytes.now numbers.old numbers.new statuses.old statuses.new result }
+{
+    returned(columns::parse(
+        &Lenient,
+        format,
+        offsets,
+        bytes,
+        numbers,
+        &Bitmap::new(validity),
+        statuses,
+    ))
+}
+
+/// Parses a column as [`num_format_parse_nullable_i8_column`] does.
+#[unsafe(no_mangle)]
+pub extern "C" fn num_format_parse_nullable_u64_large_column(
+    format: &NumFormat,
+    offsets: &[u64],
+    bytes: &[u8],
+    numbers: &mut [u64],
+    validity: &[u8],
+    statuses: &mut [i32],
+) -> i32
+    ensures { ParsesColumn (number_row ParsesInto (kind_of U64) (λ n. pos n)) (by_bits validity.now) (λ o. o) (2 ^ 63 - 1) format.now offsets.now bytes.now numbers.old numbers.new statuses.old statuses.new result }
+{
+    returned(columns::parse(
+        &Lenient,
+        format,
+        offsets,
+        bytes,
+        numbers,
+        &Bitmap::new(validity),
+        statuses,
+    ))
+}
+
+/// Parses a column as [`num_format_parse_strict_nullable_i8_column`] does.
+#[unsafe(no_mangle)]
+pub extern "C" fn num_format_parse_strict_nullable_u64_column(
+    format: &NumFormat,
+    offsets: &[u32],
+    bytes: &[u8],
+    numbers: &mut [u64],
+    validity: &[u8],
+    statuses: &mut [i32],
+) -> i32
+    ensures { ParsesColumn (number_row ParsesRowExactly (kind_of U64) (λ n. pos n)) (by_bits validity.now) (λ o. o) (2 ^ 31 - 1) format.now offsets.now bytes.now numbers.old numbers.new statuses.old statuses.new result }
+{
+    returned(columns::parse(
+        &Strict,
+        format,
+        offsets,
+        bytes,
+        numbers,
+        &Bitmap::new(validity),
+        statuses,
+    ))
+}
+
+/// Parses a column as [`num_format_parse_strict_nullable_i8_column`] does.
+#[unsafe(no_mangle)]
+pub extern "C" fn num_format_parse_strict_nullable_u64_large_column(
+    format: &NumFormat,
+    offsets: &[u64],
+    bytes: &[u8],
+    numbers: &mut [u64],
+    validity: &[u8],
+    statuses: &mut [i32],
+) -> i32
+    ensures { ParsesColumn (number_row ParsesRowExactly (kind_of U64) (λ n. pos n)) (by_bits validity.now) (λ o. o) (2 ^ 63 - 1) format.now offsets.now bytes.now numbers.old numbers.new statuses.old statuses.new result }
+{
+    returned(columns::parse(
+        &Strict,
+        format,
+        offsets,
+        bytes,
+        numbers,
+        &Bitmap::new(validity),
+        statuses,
+    ))
+}
+
+/// Prints a column as [`num_format_print_i8_column`] does.
 #[unsafe(no_mangle)]
 pub extern "C" fn num_format_print_u128_column(
     format: &NumFormat,
@@ -876,12 +2151,12 @@ pub extern "C" fn num_format_print_u128_column(
     offsets: &mut [u32],
     bytes: &mut [u8],
 ) -> i32
-    ensures { PrintsColumn unsigned_value (λ o. o) (2 ^ 31 - 1) format.now numbers.now offsets.old offsets.new bytes.old bytes.new result }
+    ensures { PrintsColumn (number_text unsigned_value) all_valid (λ o. o) (2 ^ 31 - 1) format.now numbers.now offsets.old offsets.new bytes.old bytes.new result }
 {
-    returned(columns::print(format, numbers, offsets, bytes))
+    returned(columns::print(format, numbers, &AllValid, offsets, bytes))
 }
 
-/// Prints the numbers as [`num_format_print_i8_column`] does.
+/// Prints a column as [`num_format_print_i8_column`] does.
 #[unsafe(no_mangle)]
 pub extern "C" fn num_format_print_u128_large_column(
     format: &NumFormat,
@@ -889,24 +2164,24 @@ pub extern "C" fn num_format_print_u128_large_column(
     offsets: &mut [u64],
     bytes: &mut [u8],
 ) -> i32
-    ensures { PrintsColumn unsigned_value (λ o. o) (2 ^ 63 - 1) format.now numbers.now offsets.old offsets.new bytes.old bytes.new result }
+    ensures { PrintsColumn (number_text unsigned_value) all_valid (λ o. o) (2 ^ 63 - 1) format.now numbers.now offsets.old offsets.new bytes.old bytes.new result }
 {
-    returned(columns::print(format, numbers, offsets, bytes))
+    returned(columns::print(format, numbers, &AllValid, offsets, bytes))
 }
 
-/// Writes how many bytes the texts of the numbers have, as [`num_format_print_i8_column_len`] does.
+/// Measures a column as [`num_format_print_i8_column_len`] does.
 #[unsafe(no_mangle)]
 pub extern "C" fn num_format_print_u128_column_len(
     format: &NumFormat,
     numbers: &[UnsignedWide],
     len: &mut usize,
 ) -> i32
-    ensures { Measures unsigned_value format.now numbers.now len.old len.new result }
+    ensures { MeasuresColumn (number_text unsigned_value) all_valid format.now numbers.now len.old len.new result }
 {
-    returned(columns::measure(format, numbers, len))
+    returned(columns::measure(format, numbers, &AllValid, len))
 }
 
-/// Parses the texts as [`num_format_parse_i8_column`] does.
+/// Parses a column as [`num_format_parse_i8_column`] does.
 #[unsafe(no_mangle)]
 pub extern "C" fn num_format_parse_u128_column(
     format: &NumFormat,
@@ -915,14 +2190,14 @@ pub extern "C" fn num_format_parse_u128_column(
     numbers: &mut [UnsignedWide],
     statuses: &mut [i32],
 ) -> i32
-    ensures { ParsesColumn ParsesInto (kind_of U128) unsigned_value (λ o. o) (2 ^ 31 - 1) format.now offsets.now bytes.now numbers.old numbers.new statuses.old statuses.new result }
+    ensures { ParsesColumn (number_row ParsesInto (kind_of U128) unsigned_value) all_valid (λ o. o) (2 ^ 31 - 1) format.now offsets.now bytes.now numbers.old numbers.new statuses.old statuses.new result }
 {
-    returned(columns::parse::<Lenient, UnsignedWide, u32>(
-        format, offsets, bytes, numbers, statuses,
+    returned(columns::parse(
+        &Lenient, format, offsets, bytes, numbers, &AllValid, statuses,
     ))
 }
 
-/// Parses the texts as [`num_format_parse_i8_column`] does.
+/// Parses a column as [`num_format_parse_i8_column`] does.
 #[unsafe(no_mangle)]
 pub extern "C" fn num_format_parse_u128_large_column(
     format: &NumFormat,
@@ -931,14 +2206,14 @@ pub extern "C" fn num_format_parse_u128_large_column(
     numbers: &mut [UnsignedWide],
     statuses: &mut [i32],
 ) -> i32
-    ensures { ParsesColumn ParsesInto (kind_of U128) unsigned_value (λ o. o) (2 ^ 63 - 1) format.now offsets.now bytes.now numbers.old numbers.new statuses.old statuses.new result }
+    ensures { ParsesColumn (number_row ParsesInto (kind_of U128) unsigned_value) all_valid (λ o. o) (2 ^ 63 - 1) format.now offsets.now bytes.now numbers.old numbers.new statuses.old statuses.new result }
 {
-    returned(columns::parse::<Lenient, UnsignedWide, u64>(
-        format, offsets, bytes, numbers, statuses,
+    returned(columns::parse(
+        &Lenient, format, offsets, bytes, numbers, &AllValid, statuses,
     ))
 }
 
-/// Parses the texts as [`num_format_parse_strict_i8_column`] does.
+/// Parses a column as [`num_format_parse_strict_i8_column`] does.
 #[unsafe(no_mangle)]
 pub extern "C" fn num_format_parse_strict_u128_column(
     format: &NumFormat,
@@ -947,12 +2222,14 @@ pub extern "C" fn num_format_parse_strict_u128_column(
     numbers: &mut [UnsignedWide],
     statuses: &mut [i32],
 ) -> i32
-    ensures { ParsesColumn ParsesRowExactly (kind_of U128) unsigned_value (λ o. o) (2 ^ 31 - 1) format.now offsets.now bytes.now numbers.old numbers.new statuses.old statuses.new result }
+    ensures { ParsesColumn (number_row ParsesRowExactly (kind_of U128) unsigned_value) all_valid (λ o. o) (2 ^ 31 - 1) format.now offsets.now bytes.now numbers.old numbers.new statuses.old statuses.new result }
 {
-    returned(columns::parse::<Strict, UnsignedWide, u32>(format, offsets, bytes, numbers, statuses))
+    returned(columns::parse(
+        &Strict, format, offsets, bytes, numbers, &AllValid, statuses,
+    ))
 }
 
-/// Parses the texts as [`num_format_parse_strict_i8_column`] does.
+/// Parses a column as [`num_format_parse_strict_i8_column`] does.
 #[unsafe(no_mangle)]
 pub extern "C" fn num_format_parse_strict_u128_large_column(
     format: &NumFormat,
@@ -961,7 +2238,308 @@ pub extern "C" fn num_format_parse_strict_u128_large_column(
     numbers: &mut [UnsignedWide],
     statuses: &mut [i32],
 ) -> i32
-    ensures { ParsesColumn ParsesRowExactly (kind_of U128) unsigned_value (λ o. o) (2 ^ 63 - 1) format.now offsets.now bytes.now numbers.old numbers.new statuses.old statuses.new result }
+    ensures { ParsesColumn (number_row ParsesRowExactly (kind_of U128) unsigned_value) all_valid (λ o. o) (2 ^ 63 - 1) format.now offsets.now bytes.now numbers.old numbers.new statuses.old statuses.new result }
 {
-    returned(columns::parse::<Strict, UnsignedWide, u64>(format, offsets, bytes, numbers, statuses))
+    returned(columns::parse(
+        &Strict, format, offsets, bytes, numbers, &AllValid, statuses,
+    ))
+}
+
+/// Prints a column as [`num_format_print_nullable_i8_column`] does.
+#[unsafe(no_mangle)]
+pub extern "C" fn num_format_print_nullable_u128_column(
+    format: &NumFormat,
+    numbers: &[UnsignedWide],
+    validity: &[u8],
+    offsets: &mut [u32],
+    bytes: &mut [u8],
+) -> i32
+    ensures { PrintsColumn (number_text unsigned_value) (by_bits validity.now) (λ o. o) (2 ^ 31 - 1) format.now numbers.now offsets.old offsets.new bytes.old bytes.new result }
+{
+    returned(columns::print(format, numbers, &Bitmap::new(validity), offsets, bytes))
+}
+
+/// Prints a column as [`num_format_print_nullable_i8_column`] does.
+#[unsafe(no_mangle)]
+pub extern "C" fn num_format_print_nullable_u128_large_column(
+    format: &NumFormat,
+    numbers: &[UnsignedWide],
+    validity: &[u8],
+    offsets: &mut [u64],
+    bytes: &mut [u8],
+) -> i32
+    ensures { PrintsColumn (number_text unsigned_value) (by_bits validity.now) (λ o. o) (2 ^ 63 - 1) format.now numbers.now offsets.old offsets.new bytes.old bytes.new result }
+{
+    returned(columns::print(format, numbers, &Bitmap::new(validity), offsets, bytes))
+}
+
+/// Measures a column as [`num_format_print_nullable_i8_column_len`] does.
+#[unsafe(no_mangle)]
+pub extern "C" fn num_format_print_nullable_u128_column_len(
+    format: &NumFormat,
+    numbers: &[UnsignedWide],
+    validity: &[u8],
+    len: &mut usize,
+) -> i32
+    ensures { MeasuresColumn (number_text unsigned_value) (by_bits validity.now) format.now numbers.now len.old len.new result }
+{
+    returned(columns::measure(format, numbers, &Bitmap::new(validity), len))
+}
+
+/// Parses a column as [`num_format_parse_nullable_i8_column`] does.
+#[unsafe(no_mangle)]
+pub extern "C" fn num_format_parse_nullable_u128_column(
+    format: &NumFormat,
+    offsets: &[u32],
+    bytes: &[u8],
+    numbers: &mut [UnsignedWide],
+    validity: &[u8],
+    statuses: &mut [i32],
+) -> i32
+    ensures { ParsesColumn (number_row ParsesInto (kind_of U128) unsigned_value) (by_bits validity.now) (λ o. o) (2 ^ 31 - 1) format.now offsets.now bytes.now numbers.old numbers.new statuses.old statuses.new result }
+{
+    returned(columns::parse(
+        &Lenient,
+        format,
+        offsets,
+        bytes,
+        numbers,
+        &Bitmap::new(validity),
+        statuses,
+    ))
+}
+
+/// Parses a column as [`num_format_parse_nullable_i8_column`] does.
+#[unsafe(no_mangle)]
+pub extern "C" fn num_format_parse_nullable_u128_large_column(
+    format: &NumFormat,
+    offsets: &[u64],
+    bytes: &[u8],
+    numbers: &mut [UnsignedWide],
+    validity: &[u8],
+    statuses: &mut [i32],
+) -> i32
+    ensures { ParsesColumn (number_row ParsesInto (kind_of U128) unsigned_value) (by_bits validity.now) (λ o. o) (2 ^ 63 - 1) format.now offsets.now bytes.now numbers.old numbers.new statuses.old statuses.new result }
+{
+    returned(columns::parse(
+        &Lenient,
+        format,
+        offsets,
+        bytes,
+        numbers,
+        &Bitmap::new(validity),
+        statuses,
+    ))
+}
+
+/// Parses a column as [`num_format_parse_strict_nullable_i8_column`] does.
+#[unsafe(no_mangle)]
+pub extern "C" fn num_format_parse_strict_nullable_u128_column(
+    format: &NumFormat,
+    offsets: &[u32],
+    bytes: &[u8],
+    numbers: &mut [UnsignedWide],
+    validity: &[u8],
+    statuses: &mut [i32],
+) -> i32
+    ensures { ParsesColumn (number_row ParsesRowExactly (kind_of U128) unsigned_value) (by_bits validity.now) (λ o. o) (2 ^ 31 - 1) format.now offsets.now bytes.now numbers.old numbers.new statuses.old statuses.new result }
+{
+    returned(columns::parse(
+        &Strict,
+        format,
+        offsets,
+        bytes,
+        numbers,
+        &Bitmap::new(validity),
+        statuses,
+    ))
+}
+
+/// Parses a column as [`num_format_parse_strict_nullable_i8_column`] does.
+#[unsafe(no_mangle)]
+pub extern "C" fn num_format_parse_strict_nullable_u128_large_column(
+    format: &NumFormat,
+    offsets: &[u64],
+    bytes: &[u8],
+    numbers: &mut [UnsignedWide],
+    validity: &[u8],
+    statuses: &mut [i32],
+) -> i32
+    ensures { ParsesColumn (number_row ParsesRowExactly (kind_of U128) unsigned_value) (by_bits validity.now) (λ o. o) (2 ^ 63 - 1) format.now offsets.now bytes.now numbers.old numbers.new statuses.old statuses.new result }
+{
+    returned(columns::parse(
+        &Strict,
+        format,
+        offsets,
+        bytes,
+        numbers,
+        &Bitmap::new(validity),
+        statuses,
+    ))
+}
+
+/// Prints the decimals with these units and this scale as [`num_format_print_i8_column`] does numbers. Its first
+/// error is a scale above 38.
+#[unsafe(no_mangle)]
+pub extern "C" fn num_format_print_decimal_column(
+    format: &NumFormat,
+    units: &[SignedWide],
+    scale: u32,
+    offsets: &mut [u32],
+    bytes: &mut [u8],
+) -> i32
+    ensures { PrintsDecimals scale all_valid (λ o. o) (2 ^ 31 - 1) format.now units.now offsets.old offsets.new bytes.old bytes.new result }
+{
+    returned(columns::print_decimals(format, units, scale, &AllValid, offsets, bytes))
+}
+
+/// Prints a column as [`num_format_print_i8_column`] does.
+#[unsafe(no_mangle)]
+pub extern "C" fn num_format_print_decimal_large_column(
+    format: &NumFormat,
+    units: &[SignedWide],
+    scale: u32,
+    offsets: &mut [u64],
+    bytes: &mut [u8],
+) -> i32
+    ensures { PrintsDecimals scale all_valid (λ o. o) (2 ^ 63 - 1) format.now units.now offsets.old offsets.new bytes.old bytes.new result }
+{
+    returned(columns::print_decimals(format, units, scale, &AllValid, offsets, bytes))
+}
+
+/// Writes how many bytes the texts of the decimals have, as [`num_format_print_i8_column_len`] does. Its first
+/// error is a scale above 38.
+#[unsafe(no_mangle)]
+pub extern "C" fn num_format_print_decimal_column_len(
+    format: &NumFormat,
+    units: &[SignedWide],
+    scale: u32,
+    len: &mut usize,
+) -> i32
+    ensures { MeasuresDecimals scale all_valid format.now units.now len.old len.new result }
+{
+    returned(columns::measure_decimals(format, units, scale, &AllValid, len))
+}
+
+/// Parses the texts strictly as decimals, writes their units at this scale, and else does as
+/// [`num_format_parse_i8_column`]. Its first error is a scale above 38.
+#[unsafe(no_mangle)]
+pub extern "C" fn num_format_parse_decimal_column(
+    format: &NumFormat,
+    offsets: &[u32],
+    bytes: &[u8],
+    units: &mut [SignedWide],
+    scale: u32,
+    statuses: &mut [i32],
+) -> i32
+    ensures { ParsesDecimals scale all_valid (λ o. o) (2 ^ 31 - 1) format.now offsets.now bytes.now units.old units.new statuses.old statuses.new result }
+{
+    returned(columns::parse_decimals(format, offsets, bytes, units, scale, &AllValid, statuses))
+}
+
+/// Parses a column as [`num_format_parse_i8_column`] does.
+#[unsafe(no_mangle)]
+pub extern "C" fn num_format_parse_decimal_large_column(
+    format: &NumFormat,
+    offsets: &[u64],
+    bytes: &[u8],
+    units: &mut [SignedWide],
+    scale: u32,
+    statuses: &mut [i32],
+) -> i32
+    ensures { ParsesDecimals scale all_valid (λ o. o) (2 ^ 63 - 1) format.now offsets.now bytes.now units.old units.new statuses.old statuses.new result }
+{
+    returned(columns::parse_decimals(format, offsets, bytes, units, scale, &AllValid, statuses))
+}
+
+/// Prints a column as [`num_format_print_nullable_i8_column`] does.
+#[unsafe(no_mangle)]
+pub extern "C" fn num_format_print_nullable_decimal_column(
+    format: &NumFormat,
+    units: &[SignedWide],
+    scale: u32,
+    validity: &[u8],
+    offsets: &mut [u32],
+    bytes: &mut [u8],
+) -> i32
+    ensures { PrintsDecimals scale (by_bits validity.now) (λ o. o) (2 ^ 31 - 1) format.now units.now offsets.old offsets.new bytes.old bytes.new result }
+{
+    returned(columns::print_decimals(format, units, scale, &Bitmap::new(validity), offsets, bytes))
+}
+
+/// Prints a column as [`num_format_print_nullable_i8_column`] does.
+#[unsafe(no_mangle)]
+pub extern "C" fn num_format_print_nullable_decimal_large_column(
+    format: &NumFormat,
+    units: &[SignedWide],
+    scale: u32,
+    validity: &[u8],
+    offsets: &mut [u64],
+    bytes: &mut [u8],
+) -> i32
+    ensures { PrintsDecimals scale (by_bits validity.now) (λ o. o) (2 ^ 63 - 1) format.now units.now offsets.old offsets.new bytes.old bytes.new result }
+{
+    returned(columns::print_decimals(format, units, scale, &Bitmap::new(validity), offsets, bytes))
+}
+
+/// Measures a column as [`num_format_print_nullable_i8_column_len`] does.
+#[unsafe(no_mangle)]
+pub extern "C" fn num_format_print_nullable_decimal_column_len(
+    format: &NumFormat,
+    units: &[SignedWide],
+    scale: u32,
+    validity: &[u8],
+    len: &mut usize,
+) -> i32
+    ensures { MeasuresDecimals scale (by_bits validity.now) format.now units.now len.old len.new result }
+{
+    returned(columns::measure_decimals(format, units, scale, &Bitmap::new(validity), len))
+}
+
+/// Parses a column as [`num_format_parse_nullable_i8_column`] does.
+#[unsafe(no_mangle)]
+pub extern "C" fn num_format_parse_nullable_decimal_column(
+    format: &NumFormat,
+    offsets: &[u32],
+    bytes: &[u8],
+    units: &mut [SignedWide],
+    scale: u32,
+    validity: &[u8],
+    statuses: &mut [i32],
+) -> i32
+    ensures { ParsesDecimals scale (by_bits validity.now) (λ o. o) (2 ^ 31 - 1) format.now offsets.now bytes.now units.old units.new statuses.old statuses.new result }
+{
+    returned(columns::parse_decimals(
+        format,
+        offsets,
+        bytes,
+        units,
+        scale,
+        &Bitmap::new(validity),
+        statuses,
+    ))
+}
+
+/// Parses a column as [`num_format_parse_nullable_i8_column`] does.
+#[unsafe(no_mangle)]
+pub extern "C" fn num_format_parse_nullable_decimal_large_column(
+    format: &NumFormat,
+    offsets: &[u64],
+    bytes: &[u8],
+    units: &mut [SignedWide],
+    scale: u32,
+    validity: &[u8],
+    statuses: &mut [i32],
+) -> i32
+    ensures { ParsesDecimals scale (by_bits validity.now) (λ o. o) (2 ^ 63 - 1) format.now offsets.now bytes.now units.old units.new statuses.old statuses.new result }
+{
+    returned(columns::parse_decimals(
+        format,
+        offsets,
+        bytes,
+        units,
+        scale,
+        &Bitmap::new(validity),
+        statuses,
+    ))
 }

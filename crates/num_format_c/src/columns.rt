@@ -1,35 +1,126 @@
 //! What the calls for columns do, with Rust's types.
-ghost use Rattle.std.specs.Prelude.{◌≡◌, ℕ, ◌+◌, ◌≤◌, min, ℤ, List, length};
-ghost use Rattle.num_format.specs.Kind.{Kind};
-ghost use Rattle.num_format_columns.specs.Columns.{AreOffsets, IsColumn, texts_of};
+ghost use Rattle.std.specs.Prelude.{◌≡◌, ◌+◌, ◌<◌, ◌≤◌, min, length, MatchOption};
+ghost use Rattle.num_format_columns.specs.Columns.{AreOffsets};
+ghost use Rattle.num_format_decimal.specs.declared.decimal.TheConstants.{MAX_SCALE};
 ghost use Rattle.num_format_c.specs.Calls.{ParsesInto, returned};
-ghost use Rattle.num_format_c.specs.Columns.{AreParsed, HasLengths, Measures, ParsesColumn, ParsesRowExactly, PrintsColumn, RowParser};
-ghost use Rattle.num_format_c.specs.declared.format.NumFormat.{NumFormat};
+ghost use Rattle.num_format_c.specs.Columns.{AreParsed, HasLengths, Measures, MeasuresColumn, MeasuresDecimals, ParsesAtScaleInto, ParsesColumn, ParsesDecimals, ParsesRow, ParsesRowExactly, PrintsColumn, PrintsDecimals, PrintsRows, RowParser, decimal_at, number_row, number_text};
 
 use crate::calls;
 use crate::format::{Held, NumFormat};
 use crate::status::Status;
+use crate::wide::{SignedWide, joined, split};
 use num_format::parsing::FromFormattedStr;
 use num_format::{Format, ToFormattedStr};
-use num_format_columns::{Offset, are_offsets, print_texts, texts_len};
+use num_format_columns::{
+    NumberPrinter, Offset, Printer, Validity, append, are_offsets, print_texts, texts_len,
+};
+use num_format_decimal::{Decimal, DecimalBuffer, MAX_SCALE};
 
 /// Prints the numbers into a column, and returns 0.
-pub fn print<N: ToFormattedStr, O: Offset>(
+pub fn print<N: ToFormattedStr, V: Validity, O: Offset>(
     format: &NumFormat,
     numbers: &[N],
+    validity: &V,
     offsets: &mut [O],
     bytes: &mut [u8],
 ) -> Result<i32, Status>
-    ensures { PrintsColumn N.value O.position O.LIMIT format.now numbers.now offsets.old offsets.new bytes.old bytes.new (returned result) }
+    ensures { PrintsColumn (number_text N.value) (V.rows validity.now) O.position O.LIMIT format.now numbers.now offsets.old offsets.new bytes.old bytes.new (returned result) }
 {
     let Some(format) = Held::new(format) else {
         return Err(Status::BadFormat);
     };
-    if offsets.is_empty() || offsets.len() - 1 != numbers.len() {
+    print_rows(
+        numbers,
+        &mut NumberPrinter::new(&format),
+        validity,
+        offsets,
+        bytes,
+    )
+}
+
+/// Prints the decimals with these units and this scale into a column, and returns 0.
+pub fn print_decimals<V: Validity, O: Offset>(
+    format: &NumFormat,
+    units: &[SignedWide],
+    scale: u32,
+    validity: &V,
+    offsets: &mut [O],
+    bytes: &mut [u8],
+) -> Result<i32, Status>
+    ensures { PrintsDecimals scale (V.rows validity.now) O.position O.LIMIT format.now units.now offsets.old offsets.new bytes.old bytes.new (returned result) }
+{
+    let Some(scale) = scale_of(scale) else {
+        return Err(Status::BadScale);
+    };
+    let Some(format) = Held::new(format) else {
+        return Err(Status::BadFormat);
+    };
+    let mut printer = DecimalPrinter {
+        format: &format,
+        scale,
+    };
+    print_rows(units, &mut printer, validity, offsets, bytes)
+}
+
+/// Returns the scale, or `None` if it is too large.
+fn scale_of(scale: u32) -> Option<u8>
+    ensures { MatchOption result (MAX_SCALE < scale) (λ s. (scale ≤ MAX_SCALE) × (s ≡ scale)) }
+{
+    if scale <= MAX_SCALE as u32 {
+        Some(scale as u8)
+    } else {
+        None
+    }
+}
+
+/// Prints decimals of one scale, whose units are in a column.
+#[derive(Drop)]
+struct DecimalPrinter<'a, F: Format> {
+    format: &'a F,
+    scale: u8,
+    ghost bound: { scale ≤ MAX_SCALE },
+}
+
+impl<'a, F: Format> DecimalPrinter<'a, F> {
+    /// Returns the text of the decimal with these units.
+    fn text(&self, units: &SignedWide) -> DecimalBuffer
+        ensures { result ≡ decimal_at self.now.scale (F.answers self.now.format.now) units.now }
+    {
+        let units = joined(units.low, units.high).cast_signed();
+        match Decimal::new(units, self.scale) {
+            Ok(number) => DecimalBuffer::of(&number, self.format),
+            Err(_) => unreachable!(),
+        }
+    }
+}
+
+impl<'a, F: Format> Printer<SignedWide> for DecimalPrinter<'a, F> {
+    ghost text = { λ p units. decimal_at p.scale (F.answers p.format.now) units };
+
+    fn text_len(&self, units: &SignedWide) -> usize {
+        self.text(units).as_str().len()
+    }
+
+    fn print(&mut self, units: &SignedWide, start: usize, bytes: &mut [u8]) -> usize {
+        append(self.text(units).as_bytes(), start, bytes)
+    }
+}
+
+/// Prints the values into a column, and returns 0.
+fn print_rows<T, P: Printer<T>, V: Validity, O: Offset>(
+    values: &[T],
+    printer: &mut P,
+    validity: &V,
+    offsets: &mut [O],
+    bytes: &mut [u8],
+) -> Result<i32, Status>
+    ensures { PrintsRows (P.text printer.old) (V.rows validity.now) O.position O.LIMIT values.now offsets.old offsets.new bytes.old bytes.new (returned result) }
+{
+    if offsets.is_empty() || offsets.len() - 1 != values.len() || !validity.covers(values.len()) {
         return Err(Status::BadLength);
     }
     let limit = O::LIMIT;
-    let Some(len) = texts_len(numbers, &format) else {
+    let Some(len) = texts_len(values, printer, validity) else {
         return Err(Status::TooManyBytes);
     };
     if len > limit {
@@ -38,22 +129,61 @@ pub fn print<N: ToFormattedStr, O: Offset>(
     if len > bytes.len() {
         return Err(Status::TooSmall);
     }
-    print_texts(numbers, &format, offsets, bytes);
+    print_texts(values, printer, validity, offsets, bytes);
     Ok(0)
 }
 
 /// Writes how many bytes the texts of the numbers have, and returns 0.
-pub fn measure<N: ToFormattedStr>(
+pub fn measure<N: ToFormattedStr, V: Validity>(
     format: &NumFormat,
     numbers: &[N],
+    validity: &V,
     len: &mut usize,
 ) -> Result<i32, Status>
-    ensures { Measures N.value format.now numbers.now len.old len.new (returned result) }
+    ensures { MeasuresColumn (number_text N.value) (V.rows validity.now) format.now numbers.now len.old len.new (returned result) }
 {
     let Some(format) = Held::new(format) else {
         return Err(Status::BadFormat);
     };
-    let Some(total) = texts_len(numbers, &format) else {
+    measure_rows(numbers, &NumberPrinter::new(&format), validity, len)
+}
+
+/// Writes how many bytes the texts of the decimals have, and returns 0.
+pub fn measure_decimals<V: Validity>(
+    format: &NumFormat,
+    units: &[SignedWide],
+    scale: u32,
+    validity: &V,
+    len: &mut usize,
+) -> Result<i32, Status>
+    ensures { MeasuresDecimals scale (V.rows validity.now) format.now units.now len.old len.new (returned result) }
+{
+    let Some(scale) = scale_of(scale) else {
+        return Err(Status::BadScale);
+    };
+    let Some(format) = Held::new(format) else {
+        return Err(Status::BadFormat);
+    };
+    let printer = DecimalPrinter {
+        format: &format,
+        scale,
+    };
+    measure_rows(units, &printer, validity, len)
+}
+
+/// Writes how many bytes the texts of the values have, and returns 0.
+fn measure_rows<T, P: Printer<T>, V: Validity>(
+    values: &[T],
+    printer: &P,
+    validity: &V,
+    len: &mut usize,
+) -> Result<i32, Status>
+    ensures { Measures (P.text printer.now) (V.rows validity.now) values.now len.old len.new (returned result) }
+{
+    if !validity.covers(values.len()) {
+        return Err(Status::BadLength);
+    }
+    let Some(total) = texts_len(values, printer, validity) else {
         return Err(Status::TooManyBytes);
     };
     *len = total;
@@ -61,25 +191,22 @@ pub fn measure<N: ToFormattedStr>(
 }
 
 /// How a row of a column is parsed.
-pub trait Parsing {
-    ghost Parses: { RowParser };
+pub trait Parsing<T> {
+    ghost Parses: { Self → RowParser T };
 
-    /// Parses the text, writes the number, and returns the status.
-    fn parse_row<N: FromFormattedStr + Copy>(format: &NumFormat, text: &[u8], number: &mut N) -> i32
-        ensures { Parses N.kind format.now text.now (N.value number.old) (N.value number.new) result };
+    /// Parses the text, writes the value, and returns the status.
+    fn parse_row(&self, format: &NumFormat, text: &[u8], value: &mut T) -> i32
+        ensures { Parses self.now format.now text.now value.old value.new result };
 }
 
 /// Parsing that ignores characters that are not numeric.
+#[derive(Drop)]
 pub struct Lenient;
 
-impl Parsing for Lenient {
-    ghost Parses = { ParsesInto };
+impl<N: FromFormattedStr + Copy> Parsing<N> for Lenient {
+    ghost Parses = { λ _. number_row ParsesInto N.kind N.value };
 
-    fn parse_row<N: FromFormattedStr + Copy>(
-        format: &NumFormat,
-        text: &[u8],
-        number: &mut N,
-    ) -> i32 {
+    fn parse_row(&self, format: &NumFormat, text: &[u8], number: &mut N) -> i32 {
         match calls::parse(format, text) {
             Ok(parsed) => {
                 *number = parsed;
@@ -91,16 +218,13 @@ impl Parsing for Lenient {
 }
 
 /// Parsing of texts that are exactly as numbers are printed.
+#[derive(Drop)]
 pub struct Strict;
 
-impl Parsing for Strict {
-    ghost Parses = { ParsesRowExactly };
+impl<N: FromFormattedStr + Copy> Parsing<N> for Strict {
+    ghost Parses = { λ _. number_row ParsesRowExactly N.kind N.value };
 
-    fn parse_row<N: FromFormattedStr + Copy>(
-        format: &NumFormat,
-        text: &[u8],
-        number: &mut N,
-    ) -> i32 {
+    fn parse_row(&self, format: &NumFormat, text: &[u8], number: &mut N) -> i32 {
         let mut at = 0;
         match calls::parse_strict(format, text, &mut at) {
             Ok(parsed) => {
@@ -112,43 +236,119 @@ impl Parsing for Strict {
     }
 }
 
-/// Parses the rows of a column, and returns 0.
-pub fn parse<P: Parsing, N: FromFormattedStr + Copy, O: Offset>(
+/// Parsing of texts that are exactly as decimals are printed, as decimals of one scale.
+#[derive(Drop)]
+struct AtScale {
+    scale: u8,
+}
+
+impl Parsing<SignedWide> for AtScale {
+    ghost Parses = { λ p. ParsesAtScaleInto p.scale };
+
+    fn parse_row(&self, format: &NumFormat, text: &[u8], units: &mut SignedWide) -> i32 {
+        match calls::parse_at_scale(format, text, self.scale) {
+            Ok(parsed) => {
+                split(
+                    parsed.units().cast_unsigned(),
+                    &mut units.low,
+                    &mut units.high,
+                );
+                0
+            }
+            Err(status) => status.code(),
+        }
+    }
+}
+
+/// Parses the rows of a column of decimals, and returns 0.
+pub fn parse_decimals<V: Validity, O: Offset>(
     format: &NumFormat,
     offsets: &[O],
     bytes: &[u8],
-    numbers: &mut [N],
+    units: &mut [SignedWide],
+    scale: u32,
+    validity: &V,
     statuses: &mut [i32],
 ) -> Result<i32, Status>
-    ensures { ParsesColumn P.Parses N.kind N.value O.position O.LIMIT format.now offsets.now bytes.now numbers.old numbers.new statuses.old statuses.new (returned result) }
+    ensures { ParsesDecimals scale (V.rows validity.now) O.position O.LIMIT format.now offsets.now bytes.now units.old units.new statuses.old statuses.new (returned result) }
+{
+    let Some(scale) = scale_of(scale) else {
+        return Err(Status::BadScale);
+    };
+    parse(
+        &AtScale { scale },
+        format,
+        offsets,
+        bytes,
+        units,
+        validity,
+        statuses,
+    )
+}
+
+/// Parses the rows of a column, and returns 0.
+pub fn parse<P: Parsing<T>, T: Copy, V: Validity, O: Offset>(
+    parsing: &P,
+    format: &NumFormat,
+    offsets: &[O],
+    bytes: &[u8],
+    values: &mut [T],
+    validity: &V,
+    statuses: &mut [i32],
+) -> Result<i32, Status>
+    ensures { ParsesColumn (P.Parses parsing.now) (V.rows validity.now) O.position O.LIMIT format.now offsets.now bytes.now values.old values.new statuses.old statuses.new (returned result) }
 {
     if Held::new(format).is_none() {
         return Err(Status::BadFormat);
     }
-    if offsets.is_empty() || offsets.len() - 1 != numbers.len() || statuses.len() != numbers.len() {
+    if offsets.is_empty()
+        || offsets.len() - 1 != values.len()
+        || statuses.len() != values.len()
+        || !validity.covers(values.len())
+    {
         return Err(Status::BadLength);
     }
     if !are_offsets(offsets, O::LIMIT.min(bytes.len())) {
         return Err(Status::BadOffsets);
     }
-    parse_rows::<P, N, O>(format, offsets, bytes, numbers, statuses);
+    parse_rows(parsing, format, offsets, bytes, values, validity, statuses);
     Ok(0)
 }
 
 /// Parses each row of a column.
-fn parse_rows<P: Parsing, N: FromFormattedStr + Copy, O: Offset>(
+fn parse_rows<P: Parsing<T>, T: Copy, V: Validity, O: Offset>(
+    parsing: &P,
     format: &NumFormat,
     offsets: &[O],
     bytes: &[u8],
-    numbers: &mut [N],
+    values: &mut [T],
+    validity: &V,
     statuses: &mut [i32],
 )
-    requires lengths { HasLengths (length numbers.old) (length offsets.now) (length statuses.old) }
+    requires lengths { HasLengths (V.rows validity.now) (length values.old) (length offsets.now) (length statuses.old) }
     requires offsets { AreOffsets O.position (min O.LIMIT (length bytes.now)) offsets.now }
-    ensures { AreParsed P.Parses N.kind N.value O.position format.now offsets.now bytes.now numbers.old numbers.new statuses.new (length numbers.old) }
+    ensures { AreParsed (P.Parses parsing.now) (V.rows validity.now) O.position format.now offsets.now bytes.now values.old values.new statuses.new (length values.old) }
 {
-    for k in 0..numbers.len() {
+    for k in 0..values.len() {
         let text = &bytes[offsets[k].get()..offsets[k + 1].get()];
-        statuses[k] = P::parse_row(format, text, &mut numbers[k]);
+        statuses[k] = parse_row(parsing, format, text, validity.is_valid(k), &mut values[k]);
+    }
+}
+
+/// Parses a row of a column, if it has a value, and returns its status, which is 0 if it has none.
+#[inline(always)]
+fn parse_row<P: Parsing<T>, T>(
+    parsing: &P,
+    format: &NumFormat,
+    text: &[u8],
+    is_valid: bool,
+    value: &mut T,
+) -> i32
+    ensures { ParsesRow (P.Parses parsing.now) is_valid format.now text.now value.old value.new result }
+{
+    if is_valid {
+        parsing.parse_row(format, text, value)
+    } else {
+        0
     }
 }

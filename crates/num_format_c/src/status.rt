@@ -39,6 +39,8 @@ pub enum Status {
     BadOffsets,
     /// The texts have more bytes than the last offset can say.
     TooManyBytes,
+    /// The text has digits other than zero that the scale has not.
+    DigitsLost,
 }
 
 impl Status {
@@ -64,6 +66,7 @@ impl Status {
             Status::BadLength => -15,
             Status::BadOffsets => -16,
             Status::TooManyBytes => -17,
+            Status::DigitsLost => -18,
         }
     }
 }

@@ -9,5 +9,5 @@ returns-then-not-are_offsets g c =
       bad_format = search rules;
       bad_length = search rules;
       bad_offsets = λ _ _ _. (record { error = refl; unchanged = refl }, refl);
-      rows = λ _ _ good. (let e = c.are_offsets.ensures.1 (subst (λ n. AreOffsets g.O.Offset.position n c.args.offsets.now) limit good) in cc);
+      parsed = λ _ _ good. (let e = c.are_offsets.ensures.1 (subst (λ n. AreOffsets g.O.Offset.position n c.args.offsets.now) limit good) in cc);
     }

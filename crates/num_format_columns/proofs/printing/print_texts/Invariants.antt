@@ -4,9 +4,10 @@ use Rattle.num_format_columns.proofs.printing.print_texts.Given as goal
 
 abbrev pub invariant-loop-k : goal.invariant-loop-k
 invariant-loop-k g l = record {
-  end : l.end ≡ length (texts_of (g.F.Format.answers l.format) g.N.Sealed.value (take l.k l.numbers));
-  texts : l.bytes ≡ texts_of (g.F.Format.answers l.format) g.N.Sealed.value (take l.k l.numbers)
-      ++ drop (length (texts_of (g.F.Format.answers l.format) g.N.Sealed.value (take l.k l.numbers))) l.initial.bytes;
+  same : g.P.Printer.text l.printer ≡ g.P.Printer.text l.initial.printer;
+  end : l.end ≡ length (texts_of (g.P.Printer.text l.initial.printer) (g.V.Validity.rows l.validity) (take l.k l.values));
+  texts : l.bytes ≡ texts_of (g.P.Printer.text l.initial.printer) (g.V.Validity.rows l.validity) (take l.k l.values)
+      ++ drop (length (texts_of (g.P.Printer.text l.initial.printer) (g.V.Validity.rows l.validity) (take l.k l.values))) l.initial.bytes;
   ends : (j : ℕ) (d : _) → j ≤ l.k → g.O.Offset.position (get_or l.offsets j d)
-      ≡ length (texts_of (g.F.Format.answers l.format) g.N.Sealed.value (take j l.numbers));
+      ≡ length (texts_of (g.P.Printer.text l.initial.printer) (g.V.Validity.rows l.validity) (take j l.values));
 }
