@@ -371,7 +371,7 @@ def check_files(tally, program):
             (folder / file).write_bytes(content)
         for words, text, *expected in OPERANDS:
             ended = regroup(program, ["en", "de", *words], text, cwd=folder)
-            compare(tally, shown(" ".join(words)), ended, *expected)
+            compare(tally, shown(" ".join(words).encode()), ended, *expected)
 
 
 def check_example(tally, program):
