@@ -1,15 +1,13 @@
 -- The definition of the decimal that a text spells is what strict parsing returns.
-use Rattle.std.proofs.Common.{◌≡◌, ◌≢◌, ℕ, ◌+◌, ◌<◌, ◌≤◌, Bool, true, false, List, [], ◌∷◌, Option, Some, None, Result, Ok, Err, Decides, if◌then◌else◌, refl, sym, ap, subst, ◌∙◌, arith, drop, inl, inr}
-use Rattle.std.specs.Prelude.{zero, suc, ◌↔◌, ◌||◌, ◌&&◌, ℤ}
+use Rattle.std.proofs.Common.{◌≡◌, ◌≢◌, ℕ, ◌+◌, ◌<◌, Bool, true, false, List, [], ◌∷◌, Option, Some, None, Result, Ok, Err, if◌then◌else◌, refl, sym, ap, subst, ◌∙◌, arith, drop, inl, inr}
+use Rattle.std.specs.Prelude.{zero, suc, ◌↔◌, ◌&&◌}
 use Rattle.std.specs.Option.{option_map}
 use Rattle.std.specs.Str.{is_utf8}
-use Rattle.std.proofs.lemmas.Bool.{both_ways, false_from_ne_true, true_from_ne_false}
-use Rattle.std.proofs.lemmas.Bool.Decides.{Decides-and, Decides-or}
+use Rattle.std.proofs.lemmas.Bool.{both_ways, false_from_ne_true}
+use Rattle.std.proofs.lemmas.Bool.Decides.{Decides-or}
 use Rattle.std.proofs.lemmas.Slice.Eq.{bytes_eq-Decides}
 use Rattle.std.proofs.lemmas.Str.{IsUtf8-from_is_utf8, is_utf8-from_IsUtf8}
 use Rattle.num_format.specs.Format.{FormatData}
-use Rattle.num_format.specs.Kind.{I128, kind_of}
-use Rattle.num_format.specs.Reading.{Refused}
 use Rattle.num_format_decimal.specs.FixedPoint.{FixedPoint, fixed_point}
 use Rattle.num_format_decimal.specs.Parsing.{HasScale, ParsesDecimal, SpellsDecimal, denoted_at}
 use Rattle.num_format_decimal.specs.declared.decimal.TheConstants.{MAX_SCALE}

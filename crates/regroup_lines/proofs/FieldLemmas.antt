@@ -1,13 +1,13 @@
 -- What becomes of the fields of a line, field after field.
-use Rattle.std.proofs.Common.{◌≡◌, ℕ, ◌+◌, ◌<◌, ◌≤◌, ◌==◌, Bool, true, false, List, [], ◌∷◌, ◌++◌, length, drop, Option, Some, None, Result, Ok, Err, if◌then◌else◌, refl, sym, ap, subst, ◌∙◌, arith, append_assoc, append-nil}
+use Rattle.std.proofs.Common.{◌≡◌, ℕ, ◌+◌, ◌<◌, ◌≤◌, ◌==◌, Bool, true, false, List, [], ◌∷◌, ◌++◌, length, Option, Some, None, Result, Ok, Err, if◌then◌else◌, refl, sym, ap, subst, ◌∙◌, arith, append_assoc, append-nil}
 use Rattle.std.specs.Prelude.{nat_le, nat_lt, ◌&&◌}
-use Rattle.std.specs.List.{join_with_byte, list_all, list_any, slice_split}
+use Rattle.std.specs.List.{join_with_byte, slice_split}
 use Rattle.std.specs.Result.{result_map_both, result_or}
 use Rattle.std.specs.Io.KnownBytes.{Appends}
 use Rattle.std.proofs.KnownBytes.{Appends-nil, Appends-trans}
 use Rattle.std.proofs.lemmas.Bool.{le-leb, leb-false, lt-leb, ltb-false, or_from, or_parts}
 use Rattle.std.proofs.lemmas.Bool.Decides.{Decides-ltb}
-use Rattle.std.proofs.lemmas.List.Splits.{join_with_byte-slice_split, length-slice_split}
+use Rattle.std.proofs.lemmas.List.Splits.{join_with_byte-slice_split}
 use Rattle.num_format.specs.Format.{FormatData}
 use Rattle.num_format.specs.Writing.{StopsWithin}
 use Rattle.regroup_shared.specs.Sending.{Sends, line}
@@ -16,7 +16,7 @@ use Rattle.regroup_lines.specs.Fault.{Fault, fault_of}
 use Rattle.regroup_lines.specs.Fault.Fault.{FewFields, Write}
 use Rattle.regroup_lines.specs.Fields.{SendsIfOk, checked}
 use Rattle.regroup_lines.specs.Lines.{field_written, fields_written, with_first}
-use Rattle.regroup_lines.specs.Places.{are_enough, is_at_most, is_chosen, is_chosen_from, is_enough, is_in_range}
+use Rattle.regroup_lines.specs.Places.{are_enough, is_at_most, is_chosen, is_chosen_from, is_enough}
 use Rattle.regroup_lines.specs.declared.fault.RegroupFault.{RegroupFault}
 use Rattle.regroup_lines.specs.declared.fault.RegroupFault.TheVariants as fault
 use Rattle.regroup_lines.specs.declared.rules.FieldRange.{FieldRange}

@@ -1,4 +1,4 @@
-use Rattle.std.proofs.Common.{◌≡◌, ◌<◌, ◌≤◌, Some, None, rules, arith}
+use Rattle.std.proofs.Common.{arith}
 use Rattle.regroup_lines.proofs.PlaceLemmas.{end-bound, end-found, end-last}
 use Rattle.regroup_lines.proofs.fields.field_end.Goals as goal
 
