@@ -432,7 +432,8 @@ def try_parse_decimal_column(
 ) -> ParsedColumn:
     """Returns the units of a column of decimals, and for each row why it is refused.
 
-    It takes what :func:`parse_decimal_column` takes, and raises no `ParseError`.
+    It takes what :func:`parse_decimal_column` takes, and raises no `ParseError`. A text whose decimals past the scale
+    are zeros is parsed once more by itself, which takes longer.
 
     >>> from num_format.columns import try_parse_decimal_column
     >>> units, causes = try_parse_decimal_column(["1.5", "1.555", "x"], 2, "en")
@@ -475,13 +476,16 @@ def _parse_into(numbers: Any, name: str, struct: Any, texts: StringColumn, *scal
 def _refuse_more_decimals(
     texts: StringColumn, scale: int, format: Format | str, units: npt.NDArray[Any], causes: npt.NDArray[np.int32]
 ) -> None:
-    """Refuses the texts of more decimals than the scale. The library refuses them where it would lose digits, and else
-    takes them: those end in a 0, and all their decimals and the one before the scale's are digits."""
+    """Refuses the texts of more decimals than the scale. The library refuses them only where digits would be lost."""
     causes[causes == lib.NUM_FORMAT_DIGITS_LOST] = Cause.TOO_MANY_DECIMALS
-    starts, ends = texts.offsets[:-1], texts.offsets[1:]
-    rows = np.flatnonzero((causes == 0) & (ends - starts > scale + 1))
-    first, last = texts.data[ends[rows] - scale - 1], texts.data[ends[rows] - 1]
-    for row in rows[(first >= ord("0")) & (first <= ord("9")) & (last == ord("0"))].tolist():
+    starts, ends = texts.offsets[:-1], texts.offsets[1:] - scale - 1
+    rows = np.flatnonzero((causes == 0) & (starts < ends))
+    mark = to_format(format).decimal_mark.encode()
+    if mark:
+        # Such a text has its mark before its last bytes, which are digits, one more than the scale.
+        bounds = np.stack([starts[rows], ends[rows]], axis=1).ravel()
+        rows = rows[np.logical_or.reduceat(texts.data == mark[-1], bounds)[::2]]
+    for row in rows.tolist():
         _, _, decimals = f"{parse_decimal(texts.row_bytes(row).decode(), format):f}".partition(".")
         if len(decimals) > scale:
             units[row], causes[row] = 0, Cause.TOO_MANY_DECIMALS
