@@ -44,6 +44,7 @@ DECLARATIONS = """
 #define NUM_FORMAT_TOO_MANY_DECIMALS ...
 #define NUM_FORMAT_BAD_OFFSETS ...
 #define NUM_FORMAT_TOO_MANY_BYTES ...
+#define NUM_FORMAT_DIGITS_LOST ...
 
 #define NUM_FORMAT_STANDARD ...
 #define NUM_FORMAT_INDIAN ...
@@ -99,14 +100,6 @@ int32_t num_format_parse_decimal(const num_format *format, const char *text, siz
                                  uint64_t *high, uint32_t *scale, size_t *at);
 """
 
-# Columns of decimals: the functions of decimal_columns.c.
-DECIMALS = """
-size_t print_decimals(const num_format *format, const num_format_wide *units, uint32_t scale, size_t row, size_t n,
-                      int64_t *offsets, char *bytes, size_t capacity);
-int32_t parse_decimals(const num_format *format, const int64_t *offsets, const char *bytes, size_t length,
-                       uint32_t scale, num_format_wide *units, int32_t *statuses, size_t n);
-"""
-
 # The declarations of the calls for columns are between these lines of num_format.h.
 COLUMNS = re.compile(
     r"^/\* The calls for columns, .*? \*/$(.*)^/\* The end of the calls for columns\. \*/$", re.DOTALL | re.MULTILINE
@@ -156,10 +149,10 @@ def find_library():
 
 library, include = find_library()
 builder = FFI()
-builder.cdef(DECLARATIONS + DECIMALS + column_declarations(include))
+builder.cdef(DECLARATIONS + column_declarations(include))
 builder.set_source(
     "num_format._native",
-    (HERE / "decimal_columns.c").read_text(encoding="utf-8"),
+    "#include <num_format.h>",
     include_dirs=[str(include)],
     extra_objects=[str(library)],
     # So the import fails with a message, and no call with a signal, on a processor below what the library needs.

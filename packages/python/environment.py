@@ -42,18 +42,15 @@ def find_python(needed, wanted):
     return best, [module for module in needed if module in lacking[best]] + tools
 
 
-def install(python, folder, library, *flags):
-    """Installs a copy of the package in a new environment, built with further flags of the C compiler. Returns its
-    Python, or None if that failed."""
+def install(python, folder, library):
+    """Installs a copy of the package in a new environment. Returns its Python, or None if that failed."""
     package = folder / "package"
     shutil.copytree(HERE, package, ignore=IGNORED)
     environment = folder / "environment"
     made = environment / "bin" / "python"
     env = {**os.environ, "NUM_FORMAT_LIBRARY": str(library), "PIP_DISABLE_PIP_VERSION_CHECK": "1"}
     # No cache of pip's, no settings of the user's.
-    env |= {"HOME": str(folder), "PIP_CONFIG_FILE": os.devnull}
-    for name, more in [("CFLAGS", ["-Werror", *flags]), ("LDFLAGS", flags)]:
-        env[name] = " ".join([os.environ.get(name, ""), *more])
+    env |= {"HOME": str(folder), "PIP_CONFIG_FILE": os.devnull, "CFLAGS": os.environ.get("CFLAGS", "") + " -Werror"}
     pip = [made, "-m", "pip", "install", "--quiet", "--no-index", "--no-build-isolation", "--no-cache-dir", package]
     for words in [[python, "-m", "venv", "--system-site-packages", environment], pip]:
         if subprocess.run(words, env=env, check=False).returncode:

@@ -82,7 +82,8 @@ def parsed_alone(text, form, scale):
 
 def test_changed_texts_as_single_decimals():
     chance = random.Random(35)
-    for form in [num_format.Format.locale("en"), num_format.Format.locale("sv"), num_format.Format(separator=", ")]:
+    made = [num_format.Format(separator=", "), num_format.Format(separator="."), num_format.Format(decimal_mark="")]
+    for form in [num_format.Format.locale("en"), num_format.Format.locale("sv"), *made]:
         characters = [*"0123456789,.- x", "", form.separator, form.minus_sign, form.decimal_mark]
         texts = []
         for _ in range(3000):
@@ -133,7 +134,6 @@ def test_nulls():
 
 
 def test_texts_of_very_different_lengths():
-    """The capacity is estimated from the rows before."""
     units = wide([1] * 1000 + [I128[0]] * 1000 + [1] * 1000 + [I128[1]])
     form = num_format.Format(separator="12345678", minus_sign="12345678", decimal_mark="12345678")
     column = columns.format_decimal_column(units, 3, form)

@@ -281,15 +281,7 @@ def format_column(values: npt.ArrayLike, format: Format | str, *, large: bool = 
         return _with_nulls(format_column(given[valid], format, large=large), valid)
     dtype, name = _number(given.dtype)
     numbers = np.ascontiguousarray(given, dtype=dtype)
-    pointer = ffi.from_buffer(f"{dtype}_t[]", numbers)
-    length = ffi.new("size_t *")
-    _check(getattr(lib, f"num_format_print_{name}_column_len")(struct, pointer, len(numbers), length))
-    offsets = np.empty(len(numbers) + 1, dtype=np.int64 if large else np.int32)
-    data = np.empty(length[0], dtype=np.uint8)
-    call = getattr(lib, f"num_format_print_{name}{_OFFSETS[offsets.dtype]}_column")
-    outputs = ffi.from_buffer(f"{offsets.dtype}_t[]", offsets), ffi.from_buffer("char[]", data)
-    _check(call(struct, pointer, len(numbers), outputs[0], len(offsets), outputs[1], len(data)))
-    return _unchecked(offsets, data)
+    return _printed(name, large, struct, ffi.from_buffer(f"{dtype}_t[]", numbers), len(numbers))
 
 
 def parse_column(
@@ -356,24 +348,9 @@ def try_parse_column(
     struct = to_format(format)._struct
     native, name = _number(np.dtype(dtype))
     texts = _to_column(column)
-    count = len(texts)
-    values, causes = np.zeros(count, dtype=native), np.zeros(count, dtype=np.int32)
-    offsets, data = texts.offsets, texts.data
+    values = np.zeros(len(texts), dtype=native)
     way = "" if lenient else "strict_"
-    call = getattr(lib, f"num_format_parse_{way}{name}{_OFFSETS[offsets.dtype]}_column")
-    _check(
-        call(
-            struct,
-            ffi.from_buffer(f"{offsets.dtype}_t[]", offsets),
-            len(offsets),
-            ffi.from_buffer("char[]", data),
-            len(data),
-            ffi.from_buffer(f"{native}_t[]", values),
-            count,
-            ffi.from_buffer("int32_t[]", causes),
-            count,
-        )
-    )
+    causes = _parse_into(ffi.from_buffer(f"{native}_t[]", values), f"{way}{name}", struct, texts)
     return _parsed(values, causes, texts)
 
 
@@ -405,24 +382,7 @@ def format_decimal_column(
     if valid is not None:
         return _with_nulls(format_decimal_column(given[valid], scale, format, large=large), valid)
     wide = _to_wide(given)
-    pointer = ffi.from_buffer("num_format_wide[]", wide)
-    offsets = np.zeros(len(wide) + 1, dtype=np.int64)
-    starts = ffi.from_buffer("int64_t[]", offsets)
-    done, data = 0, np.empty(0, dtype=np.uint8)
-    while done < len(wide):
-        # As many bytes for a row as the rows before had, and some; at least twice as many in all; and the most that
-        # one row can have.
-        size = int(offsets[done])
-        mean = size // done if done else scale
-        more = max((len(wide) - done) * (mean + 8), size) + lib.NUM_FORMAT_DECIMAL_MAX
-        data = np.concatenate([data[:size], np.empty(more, dtype=np.uint8)])
-        output = ffi.from_buffer("char[]", data)
-        before, done = done, lib.print_decimals(struct, pointer, scale, done, len(wide), starts, output, len(data))
-        if done == before:
-            raise AssertionError(f"the library printed no decimal at row {done}")
-    if not large and offsets[-1] > np.iinfo(np.int32).max:
-        _check(lib.NUM_FORMAT_TOO_MANY_BYTES)
-    return _unchecked(offsets if large else offsets.astype(np.int32), data[: offsets[-1]])
+    return _printed("decimal", large, struct, ffi.from_buffer("num_format_wide[]", wide), len(wide), scale)
 
 
 def parse_decimal_column(
@@ -472,7 +432,8 @@ def try_parse_decimal_column(
 ) -> ParsedColumn:
     """Returns the units of a column of decimals, and for each row why it is refused.
 
-    It takes what :func:`parse_decimal_column` takes, and raises no `ParseError`.
+    It takes what :func:`parse_decimal_column` takes, and raises no `ParseError`. A text whose decimals past the scale
+    are zeros is parsed once more by itself, which takes longer.
 
     >>> from num_format.columns import try_parse_decimal_column
     >>> units, causes = try_parse_decimal_column(["1.5", "1.555", "x"], 2, "en")
@@ -482,22 +443,52 @@ def try_parse_decimal_column(
     struct, scale = to_format(format)._struct, _to_scale(scale)
     native = np.dtype(dtype) if np.dtype(dtype) == WIDE else _number(np.dtype(dtype))[0]
     texts = _to_column(column)
-    count = len(texts)
-    offsets = texts.offsets.astype(np.int64)
-    units, causes = np.zeros(count, dtype=WIDE), np.zeros(count, dtype=np.int32)
-    _check(
-        lib.parse_decimals(
-            struct,
-            ffi.from_buffer("int64_t[]", offsets),
-            ffi.from_buffer("char[]", texts.data),
-            len(texts.data),
-            scale,
-            ffi.from_buffer("num_format_wide[]", units),
-            ffi.from_buffer("int32_t[]", causes),
-            count,
-        )
-    )
+    units = np.zeros(len(texts), dtype=WIDE)
+    causes = _parse_into(ffi.from_buffer("num_format_wide[]", units), "decimal", struct, texts, scale)
+    _refuse_more_decimals(texts, scale, format, units, causes)
     return _parsed(_narrowed(units, causes, native), causes, texts)
+
+
+def _printed(name: str, large: bool, struct: Any, numbers: Any, count: int, *scale: int) -> StringColumn:
+    """Returns the texts that the calls of the library of that name print."""
+    length = ffi.new("size_t *")
+    _check(getattr(lib, f"num_format_print_{name}_column_len")(struct, numbers, count, *scale, length))
+    offsets = np.empty(count + 1, dtype=np.int64 if large else np.int32)
+    if length[0] > np.iinfo(offsets.dtype).max:
+        _check(lib.NUM_FORMAT_TOO_MANY_BYTES)
+    data = np.empty(length[0], dtype=np.uint8)
+    call = getattr(lib, f"num_format_print_{name}{_OFFSETS[offsets.dtype]}_column")
+    outputs = ffi.from_buffer(f"{offsets.dtype}_t[]", offsets), ffi.from_buffer("char[]", data)
+    _check(call(struct, numbers, count, *scale, outputs[0], len(offsets), outputs[1], len(data)))
+    return _unchecked(offsets, data)
+
+
+def _parse_into(numbers: Any, name: str, struct: Any, texts: StringColumn, *scale: int) -> npt.NDArray[np.int32]:
+    """Parses texts by the call of the library of that name, and returns the status of each row."""
+    offsets, data, causes = texts.offsets, texts.data, np.zeros(len(texts), dtype=np.int32)
+    call = getattr(lib, f"num_format_parse_{name}{_OFFSETS[offsets.dtype]}_column")
+    inputs = ffi.from_buffer(f"{offsets.dtype}_t[]", offsets), len(offsets), ffi.from_buffer("char[]", data), len(data)
+    statuses = ffi.from_buffer("int32_t[]", causes)
+    _check(call(struct, *inputs, numbers, len(texts), *scale, statuses, len(causes)))
+    return causes
+
+
+def _refuse_more_decimals(
+    texts: StringColumn, scale: int, format: Format | str, units: npt.NDArray[Any], causes: npt.NDArray[np.int32]
+) -> None:
+    """Refuses the texts of more decimals than the scale. The library refuses them only where digits would be lost."""
+    causes[causes == lib.NUM_FORMAT_DIGITS_LOST] = Cause.TOO_MANY_DECIMALS
+    starts, ends = texts.offsets[:-1], texts.offsets[1:] - scale - 1
+    rows = np.flatnonzero((causes == 0) & (starts < ends))
+    mark = to_format(format).decimal_mark.encode()
+    if mark:
+        # Such a text has its mark before its last bytes, which are digits, one more than the scale.
+        bounds = np.stack([starts[rows], ends[rows]], axis=1).ravel()
+        rows = rows[np.logical_or.reduceat(texts.data == mark[-1], bounds)[::2]]
+    for row in rows.tolist():
+        _, _, decimals = f"{parse_decimal(texts.row_bytes(row).decode(), format):f}".partition(".")
+        if len(decimals) > scale:
+            units[row], causes[row] = 0, Cause.TOO_MANY_DECIMALS
 
 
 def _number(dtype: np.dtype[Any]) -> tuple[np.dtype[Any], str]:
