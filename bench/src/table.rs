@@ -80,6 +80,14 @@ const COMPARISONS: [Comparison; 26] = [
 /// The name of the original in the tables.
 const ORIGINAL: &str = "the Rust crate";
 
+/// What is compared with the port and is not of it.
+const OTHERS: [&str; 4] = [
+    ORIGINAL,
+    "`itoa`, plain digits",
+    "std's `parse`, plain digits",
+    "`rust_decimal`",
+];
+
 /// The rows that are by digits, in order.
 pub const GROUPS: [&str; 7] = [
     "1 to 3 digits, u8",
@@ -223,12 +231,15 @@ impl Table {
         ]
     }
 
-    /// The lowest, the median and the highest ratio of each comparison.
+    /// The lowest, the median and the highest ratio of each comparison with what is not of the port.
     fn summary_table(&self) -> String {
         let mut table = String::from(
             "| Time of | Over that of | Lowest | Median | Highest |\n|---|---|---|---|---|\n",
         );
         for (operation, over, ratio) in COMPARISONS {
+            if !OTHERS.contains(&over) {
+                continue;
+            }
             if let Some(found) = self.summary(|cell| cell.operation == operation, ratio) {
                 let [lowest, median, highest] = found.shown();
                 table += &format!("| {operation} | {over} | {lowest} | {median} | {highest} |\n");
