@@ -58,6 +58,10 @@ impl Buffer {
     ghost use Rattle.std.specs.Prelude.{◌≡◌, ◌+◌, ◌<◌, ◌≤◌, ◌==◌, [], ◌∷◌, ◌++◌, length};
 
     /// Returns a buffer with the empty text.
+    ///
+    /// ```rust
+    /// Buffer::new().len()    // 0
+    /// ```
     pub fn new() -> Buffer
         ensures { result ≡ [] }
     {
@@ -71,7 +75,7 @@ impl Buffer {
     ///
     /// The Rust crate has no such call.
     ///
-    /// ```text
+    /// ```rust
     /// Buffer::from_text("1,000").as_bytes()        // [49, 44, 48, 48, 48]
     /// ```
     pub fn from_text(text: &str) -> Buffer
@@ -84,6 +88,10 @@ impl Buffer {
     }
 
     /// Returns the bytes of the text.
+    ///
+    /// ```rust
+    /// Buffer::of(&1000, &Locale::en).as_bytes()    // [49, 44, 48, 48, 48]
+    /// ```
     pub fn as_bytes(&self) -> &[u8]
         ensures same { result.now ≡ self.now }
         ensures fits { length result.now ≤ MAX_BUF_LEN }
@@ -92,6 +100,10 @@ impl Buffer {
     }
 
     /// Returns the text.
+    ///
+    /// ```rust
+    /// Buffer::of(&1000, &Locale::en).as_str()    // "1,000"
+    /// ```
     pub fn as_str(&self) -> &str
         ensures same { result.now ≡ self.now }
         ensures fits { length result.now ≤ MAX_BUF_LEN }
@@ -100,6 +112,10 @@ impl Buffer {
     }
 
     /// Returns whether the text is empty.
+    ///
+    /// ```rust
+    /// Buffer::of(&1000, &Locale::en).is_empty()    // false
+    /// ```
     pub fn is_empty(&self) -> bool
         ensures { result ≡ (length self.now == 0) }
     {
@@ -107,6 +123,10 @@ impl Buffer {
     }
 
     /// Returns the length of the text in bytes.
+    ///
+    /// ```rust
+    /// Buffer::of(&1000, &Locale::en).len()    // 5
+    /// ```
     pub fn len(&self) -> usize
         ensures length { result ≡ length self.now }
         ensures fits { result ≤ MAX_BUF_LEN }
@@ -118,11 +138,10 @@ impl Buffer {
     ///
     /// The Rust crate has no such call.
     ///
-    /// ```text
-    /// let mut buffer = Buffer::new();
-    /// buffer.write_formatted(&1000, &Locale::en);
+    /// ```rust
+    /// let mut buffer = Buffer::of(&1000, &Locale::en);
     /// buffer.put_front("$");
-    /// buffer.as_str()                              // $1,000
+    /// buffer.as_str()    // "$1,000"
     /// ```
     #[inline(always)]
     pub fn put_front(&mut self, text: &str)

@@ -1,5 +1,6 @@
 -- Digits alone and in groups spell a number.
 use Rattle.std.proofs.Common.{◌⊎◌, inl, inr, Bool, ◌&&◌, ◌≡◌, ℕ, ◌+◌, ◌-◌, ◌*◌, ◌/◌, ◌<◌, ◌≤◌, true, false, List, [], ◌∷◌, ◌++◌, length, refl, ap, ◌∙◌, sym, arith, take, drop, get_or, length-drop, take-append-drop, drop-drop, subst, IsUtf8}
+use Rattle.std.specs.Prelude.{if◌then◌else◌}
 use Rattle.std.specs.Char.{is_ascii_digit}
 use Rattle.std.specs.Int.Digits.{number_from_digits}
 use Rattle.std.specs.List.{list_all, list_any}
@@ -112,6 +113,23 @@ sign-numeral f t =
       | inl negative ↦ rw negative (ap (λ xs. list_any is_other_numeral (chars xs)) (sign-front f t negative))
       | inr positive ↦ rw positive (ap (list_any is_other_numeral) chars-nil)
     ]
+
+-- what the code knows of the start of a text
+pub record HasStart (f : FormatData) (t minus : List ℕ) (negative : Bool) (start : ℕ) : Type 0 where
+  pub plain : IsPlainStart f t start
+  pub numeral : list_any is_other_numeral (chars (take start t)) ≡ (negative && list_any is_other_numeral (chars minus))
+
+pub has-start : (f : FormatData) (t minus : List ℕ) (negative : Bool) (start : ℕ) → minus ≡ f.minus_sign → negative ≡ is_negative_text f t → start ≡ (if negative then length minus else 0) →
+    IsUtf8 minus → (negative && list_any is_ascii_digit minus) ≡ false → HasStart f t minus negative start
+has-start f t minus negative start same test there utf8 none =
+    let long : start ≡ sign_len f t = there ∙ ap (λ (b : Bool). if b then length minus else 0) test ∙ ap (λ m. if is_negative_text f t then length m else 0) same in
+    let no_digit : (is_negative_text f t && list_any is_ascii_digit f.minus_sign) ≡ false =
+    ap (λ m. is_negative_text f t && list_any is_ascii_digit m) (sym same) ∙ ap (λ b. b && list_any is_ascii_digit minus) (sym test) ∙ none in
+    record {
+      plain = plain-sign f t start (subst IsUtf8 same utf8) long no_digit;
+      numeral = ap (λ k. list_any is_other_numeral (chars (take k t))) long ∙ sign-numeral f t ∙ ap (λ b. b && list_any is_other_numeral (chars f.minus_sign)) (sym test)
+          ∙ ap (λ m. negative && list_any is_other_numeral (chars m)) (sym same);
+    }
 
 -- groups that are longer than four digits and a separator have five digits at least
 pub many-digits : (s body : List ℕ) (found : IsInGroups 3 3 s body) → 4 + length s < length body → 5 ≤ length found.ds

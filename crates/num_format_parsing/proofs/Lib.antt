@@ -9,6 +9,7 @@ pub mod NumberLemmas
 pub mod PartLemmas
 mod ReadingExamples
 pub mod ReadingLemmas
+pub mod ShortLemmas
 pub mod SpellingLemmas
 mod StrictExamples
 pub mod UnreadLemmas

@@ -128,6 +128,12 @@ unread-separator s text start behind some found =
     let begin : begins s (drop start text) ≡ true = begins-given s (drop start text) some ∙ (starts_is Decides-eqb (drop start text) s (starts_with nat_eq (drop start text) s) refl).1 (drop behind text) found.text in
     unread-begins s (drop start text) begin ∙ ap (unread s 0) (ap (drop (length s)) found.text ∙ drop_at s (drop behind text) (length s) refl)
 
+-- one digit more
+pub read-one : (bound : ℕ) (text : List ℕ) (place n first more : ℕ) → place + 1 ≤ length text →
+    IsDigitAt text place first → more ≡ (n * 10 + first) % bound → HasReadDigits bound text place (place + 1) n more
+read-one bound text place n first more within one same =
+    read-more bound text place place n n more (read-none bound text place n (omega (arith, within))) (omega (arith, within)) one.digit (same ∙ ap (λ d. (n * 10 + d) % bound) one.value)
+
 -- two digits more
 pub read-two : (bound : ℕ) (text : List ℕ) (place n first second more : ℕ) → place + 2 ≤ length text →
     IsDigitAt text place first → IsDigitAt text (place + 1) second → more ≡ ((n * 10 + first) * 10 + second) % bound → HasReadDigits bound text place (place + 2) n more

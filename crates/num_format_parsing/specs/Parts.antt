@@ -110,6 +110,14 @@ pub record IsUnexpected (f : FormatData) (t : List ℕ) (at : ℕ) : Type 0 wher
   pub inside : at < length t
   pub rest : unexpected f t ≡ drop at t
 
+-- what was found holds of a text, whatever its number
+abbrev pub IsRead : {A : Type 0} → FormatData → List ℕ → Reading A → Type 0
+IsRead f t (Number n) = IsUtf8 t × SpellsNumber f t (denoted f t)
+IsRead f t Spelled = IsUtf8 t × SpellsNumber f t (denoted f t)
+IsRead f t (Unexpected at) = IsUnexpected f t at
+IsRead f t (Unspelled place) = IsUnspelled f t place
+IsRead f t Unknown = Unit {0}
+
 -- what was found holds of a text, whose number is that of an accumulator
 abbrev pub HasReading : {A : Type 0} → (A → ℕ) → FormatData → List ℕ → ℕ → ℕ → Reading A → Type 0
 HasReading number f t start most (Number n) = HasReadNumber f t start most (number n)

@@ -4,7 +4,7 @@ ghost use Rattle.std.specs.Char.{is_ascii_digit};
 ghost use Rattle.std.specs.Int.Digits.{number_from_digits};
 ghost use Rattle.num_format_text.specs.declared.grouping.Grouping.TheVariants.{Posix};
 ghost use Rattle.num_format_text.specs.Format.{FormatData};
-ghost use Rattle.num_format_parsing.specs.Parts.{GroupsBy, HasReading, HasReadDigits, HasReadGroup, HasReadGroups, IsReadWhole, LacksGroup, LacksGroups, WriteWhole};
+ghost use Rattle.num_format_parsing.specs.Parts.{GroupsBy, HasReadNumber, HasReading, HasReadDigits, HasReadGroup, HasReadGroups, IsReadWhole, LacksGroup, LacksGroups, WriteWhole};
 ghost use Rattle.num_format_parsing.specs.Shapes.{IsPlainStart, BeginsWithDigit, byte_figures};
 
 use crate::numeral::{has_digit_in_symbol, has_numeral_in_symbol};
@@ -13,6 +13,7 @@ use crate::strict::{begins_with, begins_with_digit};
 use num_format_text::{Format, Grouping};
 
 /// What one pass over a text found.
+#[derive(Clone, Copy)]
 pub(crate) enum Reading<A> {
     /// The text spells the number that it denotes. Its digits write this one.
     Number(A),
@@ -76,6 +77,28 @@ pub(crate) fn read_text<F: Format, A: Accumulator>(
         return spelled(text, start, first, most);
     }
     read_grouped(text, start, first.end, first.magnitude, most, format)
+}
+
+/// Returns the number of a text of at most four bytes that are digits after its minus sign, at most `most`. It may
+/// return `None` for any text.
+///
+/// It has no loop. Such a text spells the number that it denotes, whatever the separator and the grouping.
+#[inline(always)]
+pub(crate) fn read_short(text: &[u8], start: usize, most: usize) -> Option<u64>
+    requires within { start ≤ length text.now }
+    requires few { length text.now ≤ 4 }
+    ensures { IfSome result (λ n. (f : FormatData) → IsPlainStart f text.now start
+        → HasReadNumber f text.now start most n) }
+{
+    let count = text.len() - start;
+    if count == 0 || count > most {
+        return None;
+    }
+    // A digit alone spells its number, zero too.
+    if text.len() != 1 && !begins_with_digit(&text[start..]) {
+        return None;
+    }
+    push_few(text, start, count, 0)
 }
 
 /// Returns the same of a text whose first digits, up to `end`, do not end it. They write `magnitude`, modulo the
@@ -267,10 +290,13 @@ fn push_few<A: Accumulator>(text: &[u8], place: usize, count: usize, magnitude: 
     ensures { IfSome result (λ more. HasReadDigits A.bound text.now place (place + count)
         (A.number magnitude) (A.number more)) }
 {
-    if count < 2 {
+    if count == 0 {
         return None;
     }
     let first = digit_at(text, place)?;
+    if count == 1 {
+        return Some(magnitude.push_group(10, first));
+    }
     let second = digit_at(text, place + 1)?;
     let two = first * 10 + second;
     if count == 2 {

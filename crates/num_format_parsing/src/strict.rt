@@ -2,7 +2,7 @@
 //!
 //! A text *spells* a number if it is the text of the number under the format, or that text without
 //! separators. Strict parsing returns the number that a text spells, and refuses every other text.
-ghost use Rattle.std.specs.Prelude.{◌≡◌, ◌↔◌, nat_eq, ◌-◌, ◌<◌, ◌≤◌, ◌&&◌, [], IsTrue, take, drop, length, Some, IsUtf8, MatchOption, MatchResult};
+ghost use Rattle.std.specs.Prelude.{◌≡◌, ◌↔◌, nat_eq, ◌-◌, ◌<◌, ◌≤◌, ◌&&◌, [], IsTrue, take, drop, length, Some, IsUtf8, IfSome, MatchOption, MatchResult, if◌then◌else◌};
 ghost use Rattle.std.specs.Char.{is_ascii_digit};
 ghost use Rattle.std.specs.Int.Digits.{number_from_digits};
 ghost use Rattle.std.specs.List.{list_any, starts_with};
@@ -10,13 +10,13 @@ ghost use Rattle.std.specs.Str.{chars};
 ghost use Rattle.num_format_int.specs.Grouped.{stands, grouped, printed_separator};
 ghost use Rattle.num_format_int.specs.Kind.{Kind};
 ghost use Rattle.num_format_parsing.specs.Reading.{denoted, figures, is_other_numeral};
-ghost use Rattle.num_format_parsing.specs.Strict.{SpellsNumber, ParsesStrictly, IsCause, IsExpected, begins, unread, unexpected, sign_len, strict_message_of};
-ghost use Rattle.num_format_parsing.specs.Parts.{IsUnspelled};
+ghost use Rattle.num_format_parsing.specs.Strict.{SpellsNumber, ParsesStrictly, IsOutOfRange, IsCause, IsExpected, begins, unread, unexpected, sign_len, strict_message_of};
+ghost use Rattle.num_format_parsing.specs.Parts.{IsRead, IsUnspelled};
 ghost use Rattle.num_format_parsing.specs.Shapes.{BeginsWithDigit, byte_figures};
 
 use crate::numeral::{has_digit_in_symbol, has_numeral_in_symbol};
 use crate::parsing::{Accumulator, SAFE_FIGURES, most_figures, parse};
-use crate::reading::{Reading, read_text};
+use crate::reading::{Reading, read_short, read_text};
 use num_format_int::sealed::Sealed;
 use num_format_text::{Format, Grouping};
 use std::fmt;
@@ -36,8 +36,8 @@ pub enum StrictError {
     },
     /// No byte is unexpected, and the text has no digit.
     NoDigit,
-    /// No byte is unexpected, and the text is not that of the number that its digits write: it has a
-    /// leading zero, a separator elsewhere than where the format prints one, or is a negative zero.
+    /// No byte is unexpected, and the text is not that of the number that its digits write, grouped or not:
+    /// under `en` these are `01`, `1,23`, `1234,567` and `-0`.
     Misspelled,
     /// The text spells the number that it denotes, and parsing refuses it: under most formats, since the
     /// number is no value of the type.
@@ -76,6 +76,12 @@ pub(crate) fn parse_strict<N: Sealed, F: Format>(
         (λ n. ParsesStrictly N.kind (F.answers format.now) bytes.now (N.value n))
         (λ e. IsCause N.kind (F.answers format.now) bytes.now e) }
 {
+    if let Some(answer) = parse_short(bytes, format) {
+        return match answer {
+            Some(number) => Ok(number),
+            None => Err(StrictError::OutOfRange),
+        };
+    }
     // Most texts are short: their digits fit 64 bits, which take less time than 128. Whether a type is wide is
     // known where the code is compiled.
     if N::is_wide() && bytes.len() > SAFE_FIGURES {
@@ -99,22 +105,45 @@ fn parse_by<N: Sealed, F: Format, A: Accumulator>(
 {
     let minus_sign = format.minus_sign().into_str();
     let is_negative = is_prefix(bytes, minus_sign.as_bytes());
-    let start = if is_negative { minus_sign.len() } else { 0 };
+    let start = minus_len(minus_sign, is_negative);
     if has_digit_in_sign(minus_sign, is_negative) {
         return parse_unknown(bytes, is_text, start, format);
     }
     let most = most_figures::<N>(is_negative);
-    match read_text::<F, A>(bytes, start, most, format) {
-        Reading::Number(magnitude) => {
-            if has_numeral_in_sign(minus_sign, is_negative) {
-                return Err(StrictError::OutOfRange);
-            }
-            match N::from_sign_and_magnitude(is_negative, magnitude.number()) {
-                Some(number) => Ok(number),
-                None => Err(StrictError::OutOfRange),
-            }
+    let reading = read_text::<F, A>(bytes, start, most, format);
+    if let Reading::Number(magnitude) = reading {
+        if has_numeral_in_sign(minus_sign, is_negative) {
+            return Err(StrictError::OutOfRange);
         }
-        Reading::Spelled => parse_spelled(bytes, format),
+        return match N::from_sign_and_magnitude(is_negative, magnitude.number()) {
+            Some(number) => Ok(number),
+            None => Err(StrictError::OutOfRange),
+        };
+    }
+    parse_rest(bytes, is_text, start, reading, format)
+}
+
+/// Returns the same by what was found in a text. `start` is the length of its minus sign.
+///
+/// No text comes here whose number is known, so this stays out of the code for those.
+#[inline(never)]
+fn parse_rest<N: Sealed, F: Format, A: Accumulator>(
+    bytes: &[u8],
+    is_text: bool,
+    start: usize,
+    reading: Reading<A>,
+    format: &F,
+) -> Result<N, StrictError>
+    requires utf8 { IsTrue is_text → IsUtf8 bytes.now }
+    requires start { start ≡ sign_len (F.answers format.now) bytes.now }
+    requires within { start ≤ length bytes.now }
+    requires reading { IsRead (F.answers format.now) bytes.now reading }
+    ensures { MatchResult result
+        (λ n. ParsesStrictly N.kind (F.answers format.now) bytes.now (N.value n))
+        (λ e. IsCause N.kind (F.answers format.now) bytes.now e) }
+{
+    match reading {
+        Reading::Number(_) | Reading::Spelled => parse_spelled(bytes, format),
         Reading::Unexpected { at } => {
             if !is_utf8(bytes, is_text) {
                 return Err(StrictError::NotUtf8);
@@ -126,19 +155,56 @@ fn parse_by<N: Sealed, F: Format, A: Accumulator>(
     }
 }
 
-/// Returns whether the minus sign of a negative text has a digit. Few minus signs have one, so no branch depends
-/// on the sign, which the processor would mistake.
+/// A short text has at most so many bytes, as those of a minus sign and three digits.
+const SHORT_LEN: usize = 4;
+
+/// Returns the number that a short text spells, or `Some(None)` if parsing refuses it. It may return `None` for any
+/// text.
+///
+/// Most numbers are short, and the format is asked for its minus sign alone. Most short texts that spell none have
+/// no digit at their end, and are left before that.
+#[inline(always)]
+pub(crate) fn parse_short<N: Sealed, F: Format>(text: &[u8], format: &F) -> Option<Option<N>>
+    ensures { IfSome result (λ answer. MatchOption answer
+        (IsOutOfRange N.kind (F.answers format.now) text.now)
+        (λ n. ParsesStrictly N.kind (F.answers format.now) text.now (N.value n))) }
+{
+    if text.len() > SHORT_LEN || !text.last()?.is_ascii_digit() {
+        return None;
+    }
+    let minus_sign = format.minus_sign().into_str();
+    let is_negative = is_prefix(text, minus_sign.as_bytes());
+    let start = minus_len(minus_sign, is_negative);
+    if has_digit_in_sign(minus_sign, is_negative) || has_numeral_in_sign(minus_sign, is_negative) {
+        return None;
+    }
+    let magnitude = read_short(text, start, most_figures::<N>(is_negative))?;
+    Some(N::from_sign_and_magnitude(is_negative, magnitude as u128))
+}
+
+/// Returns the length of the minus sign of a negative text, and else 0.
+#[inline]
+fn minus_len(minus_sign: &str, is_negative: bool) -> usize
+    ensures { result ≡ (if is_negative then length minus_sign.now else 0) }
+{
+    if is_negative { minus_sign.len() } else { 0 }
+}
+
+/// Returns whether the minus sign of a negative text has a digit.
+///
+/// One of one byte is tested for each text, since the processor mistakes a branch on the sign.
 #[inline]
 fn has_digit_in_sign(minus_sign: &str, is_negative: bool) -> bool
     ensures { result ≡ (is_negative && list_any is_ascii_digit minus_sign.now) }
 {
+    if minus_sign.len() != 1 && !is_negative {
+        return false;
+    }
     has_digit_in_symbol(minus_sign.as_bytes()) && is_negative
 }
 
 /// Returns whether the minus sign of a negative text has a numeric character that is none of the digits `0` to
-/// `9`.
-///
-/// One of one byte is tested for each text, since the processor mistakes a branch on the sign.
+/// `9`. One of one byte is tested for each text, for the same reason.
 #[inline]
 fn has_numeral_in_sign(minus_sign: &str, is_negative: bool) -> bool
     ensures { result ≡ (is_negative && list_any is_other_numeral (chars minus_sign.now)) }

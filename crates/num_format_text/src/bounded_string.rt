@@ -20,9 +20,9 @@ use std::marker::Model;
 /// [`BoundedStr`] is a borrowed text, of the capacity of its symbol. The Rust crate has no such
 /// public type.
 ///
-/// ```text
-/// BoundedString::<8>::new(",")          is Ok
-/// BoundedString::<8>::new("123456789")  is Err, of kind Capacity { len: 9, cap: 8 }
+/// ```rust
+/// BoundedString::<8>::new(",")?.as_str()    // ","
+/// BoundedString::<8>::new("123456789")      // Err(Error { kind: Capacity { len: 9, cap: 8 } })
 /// ```
 #[derive(Debug, Drop)]
 pub struct BoundedString<const CAP: usize> {
@@ -59,8 +59,8 @@ impl<const CAP: usize> BoundedString<CAP> {
     /// Returns a copy of a text that the caller knows to have at most `CAP` bytes.
     /// [`new`](BoundedString::new) tests that.
     ///
-    /// ```text
-    /// BoundedString::<8>::of(",")
+    /// ```rust
+    /// BoundedString::<8>::of(",").as_str()    // ","
     /// ```
     pub fn of(text: &str) -> BoundedString<CAP>
         requires { length text.now ≤ CAP }
@@ -81,8 +81,9 @@ impl<const CAP: usize> BoundedString<CAP> {
 
     /// Returns the text as that of a symbol, whose capacity is at least `CAP`.
     ///
-    /// ```text
-    /// let separator: SeparatorStr<'_> = BoundedString::<8>::of(",").as_bounded();
+    /// ```rust
+    /// let text = BoundedString::<8>::of(",");
+    /// let separator: SeparatorStr<'_> = text.as_bounded();    // ","
     /// ```
     pub fn as_bounded<S: Symbol>(&self) -> BoundedStr<'_, S>
         requires { CAP ≤ S.CAPACITY }

@@ -17,10 +17,11 @@ pub const MAX_MESSAGE_LEN: usize = MAX_ADDED_LEN + MAX_ERR_LEN;
 /// A text that a kind keeps is truncated, as [`cut`](crate::error::cut) says. These kinds and their
 /// messages are as in the Rust crate, which has further kinds:
 ///
-/// ```text
-/// Attempted to write input of length 9 bytes into a buffer with capacity 8 bytes.
-/// Failed to parse xx-YY into a valid locale.
-/// Failed to parse 1e3 into a number.
+/// ```rust
+/// ErrorKind::Capacity { len: 9, cap: 8 }.message()
+/// // "Attempted to write input of length 9 bytes into a buffer with capacity 8 bytes."
+/// ErrorKind::ParseLocale(cut("xx-YY")).message()    // "Failed to parse xx-YY into a valid locale."
+/// ErrorKind::ParseNumber(cut("1e3")).message()      // "Failed to parse 1e3 into a number."
 /// ```
 #[derive(Clone, Debug, Drop, PartialEq, Eq, Hash)]
 pub enum ErrorKind {
@@ -43,6 +44,10 @@ impl ErrorKind {
     /// Returns the message, which needs no memory and cannot fail.
     ///
     /// The Rust crate has no such function: there the message is only displayed.
+    ///
+    /// ```rust
+    /// ErrorKind::ParseNumber(cut("1e3")).message()    // "Failed to parse 1e3 into a number."
+    /// ```
     pub fn message(&self) -> ArrayString<MAX_MESSAGE_LEN>
         ensures { result.bytes ≡ message_of (refusal_of self.now) }
     {

@@ -30,30 +30,58 @@ pub trait Format {
     ghost answers: { Self → FormatData };
 
     /// Returns the decimal mark.
+    ///
+    /// ```rust
+    /// Format::decimal(&Locale::de)    // ","
+    /// ```
     fn decimal(&self) -> DecimalStr<'_>
         ensures { result ≡ (answers self.now).decimal };
 
     /// Returns how the digits of a whole number are grouped.
+    ///
+    /// ```rust
+    /// Format::grouping(&Locale::hi)    // Grouping::Indian
+    /// ```
     fn grouping(&self) -> Grouping
         ensures { result ≡ (answers self.now).grouping };
 
     /// Returns the text for infinity.
+    ///
+    /// ```rust
+    /// Format::infinity(&Locale::en)    // "∞"
+    /// ```
     fn infinity(&self) -> InfinityStr<'_>
         ensures { result ≡ (answers self.now).infinity };
 
     /// Returns the minus sign, with which each negative number begins.
+    ///
+    /// ```rust
+    /// Format::minus_sign(&Locale::sv)    // "−"
+    /// ```
     fn minus_sign(&self) -> MinusSignStr<'_>
         ensures { result ≡ (answers self.now).minus_sign };
 
     /// Returns the text for NaN.
+    ///
+    /// ```rust
+    /// Format::nan(&Locale::en)    // "NaN"
+    /// ```
     fn nan(&self) -> NanStr<'_>
         ensures { result ≡ (answers self.now).nan };
 
     /// Returns the plus sign. Whole numbers are printed without it.
+    ///
+    /// ```rust
+    /// Format::plus_sign(&Locale::en)    // "+"
+    /// ```
     fn plus_sign(&self) -> PlusSignStr<'_>
         ensures { result ≡ (answers self.now).plus_sign };
 
     /// Returns the separator between groups of digits.
+    ///
+    /// ```rust
+    /// Format::separator(&Locale::de)    // "."
+    /// ```
     fn separator(&self) -> SeparatorStr<'_>
         ensures { result ≡ (answers self.now).separator };
 }

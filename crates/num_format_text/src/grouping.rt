@@ -26,6 +26,10 @@ pub enum Grouping {
 
 impl Grouping {
     /// Returns the name of the variant, as `Standard`.
+    ///
+    /// ```rust
+    /// Grouping::Indian.name()    // "Indian"
+    /// ```
     pub fn name(self) -> &'static str
         ensures { result.now ≡ grouping_name self }
     {
@@ -40,7 +44,7 @@ impl Grouping {
 
     /// Returns the grouping of that name, or `None` if no grouping has it. Upper and lower case differ.
     ///
-    /// ```text
+    /// ```rust
     /// Grouping::from_name("Indian")    // Some(Grouping::Indian)
     /// Grouping::from_name("indian")    // None
     /// ```

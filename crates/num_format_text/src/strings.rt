@@ -61,9 +61,9 @@ impl<'a, S: Symbol> BoundedStr<'a, S> {
     /// The empty text and a text of exactly the capacity are accepted. A longer one is refused
     /// with [`ErrorKind::Capacity`], which has both lengths in bytes.
     ///
-    /// ```text
-    /// SeparatorStr::new(",")          is Ok
-    /// SeparatorStr::new("123456789")  is Err, of kind Capacity { len: 9, cap: 8 }
+    /// ```rust
+    /// SeparatorStr::new(",")            // Ok(",")
+    /// SeparatorStr::new("123456789")    // Err(Error { kind: Capacity { len: 9, cap: 8 } })
     /// ```
     pub fn new(text: &'a str) -> Result<BoundedStr<'a, S>, Error>
         ensures accepted { IsOk result ↔ (length text.now ≤ S.CAPACITY) }
@@ -81,8 +81,8 @@ impl<'a, S: Symbol> BoundedStr<'a, S> {
     /// Returns `text` as the text of this symbol, where the caller knows that it has at most
     /// [`Symbol::CAPACITY`] bytes. [`new`](BoundedStr::new) tests that.
     ///
-    /// ```text
-    /// SeparatorStr::of(",")
+    /// ```rust
+    /// SeparatorStr::of(",")    // ","
     /// ```
     pub fn of(text: &'a str) -> BoundedStr<'a, S>
         requires { length text.now ≤ S.CAPACITY }
@@ -98,6 +98,10 @@ impl<'a, S: Symbol> BoundedStr<'a, S> {
     ///
     /// The Rust crate's types are `Copy`. Rattle has no `Copy` yet for a type that has both a
     /// lifetime and a [`Model`].
+    ///
+    /// ```rust
+    /// SeparatorStr::of(",").copied()    // ","
+    /// ```
     pub fn copied(&self) -> BoundedStr<'a, S>
         ensures { result ≡ self.now }
     {
@@ -106,6 +110,10 @@ impl<'a, S: Symbol> BoundedStr<'a, S> {
 
     /// Returns the text that [`new`](BoundedStr::new) was given. It has at most
     /// [`Symbol::CAPACITY`] bytes.
+    ///
+    /// ```rust
+    /// SeparatorStr::of(",").into_str().len()    // 1
+    /// ```
     pub fn into_str(self) -> &'a str
         ensures same { result.now ≡ self.entry }
         ensures fits { length result.now ≤ S.CAPACITY }

@@ -1,7 +1,19 @@
 use Rattle.std.proofs.Common.{◌≡◌, ◌+◌, ◌*◌, ◌%◌, ◌∙◌, ap, arith, subst, sym, refl}
 use Rattle.num_format_parsing.specs.Parts.{HasReadDigits}
-use Rattle.num_format_parsing.proofs.PartLemmas.{read-two, read-next}
+use Rattle.num_format_parsing.proofs.PartLemmas.{read-one, read-two, read-next}
 use Rattle.num_format_parsing.proofs.reading.push_few.Goals as goal
+
+pub returns-then-count-eq1 : goal.returns-then-count-eq1
+returns-then-count-eq1 g c =
+    let bound = g.A.Accumulator.bound in
+    let text = c.args.text.now in
+    let place = c.args.place in
+    let n = g.A.Accumulator.number c.args.magnitude in
+    let more = g.A.Accumulator.number c.push_group.result in
+    let first = c.in_ok-first.first in
+    let one = c.in_ok-first.ensures in
+    subst (λ k. HasReadDigits bound text place (place + k) n more) (sym c.if-count-eq1.true)
+    (read-one bound text place n first more (omega (arith, c.requires, c.if-count-eq1.true)) (record { digit = one.0; value = one.1 }) c.push_group.ensures)
 
 pub returns-then-count-eq2 : goal.returns-then-count-eq2
 returns-then-count-eq2 g c =
@@ -9,7 +21,7 @@ returns-then-count-eq2 g c =
     let text = c.args.text.now in
     let place = c.args.place in
     let n = g.A.Accumulator.number c.args.magnitude in
-    let more = g.A.Accumulator.number c.push_group.result in
+    let more = g.A.Accumulator.number c.push_group-then-count-eq2.result in
     let first = c.in_ok-first.first in
     let second = c.in_ok-second.second in
     let one = c.in_ok-first.ensures in
@@ -17,7 +29,7 @@ returns-then-count-eq2 g c =
     let value : n * 100 + (first * 10 + second) ≡ (n * 10 + first) * 10 + second = omega arith in
     subst (λ k. HasReadDigits bound text place (place + k) n more) (sym c.if-count-eq2.true)
     (read-two bound text place n first second more (omega (arith, c.requires, c.if-count-eq2.true)) (record { digit = one.0; value = one.1 }) (record { digit = two.0; value = two.1 })
-    (c.push_group.ensures ∙ ap (λ m. m % bound) value))
+    (c.push_group-then-count-eq2.ensures ∙ ap (λ m. m % bound) value))
 
 pub returns-then-count-eq3 : goal.returns-then-count-eq3
 returns-then-count-eq3 g c =
