@@ -1,5 +1,5 @@
 -- Decimals that are read in one pass.
-use Rattle.std.proofs.Common.{◌≡◌, ℕ, zero, suc, ◌+◌, ◌-◌, ◌*◌, ◌/◌, ◌%◌, ◌^◌, ◌<◌, ◌≤◌, Bool, true, false, List, [], ◌∷◌, ◌++◌, length, get_or, take, drop, take-append-drop, refl, ap, ◌∙◌, sym, subst, arith, append-nil, length-drop, inl, inr, ◌⊎◌, ℤ, pos, unsigned_abs}
+use Rattle.std.proofs.Common.{◌≡◌, ℕ, zero, suc, ◌+◌, ◌-◌, ◌*◌, ◌/◌, ◌%◌, ◌^◌, ◌<◌, ◌≤◌, Bool, true, false, List, [], ◌∷◌, ◌++◌, length, get_or, take, drop, take-append-drop, refl, ap, ◌∙◌, sym, subst, arith, append-nil, length-append, length-drop, inl, inr, ◌⊎◌, ℤ, pos, unsigned_abs}
 use Rattle.std.specs.Prelude.{nat_eq, nat_lt, if◌then◌else◌, Option, Some, None, IfSome, SomeIff}
 use Rattle.std.specs.Char.{is_ascii_digit}
 use Rattle.std.specs.Int.{is_negative}
@@ -10,7 +10,7 @@ use Rattle.std.proofs.Math.Seq.{drop-length, take-suc}
 use Rattle.std.proofs.lemmas.Bool.{and_from, both_ways, cases_eq, true_from_ne_false}
 use Rattle.std.proofs.lemmas.Bool.Decides.{nat_tests, Decides-eqb}
 use Rattle.std.proofs.lemmas.Int.Digits.{number_after_append}
-use Rattle.std.proofs.lemmas.List.{length-map, take_at, take_rest}
+use Rattle.std.proofs.lemmas.List.{get_or-take, length-map, length-take-le, take_at, take_rest}
 use Rattle.std.proofs.lemmas.List.Folds.{list_all-append, list_all_at}
 use Rattle.std.proofs.lemmas.Nat.{div-mul-add, mod-mul-add}
 use Rattle.std.proofs.lemmas.Slice.Eq.{starts_is}
@@ -133,6 +133,16 @@ sign_read f t minus same begin =
     let split = (starts_is Decides-eqb t minus (starts_with nat_eq t minus) refl).0 (begins_starts minus t begin) in
     ap (take (length minus)) split ∙ take_at minus (drop (length minus) t) (length minus) refl ∙ same
 
+-- a mark stands inside a text
+pub mark_inside : (mark t : List ℕ) (place : ℕ) → place ≤ length t → begins mark (drop place t) ≡ true → place + length mark ≤ length t
+mark_inside mark t place inside begin =
+    let rest = drop place t in
+    let split = (starts_is Decides-eqb rest mark (starts_with nat_eq rest mark) refl).0 (begins_starts mark rest begin) in
+    omega (arith, ap length split, length-append mark (drop (length mark) rest), length-drop place t)
+
+pub mark_stands : (mark bytes t : List ℕ) (place : ℕ) → bytes ≡ mark → begins bytes (take (length t - place) (drop place t)) ≡ true → begins mark (drop place t) ≡ true
+mark_stands mark bytes t place same begin = subst (λ xs. begins xs (drop place t) ≡ true) same (subst (λ xs. begins bytes xs ≡ true) (take_rest t place) begin)
+
 -- a sign, a body, the mark and digits
 pub marked_read : (f : FormatData) (t body : List ℕ) (b : Bool) (start place end k m n : ℕ) → StandsAt f.decimal t place end → end + k ≡ length t → 0 < k → start ≤ place →
     list_all is_ascii_digit (drop end t) ≡ true → take start t ≡ (if b then f.minus_sign else []) → body ≡ take (place - start) (drop start t) → SpellsNumber f body (pos m) →
@@ -179,6 +189,14 @@ digits_spell f t n some all either number =
     zero_spells f t n same number =
         let none : n ≡ 0 = number ∙ ap (λ xs. number_from_digits 10 (byte_figures xs)) same in
         with_separators (same ∙ sym (zero_body f) ∙ sym (text_of_whole f 0) ∙ ap (λ m. text_of f (pos m)) (sym none))
+
+-- and so are the first digits of a text
+pub first_digits_spell : (f : FormatData) (t : List ℕ) (count n : ℕ) → count ≤ length t → 0 < count → list_all is_ascii_digit (take count t) ≡ true → (¬ (get_or t 0 0 ≡ 48)) ⊎ (count ≤ 1) →
+    n ≡ number_from_digits 10 (byte_figures (take count t)) → SpellsNumber f (take count t) (pos n)
+first_digits_spell f t count n within some all either number =
+    let long = length-take-le count t within in
+    let first = get_or-take count t 0 0 some in
+    digits_spell f (take count t) n (omega (arith, long)) all (elim either [ inl other ↦ inl (λ nought. other (sym first ∙ nought)) | inr short ↦ inr (omega (arith, long)) ]) number
 
 -- a sign and a body
 unmarked_read : (f : FormatData) (t : List ℕ) (b : Bool) (start n : ℕ) → take start t ≡ (if b then f.minus_sign else []) → SpellsNumber f (drop start t) (pos n) → (b ≡ true → 0 < n) →

@@ -2,7 +2,7 @@
 use Rattle.std.proofs.Common.{◌≡◌, ℕ, zero, suc, ◌+◌, ◌-◌, ◌*◌, ◌/◌, ◌%◌, ◌^◌, ◌<◌, ◌≤◌, Bool, true, false, refl, ap, ◌∙◌, sym, subst, inl, inr, arith, ℤ, pos, negsuc, unsigned_abs}
 use Rattle.std.specs.Prelude.{◌+ℤ◌, ◌-ℤ◌, ◌*ℤ◌, ◌≤ℤ◌, neg_ℤ, not, FitsSigned, ◌≢◌, if◌then◌else◌}
 use Rattle.std.specs.Int.{cast_signed, is_negative, w128, IsNonZero, NotMinOverMinusOne}
-use Rattle.std.proofs.Math.Nat.{div-eq_of_lt, div-lt_self, div-mul-le_self, div-one, mod-eq-sub-div-mul, mod-eq_of_lt, mod-lt, mod-one, mul-mod_left, one-le-pow, pow-le-pow_right, pow-suc, zero-mod}
+use Rattle.std.proofs.Math.Nat.{div-add-mod, div-eq_of_lt, div-eq_of_lt-le, div-lt_self, div-mul-le_self, div-one, mod-eq-sub-div-mul, mod-eq_of_lt, mod-lt, mod-one, mul-add-mod_self_left, mul-mod_left, one-le-pow, pow-le-pow_right, pow-suc, zero-mod}
 use Rattle.std.proofs.lemmas.Bool.{cases_lt}
 use Rattle.std.proofs.lemmas.Bool.Decides.{nat_tests}
 use Rattle.std.proofs.lemmas.Int.{ints, to_z_pos}
@@ -243,3 +243,22 @@ quotient_times n m = div-mul-le_self n m
 
 pub less_quotient : (n m : ℕ) → n % m ≡ n - n / m * m
 less_quotient n m = mod-eq-sub-div-mul n m
+
+-- a division in steps, as on paper: each takes what the one before it left, and 32 bits more
+long_division : (n high low middle last b : ℕ) → high ≡ n / 2 ^ 64 → low ≡ n % 2 ^ 64 → middle ≡ high % b * 2 ^ 32 + low / 2 ^ 32 → last ≡ middle % b * 2 ^ 32 + low % 2 ^ 32 →
+    b * (high / b * 2 ^ 64 + (middle / b * 2 ^ 32 + last / b)) + last % b ≡ n
+long_division n high low middle last b is_high is_low is_middle is_last =
+    omega (arith, is_high, is_low, is_middle, is_last, div-add-mod high b, div-add-mod middle b, div-add-mod last b)
+
+pub long_quotient : (n high low middle last b : ℕ) → 0 < b → high ≡ n / 2 ^ 64 → low ≡ n % 2 ^ 64 → middle ≡ high % b * 2 ^ 32 + low / 2 ^ 32 → last ≡ middle % b * 2 ^ 32 + low % 2 ^ 32 →
+    high / b * 2 ^ 64 + (middle / b * 2 ^ 32 + last / b) ≡ n / b
+long_quotient n high low middle last b some is_high is_low is_middle is_last =
+    let all = long_division n high low middle last b is_high is_low is_middle is_last in
+    let below = mod-lt last some in
+    sym (div-eq_of_lt-le b (omega (arith, all)) (omega (arith, all, below)))
+
+pub long_remainder : (n high low middle last b : ℕ) → 0 < b → high ≡ n / 2 ^ 64 → low ≡ n % 2 ^ 64 → middle ≡ high % b * 2 ^ 32 + low / 2 ^ 32 → last ≡ middle % b * 2 ^ 32 + low % 2 ^ 32 →
+    last % b ≡ n % b
+long_remainder n high low middle last b some is_high is_low is_middle is_last =
+    let all = long_division n high low middle last b is_high is_low is_middle is_last in
+    sym (mod-eq_of_lt (mod-lt last some)) ∙ sym (mul-add-mod_self_left b (high / b * 2 ^ 64 + (middle / b * 2 ^ 32 + last / b)) (last % b)) ∙ ap (λ m. m % b) all

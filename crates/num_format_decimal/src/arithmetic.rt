@@ -10,8 +10,8 @@ use crate::decimal::{Decimal, MAX_SCALE};
 impl Decimal {
     /// Returns the sum at the larger of both scales, or `None` if its units there are no `i128`.
     ///
-    /// ```text
-    /// Decimal::new(150, 2)?.checked_add(Decimal::from(2))      // Some(3.50)
+    /// ```rust
+    /// Decimal::new(150, 2)?.checked_add(Decimal::from(2))    // Some(3.50)
     /// ```
     pub fn checked_add(self, other: Decimal) -> Option<Decimal>
         ensures { SomeIff result (HasUnits (plus self other)) (plus self other) }
@@ -22,8 +22,8 @@ impl Decimal {
 
     /// Returns the difference at the larger of both scales, or `None` if its units there are no `i128`.
     ///
-    /// ```text
-    /// Decimal::new(150, 2)?.checked_sub(Decimal::from(2))      // Some(-0.50)
+    /// ```rust
+    /// Decimal::new(150, 2)?.checked_sub(Decimal::from(2))    // Some(-0.50)
     /// ```
     pub fn checked_sub(self, other: Decimal) -> Option<Decimal>
         ensures { SomeIff result (HasUnits (minus self other)) (minus self other) }
@@ -34,6 +34,10 @@ impl Decimal {
 
     /// Returns the negated number at the same scale, or `None` if its units are no `i128`: those of
     /// `i128::MIN`.
+    ///
+    /// ```rust
+    /// Decimal::new(150, 2)?.checked_neg()    // Some(-1.50)
+    /// ```
     pub fn checked_neg(self) -> Option<Decimal>
         ensures { SomeIff result (HasUnits (negated self)) (negated self) }
     {

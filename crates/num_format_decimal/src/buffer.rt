@@ -1,16 +1,17 @@
 //! The text of a decimal, kept in place.
-ghost use Rattle.std.specs.Prelude.{◌≡◌, ℕ, Bool, ◌+◌, ◌^◌, ◌<◌, ◌≤◌, [], ◌++◌, length, nat_lt, unsigned_abs, Some, if◌then◌else◌};
+ghost use Rattle.std.specs.Prelude.{◌≡◌, ℕ, Bool, List, ◌+◌, ◌*◌, ◌^◌, ◌<◌, ◌≤◌, [], ◌++◌, length, nat_lt, unsigned_abs, Some, if◌then◌else◌};
 ghost use Rattle.num_format_int.specs.Digits.{digits};
 ghost use Rattle.num_format_int.specs.Grouped.{separated};
-ghost use Rattle.num_format_int.specs.Groups.{last_digits, plain, HasLastGroup, HasGroups};
+ghost use Rattle.num_format_int.specs.Groups.{last_digits, plain, BeginsWithSeparator, HasLastGroup, HasGroups};
 ghost use Rattle.num_format_int.specs.Text.{body_of};
-ghost use Rattle.num_format_decimal.specs.Printing.{unsigned_text};
+ghost use Rattle.num_format_decimal.specs.Printing.{unsigned_text, PrependsAnywhere};
 ghost use Rattle.num_format_decimal.specs.Text.{decimal_text};
 
 use crate::decimal::{Decimal, MAX_SCALE};
 use crate::powers::{narrow_power_of_ten, power_of_ten, split, split_narrow};
 use num_format_int::Buffer;
 use num_format_int::buffer::copy_bytes;
+use num_format_int::to_formatted_str::split_wide;
 use num_format_text::capacities::{MAX_DEC_LEN, MAX_MIN_LEN, MAX_SEP_LEN};
 use num_format_text::{Format, Grouping};
 use std::marker::Model;
@@ -23,6 +24,10 @@ pub const MAX_DECIMAL_LEN: usize = 199;
 /// The number of digits from which on a digit 1 before them makes a number of more than 64 bits.
 const NINETEEN_DIGITS: u8 = 19;
 
+/// The lowest number of nineteen digits. Below it are numbers of up to eighteen, which are whole groups of two and of
+/// three.
+const EIGHTEEN_ZEROS: u64 = 1_000_000_000_000_000_000;
+
 /// The lowest number of four digits, which is the lowest that can have a separator.
 const FOUR_DIGITS: u64 = 1000;
 
@@ -34,8 +39,8 @@ const FIVE_DIGITS: u64 = 10_000;
 /// Its text ends where the array ends, as that of a [`Buffer`] does: the decimals are prepended first, then the mark,
 /// the digits before it, and the sign.
 ///
-/// ```text
-/// DecimalBuffer::of(&Decimal::new(-123450, 2)?, &Locale::de).as_str()     // -1.234,50
+/// ```rust
+/// DecimalBuffer::of(&Decimal::new(-123450, 2)?, &Locale::de).as_str()    // "-1.234,50"
 /// ```
 #[derive(Drop)]
 pub struct DecimalBuffer {
@@ -62,10 +67,11 @@ impl DecimalBuffer {
     ///
     /// It cannot fail, whatever the number and the format.
     ///
-    /// ```text
-    /// DecimalBuffer::of(&Decimal::new(5, 2)?, &Locale::en).as_str()       // 0.05
-    /// DecimalBuffer::of(&Decimal::from(1234), &Locale::en).as_str()       // 1,234
+    /// ```rust
+    /// DecimalBuffer::of(&Decimal::new(5, 2)?, &Locale::en).as_str()    // "0.05"
+    /// DecimalBuffer::of(&Decimal::from(1234), &Locale::en).as_str()    // "1,234"
     /// ```
+    #[inline(always)]
     pub fn of<F: Format>(d: &Decimal, format: &F) -> DecimalBuffer
         ensures { result ≡ decimal_text (F.answers format.now) d.now }
     {
@@ -81,6 +87,10 @@ impl DecimalBuffer {
     }
 
     /// Returns the text.
+    ///
+    /// ```rust
+    /// DecimalBuffer::of(&Decimal::new(5, 1)?, &Locale::en).as_str()    // "0.5"
+    /// ```
     pub fn as_str(&self) -> &str
         ensures same { result.now ≡ self.now }
         ensures fits { length result.now ≤ MAX_DECIMAL_LEN }
@@ -89,6 +99,10 @@ impl DecimalBuffer {
     }
 
     /// Returns the bytes of the text.
+    ///
+    /// ```rust
+    /// DecimalBuffer::of(&Decimal::new(5, 1)?, &Locale::en).as_bytes()    // [48, 46, 53]
+    /// ```
     pub fn as_bytes(&self) -> &[u8]
         ensures same { result.now ≡ self.now }
         ensures fits { length result.now ≤ MAX_DECIMAL_LEN }
@@ -164,12 +178,38 @@ impl DecimalBuffer {
     fn put_whole<F: Format>(&mut self, n: u128, format: &F)
         requires short { length self.old ≤ MAX_SCALE + MAX_DEC_LEN }
         requires fits { length (body_of (F.answers format.now) n) + length self.old ≤ MAX_DECIMAL_LEN }
+        requires digits { length self.old + 5 * length (digits n) ≤ MAX_DECIMAL_LEN + 4 }
         ensures { self.new ≡ body_of (F.answers format.now) n ++ self.old }
     {
         if n <= u64::MAX as u128 {
             self.put_narrow_whole(n as u64, format);
-            return;
+        } else {
+            self.put_wide_whole(n, format);
         }
+    }
+
+    /// Prepends the digits of a number of more than 64 bits, grouped as the format says.
+    fn put_wide_whole<F: Format>(&mut self, n: u128, format: &F)
+        requires large { 2 ^ 64 ≤ n }
+        requires fits { length (body_of (F.answers format.now) n) + length self.old ≤ MAX_DECIMAL_LEN }
+        requires digits { length self.old + 5 * length (digits n) ≤ MAX_DECIMAL_LEN + 4 }
+        ensures { self.new ≡ body_of (F.answers format.now) n ++ self.old }
+    {
+        let separator = format.separator().into_str();
+        match format.grouping() {
+            Grouping::Standard => self.put_wide_grouped::<3>(n, separator),
+            Grouping::Indian => self.put_wide_grouped::<2>(n, separator),
+            Grouping::Sparse => self.put_wide_grouped::<3>(n, separator),
+            Grouping::Posix => self.put_printed(n, format),
+            Grouping::Myriad => self.put_printed(n, format),
+        }
+    }
+
+    /// Prepends the same text from a `Buffer`.
+    fn put_printed<F: Format>(&mut self, n: u128, format: &F)
+        requires { length (body_of (F.answers format.now) n) + length self.old ≤ MAX_DECIMAL_LEN }
+        ensures { self.new ≡ body_of (F.answers format.now) n ++ self.old }
+    {
         // `Buffer::of` would copy the whole array once more.
         let mut body = Buffer::new();
         body.write_formatted(&n, format);
@@ -200,7 +240,7 @@ impl DecimalBuffer {
     }
 
     /// Prepends the digits of `n` in groups: the last of `LAST` digits, those before it of `SIZE`, and the first of up
-    /// to as many.
+    /// to as many. The code is compiled for each length of a separator, so that a copy of it is a move or two.
     fn put_grouped<const LAST: u8, const SIZE: u8>(&mut self, n: u64, separator: &str)
         requires some { 10 ^ LAST ≤ n }
         requires sizes { (2 ≤ SIZE) × (SIZE ≤ LAST) × (LAST ≤ 4) }
@@ -209,28 +249,128 @@ impl DecimalBuffer {
         ensures { (is_due : ℕ → Bool) → HasLastGroup is_due LAST → HasGroups is_due SIZE
             → self.new ≡ separated is_due separator.now (digits n) ++ self.old }
     {
+        match separator.len() {
+            1 => self.put_separated::<LAST, SIZE, 1>(n, separator),
+            2 => self.put_separated::<LAST, SIZE, 2>(n, separator),
+            3 => self.put_separated::<LAST, SIZE, 3>(n, separator),
+            4 => self.put_separated::<LAST, SIZE, 4>(n, separator),
+            5 => self.put_separated::<LAST, SIZE, 5>(n, separator),
+            6 => self.put_separated::<LAST, SIZE, 6>(n, separator),
+            7 => self.put_separated::<LAST, SIZE, 7>(n, separator),
+            8 => self.put_separated::<LAST, SIZE, 8>(n, separator),
+            _ => self.put_separated::<LAST, SIZE, 0>(n, separator),
+        }
+    }
+
+    /// Prepends the digits of `n` in the same groups, between which stands a separator of `LEN` bytes.
+    ///
+    /// It is a function of its own, so that short numbers are printed without its space.
+    #[inline(never)]
+    fn put_separated<const LAST: u8, const SIZE: u8, const LEN: usize>(
+        &mut self,
+        n: u64,
+        separator: &str,
+    )
+        requires some { 10 ^ LAST ≤ n }
+        requires sizes { (2 ≤ SIZE) × (SIZE ≤ LAST) × (LAST ≤ 4) }
+        requires separator { (length separator.now ≡ LEN) × (LEN ≤ MAX_SEP_LEN) }
+        requires short { length self.old ≤ MAX_SCALE + MAX_DEC_LEN }
+        ensures { (is_due : ℕ → Bool) → HasLastGroup is_due LAST → HasGroups is_due SIZE
+            → self.new ≡ separated is_due separator.now (digits n) ++ self.old }
+    {
         let last = narrow_power_of_ten(LAST);
+        self.put_group::<LAST, LEN>(n % last, separator);
+        self.put_groups::<SIZE, LEN>(n / last, separator);
+    }
+
+    /// Prepends the digits of a number of more than 64 bits in groups, the last of three digits. The code is
+    /// compiled for each length of a separator too.
+    fn put_wide_grouped<const SIZE: u8>(&mut self, n: u128, separator: &str)
+        requires large { 2 ^ 64 ≤ n }
+        requires size { (2 ≤ SIZE) × (SIZE ≤ 3) }
+        requires separator { length separator.now ≤ MAX_SEP_LEN }
+        requires digits { length self.old + 5 * length (digits n) ≤ MAX_DECIMAL_LEN + 4 }
+        ensures { (is_due : ℕ → Bool) → HasLastGroup is_due 3 → HasGroups is_due SIZE
+            → self.new ≡ separated is_due separator.now (digits n) ++ self.old }
+    {
+        match separator.len() {
+            1 => self.put_wide_separated::<SIZE, 1>(n, separator),
+            2 => self.put_wide_separated::<SIZE, 2>(n, separator),
+            3 => self.put_wide_separated::<SIZE, 3>(n, separator),
+            4 => self.put_wide_separated::<SIZE, 4>(n, separator),
+            5 => self.put_wide_separated::<SIZE, 5>(n, separator),
+            6 => self.put_wide_separated::<SIZE, 6>(n, separator),
+            7 => self.put_wide_separated::<SIZE, 7>(n, separator),
+            8 => self.put_wide_separated::<SIZE, 8>(n, separator),
+            _ => self.put_wide_separated::<SIZE, 0>(n, separator),
+        }
+    }
+
+    /// Prepends the digits of `n` in the same groups, between which stands a separator of `LEN` bytes. They come from
+    /// three parts that fit 64 bits each.
+    fn put_wide_separated<const SIZE: u8, const LEN: usize>(&mut self, n: u128, separator: &str)
+        requires large { 2 ^ 64 ≤ n }
+        requires size { (2 ≤ SIZE) × (SIZE ≤ 3) }
+        requires separator { (length separator.now ≡ LEN) × (LEN ≤ MAX_SEP_LEN) }
+        requires digits { length self.old + 5 * length (digits n) ≤ MAX_DECIMAL_LEN + 4 }
+        ensures { (is_due : ℕ → Bool) → HasLastGroup is_due 3 → HasGroups is_due SIZE
+            → self.new ≡ separated is_due separator.now (digits n) ++ self.old }
+    {
+        let (first, middle, last) = split_wide(n);
+        self.put_group::<3, LEN>(last, separator);
+        if first == 0 {
+            self.put_groups::<SIZE, LEN>(middle, separator);
+        } else {
+            // A digit 1 before the middle part keeps its leading zeros. That digit is the first group, and left out.
+            self.put_full_groups::<SIZE, LEN>(EIGHTEEN_ZEROS + middle, separator);
+            self.put_groups::<SIZE, LEN>(first, separator);
+        }
+    }
+
+    /// Prepends the digits of `n` in groups, before others.
+    #[inline(always)]
+    fn put_groups<const SIZE: u8, const LEN: usize>(&mut self, n: u64, separator: &str)
+        requires size { (2 ≤ SIZE) × (SIZE ≤ 4) }
+        requires separator { (length separator.now ≡ LEN) × (LEN ≤ MAX_SEP_LEN) }
+        requires fits { length self.old + 5 * length (digits n) ≤ MAX_DECIMAL_LEN }
+        ensures { (is_due : ℕ → Bool) (right text after : List ℕ) → HasGroups is_due SIZE
+            → BeginsWithSeparator is_due separator.now right text → self.old ≡ text ++ after
+            → self.new ≡ separated is_due separator.now (digits n ++ right) ++ after }
+    {
+        let first = self.put_full_groups::<SIZE, LEN>(n, separator);
+        self.put_digits(first);
+    }
+
+    /// Prepends the digits of `n` in groups, but for the first group, which is returned.
+    #[inline(always)]
+    fn put_full_groups<const SIZE: u8, const LEN: usize>(&mut self, n: u64, separator: &str) -> u64
+        requires size { (2 ≤ SIZE) × (SIZE ≤ 4) }
+        requires separator { (length separator.now ≡ LEN) × (LEN ≤ MAX_SEP_LEN) }
+        requires fits { length self.old + 5 * length (digits n) ≤ MAX_DECIMAL_LEN }
+        ensures groups { PrependsAnywhere SIZE n result separator.now self.old self.new }
+        ensures first { result < 10 ^ SIZE }
+        ensures fits { length self.new + 5 * length (digits result) ≤ length self.old + 5 * length (digits n) }
+    {
         let base = narrow_power_of_ten(SIZE);
-        self.put_group::<LAST>(n % last, separator);
-        let mut left = n / last;
+        let mut left = n;
         while left >= base {
-            self.put_group::<SIZE>(left % base, separator);
+            self.put_group::<SIZE, LEN>(left % base, separator);
             left /= base;
         }
-        self.put_digits(left);
+        left
     }
 
     /// Prepends a group of digits, and the separator before it.
     #[inline(always)]
-    fn put_group<const SIZE: u8>(&mut self, group: u64, separator: &str)
+    fn put_group<const SIZE: u8, const LEN: usize>(&mut self, group: u64, separator: &str)
         requires size { SIZE ≤ 4 }
         requires below { group < 10 ^ SIZE }
-        requires separator { length separator.now ≤ MAX_SEP_LEN }
+        requires separator { (length separator.now ≡ LEN) × (LEN ≤ MAX_SEP_LEN) }
         requires fits { length self.old + SIZE + MAX_SEP_LEN ≤ MAX_DECIMAL_LEN }
         ensures { self.new ≡ separator.now ++ (plain (last_digits SIZE group) ++ self.old) }
     {
         self.put_last_digits(group, SIZE);
-        self.put_front(separator);
+        self.put_front(&separator[..LEN]);
     }
 
     /// Prepends the digits of `n`, which has no more than `count`, leading zeros included, to the empty text.

@@ -19,10 +19,10 @@ pub const MAX_SCALE: u8 = 38;
 /// The scale is a part of a decimal: 1.50 is printed with two decimals, and 1.5 with one. They compare as
 /// equal, since the order, `==` and `Hash` go by the value.
 ///
-/// ```text
-/// Decimal::new(150, 2)?                              // 1.50
-/// Decimal::new(150, 2)? == Decimal::new(15, 1)?      // true
-/// Decimal::from(3)                                   // 3, at scale 0
+/// ```rust
+/// Decimal::new(150, 2)?                            // 1.50
+/// Decimal::new(150, 2)? == Decimal::new(15, 1)?    // true
+/// Decimal::from(3)                                 // 3, at scale 0
 /// ```
 #[derive(Clone, Copy, Debug)]
 pub struct Decimal {
@@ -48,8 +48,9 @@ impl Model for Decimal {
 impl Decimal {
     /// Returns `units` divided by 10 to the power of `scale`.
     ///
-    /// ```text
+    /// ```rust
     /// Decimal::new(-50, 2)?    // -0.50
+    /// Decimal::new(1, 39)      // Err(ScaleTooLarge)
     /// ```
     ///
     /// # Errors
@@ -89,6 +90,10 @@ impl Decimal {
     }
 
     /// Returns how many units the number is, of 10 to the power of minus the scale.
+    ///
+    /// ```rust
+    /// Decimal::new(150, 2)?.units()    // 150
+    /// ```
     pub fn units(&self) -> i128
         ensures { result ≡ self.now.units }
     {
@@ -96,6 +101,10 @@ impl Decimal {
     }
 
     /// Returns whether the number is below zero.
+    ///
+    /// ```rust
+    /// Decimal::new(-150, 2)?.is_negative()    // true
+    /// ```
     pub fn is_negative(&self) -> bool
         ensures { result ≡ is_negative self.now.units }
     {
@@ -111,6 +120,10 @@ impl Decimal {
     }
 
     /// Returns the number of decimals, at most [`MAX_SCALE`].
+    ///
+    /// ```rust
+    /// Decimal::new(150, 2)?.scale()    // 2
+    /// ```
     pub fn scale(&self) -> u8
         ensures scale { result ≡ self.now.scale }
         ensures bound { result ≤ MAX_SCALE }

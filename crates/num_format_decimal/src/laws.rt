@@ -57,7 +57,8 @@ pub fn locale_marks(locale: Locale)
     locale.name();
 }
 
-/// Under a mark that is the separator, or a digit, or empty, two decimals have one text.
+/// Where `,` is both the separator and the mark, under the mark `5`, and under an empty mark, with all else of
+/// `en`, two decimals have one text.
 pub fn mark_needed()
     ensures { MarkNeededLaw }
 {}

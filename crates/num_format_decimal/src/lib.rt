@@ -3,11 +3,11 @@
 //!
 //! A [`Decimal`] is a whole number of units and a scale: 150 at scale 2 is 1.50.
 //!
-//! ```text
+//! ```rust
 //! let price = Decimal::new(123450, 2)?;
-//! price.to_formatted_string(alloc, &Locale::de)?                // 1.234,50
-//! price.rescale(1, Rounding::HalfEven)?                         // 1234.5
-//! price.checked_add(Decimal::from(1))                           // Some(1235.50)
+//! price.to_formatted_string(alloc, &Locale::de)?    // "1.234,50"
+//! price.rescale(1, Rounding::HalfEven)?             // 1234.5
+//! price.checked_add(Decimal::from(1))               // Some(1235.50)
 //! ```
 //!
 //! The contracts state which number each call returns, and the text of a number. They see a decimal as its units

@@ -12,17 +12,18 @@ use num_format_parsing::numeral::is_other_numeral;
 use num_format_parsing::strict::has_digit;
 use num_format_text::{Format, Grouping};
 
-/// Returns whether each decimal of each scale, printed under the format, parses as the same decimal again.
+/// Returns whether every whole number reads back under the format, and the decimal mark cannot be taken for
+/// anything else: it is not empty, no character of it is numeric, and it is not the separator, unless none is
+/// printed.
 ///
-/// That is so if every whole number reads back, and the decimal mark cannot be taken for anything else: it is not
-/// empty, no character of it is numeric, and it is not the separator, unless none is printed. The laws
-/// [`exact`](crate::laws::exact) and [`exact_under`](crate::laws::exact_under) say what then follows.
+/// Then each decimal of each scale, printed under the format, parses as the same decimal again. The laws
+/// [`exact`](crate::laws::exact) and [`exact_under`](crate::laws::exact_under) say so.
 ///
 /// Check a format once, where it is read from settings, and then rely on it for all decimals:
 ///
-/// ```text
-/// marks_decimals(&Locale::de)                                               // true, as for each locale
-/// marks_decimals(&CustomFormat::builder().decimal(",").build()?)            // false: the separator is a comma too
+/// ```rust
+/// marks_decimals(&Locale::de)                                       // true, as for each locale
+/// marks_decimals(&CustomFormat::builder().decimal(",").build()?)    // false: the separator is a comma too
 /// ```
 pub fn marks_decimals<F: Format>(format: &F) -> bool
     ensures { IsTrue result ↔ MarksDecimals (F.answers format.now) }

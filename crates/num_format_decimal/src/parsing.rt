@@ -43,8 +43,8 @@ pub enum ParseDecimalError {
     NoDigit,
     /// No byte is unexpected, and more than [`MAX_SCALE`] digits follow the mark.
     TooManyDecimals,
-    /// No byte is unexpected, and the text is not as the number is printed: it has a leading zero, no digit before
-    /// the mark or after it, a separator elsewhere than where the format prints one, or is a negative zero.
+    /// No byte is unexpected, and the text is not as the number is printed, grouped or not: under `en` these are
+    /// `01`, `.5`, `1.`, `1,23.4` and `-0.00`.
     Misspelled,
     /// The text spells a number whose units are no `i128`. Under a format whose texts have digits of their own, or
     /// other numerals, it may be one that lenient parsing refuses.
@@ -74,7 +74,7 @@ impl std::error::Error for ParseDecimalError {}
 /// Why a text was refused as a decimal of a given scale.
 #[derive(Clone, Copy, Debug, PartialEq, Eq, Hash)]
 pub enum ParseAtScaleError {
-    /// The text spells no decimal.
+    /// The text is refused as a decimal.
     Parse(ParseDecimalError),
     /// The text spells a decimal that cannot be rescaled: the scale is too large, digits other than zero would be
     /// lost, or the units at the scale are no `i128`.
@@ -100,16 +100,16 @@ impl std::error::Error for ParseAtScaleError {}
 impl Decimal {
     /// Returns the decimal that the text spells: its scale is the number of digits after the mark.
     ///
-    /// ```text
-    /// Decimal::from_strict_str("1,234.50", &Locale::en)    // 1234.50, which has scale 2
-    /// Decimal::from_strict_str("1234.5", &Locale::en)      // 1234.5, which has scale 1
+    /// ```rust
+    /// Decimal::from_strict_str("1,234.50", &Locale::en)    // Ok(1234.50)
+    /// Decimal::from_strict_str("1234.5", &Locale::en)      // Ok(1234.5)
     /// Decimal::from_strict_str(".5", &Locale::en)          // Err(Misspelled)
     /// Decimal::from_strict_str("1.234.5", &Locale::en)     // Err(Unexpected { at: 5 })
     /// ```
     ///
     /// # Errors
     ///
-    /// [`ParseDecimalError`] has the causes for which a text is refused. `NotUtf8` is none of a `&str`.
+    /// [`ParseDecimalError`] has the causes for which a text is refused. `NotUtf8` is none of them.
     pub fn from_strict_str<F: Format>(text: &str, format: &F) -> Result<Decimal, ParseDecimalError>
         ensures decimal { (d : FixedPoint) → (result ≡ Ok d)
             ↔ ParsesDecimal (F.answers format.now) text.now d }
@@ -123,8 +123,8 @@ impl Decimal {
     /// Returns the decimal that the text of these bytes spells, as [`from_strict_str`](Decimal::from_strict_str)
     /// does.
     ///
-    /// ```text
-    /// Decimal::from_strict_bytes(b"1,234.50", &Locale::en)    // 1234.50
+    /// ```rust
+    /// Decimal::from_strict_bytes(b"1,234.50", &Locale::en)    // Ok(1234.50)
     /// Decimal::from_strict_bytes(b"1\xFF", &Locale::en)       // Err(NotUtf8)
     /// ```
     ///
@@ -150,11 +150,11 @@ impl Decimal {
     ///
     /// For amounts of one currency, however many decimals they are written with.
     ///
-    /// ```text
-    /// Decimal::parse_at_scale("1,234.5", 2, &Locale::en)     // 1234.50
-    /// Decimal::parse_at_scale("1.250", 2, &Locale::en)       // 1.25
-    /// Decimal::parse_at_scale("1.255", 2, &Locale::en)       // Err(Rescale(DigitsLost))
-    /// Decimal::parse_at_scale("1.", 2, &Locale::en)          // Err(Parse(Misspelled))
+    /// ```rust
+    /// Decimal::parse_at_scale("1,234.5", 2, &Locale::en)    // Ok(1234.50)
+    /// Decimal::parse_at_scale("1.250", 2, &Locale::en)      // Ok(1.25)
+    /// Decimal::parse_at_scale("1.255", 2, &Locale::en)      // Err(Rescale(DigitsLost))
+    /// Decimal::parse_at_scale("1.", 2, &Locale::en)         // Err(Parse(Misspelled))
     /// ```
     ///
     /// # Errors
@@ -188,10 +188,14 @@ pub trait ParseDecimal {
 
     /// Returns the decimal that the text spells, or why it spells none, as [`Decimal::from_strict_str`] does.
     ///
-    /// ```text
-    /// "1.234,50".parse_decimal(&Locale::de)      // Ok: 1234.50
-    /// "1.234,5,0".parse_decimal(&Locale::de)     // Err(Unexpected { at: 7 })
+    /// ```rust
+    /// "1.234,50".parse_decimal(&Locale::de)     // Ok(1234.50)
+    /// "1.234,5,0".parse_decimal(&Locale::de)    // Err(Unexpected { at: 7 })
     /// ```
+    ///
+    /// # Errors
+    ///
+    /// [`ParseDecimalError`] has the causes for which a text is refused. `NotUtf8` is none of them.
     fn parse_decimal<F: Format>(&self, format: &F) -> Result<Decimal, ParseDecimalError>
         ensures decimal { (d : FixedPoint) → (result ≡ Ok d)
             ↔ ParsesDecimal (F.answers format.now) (bytes self.now) d }

@@ -6,6 +6,12 @@ use crate::decimal::MAX_SCALE;
 /// The lowest exponent at which a power of ten takes more than 64 bits.
 pub(crate) const TWENTY_DIGITS: u8 = 20;
 
+/// 2 to the power of 64.
+const TWO_TO_64: u128 = 1 << 64;
+
+/// 2 to the power of 32.
+const TWO_TO_32: u64 = 1 << 32;
+
 /// Returns 10 to the power of an exponent.
 #[tactic(auto, using(crate::proofs::ScaleLemmas::power_le, crate::proofs::ScaleLemmas::power_positive, crate::proofs::ScaleLemmas::power_parts))]
 pub(crate) fn power_of_ten(exponent: u8) -> u128
@@ -68,18 +74,53 @@ pub(crate) fn split(n: u128, scale: u8) -> (u128, u128)
     ensures whole { result.0 ≡ n / 10 ^ scale }
     ensures rest { result.1 ≡ n % 10 ^ scale }
 {
-    if scale == 0 {
-        return (n, 0);
+    if n <= u64::MAX as u128 {
+        return split_short(n as u64, scale);
     }
-    // A division of 128 bits is a call, so 64 are used where they are enough.
-    if n > u64::MAX as u128 {
-        divide(n, power_of_ten(scale))
-    } else if scale < TWENTY_DIGITS {
-        let (whole, rest) = split_narrow(n as u64, scale);
+    match scale {
+        0 => (n, 0),
+        1 => divide_by::<10>(n),
+        2 => divide_by::<100>(n),
+        3 => divide_by::<1000>(n),
+        4 => divide_by::<10_000>(n),
+        5 => divide_by::<100_000>(n),
+        6 => divide_by::<1_000_000>(n),
+        7 => divide_by::<10_000_000>(n),
+        8 => divide_by::<100_000_000>(n),
+        9 => divide_by::<1_000_000_000>(n),
+        _ => divide(n, power_of_ten(scale)),
+    }
+}
+
+/// Returns the same of a number of 64 bits.
+fn split_short(n: u64, scale: u8) -> (u128, u128)
+    requires { scale ≤ MAX_SCALE }
+    ensures whole { result.0 ≡ n / 10 ^ scale }
+    ensures rest { result.1 ≡ n % 10 ^ scale }
+{
+    if scale < TWENTY_DIGITS {
+        let (whole, rest) = split_narrow(n, scale);
         (whole as u128, rest as u128)
     } else {
-        (0, n)
+        (0, n as u128)
     }
+}
+
+/// Returns a number divided by another of up to 32 bits, and what is left.
+///
+/// A division of 128 bits is a call. In its place 64 bits are divided three times, as on paper, by a number that is
+/// known where the code is compiled, so that each division takes a few multiplications.
+#[inline(always)]
+fn divide_by<const BY: u64>(n: u128) -> (u128, u128)
+    requires { (0 < BY) × (BY ≤ 2 ^ 32) }
+    ensures whole { result.0 ≡ n / BY }
+    ensures rest { result.1 ≡ n % BY }
+{
+    let (high, low) = ((n / TWO_TO_64) as u64, (n % TWO_TO_64) as u64);
+    let middle = high % BY * TWO_TO_32 + low / TWO_TO_32;
+    let last = middle % BY * TWO_TO_32 + low % TWO_TO_32;
+    let whole = (high / BY) as u128 * TWO_TO_64 + (middle / BY * TWO_TO_32 + last / BY) as u128;
+    (whole, (last % BY) as u128)
 }
 
 /// Returns a number divided by another, and what is left, by one division.

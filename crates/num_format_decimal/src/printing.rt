@@ -18,6 +18,12 @@ impl Decimal {
     /// Writes the text of the number to a writer of text, by one call of `write_str`. Returns the length of
     /// the text in bytes.
     ///
+    /// ```rust
+    /// let mut line = String::new(alloc);
+    /// Decimal::new(123450, 2)?.read_to_fmt_writer(&mut line, &Locale::en)?    // 8
+    /// line                                                                    // "1,234.50"
+    /// ```
+    ///
     /// # Errors
     ///
     /// Returns the error of that call. The contract does not say what the writer received by then.
@@ -39,6 +45,12 @@ impl Decimal {
     /// Writes the text of the number to a writer of bytes, in as many writes as it takes. Returns the length
     /// of the text in bytes.
     ///
+    /// ```rust
+    /// let mut bytes = Vec::new(alloc);
+    /// Decimal::new(5, 1)?.read_to_io_writer(&mut bytes, &Locale::en)?    // 3
+    /// bytes                                                              // [48, 46, 53]
+    /// ```
+    ///
     /// # Errors
     ///
     /// Returns the error of the first write that fails, also of one that was interrupted. A write of no bytes
@@ -58,8 +70,8 @@ impl Decimal {
 
     /// Returns the text of the number as a new string.
     ///
-    /// ```text
-    /// Decimal::new(123450, 2)?.to_formatted_string(alloc, &Locale::en)?      // 1,234.50
+    /// ```rust
+    /// Decimal::new(123450, 2)?.to_formatted_string(alloc, &Locale::en)?    // "1,234.50"
     /// ```
     ///
     /// # Errors
@@ -80,7 +92,7 @@ impl Decimal {
     /// Returns the number, to be displayed under the format. It needs no memory, and a width counts: see
     /// [`FormattedDecimal`].
     ///
-    /// ```text
+    /// ```rust
     /// println!(rt; "{:>12}", Decimal::new(123450, 2)?.formatted(&Locale::en))    // "    1,234.50"
     /// ```
     pub fn formatted<'a, F: Format>(&'a self, format: &'a F) -> FormattedDecimal<'a, F>

@@ -1,18 +1,21 @@
 //! Decimals read in one pass over a text, under a format whose texts tell them.
 //!
-//! The digits at the end of a text are its decimals if the mark stands before them, and what stands between the
-//! sign and the mark is a whole number. Under most formats no other scale is possible.
-ghost use Rattle.std.specs.Prelude.{◌≡◌, ◌+◌, ◌*◌, ◌^◌, ◌<◌, ◌≤◌, [], true, IsTrue, IsUtf8, IfSome, pos, take, drop, length, if◌then◌else◌};
+//! Short texts without separators are read from the first byte to the last. Of others the digits at the end are the
+//! decimals if the mark stands before them, and what stands between the sign and the mark is a whole number. Under
+//! most formats no other scale is possible.
+ghost use Rattle.std.specs.Prelude.{◌≡◌, ℕ, List, ◌+◌, ◌*◌, ◌^◌, ◌<◌, ◌≤◌, [], true, IsTrue, IsUtf8, IfSome, pos, take, drop, length, if◌then◌else◌};
 ghost use Rattle.std.specs.Char.{is_ascii_digit};
 ghost use Rattle.std.specs.Int.Digits.{number_from_digits};
 ghost use Rattle.std.specs.List.{list_all};
 ghost use Rattle.num_format_text.specs.Format.{FormatData};
 ghost use Rattle.num_format_int.specs.Grouped.{printed_separator};
+ghost use Rattle.num_format_int.specs.Kind.{signed_number};
 ghost use Rattle.num_format_parsing.specs.Shapes.{byte_figures};
 ghost use Rattle.num_format_parsing.specs.Strict.{SpellsNumber};
 ghost use Rattle.num_format_decimal.specs.Marks.{TellsDecimals};
-ghost use Rattle.num_format_decimal.specs.Parsing.{ParsesDecimal};
-ghost use Rattle.num_format_decimal.specs.Shapes.{IsCut, IsSpelled, StandsAt};
+ghost use Rattle.num_format_decimal.specs.FixedPoint.{fixed_point};
+ghost use Rattle.num_format_decimal.specs.Parsing.{ParsesDecimal, SpellsDecimal};
+ghost use Rattle.num_format_decimal.specs.Shapes.{IsCut, IsMarkedAt, IsSpelled, StandsAt};
 
 use crate::decimal::{Decimal, MAX_SCALE};
 use crate::marks::{is_apart, is_plain, is_usual};
@@ -102,14 +105,124 @@ fn read_decimal<F: Format>(text: &[u8], format: &F) -> Option<Decimal>
     ensures { IfSome result (λ d. IsSpelled (F.answers format.now) text.now d) }
 {
     let (is_negative, start) = sign(text, format);
+    if text.len() <= SAFE_DIGITS {
+        if let Some(decimal) = read_plain(text, is_negative, start, format) {
+            return Some(decimal);
+        }
+    }
     let (place, end) = mark_places(text, start, format.decimal().into_str());
     let whole = read_whole(&text[start..place], format)?;
     let decimals = &text[end..];
     let magnitude = joined(whole, decimals)?;
+    signed(is_negative, magnitude, decimals.len() as u8)
+}
+
+/// Returns the decimal with that sign and that absolute value, unless it is zero with a sign or its units are no `i128`.
+#[inline(always)]
+fn signed(is_negative: bool, magnitude: u128, scale: u8) -> Option<Decimal>
+    requires { scale ≤ MAX_SCALE }
+    ensures { (f : FormatData) (t : List ℕ)
+        → ((is_negative ≡ true → 0 < magnitude) → SpellsDecimal f t (fixed_point (signed_number is_negative magnitude) scale))
+        → IfSome result (λ d. IsSpelled f t d) }
+{
     if magnitude == 0 && is_negative {
         return None;
     }
-    Decimal::with_magnitude(is_negative, magnitude, decimals.len() as u8)
+    Decimal::with_magnitude(is_negative, magnitude, scale)
+}
+
+/// Returns the decimal that a short text without separators spells, which is read from its first byte to its last.
+#[inline(always)]
+fn read_plain<F: Format>(
+    text: &[u8],
+    is_negative: bool,
+    start: usize,
+    format: &F,
+) -> Option<Decimal>
+    requires start { start ≤ length text.now }
+    requires sign { take start text.now ≡ (if is_negative then (F.answers format.now).minus_sign else []) }
+    requires few { length text.now ≤ SAFE_DIGITS }
+    ensures { IfSome result (λ d. IsSpelled (F.answers format.now) text.now d) }
+{
+    if ends_in_group(&text[start..]) {
+        return None;
+    }
+    let whole = read_number(&text[start..])?;
+    let place = start + whole.0;
+    let end = mark_end(text, place, format.decimal().into_str())?;
+    let decimals = leading_digits(&text[end..]);
+    let scale = text.len() - end;
+    if decimals.0 != scale {
+        return None;
+    }
+    let one = narrow_power_of_ten(scale as u8);
+    let magnitude = whole.1 as u128 * one as u128 + decimals.1 as u128;
+    signed(is_negative, magnitude, scale as u8)
+}
+
+/// Returns whether a text seems to end in a group of three digits, which another byte precedes.
+#[inline(always)]
+fn ends_in_group(text: &[u8]) -> bool {
+    text.len() > 3 && !text[text.len() - 4].is_ascii_digit()
+}
+
+/// Returns how many digits a text begins with, and the number that they write, if they are a number as it is printed.
+#[inline(always)]
+fn read_number(text: &[u8]) -> Option<(usize, u64)>
+    requires { length text.now ≤ SAFE_DIGITS }
+    ensures within { IfSome result (λ r. r.0 ≤ length text.now) }
+    ensures number { IfSome result (λ r. (f : FormatData) → SpellsNumber f (take r.0 text.now) (pos r.1)) }
+{
+    let digits = leading_digits(text);
+    if digits.0 == 0 {
+        return None;
+    }
+    if text[0] == b'0' && digits.0 > 1 {
+        return None;
+    }
+    Some(digits)
+}
+
+/// Returns how many digits a text begins with, and the number that they write.
+#[inline(always)]
+fn leading_digits(text: &[u8]) -> (usize, u64)
+    requires { length text.now ≤ SAFE_DIGITS }
+    ensures within { result.0 ≤ length text.now }
+    ensures digits { list_all is_ascii_digit (take result.0 text.now) ≡ true }
+    ensures number { result.1 ≡ number_from_digits 10 (byte_figures (take result.0 text.now)) }
+{
+    let mut n = 0u64;
+    let mut count = 0;
+    while count < text.len() {
+        let byte = text[count];
+        if !byte.is_ascii_digit() {
+            return (count, n);
+        }
+        n = 10 * n + (byte - b'0') as u64;
+        count += 1;
+    }
+    (count, n)
+}
+
+/// Returns where the digits after the mark begin, if the mark stands at the place and more follows, or the place if
+/// the text ends there.
+#[inline(always)]
+fn mark_end(text: &[u8], place: usize, mark: &str) -> Option<usize>
+    requires { place ≤ length text.now }
+    ensures within { IfSome result (λ end. end ≤ length text.now) }
+    ensures mark { IfSome result (λ end. IsMarkedAt mark.now text.now place end) }
+{
+    if place == text.len() {
+        return Some(place);
+    }
+    if !begins_with(&text[place..], mark.as_bytes()) {
+        return None;
+    }
+    let end = place + mark.len();
+    if end == text.len() {
+        return None;
+    }
+    Some(end)
 }
 
 /// Returns where the mark stands and where the digits after it begin, or the length twice where there is no mark.

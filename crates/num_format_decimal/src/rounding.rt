@@ -24,10 +24,10 @@ pub enum Rounding {
 impl Decimal {
     /// Returns the number at another scale, rounded where that has fewer decimals.
     ///
-    /// ```text
-    /// Decimal::new(2345, 3)?.rescale(2, Rounding::HalfEven)?       // 2.34
-    /// Decimal::new(2345, 3)?.rescale(4, Rounding::Exact)?          // 2.3450
-    /// Decimal::new(2345, 3)?.rescale(2, Rounding::Exact)           // Err(DecimalError::DigitsLost)
+    /// ```rust
+    /// Decimal::new(2345, 3)?.rescale(2, Rounding::HalfEven)    // Ok(2.34)
+    /// Decimal::new(2345, 3)?.rescale(4, Rounding::Exact)       // Ok(2.3450)
+    /// Decimal::new(2345, 3)?.rescale(2, Rounding::Exact)       // Err(DigitsLost)
     /// ```
     ///
     /// # Errors

@@ -64,10 +64,13 @@ pub(crate) fn trailing_digits(text: &[u8]) -> usize
         → is_ascii_digit (get_or text.now (length text.now - result - 1) 0) ≡ false }
 {
     let mut start = text.len();
-    while start > 0 && text[start - 1].is_ascii_digit() {
+    while start > 0 {
+        if !text[start - 1].is_ascii_digit() {
+            return text.len() - start;
+        }
         start -= 1;
     }
-    text.len() - start
+    text.len()
 }
 
 /// Returns whether a text spells the number that its digits write at a scale. `start` is the length of the sign.

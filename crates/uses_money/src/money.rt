@@ -18,9 +18,9 @@ use std::fmt;
 
 /// An amount of money in minor units of its currency, as cents.
 ///
-/// ```text
-/// Money { minor_units: 123_450, currency: Currency::Eur }     // 1,234.50
-/// Money { minor_units: 123_450, currency: Currency::Jpy }     // 123,450
+/// ```rust
+/// println!(rt; "{}", Money { minor_units: 123_450, currency: Currency::Eur }.formatted(&Locale::en))    // 1,234.50
+/// println!(rt; "{}", Money { minor_units: 123_450, currency: Currency::Jpy }.formatted(&Locale::en))    // 123,450
 /// ```
 #[derive(Clone, Copy, Debug, PartialEq, Eq, Hash)]
 pub struct Money {
@@ -59,8 +59,8 @@ impl Money {
     /// Returns the amount that a text spells: it is exactly as an amount is printed, with separators or without,
     /// and has any number of decimals that loses none.
     ///
-    /// ```text
-    /// Money::parse("1,234.5", Currency::Usd, &Locale::en)      // 1,234.50
+    /// ```rust
+    /// Money::parse("1,234.5", Currency::Usd, &Locale::en)      // Ok(Money { minor_units: 123450, currency: Usd })
     /// Money::parse("12.345", Currency::Usd, &Locale::en)       // Err(Rescale(DigitsLost))
     /// Money::parse("12.50 USD", Currency::Usd, &Locale::en)    // Err(Parse(Unexpected { at: 5 }))
     /// ```
@@ -89,8 +89,9 @@ impl Money {
 
     /// Returns the amount, to be displayed under a format. A width counts, as for a decimal.
     ///
-    /// ```text
-    /// println!(rt; "{:>12} {}", price.formatted(&Locale::de), price.currency)?     // "    1.234,50 EUR"
+    /// ```rust
+    /// let price = Money { minor_units: 123_450, currency: Currency::Eur };
+    /// println!(rt; "{:>12} {}", price.formatted(&Locale::de), price.currency)    // "    1.234,50 EUR"
     /// ```
     pub fn formatted<'a, F: Format>(&self, format: &'a F) -> FormattedMoney<'a, F>
         ensures amount { result.amount ≡ amount_of self.now }

@@ -1,12 +1,9 @@
-use Rattle.std.proofs.Common.{◌≡◌, ◌+◌, ◌-◌, ◌*◌, ◌^◌, ◌<◌, ◌≤◌, ◌∙◌, inl, inr, true, length, length-drop, drop, take, refl, ap, arith, subst}
+use Rattle.std.proofs.Common.{◌≡◌, ◌+◌, ◌-◌, ◌*◌, ◌^◌, ◌<◌, ◌≤◌, ◌∙◌, true, length, length-drop, drop, take, refl, ap, arith, subst}
 use Rattle.std.specs.Int.Digits.{number_from_digits}
-use Rattle.std.proofs.lemmas.Bool.{both_ways}
 use Rattle.std.proofs.lemmas.List.{take_rest}
-use Rattle.num_format_parsing.specs.Reading.{signed_number}
 use Rattle.num_format_parsing.specs.Shapes.{byte_figures}
-use Rattle.num_format_decimal.specs.FixedPoint.{fixed_point}
 use Rattle.num_format_decimal.specs.Shapes.{IsMarkedAt}
-use Rattle.num_format_decimal.proofs.ReadLemmas.{parts_read, signed_read}
+use Rattle.num_format_decimal.proofs.ReadLemmas.{parts_read}
 use Rattle.num_format_decimal.proofs.reading.read_decimal.Goals as goal
 
 pub returns : goal.returns
@@ -24,13 +21,7 @@ returns g c =
     let k = length (take (length t - end) (drop end t)) in
     let long : k ≡ length t - end = ap length rest ∙ length-drop end t in
     let all : end + k ≡ length t = omega (arith, long, cut.within) in
-    let few : k ≤ 38 = omega (arith, long, cut.few) in
     let sum : n ≡ m * 10 ^ k + number_from_digits 10 (byte_figures (drop end t)) =
     c.in_ok-magnitude.ensures ∙ ap (λ xs. m * 10 ^ k + number_from_digits 10 (byte_figures xs)) rest in
     let found : IsMarkedAt f.decimal t place end = subst (λ mark. IsMarkedAt mark t place end) (c.into_str.ensures.same ∙ c.decimal.ensures) cut.found in
-    let signed : b ≡ true → 0 < n = λ negative. elim c.else-magnitude-eq0.either [
-      | inl nought ↦ absurd (both_ways b nought.1 negative)
-      | inr some ↦ omega (arith, some)
-    ] in
-    signed_read f t (fixed_point (signed_number b n) k) c.with_magnitude.result c.with_magnitude.ensures few
-    (parts_read f t (take (place - start) (drop start t)) b start place end k m n found all cut.order cut.digits c.sign-is_negative.ensures.sign refl c.in_ok-whole.ensures sum signed)
+    c.signed.ensures f t (λ signed. parts_read f t (take (place - start) (drop start t)) b start place end k m n found all cut.order cut.digits c.sign-is_negative.ensures.sign refl c.in_ok-whole.ensures sum signed)

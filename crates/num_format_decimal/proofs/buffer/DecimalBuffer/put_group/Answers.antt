@@ -10,6 +10,7 @@ put_front-requires g c =
       ap length c.put_last_digits.ensures,
       length-append (plain (last_digits g.row.SIZE c.args.group)) c.args.self.now,
       length-plain g.row.SIZE c.args.group,
-      c.requires.separator,
+      c.range.ensures.len,
+      c.requires.separator.1,
       c.requires.fits,
     )

@@ -1,7 +1,8 @@
-use Rattle.std.proofs.Common.{refl, arith}
+use Rattle.std.proofs.Common.{length, refl, ap, arith}
 use Rattle.std.proofs.Math.Nat.{mod-lt}
+use Rattle.num_format_int.specs.Digits.{digits}
 use Rattle.num_format_decimal.proofs.ScaleLemmas.{power_positive}
-use Rattle.num_format_decimal.proofs.TextLemmas.{unsigned_text_from, whole_fits}
+use Rattle.num_format_decimal.proofs.TextLemmas.{unsigned_text_from, whole_digits, whole_fits}
 use Rattle.num_format_decimal.proofs.buffer.DecimalBuffer.put_wide.Goals as goal
 
 pub put_decimals-requires-clause-below : goal.put_decimals-requires-clause-below
@@ -12,6 +13,15 @@ put_whole-requires-clause-fits g c =
     let f = g.F.Format.answers c.args.format.now in
     let fits = whole_fits f c.args.n c.args.scale c.args.scale c.split-whole.result.0 refl c.requires.scale c.requires.below c.requires.separator c.split-whole.ensures.whole in
     omega (arith, fits, c.put_decimals.ensures.room)
+
+pub put_whole-requires-clause-digits : goal.put_whole-requires-clause-digits
+put_whole-requires-clause-digits g c =
+    omega (
+      arith,
+      whole_digits c.args.n c.args.scale (omega (arith, c.requires.below)) c.requires.scale,
+      ap (λ m. length (digits m)) c.split-whole.ensures.whole,
+      c.put_decimals.ensures.room,
+    )
 
 pub returns : goal.returns
 returns g c =
