@@ -3,32 +3,35 @@
 //! A number is written under a [`Format`], which is a [`Locale`], a [`CustomFormat`] or a type of
 //! your own. It is written into a [`Buffer`], a string or a writer:
 //!
-//! ```text
+//! ```rust
 //! let mut buffer = Buffer::new();
-//! buffer.write_formatted(&1000000, &Locale::en);          // buffer.as_str() is "1,000,000"
-//! let text = 1000000.to_formatted_string(alloc, &Locale::en)?;
-//! line.write_formatted(&1000000, &Locale::en)?;           // a String, a Vec<u8>, a File ..
+//! buffer.write_formatted(&1000000, &Locale::en)            // 9
+//! buffer.as_str()                                          // "1,000,000"
+//! 1000000.to_formatted_string(alloc, &Locale::de)?         // "1.000.000"
+//! let mut line = String::from_str(alloc, "total: ")?;
+//! line.write_formatted(&1000000, &Locale::en)?             // 9: as for a Vec<u8>, a File ..
+//! line                                                     // "total: 1,000,000"
 //! ```
 //!
 //! or displayed in a column:
 //!
-//! ```text
-//! println!(rt; "{:>12}", 1000000.formatted(&Locale::en))  // "   1,000,000"
+//! ```rust
+//! println!(rt; "{:>12}", 1000000.formatted(&Locale::en))    // "   1,000,000"
 //! ```
 //!
 //! It is parsed under a format too:
 //!
-//! ```text
-//! let number: i64 = "1,000,000".parse_formatted(&Locale::en)?;
+//! ```rust
+//! let number: i64 = "1,000,000".parse_formatted(&Locale::en)?;    // 1000000
 //! ```
 //!
-//! Every call writes the same text for a number and a format. Parsing reads the digits of a text,
-//! and the minus sign at its start. It ignores every other character: under the locale `en`,
-//! `12.50` is 1250 and `(7)` is 7. Strict parsing takes a text only as the number is printed, with its
+//! Every call that succeeds writes the same text for a number and a format. Parsing reads the digits of a text,
+//! and the minus sign at its start. It ignores each character that is not numeric: under the locale `en`,
+//! `12.50` is 1250 and `(7)` is 7. Strict parsing accepts a text only as the number is printed, with its
 //! separators or without any, and says of any other what is wrong:
 //!
-//! ```text
-//! let number: Result<i64, StrictError> = "12.50".parse_strict(&Locale::en);   // Unexpected { at: 2 }
+//! ```rust
+//! let number: Result<i64, StrictError> = "12.50".parse_strict(&Locale::en);    // Err(Unexpected { at: 2 })
 //! ```
 //!
 //! [`json`] has a buffer, a custom format and a locale as JSON values. [`reads_back`] and
@@ -38,7 +41,7 @@
 //! caller imports the definitions that the contracts use from `Rattle.num_format.specs`, as
 //! `Rattle.num_format.specs.Text.{text_of}`.
 //!
-//! The names are those of the Rust crate `num-format` 0.4.4.
+//! Where the Rust crate `num-format` 0.4.4 has an item, its name is the same here.
 #![tactic(auto)]
 
 pub mod laws;

@@ -26,7 +26,7 @@ use num_format_text::{Error, Format};
 ///
 /// Check a format once, where it is read from settings, and then rely on it for all numbers:
 ///
-/// ```text
+/// ```rust
 /// let format = CustomFormat::builder().separator("'").build()?;
 /// reads_back(&format)    // true
 /// let format = CustomFormat::builder().separator("0").build()?;
@@ -66,7 +66,7 @@ fn number_reads_back<F: Format>(n: i128, format: &F) -> bool
 ///
 /// The Rust crate has no such call.
 ///
-/// ```text
+/// ```rust
 /// prints_alike(&Locale::ru, &Locale::xh)       // true, though their decimal marks are , and .
 /// prints_alike(&Locale::en, &Locale::en_IN)    // false: 100,000 and 1,00,000
 /// ```

@@ -28,8 +28,11 @@ pub const LEN: usize = 542;
 
 /// Returns the row at `place`, counted from 0 in rising byte order of the names.
 ///
-/// ```text
-/// row(134)  is the row of en-IN, with decimal mark ".", separator "," and Indian grouping
+/// ```rust
+/// row(134).name     // "en-IN"
+/// row(134).dec      // "."
+/// row(134).sep      // ","
+/// row(134).group    // 1, which is Indian
 /// ```
 pub fn row(place: usize) -> &'static Row
     requires { place < LEN }
@@ -43,6 +46,12 @@ pub fn row(place: usize) -> &'static Row
 /// Returns the names of all rows, in order: the name at a place is that of the row at that place.
 ///
 /// They rise in byte order, and none has an underscore.
+///
+/// ```rust
+/// names()[0]      // "af"
+/// names()[90]     // "en"
+/// names()[541]    // "zu"
+/// ```
 pub fn names() -> &'static [&'static str]
     ensures listed { map (λ name. name.now) result.now ≡ table_names }
     ensures count { length result.now ≡ LEN }

@@ -15,11 +15,19 @@ pub trait Offset: Copy {
     const LIMIT: usize;
 
     /// Returns the offset of a place.
+    ///
+    /// ```rust
+    /// <u32 as Offset>::new(5)    // 5
+    /// ```
     fn new(place: usize) -> Self
         requires { place ≤ LIMIT }
         ensures { position result ≡ place };
 
     /// Returns the place.
+    ///
+    /// ```rust
+    /// Offset::get(&5u32)    // 5
+    /// ```
     fn get(&self) -> usize
         ensures { result ≡ position self.now };
 }
@@ -57,6 +65,11 @@ impl Offset for u64 {
 }
 
 /// Returns whether no offset is below the one before it, and none after the first is above the limit.
+///
+/// ```rust
+/// are_offsets(&[0u32, 1, 6], 6)    // true
+/// are_offsets(&[0u32, 6, 1], 6)    // false
+/// ```
 pub fn are_offsets<O: Offset>(offsets: &[O], limit: usize) -> bool
     ensures { IsTrue result ↔ AreOffsets O.position limit offsets.now }
 {

@@ -14,11 +14,21 @@ use num_format_writers::text_len;
 pub trait Printer<T> {
     ghost text: { Self → T → List ℕ };
 
-    /// Returns the length of the text of a value.
+    /// Returns the length of the text of a value in bytes.
+    ///
+    /// ```rust
+    /// NumberPrinter::new(&Locale::en).text_len(&1000)    // 5
+    /// ```
     fn text_len(&self, value: &T) -> usize
         ensures { result ≡ length (text self.now value.now) };
 
     /// Writes the text of a value at a place of the bytes, and returns where it ends.
+    ///
+    /// ```rust
+    /// let mut bytes = [b'.'; 8];
+    /// NumberPrinter::new(&Locale::en).print(&1000, 2, &mut bytes)    // 7
+    /// str::from_utf8(&bytes)                                         // Ok("..1,000.")
+    /// ```
     fn print(&mut self, value: &T, start: usize, bytes: &mut [u8]) -> usize
         requires { start + length (text self.old value.now) ≤ length bytes.old }
         ensures same { text self.new ≡ text self.old }
@@ -35,6 +45,10 @@ pub struct NumberPrinter<'a, F: Format> {
 
 impl<'a, F: Format> NumberPrinter<'a, F> {
     /// Returns what prints under that format.
+    ///
+    /// ```rust
+    /// NumberPrinter::new(&Locale::de).text_len(&1000000)    // 9
+    /// ```
     pub fn new(format: &'a F) -> NumberPrinter<'a, F>
         ensures { result.format.now ≡ format.now }
     {
@@ -59,6 +73,11 @@ impl<'a, N: ToFormattedStr, F: Format> Printer<N> for NumberPrinter<'a, F> {
 }
 
 /// Returns how many bytes the texts of the values have together, or `None` if a `usize` does not hold it.
+///
+/// ```rust
+/// texts_len(&[5, 1000], &NumberPrinter::new(&Locale::en), &AllValid)               // Some(6)
+/// texts_len(&[5, 1000], &NumberPrinter::new(&Locale::en), &Bitmap::new(&[0b10]))   // Some(5)
+/// ```
 pub fn texts_len<T, P: Printer<T>, V: Validity>(
     values: &[T],
     printer: &P,
@@ -90,6 +109,13 @@ fn row_len<T, P: Printer<T>, V: Validity>(row: usize, value: &T, printer: &P, va
 /// a null row is empty.
 ///
 /// There is one offset more than values, and the first is 0.
+///
+/// ```rust
+/// let (mut offsets, mut bytes) = ([0u32; 3], [0; 6]);
+/// print_texts(&[5, 1000], &mut NumberPrinter::new(&Locale::en), &AllValid, &mut offsets, &mut bytes);
+/// str::from_utf8(&bytes)    // Ok("51,000")
+/// offsets                   // [0, 1, 6]
+/// ```
 pub fn print_texts<T, P: Printer<T>, V: Validity, O: Offset>(
     values: &[T],
     printer: &mut P,
@@ -136,6 +162,12 @@ fn print_row<T, P: Printer<T>, V: Validity>(
 }
 
 /// Writes a text at a place of the bytes, and returns where it ends.
+///
+/// ```rust
+/// let mut bytes = [b'.'; 4];
+/// append(b"12", 1, &mut bytes)    // 3
+/// str::from_utf8(&bytes)          // Ok(".12.")
+/// ```
 #[inline(always)]
 pub fn append(text: &[u8], start: usize, bytes: &mut [u8]) -> usize
     requires { start + length text.now ≤ length bytes.old }

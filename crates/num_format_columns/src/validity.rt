@@ -7,10 +7,20 @@ pub trait Validity {
     ghost rows: { Self → Rows };
 
     /// Returns whether the row has a value.
+    ///
+    /// ```rust
+    /// Bitmap::new(&[0b101]).is_valid(2)    // true
+    /// Bitmap::new(&[0b101]).is_valid(1)    // false
+    /// ```
     fn is_valid(&self, row: usize) -> bool
         ensures { result ≡ (rows self.now).is_valid row };
 
     /// Returns whether it says of so many rows whether they have a value.
+    ///
+    /// ```rust
+    /// Bitmap::new(&[0b101]).covers(8)    // true
+    /// Bitmap::new(&[0b101]).covers(9)    // false
+    /// ```
     fn covers(&self, n: usize) -> bool
         ensures { result ≡ (rows self.now).covers n };
 }
@@ -41,6 +51,10 @@ pub struct Bitmap<'a> {
 
 impl<'a> Bitmap<'a> {
     /// Returns the bitmap of these bytes.
+    ///
+    /// ```rust
+    /// Bitmap::new(&[0b101]).is_valid(0)    // true
+    /// ```
     pub fn new(bytes: &'a [u8]) -> Bitmap<'a>
         ensures { result.bytes.now ≡ bytes.now }
     {

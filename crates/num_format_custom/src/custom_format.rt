@@ -19,12 +19,12 @@ use std::marker::Model;
 ///
 /// A [`CustomFormatBuilder`] builds one:
 ///
-/// ```text
+/// ```rust
 /// let format = CustomFormat::builder()
 ///     .grouping(Grouping::Indian)
 ///     .separator("'")
 ///     .build()?;
-/// buffer.write_formatted(&1000000, &format);    // buffer.as_str() is "10'00'000"
+/// Buffer::of(&1000000, &format).as_str()    // "10'00'000"
 /// ```
 ///
 /// Two formats are equal exactly if all seven fields are. The seven getters return the fields as they
@@ -72,8 +72,8 @@ impl CustomFormat {
     ///
     /// The Rust crate has no such call.
     ///
-    /// ```text
-    /// CustomFormat::of(&Locale::fr).separator()    // a narrow no-break space, U+202F
+    /// ```rust
+    /// CustomFormat::of(&Locale::fr).separator()    // "\u{202f}", a narrow no-break space
     /// ```
     pub fn of<F: Format>(format: &F) -> CustomFormat
         ensures { result ≡ F.answers format.now }
@@ -90,6 +90,10 @@ impl CustomFormat {
     }
 
     /// Returns a builder that starts with the data of the locale `en`.
+    ///
+    /// ```rust
+    /// CustomFormat::builder().build()? == CustomFormat::from(Locale::en)    // true
+    /// ```
     pub fn builder() -> CustomFormatBuilder
         ensures { result ≡ choices_of english }
     {
@@ -98,8 +102,9 @@ impl CustomFormat {
 
     /// Returns a builder that starts with the data of this format.
     ///
-    /// ```text
-    /// CustomFormat::from(Locale::fr).into_builder().separator(".").build()  is fr, but for the separator
+    /// ```rust
+    /// let format = CustomFormat::from(Locale::fr).into_builder().separator(".").build()?;
+    /// Buffer::of(&-1000000, &format).as_str()    // "-1.000.000"
     /// ```
     pub fn into_builder(self) -> CustomFormatBuilder
         ensures { result ≡ choices_of self }
@@ -108,6 +113,10 @@ impl CustomFormat {
     }
 
     /// Returns the decimal mark, of at most [`MAX_DEC_LEN`] bytes.
+    ///
+    /// ```rust
+    /// CustomFormat::from(Locale::de).decimal()    // ","
+    /// ```
     pub fn decimal(&self) -> &str
         ensures same { result.now ≡ self.now.decimal }
         ensures fits { length result.now ≤ MAX_DEC_LEN }
@@ -116,6 +125,10 @@ impl CustomFormat {
     }
 
     /// Returns the grouping of the digits.
+    ///
+    /// ```rust
+    /// CustomFormat::from(Locale::de).grouping()    // Grouping::Standard
+    /// ```
     pub fn grouping(&self) -> Grouping
         ensures { result ≡ self.now.grouping }
     {
@@ -123,6 +136,10 @@ impl CustomFormat {
     }
 
     /// Returns the text for infinity, of at most [`MAX_INF_LEN`] bytes.
+    ///
+    /// ```rust
+    /// CustomFormat::from(Locale::de).infinity()    // "∞"
+    /// ```
     pub fn infinity(&self) -> &str
         ensures same { result.now ≡ self.now.infinity }
         ensures fits { length result.now ≤ MAX_INF_LEN }
@@ -131,6 +148,10 @@ impl CustomFormat {
     }
 
     /// Returns the minus sign, of at most [`MAX_MIN_LEN`] bytes.
+    ///
+    /// ```rust
+    /// CustomFormat::from(Locale::de).minus_sign()    // "-"
+    /// ```
     pub fn minus_sign(&self) -> &str
         ensures same { result.now ≡ self.now.minus_sign }
         ensures fits { length result.now ≤ MAX_MIN_LEN }
@@ -139,6 +160,10 @@ impl CustomFormat {
     }
 
     /// Returns the text for NaN, of at most [`MAX_NAN_LEN`] bytes.
+    ///
+    /// ```rust
+    /// CustomFormat::from(Locale::de).nan()    // "NaN"
+    /// ```
     pub fn nan(&self) -> &str
         ensures same { result.now ≡ self.now.nan }
         ensures fits { length result.now ≤ MAX_NAN_LEN }
@@ -147,6 +172,10 @@ impl CustomFormat {
     }
 
     /// Returns the plus sign, of at most [`MAX_PLUS_LEN`] bytes.
+    ///
+    /// ```rust
+    /// CustomFormat::from(Locale::de).plus_sign()    // "+"
+    /// ```
     pub fn plus_sign(&self) -> &str
         ensures same { result.now ≡ self.now.plus_sign }
         ensures fits { length result.now ≤ MAX_PLUS_LEN }
@@ -155,6 +184,10 @@ impl CustomFormat {
     }
 
     /// Returns the separator between groups of digits, of at most [`MAX_SEP_LEN`] bytes.
+    ///
+    /// ```rust
+    /// CustomFormat::from(Locale::de).separator()    // "."
+    /// ```
     pub fn separator(&self) -> &str
         ensures same { result.now ≡ self.now.separator }
         ensures fits { length result.now ≤ MAX_SEP_LEN }

@@ -22,9 +22,10 @@ use std::marker::Model;
 ///
 /// Two builders are equal exactly if they have the same in each field.
 ///
-/// ```text
-/// CustomFormat::builder().separator("").build()           is Ok, with no separator
-/// CustomFormat::builder().separator("123456789").build()  is Err, of kind Capacity { len: 9, cap: 8 }
+/// ```rust
+/// CustomFormat::builder().separator("").build()?.separator()    // ""
+/// CustomFormat::builder().separator("123456789").build()
+/// // Err(Error { kind: Capacity { len: 9, cap: 8 } })
 /// ```
 #[derive(Clone, Debug, Drop, PartialEq, Eq, Hash)]
 pub struct CustomFormatBuilder {
@@ -65,6 +66,10 @@ impl Model for CustomFormatBuilder {
 
 impl CustomFormatBuilder {
     /// Sets the decimal mark, of at most [`MAX_DEC_LEN`] bytes.
+    ///
+    /// ```rust
+    /// CustomFormat::builder().decimal(",").build()?.decimal()    // ","
+    /// ```
     pub fn decimal(self, text: &str) -> CustomFormatBuilder
         ensures { result ≡ after_call self (SetDecimal text.now) }
     {
@@ -75,6 +80,10 @@ impl CustomFormatBuilder {
     }
 
     /// Sets the grouping of the digits.
+    ///
+    /// ```rust
+    /// CustomFormat::builder().grouping(Grouping::Indian).build()?.grouping()    // Grouping::Indian
+    /// ```
     pub fn grouping(self, grouping: Grouping) -> CustomFormatBuilder
         ensures { result ≡ after_call self (SetGrouping grouping) }
     {
@@ -82,6 +91,10 @@ impl CustomFormatBuilder {
     }
 
     /// Sets the text for infinity, of at most [`MAX_INF_LEN`] bytes.
+    ///
+    /// ```rust
+    /// CustomFormat::builder().infinity("oo").build()?.infinity()    // "oo"
+    /// ```
     pub fn infinity(self, text: &str) -> CustomFormatBuilder
         ensures { result ≡ after_call self (SetInfinity text.now) }
     {
@@ -92,6 +105,10 @@ impl CustomFormatBuilder {
     }
 
     /// Sets the minus sign, of at most [`MAX_MIN_LEN`] bytes.
+    ///
+    /// ```rust
+    /// CustomFormat::builder().minus_sign("~").build()?.minus_sign()    // "~"
+    /// ```
     pub fn minus_sign(self, text: &str) -> CustomFormatBuilder
         ensures { result ≡ after_call self (SetMinusSign text.now) }
     {
@@ -102,6 +119,10 @@ impl CustomFormatBuilder {
     }
 
     /// Sets the text for NaN, of at most [`MAX_NAN_LEN`] bytes.
+    ///
+    /// ```rust
+    /// CustomFormat::builder().nan("-").build()?.nan()    // "-"
+    /// ```
     pub fn nan(self, text: &str) -> CustomFormatBuilder
         ensures { result ≡ after_call self (SetNan text.now) }
     {
@@ -112,6 +133,10 @@ impl CustomFormatBuilder {
     }
 
     /// Sets the plus sign, of at most [`MAX_PLUS_LEN`] bytes.
+    ///
+    /// ```rust
+    /// CustomFormat::builder().plus_sign("").build()?.plus_sign()    // ""
+    /// ```
     pub fn plus_sign(self, text: &str) -> CustomFormatBuilder
         ensures { result ≡ after_call self (SetPlusSign text.now) }
     {
@@ -122,6 +147,10 @@ impl CustomFormatBuilder {
     }
 
     /// Sets the separator between groups of digits, of at most [`MAX_SEP_LEN`] bytes.
+    ///
+    /// ```rust
+    /// CustomFormat::builder().separator("_").build()?.separator()    // "_"
+    /// ```
     pub fn separator(self, text: &str) -> CustomFormatBuilder
         ensures { result ≡ after_call self (SetSeparator text.now) }
     {
@@ -133,8 +162,8 @@ impl CustomFormatBuilder {
 
     /// Sets all seven fields to the data of a format.
     ///
-    /// ```text
-    /// CustomFormat::builder().format(&Locale::fr).build()  is Ok(CustomFormat::from(Locale::fr))
+    /// ```rust
+    /// CustomFormat::builder().format(&Locale::fr).build()? == CustomFormat::from(Locale::fr)    // true
     /// ```
     pub fn format<F: Format>(self, format: &F) -> CustomFormatBuilder
         ensures { result ≡ after_call self (SetFormat (F.answers format.now)) }
@@ -143,6 +172,11 @@ impl CustomFormatBuilder {
     }
 
     /// Returns the format with the last value of each field.
+    ///
+    /// ```rust
+    /// let builder = CustomFormat::builder().minus_sign("123456789");
+    /// builder.build()    // Err(Error { kind: Capacity { len: 9, cap: 8 } })
+    /// ```
     ///
     /// # Errors
     ///

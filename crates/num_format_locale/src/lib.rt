@@ -5,10 +5,10 @@
 //! of the table of `num_format_cldr`, which has them from the Unicode CLDR by the Rust crate
 //! `num-format` 0.4.4, and its name is that row's.
 //!
-//! ```text
+//! ```rust
 //! let locale = Locale::from_name("en-IN")?;
-//! locale.grouping()      // Grouping::Indian
-//! Locale::fr.separator() // a narrow no-break space, U+202F
+//! locale.grouping()         // Grouping::Indian
+//! Locale::fr.separator()    // "\u{202f}", a narrow no-break space
 //! ```
 //!
 //! There are 542 names, in rising byte order, and their parts are joined by hyphens, as in

@@ -25,7 +25,7 @@ use std::marker::Model;
 /// stands to the right where no side is asked for. Precision, `+`, `#` and `0` are ignored. The text is
 /// never cut.
 ///
-/// ```text
+/// ```rust
 /// println!(rt; "{:>12}", 1000000.formatted(&Locale::en))    // "   1,000,000"
 /// println!(rt; "{:*<12}", 1000000.formatted(&Locale::en))   // "1,000,000***"
 /// ```
@@ -89,6 +89,10 @@ impl<'a, N: ToFormattedStr, F: Format> Drop for Formatted<'a, N, F> {
 /// Writes a text, filled up to the width of the formatter in characters, to the right where no side is asked
 /// for. [`Formatted`] displays its text by it, and so can another type of number.
 ///
+/// ```rust
+/// println!(rt; "{:*>12}", 1000000.formatted(&Locale::en))    // "***1,000,000"
+/// ```
+///
 /// # Errors
 ///
 /// Returns the error of the first write that fails.
@@ -140,7 +144,7 @@ fn is_char_start(byte: u8) -> bool
 
 /// Returns the length in bytes of the text of a number, without printing it.
 ///
-/// ```text
+/// ```rust
 /// text_len(&-1000000, &Locale::en)    // 10
 /// text_len(&1000000, &Locale::fr)     // 13: a separator has three bytes
 /// ```
@@ -156,7 +160,7 @@ pub fn text_len<N: ToFormattedStr, F: Format>(n: &N, format: &F) -> usize
 /// Returns the length in characters of the text of a number, without printing it: the columns that it
 /// takes where each character takes one.
 ///
-/// ```text
+/// ```rust
 /// text_width(&1000000, &Locale::fr)   // 9, of 13 bytes
 /// ```
 #[tactic(auto, using(crate::proofs::ColumnLemmas::char_count_text_of))]

@@ -16,6 +16,12 @@ pub trait ToFormattedString: ToFormattedStr {
     /// Writes the text of the number to a writer of text, by one call of `write_str`. Returns the
     /// length of the text in bytes, at most [`MAX_BUF_LEN`].
     ///
+    /// ```rust
+    /// let mut line = String::new(alloc);
+    /// 1000000.read_to_fmt_writer(&mut line, &Locale::en)?    // 9
+    /// line                                                   // "1,000,000"
+    /// ```
+    ///
     /// # Errors
     ///
     /// Returns the error of that call. The contract does not say what the writer received by then.
@@ -36,6 +42,12 @@ pub trait ToFormattedString: ToFormattedStr {
     /// Code that is generic over [`io::Write`] calls this method: its contract is about the
     /// writer's `contents`.
     ///
+    /// ```rust
+    /// let mut bytes = Vec::new(alloc);
+    /// 1000.read_to_io_writer(&mut bytes, &Locale::en)?    // 5
+    /// bytes                                               // [49, 44, 48, 48, 48]
+    /// ```
+    ///
     /// # Errors
     ///
     /// Returns the error of the first write that fails, also of one that was interrupted. A write
@@ -54,7 +66,7 @@ pub trait ToFormattedString: ToFormattedStr {
     /// Returns the number, to be displayed under the format. It needs no memory, and a width counts:
     /// see [`Formatted`].
     ///
-    /// ```text
+    /// ```rust
     /// println!(rt; "{:>12}", 1000000.formatted(&Locale::en))    // "   1,000,000"
     /// ```
     fn formatted<'a, F: Format>(&'a self, format: &'a F) -> Formatted<'a, Self, F>
@@ -62,7 +74,7 @@ pub trait ToFormattedString: ToFormattedStr {
 
     /// Returns the text of the number as a new string.
     ///
-    /// ```text
+    /// ```rust
     /// 1000000.to_formatted_string(alloc, &Locale::en)?    // "1,000,000"
     /// (-100).to_formatted_string(alloc, &Locale::en)?     // "-100"
     /// ```
@@ -119,8 +131,10 @@ impl<N: ToFormattedStr> ToFormattedString for N {
 /// std's `write_all` does not say what the writer received before an error, and `write_all` repeats
 /// an interrupted write.
 ///
-/// ```text
-/// write_whole(b"1,000\n", &mut writer)?    // 6
+/// ```rust
+/// let mut bytes = Vec::new(alloc);
+/// write_whole(b"1,000", &mut bytes)?    // 5
+/// bytes                                 // [49, 44, 48, 48, 48]
 /// ```
 ///
 /// # Errors

@@ -42,9 +42,10 @@ use std::{fmt, io};
 
 /// A writer that numbers can be written to.
 ///
-/// ```text
-/// let mut line = String::new(alloc);
-/// line.write_formatted(&1000000, &Locale::en)?;    // Ok(9), and line is "1,000,000"
+/// ```rust
+/// let mut line = String::from_str(alloc, "total: ")?;
+/// line.write_formatted(&1000000, &Locale::en)?    // 9
+/// line                                            // "total: 1,000,000"
 /// ```
 pub trait WriteFormatted {
     /// The bytes that the writer holds, where a contract can name them.
@@ -56,6 +57,12 @@ pub trait WriteFormatted {
 
     /// Writes the text of the number to the writer. Returns the length of the text in bytes, at most
     /// [`MAX_BUF_LEN`].
+    ///
+    /// ```rust
+    /// let mut bytes = Vec::new(alloc);
+    /// bytes.write_formatted(&1000, &Locale::en)?    // 5
+    /// bytes                                         // [49, 44, 48, 48, 48]
+    /// ```
     ///
     /// # Errors
     ///

@@ -21,9 +21,10 @@ use num_format::{CustomFormat, CustomFormatBuilder, Error, Grouping, reads_back}
 /// Else returns the error of the library for a text that is too long, and else again one of kind `Other`
 /// for a format under which a number does not read back.
 ///
-/// ```text
-/// parse_format("separator='\ngrouping=Indian")  is Ok: -1234567 is printed as -12'34'567
-/// parse_format("separator=0")                   is Err: 1000 would be printed as 10000
+/// ```rust
+/// let format = parse_format("separator='\ngrouping=Indian")?;
+/// Buffer::of(&-1234567, &format).as_str()    // "-12'34'567"
+/// parse_format("separator=0").is_err()       // true: 1000 would be printed as 10000
 /// ```
 pub fn parse_format(text: &str) -> Result<CustomFormat, Error>
     ensures reads_back { IfOk result RoundTrips }
