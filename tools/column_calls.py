@@ -5,15 +5,17 @@
     python3 tools/column_calls.py --check    compares both with what it would write
 
 The calls are of three shapes, each for eleven types of values, and but for the lengths for two widths of offsets;
-all are there without and with a validity bitmap. The exit status of --check is 1 where a file differs.
+all are there without and with a validity bitmap. Each family of exports is a file of src/column_calls/. The exit
+status of --check is 1 where a file differs, and where another one is there.
 """
+import re
 import sys
 import textwrap
 from dataclasses import dataclass
 from pathlib import Path
 
 CRATE = Path(__file__).resolve().parent.parent / "crates" / "num_format_c"
-EXPORTS = CRATE / "src" / "column_calls.rt"
+EXPORTS = CRATE / "src" / "column_calls"
 HEADER = CRATE / "num_format.h"
 
 # The declarations are between these lines of the header.
@@ -95,23 +97,40 @@ VALIDITIES = [
     ),
 ]
 
+# The head of each file of exports.
 HEAD = """\
+//! The calls {what}, which tools/column_calls.py writes.
+{ghost_uses}
+
+{uses}
+"""
+
+# The module that has the families.
+ROOT = """\
 //! The calls for columns, which tools/column_calls.py writes.
 //!
 //! Each prints or parses the values of one type, with offsets of 32 or, in the calls named `large`, of 64
 //! bits. Those named `nullable` are passed a validity bitmap, and the rows whose bit is not set are null.
-ghost use Rattle.std.specs.Prelude.{◌-◌, ◌^◌, pos};
-ghost use Rattle.num_format.specs.Kind.{kind_of, I8, I16, I32, I64, I128, U8, U16, U32, U64, U128};
-ghost use Rattle.num_format_columns.specs.Columns.{all_valid, by_bits};
-ghost use Rattle.num_format_c.specs.Calls.{ParsesInto};
-ghost use Rattle.num_format_c.specs.Columns.{MeasuresColumn, MeasuresDecimals, ParsesColumn, ParsesDecimals, ParsesRowExactly, PrintsColumn, PrintsDecimals, number_row, number_text, signed_value, unsigned_value};
 
-use crate::columns::{self, Lenient, Strict};
-use crate::format::NumFormat;
-use crate::status::returned;
-use crate::wide::{SignedWide, UnsignedWide};
-use num_format_columns::{AllValid, Bitmap};
+{modules}
 """
+
+# What exports use, of which each file names what it needs.
+GHOST_USES = {
+    "std.specs.Prelude": "◌-◌ ◌^◌ pos",
+    "num_format.specs.Kind": "kind_of I8 I16 I32 I64 I128 U8 U16 U32 U64 U128",
+    "num_format_columns.specs.Columns": "all_valid by_bits",
+    "num_format_c.specs.Calls": "ParsesInto",
+    "num_format_c.specs.Columns": "MeasuresColumn MeasuresDecimals ParsesColumn ParsesDecimals ParsesRowExactly"
+    " PrintsColumn PrintsDecimals number_row number_text signed_value unsigned_value",
+}
+USES = {
+    "crate::columns": "self Lenient Strict",
+    "crate::format": "NumFormat",
+    "crate::status": "returned",
+    "crate::wide": "SignedWide UnsignedWide",
+    "num_format_columns": "AllValid Bitmap",
+}
 
 PRINT = """
 {docs}
@@ -167,10 +186,10 @@ DOCS = {
 /// Errors, in this order: a struct that has no format, another number of offsets, texts of more bytes than
 /// the largest offset, texts of more bytes than there are.""",
     "num_format_print_nullable_i8_column": """\
-/// Prints the numbers as [`num_format_print_i8_column`] does, but an empty text for each null row. There is a bit
+/// Prints the numbers as `num_format_print_i8_column` does, but an empty text for each null row. There is a bit
 /// for each row, and fewer are the same error as another number of offsets.""",
     "num_format_print_decimal_column": """\
-/// Prints the decimals with these units and this scale as [`num_format_print_i8_column`] does numbers. Its first
+/// Prints the decimals with these units and this scale as `num_format_print_i8_column` does numbers. Its first
 /// error is a scale above 38.""",
     "num_format_print_i8_column_len": """\
 /// Writes how many bytes the texts of the numbers have together, and returns 0.
@@ -181,7 +200,7 @@ DOCS = {
 ///
 /// Errors, in this order: a struct that has no format, fewer bits than rows, more bytes than a `usize` holds.""",
     "num_format_print_decimal_column_len": """\
-/// Writes how many bytes the texts of the decimals have, as [`num_format_print_i8_column_len`] does. Its first
+/// Writes how many bytes the texts of the decimals have, as `num_format_print_i8_column_len` does. Its first
 /// error is a scale above 38.""",
     "num_format_parse_i8_column": """\
 /// Parses each text of a column, writes the number of each that is not refused, writes the status of each,
@@ -190,15 +209,15 @@ DOCS = {
 /// Errors, in this order: a struct that has no format, other numbers of offsets or statuses, an offset that
 /// is below the one before it or past the bytes.""",
     "num_format_parse_nullable_i8_column": """\
-/// Parses the texts as [`num_format_parse_i8_column`] does, but for null rows: their status is 0, and their number
+/// Parses the texts as `num_format_parse_i8_column` does, but for null rows: their status is 0, and their number
 /// as it was. There is a bit for each row, and fewer are the same error as another number of offsets.""",
     "num_format_parse_strict_i8_column": """\
-/// Parses the texts strictly, and else as [`num_format_parse_i8_column`] does.""",
+/// Parses the texts strictly, and else as `num_format_parse_i8_column` does.""",
     "num_format_parse_strict_nullable_i8_column": """\
-/// Parses the texts strictly, and else as [`num_format_parse_nullable_i8_column`] does.""",
+/// Parses the texts strictly, and else as `num_format_parse_nullable_i8_column` does.""",
     "num_format_parse_decimal_column": """\
 /// Parses the texts strictly as decimals, writes their units at this scale, and else does as
-/// [`num_format_parse_i8_column`]. Its first error is a scale above 38.""",
+/// `num_format_parse_i8_column`. Its first error is a scale above 38.""",
 }
 
 
@@ -280,7 +299,7 @@ NULLABLE = """\
 def docs(name, first):
     """How a call is documented, by itself or by the first of its shape."""
     verb = "Measures" if name.endswith("_len") else name.split("_")[2].capitalize() + "s"
-    return DOCS.get(name, f"/// {verb} a column as [`{first}`] does.")
+    return DOCS.get(name, f"/// {verb} a column as `{first}` does.")
 
 
 def body(function, arguments):
@@ -343,15 +362,51 @@ def parsed(values, validity, offset, strict):
     return text, declaration(name, ["const num_format *format", *c_column, *c_values, *c_statuses])
 
 
+def families():
+    """The files of exports: the name of each, what its calls are for, and their texts."""
+    numbers, decimals = VALUES[:-1], VALUES[-1:]
+    for validity, ending, which in zip(VALIDITIES, ("", "_nullable"), ("", " with a validity bitmap"), strict=True):
+        yield f"print{ending}", f"that print and measure columns of numbers{which}", prints(numbers, validity)
+        yield f"parse{ending}", f"that parse columns of numbers{which}", parses(numbers, validity, "")
+        yield f"parse_strict{ending}", f"that parse columns of numbers strictly{which}", parses(numbers, validity, "strict_")
+    both = [text for validity in VALIDITIES for text in prints(decimals, validity) + parses(decimals, validity, "")]
+    yield "decimals", "for columns of decimals", both
+
+
+def prints(group, validity):
+    """The calls that print and measure columns of these values, in Rattle."""
+    shapes = ([*(printed(values, validity, offset) for offset in OFFSETS), measured(values, validity)] for values in group)
+    return [text for shape in shapes for text, _ in shape]
+
+
+def parses(group, validity, strict):
+    """The calls that parse columns of these values, in Rattle."""
+    return [parsed(values, validity, offset, strict)[0] for values in group for offset in OFFSETS]
+
+
+def used(lists, text):
+    """Each path of the lists with the names there that a text has."""
+    words = {"self", *re.findall(r"\w+|[-^]", text)}
+    for path, names in lists.items():
+        named = [name for name in names.split() if name.strip("◌") in words]
+        if named:
+            yield path, named
+
+
+def with_head(what, text):
+    """A file of exports."""
+    ghost_uses = (f"ghost use Rattle.{path}.{{{', '.join(named)}}};" for path, named in used(GHOST_USES, text))
+    paths = ((path, f"{{{', '.join(named)}}}" if len(named) > 1 else named[0]) for path, named in used(USES, text))
+    uses = (f"use {path}::{named};".replace("::self;", ";") for path, named in paths)
+    return HEAD.format(what=what, ghost_uses="\n".join(ghost_uses), uses="\n".join(uses)) + text
+
+
 def exports():
-    """The text of column_calls.rt."""
-    texts = [HEAD]
-    for values in VALUES:
-        for validity in VALIDITIES:
-            texts += [printed(values, validity, offset)[0] for offset in OFFSETS]
-            texts.append(measured(values, validity)[0])
-            texts += [parsed(values, validity, offset, strict)[0] for strict in values.parsings for offset in OFFSETS]
-    return "".join(texts)
+    """The files of exports, and the module that has them."""
+    files = {name: with_head(what, "".join(calls)) for name, what, calls in families()}
+    modules = "\n".join(f"pub mod {name};" for name in sorted(files))
+    root = {EXPORTS.with_suffix(".rt"): ROOT.format(modules=modules)}
+    return {**root, **{EXPORTS / f"{name}.rt": text for name, text in files.items()}}
 
 
 def declared(validity):
@@ -375,18 +430,24 @@ def written():
     header = HEADER.read_text(encoding="utf-8")
     before, rest = header.split(BEGIN)
     _, after = rest.split(END)
-    return {EXPORTS: exports(), HEADER: f"{before}{BEGIN}\n{declarations()}\n{END}{after}"}
+    return {**exports(), HEADER: f"{before}{BEGIN}\n{declarations()}\n{END}{after}"}
 
 
 def main():
     if sys.argv[1:] not in ([], ["--check"]):
         sys.exit(__doc__)
-    different = {path: text for path, text in written().items() if path.read_text(encoding="utf-8") != text}
-    for path, text in different.items():
+    texts = written()
+    paths = [HEADER, EXPORTS.with_suffix(".rt"), *EXPORTS.glob("*.rt")]
+    found = {path: path.read_text(encoding="utf-8") for path in paths}
+    different = [path for path in {**texts, **found} if found.get(path) != texts.get(path)]
+    for path in different:
         if sys.argv[1:]:
             print(f"{path.name} is not as tools/column_calls.py writes it")
+        elif path in texts:
+            path.parent.mkdir(exist_ok=True)
+            path.write_text(texts[path], encoding="utf-8")
         else:
-            path.write_text(text, encoding="utf-8")
+            path.unlink()
     sys.exit(1 if sys.argv[1:] and different else 0)
 
 

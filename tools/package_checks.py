@@ -21,29 +21,34 @@ from tally import ROOT, Tally, heading
 PACKAGES = ROOT / "packages"
 
 # A skipped test, and the last line.
-SKIPPED = re.compile(r"^skipped: (.*?): (.*)$", re.M)
-COUNTED = re.compile(r"(\d+) passed, (\d+) failed\n\Z")
+SKIPPED = re.compile(r"^skipped:? (.*?): (.*)$", re.M)
+COUNTED = re.compile(r"(\d+) passed, (\d+) failed(?:, \d+ skipped)?\n\Z")
+
+
+def tests(library):
+    """The test of each package, as a command by its name."""
+    return {str(test.relative_to(ROOT)): [test, library] for test in sorted(PACKAGES.glob("*/test"))}
 
 
 @contextlib.contextmanager
-def started(library):
-    """Starts the tests of each package. Gives what `check_all` waits for."""
+def started(commands):
+    """Starts the commands, each by its name. Gives what `check_all` waits for."""
     with contextlib.ExitStack() as stack:
-        tests = []
-        for test in sorted(PACKAGES.glob("*/test")):
+        running = []
+        for name, words in commands.items():
             log = stack.enter_context(tempfile.TemporaryFile("w+", errors="replace"))
             how = {"stdin": subprocess.DEVNULL, "stdout": log, "stderr": subprocess.STDOUT}
-            running = subprocess.Popen([test, library], **how)
-            stack.callback(running.wait)
-            tests.append((f"packages/{test.parent.name}", running, log))
-        yield tests
+            process = subprocess.Popen(words, **how)
+            stack.callback(process.wait)
+            running.append((name, process, log))
+        yield running
 
 
-def check_all(tally, tests):
-    """Waits for the tests of each package, shows what they printed, and adds what they count."""
-    for name, running, log in tests:
-        running.wait()
-        heading(f"{name}/test")
+def check_all(tally, running):
+    """Waits for each test, shows what it printed, and adds what it counts."""
+    for name, process, log in running:
+        process.wait()
+        heading(name)
         log.seek(0)
         printed = log.read()
         print(printed, end="", flush=True)
@@ -53,15 +58,15 @@ def check_all(tally, tests):
         passed, failed = map(int, counted.groups()) if counted else (0, 0)
         tally.passed += passed
         tally.failed += failed
-        if not counted or bool(running.returncode) != bool(failed):
-            tally.add(f"{name}/test", f"status {running.returncode} after {printed[-200:]!r}")
+        if not counted or bool(process.returncode) != bool(failed):
+            tally.add(name, f"status {process.returncode} after {printed[-200:]!r}")
 
 
 def main():
     library = Path(sys.argv[1]).resolve() if len(sys.argv) > 1 else LIBRARY
     tally = Tally()
-    with started(library) as tests:
-        check_all(tally, tests)
+    with started(tests(library)) as running:
+        check_all(tally, running)
     tally.end()
 
 

@@ -14,11 +14,11 @@
  * have written is as it was, but for `at` with NUM_FORMAT_UNEXPECTED. Where several errors apply, each
  * call says which one it returns. num_format_strerror returns what a status means as a text.
  *
- * The contracts of the functions are proved, but for num_format_strerror. They hold for any bytes of a
- * struct `num_format` and of a text. What a caller must ensure, since no call can test it:
+ * The contracts of the library's functions are proved. They hold for any bytes of a struct `num_format` and of a
+ * text. What is inline at the end of this header is tested. What a caller must ensure, since no call can test it:
  *
- * - No pointer is null. (A pointer to a text or an array of length 0 may be: nothing is read or written
- *   there. This alone is tested and not proved.)
+ * - No pointer is null, but that to a text or an array of length 0 may be in a call that GCC or Clang compiles
+ *   with this header: see its end.
  * - A pointer to a text or an array points to as many bytes as the length or capacity beside it
  *   says, which is at most PTRDIFF_MAX.
  * - What a call writes overlaps nothing else that is passed to it, and no other thread reads or
@@ -178,7 +178,7 @@ int32_t num_format_print_decimal_len(const num_format *format, uint64_t low, uin
 /* Parse a text as a number of 8, 16, 32 or 64 bits, write it, and return 0.
  *
  * The number is that of the digits 0 to 9 of the text in order, negated if the text begins with the
- * format's minus sign. Every other character is ignored: under the locale "en" the text "12.50" is
+ * format's minus sign. Each character that is not numeric is ignored: under "en" the text "12.50" is
  * 1250, and "(7)" is 7. num_format_parse_strict_i64 refuses such texts.
  *
  * Errors, in this order:
@@ -220,8 +220,7 @@ int32_t num_format_parse_i128(const num_format *format, const char *text, size_t
  *   separator.
  * - NUM_FORMAT_NO_DIGIT: the text has no digit, as the empty one, "-" and ",".
  * - NUM_FORMAT_MISSPELLED: the text is not as the number that its digits and its minus sign denote is
- *   printed: it has a leading zero, a separator elsewhere than where the format prints one, or is a
- *   negative zero.
+ *   printed, grouped or not: under "en" as "01", "1,23", "1234,567" and "-0".
  * - NUM_FORMAT_OUT_OF_RANGE: the text is as that number is printed, however many digits it has, and
  *   num_format_parse_i64 refuses it. Where num_format_reads_back returns 1, as for each locale, the
  *   number has more bits, or a sign that the type has not. */
@@ -257,7 +256,8 @@ int32_t num_format_parse_strict_i128(const num_format *format, const char *text,
  * - NUM_FORMAT_NO_DIGIT.
  * - NUM_FORMAT_TOO_MANY_DECIMALS.
  * - NUM_FORMAT_MISSPELLED.
- * - NUM_FORMAT_OUT_OF_RANGE: the units have more than 127 bits besides the sign. */
+ * - NUM_FORMAT_OUT_OF_RANGE: the units are no signed number of 128 bits. Where num_format_reads_back returns 0,
+ *   it may also be a text whose digits num_format_parse_i128 refuses. */
 int32_t num_format_parse_decimal(const num_format *format, const char *text, size_t length, uint64_t *low,
                                  uint64_t *high, uint32_t *scale, size_t *at);
 
@@ -971,6 +971,158 @@ static inline const char *num_format_strerror(int32_t status) {
     default: return status < 0 ? "unknown status" : "ok";
     }
 }
+
+/* Null pointers. In place of a null pointer to a text or an array of length 0, a call passes on one that is not
+ * null, to where nothing is read or written. A call by a pointer to a function, or from another language, does
+ * not. */
+#ifdef __GNUC__
+#define NUM_FORMAT_SOME(pointer) ((pointer) ? (pointer) : (__typeof__(pointer))sizeof *(pointer))
+
+/* The function that is called num_format_X in C, inline in place of that of the library, which it calls. */
+#define NUM_FORMAT_INLINE(name, parameters, arguments) \
+    int32_t num_format_call_##name parameters __asm__("num_format_" #name); \
+    extern __inline__ __attribute__((__gnu_inline__, __always_inline__)) int32_t num_format_##name parameters { \
+        return num_format_call_##name arguments; \
+    }
+
+NUM_FORMAT_INLINE(locale, (num_format *format, const char *name, size_t length),
+                  (format, NUM_FORMAT_SOME(name), length))
+NUM_FORMAT_INLINE(lookup, (num_format *format, const char *tag, size_t length),
+                  (format, NUM_FORMAT_SOME(tag), length))
+NUM_FORMAT_INLINE(custom,
+                  (num_format *format, const char *separator, size_t separator_length, uint32_t grouping,
+                   const char *minus_sign, size_t minus_sign_length),
+                  (format, NUM_FORMAT_SOME(separator), separator_length, grouping, NUM_FORMAT_SOME(minus_sign),
+                   minus_sign_length))
+NUM_FORMAT_INLINE(custom_decimal,
+                  (num_format *format, const char *separator, size_t separator_length, uint32_t grouping,
+                   const char *minus_sign, size_t minus_sign_length, const char *decimal_mark,
+                   size_t decimal_mark_length),
+                  (format, NUM_FORMAT_SOME(separator), separator_length, grouping, NUM_FORMAT_SOME(minus_sign),
+                   minus_sign_length, NUM_FORMAT_SOME(decimal_mark), decimal_mark_length))
+NUM_FORMAT_INLINE(print_i64, (const num_format *format, int64_t number, char *text, size_t capacity),
+                  (format, number, NUM_FORMAT_SOME(text), capacity))
+NUM_FORMAT_INLINE(print_u64, (const num_format *format, uint64_t number, char *text, size_t capacity),
+                  (format, number, NUM_FORMAT_SOME(text), capacity))
+NUM_FORMAT_INLINE(print_u128,
+                  (const num_format *format, uint64_t low, uint64_t high, char *text, size_t capacity),
+                  (format, low, high, NUM_FORMAT_SOME(text), capacity))
+NUM_FORMAT_INLINE(print_i128,
+                  (const num_format *format, uint64_t low, uint64_t high, char *text, size_t capacity),
+                  (format, low, high, NUM_FORMAT_SOME(text), capacity))
+NUM_FORMAT_INLINE(print_decimal,
+                  (const num_format *format, uint64_t low, uint64_t high, uint32_t scale, char *text,
+                   size_t capacity),
+                  (format, low, high, scale, NUM_FORMAT_SOME(text), capacity))
+NUM_FORMAT_INLINE(parse_i64,
+                  (const num_format *format, uint32_t bits, const char *text, size_t length, int64_t *number),
+                  (format, bits, NUM_FORMAT_SOME(text), length, number))
+NUM_FORMAT_INLINE(parse_u64,
+                  (const num_format *format, uint32_t bits, const char *text, size_t length, uint64_t *number),
+                  (format, bits, NUM_FORMAT_SOME(text), length, number))
+NUM_FORMAT_INLINE(parse_u128,
+                  (const num_format *format, const char *text, size_t length, uint64_t *low, uint64_t *high),
+                  (format, NUM_FORMAT_SOME(text), length, low, high))
+NUM_FORMAT_INLINE(parse_i128,
+                  (const num_format *format, const char *text, size_t length, uint64_t *low, uint64_t *high),
+                  (format, NUM_FORMAT_SOME(text), length, low, high))
+NUM_FORMAT_INLINE(parse_strict_i64,
+                  (const num_format *format, uint32_t bits, const char *text, size_t length, int64_t *number,
+                   size_t *at),
+                  (format, bits, NUM_FORMAT_SOME(text), length, number, at))
+NUM_FORMAT_INLINE(parse_strict_u64,
+                  (const num_format *format, uint32_t bits, const char *text, size_t length, uint64_t *number,
+                   size_t *at),
+                  (format, bits, NUM_FORMAT_SOME(text), length, number, at))
+NUM_FORMAT_INLINE(parse_strict_u128,
+                  (const num_format *format, const char *text, size_t length, uint64_t *low, uint64_t *high,
+                   size_t *at),
+                  (format, NUM_FORMAT_SOME(text), length, low, high, at))
+NUM_FORMAT_INLINE(parse_strict_i128,
+                  (const num_format *format, const char *text, size_t length, uint64_t *low, uint64_t *high,
+                   size_t *at),
+                  (format, NUM_FORMAT_SOME(text), length, low, high, at))
+NUM_FORMAT_INLINE(parse_decimal,
+                  (const num_format *format, const char *text, size_t length, uint64_t *low, uint64_t *high,
+                   uint32_t *scale, size_t *at),
+                  (format, NUM_FORMAT_SOME(text), length, low, high, scale, at))
+NUM_FORMAT_INLINE(names, (size_t place, char *name, size_t capacity),
+                  (place, NUM_FORMAT_SOME(name), capacity))
+NUM_FORMAT_INLINE(lookup_name, (const char *tag, size_t tag_length, char *name, size_t capacity),
+                  (NUM_FORMAT_SOME(tag), tag_length, NUM_FORMAT_SOME(name), capacity))
+
+/* The calls for columns. What follows the number of values is of a kind. */
+#define NUM_FORMAT_PLAIN_PARAMETERS
+#define NUM_FORMAT_PLAIN_ARGUMENTS
+#define NUM_FORMAT_NULLABLE_PARAMETERS , const uint8_t *validity, size_t validity_length
+#define NUM_FORMAT_NULLABLE_ARGUMENTS , NUM_FORMAT_SOME(validity), validity_length
+#define NUM_FORMAT_SCALED_PARAMETERS , uint32_t scale
+#define NUM_FORMAT_SCALED_ARGUMENTS , scale
+#define NUM_FORMAT_SCALED_NULLABLE_PARAMETERS , uint32_t scale NUM_FORMAT_NULLABLE_PARAMETERS
+#define NUM_FORMAT_SCALED_NULLABLE_ARGUMENTS , scale NUM_FORMAT_NULLABLE_ARGUMENTS
+#define NUM_FORMAT_PRINT_INLINE(kind, name, type, offset) \
+    NUM_FORMAT_INLINE(print_##name, \
+                      (const num_format *format, const type *values, size_t n NUM_FORMAT_##kind##_PARAMETERS, \
+                       offset *offsets, size_t offsets_length, char *bytes, size_t capacity), \
+                      (format, NUM_FORMAT_SOME(values), n NUM_FORMAT_##kind##_ARGUMENTS, \
+                       NUM_FORMAT_SOME(offsets), offsets_length, NUM_FORMAT_SOME(bytes), capacity))
+#define NUM_FORMAT_MEASURE_INLINE(kind, name, type) \
+    NUM_FORMAT_INLINE(print_##name, \
+                      (const num_format *format, const type *values, size_t n NUM_FORMAT_##kind##_PARAMETERS, \
+                       size_t *length), \
+                      (format, NUM_FORMAT_SOME(values), n NUM_FORMAT_##kind##_ARGUMENTS, length))
+#define NUM_FORMAT_PARSE_INLINE(kind, name, type, offset) \
+    NUM_FORMAT_INLINE(parse_##name, \
+                      (const num_format *format, const offset *offsets, size_t offsets_length, \
+                       const char *bytes, size_t bytes_length, type *values, \
+                       size_t n NUM_FORMAT_##kind##_PARAMETERS, int32_t *statuses, size_t statuses_length), \
+                      (format, NUM_FORMAT_SOME(offsets), offsets_length, NUM_FORMAT_SOME(bytes), bytes_length, \
+                       NUM_FORMAT_SOME(values), n NUM_FORMAT_##kind##_ARGUMENTS, NUM_FORMAT_SOME(statuses), \
+                       statuses_length))
+#define NUM_FORMAT_PARSE_BOTH_INLINE(kind, name, type) \
+    NUM_FORMAT_PARSE_INLINE(kind, name##_column, type, int32_t) \
+    NUM_FORMAT_PARSE_INLINE(kind, name##_large_column, type, int64_t)
+#define NUM_FORMAT_COLUMN_INLINE(kind, name, type) \
+    NUM_FORMAT_PRINT_INLINE(kind, name##_column, type, int32_t) \
+    NUM_FORMAT_PRINT_INLINE(kind, name##_large_column, type, int64_t) \
+    NUM_FORMAT_MEASURE_INLINE(kind, name##_column_len, type) \
+    NUM_FORMAT_PARSE_BOTH_INLINE(kind, name, type)
+#define NUM_FORMAT_NUMBERS_INLINE(name, type) \
+    NUM_FORMAT_COLUMN_INLINE(PLAIN, name, type) \
+    NUM_FORMAT_PARSE_BOTH_INLINE(PLAIN, strict_##name, type) \
+    NUM_FORMAT_COLUMN_INLINE(NULLABLE, nullable_##name, type) \
+    NUM_FORMAT_PARSE_BOTH_INLINE(NULLABLE, strict_nullable_##name, type)
+
+NUM_FORMAT_NUMBERS_INLINE(i8, int8_t)
+NUM_FORMAT_NUMBERS_INLINE(i16, int16_t)
+NUM_FORMAT_NUMBERS_INLINE(i32, int32_t)
+NUM_FORMAT_NUMBERS_INLINE(i64, int64_t)
+NUM_FORMAT_NUMBERS_INLINE(i128, num_format_wide)
+NUM_FORMAT_NUMBERS_INLINE(u8, uint8_t)
+NUM_FORMAT_NUMBERS_INLINE(u16, uint16_t)
+NUM_FORMAT_NUMBERS_INLINE(u32, uint32_t)
+NUM_FORMAT_NUMBERS_INLINE(u64, uint64_t)
+NUM_FORMAT_NUMBERS_INLINE(u128, num_format_wide)
+NUM_FORMAT_COLUMN_INLINE(SCALED, decimal, num_format_wide)
+NUM_FORMAT_COLUMN_INLINE(SCALED_NULLABLE, nullable_decimal, num_format_wide)
+
+#undef NUM_FORMAT_SOME
+#undef NUM_FORMAT_INLINE
+#undef NUM_FORMAT_PLAIN_PARAMETERS
+#undef NUM_FORMAT_PLAIN_ARGUMENTS
+#undef NUM_FORMAT_NULLABLE_PARAMETERS
+#undef NUM_FORMAT_NULLABLE_ARGUMENTS
+#undef NUM_FORMAT_SCALED_PARAMETERS
+#undef NUM_FORMAT_SCALED_ARGUMENTS
+#undef NUM_FORMAT_SCALED_NULLABLE_PARAMETERS
+#undef NUM_FORMAT_SCALED_NULLABLE_ARGUMENTS
+#undef NUM_FORMAT_PRINT_INLINE
+#undef NUM_FORMAT_MEASURE_INLINE
+#undef NUM_FORMAT_PARSE_INLINE
+#undef NUM_FORMAT_PARSE_BOTH_INLINE
+#undef NUM_FORMAT_COLUMN_INLINE
+#undef NUM_FORMAT_NUMBERS_INLINE
+#endif
 
 #ifdef __cplusplus
 }

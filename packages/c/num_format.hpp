@@ -9,7 +9,6 @@
 #define NUM_FORMAT_HPP
 
 #include "num_format.h"
-
 #include <stdexcept>
 #include <string>
 #include <string_view>
@@ -25,38 +24,29 @@ struct error : std::runtime_error {
     std::int32_t status;
     std::size_t at;
 };
-#define NUMFMT_ERROR(name) struct name : error { using error::error; }
-NUMFMT_ERROR(not_utf8);
-NUMFMT_ERROR(not_a_number);
-NUMFMT_ERROR(unknown_locale);
-NUMFMT_ERROR(too_long);
-NUMFMT_ERROR(bad_grouping);
-NUMFMT_ERROR(unexpected);
-NUMFMT_ERROR(no_digit);
-NUMFMT_ERROR(misspelled);
-NUMFMT_ERROR(out_of_range);
-NUMFMT_ERROR(too_many_bytes);
-#undef NUMFMT_ERROR
+/// The errors, and the status of each.
+#define NUMFMT_ERRORS(each) \
+    each(not_utf8, NOT_UTF8) each(not_a_number, NOT_A_NUMBER) each(unknown_locale, UNKNOWN_LOCALE) \
+    each(too_long, TOO_LONG) each(bad_grouping, BAD_GROUPING) each(unexpected, UNEXPECTED) each(no_digit, NO_DIGIT) \
+    each(misspelled, MISSPELLED) each(out_of_range, OUT_OF_RANGE) each(too_many_bytes, TOO_MANY_BYTES)
+#define NUMFMT_STRUCT(name, code) struct name : error { using error::error; };
+#define NUMFMT_CASE(name, code) case NUM_FORMAT_##code: throw name(status, at);
+NUMFMT_ERRORS(NUMFMT_STRUCT)
+
 /// Throws the exception of a status below 0, and else returns it.
 inline std::int32_t check(std::int32_t status, const std::size_t &at = 0) {
     switch (status) {
-    case NUM_FORMAT_NOT_UTF8: throw not_utf8(status);
-    case NUM_FORMAT_NOT_A_NUMBER: throw not_a_number(status);
-    case NUM_FORMAT_UNKNOWN_LOCALE: throw unknown_locale(status);
-    case NUM_FORMAT_TOO_LONG: throw too_long(status);
-    case NUM_FORMAT_BAD_GROUPING: throw bad_grouping(status);
-    case NUM_FORMAT_UNEXPECTED: throw unexpected(status, at);
-    case NUM_FORMAT_NO_DIGIT: throw no_digit(status);
-    case NUM_FORMAT_MISSPELLED: throw misspelled(status);
-    case NUM_FORMAT_OUT_OF_RANGE: throw out_of_range(status);
-    case NUM_FORMAT_TOO_MANY_BYTES: throw too_many_bytes(status);
+        NUMFMT_ERRORS(NUMFMT_CASE)
     default: return status < 0 ? throw error(status) : status;
     }
 }
+#undef NUMFMT_CASE
+#undef NUMFMT_STRUCT
+#undef NUMFMT_ERRORS
 
 /// The texts of numbers, one after another: text k is between offset k and offset k + 1.
 struct column {
-    std::vector<std::int64_t> offsets;
+    std::vector<std::int64_t> offsets{0};
     std::string bytes;
     std::string_view operator[](std::size_t k) const {
         return std::string_view(bytes).substr(std::size_t(offsets[k]), std::size_t(offsets[k + 1] - offsets[k]));
@@ -70,28 +60,44 @@ template <class T> constexpr bool is_number = std::is_integral_v<T> && !std::is_
 class format {
 public:
     /// The format of a locale. Throws not_utf8 or unknown_locale.
-    static format locale(std::string_view name) { return filled(num_format_locale, name); }
+    static format locale(std::string_view name) {
+        return format([=](num_format *held) { return num_format_locale(held, name.data(), name.size()); });
+    }
 
     /// The format of the locale for a language tag, such as "de_DE.UTF-8". Throws not_utf8 or unknown_locale.
-    static format lookup(std::string_view tag) { return filled(num_format_lookup, tag); }
+    static format lookup(std::string_view tag) {
+        return format([=](num_format *held) { return num_format_lookup(held, tag.data(), tag.size()); });
+    }
+
+    /// The name of that locale. Throws not_utf8 or unknown_locale.
+    static std::string lookup_name(std::string_view tag) {
+        char name[NUM_FORMAT_MAX];
+        return {name, std::size_t(check(num_format_lookup_name(tag.data(), tag.size(), name, sizeof name)))};
+    }
 
     /// A format of your own. Throws not_utf8, too_long or bad_grouping.
     static format custom(std::string_view separator, std::uint32_t grouping, std::string_view minus_sign = "-",
                          std::string_view decimal_mark = ".") {
-        format made;
-        check(num_format_custom_decimal(&made.held, separator.data(), separator.size(), grouping, minus_sign.data(),
-                                        minus_sign.size(), decimal_mark.data(), decimal_mark.size()));
-        return made;
+        return format([=](num_format *held) {
+            return num_format_custom_decimal(held, separator.data(), separator.size(), grouping, minus_sign.data(),
+                                             minus_sign.size(), decimal_mark.data(), decimal_mark.size());
+        });
     }
 
     /// The text of a number of up to 64 bits.
     template <class T> std::string print(T number) const {
         static_assert(is_number<T>, "an integer of at most 64 bits");
         char text[NUM_FORMAT_MAX];
-        if constexpr (std::is_signed_v<T>)
-            return {text, std::size_t(check(num_format_print_i64(&held, number, text, sizeof text)))};
-        else
-            return {text, std::size_t(check(num_format_print_u64(&held, number, text, sizeof text)))};
+        const auto len = std::is_signed_v<T> ? num_format_print_i64(&held, std::int64_t(number), text, sizeof text)
+                                             : num_format_print_u64(&held, std::uint64_t(number), text, sizeof text);
+        return {text, std::size_t(check(len))};
+    }
+
+    /// The length of that text, which is not printed.
+    template <class T> std::size_t print_len(T number) const {
+        static_assert(is_number<T>, "an integer of at most 64 bits");
+        return std::size_t(check(std::is_signed_v<T> ? num_format_print_i64_len(&held, std::int64_t(number))
+                                                     : num_format_print_u64_len(&held, std::uint64_t(number))));
     }
 
     /// The number that a text spells, with its separators or without. Throws not_utf8, unexpected, no_digit,
@@ -120,13 +126,12 @@ public:
     /// The numbers of many texts. Throws the exception of the first text that is refused.
     std::vector<std::int64_t> parse(const column &texts) const {
         const std::size_t n = texts.offsets.size() - 1;
-        std::vector<std::int64_t> numbers(n + 1);
-        std::vector<std::int32_t> statuses(n + 1);
+        std::vector<std::int64_t> numbers(n);
+        std::vector<std::int32_t> statuses(n);
         check(num_format_parse_strict_i64_large_column(&held, texts.offsets.data(), n + 1, texts.bytes.data(),
                                                        texts.bytes.size(), numbers.data(), n, statuses.data(), n));
         for (std::size_t k = 0; k < n; k++)
             if (statuses[k] < 0) parse<std::int64_t>(texts[k]);
-        numbers.resize(n);
         return numbers;
     }
 
@@ -136,12 +141,7 @@ public:
     bool operator==(const format &other) const { return bytes() == other.bytes(); }
     bool operator!=(const format &other) const { return bytes() != other.bytes(); }
 private:
-    format() : held() {}
-    static format filled(std::int32_t (*fill)(num_format *, const char *, std::size_t), std::string_view name) {
-        format made;
-        check(fill(&made.held, name.data(), name.size()));
-        return made;
-    }
+    template <class Fill> explicit format(Fill fill) : held() { check(fill(&held)); }
     std::string_view bytes() const { return {reinterpret_cast<const char *>(&held), sizeof held}; }
     num_format held;
 };

@@ -1,5 +1,5 @@
 //! What the calls for columns do, with Rust's types.
-ghost use Rattle.std.specs.Prelude.{◌≡◌, ◌+◌, ◌<◌, ◌≤◌, min, length, MatchOption};
+ghost use Rattle.std.specs.Prelude.{◌≡◌, ◌+◌, ◌^◌, ◌<◌, ◌≤◌, min, length, MatchOption};
 ghost use Rattle.num_format_columns.specs.Columns.{AreOffsets};
 ghost use Rattle.num_format_decimal.specs.declared.decimal.TheConstants.{MAX_SCALE};
 ghost use Rattle.num_format_c.specs.Calls.{ParsesInto, returned};
@@ -55,9 +55,11 @@ pub fn print_decimals<V: Validity, O: Offset>(
     let Some(format) = Held::new(format) else {
         return Err(Status::BadFormat);
     };
+    let power = calls::power_of_ten(scale);
     let mut printer = DecimalPrinter {
         format: &format,
         scale,
+        power,
     };
     print_rows(units, &mut printer, validity, offsets, bytes)
 }
@@ -78,7 +80,10 @@ fn scale_of(scale: u32) -> Option<u8>
 struct DecimalPrinter<'a, F: Format> {
     format: &'a F,
     scale: u8,
+    /// 10 to the power of the scale, which is the same for all.
+    power: u128,
     ghost bound: { scale ≤ MAX_SCALE },
+    ghost of_ten: { power ≡ 10 ^ scale },
 }
 
 impl<'a, F: Format> DecimalPrinter<'a, F> {
@@ -98,7 +103,8 @@ impl<'a, F: Format> Printer<SignedWide> for DecimalPrinter<'a, F> {
     ghost text = { λ p units. decimal_at p.scale (F.answers p.format.now) units };
 
     fn text_len(&self, units: &SignedWide) -> usize {
-        self.text(units).as_str().len()
+        let units = joined(units.low, units.high).cast_signed();
+        calls::decimal_text_len(units, self.scale, self.power, self.format)
     }
 
     fn print(&mut self, units: &SignedWide, start: usize, bytes: &mut [u8]) -> usize {
@@ -164,9 +170,11 @@ pub fn measure_decimals<V: Validity>(
     let Some(format) = Held::new(format) else {
         return Err(Status::BadFormat);
     };
+    let power = calls::power_of_ten(scale);
     let printer = DecimalPrinter {
         format: &format,
         scale,
+        power,
     };
     measure_rows(units, &printer, validity, len)
 }

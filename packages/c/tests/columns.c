@@ -91,6 +91,45 @@ static void check_part(const num_format *format) {
     CHECK("part: statuses", 0, statuses[0] == 0 && statuses[1] == NUM_FORMAT_NO_DIGIT && statuses[2] == 0, 1);
 }
 
+/* Decimals of each scale, of either sign and of up to 128 bits, each as by the calls for one. */
+static void check_decimals(const num_format *format) {
+    const num_format_wide units[] = {{0, 0}, {5, 0}, {-5, -1}, {123450, 0}, {-1, 0}, {-1, -1}, {-1, INT64_MAX}, {0, INT64_MIN}};
+    enum { N = sizeof units / sizeof units[0] };
+    for (uint32_t scale = 0; scale <= 38; scale++) {
+        num_format_wide parsed[N];
+        int32_t offsets[N + 1], statuses[N];
+        char bytes[N * NUM_FORMAT_DECIMAL_MAX];
+        size_t size;
+        CHECK("decimals: length", scale, num_format_print_decimal_column_len(format, units, N, scale, &size), 0);
+        CHECK("decimals", scale, num_format_print_decimal_column(format, units, N, scale, offsets, N + 1, bytes, size), 0);
+        CHECK("decimals: too small", scale, num_format_print_decimal_column(format, units, N, scale, offsets, N + 1, bytes, size - 1), NUM_FORMAT_TOO_SMALL);
+        CHECK("decimals: last offset", scale, (size_t)offsets[N], size);
+        for (size_t k = 0; k < N; k++) {
+            char text[NUM_FORMAT_DECIMAL_MAX];
+            int length = num_format_print_decimal(format, units[k].low, units[k].high, scale, text, sizeof text);
+            CHECK("decimal: length", k, num_format_print_decimal_len(format, units[k].low, units[k].high, scale), length);
+            CHECK("decimals: length of a text", k, offsets[k + 1] - offsets[k], length);
+            if (memcmp(bytes + offsets[k], text, (size_t)length) != 0) fail("decimals: text", k);
+        }
+        CHECK("decimals parsed", scale, num_format_parse_decimal_column(format, offsets, N + 1, bytes, size, parsed, N, scale, statuses, N), 0);
+        for (size_t k = 0; k < N; k++) CHECK("decimals: status", k, statuses[k], 0);
+        if (memcmp(parsed, units, sizeof units) != 0) fail("decimals: units", scale);
+    }
+}
+
+/* Texts at a scale that is not theirs, and a row that is null. */
+static void check_scale(const num_format *format) {
+    static const char bytes[] = "1,51,5001,505";
+    static const int32_t offsets[] = {0, 3, 8, 13, 13};
+    static const uint8_t validity[] = {7};
+    num_format_wide units[4] = {{7, 0}, {7, 0}, {7, 0}, {7, 0}};
+    int32_t statuses[4];
+    CHECK("scale", 0, num_format_parse_nullable_decimal_column(format, offsets, 5, bytes, sizeof bytes - 1, units, 4, 2, validity, 1, statuses, 4), 0);
+    CHECK("scale: units", 0, units[0].low == 150 && units[1].low == 150 && units[2].low == 7 && units[3].low == 7, 1);
+    CHECK("scale: statuses", 0, statuses[0] == 0 && statuses[1] == 0 && statuses[2] == NUM_FORMAT_DIGITS_LOST && statuses[3] == 0, 1);
+    CHECK("scale above 38", 0, num_format_print_decimal_column_len(format, units, 4, 39, &(size_t){0}), NUM_FORMAT_BAD_SCALE);
+}
+
 /* A pointer may be null where its length is 0. */
 static void check_null(const num_format *format) {
     num_format filled;
@@ -98,6 +137,7 @@ static void check_null(const num_format *format) {
     uint64_t low = 7, high = 7;
     uint32_t scale = 7;
     int32_t offset = -1;
+    int64_t large_offset = -1;
     size_t at = 7, size = 7;
     CHECK("null name", 0, num_format_locale(&filled, NULL, 0), NUM_FORMAT_UNKNOWN_LOCALE);
     CHECK("null tag", 0, num_format_lookup(&filled, NULL, 0), NUM_FORMAT_UNKNOWN_LOCALE);
@@ -115,8 +155,13 @@ static void check_null(const num_format *format) {
     CHECK("null column", 0, num_format_print_i64_column(format, NULL, 0, &offset, 1, NULL, 0), 0);
     CHECK("null column's length", 0, num_format_print_i64_column_len(format, NULL, 0, &size), 0);
     CHECK("null column parsed", 0, num_format_parse_i64_column(format, &offset, 1, NULL, 0, NULL, 0, NULL, 0), 0);
+    CHECK("null nullable column", 0, num_format_print_nullable_u8_large_column(format, NULL, 0, NULL, 0, &large_offset, 1, NULL, 0), 0);
+    CHECK("null nullable column's length", 0, num_format_print_nullable_i128_column_len(format, NULL, 0, NULL, 0, &size), 0);
+    CHECK("null nullable column parsed", 0, num_format_parse_strict_nullable_u128_large_column(format, &large_offset, 1, NULL, 0, NULL, 0, NULL, 0, NULL, 0), 0);
+    CHECK("null column of decimals", 0, num_format_print_decimal_column(format, NULL, 0, 2, &offset, 1, NULL, 0), 0);
+    CHECK("null column of decimals parsed", 0, num_format_parse_nullable_decimal_column(format, &offset, 1, NULL, 0, NULL, 0, 2, NULL, 0, NULL, 0), 0);
     CHECK("null offsets", 0, num_format_parse_i64_column(format, NULL, 0, NULL, 0, NULL, 0, NULL, 0), NUM_FORMAT_BAD_LENGTH);
-    CHECK("written", 0, number == 7 && low == 7 && high == 7 && scale == 7 && at == 7 && offset == 0 && size == 0, 1);
+    CHECK("written", 0, number == 7 && low == 7 && high == 7 && scale == 7 && at == 7 && offset == 0 && large_offset == 0 && size == 0, 1);
 }
 
 int main(void) {
@@ -132,6 +177,8 @@ int main(void) {
     unsigned_large(&format);
     check_empty(&format);
     check_part(&format);
+    check_decimals(&format);
+    check_scale(&format);
     check_null(&format);
     CHECK("version", 0, num_format_version(), NUM_FORMAT_VERSION);
     return status;

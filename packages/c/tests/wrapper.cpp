@@ -28,8 +28,11 @@ int main() {
     check("print", de.print(-1234567) == "-1.234.567");
     check("print, unsigned", de.print(std::uint64_t(-1)) == "18.446.744.073.709.551.615");
     check("lookup", numfmt::format::lookup("de_DE.UTF-8") == de);
+    check("lookup_name", numfmt::format::lookup_name("zh-hant-TW") == "zh-Hant");
     check("print, own", own.print(std::int64_t(-1234567)) == "~12'34'567");
+    check("print_len", de.print_len(std::int8_t(-128)) == 4 && de.print_len(std::uint64_t(-1)) == 26);
     check("parse", de.parse<std::int16_t>("-1.234") == -1234);
+    check("empty texts", numfmt::format::custom({}, 1, {}, {}).print(-1234) == "1234");
     check("parse, unsigned", de.parse<std::uint8_t>("255") == 255);
     check("equal", de == numfmt::format::locale("de") && de != own);
     check("reads_back", de.reads_back() && !numfmt::format::custom(",", 1, "").reads_back());
@@ -41,6 +44,7 @@ int main() {
     check("unknown_locale", throws<numfmt::unknown_locale>([] { numfmt::format::locale("xx"); }, -5));
     check("unknown_locale, empty", throws<numfmt::unknown_locale>([] { numfmt::format::locale({}); }, -5));
     check("unknown_locale, tag", throws<numfmt::unknown_locale>([] { numfmt::format::lookup({}); }, -5));
+    check("unknown_locale, name", throws<numfmt::unknown_locale>([] { numfmt::format::lookup_name({}); }, -5));
     check("not_utf8, tag", throws<numfmt::not_utf8>([] { numfmt::format::lookup("de\xff"); }, -3));
     check("too_long", throws<numfmt::too_long>([] { numfmt::format::custom("123456789", 1); }, -6));
     check("bad_grouping", throws<numfmt::bad_grouping>([] { numfmt::format::custom(",", 6); }, -7));
@@ -48,7 +52,7 @@ int main() {
     const std::vector<std::int64_t> numbers{0, -1234, 1234567};
     auto texts = de.print(numbers);
     check("column", texts.bytes == "0-1.2341.234.567" && texts[1] == "-1.234" && de.parse(texts) == numbers);
-    check("empty column", de.parse(de.print(std::vector<std::int64_t>{})).empty());
+    check("empty column", de.parse(de.print(std::vector<std::int64_t>{})).empty() && de.parse(numfmt::column()).empty());
     texts.bytes[5] = 'x';
     check("refused column", throws<numfmt::unexpected>([&] { de.parse(texts); }, -9, 4));
     return status;

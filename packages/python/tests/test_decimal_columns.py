@@ -75,9 +75,11 @@ def parsed_alone(text, form, scale):
         number = num_format.parse_decimal(text, form)
     except ParseError as error:
         return error.cause, 0
-    if -number.as_tuple().exponent > scale:
-        return Cause.TOO_MANY_DECIMALS, 0
-    return 0, int(f"{number:.{scale}f}".replace(".", ""))
+    # Arithmetic would round, and a text does not.
+    integer, _, decimals = f"{number:f}".partition(".")
+    if decimals[scale:].strip("0"):
+        return Cause.DIGITS_LOST, 0
+    return 0, int(integer + decimals[:scale].ljust(scale, "0"))
 
 
 def test_changed_texts_as_single_decimals():
@@ -100,11 +102,11 @@ def test_changed_texts_as_single_decimals():
 
 
 def test_fewer_and_more_decimals():
-    texts = ["1.5", "7", "-0.25", "1,234.5", "1.255", "0.000", "1.", "x", "1" + "0" * 37, "9" * 39]
+    texts = ["1.5", "7", "-0.25", "1,234.5", "1.500", "0.000", "1.255", "1.", "x", "1" + "0" * 37, "9" * 39]
     units, causes = columns.try_parse_decimal_column(texts, 2, "en", columns.WIDE)
-    refused = [Cause.TOO_MANY_DECIMALS, Cause.TOO_MANY_DECIMALS, Cause.MISSPELLED, Cause.UNEXPECTED]
-    assert causes.tolist() == [0, 0, 0, 0, *refused, Cause.OUT_OF_RANGE, Cause.OUT_OF_RANGE]
-    assert whole(units) == [150, 700, -25, 123450, 0, 0, 0, 0, 0, 0]
+    refused = [Cause.DIGITS_LOST, Cause.MISSPELLED, Cause.UNEXPECTED, Cause.OUT_OF_RANGE, Cause.OUT_OF_RANGE]
+    assert causes.tolist() == [0] * 6 + refused
+    assert whole(units) == [150, 700, -25, 123450, 150, 0, 0, 0, 0, 0, 0]
     with pytest.raises(ParseError) as caught:
         columns.parse_decimal_column(["1", "1.2.3"], 2, "en")
     error = caught.value

@@ -197,8 +197,8 @@ pub enum ParseDecimalError {
     NoDigit,
     /// More than [`MAX_SCALE`] digits follow the mark.
     TooManyDecimals,
-    /// The text is not as the number is printed: it has a leading zero, no digit before the mark or after it, a
-    /// separator elsewhere than where the format prints one, or is a negative zero.
+    /// The text is not as the number is printed, grouped or not: under `en` these are `01`, `.5`, `1.`, `1,23.4` and
+    /// `-0.00`.
     Misspelled,
     /// The text spells a number whose units are no `i128`.
     OutOfRange,

@@ -27,12 +27,14 @@ class Cause(enum.IntEnum):
     UNEXPECTED = lib.NUM_FORMAT_UNEXPECTED
     #: There is no digit.
     NO_DIGIT = lib.NUM_FORMAT_NO_DIGIT
-    #: The text is not as its number is printed: a leading zero, a negative zero, a separator elsewhere.
+    #: The text is not as its number is printed, grouped or not: under ``en`` as 01, 1,23, 1234,567 and -0.
     MISSPELLED = lib.NUM_FORMAT_MISSPELLED
     #: The text is as its number is printed, and the number is too large.
     OUT_OF_RANGE = lib.NUM_FORMAT_OUT_OF_RANGE
-    #: More than 38 digits follow the decimal mark, or in a column more than the scale.
+    #: More than 38 digits follow the decimal mark.
     TOO_MANY_DECIMALS = lib.NUM_FORMAT_TOO_MANY_DECIMALS
+    #: In a column, a digit past the scale is not 0.
+    DIGITS_LOST = lib.NUM_FORMAT_DIGITS_LOST
 
     def __repr__(self) -> str:
         return f"Cause.{self.name}"
@@ -50,6 +52,7 @@ _REASONS = {
     Cause.MISSPELLED: "it is not as its number is printed",
     Cause.OUT_OF_RANGE: "the number is too large",
     Cause.TOO_MANY_DECIMALS: "it has too many decimals",
+    Cause.DIGITS_LOST: "a digit past the scale is not 0",
 }
 
 # The most characters of a refused text that a message shows.

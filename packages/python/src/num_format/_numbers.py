@@ -129,7 +129,7 @@ def parse(text: str, format: Format | str, *, lenient: bool = False) -> int:
     num_format.ParseError: '1.23' is refused: it is not as its number is printed
 
     With `lenient`, the number is that of the digits 0 to 9 in order, negated if the text begins with the
-    minus sign, and **all else is ignored**, a decimal mark too:
+    minus sign, and **each character that is not numeric is ignored**, a decimal mark too:
 
     >>> num_format.parse(" 1 234,50 EUR", "de", lenient=True)
     123450
@@ -137,7 +137,7 @@ def parse(text: str, format: Format | str, *, lenient: bool = False) -> int:
     Args:
         text: A number from -2**127 to 2**128 - 1 as digits.
         format: A :class:`Format`, or the name of a locale.
-        lenient: Whether what is no digit is ignored.
+        lenient: Whether each character that is not numeric is ignored.
 
     Raises:
         ParseError: The text is refused. The error has the cause and, for an unexpected character, its index.

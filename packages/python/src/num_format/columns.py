@@ -310,7 +310,7 @@ def parse_column(
         column: A :class:`StringColumn`, or what its `from_strings` takes, which raises what that raises.
         format: A :class:`num_format.Format`, or the name of a locale.
         dtype: Any of the eight types of integers.
-        lenient: Whether what is no digit is ignored.
+        lenient: Whether each character that is not numeric is ignored.
 
     Raises:
         ParseError: A text is refused. The error is that of the first such row.
@@ -394,15 +394,15 @@ def parse_decimal_column(
     """Returns the units of the decimals that the texts of a column spell, each parsed as by
     :func:`num_format.parse_decimal`, at one scale.
 
-    A text may have fewer decimals than the scale, and none may have more: that is `TOO_MANY_DECIMALS`. Units that the
-    dtype has not are `OUT_OF_RANGE`.
+    A text may have other decimals than the scale, but the number stays the same: where a digit past the scale is not
+    0, the text is refused as `DIGITS_LOST`. Units that the dtype has not are `OUT_OF_RANGE`.
 
     >>> from num_format.columns import parse_decimal_column
-    >>> parse_decimal_column(["1.234,50", "-0,05", "7"], 2, "de")
+    >>> parse_decimal_column(["1.234,50", "-0,050", "7"], 2, "de")
     array([123450,     -5,    700])
     >>> parse_decimal_column(["1", "0,005"], 2, "de")
     Traceback (most recent call last):
-    num_format.ParseError: row 1: '0,005' is refused: it has too many decimals
+    num_format.ParseError: row 1: '0,005' is refused: a digit past the scale is not 0
 
     Args:
         column: What :func:`parse_column` takes.
@@ -432,8 +432,7 @@ def try_parse_decimal_column(
 ) -> ParsedColumn:
     """Returns the units of a column of decimals, and for each row why it is refused.
 
-    It takes what :func:`parse_decimal_column` takes, and raises no `ParseError`. A text whose decimals past the scale
-    are zeros is parsed once more by itself, which takes longer.
+    It takes what :func:`parse_decimal_column` takes, and raises no `ParseError`.
 
     >>> from num_format.columns import try_parse_decimal_column
     >>> units, causes = try_parse_decimal_column(["1.5", "1.555", "x"], 2, "en")
@@ -445,7 +444,6 @@ def try_parse_decimal_column(
     texts = _to_column(column)
     units = np.zeros(len(texts), dtype=WIDE)
     causes = _parse_into(ffi.from_buffer("num_format_wide[]", units), "decimal", struct, texts, scale)
-    _refuse_more_decimals(texts, scale, format, units, causes)
     return _parsed(_narrowed(units, causes, native), causes, texts)
 
 
@@ -471,24 +469,6 @@ def _parse_into(numbers: Any, name: str, struct: Any, texts: StringColumn, *scal
     statuses = ffi.from_buffer("int32_t[]", causes)
     _check(call(struct, *inputs, numbers, len(texts), *scale, statuses, len(causes)))
     return causes
-
-
-def _refuse_more_decimals(
-    texts: StringColumn, scale: int, format: Format | str, units: npt.NDArray[Any], causes: npt.NDArray[np.int32]
-) -> None:
-    """Refuses the texts of more decimals than the scale. The library refuses them only where digits would be lost."""
-    causes[causes == lib.NUM_FORMAT_DIGITS_LOST] = Cause.TOO_MANY_DECIMALS
-    starts, ends = texts.offsets[:-1], texts.offsets[1:] - scale - 1
-    rows = np.flatnonzero((causes == 0) & (starts < ends))
-    mark = to_format(format).decimal_mark.encode()
-    if mark:
-        # Such a text has its mark before its last bytes, which are digits, one more than the scale.
-        bounds = np.stack([starts[rows], ends[rows]], axis=1).ravel()
-        rows = rows[np.logical_or.reduceat(texts.data == mark[-1], bounds)[::2]]
-    for row in rows.tolist():
-        _, _, decimals = f"{parse_decimal(texts.row_bytes(row).decode(), format):f}".partition(".")
-        if len(decimals) > scale:
-            units[row], causes[row] = 0, Cause.TOO_MANY_DECIMALS
 
 
 def _number(dtype: np.dtype[Any]) -> tuple[np.dtype[Any], str]:
