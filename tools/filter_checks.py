@@ -24,7 +24,15 @@ TRY_HELP = b"Try 'regroup-lines --help' for more information.\n"
 TOO_LONG = b"more than 4096 bytes"
 NOT_TEXT = b"not UTF-8"
 FEW_FIELDS = b"too few fields"
-NO_LIST = b"regroup-lines: the fields are no list, as 1,3-5 or 2-\n"
+
+
+def refused(cause):
+    """The message of arguments that are refused for this cause."""
+    return b"regroup-lines: " + cause + b"\n" + TRY_HELP
+
+
+NO_LIST = refused(b"the fields are no list, as 1,3-5 or 2-")
+TWO_HEADERS = refused(b"the argument '--header' cannot be used with '--header-lines <N>'")
 
 
 def fault(number, cause, name=b"-"):
@@ -112,6 +120,15 @@ LENIENT = [
     ("en", "de", b"1\r\n\r\n", 1, b"1\r\n", fault(2, unparsed(b""))),
 ]
 
+# A line that is too long. Lines at fault among others, what is written where they are passed on, and the messages that
+# name them.
+LONG = 100_000 * b"x" + b"\n"
+SOME_FAULTS = b"1,000\nx\n\n12,34\r\n\xff\n2,000"
+SOME_PASSED = b"1.000\nx\n\n12,34\r\n\xff\n2.000\n"
+SOME_NAMED = b"".join(
+    [fault(2, unparsed(b"x", 1)), fault(3, unparsed(b"")), fault(4, unparsed(b"12,34")), fault(5, NOT_TEXT)]
+)
+
 # Options, standard input, the status, standard output and standard error, from `en` to `de`.
 OPTIONS = [
     ("--field 2", b"a\t1,234.50\tb\n", 0, b"a\t1.234,50\tb\n", b""),
@@ -151,13 +168,28 @@ OPTIONS = [
     ("--header-lines 2", b"1,000\n\xff\n1,000\n", 0, b"1,000\n\xff\n1.000\n", b""),
     ("--header-lines 0", b"x\n", 1, b"", fault(1, unparsed(b"x", 1))),
     ("--header", 4097 * b"x" + b"\n", 1, b"", fault(1, TOO_LONG)),
+    ("--header --invalid warn", LONG + b"1,000\n", 0, LONG + b"1.000\n", fault(1, TOO_LONG)),
     ("--empty", b"\n1,000\n \r\n", 0, b"\n1.000\n \r\n", b""),
     ("--empty --field 2", b"a\t\tb\n", 0, b"a\t\tb\n", b""),
     ("--empty --field 2", b"\n", 1, b"", fault(1, FEW_FIELDS)),
     ("--invalid ignore", b"1,000\nx\n\xff\n2,000", 0, b"1.000\nx\n\xff\n2.000\n", b""),
     ("--invalid=ignore --field 2", b"1\na\t1,000\n", 0, b"1\na\t1.000\n", b""),
-    ("--invalid ignore", b"1\n" + 4097 * b"x", 1, b"1\n", fault(2, TOO_LONG)),
+    ("--invalid ignore", b"1\n" + 4097 * b"x", 0, b"1\n" + 4097 * b"x" + b"\n", b""),
+    ("--invalid fail", LONG + b"1,000\n", 1, LONG + b"1.000\n", fault(1, TOO_LONG)),
+    ("--invalid warn", 2 * (LONG + b"1,000\n"), 0, 2 * (LONG + b"1.000\n"), fault(1, TOO_LONG) + fault(3, TOO_LONG)),
+    ("--invalid ignore", 3 * LONG + 1_000_000 * b"1" + LONG, 0, 3 * LONG + 1_000_000 * b"1" + LONG, b""),
+    ("--invalid warn", 8194 * b"x", 0, 8194 * b"x" + b"\n", fault(1, TOO_LONG)),
     ("--invalid abort", b"1\nx\n", 1, b"1\n", fault(2, unparsed(b"x", 1))),
+    ("--invalid fail", b"1,000\n2", 0, b"1.000\n2\n", b""),
+    ("--invalid fail", SOME_FAULTS, 1, SOME_PASSED, SOME_NAMED),
+    ("--invalid warn", SOME_FAULTS, 0, SOME_PASSED, SOME_NAMED),
+    ("--invalid warn --empty", b"\nx", 0, b"\nx\n", fault(2, unparsed(b"x", 1))),
+    ("--invalid warn --header", b"x\ny\n1,000\n", 0, b"x\ny\n1.000\n", fault(2, unparsed(b"y", 1))),
+    ("--invalid warn --header-lines 2", b"x\ny\nz\n", 0, b"x\ny\nz\n", fault(3, unparsed(b"z", 1))),
+    ("--invalid fail --lenient", b"$5\n-$\n", 1, b"5\n-$\n", fault(2, unparsed(b"-$"))),
+    ("--invalid fail --field 2", b"1\na\t1,000\n", 1, b"1\na\t1.000\n", fault(1, FEW_FIELDS)),
+    ("--invalid warn --field 1-", b"1,000\tx\n2,000\n", 0, b"1,000\tx\n2.000\n", fault(1, unparsed(b"x", 1))),
+    ("--invalid warn --field 2 -d;", b"1;\n1; 2,000 \n", 0, b"1;\n1; 2.000 \n", fault(1, unparsed(b""))),
 ]
 
 # Words that do not name two formats, and the message.
@@ -187,11 +219,16 @@ MISUSES = [
     (["--lenient", "custom:7:Standard:17", "xx"], unknown(b"'xx'")),
 ]
 
-# Words that are refused before that, and what the message begins with.
+# Words that are refused before that, and the message.
 REFUSED = [
-    ([], b"error: the following required arguments were not provided"),
-    (["en"], b"error: the following required arguments were not provided"),
-    (["--strict", "en", "de"], b"error: unexpected argument '--strict' found"),
+    ([], refused(b"missing operand")),
+    (["en"], refused(b"missing operand")),
+    (["--strict", "en", "de"], refused(b"unrecognized option '--strict'")),
+    (["--strict=1", "en", "de"], refused(b"unrecognized option '--strict'")),
+    (["--x\x1b[2J\n' found\n", "en", "de"], refused(rb"unrecognized option '--x\x1B[2J\x0A'")),
+    (["-q", "en", "de"], refused(b"invalid option -- 'q'")),
+    (["--field"], refused(b"option '--field' requires an argument")),
+    (["--header-lines", "x", "en", "de"], refused(b"invalid argument 'x' for '--header-lines'")),
     (["--field", "", "en", "de"], NO_LIST),
     (["--field", "0", "en", "de"], NO_LIST),
     (["--field", "x", "en", "de"], NO_LIST),
@@ -206,13 +243,15 @@ REFUSED = [
     (["--field=-0", "en", "de"], NO_LIST),
     (["--field", "1-2-3", "en", "de"], NO_LIST),
     (["--field", "18446744073709551616", "en", "de"], NO_LIST),
-    (["--field", "en", "de"], b"error: the following required arguments were not provided"),
-    (["-d,", "en", "de"], b"error: the following required arguments were not provided"),
-    (["--field=1", "-d", "", "en", "de"], b"regroup-lines: the delimiter is not one ASCII character\n"),
-    (["--field=1", "-d", "\u202f", "en", "de"], b"regroup-lines: the delimiter is not one ASCII character\n"),
-    (["--header", "--header-lines=2", "en", "de"], b"error: the argument '--header' cannot be used with"),
-    (["--invalid", "warn", "en", "de"], b"error: invalid value 'warn' for '--invalid <MODE>'"),
-    (["en", b"\xff"], b"regroup-lines: an argument is not UTF-8\n"),
+    (["--field", "en", "de"], refused(b"missing operand")),
+    (["-d,", "en", "de"], refused(b"option '--delimiter' requires '--field'")),
+    (["--field=1", "-d", "", "en", "de"], refused(b"the delimiter is not one ASCII character")),
+    (["--field=1", "-d", "\u202f", "en", "de"], refused(b"the delimiter is not one ASCII character")),
+    (["--header", "--header-lines=2", "en", "de"], TWO_HEADERS),
+    (["--header", "--header", "en", "de"], refused(b"the argument '--header' cannot be used multiple times")),
+    (["--invalid", "warm", "en", "de"], refused(b"invalid argument 'warm' for '--invalid'")),
+    (["--invalid=", "en", "de"], refused(b"option '--invalid' requires an argument")),
+    (["en", b"\xff"], refused(b"an argument is not UTF-8")),
 ]
 
 # The files of a folder, which has the folder `inner` too.
@@ -233,6 +272,9 @@ def unopened(name, reason):
 
 MISSING = b"No such file or directory"
 
+# The message of the line at fault of `bad.txt`.
+BAD = fault(2, unparsed(b"abc", 1), b"bad.txt")
+
 # Words after `en de` in that folder, standard input, the status, standard output and standard error.
 OPERANDS = [
     (["b.txt", "--header", "a.txt"], b"z\n", 0, b"y\n2.000\nx\n1.000\n", b""),
@@ -246,6 +288,8 @@ OPERANDS = [
     (["c.txt", "-"], b"1,000\n", 1, b"1.000\n", unopened(b"c.txt", MISSING)),
     (["c", "", "-"], b"2", 1, b"2\n", unopened(b"c", MISSING) + unopened(b"", MISSING)),
     (["c", "bad.txt"], b"", 1, b"3\n", unopened(b"c", MISSING) + fault(2, unparsed(b"abc", 1), b"bad.txt")),
+    (["--invalid=warn", "bad.txt", "b.txt"], b"", 0, b"3\nabc\n4\ny\n2.000\n", BAD + fault(1, unparsed(b"y", 1), b"b.txt")),
+    (["--invalid=fail", "bad.txt", "c", "-"], b"5,000", 1, b"3\nabc\n4\n5.000\n", BAD + unopened(b"c", MISSING)),
     (["a.txt/b"], b"", 1, b"", unopened(b"a.txt/b", b"Not a directory")),
     (["\x1b[2J\n"], b"", 1, b"", unopened(rb"\x1B[2J\x0A", MISSING)),
     ([300 * "n"], b"", 1, b"", unopened(256 * b"n", b"File name too long")),
@@ -335,9 +379,7 @@ def check_words(tally, program):
     for words, message in MISUSES:
         compare(tally, repr(words), regroup(program, words, b"1\n"), 2, b"", message)
     for words, message in REFUSED:
-        ended = regroup(program, words, b"1\n")
-        found = (ended.returncode, ended.stdout, ended.stderr[: len(message)])
-        tally.compare(repr(words), found, (2, b"", message))
+        compare(tally, repr(words), regroup(program, words, b"1\n"), 2, b"", message)
     ended = regroup(program, ["--", "en", "de"], b"1000\n")
     compare(tally, "words after --", ended, 0, b"1.000\n", b"")
     ended = regroup(program, ["--help"], b"")
@@ -382,6 +424,10 @@ def check_example(tally, program):
     words = ["--header", "--field", "3", "en", "de"]
     ended = regroup(program, ["--invalid", "ignore", *words], table)
     compare(tally, "all lines", ended, 0, expected, b"")
+    named = fault(8, unparsed(b"12.5O", 5)) + fault(12, unparsed(b"n/a", 1))
+    for mode, status in [("fail", 1), ("warn", 0)]:
+        ended = regroup(program, ["--invalid", mode, *words], table)
+        compare(tally, f"all lines, --invalid {mode}", ended, status, expected, named)
     before = b"".join(expected.splitlines(keepends=True)[:7])
     message = fault(8, unparsed(b"12.5O", 5))
     compare(tally, "up to line 8", regroup(program, words, table), 1, before, message)
@@ -393,6 +439,9 @@ def check_failures(tally, program):
         for place, (state, stream) in enumerate([("full", full), ("closed", None)]):
             for text, output, others in FAILURES:
                 compare_failed(tally, program, ["en", "de"], text, output, state, stream, others[place])
+                if output == "stderr":
+                    words = ["--invalid=fail", "en", "de"]
+                    compare_failed(tally, program, words, text, output, state, stream, others[place])
             compare_failed(tally, program, ["en", "xx"], b"", "stderr", state, stream, b"")
     words = [program, "en", "de"]
     ended = run(words, preexec_fn=lambda: os.close(0), capture_output=True)
@@ -428,6 +477,21 @@ def check_closed_pipe(tally, program):
     tally.compare("one line", found, (b"1.000\n", 141, b""))
 
 
+def check_slow_input(tally, program):
+    """Reads each line of the output before the next one of the input is written."""
+    heading("a slow input")
+    lines = []
+    words = [program, "--line-buffered", "--field=2", "en", "de"]
+    with subprocess.Popen(words, stdin=subprocess.PIPE, stdout=subprocess.PIPE) as ended:
+        for line in [b"a\t1,000\tb\n", b"c\t2,000.5\td\n"]:
+            ended.stdin.write(line)
+            ended.stdin.flush()
+            lines.append(ended.stdout.readline())
+        ended.stdin.close()
+        found = (lines, ended.stdout.read(), ended.wait(RUN_SECONDS))
+    tally.compare("--line-buffered", found, ([b"a\t1.000\tb\n", b"c\t2.000,5\td\n"], b"", 0))
+
+
 def check_long(tally, program):
     heading("input of any length")
     limited = {"preexec_fn": limit_memory}
@@ -456,6 +520,7 @@ def check_all(tally, program):
     check_example(tally, program)
     check_failures(tally, program)
     check_closed_pipe(tally, program)
+    check_slow_input(tally, program)
     check_long(tally, program)
 
 

@@ -1,9 +1,9 @@
 # Completes the options of regroup-lines, and the values of --invalid.
 _regroup_lines() {
     local word=${COMP_WORDS[COMP_CWORD]} before=${COMP_WORDS[COMP_CWORD - 1]}
-    local words="--field --delimiter --header --header-lines --empty --invalid --lenient --help --version"
+    local words="--field --delimiter --header --header-lines --empty --invalid --lenient --line-buffered --help --version"
     case $before in
-    --invalid) words="abort ignore" ;;
+    --invalid) words="abort fail warn ignore" ;;
     --field | --delimiter | -d | --header-lines) return ;;
     esac
     mapfile -t COMPREPLY < <(compgen -W "$words" -- "$word")

@@ -75,8 +75,10 @@ const USAGE: &str = "usage: regroup COMMAND ARGUMENT...";
 ///   written after it. Each of `out` and `err` received a prefix of what it receives with the
 ///   status 0, 1 or 2 that the words have, and not both received all.
 ///
-/// ```text
-/// run(&["print", "en", "1000000"], &mut out, &mut err)    // 0, and "1,000,000\n" in `out`
+/// ```rust
+/// let (mut out, mut err) = (Vec::new(alloc), Vec::new(alloc));
+/// run(&["print", "en", "1000000"], &mut out, &mut err)    // 0
+/// str::from_utf8(&out)                                    // Ok("1,000,000\n")
 /// ```
 pub fn run<O: Write, E: Write>(args: &[&str], out: &mut O, err: &mut E) -> u8
     ensures status { result ≢ FAILED → result ≡ (output_of (texts args.now)).status }

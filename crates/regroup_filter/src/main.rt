@@ -3,11 +3,16 @@
 //! The crate `regroup_stream` states what is proved of it.
 #![tactic(auto)]
 
+mod misuse;
 mod options;
 
-use crate::options::{command, files_of, list_of, rules_of, words_of};
+use crate::misuse::{refuse_arguments, refuse_words};
+use crate::options::{files_of, kept_of, list_of, rules_of, words_of};
 use clap::error::ErrorKind;
-use regroup_stream::{FAILED, Formats, MISUSED, REGROUPED, Rules, formats_named, refuse, run};
+use regroup_options::matches;
+use regroup_stream::{
+    FAILED, FAULTY, Formats, Invalid, MISUSED, REGROUPED, Rules, formats_named, refuse, run,
+};
 use std::fs::File;
 use std::io::{BufReader, BufWriter, Read, Stdin};
 use std::process::ExitCode;
@@ -32,25 +37,29 @@ fn try_main(rt: &HostRuntime) -> io::Result<u8> {
     let args: Vec<String> = match env::args(rt) {
         Ok(args) => args.skip(1).collect(rt.alloc())?,
         Err(error) if error.kind() == io::ErrorKind::InvalidData => {
-            eprintln!(rt; "regroup-lines: an argument is not UTF-8")?;
+            refuse_words(rt, "an argument is not UTF-8")?;
             return Ok(MISUSED);
         }
         Err(error) => return Err(error),
     };
-    let matches = match command(rt.alloc())?.try_get_matches_from(args.as_slice()) {
+    let matches = match matches(rt.alloc(), args.as_slice()) {
         Ok(matches) => matches,
         Err(error) if error.kind() == ErrorKind::OutOfMemory => return Ok(FAILED),
+        Err(error) if error.use_stderr() => {
+            refuse_arguments(rt, &error)?;
+            return Ok(MISUSED);
+        }
         Err(error) => {
             error.print(rt)?;
-            return Ok(error.exit_code() as u8);
+            return Ok(REGROUPED);
         }
     };
     let Some(list) = list_of(rt.alloc(), &matches)? else {
-        eprintln!(rt; "regroup-lines: the fields are no list, as 1,3-5 or 2-")?;
+        refuse_words(rt, "the fields are no list, as 1,3-5 or 2-")?;
         return Ok(MISUSED);
     };
     let Some(rules) = rules_of(&matches, &list) else {
-        eprintln!(rt; "regroup-lines: the delimiter is not one ASCII character")?;
+        refuse_words(rt, "the delimiter is not one ASCII character")?;
         return Ok(MISUSED);
     };
     let [from, to] = words_of(&matches);
@@ -58,11 +67,12 @@ fn try_main(rt: &HostRuntime) -> io::Result<u8> {
         Ok(formats) => formats,
         Err(misuse) => return Ok(misuse.send(&mut rt.stderr())),
     };
-    regroup_files(rt, &rules, &formats, files_of(&matches))
+    let kept = kept_of(&matches, CAPACITY);
+    regroup_files(rt, &rules, &formats, kept, files_of(&matches))
 }
 
-/// Regroups the lines of the files in turn, up to the first whose lines are not all regrouped, and returns the highest
-/// status. A file that cannot be opened is left out.
+/// Regroups the lines of the files in turn, up to the first whose lines are not all written, and returns the highest
+/// status. A file that cannot be opened is left out. So many bytes of the output are kept until they are written.
 ///
 /// # Errors
 ///
@@ -71,9 +81,10 @@ fn regroup_files(
     rt: &HostRuntime,
     rules: &Rules,
     formats: &Formats,
+    kept: usize,
     names: &[&str],
 ) -> io::Result<u8> {
-    let mut out = BufWriter::with_capacity(rt.alloc(), CAPACITY, rt.stdout())?;
+    let mut out = BufWriter::with_capacity(rt.alloc(), kept, rt.stdout())?;
     let mut err = rt.stderr();
     let mut status = REGROUPED;
     for name in names {
@@ -87,8 +98,10 @@ fn regroup_files(
                 continue;
             }
         };
-        if ended != REGROUPED {
-            return Ok(status.max(ended));
+        match ended {
+            REGROUPED => {}
+            FAULTY if rules.invalid == Invalid::Fail => status = FAULTY,
+            _ => return Ok(status.max(ended)),
         }
     }
     Ok(status)

@@ -1,20 +1,23 @@
 -- The definition of the decimal that a text spells is what strict parsing returns.
-use Rattle.std.proofs.Common.{◌≡◌, ◌≢◌, ℕ, ◌+◌, ◌<◌, Bool, true, false, List, [], ◌∷◌, Option, Some, None, Result, Ok, Err, if◌then◌else◌, refl, sym, ap, subst, ◌∙◌, arith, drop, inl, inr}
+use Rattle.std.proofs.Common.{◌≡◌, ◌≢◌, ℕ, ◌+◌, ◌-◌, ◌<◌, Bool, true, false, List, [], ◌∷◌, Option, Some, None, Result, Ok, Err, if◌then◌else◌, refl, sym, ap, subst, ◌∙◌, arith, drop, inl, inr, length}
 use Rattle.std.specs.Prelude.{zero, suc, ◌↔◌, ◌&&◌}
 use Rattle.std.specs.Option.{option_map}
 use Rattle.std.specs.Str.{is_utf8}
 use Rattle.std.proofs.lemmas.Bool.{both_ways, false_from_ne_true}
 use Rattle.std.proofs.lemmas.Bool.Decides.{Decides-or}
+use Rattle.std.proofs.lemmas.List.{length-drop}
 use Rattle.std.proofs.lemmas.Slice.Eq.{bytes_eq-Decides}
 use Rattle.std.proofs.lemmas.Str.{IsUtf8-from_is_utf8, is_utf8-from_IsUtf8}
 use Rattle.num_format.specs.Format.{FormatData}
 use Rattle.num_format_decimal.specs.FixedPoint.{FixedPoint, fixed_point}
-use Rattle.num_format_decimal.specs.Parsing.{HasScale, ParsesDecimal, SpellsDecimal, denoted_at}
+use Rattle.num_format_decimal.specs.Parsing.{HasScale, IsDecimalCause, IsExpectedDecimal, ParsesDecimal, SpellsDecimal, denoted_at, unexpected_in_decimal}
 use Rattle.num_format_decimal.specs.declared.decimal.TheConstants.{MAX_SCALE}
 use Rattle.num_format_decimal.specs.declared.parsing.ParseDecimalError.{ParseDecimalError}
+use Rattle.num_format_decimal.specs.declared.parsing.ParseDecimalError.TheVariants.{Misspelled, NoDigit, NotUtf8, OutOfRange, TooManyDecimals, Unexpected}
 use Rattle.regroup_shared.specs.Reading.{is_readable}
 use Rattle.regroup_shared.proofs.ReadingLemmas.{readable-from_accepted, unreadable-from_refused}
 use Rattle.regroup_lines.specs.Decimals.{decimal_read, is_spelled_at, only, scales_below}
+use Rattle.regroup_lines.specs.Messages.{before_in, before_rest, before_unexpected, unless_spelled}
 
 -- constructors differ
 cc_list : (n : ℕ) (l : List ℕ) → n ∷ l ≡ [] → ⊥
@@ -182,3 +185,45 @@ module _ (f : FormatData) (t : List ℕ) where
   pub decimal_read-refused : (r : Result FixedPoint ParseDecimalError) (e : ParseDecimalError) → r ≡ Err e →
       ((d : FixedPoint) → (r ≡ Ok d) ↔ ParsesDecimal f t d) → decimal_read f t ≡ None
   decimal_read-refused r e failed exactly = refused-from (decimal_read f t) r e refl failed exactly
+
+  -- a text that no decimal is spelled by
+  only-none : (l : List ℕ) → ((s : ℕ) → l ≡ s ∷ [] → ⊥) → only l ≡ None
+  only-none [] never = refl
+  only-none (a ∷ []) never = absurd (never a refl)
+  only-none (a ∷ b ∷ l) never = refl
+
+  spelled-none : ((scale : ℕ) → ¬ HasScale f t scale) → only (scales_below f t (MAX_SCALE + 1)) ≡ None
+  spelled-none none = only-none _ (λ s one. none s (scale-from_only s one))
+
+  -- the byte that strict parsing does not expect is that of the definition
+  before-some : (rest : List ℕ) → 0 < length rest → before_rest t rest ≡ Some (length t - length rest)
+  before-some [] some = absurd (omega arith)
+  before-some (b ∷ rest) some = refl
+
+  before-at : (at : ℕ) → at < length t → before_rest t (drop at t) ≡ Some at
+  before-at at inside =
+      let len = length-drop at t in
+      let same : length t - length (drop at t) ≡ at = omega (arith, len) in
+      before-some (drop at t) (omega (arith, len)) ∙ ap Some same
+
+  before-unspelled : ((scale : ℕ) → ¬ HasScale f t scale) → before_unexpected f t ≡ before_rest t (unexpected_in_decimal f t)
+  unfolding before_unexpected
+  before-unspelled none = ap (λ o. unless_spelled o (before_rest t (unexpected_in_decimal f t))) (spelled-none none)
+
+  before-spelled : (s : ℕ) → HasScale f t s → before_unexpected f t ≡ None
+  unfolding before_unexpected
+  before-spelled s has = ap (λ l. unless_spelled (only l) (before_rest t (unexpected_in_decimal f t))) (only-from_scale s has)
+
+  before-expected : IsExpectedDecimal f t → before_unexpected f t ≡ None
+  before-expected expected = before-unspelled expected.spells_none.none ∙ ap (before_rest t) expected.rest
+
+  pub before-parsed : (d : FixedPoint) → ParsesDecimal f t d → before_unexpected f t ≡ None
+  before-parsed d parsed = before-spelled d.scale parsed.scale
+
+  pub before-refused : (r : Result FixedPoint ParseDecimalError) (e : ParseDecimalError) → r ≡ Err e → ¬ (r ≡ Err NotUtf8) → IsDecimalCause f t e → before_unexpected f t ≡ before_in e
+  before-refused r NotUtf8 is utf8 cause = absurd (utf8 is)
+  before-refused r (Unexpected at) is utf8 cause = before-unspelled cause.spells_none.none ∙ ap (before_rest t) cause.rest ∙ before-at at cause.inside
+  before-refused r NoDigit is utf8 cause = before-expected cause.expected
+  before-refused r TooManyDecimals is utf8 cause = before-expected cause.expected
+  before-refused r Misspelled is utf8 cause = before-expected cause.expected
+  before-refused r OutOfRange is utf8 cause = before-spelled cause.scale cause.spelled

@@ -1,19 +1,15 @@
 -- The bytes that an input holds, read after read.
 use Rattle.std.proofs.Common.{◌≡◌, ℕ, ◌+◌, ◌-◌, ◌<◌, ◌≤◌, ◌==◌, true, false, Bool, List, [], ◌∷◌, ◌++◌, length, take, drop, get_or, slice_range, Option, Some, None, refl, sym, ap, subst, ◌∙◌, arith, append_assoc, append-nil, take-append-drop}
-use Rattle.std.specs.Prelude.{IfOk, MatchOption, Result, Ok, Err, is_some, not}
+use Rattle.std.specs.Prelude.{MatchOption, is_some, not}
 use Rattle.std.specs.Io.KnownBytes.{Consumes, IsAtEnd, Keeps}
 use Rattle.std.proofs.KnownBytes.{Consumes-kept, Consumes-nil, Consumes-trans}
 use Rattle.std.proofs.lemmas.Bool.{false_from_ne_true, eqb-true}
-use Rattle.std.proofs.lemmas.List.{drop-append-le, drop-drop, drop_all, length-append, drop-take, drop_at, drop_more, get_or-drop, get_or-take, length-drop, length-take, length-take-le, take-append-le, take_all, take_at, take_rest}
-use Rattle.std.proofs.lemmas.List.Elements.{All-append, All-cons, All-from_get_or, All-nil}
+use Rattle.std.proofs.lemmas.List.{drop-append-le, drop-drop, drop-take, drop_at, drop_more, get_or-drop, get_or-take, length-drop, length-take, length-take-le, take-append-le, take_all, take_at, take_rest}
+use Rattle.std.proofs.lemmas.List.Elements.{All-append, All-from_get_or}
 use borrow.Rule.Slice.PartMut.{put_mid, post_of}
 use lib.Seq.{take-add}
 use Rattle.memchr.specs.Find.{IsFirstByte, is_byte}
-use Rattle.regroup_lines.specs.Input.{EndsOrGoesOn, FindsNewline, FindsPiece, HasNoNewline, Reads}
-use Rattle.regroup_lines.specs.declared.input.Input.{Input}
-use Rattle.regroup_lines.specs.declared.input.Piece.{Piece}
-use Rattle.regroup_lines.specs.declared.input.Piece.TheVariants.{Line, Rest, TooLong}
-use Rattle.regroup_lines.specs.declared.TheConstants.{MAX_LINE_LEN}
+use Rattle.regroup_lines.specs.Input.{EndsOrGoesOn, FindsNewline, HasNoNewline, Reads}
 
 -- a range of an array without its first n bytes
 pub range-later : (xs : List ℕ) (start end n : ℕ) → start + n ≤ end → slice_range xs (start + n) end ≡ drop n (slice_range xs start end)
@@ -119,10 +115,6 @@ line_found before bytes text left a b n read found is_text is_left = (
   subst HasNoNewline (sym is_text) found.2,
 )
 
--- bytes without a newline, and one after them that is none
-pub newlines-none_push : (bytes : List ℕ) (byte : ℕ) → HasNoNewline bytes → (byte == 10) ≡ false → HasNoNewline (bytes ++ byte ∷ [])
-newlines-none_push bytes byte none other = All-append (λ b. (b == 10) ≡ false) bytes (byte ∷ []) none (All-cons (λ b. (b == 10) ≡ false) byte [] other (All-nil (λ b. (b == 10) ≡ false)))
-
 -- a read that gives nothing
 pub newlines-unread : (xs ys : List ℕ) (a b : Option (List ℕ)) → Reads xs ys a b → HasNoNewline xs → length ys ≤ length xs → HasNoNewline ys
 newlines-unread xs ys a b read none same = subst HasNoNewline (take_all (length xs) ys same) (newlines-searched xs ys a b (length xs) read none refl)
@@ -139,38 +131,3 @@ pub searched_first : (bytes shown : List ℕ) (n k : ℕ) (r : Option ℕ) → s
 searched_first bytes shown n k r same before within search first =
     newlines-first_after bytes n k before within (subst (λ l. IsFirstByte (is_byte 10) (take (length l - n) (drop n l)) (Some k)) same
     (subst (IsFirstByte (is_byte 10) (take (length shown - n) (drop n shown))) first search))
-
--- the first piece of bytes that were held is that of the bytes before them and those of the reads
-pub FindsPiece-after : (before bytes : List ℕ) (input : Input) (a b c : Option (List ℕ)) (piece : Piece) → Reads before bytes a b →
-    FindsPiece bytes input b c piece → FindsPiece before input a c piece
-FindsPiece-after before bytes input a b c (Line place) read found = (Reads-trans before bytes _ a b c read found.0, found.1, found.2)
-FindsPiece-after before bytes input a b c (Rest place) read found = (Reads-trans before bytes _ a b c read found.0, found.1, found.2, found.3)
-FindsPiece-after before bytes input a b c TooLong read found = (found.0, Reads-trans before bytes _ a b c read found.1, found.2, found.3)
-
--- also where it is the result of a call
-pub FindsPiece-after_call : {E : Type 0} (before bytes : List ℕ) (input : Input) (a b c : Option (List ℕ)) (r : Result Piece E) → Reads before bytes a b →
-    IfOk r (FindsPiece bytes input b c) → IfOk r (FindsPiece before input a c)
-FindsPiece-after_call before bytes input a b c (Ok piece) read found = FindsPiece-after before bytes input a b c piece read found
-FindsPiece-after_call before bytes input a b c (Err e) read found = tt
-
--- bytes that fill the array, and the next byte
-module _ (bytes : List ℕ) (a b : Option (List ℕ)) (read : Option ℕ) (full : length bytes ≡ MAX_LINE_LEN) (none : HasNoNewline bytes)
-    (next : MatchOption read (Consumes a b [] × IsAtEnd b) (λ byte. Consumes a b (byte ∷ []))) where
-  pub full_rest : (text : List ℕ) → read ≡ None → text ≡ take MAX_LINE_LEN bytes → Reads bytes text a b × HasNoNewline text × (length text ≤ MAX_LINE_LEN) × IsAtEnd b
-  full_rest text is taken =
-      let end = subst (λ r. MatchOption r (Consumes a b [] × IsAtEnd b) (λ byte. Consumes a b (byte ∷ []))) is next in
-      let same : text ≡ bytes = taken ∙ take_all MAX_LINE_LEN bytes (omega arith) in
-      rw same (record { given = []; joined = append-nil bytes; consumed = end.0 }, none, omega arith, end.1)
-
-  pub full_line : (text left : List ℕ) (byte : ℕ) → read ≡ Some byte → byte ≡ 10 → text ≡ take MAX_LINE_LEN bytes → left ≡ drop MAX_LINE_LEN bytes →
-      Reads bytes (text ++ 10 ∷ left) a b × HasNoNewline text × (length text ≤ MAX_LINE_LEN)
-  full_line text left byte is newline taken rest =
-      let given = subst (λ r. MatchOption r (Consumes a b [] × IsAtEnd b) (λ byte. Consumes a b (byte ∷ []))) (is ∙ ap Some newline) next in
-      let same : text ≡ bytes = taken ∙ take_all MAX_LINE_LEN bytes (omega arith) in
-      let gone : left ≡ [] = rest ∙ drop_all MAX_LINE_LEN bytes (omega arith) in
-      rw (same, gone) (record { given = 10 ∷ []; joined = refl; consumed = given }, none, omega arith)
-
-  pub full_too_long : (byte : ℕ) → read ≡ Some byte → (byte == 10) ≡ false → (text : List ℕ) × Reads bytes text a b × HasNoNewline text × (MAX_LINE_LEN < length text)
-  full_too_long byte is other =
-      let given = subst (λ r. MatchOption r (Consumes a b [] × IsAtEnd b) (λ byte. Consumes a b (byte ∷ []))) is next in
-      (bytes ++ byte ∷ [], record { given = byte ∷ []; joined = refl; consumed = given }, newlines-none_push bytes byte none other, omega (arith, length-append bytes (byte ∷ [])))

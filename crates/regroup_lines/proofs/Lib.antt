@@ -6,6 +6,7 @@ mod FieldLemmas
 mod InputLemmas
 mod LineLemmas
 mod ListLemmas
+mod LongLemmas
 mod OneFieldLemmas
 mod PlaceLemmas
 mod TextLemmas

@@ -1,5 +1,5 @@
 -- Faults as clauses compare them, and their messages.
-use Rattle.std.specs.Prelude.{ℕ, List, ◌++◌, codes}
+use Rattle.std.specs.Prelude.{ℕ, Bool, true, false, List, [], ◌∷◌, ◌++◌, codes}
 use Rattle.std.specs.Fmt.{decimal}
 use Rattle.num_format.specs.Refusal.{Refusal, message_of, refusal_of}
 use Rattle.regroup_lines.specs.declared.fault.RegroupFault.{RegroupFault}
@@ -14,6 +14,7 @@ pub data Fault : Type 0 where
   NotText : ℕ → Fault
   Line : ℕ → Refusal → Fault
   Write : Fault
+  Report : Fault
 
 -- the `Fault` of a `RegroupFault`
 abbrev pub fault_of : RegroupFault → Fault
@@ -24,6 +25,18 @@ fault_of fault.Read = Read
 fault_of (fault.NotText number) = NotText number
 fault_of (fault.Line number error) = Line number (refusal_of error)
 fault_of fault.Write = Write
+fault_of fault.Report = Report
+
+-- whether it is that of a write that failed, to one of the two writers
+abbrev pub is_unsent : Fault → Bool
+is_unsent Write = true
+is_unsent Report = true
+is_unsent _ = false
+
+-- whether there is any
+abbrev pub are_any : List Fault → Bool
+are_any [] = false
+are_any (fault ∷ faults) = true
 
 -- what stands before the message of a fault in the line of this number, which is in decimal
 abbrev pub line_prefix : ℕ → List ℕ
@@ -38,3 +51,4 @@ message_of_fault Read = codes "Failed to read."
 message_of_fault (NotText number) = line_prefix number ++ codes "Not UTF-8."
 message_of_fault (Line number refusal) = line_prefix number ++ message_of refusal
 message_of_fault Write = codes "Failed to write."
+message_of_fault Report = codes "Failed to write a message."

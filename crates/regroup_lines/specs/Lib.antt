@@ -5,6 +5,7 @@ pub mod Fields
 pub mod Input
 pub mod Lines
 pub mod Lists
+pub mod Messages
 pub mod Numbers
 pub mod Places
 pub mod Sending

@@ -1,5 +1,5 @@
 -- What regrouping the lines of an input writes and returns.
-use Rattle.std.specs.Prelude.{ℕ, ◌+◌, ◌==◌, nat_le, nat_lt, Bool, false, ◌&&◌, ℤ, if◌then◌else◌, List, [], ◌∷◌, ◌++◌, length, take, drop, slice_range, Option, None, Some, Result, Ok, Err}
+use Rattle.std.specs.Prelude.{ℕ, ◌+◌, ◌==◌, nat_le, nat_lt, Bool, false, true, ◌&&◌, ℤ, if◌then◌else◌, List, [], ◌∷◌, ◌++◌, length, take, drop, slice_range, Option, None, Some, Result, Ok, Err}
 use Rattle.std.specs.List.{join_with_byte, slice_split}
 use Rattle.std.specs.Option.{ok_or, option_map}
 use Rattle.std.specs.Result.{result_map_both}
@@ -17,6 +17,8 @@ use Rattle.regroup_lines.specs.Fault.Fault.{TooMany, TooLong, FewFields, Read, N
 use Rattle.regroup_lines.specs.Places.{are_enough, is_chosen, trimmed}
 use Rattle.regroup_lines.specs.declared.rules.FieldRange.{FieldRange}
 use Rattle.regroup_lines.specs.declared.rules.Fields.{Fields}
+use Rattle.regroup_lines.specs.declared.rules.Invalid.{Invalid}
+use Rattle.regroup_lines.specs.declared.rules.Invalid.TheVariants.{Abort, Fail, Warn, Ignore}
 use Rattle.regroup_lines.specs.declared.rules.Reading.{Reading}
 use Rattle.regroup_lines.specs.declared.rules.Reading.TheVariants.{Lenient, Strict}
 use Rattle.regroup_lines.specs.declared.rules.Rules.{Rules}
@@ -24,35 +26,32 @@ use Rattle.regroup_lines.specs.declared.rules.Span.{Span}
 use Rattle.regroup_lines.specs.declared.rules.Span.TheVariants as span
 use Rattle.regroup_lines.specs.declared.TheConstants.{MAX_LINE_LEN}
 
--- how a reader stopped: at its end, by a failed read, or not at all, where no more was read
+-- how a reader stopped: at its end, by a failed read, or not at all, where no more was read, or no more of a line that is too long and
+-- is passed on, since 2^64 - 1 bytes were
 pub data Stop : Type 0 where
   Ended : Stop
   Failed : Stop
   Unread : Stop
+  Endless : Stop
 
--- the bytes that are written, and what is returned, or nothing where that depends on bytes that were not read
+-- the bytes that are written, the faults that are named, and what is returned, or nothing where that depends on bytes that were not read
 pub record Regrouped : Type 0 where
   pub written : List ℕ
+  pub named : List Fault
   pub returned : Option (Result ℕ Fault)
 
--- nothing more is written
+-- nothing more is written or named
 abbrev pub returning : Option (Result ℕ Fault) → Regrouped
-returning returned = record { written = []; returned = returned }
+returning returned = record { written = []; named = []; returned = returned }
 
--- the bytes, and after them what is written
-abbrev pub writing : List ℕ → Regrouped → Regrouped
-writing bytes rest = record { written = bytes ++ rest.written; returned = rest.returned }
+-- the bytes and the faults, and after them what is written and named
+abbrev pub writing : List ℕ → List Fault → Regrouped → Regrouped
+writing bytes faults rest = record { written = bytes ++ rest.written; named = faults ++ rest.named; returned = rest.returned }
 
--- a line, and after it what is written; a fault is returned
-abbrev pub writing_line : Result (List ℕ) Fault → Regrouped → Regrouped
-writing_line (Ok text) rest = writing (line text) rest
-writing_line (Err fault) rest = returning (Some (Err fault))
-
--- the fault of so many bytes in a line of this number, where there may be this many lines: it is one line too many, or too long
-abbrev pub size_fault : ℕ → ℕ → List ℕ → Option Fault
-size_fault most number bytes =
-    if nat_lt most number then Some TooMany else
-    if nat_lt MAX_LINE_LEN (length bytes) then Some (TooLong number) else None
+-- a line and its faults, and after them what is written and named; a fault in place of the line is returned
+abbrev pub writing_line : Result (List ℕ) Fault → List Fault → Regrouped → Regrouped
+writing_line (Ok text) named rest = writing (line text) named rest
+writing_line (Err fault) named rest = returning (Some (Err fault))
 
 -- the number that the text of a line parses as, or the fault of the text
 abbrev pub number_in_text : FormatData → ℕ → List ℕ → Result ℤ Fault
@@ -111,53 +110,103 @@ numbers_replaced (span.Fields fields) rules from to number text = fields_replace
 abbrev pub body_written : Rules → FormatData → FormatData → ℕ → List ℕ → Result (List ℕ) Fault
 body_written rules from to number text = numbers_replaced rules.span rules from to number text
 
--- the line itself in place of a fault
-abbrev pub or_itself : List ℕ → Result (List ℕ) Fault → Result (List ℕ) Fault
-or_itself text (Ok written) = Ok written
-or_itself text (Err fault) = Ok text
+-- whether a line at fault is passed on
+abbrev pub passes : Invalid → Bool
+passes Abort = false
+passes Fail = true
+passes Warn = true
+passes Ignore = true
+
+-- what is written in place of a line at fault: the line itself, unless the fault is returned
+abbrev pub fault_written : Invalid → List ℕ → Fault → Result (List ℕ) Fault
+fault_written Abort text fault = Err fault
+fault_written Fail text fault = Ok text
+fault_written Warn text fault = Ok text
+fault_written Ignore text fault = Ok text
+
+-- the faults of such a line that are named
+abbrev pub fault_named : Invalid → Fault → List Fault
+fault_named Abort fault = []
+fault_named Fail fault = fault ∷ []
+fault_named Warn fault = fault ∷ []
+fault_named Ignore fault = []
+
+-- what is written in place of a line, which may be at fault
+abbrev pub body_or_itself : Invalid → List ℕ → Result (List ℕ) Fault → Result (List ℕ) Fault
+body_or_itself invalid text (Ok body) = Ok body
+body_or_itself invalid text (Err fault) = fault_written invalid text fault
+
+-- the faults of such a line that are named
+abbrev pub body_named : Invalid → Result (List ℕ) Fault → List Fault
+body_named invalid (Ok body) = []
+body_named invalid (Err fault) = fault_named invalid fault
 
 -- what is written in place of the text of a line, or the fault of the text
 abbrev pub text_written : Rules → FormatData → FormatData → ℕ → List ℕ → Result (List ℕ) Fault
 text_written rules from to number text =
-    if nat_le number rules.header_lines then Ok text else
-    if rules.passes_faulty then or_itself text (body_written rules from to number text) else body_written rules from to number text
+    if nat_le number rules.header_lines then Ok text else body_or_itself rules.invalid text (body_written rules from to number text)
+
+-- the faults of the text that are named
+abbrev pub text_named : Rules → FormatData → FormatData → ℕ → List ℕ → List Fault
+text_named rules from to number text =
+    if nat_le number rules.header_lines then [] else body_named rules.invalid (body_written rules from to number text)
 
 -- the rules that read the whole of each line leniently
 abbrev pub lenient : Rules
-lenient = record { span = span.Line; reading = Lenient; header_lines = 0; passes_empty = false; passes_faulty = false }
+lenient = record { span = span.Line; reading = Lenient; header_lines = 0; passes_empty = false; invalid = Abort }
 
--- the fault, or what there is without one
-abbrev pub unless_fault : Option Fault → Result (List ℕ) Fault → Result (List ℕ) Fault
-unless_fault (Some fault) other = Err fault
-unless_fault None other = other
-
--- what is written in place of the line of this number, without its newline, or the line's first fault
+-- what is written in place of the line of this number, without its newline, or the line's first fault: it may be one too many, or too long
 abbrev pub line_written : Rules → ℕ → FormatData → FormatData → ℕ → List ℕ → Result (List ℕ) Fault
-line_written rules most from to number text = unless_fault (size_fault most number text) (text_written rules from to number text)
+line_written rules most from to number text =
+    if nat_lt most number then Err TooMany else
+    if nat_lt MAX_LINE_LEN (length text) then fault_written rules.invalid text (TooLong number) else text_written rules from to number text
 
--- the fault where the first is one, or else what the reader's stop returns: the fault of a failed read
-abbrev pub returned_unfinished : Option Fault → Stop → Option (Result ℕ Fault)
-returned_unfinished (Some fault) stop = Some (Err fault)
-returned_unfinished None Failed = Some (Err Read)
-returned_unfinished None _ = None
+-- the faults of the line that are named
+abbrev pub line_named : Rules → FormatData → FormatData → ℕ → List ℕ → List Fault
+line_named rules from to number text =
+    if nat_lt MAX_LINE_LEN (length text) then fault_named rules.invalid (TooLong number) else text_named rules from to number text
 
--- the fault of bytes that no newline ends
-abbrev pub unfinished_fault : ℕ → ℕ → List ℕ → Option Fault
-unfinished_fault most number bytes = if length bytes == 0 then None else size_fault most number bytes
+-- what a stop returns in a line that is not too long: the fault of a failed read
+abbrev pub stop_returned : Stop → Option (Result ℕ Fault)
+stop_returned Failed = Some (Err Read)
+stop_returned Ended = None
+stop_returned Unread = None
+stop_returned Endless = None
+
+-- what it returns in one that is and is passed on
+abbrev pub long_returned : Stop → Option (Result ℕ Fault)
+long_returned Failed = Some (Err Read)
+long_returned Endless = Some (Err TooMany)
+long_returned Ended = None
+long_returned Unread = None
+
+-- the beginning of a line that is too long, by what is written in place of it, and its faults that are named
+abbrev pub long_begun : Result (List ℕ) Fault → List Fault → Stop → Regrouped
+long_begun (Ok text) named stop = record { written = text; named = named; returned = long_returned stop }
+long_begun (Err fault) named stop = returning (Some (Err fault))
+
+-- the beginning of the line of this number: nothing is written unless it is too long
+abbrev pub line_begun : Rules → ℕ → Stop → ℕ → List ℕ → Regrouped
+line_begun rules most stop number text =
+    if length text == 0 then returning (stop_returned stop) else
+    if nat_lt most number then returning (Some (Err TooMany)) else
+    if nat_lt MAX_LINE_LEN (length text) then long_begun (fault_written rules.invalid text (TooLong number)) (fault_named rules.invalid (TooLong number)) stop else
+    returning (stop_returned stop)
 
 -- what stands after the last newline, with so many lines before it: at the end it is a line unless it is empty
 abbrev pub regrouped_rest : Rules → ℕ → FormatData → FormatData → Stop → ℕ → List ℕ → Regrouped
 regrouped_rest rules most from to Ended count rest =
     if length rest == 0 then returning (Some (Ok count)) else
-    writing_line (line_written rules most from to (count + 1) rest) (returning (Some (Ok (count + 1))))
-regrouped_rest rules most from to stop count rest = returning (returned_unfinished (unfinished_fault most (count + 1) rest) stop)
+    writing_line (line_written rules most from to (count + 1) rest) (line_named rules from to (count + 1) rest) (returning (Some (Ok (count + 1))))
+regrouped_rest rules most from to stop count rest = line_begun rules most stop (count + 1) rest
 
 -- the parts between newlines, with so many lines before them: each but the last is a line
 abbrev pub regrouped_parts : Rules → ℕ → FormatData → FormatData → Stop → ℕ → List (List ℕ) → Regrouped
 regrouped_parts rules most from to stop count [] = returning None
 regrouped_parts rules most from to stop count (rest ∷ []) = regrouped_rest rules most from to stop count rest
 regrouped_parts rules most from to stop count (text ∷ next ∷ parts) =
-    writing_line (line_written rules most from to (count + 1) text) (regrouped_parts rules most from to stop (count + 1) (next ∷ parts))
+    writing_line (line_written rules most from to (count + 1) text) (line_named rules from to (count + 1) text)
+    (regrouped_parts rules most from to stop (count + 1) (next ∷ parts))
 
 -- the bytes of an input, with so many lines before them
 abbrev pub regrouped_after : Rules → ℕ → FormatData → FormatData → Stop → ℕ → List ℕ → Regrouped

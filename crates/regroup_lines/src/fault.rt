@@ -30,6 +30,8 @@ pub enum RegroupFault {
     Line(u64, Error),
     /// A write failed, also one that was interrupted, or wrote no bytes.
     Write,
+    /// A write of a message that names a fault failed, also one that was interrupted, or wrote no bytes.
+    Report,
 }
 
 impl RegroupFault {
@@ -51,6 +53,7 @@ impl RegroupFault {
                 line_message(*number, error.kind().message().as_str())
             }
             RegroupFault::Write => whole_message("Failed to write."),
+            RegroupFault::Report => whole_message("Failed to write a message."),
         }
     }
 }

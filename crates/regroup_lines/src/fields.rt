@@ -231,7 +231,7 @@ fn send_field<W: Write, F: Format, G: Format>(
 }
 
 /// Sends bytes.
-fn send_bytes<W: Write>(bytes: &[u8], w: &mut W) -> Result<(), RegroupFault>
+pub(crate) fn send_bytes<W: Write>(bytes: &[u8], w: &mut W) -> Result<(), RegroupFault>
     ensures { SendsIfOk (Ok bytes.now) (W.contents w.old) (W.contents w.new)
         (result_map_both (λ sent. sent) fault_of result) }
 {

@@ -1,7 +1,7 @@
 //! The input, piece by piece.
-ghost use Rattle.std.specs.Prelude.{◌≡◌, ◌+◌, ◌≤◌, ◌<◌, ◌++◌, [], ◌∷◌, length, take, drop, IfOk, OnErr, IsNone, MatchOption};
+ghost use Rattle.std.specs.Prelude.{◌≡◌, ◌+◌, ◌≤◌, ◌<◌, [], ◌∷◌, length, take, drop, IfOk, OnErr, IsNone, MatchOption};
 ghost use Rattle.std.specs.Io.KnownBytes.{Consumes, IsAtEnd, Keeps};
-ghost use Rattle.regroup_lines.specs.declared.TheConstants.{MAX_LINE_LEN};
+ghost use Rattle.regroup_lines.specs.declared.input.TheConstants.{ARRAY_LEN};
 
 use crate::MAX_LINE_LEN;
 use memchr::memchr;
@@ -9,13 +9,16 @@ use std::io;
 use std::io::Read;
 use std::ops::Range;
 
+/// The bytes of the array: those of the longest line, and its newline.
+const ARRAY_LEN: usize = MAX_LINE_LEN + 1;
+
 /// A piece of the input, by its place in the array.
 pub(crate) enum Piece {
     /// A line that a newline ends.
     Line(Range<usize>),
     /// What stands after the last newline, where the reader ended.
     Rest(Range<usize>),
-    /// More bytes than a line may have, and no newline among them.
+    /// The bytes that are held: more than a line may have, and no newline among them.
     TooLong,
 }
 
@@ -25,11 +28,11 @@ pub(crate) enum Piece {
 /// where more of their line has to be read.
 #[derive(Drop)]
 pub(crate) struct Input {
-    array: [u8; MAX_LINE_LEN],
+    array: [u8; ARRAY_LEN],
     start: usize,
     end: usize,
     ghost ordered: { start ≤ end },
-    ghost within: { end ≤ MAX_LINE_LEN },
+    ghost within: { end ≤ ARRAY_LEN },
 }
 
 impl Input {
@@ -40,7 +43,7 @@ impl Input {
         ensures { held result ≡ [] }
     {
         Input {
-            array: [0; MAX_LINE_LEN],
+            array: [0; ARRAY_LEN],
             start: 0,
             end: 0,
         }
@@ -49,7 +52,7 @@ impl Input {
     /// Returns the bytes at a place of the array.
     pub(crate) fn bytes(&self, place: Range<usize>) -> &[u8]
         requires ordered { place.start ≤ place.end }
-        requires within { place.end ≤ MAX_LINE_LEN }
+        requires within { place.end ≤ ARRAY_LEN }
         ensures { result.now ≡ bytes_at self.now place }
     {
         &self.array[place]
@@ -65,7 +68,8 @@ impl Input {
             (R.remaining reader.old) (R.remaining reader.new)) }
         ensures place { IfOk result IsInArray }
         ensures failed { OnErr result (Reads (held self.old) (held self.new)
-            (R.remaining reader.old) (R.remaining reader.new) × HasNoNewline (held self.new)) }
+            (R.remaining reader.old) (R.remaining reader.new) × HasNoNewline (held self.new)
+            × (length (held self.new) < ARRAY_LEN)) }
     {
         let found = self.find_newline(reader)?;
         let len = self.held().len();
@@ -75,30 +79,8 @@ impl Input {
                 self.start += 1;
                 Ok(Piece::Line(line))
             }
-            None if len < MAX_LINE_LEN => Ok(Piece::Rest(self.take(len))),
-            None => self.next_full_piece(reader),
-        }
-    }
-
-    /// Returns the piece that begins with the bytes that are held, where they fill the array and none
-    /// is a newline.
-    ///
-    /// # Errors
-    ///
-    /// Returns the error of a read that fails.
-    fn next_full_piece<R: Read>(&mut self, reader: &mut R) -> io::Result<Piece>
-        requires full { length (held self.old) ≡ MAX_LINE_LEN }
-        requires newline { HasNoNewline (held self.old) }
-        ensures piece { IfOk result (FindsPiece (held self.old) self.new
-            (R.remaining reader.old) (R.remaining reader.new)) }
-        ensures place { IfOk result IsInArray }
-        ensures failed { OnErr result ((held self.new ≡ held self.old)
-            × Keeps (R.remaining reader.old) (R.remaining reader.new)) }
-    {
-        match read_byte(reader)? {
-            None => Ok(Piece::Rest(self.take(MAX_LINE_LEN))),
-            Some(b'\n') => Ok(Piece::Line(self.take(MAX_LINE_LEN))),
-            Some(_) => Ok(Piece::TooLong),
+            None if len <= MAX_LINE_LEN => Ok(Piece::Rest(self.take(len))),
+            None => Ok(Piece::TooLong),
         }
     }
 
@@ -120,18 +102,18 @@ impl Input {
     }
 
     /// Returns the bytes that are held.
-    fn held(&self) -> &[u8]
+    pub(crate) fn held(&self) -> &[u8]
         ensures value { result.now ≡ held self.now }
-        ensures fits { length result.now ≤ MAX_LINE_LEN }
+        ensures fits { length result.now ≤ ARRAY_LEN }
     {
         &self.array[self.start..self.end]
     }
 
     /// Takes so many of the bytes that are held, and returns their place.
-    fn take(&mut self, len: usize) -> Range<usize>
+    pub(crate) fn take(&mut self, len: usize) -> Range<usize>
         requires { len ≤ length (held self.old) }
         ensures ordered { result.start ≤ result.end }
-        ensures within { result.end ≤ MAX_LINE_LEN }
+        ensures within { result.end ≤ ARRAY_LEN }
         ensures taken { bytes_at self.new result ≡ take len (held self.old) }
         ensures left { held self.new ≡ drop len (held self.old) }
     {
@@ -150,9 +132,9 @@ impl Input {
         ensures read { Reads (held self.old) (held self.new)
             (R.remaining reader.old) (R.remaining reader.new) }
         ensures found { IfOk result (FindsNewline (held self.new)) }
-        ensures end { IfOk result (λ found. IsNone found → length (held self.new) < MAX_LINE_LEN
+        ensures end { IfOk result (λ found. IsNone found → length (held self.new) < ARRAY_LEN
             → IsAtEnd (R.remaining reader.new)) }
-        ensures failed { OnErr result (HasNoNewline (held self.new)) }
+        ensures failed { OnErr result (HasNoNewline (held self.new) × (length (held self.new) < ARRAY_LEN)) }
     {
         let mut searched = 0;
         'reads: loop {
@@ -160,7 +142,7 @@ impl Input {
                 Some(index) => return Ok(Some(searched + index)),
                 None => searched = self.held().len(),
             }
-            if searched == MAX_LINE_LEN {
+            if searched == ARRAY_LEN {
                 return Ok(None);
             }
             if self.read_more(reader)? == 0 {
@@ -175,7 +157,7 @@ impl Input {
     ///
     /// Returns the error of the read.
     fn read_more<R: Read>(&mut self, reader: &mut R) -> io::Result<usize>
-        requires { length (held self.old) < MAX_LINE_LEN }
+        requires { length (held self.old) < ARRAY_LEN }
         ensures read { Reads (held self.old) (held self.new)
             (R.remaining reader.old) (R.remaining reader.new) }
         ensures count { IfOk result (λ count. length (held self.new) ≡ length (held self.old) + count) }

@@ -9,7 +9,7 @@
 //! regroup_lines(&mut reader, &mut out, &Locale::en, &Locale::en_IN)    // Ok(2), and "10,00,000\n-5\n" in `out`
 //! ```
 //!
-//! The input is read into an array of 4,096 bytes, and parsed there. Only [`field_list`] allocates.
+//! The input is read into an array of 4,097 bytes, and parsed there. Only [`field_list`] allocates.
 #![tactic(auto)]
 
 mod fault;
@@ -17,24 +17,29 @@ mod fields;
 mod input;
 pub mod laws;
 mod list;
+mod message;
 mod number;
 pub mod rules;
 
-ghost use Rattle.std.specs.Prelude.{◌≤◌, length};
+ghost use Rattle.std.specs.Prelude.{◌≡◌, [], ◌≤◌, length};
 ghost use Rattle.std.specs.Result.{result_map_both};
 ghost use Rattle.regroup_shared.specs.Sending.{Sends, line};
-ghost use Rattle.regroup_lines.specs.Fault.{fault_of};
-ghost use Rattle.regroup_lines.specs.Lines.{body_written, lenient, place_written, text_written};
+ghost use Rattle.regroup_lines.specs.Fault.{are_any, fault_of};
+ghost use Rattle.regroup_lines.specs.Fields.{SendsIfOk};
+ghost use Rattle.regroup_lines.specs.Input.{IsLong, PassesLong, held};
+ghost use Rattle.regroup_lines.specs.Lines.{body_written, fault_named, fault_written, lenient, place_written, text_named, text_written};
+ghost use Rattle.regroup_lines.specs.Messages.{fault_message, messages};
 ghost use Rattle.regroup_lines.specs.Places.{place_of};
-ghost use Rattle.regroup_lines.specs.Sending.{Regroups, SendsLine};
+ghost use Rattle.regroup_lines.specs.Sending.{Names, Regroups, RegroupsNaming, SendsLine, SendsTold};
 
 pub use crate::fault::RegroupFault;
-use crate::fields::regroup_fields;
+use crate::fields::{regroup_fields, send_bytes};
 use crate::input::{Input, Piece};
 pub use crate::list::field_list;
+pub use crate::message::{MAX_FAULT_MESSAGE_LEN, MAX_NAME_LEN, fault_message};
 use crate::number::{Around, Number};
 use crate::rules::trim;
-pub use crate::rules::{FieldRange, Fields, Reading, Rules, Span};
+pub use crate::rules::{FieldRange, Fields, Invalid, Reading, Rules, Span};
 use num_format::Format;
 use num_format::to_formatted_string::write_whole;
 use std::io;
@@ -53,13 +58,22 @@ const LENIENT: Rules = Rules {
     reading: Reading::Lenient,
     header_lines: 0,
     passes_empty: false,
-    passes_faulty: false,
+    invalid: Invalid::Abort,
 };
+
+/// What was regrouped, where no fault was returned.
+#[derive(Clone, Copy, Debug, PartialEq, Eq)]
+pub struct Summary {
+    /// The number of lines.
+    pub lines: u64,
+    /// Whether a message named the fault of a line.
+    pub has_faults: bool,
+}
 
 /// Parses each line of `r` as an `i128` under the format `from`, and writes the number under the format
 /// `to`, and a newline, to `w`. Returns the number of lines.
 ///
-/// Of each line, all digits and a minus sign at its start are parsed, and other characters are ignored,
+/// Of each line, all digits and a minus sign at its start are parsed. Each character that is not numeric is ignored,
 /// as [`parse_formatted`](num_format::parsing::ParseFormatted::parse_formatted) does. So a carriage
 /// return before the newline is ignored too, but counts as a byte of the line. A line and its newline
 /// are written together, by one write if that writes all of them.
@@ -89,76 +103,190 @@ pub fn regroup_lines<R: Read, W: Write, F: Format, G: Format>(
         (R.remaining r.old) (R.remaining r.new) (W.contents w.old) (W.contents w.new)
         (result_map_both (λ count. count) fault_of result) }
 {
-    regroup_at_most(MAX_LINES, &LENIENT, r, w, from, to)
+    let mut sink = io::sink();
+    let summary = regroup_at_most(MAX_LINES, &LENIENT, "", r, w, &mut sink, from, to)?;
+    Ok(summary.lines)
 }
 
-/// Does what [`regroup_lines`] does, for an input of at most this many lines.
+/// Regroups the lines of `r`, at most this many, as the rules say. The messages that name faults are sent to `e`, and have
+/// the name of the input.
 ///
 /// # Errors
 ///
-/// Returns the first fault, of those of [`regroup_lines`].
-/// [`TooMany`](RegroupFault::TooMany) is that a byte follows the last of these lines.
-pub fn regroup_at_most<R: Read, W: Write, F: Format, G: Format>(
+/// Returns the first fault, of those of [`regroup_lines`], that is not passed on.
+/// [`TooMany`](RegroupFault::TooMany) is that a byte follows the last of these lines, and
+/// [`Report`](RegroupFault::Report) that a write to `e` failed. The line of that message is not sent.
+pub fn regroup_at_most<R: Read, W: Write, E: Write, F: Format, G: Format>(
     most: u64,
     rules: &Rules,
+    name: &str,
     r: &mut R,
     w: &mut W,
+    e: &mut E,
     from: &F,
     to: &G,
-) -> Result<u64, RegroupFault>
-    ensures { Regroups rules.now most (F.answers from.now) (G.answers to.now)
-        (R.remaining r.old) (R.remaining r.new) (W.contents w.old) (W.contents w.new)
-        (result_map_both (λ count. count) fault_of result) }
+) -> Result<Summary, RegroupFault>
+    ensures { RegroupsNaming rules.now name.now most (F.answers from.now) (G.answers to.now)
+        (R.remaining r.old) (R.remaining r.new) (W.contents w.old) (W.contents w.new) (E.contents e.old) (E.contents e.new)
+        (result_map_both (λ summary. summary) fault_of result) }
 {
     let mut input = Input::new();
+    let mut has_faults = false;
     for count in 0..most {
-        let number = count + 1;
+        let lines = count + 1;
         let Ok(piece) = input.next_piece(r) else {
             return Err(RegroupFault::Read);
         };
         match piece {
-            Piece::Line(place) => regroup_line(rules, input.bytes(place), number, w, from, to)?,
+            Piece::Line(place) => {
+                has_faults |= regroup_line(rules, name, input.bytes(place), lines, w, e, from, to)?;
+            }
             Piece::Rest(place) => {
                 let rest = input.bytes(place);
                 if rest.is_empty() {
-                    return Ok(count);
+                    let lines = count;
+                    return Ok(Summary { lines, has_faults });
                 }
-                regroup_line(rules, rest, number, w, from, to)?;
-                return Ok(number);
+                has_faults |= regroup_line(rules, name, rest, lines, w, e, from, to)?;
+                return Ok(Summary { lines, has_faults });
             }
-            Piece::TooLong => return Err(RegroupFault::TooLong(number)),
+            Piece::TooLong => {
+                let fault = RegroupFault::TooLong(lines);
+                if !rules.invalid.passes() {
+                    return Err(fault);
+                }
+                has_faults |= name_fault(rules, name, &fault, e, from)?;
+                if pass_long(&mut input, r, w)? {
+                    return Ok(Summary { lines, has_faults });
+                }
+            }
         }
     }
+    let lines = most;
     match input.is_at_end(r) {
-        Ok(true) => Ok(most),
+        Ok(true) => Ok(Summary { lines, has_faults }),
         Ok(false) => Err(RegroupFault::TooMany),
         Err(_) => Err(RegroupFault::Read),
     }
 }
 
-/// Sends what is written in place of the text of a line, and a newline.
-fn regroup_line<W: Write, F: Format, G: Format>(
+/// Sends what is written in place of the text of a line, and a newline, and before it the message that names its fault, if
+/// there is one. Returns whether there is.
+fn regroup_line<W: Write, E: Write, F: Format, G: Format>(
     rules: &Rules,
+    name: &str,
     text: &[u8],
     number: u64,
     w: &mut W,
+    e: &mut E,
     from: &F,
     to: &G,
-) -> Result<(), RegroupFault>
-    ensures { SendsLine (text_written rules.now (F.answers from.now) (G.answers to.now) number text.now)
-        (W.contents w.old) (W.contents w.new) (result_map_both (λ sent. sent) fault_of result) }
+) -> Result<bool, RegroupFault>
+    ensures { SendsTold (text_written rules.now (F.answers from.now) (G.answers to.now) number text.now)
+        (messages name.now rules.now.reading (F.answers from.now) (text_named rules.now (F.answers from.now) (G.answers to.now) number text.now))
+        (are_any (text_named rules.now (F.answers from.now) (G.answers to.now) number text.now))
+        (W.contents w.old) (W.contents w.new) (E.contents e.old) (E.contents e.new) (result_map_both (λ told. told) fault_of result) }
 {
     if number <= rules.header_lines {
-        return pass_on(text, w).or(Err(RegroupFault::Write));
+        pass_on(text, w).or(Err(RegroupFault::Write))?;
+        return Ok(false);
     }
     match regroup_body(rules, text, number, w, from, to) {
-        Ok(()) => Ok(()),
+        Ok(()) => Ok(false),
         Err(fault) => match fault {
             RegroupFault::Write => Err(RegroupFault::Write),
-            _ if rules.passes_faulty => pass_on(text, w).or(Err(RegroupFault::Write)),
-            _ => Err(fault),
+            _ => pass_fault(rules, name, fault, text, w, e, from),
         },
     }
+}
+
+/// Sends a line at fault as it is, and a newline, and before it the message that names the fault, if the rules say so.
+/// Returns whether there is a message.
+fn pass_fault<W: Write, E: Write, F: Format>(
+    rules: &Rules,
+    name: &str,
+    fault: RegroupFault,
+    text: &[u8],
+    w: &mut W,
+    e: &mut E,
+    from: &F,
+) -> Result<bool, RegroupFault>
+    ensures { SendsTold (fault_written rules.now.invalid text.now (fault_of fault))
+        (messages name.now rules.now.reading (F.answers from.now) (fault_named rules.now.invalid (fault_of fault)))
+        (are_any (fault_named rules.now.invalid (fault_of fault)))
+        (W.contents w.old) (W.contents w.new) (E.contents e.old) (E.contents e.new) (result_map_both (λ told. told) fault_of result) }
+{
+    if !rules.invalid.passes() {
+        return Err(fault);
+    }
+    let is_named = name_fault(rules, name, &fault, e, from)?;
+    pass_on(text, w).or(Err(RegroupFault::Write))?;
+    Ok(is_named)
+}
+
+/// Sends the message that names a fault, if the rules say so, and returns whether they do.
+fn name_fault<E: Write, F: Format>(
+    rules: &Rules,
+    name: &str,
+    fault: &RegroupFault,
+    e: &mut E,
+    from: &F,
+) -> Result<bool, RegroupFault>
+    ensures { Names (messages name.now rules.now.reading (F.answers from.now) (fault_named rules.now.invalid (fault_of fault.now)))
+        (are_any (fault_named rules.now.invalid (fault_of fault.now)))
+        (E.contents e.old) (E.contents e.new) (result_map_both (λ told. told) fault_of result) }
+{
+    match rules.invalid {
+        Invalid::Abort | Invalid::Ignore => Ok(false),
+        Invalid::Fail | Invalid::Warn => {
+            let message = fault_message(name, rules.reading, fault, from);
+            write_whole(message.as_str().as_bytes(), e).or(Err(RegroupFault::Report))?;
+            Ok(true)
+        }
+    }
+}
+
+/// Sends a line that is too long, piece by piece: the bytes that are held, which it begins with, and those up to its newline or
+/// the end of the input, and a newline. Returns whether the input ended.
+fn pass_long<R: Read, W: Write>(
+    input: &mut Input,
+    r: &mut R,
+    w: &mut W,
+) -> Result<bool, RegroupFault>
+    requires { IsLong (held input.old) }
+    ensures { PassesLong (held input.old) (held input.new) (R.remaining r.old) (R.remaining r.new)
+        (W.contents w.old) (W.contents w.new) (result_map_both (λ ended. ended) fault_of result) }
+{
+    send_held(input, w)?;
+    for _ in 0..u64::MAX {
+        match input.next_piece(r) {
+            Ok(Piece::Line(place)) => {
+                pass_on(input.bytes(place), w).or(Err(RegroupFault::Write))?;
+                return Ok(false);
+            }
+            Ok(Piece::Rest(place)) => {
+                pass_on(input.bytes(place), w).or(Err(RegroupFault::Write))?;
+                return Ok(true);
+            }
+            Ok(Piece::TooLong) => send_held(input, w)?,
+            Err(_) => {
+                send_held(input, w)?;
+                return Err(RegroupFault::Read);
+            }
+        }
+    }
+    Err(RegroupFault::TooMany)
+}
+
+/// Sends the bytes that are held.
+fn send_held<W: Write>(input: &mut Input, w: &mut W) -> Result<(), RegroupFault>
+    ensures sent { SendsIfOk (Ok (held input.old)) (W.contents w.old) (W.contents w.new)
+        (result_map_both (λ sent. sent) fault_of result) }
+    ensures none_left { held input.new ≡ [] }
+{
+    let len = input.held().len();
+    let place = input.take(len);
+    send_bytes(input.bytes(place), w)
 }
 
 /// Sends a line that is no header, with its numbers regrouped, and a newline.

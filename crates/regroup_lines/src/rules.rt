@@ -1,5 +1,6 @@
 //! How the lines of an input are regrouped, and where the numbers of a line are.
 ghost use Rattle.std.specs.Prelude.{◌≡◌, ◌<◌, ◌≤◌, [], ◌∷◌, length, IfSome};
+ghost use Rattle.regroup_lines.specs.Lines.{passes};
 ghost use Rattle.regroup_lines.specs.Lists.{one_field};
 ghost use Rattle.regroup_lines.specs.Places.{are_enough, is_at_most, is_chosen, is_chosen_from, is_enough, is_in_range, place_of, trimmed};
 
@@ -11,8 +12,21 @@ pub enum Reading {
     /// A decimal, exactly as it is printed under the format, grouped or not. It is printed with as many decimals
     /// as it has.
     Strict,
-    /// The digits and a minus sign at the start, as a whole number. Other characters are ignored.
+    /// The digits and a minus sign at the start, as a whole number. Each character that is not numeric is ignored.
     Lenient,
+}
+
+/// What is done with a line at fault. It is passed on as it is, but for [`Invalid::Abort`].
+#[derive(Clone, Copy, Debug, PartialEq, Eq)]
+pub enum Invalid {
+    /// Its fault is returned, and no line after it is read.
+    Abort,
+    /// A message names it, and the input is at fault.
+    Fail,
+    /// A message names it.
+    Warn,
+    /// Nothing more.
+    Ignore,
 }
 
 /// Fields that follow one another, by their numbers, which are counted from 1.
@@ -61,8 +75,20 @@ pub struct Rules<'a> {
     pub header_lines: u64,
     /// Whether a place is passed on as it is where a number has no byte.
     pub passes_empty: bool,
-    /// Whether a line at fault is passed on as it is, unless it is too long.
-    pub passes_faulty: bool,
+    /// What is done with a line at fault.
+    pub invalid: Invalid,
+}
+
+impl Invalid {
+    /// Returns whether the line is passed on.
+    pub(crate) fn passes(self) -> bool
+        ensures { result ≡ passes self }
+    {
+        match self {
+            Invalid::Abort => false,
+            Invalid::Fail | Invalid::Warn | Invalid::Ignore => true,
+        }
+    }
 }
 
 impl FieldRange {

@@ -9,8 +9,9 @@ use num_format::{CustomFormat, Error, Grouping, Locale};
 
 /// Returns the format of `en` with these three fields.
 ///
-/// ```text
-/// custom_format("'", Grouping::Standard, "-")    // prints 1'000'000
+/// ```rust
+/// let format = custom_format("'", Grouping::Standard, "-")?;
+/// Buffer::of(&1000000, &format).as_str()    // "1'000'000"
 /// ```
 ///
 /// # Errors
@@ -33,7 +34,7 @@ pub fn custom_format(
 
 /// Returns the locale of that name.
 ///
-/// ```text
+/// ```rust
 /// locale_named("en_IN")    // Ok(Locale::en_IN)
 /// ```
 ///

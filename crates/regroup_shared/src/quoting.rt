@@ -16,9 +16,9 @@ pub const MAX_QUOTED_LEN: usize = MAX_SHOWN_TEXT_LEN + 2;
 
 /// Returns the first 64 bytes of an input, shown as by [`shown`], in quotes.
 ///
-/// ```text
-/// quoted(b"12.5O")       // '12.5O'
-/// quoted(b"\x1b[2J'\n")  // '\x1B[2J\x27\x0A'
+/// ```rust
+/// println!(rt; "{}", quoted(b"12.5O"))             // '12.5O'
+/// println!(rt; "{}", quoted(b"\x1b[2J'\n"))        // '\x1B[2J\x27\x0A'
 /// ```
 pub fn quoted(text: &[u8]) -> ArrayString<MAX_QUOTED_LEN>
     ensures { result.bytes ≡ quoted text.now }
@@ -33,8 +33,8 @@ pub fn quoted(text: &[u8]) -> ArrayString<MAX_QUOTED_LEN>
 /// Returns the first bytes of a text, as many as fit if each takes four. Printable ASCII is shown as it is, but for the
 /// quote and the backslash. Any other byte is `\x` and two digits, so that no terminal takes it for a command.
 ///
-/// ```text
-/// shown::<1024>(b"sales.tsv")    // sales.tsv
+/// ```rust
+/// shown::<1024>(b"sales.tsv")    // "sales.tsv"
 /// ```
 pub fn shown<const CAP: usize>(text: &[u8]) -> ArrayString<CAP>
     ensures { result.bytes ≡ shown (CAP / 4) text.now }

@@ -3,13 +3,14 @@
 //!
 //! | Status | Standard output | Standard error |
 //! |---|---|---|
-//! | 0 | each line | nothing |
+//! | 0 | each line, or one at fault as it is | nothing, or with [`Invalid::Warn`] the message of each line at fault |
 //! | 1 | the lines before the one at fault; or nothing of an input that cannot be opened | its message |
+//! | 1 | with [`Invalid::Fail`] each line, or one at fault as it is | the message of each line at fault |
 //! | 2 | nothing | what is wrong with the words |
 //! | 3 | the lines before a read or a write failed | which, and why if it is known |
 //! | 141 | the lines before it was closed | nothing |
 //!
-//! The status is 3 also where the message could not be written. That of several inputs is the highest.
+//! The status is 3 also where a message could not be written. That of several inputs is the highest.
 #![tactic(auto)]
 
 mod ending;
@@ -20,20 +21,19 @@ ghost use Rattle.std.specs.Prelude.{◌≡◌};
 ghost use Rattle.std.specs.Io.Buffered.{writer_buffer, writer_contents};
 ghost use Rattle.std.specs.Result.{result_map_both};
 ghost use Rattle.regroup_lines.specs.Fault.{fault_of};
-ghost use Rattle.regroup_stream.specs.Ending.{Finishes, end_of};
+ghost use Rattle.regroup_stream.specs.Ending.{Finishes, end_of, end_of_lines};
 ghost use Rattle.regroup_stream.specs.Ending.End.{Unopened};
-ghost use Rattle.regroup_stream.specs.Stream.{IsBefore, IsEndOf, RegroupsAll, Runs, before_in};
+ghost use Rattle.regroup_stream.specs.Stream.{IsEndOf, RegroupsAll, Runs};
 
-use crate::ending::{Cause, Ending, kept_in};
+use crate::ending::Ending;
 use crate::watched::Watched;
 pub use crate::words::{Formats, Misuse, formats_named};
 use num_format::CustomFormat;
-use num_format_decimal::{Decimal, ParseDecimalError};
-pub use regroup_lines::{FieldRange, Fields, Reading, Rules, Span, field_list};
-use regroup_lines::{RegroupFault, regroup_at_most};
+pub use regroup_lines::{FieldRange, Fields, Invalid, Reading, Rules, Span, field_list};
+use regroup_lines::{RegroupFault, Summary, fault_message, regroup_at_most};
 use std::io::{BufWriter, ErrorKind, Read, Write};
 
-/// The status where each line was regrouped.
+/// The status where each line was regrouped, or passed on.
 pub const REGROUPED: u8 = 0;
 
 /// The status where a line is at fault.
@@ -51,9 +51,10 @@ pub const CLOSED: u8 = 141;
 /// Regroups the lines of `input` from one format to another, flushes `out`, and returns the exit status. Messages
 /// have the name of the input, which is `-` for standard input.
 ///
-/// - [`REGROUPED`] (0): `out` received each line, and `err` nothing.
+/// - [`REGROUPED`] (0): `out` received each line, and `err` nothing, or with [`Invalid::Warn`] the message of each line at fault, which
+///   is passed on as it is.
 /// - [`FAULTY`] (1): `out` received the lines before the first one at fault, and `err` its message and
-///   a newline. Lines are numbered from 1.
+///   a newline. Lines are numbered from 1. Or else, with [`Invalid::Fail`], as with `Warn` where a line is at fault.
 /// - [`FAILED`] (3): a read failed, also one that was interrupted, a write to `out` or a flush of it, and `err` received
 ///   a message with the kind of the error if it is known. `out` received the lines before that, or a prefix of them where a
 ///   write failed. So too where there are more lines than a `u64` counts. Or else `err` did not receive all of its message.
@@ -75,7 +76,7 @@ pub fn run<R: Read + Drop, O: Write + Drop, E: Write>(
         (writer_contents O.contents out.old) (writer_contents O.contents out.new) (writer_buffer out.new)
         (E.contents err.old) (E.contents err.new) }
 {
-    regroup(rules, formats, input, out).finish(name, err)
+    regroup(rules, formats, name, input, out, err).finish(name, err)
 }
 
 /// Sends the message of an input that cannot be opened, and returns the status: [`FAULTY`], or [`FAILED`] if not all
@@ -92,72 +93,55 @@ pub fn refuse<E: Write>(name: &str, kind: ErrorKind, err: &mut E) -> u8
 }
 
 /// Regroups the lines, flushes `out`, and returns how that ends.
-fn regroup<R: Read + Drop, O: Write + Drop>(
+fn regroup<R: Read + Drop, O: Write + Drop, E: Write>(
     rules: &Rules,
     formats: &Formats,
+    name: &str,
     input: R,
     out: &mut BufWriter<O>,
+    err: &mut E,
 ) -> Ending
-    ensures { RegroupsAll rules.now formats.now.from formats.now.to (end_of result) (R.remaining input)
-        (writer_contents O.contents out.old) (writer_contents O.contents out.new) (writer_buffer out.new) }
+    ensures { RegroupsAll rules.now name.now formats.now.from formats.now.to (end_of result) (R.remaining input)
+        (writer_contents O.contents out.old) (writer_contents O.contents out.new) (writer_buffer out.new)
+        (E.contents err.old) (E.contents err.new) }
 {
     let mut input = Watched::new(input);
     let (from, to) = (&formats.from, &formats.to);
-    let regrouped = regroup_at_most(u64::MAX, rules, &mut input, out, from, to);
+    let regrouped = regroup_at_most(u64::MAX, rules, name, &mut input, out, err, from, to);
     match out.flush() {
-        Ok(()) => ending_of(rules.reading, from, regrouped, input.failure()),
+        Ok(()) => ending_of(rules, name, from, regrouped, input.failure()),
         Err(error) => Ending::WriteFailed(Some(error.kind())),
     }
 }
 
 /// Returns how a run with this result ends, if this is why its last read failed.
 fn ending_of(
-    reading: Reading,
+    rules: &Rules,
+    name: &str,
     from: &CustomFormat,
-    regrouped: Result<u64, RegroupFault>,
+    regrouped: Result<Summary, RegroupFault>,
     failure: Option<ErrorKind>,
 ) -> Ending
-    ensures { IsEndOf reading from.now (result_map_both (λ count. count) fault_of regrouped) (end_of result) }
+    ensures { IsEndOf rules.now name.now from.now (result_map_both (λ summary. summary) fault_of regrouped) (end_of result) }
 {
     match regrouped {
-        Ok(_) => Ending::Regrouped,
-        Err(RegroupFault::Read) => Ending::ReadFailed(failure),
-        Err(RegroupFault::Write) => Ending::WriteFailed(None),
-        Err(RegroupFault::TooMany) => Ending::TooManyLines,
-        Err(RegroupFault::TooLong(number)) => Ending::Faulty(number, Cause::TooLong),
-        Err(RegroupFault::FewFields(number)) => Ending::Faulty(number, Cause::FewFields),
-        Err(RegroupFault::NotText(number)) => Ending::Faulty(number, Cause::NotText),
-        Err(RegroupFault::Line(number, error)) => {
-            let before = before_unexpected(reading, kept_in(&error), from);
-            Ending::Faulty(number, Cause::NotANumber(error, before))
-        }
-    }
-}
-
-/// Returns how many bytes of a text are before the one for which strict parsing refuses it, if it does so for one.
-/// Returns `None` of a text that is read leniently.
-fn before_unexpected(reading: Reading, text: &str, from: &CustomFormat) -> Option<usize>
-    ensures { IsBefore reading from.now text.now result }
-{
-    match reading {
-        Reading::Lenient => None,
-        Reading::Strict => match Decimal::from_strict_str(text, from) {
-            Ok(_) => None,
-            Err(error) => before_in(error),
+        Ok(summary) => ending_of_lines(rules.invalid, summary.has_faults),
+        Err(fault) => match fault {
+            RegroupFault::Read => Ending::ReadFailed(failure),
+            RegroupFault::Write => Ending::WriteFailed(None),
+            RegroupFault::Report => Ending::Untold,
+            RegroupFault::TooMany => Ending::TooManyLines,
+            _ => Ending::Faulty(fault_message(name, rules.reading, &fault, from)),
         },
     }
 }
 
-/// Returns how many bytes are before the unexpected one, if a text is refused for such a byte.
-fn before_in(error: ParseDecimalError) -> Option<usize>
-    ensures { result ≡ before_in error }
+/// Returns how a run ends where each line was regrouped or passed on, by whether messages named faults.
+fn ending_of_lines(invalid: Invalid, has_faults: bool) -> Ending
+    ensures { end_of result ≡ end_of_lines invalid has_faults }
 {
-    match error {
-        ParseDecimalError::Unexpected { at } => Some(at),
-        ParseDecimalError::NotUtf8
-        | ParseDecimalError::NoDigit
-        | ParseDecimalError::TooManyDecimals
-        | ParseDecimalError::Misspelled
-        | ParseDecimalError::OutOfRange => None,
+    match invalid {
+        Invalid::Fail if has_faults => Ending::Named,
+        Invalid::Abort | Invalid::Fail | Invalid::Warn | Invalid::Ignore => Ending::Regrouped,
     }
 }

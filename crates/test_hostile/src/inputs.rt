@@ -2,7 +2,7 @@
 
 use num_format::error::cut;
 use num_format::{CustomFormat, Error, ErrorKind, Format, Grouping, Locale};
-use regroup_lines::{Reading, RegroupFault, Rules, Span, regroup_at_most, regroup_lines};
+use regroup_lines::{Invalid, Reading, RegroupFault, Rules, Span, regroup_at_most, regroup_lines};
 use std::io;
 use std::process::Abort;
 use std::test::Fail;
@@ -166,7 +166,7 @@ fn two_lines_at_most(rt: HostRuntime) -> Result<(), Fail> {
         reading: Reading::Lenient,
         header_lines: 0,
         passes_empty: false,
-        passes_faulty: false,
+        invalid: Invalid::Abort,
     };
     for (input, returned) in [
         ("", Ok(0)),
@@ -179,12 +179,14 @@ fn two_lines_at_most(rt: HostRuntime) -> Result<(), Fail> {
         let result = regroup_at_most(
             2,
             &rules,
+            "-",
             &mut reader,
             &mut out,
+            &mut io::sink(),
             &Locale::en,
             &Locale::en_IN,
         );
-        assert_eq!(rt; result, returned);
+        assert_eq!(rt; result.map(|summary| summary.lines), returned);
     }
     Ok(())
 }
@@ -204,6 +206,7 @@ fn messages(rt: HostRuntime) -> Result<(), Fail> {
             "line 3: Failed to parse  into a number.",
         ),
         (RegroupFault::Write, "Failed to write."),
+        (RegroupFault::Report, "Failed to write a message."),
     ] {
         let displayed = format!(in rt.alloc(); "{fault}")?;
         assert_eq!(rt; displayed.as_str(), message);

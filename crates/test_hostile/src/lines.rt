@@ -125,7 +125,8 @@ fn assert_first_read(rt: &impl Abort, input: &[u8], most: usize, lines: u64) {
     assert_eq!(rt; result, Ok(lines));
 }
 
-/// A read may end anywhere in a line, and fill the array.
+/// A read may end anywhere in a line, and fill the array. Many short lines take long where each access is checked, so
+/// few lengths are tried with them.
 #[test]
 fn a_first_read_of_each_length(rt: HostRuntime) -> Result<(), test::Fail> {
     let short = b"1,000\n".repeat(rt.alloc(), 700)?;
@@ -134,7 +135,9 @@ fn a_first_read_of_each_length(rt: HostRuntime) -> Result<(), test::Fail> {
     long[4096] = b'\n';
     long[4097] = b'2';
     for most in 1..=4096 {
-        assert_first_read(&rt, &short, most, 700);
+        if most < 32 || most > 4064 {
+            assert_first_read(&rt, &short, most, 700);
+        }
         assert_first_read(&rt, &long, most, 2);
     }
     Ok(())

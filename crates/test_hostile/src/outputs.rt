@@ -6,7 +6,7 @@ use crate::Step::{Take, Zero};
 use crate::{ReadStep, Scripted, ScriptedReader, Step};
 use num_format::{CustomFormat, Locale};
 use regroup_lines::{RegroupFault, regroup_lines};
-use regroup_stream::{FAILED, Formats, REGROUPED, Reading, Rules, Span, run};
+use regroup_stream::{FAILED, Formats, Invalid, REGROUPED, Reading, Rules, Span, run};
 use std::alloc::Global;
 use std::io::BufWriter;
 use std::process::Abort;
@@ -21,7 +21,7 @@ const LENIENT: Rules = Rules {
     reading: Reading::Lenient,
     header_lines: 0,
     passes_empty: false,
-    passes_faulty: false,
+    invalid: Invalid::Abort,
 };
 
 /// The space of a writer in bytes.

@@ -5,7 +5,7 @@ use crate::Step::{Interrupt, Take, Zero};
 use crate::{Scripted, ScriptedReader, Step};
 use num_format::{CustomFormat, Grouping, Locale};
 use regroup_stream::{
-    CLOSED, FAILED, FAULTY, Formats, MISUSED, Misuse, REGROUPED, Reading, Rules, Span, run,
+    CLOSED, FAILED, FAULTY, Formats, Invalid, MISUSED, Misuse, REGROUPED, Reading, Rules, Span, run,
 };
 use std::alloc::Global;
 use std::io::{BufWriter, ErrorKind, Write};
@@ -18,7 +18,7 @@ const STRICT: Rules = Rules {
     reading: Reading::Strict,
     header_lines: 0,
     passes_empty: false,
-    passes_faulty: false,
+    invalid: Invalid::Abort,
 };
 
 /// Returns the formats of `en` and this one.

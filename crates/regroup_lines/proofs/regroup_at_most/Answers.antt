@@ -1,24 +1,23 @@
-use Rattle.std.proofs.Common.{rules, true, false, ◌==◌, ap, ◌∙◌, ℕ, ◌+◌, ◌<◌, ◌≤◌, ◌≡◌, List, length, refl, subst, sym, arith, Err, Ok}
-use Rattle.std.proofs.lemmas.List.{length-drop, length-take}
+use Rattle.std.proofs.Common.{rules, Bool, true, false, ◌==◌, ap, ◌∙◌, ℕ, ◌+◌, ◌<◌, ◌≤◌, ◌≡◌, List, length, subst, sym, arith, Err, Ok}
 use Rattle.std.proofs.lemmas.Result.{err_from_is_err_and}
 use Rattle.regroup_lines.specs.Fault.{fault_of}
-use Rattle.regroup_lines.specs.Input.{EndsOrGoesOn, FindsPiece, IsInArray, held}
-use Rattle.regroup_lines.specs.Lines.{text_written}
-use Rattle.regroup_lines.specs.Sending.{SendsLine}
-use Rattle.regroup_lines.proofs.LineLemmas.{Progress-next, Progress-none, Regroups-all, Regroups-empty, Regroups-last, Regroups-last_fault, Regroups-line, Regroups-long, Regroups-many, Regroups-read, Regroups-unread}
+use Rattle.regroup_lines.specs.Input.{EndsOrGoesOn, FindsPiece, IsInArray, IsLong, PassesLong, held}
+use Rattle.regroup_lines.specs.Lines.{passes}
+use Rattle.regroup_lines.proofs.LineLemmas.{Progress-long, Progress-next, Progress-none, Regroups-all, Regroups-empty, Regroups-last, Regroups-last_fault, Regroups-line, Regroups-long, Regroups-long_failed, Regroups-long_last, Regroups-long_unnamed, Regroups-many, Regroups-read, Regroups-unread, SendsText}
 use Rattle.regroup_lines.specs.declared.TheConstants.{MAX_LINE_LEN}
 use Rattle.regroup_lines.proofs.regroup_at_most.Goals as goal
+use Rattle.regroup_lines.proofs.regroup_at_most.Goals.{in-Line+in_ok-has_faults-in-Line, in-TooLong+else-not-passes+in_ok-has_faults-in-TooLong+in_ok-pass_long-in-TooLong+else-branch}
 
 pub loop-count-init : goal.loop-count-init
-loop-count-init g c = Progress-none _ _ _ _ _ _ _ c.new-input.ensures
+loop-count-init g c = Progress-none _ _ _ _ _ _ _ _ _ c.new-input.ensures
 
 pub returns-in_default : goal.returns-in_default
 returns-in_default g c =
     let few : c.loop-count.count < c.args.most = omega arith in
     let failed = c.in_default.ensures.failed in
-    let input = c.next_piece.new.self in
-    let short : length (held input) ≤ MAX_LINE_LEN = omega (arith, length-take {A = ℕ}, length-drop {A = ℕ}) in
-    Regroups-read _ _ _ _ _ _ _ few _ _ _ _ _ c.loop-count.invariant _ failed.0 failed.1 short refl
+    let below = failed.2 in
+    let short : length (held c.next_piece.new.self) ≤ MAX_LINE_LEN = omega (arith, below) in
+    Regroups-read _ _ _ _ _ _ _ _ _ _ few _ _ _ (g.W.Write.contents c.loop-count.w) _ (g.E.Write.contents c.loop-count.e) _ c.loop-count.invariant _ failed.0 failed.1 short
 
 pub bytes-requires-clause-ordered : goal.bytes-requires-clause-ordered
 bytes-requires-clause-ordered g c = (subst IsInArray c.in-Line.is c.in-Ok.ensures.place).0
@@ -32,16 +31,17 @@ bytes-rest-requires-clause-ordered g c = (subst IsInArray c.in-Rest.is c.in-Ok.e
 pub bytes-rest-requires-clause-within : goal.bytes-rest-requires-clause-within
 bytes-rest-requires-clause-within g c = (subst IsInArray c.in-Rest.is c.in-Ok.ensures.place).1
 
-pub returns-in_err-regroup_line-in-Line : goal.returns-in_err-regroup_line-in-Line
-returns-in_err-regroup_line-in-Line g c =
+pub returns-in_err-has_faults-in-Line : goal.returns-in_err-has_faults-in-Line
+returns-in_err-has_faults-in-Line g c =
     let few : c.loop-count.count < c.args.most = omega arith in
     let found = subst (FindsPiece (held c.loop-count.input) c.next_piece.new.self (g.R.Read.remaining c.loop-count.r) (g.R.Read.remaining c.next_piece.new.reader))
     c.in-Line.is c.in-Ok.ensures.piece in
-    let fault = c.in_err-regroup_line-in-Line.field-0.0 in
-    let sends = subst (λ text. SendsLine {T = Unit {0}} (text_written c.args.rules.now (g.F.Format.answers c.args.from.now) (g.G.Format.answers c.args.to.now) (c.loop-count.count + 1) text)
-    (g.W.Write.contents c.loop-count.w) (g.W.Write.contents c.regroup_line.new.w) (Err (fault_of fault))) c.bytes.ensures c.in_err-regroup_line-in-Line.ensures in
+    let fault = c.in_err-has_faults-in-Line.field-0.0 in
+    let sends = subst (λ text. SendsText c.args.rules.now c.args.name.now (g.F.Format.answers c.args.from.now) (g.G.Format.answers c.args.to.now) (c.loop-count.count + 1) text
+    (g.W.Write.contents c.loop-count.w) (g.W.Write.contents c.regroup_line.new.w) (g.E.Write.contents c.loop-count.e) (g.E.Write.contents c.regroup_line.new.e) (Err (fault_of fault)))
+    c.bytes.ensures c.in_err-has_faults-in-Line.ensures in
     let p = err_from_is_err_and c.from_residual.result c.from_residual.ensures.1 in
-    rw (p.1, p.2) (Regroups-line _ _ _ _ _ _ _ few _ _ _ _ _ c.loop-count.invariant _ _ found.0 found.1 found.2 _ sends)
+    rw (p.1, p.2) (Regroups-line _ _ _ _ _ _ _ _ _ _ few _ _ _ _ _ _ _ c.loop-count.invariant _ _ found.0 found.1 found.2 _ sends)
 
 pub returns-then-is_empty : goal.returns-then-is_empty
 returns-then-is_empty g c =
@@ -49,19 +49,20 @@ returns-then-is_empty g c =
     let found = subst (FindsPiece (held c.loop-count.input) c.next_piece.new.self (g.R.Read.remaining c.loop-count.r) (g.R.Read.remaining c.next_piece.new.reader))
     c.in-Rest.is c.in-Ok.ensures.piece in
     let empty = ap (λ (text : List ℕ). length text == 0) (sym c.bytes-rest.ensures) ∙ sym c.is_empty.ensures ∙ c.if-is_empty.true in
-    Regroups-empty _ _ _ _ _ _ _ few _ _ _ _ _ c.loop-count.invariant _ found.0 found.1 found.3 empty refl
+    Regroups-empty _ _ _ _ _ _ _ _ _ _ few _ _ _ (g.W.Write.contents c.loop-count.w) _ (g.E.Write.contents c.loop-count.e) _ c.loop-count.invariant _ found.0 found.1 found.3 empty
 
-pub returns-in_err-regroup_line-in-Rest : goal.returns-in_err-regroup_line-in-Rest
-returns-in_err-regroup_line-in-Rest g c =
+pub returns-in_err-has_faults-in-Rest : goal.returns-in_err-has_faults-in-Rest
+returns-in_err-has_faults-in-Rest g c =
     let few : c.loop-count.count < c.args.most = omega arith in
     let found = subst (FindsPiece (held c.loop-count.input) c.next_piece.new.self (g.R.Read.remaining c.loop-count.r) (g.R.Read.remaining c.next_piece.new.reader))
     c.in-Rest.is c.in-Ok.ensures.piece in
     let some = ap (λ (text : List ℕ). length text == 0) (sym c.bytes-rest.ensures) ∙ sym c.is_empty.ensures ∙ c.if-is_empty.false in
-    let fault = c.in_err-regroup_line-in-Rest.field-0.0 in
-    let sends = subst (λ text. SendsLine {T = Unit {0}} (text_written c.args.rules.now (g.F.Format.answers c.args.from.now) (g.G.Format.answers c.args.to.now) (c.loop-count.count + 1) text)
-    (g.W.Write.contents c.loop-count.w) (g.W.Write.contents c.regroup_line-in-Rest.new.w) (Err (fault_of fault))) c.bytes-rest.ensures c.in_err-regroup_line-in-Rest.ensures in
-    let p = err_from_is_err_and c.from_residual-in_err-regroup_line-in-Rest.result c.from_residual-in_err-regroup_line-in-Rest.ensures.1 in
-    rw (p.1, p.2) (Regroups-last_fault _ _ _ _ _ _ _ few _ _ _ _ _ c.loop-count.invariant _ found.0 found.1 _ found.3 some found.2 sends)
+    let fault = c.in_err-has_faults-in-Rest.field-0.0 in
+    let sends = subst (λ text. SendsText c.args.rules.now c.args.name.now (g.F.Format.answers c.args.from.now) (g.G.Format.answers c.args.to.now) (c.loop-count.count + 1) text
+    (g.W.Write.contents c.loop-count.w) (g.W.Write.contents c.regroup_line-in-Rest.new.w) (g.E.Write.contents c.loop-count.e) (g.E.Write.contents c.regroup_line-in-Rest.new.e) (Err (fault_of fault)))
+    c.bytes-rest.ensures c.in_err-has_faults-in-Rest.ensures in
+    let p = err_from_is_err_and c.from_residual-in_err-has_faults-in-Rest.result c.from_residual-in_err-has_faults-in-Rest.ensures.1 in
+    rw (p.1, p.2) (Regroups-last_fault _ _ _ _ _ _ _ _ _ _ few _ _ _ _ _ _ _ c.loop-count.invariant _ found.0 found.1 _ found.3 some found.2 sends)
 
 pub returns-in-Rest : goal.returns-in-Rest
 returns-in-Rest g c =
@@ -69,42 +70,101 @@ returns-in-Rest g c =
     let found = subst (FindsPiece (held c.loop-count.input) c.next_piece.new.self (g.R.Read.remaining c.loop-count.r) (g.R.Read.remaining c.next_piece.new.reader))
     c.in-Rest.is c.in-Ok.ensures.piece in
     let some = ap (λ (text : List ℕ). length text == 0) (sym c.bytes-rest.ensures) ∙ sym c.is_empty.ensures ∙ c.if-is_empty.false in
-    let sends = subst (λ text. SendsLine (text_written c.args.rules.now (g.F.Format.answers c.args.from.now) (g.G.Format.answers c.args.to.now) (c.loop-count.count + 1) text)
-    (g.W.Write.contents c.loop-count.w) (g.W.Write.contents c.regroup_line-in-Rest.new.w) (Ok tt)) c.bytes-rest.ensures c.in_ok-regroup_line-in-Rest.ensures in
-    Regroups-last _ _ _ _ _ _ _ few _ _ _ _ _ c.loop-count.invariant _ found.0 found.1 _ found.3 some found.2 sends
+    let told = c.in_ok-has_faults-in-Rest.field-0 in
+    let sends = subst (λ text. SendsText c.args.rules.now c.args.name.now (g.F.Format.answers c.args.from.now) (g.G.Format.answers c.args.to.now) (c.loop-count.count + 1) text
+    (g.W.Write.contents c.loop-count.w) (g.W.Write.contents c.regroup_line-in-Rest.new.w) (g.E.Write.contents c.loop-count.e) (g.E.Write.contents c.regroup_line-in-Rest.new.e) (Ok told))
+    c.bytes-rest.ensures c.in_ok-has_faults-in-Rest.ensures in
+    Regroups-last _ _ _ _ _ _ _ _ _ _ few _ _ _ _ _ _ _ c.loop-count.invariant _ found.0 found.1 told found.3 some found.2 sends
 
-pub returns-in-TooLong : goal.returns-in-TooLong
-returns-in-TooLong g c =
+pub returns-then-not-passes : goal.returns-then-not-passes
+returns-then-not-passes g c =
     let few : c.loop-count.count < c.args.most = omega arith in
     let found = subst (FindsPiece (held c.loop-count.input) c.next_piece.new.self (g.R.Read.remaining c.loop-count.r) (g.R.Read.remaining c.next_piece.new.reader))
     c.in-TooLong.is c.in-Ok.ensures.piece in
-    Regroups-long _ _ _ _ _ _ _ few _ _ _ _ _ c.loop-count.invariant found.0 found.1 found.2 found.3 refl
+    let long : IsLong (held c.next_piece.new.self) = record { no_newline = found.1; long = found.2 } in
+    let aborts : passes c.args.rules.now.invalid ≡ false = search rules in
+    Regroups-long _ _ _ _ _ _ _ _ _ _ few _ _ _ (g.W.Write.contents c.loop-count.w) _ (g.E.Write.contents c.loop-count.e) _ c.loop-count.invariant _ found.0 long aborts
+
+pub returns-in_err-has_faults-in-TooLong : goal.returns-in_err-has_faults-in-TooLong
+returns-in_err-has_faults-in-TooLong g c =
+    let few : c.loop-count.count < c.args.most = omega arith in
+    let found = subst (FindsPiece (held c.loop-count.input) c.next_piece.new.self (g.R.Read.remaining c.loop-count.r) (g.R.Read.remaining c.next_piece.new.reader))
+    c.in-TooLong.is c.in-Ok.ensures.piece in
+    let long : IsLong (held c.next_piece.new.self) = record { no_newline = found.1; long = found.2 } in
+    let does : passes c.args.rules.now.invalid ≡ true = search rules in
+    let fault = c.in_err-has_faults-in-TooLong.field-0.0 in
+    let p = err_from_is_err_and c.from_residual-in_err-has_faults-in-TooLong.result c.from_residual-in_err-has_faults-in-TooLong.ensures.1 in
+    rw (p.1, p.2) (Regroups-long_unnamed _ _ _ _ _ _ _ _ _ _ few _ _ _ (g.W.Write.contents c.loop-count.w) _ _ _ c.loop-count.invariant _ found.0 long does (fault_of fault) c.in_err-has_faults-in-TooLong.ensures)
+
+pub returns-in_err-pass_long-in-TooLong : goal.returns-in_err-pass_long-in-TooLong
+returns-in_err-pass_long-in-TooLong g c =
+    let few : c.loop-count.count < c.args.most = omega arith in
+    let found = subst (FindsPiece (held c.loop-count.input) c.next_piece.new.self (g.R.Read.remaining c.loop-count.r) (g.R.Read.remaining c.next_piece.new.reader))
+    c.in-TooLong.is c.in-Ok.ensures.piece in
+    let long : IsLong (held c.next_piece.new.self) = record { no_newline = found.1; long = found.2 } in
+    let does : passes c.args.rules.now.invalid ≡ true = search rules in
+    let named = c.in_ok-has_faults-in-TooLong.ensures in
+    let fault = c.in_err-pass_long-in-TooLong.field-0.0 in
+    let p = err_from_is_err_and c.from_residual-in_err-pass_long-in-TooLong.result c.from_residual-in_err-pass_long-in-TooLong.ensures.1 in
+    rw (p.1, p.2) (Regroups-long_failed _ _ _ _ _ _ _ _ _ _ few _ _ _ _ _ _ _ c.loop-count.invariant _ found.0 long does c.in_ok-has_faults-in-TooLong.field-0 named.0 named.1 _
+    (held c.pass_long.new.input) (fault_of fault) c.in_err-pass_long-in-TooLong.ensures)
+
+pub returns-then-branch : goal.returns-then-branch
+returns-then-branch g c =
+    let few : c.loop-count.count < c.args.most = omega arith in
+    let found = subst (FindsPiece (held c.loop-count.input) c.next_piece.new.self (g.R.Read.remaining c.loop-count.r) (g.R.Read.remaining c.next_piece.new.reader))
+    c.in-TooLong.is c.in-Ok.ensures.piece in
+    let long : IsLong (held c.next_piece.new.self) = record { no_newline = found.1; long = found.2 } in
+    let does : passes c.args.rules.now.invalid ≡ true = search rules in
+    let named = c.in_ok-has_faults-in-TooLong.ensures in
+    let ended : c.in_ok-pass_long-in-TooLong.field-0 ≡ true = search rules in
+    let passed = subst (λ (b : Bool). PassesLong (held c.next_piece.new.self) (held c.pass_long.new.input) (g.R.Read.remaining c.next_piece.new.reader) (g.R.Read.remaining c.pass_long.new.r)
+    (g.W.Write.contents c.loop-count.w) (g.W.Write.contents c.pass_long.new.w) (Ok b)) ended c.in_ok-pass_long-in-TooLong.ensures in
+    Regroups-long_last _ _ _ _ _ _ _ _ _ _ few _ _ _ _ _ _ _ c.loop-count.invariant _ found.0 long does c.in_ok-has_faults-in-TooLong.field-0 named.0 named.1 _
+    passed.0 passed.1 passed.2 passed.4 passed.3
 
 pub loop-count-preserved : goal.loop-count-preserved
 loop-count-preserved g c =
     let few : c.loop-count.count < c.args.most = omega arith in
-    let found = subst (FindsPiece (held c.loop-count.input) c.next_piece.new.self (g.R.Read.remaining c.loop-count.r) (g.R.Read.remaining c.next_piece.new.reader))
-    c.in-Line.is c.in-Ok.ensures.piece in
-    let sends = subst (λ text. SendsLine (text_written c.args.rules.now (g.F.Format.answers c.args.from.now) (g.G.Format.answers c.args.to.now) (c.loop-count.count + 1) text)
-    (g.W.Write.contents c.loop-count.w) (g.W.Write.contents c.regroup_line.new.w) (Ok tt)) c.bytes.ensures c.in_ok-regroup_line-in-Line.ensures in
-    Progress-next _ _ _ _ _ _ _ few _ _ _ _ _ c.loop-count.invariant _ _ found.0 found.1 found.2 _ sends
+    elim c.match-piece.branch [
+      | in-Line+in_ok-has_faults-in-Line w ↦
+          let found = subst (FindsPiece (held c.loop-count.input) c.next_piece.new.self (g.R.Read.remaining c.loop-count.r) (g.R.Read.remaining c.next_piece.new.reader))
+          w.in-Line.is c.in-Ok.ensures.piece in
+          let told = w.in_ok-has_faults-in-Line.field-0 in
+          let sends = subst (λ text. SendsText c.args.rules.now c.args.name.now (g.F.Format.answers c.args.from.now) (g.G.Format.answers c.args.to.now) (c.loop-count.count + 1) text
+          (g.W.Write.contents c.loop-count.w) (g.W.Write.contents w.regroup_line.new.w) (g.E.Write.contents c.loop-count.e) (g.E.Write.contents w.regroup_line.new.e) (Ok told))
+          w.bytes.ensures w.in_ok-has_faults-in-Line.ensures in
+          rw (w.r-is, w.w-is, w.e-is, w.input-is, w.has_faults-is)
+          (Progress-next _ _ _ _ _ _ _ _ _ _ few _ _ _ _ _ _ _ c.loop-count.invariant _ _ found.0 found.1 found.2 told sends)
+      | in-TooLong+else-not-passes+in_ok-has_faults-in-TooLong+in_ok-pass_long-in-TooLong+else-branch w ↦
+          let found = subst (FindsPiece (held c.loop-count.input) c.next_piece.new.self (g.R.Read.remaining c.loop-count.r) (g.R.Read.remaining c.next_piece.new.reader))
+          w.in-TooLong.is c.in-Ok.ensures.piece in
+          let long : IsLong (held c.next_piece.new.self) = record { no_newline = found.1; long = found.2 } in
+          let does : passes c.args.rules.now.invalid ≡ true = sym w.passes.ensures ∙ w.if-not-passes.false in
+          let named = w.in_ok-has_faults-in-TooLong.ensures in
+          let passed = subst (λ (b : Bool). PassesLong (held c.next_piece.new.self) (held w.pass_long.new.input) (g.R.Read.remaining c.next_piece.new.reader) (g.R.Read.remaining w.pass_long.new.r)
+          (g.W.Write.contents c.loop-count.w) (g.W.Write.contents w.pass_long.new.w) (Ok b)) w.if-branch.false w.in_ok-pass_long-in-TooLong.ensures in
+          rw (w.r-is, w.w-is, w.e-is, w.input-is, w.has_faults-is)
+          (Progress-long _ _ _ _ _ _ _ _ _ _ few _ _ _ _ _ _ _ c.loop-count.invariant _ found.0 long does w.in_ok-has_faults-in-TooLong.field-0 named.0 named.1 _
+          passed.0 _ passed.1 passed.2 passed.3)
+    ]
 
 pub returns-in-Ok-true : goal.returns-in-Ok-true
 returns-in-Ok-true g c =
     let all : c.loop-count.count ≡ c.args.most = omega arith in
     let yes : c.in-Ok-true.field-0 ≡ true = search rules in
     let end = subst (EndsOrGoesOn (held c.loop-count.input) (g.R.Read.remaining c.loop-count.r) (g.R.Read.remaining c.is_at_end.new.reader)) yes c.in-Ok-true.ensures.end in
-    Regroups-all _ _ _ _ _ _ _ all _ _ _ _ c.loop-count.invariant end.0 end.1
+    Regroups-all _ _ _ _ _ _ _ _ _ _ all _ _ _ _ _ c.loop-count.invariant end.0 end.1
 
 pub returns-in-Ok-false : goal.returns-in-Ok-false
 returns-in-Ok-false g c =
     let all : c.loop-count.count ≡ c.args.most = omega arith in
     let no : c.in-Ok-false.field-0 ≡ false = search rules in
     let end = subst (EndsOrGoesOn (held c.loop-count.input) (g.R.Read.remaining c.loop-count.r) (g.R.Read.remaining c.is_at_end.new.reader)) no c.in-Ok-false.ensures.end in
-    Regroups-many _ _ _ _ _ _ _ all _ _ _ _ c.loop-count.invariant end.0 end.1 end.2
+    Regroups-many _ _ _ _ _ _ _ _ _ _ all _ _ _ _ _ c.loop-count.invariant end.0 end.1 end.2
 
 pub returns-in-Err : goal.returns-in-Err
 returns-in-Err g c =
     let all : c.loop-count.count ≡ c.args.most = omega arith in
     let failed = c.in-Err.ensures.failed in
-    Regroups-unread _ _ _ _ _ _ _ all _ _ _ _ c.loop-count.invariant failed.0 failed.1
+    Regroups-unread _ _ _ _ _ _ _ _ _ _ all _ _ _ _ _ c.loop-count.invariant failed.0 failed.1

@@ -5,5 +5,6 @@ use Rattle.regroup_lines.proofs.regroup_at_most.Given as goal
 -- so many lines were sent
 abbrev pub invariant-loop-count : goal.invariant-loop-count
 invariant-loop-count g l =
-    Progress l.rules l.most (g.F.Format.answers l.from) (g.G.Format.answers l.to) l.count (held l.input)
+    Progress l.rules l.name l.most (g.F.Format.answers l.from) (g.G.Format.answers l.to) l.count l.has_faults (held l.input)
     (g.R.Read.remaining l.fn.r) (g.R.Read.remaining l.r) (g.W.Write.contents l.fn.w) (g.W.Write.contents l.w)
+    (g.E.Write.contents l.fn.e) (g.E.Write.contents l.e)

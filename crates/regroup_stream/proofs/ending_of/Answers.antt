@@ -1,30 +1,29 @@
-use Rattle.std.proofs.Common.{List, ℕ, subst}
-use Rattle.regroup_stream.specs.Stream.{IsBefore, IsEndOf}
+use Rattle.std.proofs.Common.{Ok, Err, subst, sym}
+use Rattle.regroup_lines.specs.Fault.{fault_of}
+use Rattle.regroup_stream.specs.Ending.End.{Faulty}
+use Rattle.regroup_stream.specs.Stream.{IsEndOf}
+use Rattle.regroup_stream.proofs.StreamLemmas.{of_line}
 use Rattle.regroup_stream.proofs.ending_of.Goals as goal
 
 pub returns-in-Ok : goal.returns-in-Ok
-returns-in-Ok c = rw c.in-Ok.is (IsEndOf.regrouped _)
+returns-in-Ok c =
+    rw c.in-Ok.is (subst (IsEndOf c.args.rules.now c.args.name.now c.args.from.now (Ok c.in-Ok.summary)) (sym c.ending_of_lines.ensures) (IsEndOf.regrouped c.in-Ok.summary))
 
-pub returns-in-Err-Read : goal.returns-in-Err-Read
-returns-in-Err-Read c = rw (c.in-Err-Read.is, c.in-Err-Read.field-0-is) (IsEndOf.read_failed _)
+pub returns-in-Read : goal.returns-in-Read
+returns-in-Read c = rw (c.in-Err.is, c.in-Read.is) (IsEndOf.read_failed _)
 
-pub returns-in-Err-Write : goal.returns-in-Err-Write
-returns-in-Err-Write c = IsEndOf.write_failed _ _
+pub returns-in-Write : goal.returns-in-Write
+returns-in-Write c = IsEndOf.write_failed _ _
 
-pub returns-in-Err-TooMany : goal.returns-in-Err-TooMany
-returns-in-Err-TooMany c = rw (c.in-Err-TooMany.is, c.in-Err-TooMany.field-0-is) IsEndOf.too_many
+pub returns-in-Report : goal.returns-in-Report
+returns-in-Report c = rw (c.in-Err.is, c.in-Report.is) IsEndOf.untold
 
-pub returns-in-Err-TooLong : goal.returns-in-Err-TooLong
-returns-in-Err-TooLong c = rw (c.in-Err-TooLong.is, c.in-Err-TooLong.field-0-is) (IsEndOf.too_long _)
+pub returns-in-TooMany : goal.returns-in-TooMany
+returns-in-TooMany c = rw (c.in-Err.is, c.in-TooMany.is) IsEndOf.too_many
 
-pub returns-in-Err-FewFields : goal.returns-in-Err-FewFields
-returns-in-Err-FewFields c = rw (c.in-Err-FewFields.is, c.in-Err-FewFields.field-0-is) (IsEndOf.few_fields _)
-
-pub returns-in-Err-NotText : goal.returns-in-Err-NotText
-returns-in-Err-NotText c = rw (c.in-Err-NotText.is, c.in-Err-NotText.field-0-is) (IsEndOf.not_text _)
-
-pub returns-in-Err-Line : goal.returns-in-Err-Line
-returns-in-Err-Line c =
-    let before = subst (λ (text : List ℕ). IsBefore c.args.reading c.args.from.now text c.before_unexpected-before.result) c.kept_in.ensures
-    c.before_unexpected-before.ensures in
-    rw (c.in-Err-Line.is, c.in-Err-Line.field-0-is) (IsEndOf.not_a_number _ _ _ before)
+pub returns-in_default : goal.returns-in_default
+returns-in_default c =
+    let fault = c.in-Err.fault in
+    let of = of_line fault c.in_default.not-Read c.in_default.not-Write c.in_default.not-Report c.in_default.not-TooMany in
+    rw c.in-Err.is (subst (λ message. IsEndOf c.args.rules.now c.args.name.now c.args.from.now (Err (fault_of fault)) (Faulty message)) (sym c.fault_message.ensures)
+    (IsEndOf.faulty (fault_of fault) of))

@@ -1,7 +1,7 @@
 use Rattle.std.proofs.Common.{ℕ, ◌+◌, ◌≤◌, length, drop, subst, ap, ◌∙◌, arith}
 use Rattle.std.proofs.lemmas.List.{drop-drop, length-drop, length-take}
 use Rattle.regroup_lines.specs.Input.{FindsNewline, held}
-use Rattle.regroup_lines.proofs.InputLemmas.{FindsPiece-after_call, line_found, range-later}
+use Rattle.regroup_lines.proofs.InputLemmas.{line_found, range-later}
 use Rattle.regroup_lines.proofs.input.Input.next_piece.Goals as goal
 
 pub invariant_of-self-clause-ordered : goal.invariant_of-self-clause-ordered
@@ -23,6 +23,3 @@ returns-in-Some-clause-piece g c =
     let taken = ap length c.take-line.ensures.taken in
     let within = c.find_newline.new.self.within in
     (line.0, line.1, omega (arith, inside, taken, within, length-drop {A = ℕ}, length-take {A = ℕ}))
-
-pub returns-in-None-2-clause-piece : goal.returns-in-None-2-clause-piece
-returns-in-None-2-clause-piece g c = FindsPiece-after_call _ _ c.next_full_piece.new.self _ _ _ c.next_full_piece.result c.in_ok-found.ensures.read c.next_full_piece.ensures.piece

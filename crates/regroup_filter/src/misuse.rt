@@ -1,0 +1,89 @@
+//! What is said of arguments that are refused, in the words of the GNU programs.
+
+use clap::error::ErrorKind;
+use regroup_shared::quoted;
+use std::alloc::{AllocError, Global};
+use std::io;
+
+/// The second line of each message.
+const TRY_HELP: &str = "Try 'regroup-lines --help' for more information.";
+
+/// Prints the message of a cause.
+///
+/// # Errors
+///
+/// Returns the error of a write that fails.
+pub(crate) fn refuse_words(rt: &HostRuntime, cause: &str) -> io::Result<()> {
+    eprintln!(rt; "regroup-lines: {cause}\n{TRY_HELP}")
+}
+
+/// Prints the message of an error of the command line.
+///
+/// # Errors
+///
+/// Returns an error if there is no memory for it, or of a write that fails.
+pub(crate) fn refuse_arguments(rt: &HostRuntime, error: &clap::Error) -> io::Result<()> {
+    let text = format!(in rt.alloc(); "{error}")?;
+    let cause = cause_of(rt.alloc(), error.kind(), text.as_str())?;
+    refuse_words(rt, cause.as_str())
+}
+
+/// Returns what is wrong with the arguments, by the kind and the text of an error.
+///
+/// # Errors
+///
+/// Returns an error if there is no memory for it.
+fn cause_of(alloc: Global, kind: ErrorKind, text: &str) -> Result<String, AllocError> {
+    match kind {
+        ErrorKind::UnknownArgument => {
+            unknown_option(alloc, between(text, "unexpected argument '", "' found\n"))
+        }
+        ErrorKind::InvalidValue | ErrorKind::ValueValidation => {
+            let option = quoted(between(text, " for '", " <").as_bytes());
+            if text.starts_with("error: a value is required") {
+                return format!(in alloc; "option {} requires an argument", option.as_str());
+            }
+            let value = quoted(between(text, "invalid value '", "' for '").as_bytes());
+            format!(in alloc;
+                "invalid argument {} for {}",
+                value.as_str(),
+                option.as_str()
+            )
+        }
+        ErrorKind::MissingRequiredArgument => {
+            let missing = between(text, "not provided:", "\n\n");
+            let cause = if missing.contains("<TO>") {
+                "missing operand"
+            } else {
+                "option '--delimiter' requires '--field'"
+            };
+            String::from_str(alloc, cause)
+        }
+        _ => String::from_str(alloc, between(text, "error: ", "\n")),
+    }
+}
+
+/// Returns what is said of a word that is no option.
+///
+/// # Errors
+///
+/// Returns an error if there is no memory for it.
+fn unknown_option(alloc: Global, word: &str) -> Result<String, AllocError> {
+    if word.starts_with("--") {
+        let shown = quoted(word.as_bytes());
+        return format!(in alloc; "unrecognized option {}", shown.as_str());
+    }
+    let letter = quoted(word.strip_prefix("-").unwrap_or(word).as_bytes());
+    format!(in alloc; "invalid option -- {}", letter.as_str())
+}
+
+/// Returns what stands between the first of two texts and the second one after it, or nothing.
+fn between<'t>(text: &'t str, before: &str, after: &str) -> &'t str {
+    let Some((_, rest)) = text.split_once(before) else {
+        return "";
+    };
+    match rest.split_once(after) {
+        Some((found, _)) => found,
+        None => rest,
+    }
+}

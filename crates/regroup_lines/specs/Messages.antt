@@ -1,0 +1,81 @@
+-- The messages that name faults.
+use Rattle.std.specs.Prelude.{ℕ, ◌+◌, ◌-◌, List, [], ◌∷◌, ◌++◌, length, codes, Option, None, Some}
+use Rattle.std.specs.Fmt.{decimal}
+use Rattle.std.specs.List.{flat_map}
+use Rattle.num_format.specs.Format.{FormatData}
+use Rattle.num_format.specs.Refusal.{Refusal, Capacity, Other, ParseLocale, ParseNumber}
+use Rattle.num_format_decimal.specs.Parsing.{unexpected_in_decimal}
+use Rattle.num_format_decimal.specs.declared.decimal.TheConstants.{MAX_SCALE}
+use Rattle.num_format_decimal.specs.declared.parsing.ParseDecimalError.{ParseDecimalError}
+use Rattle.num_format_decimal.specs.declared.parsing.ParseDecimalError.TheVariants.{Unexpected}
+use Rattle.regroup_shared.specs.Quoting.{quoted, shown}
+use Rattle.regroup_shared.specs.Sending.{line}
+use Rattle.regroup_lines.specs.Decimals.{only, scales_below}
+use Rattle.regroup_lines.specs.Fault.{Fault}
+use Rattle.regroup_lines.specs.Fault.Fault.{TooMany, TooLong, FewFields, Read, NotText, Line, Write, Report}
+use Rattle.regroup_lines.specs.declared.rules.Reading.{Reading}
+use Rattle.regroup_lines.specs.declared.rules.Reading.TheVariants.{Lenient, Strict}
+
+-- the text that an error keeps, if it keeps one
+abbrev pub kept_in : Refusal → List ℕ
+kept_in (ParseNumber text) = text
+kept_in (ParseLocale text) = text
+kept_in (Other text) = text
+kept_in (Capacity len cap) = []
+
+-- how many bytes of a text are before the unexpected one, if it is refused for such a byte
+abbrev pub before_in : ParseDecimalError → Option ℕ
+before_in (Unexpected at) = Some at
+before_in _ = None
+
+-- how many bytes of a text are before its end part, unless that is empty
+abbrev pub before_rest : (text rest : List ℕ) → Option ℕ
+before_rest text [] = None
+before_rest text (b ∷ rest) = Some (length text - length (b ∷ rest))
+
+-- nothing where there is a scale
+abbrev pub unless_spelled : (scale before : Option ℕ) → Option ℕ
+unless_spelled None before = before
+unless_spelled (Some scale) before = None
+
+-- how many bytes of a text that spells no decimal are before the first one that strict parsing does not expect, if there is one
+unfoldable pub before_unexpected : FormatData → List ℕ → Option ℕ
+before_unexpected from text = unless_spelled (only (scales_below from text (MAX_SCALE + 1))) (before_rest text (unexpected_in_decimal from text))
+
+-- the same by how the text is read: lenient reading names no byte
+abbrev pub before_fault : Reading → FormatData → List ℕ → Option ℕ
+before_fault Strict from text = before_unexpected from text
+before_fault Lenient from text = None
+
+-- which byte it is that so many others are before, counted from 1
+abbrev pub byte_text : Option ℕ → List ℕ
+byte_text (Some before) = codes " at byte " ++ decimal (before + 1)
+byte_text None = []
+
+-- what is shown of a name: the first 256 bytes
+abbrev pub shown_name : List ℕ → List ℕ
+shown_name name = shown 256 name
+
+-- a message about the line of this number, which is in decimal
+abbrev pub line_message : (name : List ℕ) → ℕ → List ℕ → List ℕ
+line_message name number text = line (codes "regroup-lines: " ++ (shown_name name ++ (codes ":" ++ (decimal number ++ (codes ": " ++ text)))))
+
+-- a message about a text that is no number
+abbrev pub number_message : (name : List ℕ) → Reading → FormatData → ℕ → List ℕ → List ℕ
+number_message name reading from number text =
+    line_message name number (quoted text ++ (codes ": not a number" ++ byte_text (before_fault reading from text)))
+
+-- the message that names the fault of a line, in an input of this name that is read under the format; other faults have none
+abbrev pub fault_message : (name : List ℕ) → Reading → FormatData → Fault → List ℕ
+fault_message name reading from (TooLong number) = line_message name number (codes "more than 4096 bytes")
+fault_message name reading from (FewFields number) = line_message name number (codes "too few fields")
+fault_message name reading from (NotText number) = line_message name number (codes "not UTF-8")
+fault_message name reading from (Line number refusal) = number_message name reading from number (kept_in refusal)
+fault_message name reading from TooMany = []
+fault_message name reading from Read = []
+fault_message name reading from Write = []
+fault_message name reading from Report = []
+
+-- the messages that name faults, one after the other
+abbrev pub messages : (name : List ℕ) → Reading → FormatData → List Fault → List ℕ
+messages name reading from faults = flat_map (fault_message name reading from) faults
