@@ -58,6 +58,7 @@ static int print_long(void) { return num_format_print_i64(&en, INT64_MIN, text, 
 static int print_built(void) { return num_format_print_i64(&built, INT64_MIN, text, sizeof text); }
 static int print_wide(void) { return num_format_print_u128(&en, UINT64_MAX, UINT64_MAX, text, sizeof text); }
 static int print_decimal(void) { return num_format_print_decimal(&en, (uint64_t)-5, UINT64_MAX, 2, text, sizeof text); }
+static int measure_decimal(void) { return num_format_print_decimal_len(&en, (uint64_t)-5, UINT64_MAX, 2); }
 static int parse_short(void) { return num_format_parse_i64(&en, 64, TEXT("-234"), &number); }
 static int parse_long(void) { return num_format_parse_i64(&en, 64, LONG, &number); }
 static int parse_refused(void) { return num_format_parse_i64(&en, 64, TEXT("one"), &number); }
@@ -79,6 +80,7 @@ static const struct {
     {"print i64 INT64_MIN, Indian, separators of 8 bytes", print_built, 86},
     {"print u128 UINT128_MAX", print_wide, 51},
     {"print decimal -0.05", print_decimal, 5},
+    {"measure decimal -0.05", measure_decimal, 5},
     {"parse i64 -234", parse_short, 0},
     {"parse i64 INT64_MIN", parse_long, 0},
     {"parse i64 one, refused", parse_refused, NUM_FORMAT_NOT_A_NUMBER},

@@ -5,7 +5,7 @@ use std::error::Error;
 use std::fs;
 
 /// The documents, from the folder of the benchmark.
-const DOCUMENTS: [&str; 2] = ["README.md", "../README.md"];
+const DOCUMENTS: [&str; 3] = ["README.md", "RESULTS.md", "../README.md"];
 
 /// What ends a table in a document.
 const END: &str = "<!-- end -->\n";

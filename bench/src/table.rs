@@ -78,7 +78,7 @@ const COMPARISONS: [Comparison; 26] = [
 ];
 
 /// The name of the original in the tables.
-const ORIGINAL: &str = "the Rust crate";
+const ORIGINAL: &str = "num-format";
 
 /// What is compared with the port and is not of it.
 const OTHERS: [&str; 4] = [
@@ -231,18 +231,16 @@ impl Table {
         ]
     }
 
-    /// The lowest, the median and the highest ratio of each comparison with what is not of the port.
+    /// The median and the highest ratio of each comparison with what is not of the port.
     fn summary_table(&self) -> String {
-        let mut table = String::from(
-            "| Time of | Over that of | Lowest | Median | Highest |\n|---|---|---|---|---|\n",
-        );
+        let mut table = String::from("|Time of|Over that of|Median|Highest|\n|---|---|---|---|\n");
         for (operation, over, ratio) in COMPARISONS {
             if !OTHERS.contains(&over) {
                 continue;
             }
             if let Some(found) = self.summary(|cell| cell.operation == operation, ratio) {
-                let [lowest, median, highest] = found.shown();
-                table += &format!("| {operation} | {over} | {lowest} | {median} | {highest} |\n");
+                let [_, median, highest] = found.shown();
+                table += &format!("|{operation}|{over}|{median}|{highest}|\n");
             }
         }
         table
