@@ -3,11 +3,13 @@
 
     python3 tools/doc_comments.py
 
-A doc comment begins with a sentence. That of a function has an example or refers to one, says in which unit it
-returns or takes a number, and says what the errors are where it returns a `Result`. Getters and laws need no
-example. The list is for a reader to judge: the words are found by their letters alone.
+A doc comment begins with a sentence. That of a function has an example, which tools/doc_examples.py runs, says in
+which unit it returns a number, and says what the errors are where it returns a `Result`. Laws need no example. The
+list is for a reader to judge: the words are found by their letters alone. The exit status is 1 where an item lacks
+something.
 """
 import re
+import sys
 
 from api_items import CRATES, methods, sections
 
@@ -22,8 +24,7 @@ def lacks(item, path):
         yield "a first sentence"
     if item.kind != "fn":
         return
-    is_getter = re.search(r"\(&?self\)", header)
-    if not re.search(r"```|\]\(|\[`", docs) and not is_getter and "::laws::" not in path:
+    if "```rust" not in docs and "::laws::" not in path:
         yield "an example"
     if NUMBER.search(header.partition("->")[2]) and not UNIT.search(docs):
         yield "units"
@@ -33,6 +34,7 @@ def lacks(item, path):
 
 
 def main():
+    found = []
     for crate in CRATES:
         for items in sections(crate).values():
             for item, path in items.items():
@@ -40,7 +42,8 @@ def main():
                     where = path if one is item else f"{path}::{one.name}"
                     lacking = ", ".join(lacks(one, where))
                     if lacking:
-                        print(f"{where}: {lacking}")
+                        found.append(f"{where}: {lacking}")
+    sys.exit("\n".join(found) or 0)
 
 
 if __name__ == "__main__":

@@ -5,6 +5,7 @@ import re
 import shutil
 import subprocess
 import tempfile
+from concurrent.futures import ThreadPoolExecutor
 from pathlib import Path
 
 from tally import ROOT, elapsed, heading, run
@@ -19,6 +20,9 @@ LEFT_OUT = ["must-fail", "test_bench", *TRIED]
 
 # The crate of the library for C.
 LIBRARY = "num_format_c"
+
+# The most memory of a check, in bytes. `rt ci` counts on more, and lets processors wait for it.
+CHECK_SIZE = 4_000_000_000
 
 # What `rt ci` says of a crate that is proved, now or by an earlier run, of a must-fail edit that the prover
 # refused, and its last line.
@@ -47,37 +51,49 @@ def copied(is_whole):
         yield copy
 
 
-def prove(tally, copy, start_packages):
-    """Runs `rt ci`, and adds what its last line counts. Builds the library for C meanwhile, and starts the tests
-    of packages once it is there."""
+def prove(tally, copy, start_tests):
+    """Runs `rt ci`, and adds what its last line counts. Builds the library for C meanwhile, and starts what tests it
+    once it is there."""
     heading("rt ci")
-    how = {"env": {**os.environ, "PYTHONUNBUFFERED": "1"}, "errors": "replace"}
+    how = {"env": {**lanes(), **os.environ, "PYTHONUNBUFFERED": "1"}, "errors": "replace"}
     crates = read_crates(copy)
     lacking = set(crates[LIBRARY]) & set(crates)
     quiet = {"stdout": subprocess.DEVNULL, "stderr": subprocess.DEVNULL}
-    line, building, is_built = "", None, False
-    with subprocess.Popen(["rt", "ci"], cwd=copy, stdout=subprocess.PIPE, text=True, **how) as ci:
+    line, building = "", None
+
+    def build(**how):
+        """Builds the library, and starts its tests. Returns whether it is built."""
+        is_built = build_library(copy, **how) == 0
+        if is_built:
+            print(f"{elapsed()} the library for C is built", flush=True)
+            start_tests()
+        return is_built
+
+    ci = subprocess.Popen(["rt", "ci"], cwd=copy, stdout=subprocess.PIPE, text=True, **how)
+    with ThreadPoolExecutor(1) as pool, ci:
         for line in ci.stdout:
             print(tidy(line, copy / "crates"), end="", flush=True)
             proved = PROVED.fullmatch(line)
             if proved:
                 lacking.discard(proved[1])
             if not lacking and not building:
-                building = start_library(copy, **quiet)
-            if building and not is_built and building.poll() == 0:
-                is_built = True
-                start_packages()
+                building = pool.submit(build, **quiet)
     counted = COUNTED.fullmatch(line)
     passed, failed = map(int, counted.groups()) if counted else (0, 0)
     tally.passed += passed
     tally.failed += failed
     if not passed or bool(ci.returncode) != bool(failed):
         tally.add("rt ci", f"status {ci.returncode} after the line {line!r}")
-    # A build that was killed where memory was short has more of it now.
-    if not building or building.wait():
-        start_library(copy).wait()
-    if not is_built:
-        start_packages()
+    # A build that was killed where memory was short has more of it now. Tests without a library say so.
+    if not (building and building.result()) and not build():
+        start_tests()
+
+
+def lanes():
+    """Has `rt ci` use all processors, where there is memory for so many checks."""
+    processors = len(os.sched_getaffinity(0))
+    memory = os.sysconf("SC_PHYS_PAGES") * os.sysconf("SC_PAGE_SIZE")
+    return {"RT_JOBS": str(processors)} if processors * CHECK_SIZE <= memory else {}
 
 
 def tidy(line, crates):
@@ -113,8 +129,8 @@ def function_at(lines, place):
     return next((match[1] for match in found if match), "?")
 
 
-def start_library(copy, **how):
-    """Starts to build the library for C, of whose crate `rt ci` builds nothing, over what that built."""
+def build_library(copy, **how):
+    """Builds the library for C, of whose crate `rt ci` builds nothing, over what that built. Returns the status."""
     listed = read_crates(copy)
     crate = copy / "crates" / LIBRARY
     # `rt ci` makes it once it comes to the crate, which may be later.
@@ -129,8 +145,8 @@ def start_library(copy, **how):
         words += ["--extern", f"{name}={folder}/{name}.rlib"]
     words += ["--antt-project", f"{kit}/rattle/logic/antt-project.json"]
     words += ["--logic-built", f"{kit}/logic_built", "--toolchain", f"{kit}/toolchain"]
-    words += ["--jobs", "1", "-o", f"out/lib{LIBRARY}.a"]
-    return subprocess.Popen(words, cwd=crate, stdin=subprocess.DEVNULL, **how)
+    words += ["--jobs", "2", "-o", f"out/lib{LIBRARY}.a"]
+    return run(words, cwd=crate, timeout=None, **how).returncode
 
 
 def read_crates(top):
