@@ -1,146 +1,149 @@
 #!/usr/bin/env python3
-"""Writes docs/api/index.html: the public items of the crates that users call, from their doc comments.
+"""Writes docs/api/index.html: the public items of the crates that users call, with their contracts and doc comments.
 
     python3 tools/api_page.py            # writes the page
-    python3 tools/api_page.py --check    # status 1 where the page differs, an item has no doc comment or a link no end
-
-Each item is shown with its contract, whose definitions link to the files in specs/ that have them.
+    python3 tools/api_page.py --check    # status 1 where the page differs, or a link has no end
 """
+import functools
 import re
 import sys
+from collections import namedtuple
 from html import escape
 from textwrap import dedent
 
-from api_items import CRATES, ROOT, methods, module_docs, sections, trait_impls
+from tally import ROOT
 
 PAGE = ROOT / "docs" / "api" / "index.html"
-HEAD = """<!DOCTYPE html>
-<html lang="en"><meta charset="utf-8"><meta name="viewport" content="width=device-width">
-<title>num_format: public calls</title><link rel="stylesheet" href="style.css">
-<nav><b>Public calls</b>{nav}</nav><main>
-<p>Written by <code>tools/api_page.py</code> from the doc comments of the crates. Back to the
-<a href="../../README.md">README</a>. Each signature has its contract below it, which is proved:
-<a href="../THEOREMS.md">THEOREMS</a> says it in words.</p>{main}</main></html>
-"""
-# The modules in the order in which a reader needs them; others follow.
-ORDER = """buffer to_formatted_str to_formatted_string formatted write_formatted parsing locale custom_format
-custom_format_builder format grouping strings certificates json error error_kind decimal printing rounding""".split()
+HEAD = """<!DOCTYPE html><html lang="en"><meta charset="utf-8"><meta name="viewport" content="width=device-width">
+<title>num_format: public calls</title><link rel="stylesheet" href="style.css"><nav><b>Public calls</b>{nav}</nav>
+<main><p>Below a call is its contract, which is proved. See the <a href="../../README.md">README</a>.{main}</main>"""
+CRATES = ["num_format", "num_format_decimal", "num_format_columns"]
+# The files in the order in which a reader needs them; others follow.
+ORDER = """lib buffer to_formatted_str to_formatted_string formatted write_formatted decimal parsing strict locale
+custom_format custom_format_builder format grouping strings certificates json error error_kind printing""".split()
 
+# An item: its doc comment, its lines up to the body, and the functions in it that others call.
+Item = namedtuple("Item", "file kind name trait docs lines inner")
+ITEM = r"((?:^{0}///.*\n)*)(?:^{0}#.*\n)*^({0}(?:{1}) (?s:.+?)(?:;|(?=\s*\{{)))(?:\s*\{{(?:\n((?:.*\n)*?){0})?\}})?$"
+NAMES = re.compile(r"(impl)(?:<[^>]*>)? (?:.*?(\w+)(?:<.*>)? for )?.*?(\w+)(?:<.*>|\])*$| *(?:pub )?(\w+) (\w+)", re.M)
+GHOST = re.compile(r"^    ghost (?!use )(?:.*\n)*?.*;$", re.M)
+USE = re.compile(r"^( *)pub (?:use|mod) ([\w:]+?)(?:::\{([^}]*)\})?;", re.M)
 SPEC = re.compile(r"ghost use Rattle\.(num_format\w*)\.specs\.([\w.]+)\.\{([^}]*)\};")
-CODE = re.compile(r"^```\w*\n(.*?)^```$", re.DOTALL | re.MULTILINE)
-MARK = re.compile(r"\[(`[^`]+`)\](?!\()|\[([^]]+)\]\(([^)]+)\)|`([^`]+)`|\*\*([^*]+)\*\*|\*([^*\s][^*]*)\*")
-WORD = re.compile(r"(?<!ensures )(?<!requires )(?<!io::)(?<!fmt::)\b[A-Za-z_][\w-]*")
-# Where a file has the types of the library that it names.
-USED = re.compile(r"^(?:use (?:crate|num_format)[^;]*;|pub (?:struct|enum|trait|const|type) \w+)", re.MULTILINE)
+TYPES = re.compile(r"^(?:use (?:crate|num_format)[^;]*;|pub (?:struct|enum|trait|const|type) \w+)", re.M)
+WORD = re.compile(r"///.*|(?<!ensures )(?<!requires )(?<!io::)(?<!fmt::)\b[A-Za-z_][\w-]*")
+LINK = re.compile(r"\[(<code>([^<]+)</code>)\](?!\()|\[([^]]+)\]\(([^)]+)\)")
 
 
-class Page:
-    """The page of a crate. `links` has what a name in a doc comment or a contract links to."""
+def items(file, text, indent="", starts=r"pub(?= (?:struct|enum|trait|fn|const|type))|impl(?:<[^>]*>)?"):
+    """The items of a text that begin so at that indentation."""
+    for docs, lines, body in re.findall(ITEM.format(indent, starts), text, re.M):
+        impl, trait, of, kind, name = NAMES.match(lines).groups()
+        own = "(?:pub )?fn" if trait or kind else "pub fn"
+        inner = list(items(file, body, "    ", own)) if impl or kind == "trait" else []
+        lines = "\n".join([lines, *GHOST.findall(body)]) + (f" {{\n{body}}}" if kind == "enum" else "")
+        docs = "\n".join(one.docs for one in inner) if trait else re.sub("^ */// ?", "", docs, flags=re.M)
+        yield Item(file, impl or kind, name or of, trait, docs, lines, inner)
 
-    def __init__(self, crate):
-        self.crate, self.links = crate, {crate: f"#{crate}"}
-        self.found = dict(sorted(sections(crate).items(), key=lambda pair: [*ORDER, pair[0]].index(pair[0])))
-        for module, items in self.found.items():
-            self.links[module] = f"#{crate}::{module}"
-            for item, path in items.items():
-                names = [re.match(r"\w+", variant)[0] for variant, _ in item.variants]
-                self.links |= {f"{item.name}::{name}": f"#{path}" for name in names}
-                self.links |= {f"{item.name}::{one.name}": f"#{path}::{one.name}" for one in methods(item)}
-                self.links[item.name] = f"#{path}"
 
-    def mark(self, match):
-        """The HTML of a link, of code or of a word in a doc comment."""
-        label, text, target, code, bold, emphasis = match.groups()
-        if code or bold or emphasis:
-            return f"<code>{code}</code>" if code else f"<b>{bold}</b>" if bold else f"<em>{emphasis}</em>"
-        parts = (target or label.strip("`")).split("::")
-        known = {} if parts[0] in ("io", "fmt", "std") else self.links
-        href = known.get("::".join(parts[-2:])) or known.get(parts[-1])
-        shown = MARK.sub(self.mark, label or text)
-        return f'<a href="{href}">{shown}</a>' if href else shown
+def passed(file, inside=""):
+    """What a file passes on: the file that has it, its name, or nothing for each item, and the path to it."""
+    for place, path, names in USE.findall(file.read_text()):
+        for name in re.findall(r"\w+", names) or [""]:
+            parts = f"{path}::{name}".strip(":").removeprefix("crate::").split("::")
+            owner, module, *name = parts if parts[0].startswith("num_format") else [file.parts[-3], *parts]
+            source = ROOT / "crates" / owner / "src" / f"{module}.rt"
+            yield source, "".join(name), "::utils" if place else inside if name else f"::{module}"
+            yield from [] if name else passed(source, f"::{module}")
 
-    def inline(self, text):
-        return MARK.sub(self.mark, escape(text, quote=False))
 
-    def markdown(self, lines):
-        """The HTML of a doc comment."""
-        out = ""
-        for place, part in enumerate(CODE.split("\n".join(lines))):
-            if place % 2:
-                out += f"<pre>{escape(part)}</pre>"
-            for block in [] if place % 2 else re.split(r"\n\n+", part.strip()):
-                if block.startswith("# "):
-                    out += f"<h5>{self.inline(block[2:])}</h5>"
-                elif block.startswith("- "):
-                    entries = (f"<li>{self.inline(entry)}" for entry in re.split(r"\n- ", block[2:]))
-                    out += f"<ul>{''.join(entries)}</ul>"
-                elif block:
-                    out += f"<p>{self.inline(block)}"
-        return out
+@functools.cache
+def sections(crate):
+    """The modules of a crate, each with its file and what it has or passes on, with the path to each item."""
+    lib = ROOT / "crates" / crate / "src" / "lib.rt"
+    wanted, found, paths = {lib: {"": ""}}, {}, {}
+    for file, name, inside in passed(lib):
+        wanted.setdefault(file, {}).setdefault(name, inside)
+    for file, names in sorted(wanted.items(), key=lambda pair: [*ORDER, pair[0].stem].index(pair[0].stem)):
+        pairs = found.setdefault(next(iter(names.values())).strip(":") or file.stem, (file, []))[1]
+        # The six texts of a format are names for one type.
+        names.setdefault("BoundedStr", names.get("DecimalStr", names.get("")))
+        for item in items(file, file.read_text()):
+            inside = names.get(item.name, names.get(""))
+            if item.kind != "impl" and inside is not None:
+                paths[item.name] = f"{crate}{inside}::{item.name}"
+            path = paths.get(item.name) or paths.get(item.trait)
+            pairs += [(item, path)] if path and item.docs and (item.trait or item.kind != "impl") else []
+            pairs += [(one, f"{path}::{one.name}") for one in item.inner if path and not item.trait]
+    return found
 
-    def signature(self, item, lines):
-        """The lines of an item, with links to the types on the page and to the definitions of its contract."""
-        text = item.file.read_text(encoding="utf-8")
-        known = set(re.findall(r"\w+", " ".join(USED.findall(text)))) - {item.name}
-        links = {name: href for name, href in self.links.items() if name in known and name[0].isupper()}
-        for crate, path, names in SPEC.findall(text):
-            spec = f"crates/{crate}/specs/{path.replace('.', '/')}.antt"
-            if (ROOT / spec).is_file():
-                links |= {name: f"../../{spec}" for name in re.findall(r"[^,\s]+", names)}
 
-        def link(match):
-            word = match[0]
-            return f'<a href="{links[word]}">{word}</a>' if word in links else word
+@functools.cache
+def links(crate):
+    """What a name in a doc comment or a contract of a crate links to: first to what the crate itself has."""
+    found = {}
+    for other in sorted(CRATES, key=lambda name: name == crate):
+        paths = [f"{other}::{module}".removesuffix("::lib") for module in sections(other)]
+        paths += [path for _, pairs in sections(other).values() for _, path in pairs]
+        for path in sorted(paths, key=lambda path: -path.count(":")):
+            found |= {"::".join(path.split("::")[-2:]): f"#{path}", path.split("::")[-1]: f"#{path}"}
+    return found
 
-        text = escape(dedent("\n".join(lines)), quote=False)
-        return f"<pre class=signature>{WORD.sub(link, text)}</pre>"
 
-    def item(self, item, path, level=3):
-        """A section on an item and what it has."""
-        shown = path if level == 3 else item.name
-        out = f'<section id="{path}"><h{level}>{item.kind} <code>{shown}</code></h{level}>'
-        out += self.signature(item, item.lines) + self.markdown(item.docs)
-        for variant, docs in item.variants:
-            out += f"<div class=variant>{self.signature(item, [variant])}<div>{self.markdown(docs)}</div></div>"
-        for one in methods(item) if level == 3 else []:
-            out += self.item(one, f"{path}::{one.name}", 4)
-        for docs, impls in trait_impls(item).items() if level == 3 else []:
-            lines = [line for impl in impls for line in impl.lines]
-            out += self.signature(impls[0], lines) + self.markdown(docs.splitlines())
-        return out + "</section>\n"
+def anchor(href, shown):
+    return f'<a href="{href}">{shown}</a>' if href else shown
 
-    def html(self):
-        """The entries of the crate at the side, and its sections."""
-        source = ROOT / "crates" / self.crate / "src" / "lib.rt"
-        nav = f'<h2><a href="#{self.crate}">{self.crate}</a></h2>'
-        main = f'<h1 id="{self.crate}">Crate <code>{self.crate}</code></h1>{self.markdown(module_docs(source))}'
-        for module, items in self.found.items():
-            own = source.with_name(f"{module}.rt")
-            file = own if own.is_file() else next(iter(items)).file
-            title = f'<a href="../../{file.relative_to(ROOT)}">{module}</a>'
-            main += f'<h2 id="{self.crate}::{module}">{title}</h2>{self.markdown(module_docs(file))}'
-            main += "".join(self.item(item, path) for item, path in items.items())
-            entries = (f'<a href="#{path}">{item.name}</a>' for item, path in items.items())
-            nav += f'<p><a href="#{self.crate}::{module}">{module}</a>: {" ".join(entries)}'
-        return nav, main
+
+def markdown(crate, text):
+    """The HTML of a doc comment."""
+
+    def linked(match):
+        parts = (match[4] or match[2]).split("::")
+        tails = ["::".join(parts[-2:]), parts[-1], parts[-2:][0]] if parts[0] not in ("io", "fmt", "std") else []
+        return anchor(next((links(crate)[tail] for tail in tails if tail in links(crate)), ""), match[1] or match[3])
+
+    out = ""
+    for place, part in enumerate(re.split(r"^```\w*\n((?:.*\n)*?)```$", text, flags=re.M)):
+        html = re.sub(r"\*\*?([^*\s][^*]*)\*\*?", r"<em>\1</em>", escape(part, quote=False))
+        html = LINK.sub(linked, re.sub(r"`([^`]+)`", r"<code>\1</code>", html)).strip()
+        for block in re.split(r"\n\n+", html) if html and place % 2 == 0 else []:
+            entries = "".join(f"<li>{entry}" for entry in re.split(r"(?:^|\n)- ", block)[1:])
+            out += f"<h5>{block[2:]}</h5>" if block[:2] == "# " else f"<ul>{entries}</ul>" if entries else f"<p>{block}"
+        out += f"<pre>{escape(part)}</pre>" if place % 2 else ""
+    return out
+
+
+def section(crate, item, path):
+    """The HTML of an item. Its lines link to types on the page and to the definitions of its contract."""
+    source = item.file.read_text()
+    known = set(re.findall(r"\b[A-Z]\w*", " ".join(TYPES.findall(source)))) - {item.name}
+    found = {name: href for name, href in links(crate).items() if name in known}
+    for owner, module, names in SPEC.findall(source):
+        spec = f"../../crates/{owner}/specs/{module.replace('.', '/')}.antt"
+        found |= {name: spec for name in names.split(", ") if (PAGE.parent / spec).is_file()}
+    lines = WORD.sub(lambda word: anchor(found.get(word[0]), word[0]), escape(dedent(item.lines), quote=False))
+    out = f"<pre class=signature>{lines}</pre>{markdown(crate, item.docs)}\n"
+    level, shown = (4, "::".join(path.split("::")[-2:])) if item.lines[0] == " " else (3, path)
+    title = f'<h{level} id="{path}">{item.kind} <code>{shown}</code></h{level}>' if item.kind != "impl" else ""
+    return f"<section class=method>{title}{out}</section>" if level == 4 else title + out
 
 
 def main():
-    pages = [Page(crate) for crate in CRATES]
-    for page in pages:
-        page.links = {name: href for other in [*pages, page] for name, href in other.links.items()}
-    parts = [page.html() for page in pages]
-    page = HEAD.format(nav="".join(nav for nav, _ in parts), main="".join(main for _, main in parts))
-    if "--check" not in sys.argv:
-        PAGE.write_text(page, encoding="utf-8")
-        return
-    wrong = [] if PAGE.read_text(encoding="utf-8") == page else ["docs/api/index.html: run tools/api_page.py"]
-    items = {item: path for page in pages for found in page.found.values() for item, path in found.items()}
-    every = [(one, f"{path}: {one.name}") for item, path in items.items() for one in [item, *methods(item)]]
-    wrong += [f"{name}: no doc comment" for item, name in every if not item.docs]
-    ends = set(re.findall('id="([^"]*)"', page))
-    wrong += [f"no #{name}" for name in re.findall('href="#([^"]*)"', page) if name not in ends]
-    sys.exit("\n".join(wrong) or 0)
+    page = nav = ""
+    for crate in CRATES:
+        for module, (file, pairs) in sections(crate).items():
+            path = f"{crate}::{module}".removesuffix("::lib")
+            tag = "h2" if "::" in path else "h1"
+            page += f'<{tag} id="{path}">{anchor(f"../../{file.relative_to(ROOT)}", path.split("::")[-1])}</{tag}>'
+            page += markdown(crate, "".join(re.findall(r"^//! ?(.*\n)", file.read_text(), re.M)))
+            page += "".join(section(crate, *pair) for pair in pairs)
+    for tag, path in re.findall(r'<(h[123]) id="([^"]*)"', page):
+        nav += {"h1": "<h2>{}</h2>", "h2": "<p>{}", "h3": " {}"}[tag].format(anchor(f"#{path}", path.split("::")[-1]))
+    page = HEAD.format(nav=nav, main=page)
+    if "--check" in sys.argv:
+        ends = re.findall('id="([^"]*)"', page)
+        wrong = [f"no #{name}" for name in re.findall('href="#([^"]*)"', page) if name not in ends]
+        sys.exit("\n".join(wrong) or (PAGE.read_text() != page and "docs/api/index.html: run tools/api_page.py") or 0)
+    PAGE.write_text(page)
 
 
 if __name__ == "__main__":

@@ -11,7 +11,7 @@ something.
 import re
 import sys
 
-from api_items import CRATES, methods, sections
+from api_page import CRATES, sections
 
 UNIT = re.compile("byte|character|digit|decimal|scale|place|unit|offset|how many", re.IGNORECASE)
 NUMBER = re.compile(r"\b(?:usize|u8|ArrayVec<usize)\b")
@@ -19,7 +19,7 @@ NUMBER = re.compile(r"\b(?:usize|u8|ArrayVec<usize)\b")
 
 def lacks(item, path):
     """What the doc comment of an item lacks."""
-    docs, header = "\n".join(item.docs), "\n".join(item.lines).partition("ensures")[0]
+    docs, header = item.docs, item.lines.partition("ensures")[0]
     if not re.match(r"\S[^`]*?(?:`[^`]*`[^`]*?)*?[.:](?:\s|$)", docs):
         yield "a first sentence"
     if item.kind != "fn":
@@ -36,13 +36,11 @@ def lacks(item, path):
 def main():
     found = []
     for crate in CRATES:
-        for items in sections(crate).values():
-            for item, path in items.items():
-                for one in [item, *methods(item)]:
-                    where = path if one is item else f"{path}::{one.name}"
-                    lacking = ", ".join(lacks(one, where))
-                    if lacking:
-                        found.append(f"{where}: {lacking}")
+        for _, pairs in sections(crate).values():
+            for item, path in pairs:
+                lacking = ", ".join(lacks(item, path)) if item.kind != "impl" else ""
+                if lacking:
+                    found.append(f"{path}: {lacking}")
     sys.exit("\n".join(found) or 0)
 
 

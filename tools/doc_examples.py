@@ -21,7 +21,7 @@ import subprocess
 import sys
 import tempfile
 
-from api_items import CRATES, USE, sections
+from api_page import CRATES, USE, sections
 from proofs import copied, read_crates
 from tally import ROOT, Tally, heading, run
 
@@ -52,7 +52,8 @@ DECIMAL = re.compile(r"Decimal \{ units: (-?)(\d+), scale: (\d+) \}")
 def names_of(crate):
     """The path of each name that a crate has for others."""
     if crate in CRATES:
-        return {item.name: path for items in sections(crate).values() for item, path in items.items()}
+        paths = [path for _, pairs in sections(crate).values() for item, path in pairs if item.lines[0] != " "]
+        return {path.split("::")[-1]: path for path in paths}
     text = (ROOT / "crates" / crate / "src" / "lib.rt").read_text(encoding="utf-8")
     found = re.findall(r"^pub (?:fn|struct|enum|const) (\w+)", text, re.MULTILINE)
     for _, path, names in USE.findall(text):
