@@ -12,8 +12,8 @@ their comment says, up to a comma or a colon and words:
     println!(rt; "{}", ..)      // TEXT     with or without quotes
 
 In a value the type before a variant or a constant may stand, as in `Locale::de`. `rt` and `alloc` are there, and
-what the example names is imported. Examples share nothing. A block of `text` is not run, and is listed: it is a sketch
-or a layout, or of a crate of PROGRAMS, whose readers, rules and messages its tests show.
+what the example names is imported. Examples share nothing. A block of `text` is a sketch, a layout or an output: it is
+listed, and not run. A block of another language, or one of `rust` in a crate that LIBRARIES lacks, fails.
 """
 import contextlib
 import re
@@ -30,10 +30,8 @@ NAME = "doc_examples"
 # The libraries whose doc comments are read. What users call comes first.
 LIBRARIES = [*CRATES, "num_format_text", "num_format_int", "num_format_parsing", "num_format_cldr",
              "num_format_locale", "num_format_writers", "num_format_custom", "num_format_certificates",
-             "num_format_json", "regroup_shared", "regroup_commands", "uses_money", "uses_settings"]
-
-# The crates whose examples are not run.
-PROGRAMS = ["regroup_lines", "regroup_stream", "uses_ledger"]
+             "num_format_json", "regroup_shared", "regroup_commands", "regroup_lines", "regroup_stream",
+             "uses_money", "uses_settings"]
 
 # What is imported into each example, and by its name where an example has that.
 ALWAYS = ["num_format::ToFormattedStr", "num_format::ToFormattedString", "num_format::WriteFormatted",
@@ -41,9 +39,10 @@ ALWAYS = ["num_format::ToFormattedStr", "num_format::ToFormattedString", "num_fo
           "num_format_decimal::ParseDecimal", "num_format_columns::Offset", "num_format_columns::Printer",
           "num_format_columns::Validity", "anyhow::Result"]
 OTHERS = {"Value": "serde_json::Value", "str::from_utf8": "std::str", "Cursor": "std::io::Cursor",
+          "BufWriter": "std::io::BufWriter", "io::ErrorKind": "std::io",
           "BoundedString": "num_format_text::bounded_string::BoundedString"}
 
-BLOCK = re.compile(r"^( *//[/!]) ?```(rust|text)\n(.*?)^\1 ?```$", re.DOTALL | re.MULTILINE)
+BLOCK = re.compile(r"^( *//[/!]) ?```(\w*)\n(.*?)^\1 ?```$", re.DOTALL | re.MULTILINE)
 SHOWN = re.compile(r"(.*?)\s*// (.*)", re.DOTALL)
 BOUND = re.compile(r"let (?:mut )?(\w+)(?::[^=]*)? = ")
 DECIMAL = re.compile(r"Decimal \{ units: (-?)(\d+), scale: (\d+) \}")
@@ -107,22 +106,22 @@ def is_shown(expected, found):
 
 
 class Examples:
-    """The crate of all examples, what each line has to show, and the examples that are not run."""
+    """The crate of all examples, what each line has to show, and the blocks that are not run: sketches and others."""
 
     def __init__(self):
-        self.expected, self.modules, self.calls, self.left_out = {}, {}, [], []
+        self.expected, self.modules, self.calls, self.sketches, self.others = {}, {}, [], [], []
         self.paths = {crate: names_of(crate) for crate in LIBRARIES}
-        for crate in [*LIBRARIES, *PROGRAMS]:
-            for file in sorted((ROOT / "crates" / crate / "src").glob("*.rt")):
+        for crate in [*LIBRARIES, *(crate for crate in read_crates(ROOT) if crate not in LIBRARIES)]:
+            for file in sorted((ROOT / "crates" / crate / "src").rglob("*.rt")):
                 self.read(crate, file)
 
     def read(self, crate, file):
         text = file.read_text(encoding="utf-8")
         for prefix, language, block in BLOCK.findall(text):
             number = text[: text.index(block)].count("\n") + 1
-            place = f"crates/{crate}/src/{file.name}:{number}"
-            if language == "text" or crate in PROGRAMS:
-                self.left_out.append(place)
+            place = f"{file.relative_to(ROOT)}:{number}"
+            if language != "rust" or crate not in LIBRARIES:
+                (self.sketches if language == "text" else self.others).append(place)
                 continue
             lines = [line.removeprefix(prefix).removeprefix(" ") for line in block.splitlines()]
             self.add(crate, place, lines)
@@ -176,9 +175,10 @@ def check_all(tally, show=False):
     for mark, (line, expected) in examples.expected.items():
         text = found.get(mark, "nothing")
         tally.add(f"{mark.split()[0]} {line}", None if is_shown(expected, text) else f"it shows {text}")
-    for place in examples.left_out:
-        kind = "of a program" if place.split("/")[1] in PROGRAMS else "a sketch or a layout"
-        print(f"not run, {kind}: {place}")
+    for place in examples.others:
+        tally.add(place, "this example is not run")
+    for place in examples.sketches:
+        print(f"not run, a block of `text`: {place}")
 
 
 @contextlib.contextmanager

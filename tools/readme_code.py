@@ -10,12 +10,16 @@ examples/. README.md has to have a text block that is the stdout of test_readme.
 
 Each command in a block of `sh` that runs `regroup` or `regroup-lines`, in README.md and in those of examples/ and
 packages/, has to end with status 0, and to print what is shown: after `prints` in its comment, or in the block of
-`text` after it, or in NAME.expected where it reads NAME.tsv. `rt run --` runs the program without its proof. What else
-READMEs of packages/ show is run by their tests.
+`text` after it, or in NAME.expected where it reads NAME.tsv. `rt run --` runs the program without its proof. So does
+`tools/install PREFIX`. Each other command that README.md or that of a package shows, in a block of `sh` or as code in
+its text, is one of ELSEWHERE: a test that runs it. Where a README of packages/ shows other code or what it prints, the
+test of that package has to name README.md.
 """
 import os
 import re
 import sys
+import tempfile
+from pathlib import Path
 from textwrap import dedent
 
 from tally import ROOT, Tally, heading, run
@@ -49,6 +53,29 @@ def is_part(block, source):
     return any(dedent("\n".join(part)) == "\n".join(wanted) for part in parts)
 
 
+# How other commands begin, with the file that runs them and its words for that.
+ELSEWHERE = {
+    r"python3 tools/test\.py|\.ci/run": (".ci/run", "python3 tools/test.py --edits"),
+    r"python3 tools/own_project\.py": ("tools/own_project.py", "make(own, "),
+    r"cd \.\./shop/crates/example && rt check": ("tools/own_project.py", '["rt", "ci"], cwd=own'),
+    r"python3 tools/filter_checks\.py": ("tools/test.py", '"filter_checks.py"'),
+    r"(?:\(cd crates/num_format_c && )?rt lib": ("tools/test.py", '["rt", "lib"]'),
+    r"tools/install PREFIX": ("tools/readme_code.py", 'top / "tools" / "install"'),
+    r"packages/c/install ": ("packages/c/test", 'HERE / "install"'),
+    r"cc program\.c ": ("packages/c/test", '"--cflags", "--libs", "num_format"'),
+    r"(?:python3 -m venv .* && \S+)?pip install ": ("packages/python/environment.py", '"pip", "install"'),
+    r"make -C packages/sqlite": ("packages/sqlite/test", 'for target, expected in [("install"'),
+    r"make -C packages/postgresql": ("packages/postgresql/test", 'for target, expected in [("install"'),
+    r"python3 examples/dask_column\.py": ("packages/python/tests/test_programs.py", '"dask_column.py"'),
+    r"packages/bench/run": ("packages/bench/test", 'HERE / "run"'),
+    r"packages/\w+/test$": ("tools/package_checks.py", "test"),
+}
+
+# A command in a text, as code.
+SHOWN = re.compile(
+    r"`((?:python3|pip|make|rt|cc|cargo|\(cd) [^`]*|(?:tools|packages|examples)/[\w/]*(?:run|test|install)(?: [^`]*)?)`"
+)
+
 # A block of commands with the block of text after it, a command that is run, and what it is to print.
 COMMANDS = re.compile(r"^```sh\n(.*?)^```\n(?:(?!```)[^\n]*\n){0,4}(?:^```text\n(.*?)^```)?", re.DOTALL | re.MULTILINE)
 RUN = re.compile(r"(?:.*\| )?(?:regroup|regroup-lines) |\(cd crates/regroup\w* && rt run -- ")
@@ -75,6 +102,33 @@ def commands(path):
                 yield line, expected
 
 
+def not_run(path):
+    """The commands of README.md or of a package that no test runs."""
+    text = path.read_text(encoding="utf-8")
+    name = path.relative_to(ROOT)
+    shown = [line for block in blocks(path, "sh") for line in block.replace("\\\n", " ").splitlines()]
+    for line in [line.strip() for line in [*shown, *SHOWN.findall(text)] if not RUN.match(line)]:
+        file, words = next((found for start, found in ELSEWHERE.items() if re.match(start, line)), (None, None))
+        if not file:
+            yield f"{name}: no test runs: {line}"
+        elif words not in (ROOT / file).read_text(encoding="utf-8"):
+            yield f"{file}: it has no `{words}` any more, so it may not run: {line}"
+    if path.parent != ROOT and re.search(r"^```(?!sh|toml)\w", text, re.MULTILINE):
+        tests = [path.with_name("test"), *path.parent.glob("tests/*.py")]
+        if not any("README" in test.read_text(encoding="utf-8") for test in tests):
+            yield f"{name}: its test does not read it"
+
+
+def check_install(tally, top):
+    """Installs the programs that were built in that copy of the repository."""
+    with tempfile.TemporaryDirectory() as prefix:
+        how = {"env": {**os.environ, "DESTDIR": prefix}, "capture_output": True, "text": True}
+        ended = run([top / "tools" / "install", "/usr"], **how)
+        found = sorted(path.name for path in Path(prefix).rglob("*") if path.is_file())
+    expected = ["regroup", "regroup-lines", "regroup-lines", "regroup-lines.1", "regroup.1"]
+    tally.compare("tools/install", (ended.returncode, ended.stderr, found), (0, "", expected))
+
+
 def check_commands(tally, top):
     """Runs the commands over the programs that were built in that copy of the repository."""
     heading("the commands in README.md")
@@ -86,6 +140,7 @@ def check_commands(tally, top):
         ended = run(["bash", "-c", f"set -eu{SHELL}{line}"], **how)
         output = ended.stdout if expected is not None else None
         tally.compare(line, (ended.returncode, output, ended.stderr), (0, expected, ""))
+    check_install(tally, top)
 
 
 def main():
@@ -103,7 +158,9 @@ def main():
                     different.append(f"{path.relative_to(ROOT)}: no file has:\n{block}")
     if (EXAMPLES / "stdout").read_text(encoding="utf-8") not in blocks(readme, "text"):
         different.append("README.md: no block has the stdout of test_readme")
-    print("\n".join(different), end="")
+    for path in [readme, *sorted(ROOT.glob("packages/*/README.md"))]:
+        different += not_run(path)
+    print("".join(f"{line}\n" for line in different), end="")
     sys.exit(1 if different else 0)
 
 

@@ -43,12 +43,7 @@ pub enum LedgerError {
 
 /// Returns the amount that a text spells: the text is that of a decimal, grouped or not, and the amount is the
 /// same number at the scale of the ledger. Every decimal reads back under the format, so a text spells one
-/// amount at most.
-///
-/// ```text
-/// parse_amount("1,234.5", &Locale::en)     // 1234.50
-/// parse_amount("1.255", &Locale::en)       // Err(Rescale(DigitsLost))
-/// ```
+/// amount at most. Under `en` the text `1,234.5` spells 1234.50, and `1.255` is refused with `Rescale(DigitsLost)`.
 pub fn parse_amount<F: Format>(text: &str, format: &F) -> Result<Decimal, ParseAtScaleError>
     requires { MarksDecimals (F.answers format.now) }
     ensures exact { (amount : FixedPoint) → (result ≡ Ok amount)
