@@ -137,7 +137,7 @@ RULES = [
     # What counts nothing of the project.
     (r"N (?:bytes a call|bytes \||times U\+0663|writers|writes|decimals (?:are|have)|numbers of one)", "", ""),
     ("N (?:passes|loops|bounds|facts|constructors|digits at a time|runs|versions|formats)|starts at place N,", "", ""),
-    ("of one's own for N of them|these N and `", "", ""),
+    ("of one's own for N of them|these N and `|measured is that of N with", "", ""),
 ]
 
 WORDS = """zero one two three four five six seven eight nine ten eleven twelve thirteen fourteen fifteen sixteen
