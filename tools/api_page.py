@@ -22,7 +22,6 @@ CRATES = ["num_format", "num_format_decimal", "num_format_columns"]
 ORDER = """lib buffer to_formatted_str to_formatted_string formatted write_formatted decimal parsing strict locale
 custom_format custom_format_builder format grouping strings certificates json error error_kind printing""".split()
 
-# An item: its doc comment, its lines up to the body, and the functions in it that others call.
 Item = namedtuple("Item", "file kind name trait docs lines inner")
 ITEM = r"((?:^{0}///.*\n)*)(?:^{0}#.*\n)*^({0}(?:{1}) (?s:.+?)(?:;|(?=\s*\{{)))(?:\s*\{{(?:\n((?:.*\n)*?){0})?\}})?$"
 NAMES = re.compile(r"(impl)(?:<[^>]*>)? (?:.*?(\w+)(?:<.*>)? for )?.*?(\w+)(?:<.*>|\])*$| *(?:pub )?(\w+) (\w+)", re.M)
@@ -30,12 +29,13 @@ GHOST = re.compile(r"^    ghost (?!use )(?:.*\n)*?.*;$", re.M)
 USE = re.compile(r"^( *)pub (?:use|mod) ([\w:]+?)(?:::\{([^}]*)\})?;", re.M)
 SPEC = re.compile(r"ghost use Rattle\.(num_format\w*)\.specs\.([\w.]+)\.\{([^}]*)\};")
 TYPES = re.compile(r"^(?:use (?:crate|num_format)[^;]*;|pub (?:struct|enum|trait|const|type) \w+)", re.M)
+CONSTANT = re.compile(r"^pub (?:const|trait) (\w+)", re.M)
 WORD = re.compile(r"///.*|(?<!ensures )(?<!requires )(?<!io::)(?<!fmt::)\b[A-Za-z_][\w-]*")
 LINK = re.compile(r"\[(<code>([^<]+)</code>)\](?!\()|\[([^]]+)\]\(([^)]+)\)")
 
 
 def items(file, text, indent="", starts=r"pub(?= (?:struct|enum|trait|fn|const|type))|impl(?:<[^>]*>)?"):
-    """The items of a text that begin so at that indentation."""
+    """The items of a text that begin so at that indentation, each with its lines up to the body."""
     for docs, lines, body in re.findall(ITEM.format(indent, starts), text, re.M):
         impl, trait, of, kind, name = NAMES.match(lines).groups()
         own = "(?:pub )?fn" if trait or kind else "pub fn"
@@ -79,8 +79,9 @@ def sections(crate):
 
 @functools.cache
 def links(crate):
-    """What a name in a doc comment or a contract of a crate links to: first to what the crate itself has."""
-    found = {}
+    """What a name in a doc comment or a contract of a crate links to: what the crate has, the others, or a source."""
+    files = sorted((ROOT / "crates").glob("num_format_*/src/*.rt"))
+    found = {name: f"../../{file.relative_to(ROOT)}" for file in files for name in CONSTANT.findall(file.read_text())}
     for other in sorted(CRATES, key=lambda name: name == crate):
         paths = [f"{other}::{module}".removesuffix("::lib") for module in sections(other)]
         paths += [path for _, pairs in sections(other).values() for _, path in pairs]
@@ -114,10 +115,9 @@ def markdown(crate, text):
 
 def section(crate, item, path):
     """The HTML of an item. Its lines link to types on the page and to the definitions of its contract."""
-    source = item.file.read_text()
-    known = set(re.findall(r"\b[A-Z]\w*", " ".join(TYPES.findall(source)))) - {item.name}
+    known = set(re.findall(r"\b[A-Z]\w*", " ".join(TYPES.findall(item.file.read_text())))) - {item.name}
     found = {name: href for name, href in links(crate).items() if name in known}
-    for owner, module, names in SPEC.findall(source):
+    for owner, module, names in SPEC.findall(item.file.read_text()):
         spec = f"../../crates/{owner}/specs/{module.replace('.', '/')}.antt"
         found |= {name: spec for name in names.split(", ") if (PAGE.parent / spec).is_file()}
     lines = WORD.sub(lambda word: anchor(found.get(word[0]), word[0]), escape(dedent(item.lines), quote=False))

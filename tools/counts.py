@@ -13,8 +13,8 @@ such as UTF-8 and i128.
 
 In README.md each paragraph and entry that says "exactly", "every", "no", "never" or "nothing" links to a theorem or to
 a source that has the clause.
-docs/ARCHITECTURE.md names each crate. Each clause, call and definition that docs/THEOREMS.md names stands in a
-contract, in specs/ or in the code.
+Each link has an end. docs/ARCHITECTURE.md names each crate, and has the arrows of crates.txt. Each clause, call and
+definition that docs/THEOREMS.md names stands in a contract, in specs/ or in the code.
 """
 import re
 import sys
@@ -272,6 +272,36 @@ def unknown_names():
             yield f"docs/THEOREMS.md: no crate has {words}"
 
 
+def broken_links(path):
+    """The links of a document of which no file or heading is the end."""
+    for link in LINK.findall(path.read_text(encoding="utf-8")):
+        name, _, heading = link.partition("#")
+        file = path.parent / name if name else path
+        text = file.read_text(encoding="utf-8") if heading and file.is_file() else ""
+        titles = re.findall("^#+ (.*)$", text, re.MULTILINE)
+        known = [re.sub(r"[^\w -]", "", title.lower()).replace(" ", "-") for title in titles]
+        if not link.startswith("http") and (not file.exists() or heading and heading not in known):
+            yield f"{path.relative_to(ROOT)}: the link {link} has no end"
+
+
+def below(graph, name):
+    """What a crate depends on, and what that does."""
+    return {end for other in graph.get(name, []) for end in [other, *below(graph, other)]}
+
+
+def wrong_arrows():
+    """The crates of which docs/ARCHITECTURE.md shows other dependencies than crates.txt has."""
+    crates, shown = read_crates(ROOT), {}
+    for line in re.search(r"graph TD\n(.*?)```", read("docs/ARCHITECTURE.md"), re.DOTALL)[1].splitlines():
+        names = line.strip().split(" --> ")
+        for start, end in zip(names, names[1:]):
+            shown.setdefault(start, []).append(end)
+    for name in crates:
+        different = below(shown, name) ^ (below(crates, name) & set(crates))
+        if different:
+            yield f"docs/ARCHITECTURE.md: {name} and {', '.join(sorted(different))} differ from crates.txt"
+
+
 def main():
     written = THEOREMS.read_text(encoding="utf-8")
     text = CASES.sub(lambda match: match[1] + cases() + match[2], written)
@@ -287,11 +317,11 @@ def main():
     for path in DOCUMENTS:
         found = numbers(path)
         wrong += [f"{path.relative_to(ROOT)}: {number} in `{phrase}`: {why}" for number, phrase, why, _ in found if why]
-        wrong += unknown_code(path)
+        wrong += [*unknown_code(path), *broken_links(path)]
     every = " ".join(map(sentences, DOCUMENTS))
     unused = (phrase for phrase, *_ in RULES if not re.search(beside(phrase), every))
     wrong += [f"no document has the words of `{phrase}`" for phrase in unused]
-    wrong += [*untied_claims(README), *unknown_names()]
+    wrong += [*untied_claims(README), *unknown_names(), *wrong_arrows()]
     architecture = read("docs/ARCHITECTURE.md")
     named = re.findall(r"\w+", " ".join(re.findall(r"^\| ([a-z_, ]+) \|", architecture, re.MULTILINE)))
     wrong += [f"docs/ARCHITECTURE.md: no row for {name}" for name in read_crates(ROOT) if name not in named]

@@ -1,5 +1,5 @@
 #!/usr/bin/env python3
-"""Lists the public items, as tools/api_page.py has them, whose doc comment lacks something.
+"""Lists the public items of the crates that users call, and of those in MORE, whose doc comment lacks something.
 
     python3 tools/doc_comments.py
 
@@ -12,6 +12,9 @@ import re
 import sys
 
 from api_page import CRATES, sections
+
+# The crates of programs and of callers that have an interface for others.
+MORE = ["regroup_shared", "regroup_commands", "regroup_options", "uses_money", "uses_settings"]
 
 UNIT = re.compile("byte|character|digit|decimal|scale|place|unit|offset|how many", re.IGNORECASE)
 NUMBER = re.compile(r"\b(?:usize|u8|ArrayVec<usize)\b")
@@ -35,7 +38,7 @@ def lacks(item, path):
 
 def main():
     found = []
-    for crate in CRATES:
+    for crate in [*CRATES, *MORE]:
         for _, pairs in sections(crate).values():
             for item, path in pairs:
                 lacking = ", ".join(lacks(item, path)) if item.kind != "impl" else ""

@@ -30,8 +30,8 @@ NAME = "doc_examples"
 # The libraries whose doc comments are read. What users call comes first.
 LIBRARIES = [*CRATES, "num_format_text", "num_format_int", "num_format_parsing", "num_format_cldr",
              "num_format_locale", "num_format_writers", "num_format_custom", "num_format_certificates",
-             "num_format_json", "regroup_shared", "regroup_commands", "regroup_lines", "regroup_stream",
-             "uses_money", "uses_settings"]
+             "num_format_json", "regroup_shared", "regroup_commands", "regroup_options", "regroup_lines",
+             "regroup_stream", "uses_money", "uses_settings"]
 
 # What is imported into each example, and by its name where an example has that.
 ALWAYS = ["num_format::ToFormattedStr", "num_format::ToFormattedString", "num_format::WriteFormatted",

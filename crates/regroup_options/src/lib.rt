@@ -32,6 +32,12 @@ that are not UTF-8; 3 if a read or a write failed; and 141 if standard output wa
 
 /// Returns what the arguments say.
 ///
+/// ```rust
+/// let args = [String::from_str(alloc, "en")?, String::from_str(alloc, "de")?, String::from_str(alloc, "--lenient")?];
+/// matches(alloc, &args)?.get_flag("lenient")    // true
+/// matches(alloc, &[]).is_err()                  // true: FROM and TO are missing
+/// ```
+///
 /// # Errors
 ///
 /// Returns an error if they are misused, if they ask for help or for the version, or if there is no memory.

@@ -25,6 +25,12 @@ pub const MAX_SENT_LINE_LEN: usize = MAX_SENT_LEN + 1;
 
 /// Sends the text and a newline together, by one write if that writes all of them.
 ///
+/// ```rust
+/// let mut out = Vec::new(alloc);
+/// send_line("1,000", &mut out)?    // ()
+/// str::from_utf8(&out)             // Ok("1,000\n")
+/// ```
+///
 /// # Errors
 ///
 /// Returns the error of the first write that fails, also of one that was interrupted, or that writes
@@ -42,6 +48,12 @@ pub fn send_line<W: Write>(text: &str, writer: &mut W) -> io::Result<()>
 
 /// Sends the text of the number under the format and a newline together, by one write if that writes
 /// all of them.
+///
+/// ```rust
+/// let mut out = Vec::new(alloc);
+/// send_number(1000, &Locale::en, &mut out)?    // ()
+/// str::from_utf8(&out)                         // Ok("1,000\n")
+/// ```
 ///
 /// # Errors
 ///

@@ -62,14 +62,23 @@ impl Currency {
         }
     }
 
-    /// Returns the code of three letters, as `USD`.
+    /// Returns the code of three letters.
+    ///
+    /// ```rust
+    /// Currency::Usd.code()    // "USD"
+    /// ```
     pub fn code(self) -> &'static str
         ensures { result.now ≡ code_of self }
     {
         self.entry().0
     }
 
-    /// Returns how many decimals an amount has: 2, or 0 where the currency has no minor unit, as the yen.
+    /// Returns how many decimals an amount has: 2, or 0 where the currency has no minor unit.
+    ///
+    /// ```rust
+    /// Currency::Usd.decimals()    // 2
+    /// Currency::Jpy.decimals()    // 0
+    /// ```
     pub fn decimals(self) -> u8
         ensures decimals { result ≡ decimals_of self }
         ensures few { result ≤ 2 }

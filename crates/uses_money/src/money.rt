@@ -31,6 +31,11 @@ pub struct Money {
 impl Money {
     /// Returns that amount of the currency.
     ///
+    /// ```rust
+    /// Money::of(Decimal::new(125, 1)?, Currency::Usd)    // Ok(Money { minor_units: 1250, currency: Usd })
+    /// Money::of(Decimal::new(125, 1)?, Currency::Jpy)    // Err(DigitsLost)
+    /// ```
+    ///
     /// # Errors
     ///
     /// Returns [`DecimalError::DigitsLost`] if the amount has more decimals than the currency, and they are not
@@ -49,6 +54,10 @@ impl Money {
     }
 
     /// Returns the amount, with as many decimals as the currency has.
+    ///
+    /// ```rust
+    /// Money { minor_units: 1250, currency: Currency::Usd }.amount()    // 12.50
+    /// ```
     pub fn amount(&self) -> Decimal
         ensures { result ≡ amount_of self.now }
     {
