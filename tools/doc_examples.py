@@ -40,7 +40,8 @@ ALWAYS = ["num_format::ToFormattedStr", "num_format::ToFormattedString", "num_fo
           "num_format_columns::Validity", "anyhow::Result"]
 OTHERS = {"Value": "serde_json::Value", "str::from_utf8": "std::str", "Cursor": "std::io::Cursor",
           "BufWriter": "std::io::BufWriter", "io::ErrorKind": "std::io",
-          "BoundedString": "num_format_text::bounded_string::BoundedString"}
+          "BoundedString": "num_format_text::bounded_string::BoundedString",
+          "copy_bytes": "num_format_int::buffer::copy_bytes"}
 
 BLOCK = re.compile(r"^( *//[/!]) ?```(\w*)\n(.*?)^\1 ?```$", re.DOTALL | re.MULTILINE)
 SHOWN = re.compile(r"(.*?)\s*// (.*)", re.DOTALL)

@@ -68,7 +68,7 @@ ELSEWHERE = {
     r"make -C packages/postgresql": ("packages/postgresql/test", 'for target, expected in [("install"'),
     r"python3 examples/dask_column\.py": ("packages/python/tests/test_programs.py", '"dask_column.py"'),
     r"packages/bench/run": ("packages/bench/test", 'HERE / "run"'),
-    r"packages/\w+/test$": ("tools/package_checks.py", "test"),
+    r"packages/\w+/test$": ("tools/package_checks.py", 'glob("*/test")'),
 }
 
 # A command in a text, as code.
