@@ -60,6 +60,7 @@ ELSEWHERE = {
     r"cd \.\./shop/crates/example && rt check": ("tools/own_project.py", '["rt", "ci"], cwd=own'),
     r"python3 tools/filter_checks\.py": ("tools/test.py", '"filter_checks.py"'),
     r"(?:\(cd crates/num_format_c && )?rt lib": ("tools/test.py", '["rt", "lib"]'),
+    r"rt run$": ("tools/test.py", '["rt", "run", "--", *words]'),
     r"tools/install PREFIX": ("tools/readme_code.py", 'top / "tools" / "install"'),
     r"packages/c/install ": ("packages/c/test", 'HERE / "install"'),
     r"cc program\.c ": ("packages/c/test", '"--cflags", "--libs", "num_format"'),
