@@ -171,6 +171,12 @@ impl Buffer {
 
 /// Copies the bytes over as many others.
 ///
+/// ```rust
+/// let mut target = [0; 3];
+/// copy_bytes(b"1,2", &mut target);
+/// target    // [49, 44, 50]
+/// ```
+///
 /// A copy whose length is known only at run time is a call. So texts of up to 48 bytes are copied in
 /// a few moves.
 #[inline(always)]

@@ -21,7 +21,7 @@ use std::marker::Model;
 /// public type.
 ///
 /// ```rust
-/// BoundedString::<8>::new(",")?.as_str()    // ","
+/// BoundedString::<8>::new(",")?.as_str()     // ","
 /// BoundedString::<8>::new("123456789")      // Err(Error { kind: Capacity { len: 9, cap: 8 } })
 /// ```
 #[derive(Debug, Drop)]
@@ -39,6 +39,11 @@ impl<const CAP: usize> Model for BoundedString<CAP> {
 
 impl<const CAP: usize> BoundedString<CAP> {
     /// Returns a copy of the text.
+    ///
+    /// ```rust
+    /// BoundedString::<8>::new(",")?.as_str()     // ","
+    /// BoundedString::<2>::new("abc").is_err()    // true
+    /// ```
     ///
     /// # Errors
     ///
@@ -72,6 +77,10 @@ impl<const CAP: usize> BoundedString<CAP> {
     }
 
     /// Returns the text.
+    ///
+    /// ```rust
+    /// BoundedString::<8>::new("’")?.as_str()    // "’"
+    /// ```
     pub fn as_str(&self) -> &str
         ensures same { result.now ≡ self.now }
         ensures fits { length result.now ≤ CAP }
