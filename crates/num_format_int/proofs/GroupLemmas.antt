@@ -1,12 +1,21 @@
 -- Groups of digits and what is prepended to them, wherever separators are due.
 use Rattle.std.proofs.Common.{◌≡◌, ℕ, ◌+◌, ◌*◌, ◌/◌, ◌%◌, ◌^◌, ◌<◌, ◌≤◌, ◌⊎◌, inl, inr, Bool, true, false, List, [], ◌∷◌, ◌++◌, length, refl, ap, ◌∙◌, sym, arith, append-nil, append_assoc, length-append}
 use Rattle.std.proofs.lemmas.Bool.Decides.{nat_tests}
+use Rattle.std.proofs.lemmas.List.{length-map}
 use Rattle.num_format_text.specs.declared.grouping.Grouping.TheVariants.{Standard, Indian, Myriad, Sparse}
 use Rattle.num_format_int.specs.Digits.{digits}
 use Rattle.num_format_int.specs.Grouped.{stands, separated}
 use Rattle.num_format_int.specs.Groups.{last_digits, plain, HasLastGroup, HasGroups, BeginsWithSeparator, PrependsGroups}
 use Rattle.num_format_int.proofs.GroupedLemmas.{separated-plain, stands-Sparse-many}
 use Rattle.num_format_int.proofs.DigitLemmas.{digits-split, digits-leading_one, digits_given, length-digits-le, length-last_digits, last_digits-mod}
+
+-- digits with nothing between them leave room for a minus sign
+pub length-plain-fits : (text ds : List ℕ) → text ≡ plain ds → length ds ≤ 39 → length text + 8 ≤ 191
+length-plain-fits text ds e few = omega (arith, ap length e, length-map ds (λ d. 48 + d))
+
+-- digits before nothing
+pub plain-alone : (text old ds : List ℕ) → text ≡ plain ds ++ old → old ≡ [] → text ≡ plain ds
+plain-alone text old ds e empty = e ∙ ap (λ right. plain ds ++ right) empty ∙ append-nil (plain ds)
 
 -- a group has two digits to four
 pub size_bounds : (size : ℕ) → (size ≡ 2) ⊎ ((size ≡ 3) ⊎ (size ≡ 4)) → (2 ≤ size) × (size ≤ 4)
