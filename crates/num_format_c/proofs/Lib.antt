@@ -2,7 +2,6 @@ pub mod AtScaleLemmas
 pub mod CallLemmas
 pub mod ColumnCallLemmas
 pub mod DecimalLemmas
-pub mod LengthLemmas
 pub mod NameLemmas
 pub mod StrictLemmas
 pub mod TextLemmas

@@ -1,14 +1,11 @@
 //! What the calls do, with Rust's types.
-ghost use Rattle.std.specs.Int.{is_negative};
-ghost use Rattle.std.specs.Prelude.{◌≡◌, ◌≢◌, ◌+◌, ◌^◌, ◌<◌, ◌≤◌, length, nat_lt, pos, Err, MatchOption, if◌then◌else◌};
+ghost use Rattle.std.specs.Prelude.{◌≡◌, ◌≢◌, ◌<◌, ◌≤◌, length, pos, Err, MatchOption, if◌then◌else◌};
 ghost use Rattle.num_format.specs.Alike.{Alike};
-ghost use Rattle.num_format.specs.Constants.{MAX_BUF_LEN};
 ghost use Rattle.num_format.specs.Data.{locale_data};
 ghost use Rattle.num_format.specs.Names.{name_of};
 ghost use Rattle.num_format.specs.RoundTrips.{RoundTrips};
 ghost use Rattle.num_format.specs.Text.{text_of};
 ghost use Rattle.num_format_decimal.specs.FixedPoint.{fixed_point};
-ghost use Rattle.num_format_decimal.specs.Text.{decimal_text};
 ghost use Rattle.num_format_decimal.specs.declared.buffer.TheConstants.{MAX_DECIMAL_LEN};
 ghost use Rattle.num_format_decimal.specs.declared.decimal.TheConstants.{MAX_SCALE};
 ghost use Rattle.num_format_c.specs.Calls.{ByTag, Fills, FillsCustom, FillsLocale, FindsLocale, ReturnsLength, ReturnsDecimalLength, Parses, ParsesAtScaleUnder, ParsesDecimalUnder, ParsesExactly, Prints, PrintsDecimal, Tells, Writes, WritesName, at_scale_status_of, decimal_place_of, decimal_status_of, place_of, returned, signed_kind, status_of, unsigned_kind};
@@ -99,18 +96,7 @@ pub fn text_len<N: ToFormattedStr>(format: &NumFormat, number: &N) -> Result<i32
     let Some(format) = Held::new(format) else {
         return Err(Status::BadFormat);
     };
-    text_fits(number, &format);
     Ok(num_format::text_len(number, &format) as i32)
-}
-
-/// The text of a number fits a buffer. The body is for what its calls promise.
-#[inline(always)]
-fn text_fits<N: ToFormattedStr, F: Format>(number: &N, format: &F)
-    ensures { length (text_of (F.answers format.now) (N.value number.now)) ≤ MAX_BUF_LEN }
-{
-    number.magnitude();
-    format.minus_sign().into_str();
-    format.separator().into_str();
 }
 
 /// Prints the decimal at the start of the array, and returns the length of the text.
@@ -141,57 +127,7 @@ pub fn decimal_len(format: &NumFormat, units: i128, scale: u32) -> Result<i32, S
     let Some(format) = Held::new(format) else {
         return Err(Status::BadFormat);
     };
-    let scale = number.scale();
-    let len = decimal_text_len(units, scale, power_of_ten(scale), &format);
-    Ok(len as i32)
-}
-
-/// Returns 10 to the power of a scale.
-#[tactic(auto, using(crate::proofs::LengthLemmas::power_small))]
-pub fn power_of_ten(scale: u8) -> u128
-    requires { scale ≤ MAX_SCALE }
-    ensures { result ≡ 10 ^ scale }
-{
-    10u128.pow(scale as u32)
-}
-
-/// Returns the length of the text of the decimal with these units and this scale, which is not printed. It is
-/// given 10 to the power of the scale.
-#[tactic(auto, using(crate::proofs::LengthLemmas::power_positive, crate::proofs::LengthLemmas::decimal_length))]
-pub fn decimal_text_len<F: Format>(units: i128, scale: u8, power: u128, format: &F) -> usize
-    requires scale { scale ≤ MAX_SCALE }
-    requires power { power ≡ 10 ^ scale }
-    ensures value { result ≡ length (decimal_text (F.answers format.now) (fixed_point units scale)) }
-    ensures bound { result ≤ 245 }
-{
-    let whole = units.unsigned_abs() / power;
-    text_fits(&whole, format);
-    sign_len(units, format) + num_format::text_len(&whole, format) + decimals_len(scale, format)
-}
-
-/// Returns the length of the minus sign of a number, if it is negative.
-fn sign_len<F: Format>(number: i128, format: &F) -> usize
-    ensures value { result ≡ (if is_negative number then length (F.answers format.now).minus_sign else 0) }
-    ensures bound { result ≤ 8 }
-{
-    if number.is_negative() {
-        format.minus_sign().into_str().len()
-    } else {
-        0
-    }
-}
-
-/// Returns how many bytes a decimal mark and so many decimals have, if there are any.
-fn decimals_len<F: Format>(scale: u8, format: &F) -> usize
-    requires { scale ≤ MAX_SCALE }
-    ensures value { result ≡ (if nat_lt 0 scale then length (F.answers format.now).decimal + scale else 0) }
-    ensures bound { result ≤ 46 }
-{
-    if 0 < scale {
-        format.decimal().into_str().len() + scale as usize
-    } else {
-        0
-    }
+    Ok(num_format_decimal::text_len(&number, &format) as i32)
 }
 
 /// Returns the decimal with these units and this scale, or `None` if the scale is too large.

@@ -1,9 +1,10 @@
 //! What the calls for columns do, with Rust's types.
-ghost use Rattle.std.specs.Prelude.{◌≡◌, ◌+◌, ◌^◌, ◌<◌, ◌≤◌, min, length, MatchOption};
+ghost use Rattle.std.specs.Prelude.{◌≡◌, ◌+◌, ◌<◌, ◌≤◌, min, length, MatchOption};
 ghost use Rattle.num_format_columns.specs.Columns.{AreOffsets};
+ghost use Rattle.num_format_decimal.specs.FixedPoint.{fixed_point};
 ghost use Rattle.num_format_decimal.specs.declared.decimal.TheConstants.{MAX_SCALE};
 ghost use Rattle.num_format_c.specs.Calls.{ParsesInto, returned};
-ghost use Rattle.num_format_c.specs.Columns.{AreParsed, HasLengths, Measures, MeasuresColumn, MeasuresDecimals, ParsesAtScaleInto, ParsesColumn, ParsesDecimals, ParsesRow, ParsesRowExactly, PrintsColumn, PrintsDecimals, PrintsRows, RowParser, decimal_at, number_row, number_text};
+ghost use Rattle.num_format_c.specs.Columns.{AreParsed, HasLengths, Measures, MeasuresColumn, MeasuresDecimals, ParsesAtScaleInto, ParsesColumn, ParsesDecimals, ParsesRow, ParsesRowExactly, PrintsColumn, PrintsDecimals, PrintsRows, RowParser, decimal_at, number_row, number_text, signed_value};
 
 use crate::calls;
 use crate::format::{Held, NumFormat};
@@ -14,7 +15,7 @@ use num_format::{Format, ToFormattedStr};
 use num_format_columns::{
     NumberPrinter, Offset, Printer, Validity, append, are_offsets, print_texts, texts_len,
 };
-use num_format_decimal::{Decimal, DecimalBuffer, MAX_SCALE};
+use num_format_decimal::{Decimal, DecimalBuffer, MAX_SCALE, text_len};
 
 /// Prints the numbers into a column, and returns 0.
 pub fn print<N: ToFormattedStr, V: Validity, O: Offset>(
@@ -55,11 +56,9 @@ pub fn print_decimals<V: Validity, O: Offset>(
     let Some(format) = Held::new(format) else {
         return Err(Status::BadFormat);
     };
-    let power = calls::power_of_ten(scale);
     let mut printer = DecimalPrinter {
         format: &format,
         scale,
-        power,
     };
     print_rows(units, &mut printer, validity, offsets, bytes)
 }
@@ -80,20 +79,17 @@ fn scale_of(scale: u32) -> Option<u8>
 struct DecimalPrinter<'a, F: Format> {
     format: &'a F,
     scale: u8,
-    /// 10 to the power of the scale, which is the same for all.
-    power: u128,
     ghost bound: { scale ≤ MAX_SCALE },
-    ghost of_ten: { power ≡ 10 ^ scale },
 }
 
 impl<'a, F: Format> DecimalPrinter<'a, F> {
-    /// Returns the text of the decimal with these units.
-    fn text(&self, units: &SignedWide) -> DecimalBuffer
-        ensures { result ≡ decimal_at self.now.scale (F.answers self.now.format.now) units.now }
+    /// Returns the decimal with these units.
+    fn number(&self, units: &SignedWide) -> Decimal
+        ensures { result ≡ fixed_point (signed_value units.now) self.now.scale }
     {
         let units = joined(units.low, units.high).cast_signed();
         match Decimal::new(units, self.scale) {
-            Ok(number) => DecimalBuffer::of(&number, self.format),
+            Ok(number) => number,
             Err(_) => unreachable!(),
         }
     }
@@ -103,12 +99,12 @@ impl<'a, F: Format> Printer<SignedWide> for DecimalPrinter<'a, F> {
     ghost text = { λ p units. decimal_at p.scale (F.answers p.format.now) units };
 
     fn text_len(&self, units: &SignedWide) -> usize {
-        let units = joined(units.low, units.high).cast_signed();
-        calls::decimal_text_len(units, self.scale, self.power, self.format)
+        text_len(&self.number(units), self.format)
     }
 
     fn print(&mut self, units: &SignedWide, start: usize, bytes: &mut [u8]) -> usize {
-        append(self.text(units).as_bytes(), start, bytes)
+        let text = DecimalBuffer::of(&self.number(units), self.format);
+        append(text.as_bytes(), start, bytes)
     }
 }
 
@@ -170,11 +166,9 @@ pub fn measure_decimals<V: Validity>(
     let Some(format) = Held::new(format) else {
         return Err(Status::BadFormat);
     };
-    let power = calls::power_of_ten(scale);
     let printer = DecimalPrinter {
         format: &format,
         scale,
-        power,
     };
     measure_rows(units, &printer, validity, len)
 }

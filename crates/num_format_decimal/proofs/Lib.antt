@@ -1,5 +1,6 @@
 pub mod CauseLemmas
 pub mod LawLemmas
+pub mod LengthLemmas
 pub mod LocaleMarkLemmas
 pub mod MarkLemmas
 pub mod PartLemmas

@@ -437,7 +437,7 @@ impl DecimalBuffer {
 
 /// The separator and the decimal mark of a format are within their capacities. The body is for what its calls promise.
 #[inline]
-fn texts_fit<F: Format>(format: &F)
+pub(crate) fn texts_fit<F: Format>(format: &F)
     ensures separator { length (F.answers format.now).separator ≤ MAX_SEP_LEN }
     ensures mark { length (F.answers format.now).decimal ≤ MAX_DEC_LEN }
 {

@@ -122,7 +122,7 @@ char_count_le_length [] = omega (arith, char_count-nil)
 char_count_le_length (b ∷ text) = omega (arith, char_count-cons b text, one_at_most (is_char_start b), char_count_le_length text)
 
 -- the separators of a text take few bytes
-pub separators_small : (a b : ℕ) → a ≤ 39 → b ≤ 8 → a * b ≤ 312
+pub separators_small : (a b : ℕ) → a ≤ 18 → b ≤ 8 → a * b ≤ 144
 separators_small a b few short = mul-le-mul few short
 
 fill_before-zero : (side : Option Alignment) → fill_before side 0 ≡ 0

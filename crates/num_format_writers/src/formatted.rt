@@ -10,6 +10,7 @@ ghost use Rattle.num_format_int.specs.Grouped.{separators};
 ghost use Rattle.num_format_int.specs.Text.{text_of};
 ghost use Rattle.num_format_writers.specs.Columns.{fill_before, filled, text_size};
 
+use num_format_int::buffer::MAX_BUF_LEN;
 use num_format_int::{Buffer, ToFormattedStr};
 use num_format_text::capacities::{MAX_MIN_LEN, MAX_SEP_LEN};
 use num_format_text::{Format, Grouping};
@@ -150,7 +151,8 @@ fn is_char_start(byte: u8) -> bool
 /// ```
 #[tactic(auto, using(crate::proofs::ColumnLemmas::length_text_of))]
 pub fn text_len<N: ToFormattedStr, F: Format>(n: &N, format: &F) -> usize
-    ensures { result ≡ length (text_of (F.answers format.now) (N.value n.now)) }
+    ensures length { result ≡ length (text_of (F.answers format.now) (N.value n.now)) }
+    ensures fits { result ≤ MAX_BUF_LEN }
 {
     let minus_sign = format.minus_sign().into_str().len();
     let separator = format.separator().into_str().len();
@@ -183,7 +185,8 @@ fn text_size<N: ToFormattedStr>(
 ) -> usize
     requires minus_sign { minus_sign ≤ MAX_MIN_LEN }
     requires separator { separator ≤ MAX_SEP_LEN }
-    ensures { result ≡ text_size grouping (N.value n.now) minus_sign separator }
+    ensures size { result ≡ text_size grouping (N.value n.now) minus_sign separator }
+    ensures bound { result ≤ MAX_BUF_LEN }
 {
     let digits = digit_count(n.magnitude());
     let unsigned = digits + separator_count(grouping, digits) * separator;
@@ -208,8 +211,9 @@ fn digit_count(n: u128) -> usize
 
 /// Returns how many separators stand among so many digits.
 fn separator_count(grouping: Grouping, digits: usize) -> usize
+    requires { digits ≤ 39 }
     ensures value { result ≡ separators grouping digits }
-    ensures bound { result ≤ digits }
+    ensures bound { result ≤ 18 }
 {
     match grouping {
         Grouping::Standard => digits.saturating_sub(1) / 3,

@@ -1,0 +1,52 @@
+//! How long the text of a decimal is.
+ghost use Rattle.std.specs.Int.{is_negative};
+ghost use Rattle.std.specs.Prelude.{◌≡◌, ◌+◌, ◌≤◌, length, nat_lt, if◌then◌else◌};
+ghost use Rattle.num_format_decimal.specs.Text.{decimal_text};
+
+use crate::buffer::{MAX_DECIMAL_LEN, texts_fit};
+use crate::decimal::{Decimal, MAX_SCALE};
+use crate::powers::split;
+use num_format_text::Format;
+use num_format_text::capacities::{MAX_DEC_LEN, MAX_MIN_LEN};
+
+/// Returns the length in bytes of the text of a number, without printing it.
+///
+/// ```rust
+/// text_len(&Decimal::new(-123450, 2)?, &Locale::de)    // 9, of -1.234,50
+/// ```
+#[tactic(auto, using(crate::proofs::LengthLemmas::decimal_length))]
+pub fn text_len<F: Format>(number: &Decimal, format: &F) -> usize
+    ensures length { result ≡ length (decimal_text (F.answers format.now) number.now) }
+    ensures fits { result ≤ MAX_DECIMAL_LEN }
+{
+    texts_fit(format);
+    let (whole, _) = split(number.magnitude(), number.scale());
+    let unsigned = num_format_writers::text_len(&whole, format)
+        + decimals_len(number.scale(), format);
+    sign_len(number, format) + unsigned
+}
+
+/// Returns the length of the minus sign of a number, if it is negative.
+fn sign_len<F: Format>(number: &Decimal, format: &F) -> usize
+    ensures value { result ≡ (if is_negative number.now.units then length (F.answers format.now).minus_sign else 0) }
+    ensures bound { result ≤ MAX_MIN_LEN }
+{
+    if number.is_negative() {
+        format.minus_sign().into_str().len()
+    } else {
+        0
+    }
+}
+
+/// Returns how many bytes a decimal mark and so many decimals have, if there are any.
+fn decimals_len<F: Format>(scale: u8, format: &F) -> usize
+    requires { scale ≤ MAX_SCALE }
+    ensures value { result ≡ (if nat_lt 0 scale then length (F.answers format.now).decimal + scale else 0) }
+    ensures bound { result ≤ MAX_DEC_LEN + MAX_SCALE }
+{
+    if 0 < scale {
+        format.decimal().into_str().len() + scale as usize
+    } else {
+        0
+    }
+}
