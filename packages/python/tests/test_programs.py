@@ -69,8 +69,8 @@ def test_no_header(tmp_path):
     assert status == 1 and "no num_format.h" in errors
 
 
-def make_wheel(name, folder):
-    """Makes the wheel that a registry would have of an installed distribution."""
+def make_wheel(name, needs, folder):
+    """Makes the wheel that a registry would have of an installed distribution, which has these needs."""
     found = importlib.metadata.distribution(name)
     info = f"{name}-{found.version}.dist-info"
     specs = map(importlib.util.find_spec, (found.read_text("top_level.txt") or name).split())
@@ -80,8 +80,8 @@ def make_wheel(name, folder):
             for path in origin.parent.rglob("*.*") if is_package else [origin]:
                 if path.is_file() and path.suffix != ".pyc":
                     wheel.write(path, path.relative_to(origin.parents[is_package]))
-        needs = "".join(f"Requires-Dist: {each}\n" for each in found.requires or [])
-        wheel.writestr(f"{info}/METADATA", f"Metadata-Version: 2.1\nName: {name}\nVersion: {found.version}\n{needs}")
+        lines = ["Metadata-Version: 2.1", f"Name: {name}", f"Version: {found.version}"]
+        wheel.writestr(f"{info}/METADATA", "\n".join([*lines, *(f"Requires-Dist: {need}" for need in needs)]))
         wheel.writestr(f"{info}/WHEEL", "Wheel-Version: 1.0\nRoot-Is-Purelib: true\nTag: py3-none-any\n")
         wheel.writestr(f"{info}/entry_points.txt", found.read_text("entry_points.txt") or "")
         record = f"{info}/RECORD"
@@ -90,8 +90,11 @@ def make_wheel(name, folder):
 
 def test_plain_pip_install(tmp_path):
     """With wheels of a folder in place of a network, pip takes what pyproject.toml names, and nothing that is here."""
-    for name in ["setuptools", "wheel", "cffi", "pycparser"]:
-        make_wheel(name, tmp_path)
+    # Debian's pycparser has ply beside it, and others have it inside.
+    beside = ["ply"] if importlib.util.find_spec("ply") else []
+    needs = {"setuptools": [], "wheel": [], "cffi": ["pycparser"], "pycparser": beside, **dict.fromkeys(beside, [])}
+    for name in needs:
+        make_wheel(name, needs[name], tmp_path)
     environment = tmp_path / "environment"
     status, _, errors = run("-m", "venv", environment)
     assert status == 0, errors
