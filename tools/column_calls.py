@@ -239,16 +239,16 @@ COMMENTS = [
  * Errors: NUM_FORMAT_BAD_FORMAT, else NUM_FORMAT_TOO_MANY_BYTES: more than SIZE_MAX. */
 """,
     """\
-/* Parse n texts of a column as numbers of the type, and return 0. Row k is as by num_format_parse_i64:
- * status k is what that call returns for the text, and number k is written where it is 0, and else as it
- * was. A text that is refused stops nothing. The first offset may be above 0, and the last one below
- * bytes_length.
+/* Parse n texts of a column as numbers of the type, write n statuses, and return 0. Row k is as by
+ * num_format_parse_i64: status k is what that call returns for the text, and number k is written where it is
+ * 0, and else as it was. A text that is refused stops nothing. The first offset may be above 0, and the last
+ * one below bytes_length.
  *
  * Statuses: 0, NUM_FORMAT_NOT_UTF8, NUM_FORMAT_NOT_A_NUMBER.
  *
  * Errors, in this order, after which all is as it was:
  * - NUM_FORMAT_BAD_FORMAT.
- * - NUM_FORMAT_BAD_LENGTH: offsets_length is not n + 1, or statuses_length is not n.
+ * - NUM_FORMAT_BAD_LENGTH: offsets_length is not n + 1.
  * - NUM_FORMAT_BAD_OFFSETS: an offset is below the one before it or below 0, or the last of several is above
  *   bytes_length. */
 """,
@@ -314,9 +314,19 @@ def body(function, arguments):
 def declaration(name, parameters):
     """The declaration of a call, in lines that break between parameters."""
     head = f"int32_t {name}("
+    return head + broken(parameters, len(head)) + "\n"
+
+
+def inline_declaration(name, parameters):
+    """The declaration of an inline call, with the parameters below its name."""
+    return f"static inline int32_t {name}(\n    {broken(parameters, 4)}\n"
+
+
+def broken(parameters, column):
+    """Parameters and what ends a declaration, in lines that begin at that column."""
     words = (", ".join(parameters) + ");").replace(" ", "\0").replace(",\0", ", ")
-    lines = textwrap.fill(words, LINE_LENGTH - len(head), break_long_words=False).replace("\0", " ")
-    return head + lines.replace("\n", "\n" + " " * len(head)) + "\n"
+    lines = textwrap.fill(words, LINE_LENGTH - column, break_long_words=False).replace("\0", " ")
+    return lines.replace("\n", "\n" + " " * column)
 
 
 def export(template, name, first, values, validity, **names):
@@ -350,16 +360,15 @@ def measured(values, validity):
 
 
 def parsed(values, validity, offset, strict):
-    """The call that parses a column, in Rattle and in C."""
+    """The call that parses a column, in Rattle and in C, where it is inline and the lengths of both slices are n."""
     (nullable, _, c_validity, passed, _), (large, rust, c, limit) = validity, offset
     name, first = (f"num_format_parse_{strict}{nullable}{each}_{large}column" for each in (values.name, "i8"))
     parses, function, before, arguments = values.parses(strict)
     line = body(function, [*before, "format", "offsets", "bytes", *arguments, passed, "statuses"])
     text = export(PARSE, name, first.replace("large_", ""), values, validity, offset=rust, limit=limit, parses=parses, body=line)
     c_column = [f"const {c} *offsets", "size_t offsets_length", "const char *bytes", "size_t bytes_length"]
-    c_values = [f"{values.c_value} *{values.values}", "size_t n", *values.c_scale, *c_validity]
-    c_statuses = ["int32_t *statuses", "size_t statuses_length"]
-    return text, declaration(name, ["const num_format *format", *c_column, *c_values, *c_statuses])
+    c_values = [f"{values.c_value} *{values.values}", "int32_t *statuses", "size_t n", *values.c_scale, *c_validity]
+    return text, inline_declaration(name, ["const num_format *format", *c_column, *c_values])
 
 
 def families():

@@ -47,8 +47,8 @@ uint32_t num_format_version(void);
     int32_t num_format_print_##name##_column_len(const num_format *, const type *, size_t __VA_ARGS__, size_t *); \
     PARSE_CALLS(name, type, __VA_ARGS__)
 #define PARSE_CALLS(name, type, ...) \
-    int32_t num_format_parse_##name##_column(const num_format *, const int32_t *, size_t, const char *, size_t, type *, size_t __VA_ARGS__, int32_t *, size_t); \
-    int32_t num_format_parse_##name##_large_column(const num_format *, const int64_t *, size_t, const char *, size_t, type *, size_t __VA_ARGS__, int32_t *, size_t)
+    static inline int32_t num_format_parse_##name##_column(const num_format *, const int32_t *, size_t, const char *, size_t, type *, int32_t *, size_t __VA_ARGS__); \
+    static inline int32_t num_format_parse_##name##_large_column(const num_format *, const int64_t *, size_t, const char *, size_t, type *, int32_t *, size_t __VA_ARGS__)
 #define NULLABLE , const uint8_t *, size_t
 #define NUMBER_CALLS(name, type) \
     COLUMN_CALLS(name, type, ); \
@@ -449,14 +449,14 @@ static void check_longest(void) {
         compare("large offsets with a null for " #name, large_ends[1] == 1 && large_ends[2] == 1 && large_ends[3] == wanted[3], 1); \
         memset(found, 0x55, sizeof found); \
         const type before = found[1]; \
-        CHECK(num_format_parse_nullable_##name##_column(&de, ends, 4, room, needed, found, 3, &first_and_last, 1, row_statuses, 3), 0); \
+        CHECK(num_format_parse_nullable_##name##_column(&de, ends, 4, room, needed, found, row_statuses, 3, &first_and_last, 1), 0); \
         compare("parsed with a null for " #name, memcmp(found, numbers, sizeof *found) == 0 && memcmp(found + 2, numbers + 2, sizeof *found) == 0, 1); \
         compare("a null as it was for " #name, memcmp(found + 1, &before, sizeof before) == 0 && row_statuses[1] == 0, 1); \
-        CHECK(num_format_parse_##parse##_large_column(&de, large_ends, 4, room, needed, found, 3, &first_and_last, 1, row_statuses, 3), 0); \
+        CHECK(num_format_parse_##parse##_large_column(&de, large_ends, 4, room, needed, found, row_statuses, 3, &first_and_last, 1), 0); \
         compare("statuses with a null for " #name, row_statuses[0] == 0 && row_statuses[1] == 0 && row_statuses[2] == 0, 1); \
         CHECK(num_format_print_nullable_##name##_column(&de, numbers, 3, &first_and_last, 0, ends, 4, room, needed), NUM_FORMAT_BAD_LENGTH); \
         CHECK(num_format_print_nullable_##name##_column_len(&de, numbers, 3, &first_and_last, 0, &needed), NUM_FORMAT_BAD_LENGTH); \
-        CHECK(num_format_parse_nullable_##name##_column(&de, ends, 4, room, needed, found, 3, &first_and_last, 0, row_statuses, 3), NUM_FORMAT_BAD_LENGTH); \
+        CHECK(num_format_parse_nullable_##name##_column(&de, ends, 4, room, needed, found, row_statuses, 3, &first_and_last, 0), NUM_FORMAT_BAD_LENGTH); \
     } while (0)
 
 /* Columns of 7, a number at an end of the type and 100, printed and parsed with offsets of either size. */
@@ -476,21 +476,21 @@ static void check_longest(void) {
         compare("offsets for " #name, offsets[0] == 0 && offsets[1] == 1 && offsets[2] == (int32_t)size - 3 && offsets[3] == (int32_t)size, 1); \
         CHECK(num_format_print_##name##_large_column(&de, numbers, 3, large, 4, bytes, size), 0); \
         compare("large offsets for " #name, large[0] == 0 && large[1] == 1 && large[2] == (int64_t)size - 3 && large[3] == (int64_t)size, 1); \
-        CHECK(num_format_parse_##name##_column(&de, offsets, 4, bytes, size, parsed, 3, statuses, 3), 0); \
+        CHECK(num_format_parse_##name##_column(&de, offsets, 4, bytes, size, parsed, statuses, 3), 0); \
         compare("parsed for " #name, memcmp(parsed, numbers, sizeof numbers) == 0 && statuses[0] == 0 && statuses[1] == 0 && statuses[2] == 0, 1); \
         memset(parsed, 0, sizeof parsed); \
-        CHECK(num_format_parse_##name##_large_column(&de, large, 4, bytes, size, parsed, 3, statuses, 3), 0); \
+        CHECK(num_format_parse_##name##_large_column(&de, large, 4, bytes, size, parsed, statuses, 3), 0); \
         compare("parsed, large, for " #name, memcmp(parsed, numbers, sizeof numbers), 0); \
         bytes[0] = 'x'; \
         memset(parsed, 0x55, sizeof parsed); \
         const type kept = parsed[0]; \
-        CHECK(num_format_parse_strict_##name##_column(&de, offsets, 4, bytes, size, parsed, 3, statuses, 3), 0); \
+        CHECK(num_format_parse_strict_##name##_column(&de, offsets, 4, bytes, size, parsed, statuses, 3), 0); \
         compare("refused for " #name, statuses[0] == NUM_FORMAT_UNEXPECTED && memcmp(&kept, parsed, sizeof kept) == 0 && statuses[1] == 0, 1); \
-        CHECK(num_format_parse_strict_##name##_large_column(&de, large, 4, bytes, size, parsed, 3, statuses, 3), 0); \
+        CHECK(num_format_parse_strict_##name##_large_column(&de, large, 4, bytes, size, parsed, statuses, 3), 0); \
         CHECK(num_format_print_##name##_column(&de, numbers, 3, offsets, 3, bytes, size), NUM_FORMAT_BAD_LENGTH); \
         CHECK_NULLABLE(name, strict_nullable_##name, type, numbers, "7100"); \
         CHECK(num_format_print_##name##_column(&de, numbers, 3, offsets, 4, bytes, size - 1), NUM_FORMAT_TOO_SMALL); \
-        CHECK(num_format_parse_##name##_column(&de, offsets, 4, bytes, size - 1, parsed, 3, statuses, 3), NUM_FORMAT_BAD_OFFSETS); \
+        CHECK(num_format_parse_##name##_column(&de, offsets, 4, bytes, size - 1, parsed, statuses, 3), NUM_FORMAT_BAD_OFFSETS); \
     } while (0)
 
 /* A number of 128 bits in a column. */
@@ -534,22 +534,22 @@ static void check_decimal_columns(void) {
     CHECK(num_format_print_decimal_large_column(&de, units, 3, 2, large, 4, bytes, size), 0);
     CHECK(large[0] == 0 && large[1] == 4 && large[2] == 9 && large[3] == 17, 1);
     memset(parsed, 0x55, sizeof parsed);
-    CHECK(num_format_parse_decimal_column(&de, offsets, 4, bytes, size, parsed, 3, 2, statuses, 3), 0);
+    CHECK(num_format_parse_decimal_column(&de, offsets, 4, bytes, size, parsed, statuses, 3, 2), 0);
     CHECK(memcmp(parsed, units, sizeof units) == 0 && statuses[0] == 0 && statuses[1] == 0 && statuses[2] == 0, 1);
-    CHECK(num_format_parse_decimal_large_column(&de, large, 4, bytes, size, parsed, 3, 3, statuses, 3), 0);
+    CHECK(num_format_parse_decimal_large_column(&de, large, 4, bytes, size, parsed, statuses, 3, 3), 0);
     CHECK(parsed[0].low == 7050 && parsed[1].low == (uint64_t)-500 && parsed[2].low == 1234000, 1);
     /* "7", ",0", "51" and ",234,5" at scale 0, and at a scale that the last does not have. */
     memset(parsed, 0x55, sizeof parsed);
-    CHECK(num_format_parse_decimal_column(&de, other_offsets, 5, others, sizeof others - 1, parsed, 4, 0, statuses, 4), 0);
+    CHECK(num_format_parse_decimal_column(&de, other_offsets, 5, others, sizeof others - 1, parsed, statuses, 4, 0), 0);
     CHECK(statuses[0] == 0 && statuses[1] == NUM_FORMAT_MISSPELLED && statuses[2] == 0 && statuses[3] == NUM_FORMAT_UNEXPECTED, 1);
     CHECK(parsed[0].low == 7 && parsed[0].high == 0 && parsed[1].low == 0x5555555555555555 && parsed[2].low == 51, 1);
-    CHECK(num_format_parse_decimal_column(&de, offsets, 4, bytes, size, parsed, 3, 1, statuses, 3), 0);
+    CHECK(num_format_parse_decimal_column(&de, offsets, 4, bytes, size, parsed, statuses, 3, 1), 0);
     CHECK(statuses[0] == NUM_FORMAT_DIGITS_LOST && statuses[1] == 0 && statuses[2] == 0 && parsed[1].low == (uint64_t)-5, 1);
-    CHECK(num_format_parse_decimal_column(&de, offsets, 4, bytes, size, parsed, 3, 38, statuses, 3), 0);
+    CHECK(num_format_parse_decimal_column(&de, offsets, 4, bytes, size, parsed, statuses, 3, 38), 0);
     CHECK(statuses[0] == NUM_FORMAT_OUT_OF_RANGE && statuses[1] == 0 && statuses[2] == NUM_FORMAT_OUT_OF_RANGE, 1);
     CHECK(num_format_print_decimal_column(&de, units, 3, 39, offsets, 4, bytes, size), NUM_FORMAT_BAD_SCALE);
     CHECK(num_format_print_decimal_column_len(&de, units, 3, 39, &length), NUM_FORMAT_BAD_SCALE);
-    CHECK(num_format_parse_decimal_column(&de, offsets, 4, bytes, size, parsed, 3, 39, statuses, 3), NUM_FORMAT_BAD_SCALE);
+    CHECK(num_format_parse_decimal_column(&de, offsets, 4, bytes, size, parsed, statuses, 3, 39), NUM_FORMAT_BAD_SCALE);
     CHECK(num_format_print_decimal_column(&de, units, 3, 2, offsets, 4, bytes, size - 1), NUM_FORMAT_TOO_SMALL);
     memset(bytes, 'x', sizeof bytes);
     memset(parsed, 0x55, sizeof parsed);
@@ -560,9 +560,9 @@ static void check_decimal_columns(void) {
     CHECK(offsets[1] == 4 && offsets[2] == 4 && offsets[3] == 12, 1);
     CHECK(num_format_print_nullable_decimal_large_column(&de, units, 3, 2, &first_and_last, 1, large, 4, bytes, 12), 0);
     CHECK(large[1] == 4 && large[2] == 4 && large[3] == 12, 1);
-    CHECK(num_format_parse_nullable_decimal_column(&de, offsets, 4, bytes, 12, parsed, 3, 2, &first_and_last, 1, statuses, 3), 0);
+    CHECK(num_format_parse_nullable_decimal_column(&de, offsets, 4, bytes, 12, parsed, statuses, 3, 2, &first_and_last, 1), 0);
     CHECK(parsed[0].low == 705 && parsed[1].low == 0x5555555555555555 && parsed[2].low == 123400 && statuses[1] == 0, 1);
-    CHECK(num_format_parse_nullable_decimal_large_column(&de, large, 4, bytes, 12, parsed, 3, 2, &first_and_last, 0, statuses, 3), NUM_FORMAT_BAD_LENGTH);
+    CHECK(num_format_parse_nullable_decimal_large_column(&de, large, 4, bytes, 12, parsed, statuses, 3, 2, &first_and_last, 0), NUM_FORMAT_BAD_LENGTH);
 }
 
 static void check_names(void) {

@@ -66,7 +66,7 @@ enum {
     /* The text is refused as a decimal: see num_format_parse_decimal. */
     NUM_FORMAT_TOO_MANY_DECIMALS = -14, /* more than 38 digits follow the decimal mark */
     /* The arrays of a column are refused: see num_format_print_i64_column and num_format_parse_i64_column. */
-    NUM_FORMAT_BAD_LENGTH = -15,    /* there are not as many offsets or statuses as the numbers need */
+    NUM_FORMAT_BAD_LENGTH = -15,    /* there are not as many offsets, or bits of validity, as the numbers need */
     NUM_FORMAT_BAD_OFFSETS = -16,   /* an offset is below the one before it, or past the bytes */
     NUM_FORMAT_TOO_MANY_BYTES = -17, /* the texts have more bytes than the last offset can say */
     NUM_FORMAT_DIGITS_LOST = -18    /* the text has digits other than 0 that the scale of a column has not */
@@ -295,7 +295,11 @@ uint32_t num_format_version(void);
  * offset k and ends where offset k + 1 says. Offsets are of 32 bits, or in the calls named `large` of 64
  * bits. None is below 0.
  *
- * An array is aligned as C aligns its type. */
+ * An array is aligned as C aligns its type.
+ *
+ * The calls that parse a column are inline, for GCC and Clang, and are called as they are declared. The library's
+ * symbol of the same name, which other languages link to, is passed the length of both arrays, and the statuses
+ * last: (.., values, n, .., statuses, n). In C it is num_format_call_parse_i64_column and its like. */
 
 /* A number of 128 bits in a column, by its low and its high half, as an __int128 lies in memory. */
 typedef struct num_format_wide {
@@ -388,90 +392,78 @@ int32_t num_format_print_u64_column_len(const num_format *format, const uint64_t
 int32_t num_format_print_u128_column_len(const num_format *format, const num_format_wide *numbers, size_t n,
                                          size_t *length);
 
-/* Parse n texts of a column as numbers of the type, and return 0. Row k is as by num_format_parse_i64:
- * status k is what that call returns for the text, and number k is written where it is 0, and else as it
- * was. A text that is refused stops nothing. The first offset may be above 0, and the last one below
- * bytes_length.
+/* Parse n texts of a column as numbers of the type, write n statuses, and return 0. Row k is as by
+ * num_format_parse_i64: status k is what that call returns for the text, and number k is written where it is
+ * 0, and else as it was. A text that is refused stops nothing. The first offset may be above 0, and the last
+ * one below bytes_length.
  *
  * Statuses: 0, NUM_FORMAT_NOT_UTF8, NUM_FORMAT_NOT_A_NUMBER.
  *
  * Errors, in this order, after which all is as it was:
  * - NUM_FORMAT_BAD_FORMAT.
- * - NUM_FORMAT_BAD_LENGTH: offsets_length is not n + 1, or statuses_length is not n.
+ * - NUM_FORMAT_BAD_LENGTH: offsets_length is not n + 1.
  * - NUM_FORMAT_BAD_OFFSETS: an offset is below the one before it or below 0, or the last of several is above
  *   bytes_length. */
-int32_t num_format_parse_i8_column(const num_format *format, const int32_t *offsets, size_t offsets_length,
-                                   const char *bytes, size_t bytes_length, int8_t *numbers, size_t n,
-                                   int32_t *statuses, size_t statuses_length);
-int32_t num_format_parse_i16_column(const num_format *format, const int32_t *offsets, size_t offsets_length,
-                                    const char *bytes, size_t bytes_length, int16_t *numbers, size_t n,
-                                    int32_t *statuses, size_t statuses_length);
-int32_t num_format_parse_i32_column(const num_format *format, const int32_t *offsets, size_t offsets_length,
-                                    const char *bytes, size_t bytes_length, int32_t *numbers, size_t n,
-                                    int32_t *statuses, size_t statuses_length);
-int32_t num_format_parse_i64_column(const num_format *format, const int32_t *offsets, size_t offsets_length,
-                                    const char *bytes, size_t bytes_length, int64_t *numbers, size_t n,
-                                    int32_t *statuses, size_t statuses_length);
-int32_t num_format_parse_i128_column(const num_format *format, const int32_t *offsets,
-                                     size_t offsets_length, const char *bytes, size_t bytes_length,
-                                     num_format_wide *numbers, size_t n, int32_t *statuses,
-                                     size_t statuses_length);
-int32_t num_format_parse_u8_column(const num_format *format, const int32_t *offsets, size_t offsets_length,
-                                   const char *bytes, size_t bytes_length, uint8_t *numbers, size_t n,
-                                   int32_t *statuses, size_t statuses_length);
-int32_t num_format_parse_u16_column(const num_format *format, const int32_t *offsets, size_t offsets_length,
-                                    const char *bytes, size_t bytes_length, uint16_t *numbers, size_t n,
-                                    int32_t *statuses, size_t statuses_length);
-int32_t num_format_parse_u32_column(const num_format *format, const int32_t *offsets, size_t offsets_length,
-                                    const char *bytes, size_t bytes_length, uint32_t *numbers, size_t n,
-                                    int32_t *statuses, size_t statuses_length);
-int32_t num_format_parse_u64_column(const num_format *format, const int32_t *offsets, size_t offsets_length,
-                                    const char *bytes, size_t bytes_length, uint64_t *numbers, size_t n,
-                                    int32_t *statuses, size_t statuses_length);
-int32_t num_format_parse_u128_column(const num_format *format, const int32_t *offsets,
-                                     size_t offsets_length, const char *bytes, size_t bytes_length,
-                                     num_format_wide *numbers, size_t n, int32_t *statuses,
-                                     size_t statuses_length);
-int32_t num_format_parse_i8_large_column(const num_format *format, const int64_t *offsets,
-                                         size_t offsets_length, const char *bytes, size_t bytes_length,
-                                         int8_t *numbers, size_t n, int32_t *statuses,
-                                         size_t statuses_length);
-int32_t num_format_parse_i16_large_column(const num_format *format, const int64_t *offsets,
-                                          size_t offsets_length, const char *bytes, size_t bytes_length,
-                                          int16_t *numbers, size_t n, int32_t *statuses,
-                                          size_t statuses_length);
-int32_t num_format_parse_i32_large_column(const num_format *format, const int64_t *offsets,
-                                          size_t offsets_length, const char *bytes, size_t bytes_length,
-                                          int32_t *numbers, size_t n, int32_t *statuses,
-                                          size_t statuses_length);
-int32_t num_format_parse_i64_large_column(const num_format *format, const int64_t *offsets,
-                                          size_t offsets_length, const char *bytes, size_t bytes_length,
-                                          int64_t *numbers, size_t n, int32_t *statuses,
-                                          size_t statuses_length);
-int32_t num_format_parse_i128_large_column(const num_format *format, const int64_t *offsets,
-                                           size_t offsets_length, const char *bytes, size_t bytes_length,
-                                           num_format_wide *numbers, size_t n, int32_t *statuses,
-                                           size_t statuses_length);
-int32_t num_format_parse_u8_large_column(const num_format *format, const int64_t *offsets,
-                                         size_t offsets_length, const char *bytes, size_t bytes_length,
-                                         uint8_t *numbers, size_t n, int32_t *statuses,
-                                         size_t statuses_length);
-int32_t num_format_parse_u16_large_column(const num_format *format, const int64_t *offsets,
-                                          size_t offsets_length, const char *bytes, size_t bytes_length,
-                                          uint16_t *numbers, size_t n, int32_t *statuses,
-                                          size_t statuses_length);
-int32_t num_format_parse_u32_large_column(const num_format *format, const int64_t *offsets,
-                                          size_t offsets_length, const char *bytes, size_t bytes_length,
-                                          uint32_t *numbers, size_t n, int32_t *statuses,
-                                          size_t statuses_length);
-int32_t num_format_parse_u64_large_column(const num_format *format, const int64_t *offsets,
-                                          size_t offsets_length, const char *bytes, size_t bytes_length,
-                                          uint64_t *numbers, size_t n, int32_t *statuses,
-                                          size_t statuses_length);
-int32_t num_format_parse_u128_large_column(const num_format *format, const int64_t *offsets,
-                                           size_t offsets_length, const char *bytes, size_t bytes_length,
-                                           num_format_wide *numbers, size_t n, int32_t *statuses,
-                                           size_t statuses_length);
+static inline int32_t num_format_parse_i8_column(
+    const num_format *format, const int32_t *offsets, size_t offsets_length, const char *bytes,
+    size_t bytes_length, int8_t *numbers, int32_t *statuses, size_t n);
+static inline int32_t num_format_parse_i16_column(
+    const num_format *format, const int32_t *offsets, size_t offsets_length, const char *bytes,
+    size_t bytes_length, int16_t *numbers, int32_t *statuses, size_t n);
+static inline int32_t num_format_parse_i32_column(
+    const num_format *format, const int32_t *offsets, size_t offsets_length, const char *bytes,
+    size_t bytes_length, int32_t *numbers, int32_t *statuses, size_t n);
+static inline int32_t num_format_parse_i64_column(
+    const num_format *format, const int32_t *offsets, size_t offsets_length, const char *bytes,
+    size_t bytes_length, int64_t *numbers, int32_t *statuses, size_t n);
+static inline int32_t num_format_parse_i128_column(
+    const num_format *format, const int32_t *offsets, size_t offsets_length, const char *bytes,
+    size_t bytes_length, num_format_wide *numbers, int32_t *statuses, size_t n);
+static inline int32_t num_format_parse_u8_column(
+    const num_format *format, const int32_t *offsets, size_t offsets_length, const char *bytes,
+    size_t bytes_length, uint8_t *numbers, int32_t *statuses, size_t n);
+static inline int32_t num_format_parse_u16_column(
+    const num_format *format, const int32_t *offsets, size_t offsets_length, const char *bytes,
+    size_t bytes_length, uint16_t *numbers, int32_t *statuses, size_t n);
+static inline int32_t num_format_parse_u32_column(
+    const num_format *format, const int32_t *offsets, size_t offsets_length, const char *bytes,
+    size_t bytes_length, uint32_t *numbers, int32_t *statuses, size_t n);
+static inline int32_t num_format_parse_u64_column(
+    const num_format *format, const int32_t *offsets, size_t offsets_length, const char *bytes,
+    size_t bytes_length, uint64_t *numbers, int32_t *statuses, size_t n);
+static inline int32_t num_format_parse_u128_column(
+    const num_format *format, const int32_t *offsets, size_t offsets_length, const char *bytes,
+    size_t bytes_length, num_format_wide *numbers, int32_t *statuses, size_t n);
+static inline int32_t num_format_parse_i8_large_column(
+    const num_format *format, const int64_t *offsets, size_t offsets_length, const char *bytes,
+    size_t bytes_length, int8_t *numbers, int32_t *statuses, size_t n);
+static inline int32_t num_format_parse_i16_large_column(
+    const num_format *format, const int64_t *offsets, size_t offsets_length, const char *bytes,
+    size_t bytes_length, int16_t *numbers, int32_t *statuses, size_t n);
+static inline int32_t num_format_parse_i32_large_column(
+    const num_format *format, const int64_t *offsets, size_t offsets_length, const char *bytes,
+    size_t bytes_length, int32_t *numbers, int32_t *statuses, size_t n);
+static inline int32_t num_format_parse_i64_large_column(
+    const num_format *format, const int64_t *offsets, size_t offsets_length, const char *bytes,
+    size_t bytes_length, int64_t *numbers, int32_t *statuses, size_t n);
+static inline int32_t num_format_parse_i128_large_column(
+    const num_format *format, const int64_t *offsets, size_t offsets_length, const char *bytes,
+    size_t bytes_length, num_format_wide *numbers, int32_t *statuses, size_t n);
+static inline int32_t num_format_parse_u8_large_column(
+    const num_format *format, const int64_t *offsets, size_t offsets_length, const char *bytes,
+    size_t bytes_length, uint8_t *numbers, int32_t *statuses, size_t n);
+static inline int32_t num_format_parse_u16_large_column(
+    const num_format *format, const int64_t *offsets, size_t offsets_length, const char *bytes,
+    size_t bytes_length, uint16_t *numbers, int32_t *statuses, size_t n);
+static inline int32_t num_format_parse_u32_large_column(
+    const num_format *format, const int64_t *offsets, size_t offsets_length, const char *bytes,
+    size_t bytes_length, uint32_t *numbers, int32_t *statuses, size_t n);
+static inline int32_t num_format_parse_u64_large_column(
+    const num_format *format, const int64_t *offsets, size_t offsets_length, const char *bytes,
+    size_t bytes_length, uint64_t *numbers, int32_t *statuses, size_t n);
+static inline int32_t num_format_parse_u128_large_column(
+    const num_format *format, const int64_t *offsets, size_t offsets_length, const char *bytes,
+    size_t bytes_length, num_format_wide *numbers, int32_t *statuses, size_t n);
 
 /* The same, with row k as by num_format_parse_strict_i64 but for its `at`.
  *
@@ -479,86 +471,66 @@ int32_t num_format_parse_u128_large_column(const num_format *format, const int64
  * NUM_FORMAT_OUT_OF_RANGE.
  *
  * Errors: NUM_FORMAT_BAD_FORMAT, else NUM_FORMAT_BAD_LENGTH, else NUM_FORMAT_BAD_OFFSETS, as above. */
-int32_t num_format_parse_strict_i8_column(const num_format *format, const int32_t *offsets,
-                                          size_t offsets_length, const char *bytes, size_t bytes_length,
-                                          int8_t *numbers, size_t n, int32_t *statuses,
-                                          size_t statuses_length);
-int32_t num_format_parse_strict_i16_column(const num_format *format, const int32_t *offsets,
-                                           size_t offsets_length, const char *bytes, size_t bytes_length,
-                                           int16_t *numbers, size_t n, int32_t *statuses,
-                                           size_t statuses_length);
-int32_t num_format_parse_strict_i32_column(const num_format *format, const int32_t *offsets,
-                                           size_t offsets_length, const char *bytes, size_t bytes_length,
-                                           int32_t *numbers, size_t n, int32_t *statuses,
-                                           size_t statuses_length);
-int32_t num_format_parse_strict_i64_column(const num_format *format, const int32_t *offsets,
-                                           size_t offsets_length, const char *bytes, size_t bytes_length,
-                                           int64_t *numbers, size_t n, int32_t *statuses,
-                                           size_t statuses_length);
-int32_t num_format_parse_strict_i128_column(const num_format *format, const int32_t *offsets,
-                                            size_t offsets_length, const char *bytes, size_t bytes_length,
-                                            num_format_wide *numbers, size_t n, int32_t *statuses,
-                                            size_t statuses_length);
-int32_t num_format_parse_strict_u8_column(const num_format *format, const int32_t *offsets,
-                                          size_t offsets_length, const char *bytes, size_t bytes_length,
-                                          uint8_t *numbers, size_t n, int32_t *statuses,
-                                          size_t statuses_length);
-int32_t num_format_parse_strict_u16_column(const num_format *format, const int32_t *offsets,
-                                           size_t offsets_length, const char *bytes, size_t bytes_length,
-                                           uint16_t *numbers, size_t n, int32_t *statuses,
-                                           size_t statuses_length);
-int32_t num_format_parse_strict_u32_column(const num_format *format, const int32_t *offsets,
-                                           size_t offsets_length, const char *bytes, size_t bytes_length,
-                                           uint32_t *numbers, size_t n, int32_t *statuses,
-                                           size_t statuses_length);
-int32_t num_format_parse_strict_u64_column(const num_format *format, const int32_t *offsets,
-                                           size_t offsets_length, const char *bytes, size_t bytes_length,
-                                           uint64_t *numbers, size_t n, int32_t *statuses,
-                                           size_t statuses_length);
-int32_t num_format_parse_strict_u128_column(const num_format *format, const int32_t *offsets,
-                                            size_t offsets_length, const char *bytes, size_t bytes_length,
-                                            num_format_wide *numbers, size_t n, int32_t *statuses,
-                                            size_t statuses_length);
-int32_t num_format_parse_strict_i8_large_column(const num_format *format, const int64_t *offsets,
-                                                size_t offsets_length, const char *bytes,
-                                                size_t bytes_length, int8_t *numbers, size_t n,
-                                                int32_t *statuses, size_t statuses_length);
-int32_t num_format_parse_strict_i16_large_column(const num_format *format, const int64_t *offsets,
-                                                 size_t offsets_length, const char *bytes,
-                                                 size_t bytes_length, int16_t *numbers, size_t n,
-                                                 int32_t *statuses, size_t statuses_length);
-int32_t num_format_parse_strict_i32_large_column(const num_format *format, const int64_t *offsets,
-                                                 size_t offsets_length, const char *bytes,
-                                                 size_t bytes_length, int32_t *numbers, size_t n,
-                                                 int32_t *statuses, size_t statuses_length);
-int32_t num_format_parse_strict_i64_large_column(const num_format *format, const int64_t *offsets,
-                                                 size_t offsets_length, const char *bytes,
-                                                 size_t bytes_length, int64_t *numbers, size_t n,
-                                                 int32_t *statuses, size_t statuses_length);
-int32_t num_format_parse_strict_i128_large_column(const num_format *format, const int64_t *offsets,
-                                                  size_t offsets_length, const char *bytes,
-                                                  size_t bytes_length, num_format_wide *numbers, size_t n,
-                                                  int32_t *statuses, size_t statuses_length);
-int32_t num_format_parse_strict_u8_large_column(const num_format *format, const int64_t *offsets,
-                                                size_t offsets_length, const char *bytes,
-                                                size_t bytes_length, uint8_t *numbers, size_t n,
-                                                int32_t *statuses, size_t statuses_length);
-int32_t num_format_parse_strict_u16_large_column(const num_format *format, const int64_t *offsets,
-                                                 size_t offsets_length, const char *bytes,
-                                                 size_t bytes_length, uint16_t *numbers, size_t n,
-                                                 int32_t *statuses, size_t statuses_length);
-int32_t num_format_parse_strict_u32_large_column(const num_format *format, const int64_t *offsets,
-                                                 size_t offsets_length, const char *bytes,
-                                                 size_t bytes_length, uint32_t *numbers, size_t n,
-                                                 int32_t *statuses, size_t statuses_length);
-int32_t num_format_parse_strict_u64_large_column(const num_format *format, const int64_t *offsets,
-                                                 size_t offsets_length, const char *bytes,
-                                                 size_t bytes_length, uint64_t *numbers, size_t n,
-                                                 int32_t *statuses, size_t statuses_length);
-int32_t num_format_parse_strict_u128_large_column(const num_format *format, const int64_t *offsets,
-                                                  size_t offsets_length, const char *bytes,
-                                                  size_t bytes_length, num_format_wide *numbers, size_t n,
-                                                  int32_t *statuses, size_t statuses_length);
+static inline int32_t num_format_parse_strict_i8_column(
+    const num_format *format, const int32_t *offsets, size_t offsets_length, const char *bytes,
+    size_t bytes_length, int8_t *numbers, int32_t *statuses, size_t n);
+static inline int32_t num_format_parse_strict_i16_column(
+    const num_format *format, const int32_t *offsets, size_t offsets_length, const char *bytes,
+    size_t bytes_length, int16_t *numbers, int32_t *statuses, size_t n);
+static inline int32_t num_format_parse_strict_i32_column(
+    const num_format *format, const int32_t *offsets, size_t offsets_length, const char *bytes,
+    size_t bytes_length, int32_t *numbers, int32_t *statuses, size_t n);
+static inline int32_t num_format_parse_strict_i64_column(
+    const num_format *format, const int32_t *offsets, size_t offsets_length, const char *bytes,
+    size_t bytes_length, int64_t *numbers, int32_t *statuses, size_t n);
+static inline int32_t num_format_parse_strict_i128_column(
+    const num_format *format, const int32_t *offsets, size_t offsets_length, const char *bytes,
+    size_t bytes_length, num_format_wide *numbers, int32_t *statuses, size_t n);
+static inline int32_t num_format_parse_strict_u8_column(
+    const num_format *format, const int32_t *offsets, size_t offsets_length, const char *bytes,
+    size_t bytes_length, uint8_t *numbers, int32_t *statuses, size_t n);
+static inline int32_t num_format_parse_strict_u16_column(
+    const num_format *format, const int32_t *offsets, size_t offsets_length, const char *bytes,
+    size_t bytes_length, uint16_t *numbers, int32_t *statuses, size_t n);
+static inline int32_t num_format_parse_strict_u32_column(
+    const num_format *format, const int32_t *offsets, size_t offsets_length, const char *bytes,
+    size_t bytes_length, uint32_t *numbers, int32_t *statuses, size_t n);
+static inline int32_t num_format_parse_strict_u64_column(
+    const num_format *format, const int32_t *offsets, size_t offsets_length, const char *bytes,
+    size_t bytes_length, uint64_t *numbers, int32_t *statuses, size_t n);
+static inline int32_t num_format_parse_strict_u128_column(
+    const num_format *format, const int32_t *offsets, size_t offsets_length, const char *bytes,
+    size_t bytes_length, num_format_wide *numbers, int32_t *statuses, size_t n);
+static inline int32_t num_format_parse_strict_i8_large_column(
+    const num_format *format, const int64_t *offsets, size_t offsets_length, const char *bytes,
+    size_t bytes_length, int8_t *numbers, int32_t *statuses, size_t n);
+static inline int32_t num_format_parse_strict_i16_large_column(
+    const num_format *format, const int64_t *offsets, size_t offsets_length, const char *bytes,
+    size_t bytes_length, int16_t *numbers, int32_t *statuses, size_t n);
+static inline int32_t num_format_parse_strict_i32_large_column(
+    const num_format *format, const int64_t *offsets, size_t offsets_length, const char *bytes,
+    size_t bytes_length, int32_t *numbers, int32_t *statuses, size_t n);
+static inline int32_t num_format_parse_strict_i64_large_column(
+    const num_format *format, const int64_t *offsets, size_t offsets_length, const char *bytes,
+    size_t bytes_length, int64_t *numbers, int32_t *statuses, size_t n);
+static inline int32_t num_format_parse_strict_i128_large_column(
+    const num_format *format, const int64_t *offsets, size_t offsets_length, const char *bytes,
+    size_t bytes_length, num_format_wide *numbers, int32_t *statuses, size_t n);
+static inline int32_t num_format_parse_strict_u8_large_column(
+    const num_format *format, const int64_t *offsets, size_t offsets_length, const char *bytes,
+    size_t bytes_length, uint8_t *numbers, int32_t *statuses, size_t n);
+static inline int32_t num_format_parse_strict_u16_large_column(
+    const num_format *format, const int64_t *offsets, size_t offsets_length, const char *bytes,
+    size_t bytes_length, uint16_t *numbers, int32_t *statuses, size_t n);
+static inline int32_t num_format_parse_strict_u32_large_column(
+    const num_format *format, const int64_t *offsets, size_t offsets_length, const char *bytes,
+    size_t bytes_length, uint32_t *numbers, int32_t *statuses, size_t n);
+static inline int32_t num_format_parse_strict_u64_large_column(
+    const num_format *format, const int64_t *offsets, size_t offsets_length, const char *bytes,
+    size_t bytes_length, uint64_t *numbers, int32_t *statuses, size_t n);
+static inline int32_t num_format_parse_strict_u128_large_column(
+    const num_format *format, const int64_t *offsets, size_t offsets_length, const char *bytes,
+    size_t bytes_length, num_format_wide *numbers, int32_t *statuses, size_t n);
 
 /* Print n decimals of one scale. Text k is as by num_format_print_decimal, and all else as in a column of
  * numbers.
@@ -588,14 +560,12 @@ int32_t num_format_print_decimal_column_len(const num_format *format, const num_
  *
  * Errors: NUM_FORMAT_BAD_SCALE, else NUM_FORMAT_BAD_FORMAT, else NUM_FORMAT_BAD_LENGTH, else
  * NUM_FORMAT_BAD_OFFSETS, as above. */
-int32_t num_format_parse_decimal_column(const num_format *format, const int32_t *offsets,
-                                        size_t offsets_length, const char *bytes, size_t bytes_length,
-                                        num_format_wide *units, size_t n, uint32_t scale, int32_t *statuses,
-                                        size_t statuses_length);
-int32_t num_format_parse_decimal_large_column(const num_format *format, const int64_t *offsets,
-                                              size_t offsets_length, const char *bytes, size_t bytes_length,
-                                              num_format_wide *units, size_t n, uint32_t scale,
-                                              int32_t *statuses, size_t statuses_length);
+static inline int32_t num_format_parse_decimal_column(
+    const num_format *format, const int32_t *offsets, size_t offsets_length, const char *bytes,
+    size_t bytes_length, num_format_wide *units, int32_t *statuses, size_t n, uint32_t scale);
+static inline int32_t num_format_parse_decimal_large_column(
+    const num_format *format, const int64_t *offsets, size_t offsets_length, const char *bytes,
+    size_t bytes_length, num_format_wide *units, int32_t *statuses, size_t n, uint32_t scale);
 
 /* The same with a validity bitmap: row k has a value if the bit of 1 << k % 8 is set in byte k / 8, and else it is
  * null. The bitmap has a bit for each row at least, and what follows them is not read.
@@ -716,210 +686,166 @@ int32_t num_format_print_nullable_u64_column_len(const num_format *format, const
 int32_t num_format_print_nullable_u128_column_len(const num_format *format, const num_format_wide *numbers,
                                                   size_t n, const uint8_t *validity, size_t validity_length,
                                                   size_t *length);
-int32_t num_format_parse_nullable_i8_column(const num_format *format, const int32_t *offsets,
-                                            size_t offsets_length, const char *bytes, size_t bytes_length,
-                                            int8_t *numbers, size_t n, const uint8_t *validity,
-                                            size_t validity_length, int32_t *statuses,
-                                            size_t statuses_length);
-int32_t num_format_parse_nullable_i16_column(const num_format *format, const int32_t *offsets,
-                                             size_t offsets_length, const char *bytes, size_t bytes_length,
-                                             int16_t *numbers, size_t n, const uint8_t *validity,
-                                             size_t validity_length, int32_t *statuses,
-                                             size_t statuses_length);
-int32_t num_format_parse_nullable_i32_column(const num_format *format, const int32_t *offsets,
-                                             size_t offsets_length, const char *bytes, size_t bytes_length,
-                                             int32_t *numbers, size_t n, const uint8_t *validity,
-                                             size_t validity_length, int32_t *statuses,
-                                             size_t statuses_length);
-int32_t num_format_parse_nullable_i64_column(const num_format *format, const int32_t *offsets,
-                                             size_t offsets_length, const char *bytes, size_t bytes_length,
-                                             int64_t *numbers, size_t n, const uint8_t *validity,
-                                             size_t validity_length, int32_t *statuses,
-                                             size_t statuses_length);
-int32_t num_format_parse_nullable_i128_column(const num_format *format, const int32_t *offsets,
-                                              size_t offsets_length, const char *bytes, size_t bytes_length,
-                                              num_format_wide *numbers, size_t n, const uint8_t *validity,
-                                              size_t validity_length, int32_t *statuses,
-                                              size_t statuses_length);
-int32_t num_format_parse_nullable_u8_column(const num_format *format, const int32_t *offsets,
-                                            size_t offsets_length, const char *bytes, size_t bytes_length,
-                                            uint8_t *numbers, size_t n, const uint8_t *validity,
-                                            size_t validity_length, int32_t *statuses,
-                                            size_t statuses_length);
-int32_t num_format_parse_nullable_u16_column(const num_format *format, const int32_t *offsets,
-                                             size_t offsets_length, const char *bytes, size_t bytes_length,
-                                             uint16_t *numbers, size_t n, const uint8_t *validity,
-                                             size_t validity_length, int32_t *statuses,
-                                             size_t statuses_length);
-int32_t num_format_parse_nullable_u32_column(const num_format *format, const int32_t *offsets,
-                                             size_t offsets_length, const char *bytes, size_t bytes_length,
-                                             uint32_t *numbers, size_t n, const uint8_t *validity,
-                                             size_t validity_length, int32_t *statuses,
-                                             size_t statuses_length);
-int32_t num_format_parse_nullable_u64_column(const num_format *format, const int32_t *offsets,
-                                             size_t offsets_length, const char *bytes, size_t bytes_length,
-                                             uint64_t *numbers, size_t n, const uint8_t *validity,
-                                             size_t validity_length, int32_t *statuses,
-                                             size_t statuses_length);
-int32_t num_format_parse_nullable_u128_column(const num_format *format, const int32_t *offsets,
-                                              size_t offsets_length, const char *bytes, size_t bytes_length,
-                                              num_format_wide *numbers, size_t n, const uint8_t *validity,
-                                              size_t validity_length, int32_t *statuses,
-                                              size_t statuses_length);
-int32_t num_format_parse_nullable_i8_large_column(const num_format *format, const int64_t *offsets,
-                                                  size_t offsets_length, const char *bytes,
-                                                  size_t bytes_length, int8_t *numbers, size_t n,
-                                                  const uint8_t *validity, size_t validity_length,
-                                                  int32_t *statuses, size_t statuses_length);
-int32_t num_format_parse_nullable_i16_large_column(const num_format *format, const int64_t *offsets,
-                                                   size_t offsets_length, const char *bytes,
-                                                   size_t bytes_length, int16_t *numbers, size_t n,
-                                                   const uint8_t *validity, size_t validity_length,
-                                                   int32_t *statuses, size_t statuses_length);
-int32_t num_format_parse_nullable_i32_large_column(const num_format *format, const int64_t *offsets,
-                                                   size_t offsets_length, const char *bytes,
-                                                   size_t bytes_length, int32_t *numbers, size_t n,
-                                                   const uint8_t *validity, size_t validity_length,
-                                                   int32_t *statuses, size_t statuses_length);
-int32_t num_format_parse_nullable_i64_large_column(const num_format *format, const int64_t *offsets,
-                                                   size_t offsets_length, const char *bytes,
-                                                   size_t bytes_length, int64_t *numbers, size_t n,
-                                                   const uint8_t *validity, size_t validity_length,
-                                                   int32_t *statuses, size_t statuses_length);
-int32_t num_format_parse_nullable_i128_large_column(const num_format *format, const int64_t *offsets,
-                                                    size_t offsets_length, const char *bytes,
-                                                    size_t bytes_length, num_format_wide *numbers, size_t n,
-                                                    const uint8_t *validity, size_t validity_length,
-                                                    int32_t *statuses, size_t statuses_length);
-int32_t num_format_parse_nullable_u8_large_column(const num_format *format, const int64_t *offsets,
-                                                  size_t offsets_length, const char *bytes,
-                                                  size_t bytes_length, uint8_t *numbers, size_t n,
-                                                  const uint8_t *validity, size_t validity_length,
-                                                  int32_t *statuses, size_t statuses_length);
-int32_t num_format_parse_nullable_u16_large_column(const num_format *format, const int64_t *offsets,
-                                                   size_t offsets_length, const char *bytes,
-                                                   size_t bytes_length, uint16_t *numbers, size_t n,
-                                                   const uint8_t *validity, size_t validity_length,
-                                                   int32_t *statuses, size_t statuses_length);
-int32_t num_format_parse_nullable_u32_large_column(const num_format *format, const int64_t *offsets,
-                                                   size_t offsets_length, const char *bytes,
-                                                   size_t bytes_length, uint32_t *numbers, size_t n,
-                                                   const uint8_t *validity, size_t validity_length,
-                                                   int32_t *statuses, size_t statuses_length);
-int32_t num_format_parse_nullable_u64_large_column(const num_format *format, const int64_t *offsets,
-                                                   size_t offsets_length, const char *bytes,
-                                                   size_t bytes_length, uint64_t *numbers, size_t n,
-                                                   const uint8_t *validity, size_t validity_length,
-                                                   int32_t *statuses, size_t statuses_length);
-int32_t num_format_parse_nullable_u128_large_column(const num_format *format, const int64_t *offsets,
-                                                    size_t offsets_length, const char *bytes,
-                                                    size_t bytes_length, num_format_wide *numbers, size_t n,
-                                                    const uint8_t *validity, size_t validity_length,
-                                                    int32_t *statuses, size_t statuses_length);
-int32_t num_format_parse_strict_nullable_i8_column(const num_format *format, const int32_t *offsets,
-                                                   size_t offsets_length, const char *bytes,
-                                                   size_t bytes_length, int8_t *numbers, size_t n,
-                                                   const uint8_t *validity, size_t validity_length,
-                                                   int32_t *statuses, size_t statuses_length);
-int32_t num_format_parse_strict_nullable_i16_column(const num_format *format, const int32_t *offsets,
-                                                    size_t offsets_length, const char *bytes,
-                                                    size_t bytes_length, int16_t *numbers, size_t n,
-                                                    const uint8_t *validity, size_t validity_length,
-                                                    int32_t *statuses, size_t statuses_length);
-int32_t num_format_parse_strict_nullable_i32_column(const num_format *format, const int32_t *offsets,
-                                                    size_t offsets_length, const char *bytes,
-                                                    size_t bytes_length, int32_t *numbers, size_t n,
-                                                    const uint8_t *validity, size_t validity_length,
-                                                    int32_t *statuses, size_t statuses_length);
-int32_t num_format_parse_strict_nullable_i64_column(const num_format *format, const int32_t *offsets,
-                                                    size_t offsets_length, const char *bytes,
-                                                    size_t bytes_length, int64_t *numbers, size_t n,
-                                                    const uint8_t *validity, size_t validity_length,
-                                                    int32_t *statuses, size_t statuses_length);
-int32_t num_format_parse_strict_nullable_i128_column(const num_format *format, const int32_t *offsets,
-                                                     size_t offsets_length, const char *bytes,
-                                                     size_t bytes_length, num_format_wide *numbers,
-                                                     size_t n, const uint8_t *validity,
-                                                     size_t validity_length, int32_t *statuses,
-                                                     size_t statuses_length);
-int32_t num_format_parse_strict_nullable_u8_column(const num_format *format, const int32_t *offsets,
-                                                   size_t offsets_length, const char *bytes,
-                                                   size_t bytes_length, uint8_t *numbers, size_t n,
-                                                   const uint8_t *validity, size_t validity_length,
-                                                   int32_t *statuses, size_t statuses_length);
-int32_t num_format_parse_strict_nullable_u16_column(const num_format *format, const int32_t *offsets,
-                                                    size_t offsets_length, const char *bytes,
-                                                    size_t bytes_length, uint16_t *numbers, size_t n,
-                                                    const uint8_t *validity, size_t validity_length,
-                                                    int32_t *statuses, size_t statuses_length);
-int32_t num_format_parse_strict_nullable_u32_column(const num_format *format, const int32_t *offsets,
-                                                    size_t offsets_length, const char *bytes,
-                                                    size_t bytes_length, uint32_t *numbers, size_t n,
-                                                    const uint8_t *validity, size_t validity_length,
-                                                    int32_t *statuses, size_t statuses_length);
-int32_t num_format_parse_strict_nullable_u64_column(const num_format *format, const int32_t *offsets,
-                                                    size_t offsets_length, const char *bytes,
-                                                    size_t bytes_length, uint64_t *numbers, size_t n,
-                                                    const uint8_t *validity, size_t validity_length,
-                                                    int32_t *statuses, size_t statuses_length);
-int32_t num_format_parse_strict_nullable_u128_column(const num_format *format, const int32_t *offsets,
-                                                     size_t offsets_length, const char *bytes,
-                                                     size_t bytes_length, num_format_wide *numbers,
-                                                     size_t n, const uint8_t *validity,
-                                                     size_t validity_length, int32_t *statuses,
-                                                     size_t statuses_length);
-int32_t num_format_parse_strict_nullable_i8_large_column(const num_format *format, const int64_t *offsets,
-                                                         size_t offsets_length, const char *bytes,
-                                                         size_t bytes_length, int8_t *numbers, size_t n,
-                                                         const uint8_t *validity, size_t validity_length,
-                                                         int32_t *statuses, size_t statuses_length);
-int32_t num_format_parse_strict_nullable_i16_large_column(const num_format *format, const int64_t *offsets,
-                                                          size_t offsets_length, const char *bytes,
-                                                          size_t bytes_length, int16_t *numbers, size_t n,
-                                                          const uint8_t *validity, size_t validity_length,
-                                                          int32_t *statuses, size_t statuses_length);
-int32_t num_format_parse_strict_nullable_i32_large_column(const num_format *format, const int64_t *offsets,
-                                                          size_t offsets_length, const char *bytes,
-                                                          size_t bytes_length, int32_t *numbers, size_t n,
-                                                          const uint8_t *validity, size_t validity_length,
-                                                          int32_t *statuses, size_t statuses_length);
-int32_t num_format_parse_strict_nullable_i64_large_column(const num_format *format, const int64_t *offsets,
-                                                          size_t offsets_length, const char *bytes,
-                                                          size_t bytes_length, int64_t *numbers, size_t n,
-                                                          const uint8_t *validity, size_t validity_length,
-                                                          int32_t *statuses, size_t statuses_length);
-int32_t num_format_parse_strict_nullable_i128_large_column(const num_format *format, const int64_t *offsets,
-                                                           size_t offsets_length, const char *bytes,
-                                                           size_t bytes_length, num_format_wide *numbers,
-                                                           size_t n, const uint8_t *validity,
-                                                           size_t validity_length, int32_t *statuses,
-                                                           size_t statuses_length);
-int32_t num_format_parse_strict_nullable_u8_large_column(const num_format *format, const int64_t *offsets,
-                                                         size_t offsets_length, const char *bytes,
-                                                         size_t bytes_length, uint8_t *numbers, size_t n,
-                                                         const uint8_t *validity, size_t validity_length,
-                                                         int32_t *statuses, size_t statuses_length);
-int32_t num_format_parse_strict_nullable_u16_large_column(const num_format *format, const int64_t *offsets,
-                                                          size_t offsets_length, const char *bytes,
-                                                          size_t bytes_length, uint16_t *numbers, size_t n,
-                                                          const uint8_t *validity, size_t validity_length,
-                                                          int32_t *statuses, size_t statuses_length);
-int32_t num_format_parse_strict_nullable_u32_large_column(const num_format *format, const int64_t *offsets,
-                                                          size_t offsets_length, const char *bytes,
-                                                          size_t bytes_length, uint32_t *numbers, size_t n,
-                                                          const uint8_t *validity, size_t validity_length,
-                                                          int32_t *statuses, size_t statuses_length);
-int32_t num_format_parse_strict_nullable_u64_large_column(const num_format *format, const int64_t *offsets,
-                                                          size_t offsets_length, const char *bytes,
-                                                          size_t bytes_length, uint64_t *numbers, size_t n,
-                                                          const uint8_t *validity, size_t validity_length,
-                                                          int32_t *statuses, size_t statuses_length);
-int32_t num_format_parse_strict_nullable_u128_large_column(const num_format *format, const int64_t *offsets,
-                                                           size_t offsets_length, const char *bytes,
-                                                           size_t bytes_length, num_format_wide *numbers,
-                                                           size_t n, const uint8_t *validity,
-                                                           size_t validity_length, int32_t *statuses,
-                                                           size_t statuses_length);
+static inline int32_t num_format_parse_nullable_i8_column(
+    const num_format *format, const int32_t *offsets, size_t offsets_length, const char *bytes,
+    size_t bytes_length, int8_t *numbers, int32_t *statuses, size_t n, const uint8_t *validity,
+    size_t validity_length);
+static inline int32_t num_format_parse_nullable_i16_column(
+    const num_format *format, const int32_t *offsets, size_t offsets_length, const char *bytes,
+    size_t bytes_length, int16_t *numbers, int32_t *statuses, size_t n, const uint8_t *validity,
+    size_t validity_length);
+static inline int32_t num_format_parse_nullable_i32_column(
+    const num_format *format, const int32_t *offsets, size_t offsets_length, const char *bytes,
+    size_t bytes_length, int32_t *numbers, int32_t *statuses, size_t n, const uint8_t *validity,
+    size_t validity_length);
+static inline int32_t num_format_parse_nullable_i64_column(
+    const num_format *format, const int32_t *offsets, size_t offsets_length, const char *bytes,
+    size_t bytes_length, int64_t *numbers, int32_t *statuses, size_t n, const uint8_t *validity,
+    size_t validity_length);
+static inline int32_t num_format_parse_nullable_i128_column(
+    const num_format *format, const int32_t *offsets, size_t offsets_length, const char *bytes,
+    size_t bytes_length, num_format_wide *numbers, int32_t *statuses, size_t n, const uint8_t *validity,
+    size_t validity_length);
+static inline int32_t num_format_parse_nullable_u8_column(
+    const num_format *format, const int32_t *offsets, size_t offsets_length, const char *bytes,
+    size_t bytes_length, uint8_t *numbers, int32_t *statuses, size_t n, const uint8_t *validity,
+    size_t validity_length);
+static inline int32_t num_format_parse_nullable_u16_column(
+    const num_format *format, const int32_t *offsets, size_t offsets_length, const char *bytes,
+    size_t bytes_length, uint16_t *numbers, int32_t *statuses, size_t n, const uint8_t *validity,
+    size_t validity_length);
+static inline int32_t num_format_parse_nullable_u32_column(
+    const num_format *format, const int32_t *offsets, size_t offsets_length, const char *bytes,
+    size_t bytes_length, uint32_t *numbers, int32_t *statuses, size_t n, const uint8_t *validity,
+    size_t validity_length);
+static inline int32_t num_format_parse_nullable_u64_column(
+    const num_format *format, const int32_t *offsets, size_t offsets_length, const char *bytes,
+    size_t bytes_length, uint64_t *numbers, int32_t *statuses, size_t n, const uint8_t *validity,
+    size_t validity_length);
+static inline int32_t num_format_parse_nullable_u128_column(
+    const num_format *format, const int32_t *offsets, size_t offsets_length, const char *bytes,
+    size_t bytes_length, num_format_wide *numbers, int32_t *statuses, size_t n, const uint8_t *validity,
+    size_t validity_length);
+static inline int32_t num_format_parse_nullable_i8_large_column(
+    const num_format *format, const int64_t *offsets, size_t offsets_length, const char *bytes,
+    size_t bytes_length, int8_t *numbers, int32_t *statuses, size_t n, const uint8_t *validity,
+    size_t validity_length);
+static inline int32_t num_format_parse_nullable_i16_large_column(
+    const num_format *format, const int64_t *offsets, size_t offsets_length, const char *bytes,
+    size_t bytes_length, int16_t *numbers, int32_t *statuses, size_t n, const uint8_t *validity,
+    size_t validity_length);
+static inline int32_t num_format_parse_nullable_i32_large_column(
+    const num_format *format, const int64_t *offsets, size_t offsets_length, const char *bytes,
+    size_t bytes_length, int32_t *numbers, int32_t *statuses, size_t n, const uint8_t *validity,
+    size_t validity_length);
+static inline int32_t num_format_parse_nullable_i64_large_column(
+    const num_format *format, const int64_t *offsets, size_t offsets_length, const char *bytes,
+    size_t bytes_length, int64_t *numbers, int32_t *statuses, size_t n, const uint8_t *validity,
+    size_t validity_length);
+static inline int32_t num_format_parse_nullable_i128_large_column(
+    const num_format *format, const int64_t *offsets, size_t offsets_length, const char *bytes,
+    size_t bytes_length, num_format_wide *numbers, int32_t *statuses, size_t n, const uint8_t *validity,
+    size_t validity_length);
+static inline int32_t num_format_parse_nullable_u8_large_column(
+    const num_format *format, const int64_t *offsets, size_t offsets_length, const char *bytes,
+    size_t bytes_length, uint8_t *numbers, int32_t *statuses, size_t n, const uint8_t *validity,
+    size_t validity_length);
+static inline int32_t num_format_parse_nullable_u16_large_column(
+    const num_format *format, const int64_t *offsets, size_t offsets_length, const char *bytes,
+    size_t bytes_length, uint16_t *numbers, int32_t *statuses, size_t n, const uint8_t *validity,
+    size_t validity_length);
+static inline int32_t num_format_parse_nullable_u32_large_column(
+    const num_format *format, const int64_t *offsets, size_t offsets_length, const char *bytes,
+    size_t bytes_length, uint32_t *numbers, int32_t *statuses, size_t n, const uint8_t *validity,
+    size_t validity_length);
+static inline int32_t num_format_parse_nullable_u64_large_column(
+    const num_format *format, const int64_t *offsets, size_t offsets_length, const char *bytes,
+    size_t bytes_length, uint64_t *numbers, int32_t *statuses, size_t n, const uint8_t *validity,
+    size_t validity_length);
+static inline int32_t num_format_parse_nullable_u128_large_column(
+    const num_format *format, const int64_t *offsets, size_t offsets_length, const char *bytes,
+    size_t bytes_length, num_format_wide *numbers, int32_t *statuses, size_t n, const uint8_t *validity,
+    size_t validity_length);
+static inline int32_t num_format_parse_strict_nullable_i8_column(
+    const num_format *format, const int32_t *offsets, size_t offsets_length, const char *bytes,
+    size_t bytes_length, int8_t *numbers, int32_t *statuses, size_t n, const uint8_t *validity,
+    size_t validity_length);
+static inline int32_t num_format_parse_strict_nullable_i16_column(
+    const num_format *format, const int32_t *offsets, size_t offsets_length, const char *bytes,
+    size_t bytes_length, int16_t *numbers, int32_t *statuses, size_t n, const uint8_t *validity,
+    size_t validity_length);
+static inline int32_t num_format_parse_strict_nullable_i32_column(
+    const num_format *format, const int32_t *offsets, size_t offsets_length, const char *bytes,
+    size_t bytes_length, int32_t *numbers, int32_t *statuses, size_t n, const uint8_t *validity,
+    size_t validity_length);
+static inline int32_t num_format_parse_strict_nullable_i64_column(
+    const num_format *format, const int32_t *offsets, size_t offsets_length, const char *bytes,
+    size_t bytes_length, int64_t *numbers, int32_t *statuses, size_t n, const uint8_t *validity,
+    size_t validity_length);
+static inline int32_t num_format_parse_strict_nullable_i128_column(
+    const num_format *format, const int32_t *offsets, size_t offsets_length, const char *bytes,
+    size_t bytes_length, num_format_wide *numbers, int32_t *statuses, size_t n, const uint8_t *validity,
+    size_t validity_length);
+static inline int32_t num_format_parse_strict_nullable_u8_column(
+    const num_format *format, const int32_t *offsets, size_t offsets_length, const char *bytes,
+    size_t bytes_length, uint8_t *numbers, int32_t *statuses, size_t n, const uint8_t *validity,
+    size_t validity_length);
+static inline int32_t num_format_parse_strict_nullable_u16_column(
+    const num_format *format, const int32_t *offsets, size_t offsets_length, const char *bytes,
+    size_t bytes_length, uint16_t *numbers, int32_t *statuses, size_t n, const uint8_t *validity,
+    size_t validity_length);
+static inline int32_t num_format_parse_strict_nullable_u32_column(
+    const num_format *format, const int32_t *offsets, size_t offsets_length, const char *bytes,
+    size_t bytes_length, uint32_t *numbers, int32_t *statuses, size_t n, const uint8_t *validity,
+    size_t validity_length);
+static inline int32_t num_format_parse_strict_nullable_u64_column(
+    const num_format *format, const int32_t *offsets, size_t offsets_length, const char *bytes,
+    size_t bytes_length, uint64_t *numbers, int32_t *statuses, size_t n, const uint8_t *validity,
+    size_t validity_length);
+static inline int32_t num_format_parse_strict_nullable_u128_column(
+    const num_format *format, const int32_t *offsets, size_t offsets_length, const char *bytes,
+    size_t bytes_length, num_format_wide *numbers, int32_t *statuses, size_t n, const uint8_t *validity,
+    size_t validity_length);
+static inline int32_t num_format_parse_strict_nullable_i8_large_column(
+    const num_format *format, const int64_t *offsets, size_t offsets_length, const char *bytes,
+    size_t bytes_length, int8_t *numbers, int32_t *statuses, size_t n, const uint8_t *validity,
+    size_t validity_length);
+static inline int32_t num_format_parse_strict_nullable_i16_large_column(
+    const num_format *format, const int64_t *offsets, size_t offsets_length, const char *bytes,
+    size_t bytes_length, int16_t *numbers, int32_t *statuses, size_t n, const uint8_t *validity,
+    size_t validity_length);
+static inline int32_t num_format_parse_strict_nullable_i32_large_column(
+    const num_format *format, const int64_t *offsets, size_t offsets_length, const char *bytes,
+    size_t bytes_length, int32_t *numbers, int32_t *statuses, size_t n, const uint8_t *validity,
+    size_t validity_length);
+static inline int32_t num_format_parse_strict_nullable_i64_large_column(
+    const num_format *format, const int64_t *offsets, size_t offsets_length, const char *bytes,
+    size_t bytes_length, int64_t *numbers, int32_t *statuses, size_t n, const uint8_t *validity,
+    size_t validity_length);
+static inline int32_t num_format_parse_strict_nullable_i128_large_column(
+    const num_format *format, const int64_t *offsets, size_t offsets_length, const char *bytes,
+    size_t bytes_length, num_format_wide *numbers, int32_t *statuses, size_t n, const uint8_t *validity,
+    size_t validity_length);
+static inline int32_t num_format_parse_strict_nullable_u8_large_column(
+    const num_format *format, const int64_t *offsets, size_t offsets_length, const char *bytes,
+    size_t bytes_length, uint8_t *numbers, int32_t *statuses, size_t n, const uint8_t *validity,
+    size_t validity_length);
+static inline int32_t num_format_parse_strict_nullable_u16_large_column(
+    const num_format *format, const int64_t *offsets, size_t offsets_length, const char *bytes,
+    size_t bytes_length, uint16_t *numbers, int32_t *statuses, size_t n, const uint8_t *validity,
+    size_t validity_length);
+static inline int32_t num_format_parse_strict_nullable_u32_large_column(
+    const num_format *format, const int64_t *offsets, size_t offsets_length, const char *bytes,
+    size_t bytes_length, uint32_t *numbers, int32_t *statuses, size_t n, const uint8_t *validity,
+    size_t validity_length);
+static inline int32_t num_format_parse_strict_nullable_u64_large_column(
+    const num_format *format, const int64_t *offsets, size_t offsets_length, const char *bytes,
+    size_t bytes_length, uint64_t *numbers, int32_t *statuses, size_t n, const uint8_t *validity,
+    size_t validity_length);
+static inline int32_t num_format_parse_strict_nullable_u128_large_column(
+    const num_format *format, const int64_t *offsets, size_t offsets_length, const char *bytes,
+    size_t bytes_length, num_format_wide *numbers, int32_t *statuses, size_t n, const uint8_t *validity,
+    size_t validity_length);
 int32_t num_format_print_nullable_decimal_column(const num_format *format, const num_format_wide *units,
                                                  size_t n, uint32_t scale, const uint8_t *validity,
                                                  size_t validity_length, int32_t *offsets,
@@ -932,18 +858,14 @@ int32_t num_format_print_nullable_decimal_large_column(const num_format *format,
 int32_t num_format_print_nullable_decimal_column_len(const num_format *format, const num_format_wide *units,
                                                      size_t n, uint32_t scale, const uint8_t *validity,
                                                      size_t validity_length, size_t *length);
-int32_t num_format_parse_nullable_decimal_column(const num_format *format, const int32_t *offsets,
-                                                 size_t offsets_length, const char *bytes,
-                                                 size_t bytes_length, num_format_wide *units, size_t n,
-                                                 uint32_t scale, const uint8_t *validity,
-                                                 size_t validity_length, int32_t *statuses,
-                                                 size_t statuses_length);
-int32_t num_format_parse_nullable_decimal_large_column(const num_format *format, const int64_t *offsets,
-                                                       size_t offsets_length, const char *bytes,
-                                                       size_t bytes_length, num_format_wide *units,
-                                                       size_t n, uint32_t scale, const uint8_t *validity,
-                                                       size_t validity_length, int32_t *statuses,
-                                                       size_t statuses_length);
+static inline int32_t num_format_parse_nullable_decimal_column(
+    const num_format *format, const int32_t *offsets, size_t offsets_length, const char *bytes,
+    size_t bytes_length, num_format_wide *units, int32_t *statuses, size_t n, uint32_t scale,
+    const uint8_t *validity, size_t validity_length);
+static inline int32_t num_format_parse_nullable_decimal_large_column(
+    const num_format *format, const int64_t *offsets, size_t offsets_length, const char *bytes,
+    size_t bytes_length, num_format_wide *units, int32_t *statuses, size_t n, uint32_t scale,
+    const uint8_t *validity, size_t validity_length);
 
 /* The end of the calls for columns. */
 
@@ -982,6 +904,14 @@ static inline const char *num_format_strerror(int32_t status) {
 #define NUM_FORMAT_INLINE(name, parameters, arguments) \
     int32_t num_format_call_##name parameters __asm__("num_format_" #name); \
     extern __inline__ __attribute__((__gnu_inline__, __always_inline__)) int32_t num_format_##name parameters { \
+        return num_format_call_##name arguments; \
+    }
+
+/* The function that is called num_format_X in C, with parameters other than those of the library's. It has a
+ * symbol of its own, where it is called by a pointer, say. */
+#define NUM_FORMAT_STATIC(name, parameters, arguments) \
+    static __inline__ int32_t num_format_##name parameters __asm__("num_format_inline_" #name); \
+    static __inline__ int32_t num_format_##name parameters { \
         return num_format_call_##name arguments; \
     }
 
@@ -1072,13 +1002,16 @@ NUM_FORMAT_INLINE(lookup_name, (const char *tag, size_t tag_length, char *name, 
                        size_t *length), \
                       (format, NUM_FORMAT_SOME(values), n NUM_FORMAT_##kind##_ARGUMENTS, length))
 #define NUM_FORMAT_PARSE_INLINE(kind, name, type, offset) \
-    NUM_FORMAT_INLINE(parse_##name, \
+    int32_t num_format_call_parse_##name(const num_format *format, const offset *offsets, size_t offsets_length, \
+                                         const char *bytes, size_t bytes_length, type *values, \
+                                         size_t n NUM_FORMAT_##kind##_PARAMETERS, int32_t *statuses, \
+                                         size_t statuses_length) __asm__("num_format_parse_" #name); \
+    NUM_FORMAT_STATIC(parse_##name, \
                       (const num_format *format, const offset *offsets, size_t offsets_length, \
-                       const char *bytes, size_t bytes_length, type *values, \
-                       size_t n NUM_FORMAT_##kind##_PARAMETERS, int32_t *statuses, size_t statuses_length), \
+                       const char *bytes, size_t bytes_length, type *values, int32_t *statuses, \
+                       size_t n NUM_FORMAT_##kind##_PARAMETERS), \
                       (format, NUM_FORMAT_SOME(offsets), offsets_length, NUM_FORMAT_SOME(bytes), bytes_length, \
-                       NUM_FORMAT_SOME(values), n NUM_FORMAT_##kind##_ARGUMENTS, NUM_FORMAT_SOME(statuses), \
-                       statuses_length))
+                       NUM_FORMAT_SOME(values), n NUM_FORMAT_##kind##_ARGUMENTS, NUM_FORMAT_SOME(statuses), n))
 #define NUM_FORMAT_PARSE_BOTH_INLINE(kind, name, type) \
     NUM_FORMAT_PARSE_INLINE(kind, name##_column, type, int32_t) \
     NUM_FORMAT_PARSE_INLINE(kind, name##_large_column, type, int64_t)
@@ -1093,6 +1026,9 @@ NUM_FORMAT_INLINE(lookup_name, (const char *tag, size_t tag_length, char *name, 
     NUM_FORMAT_COLUMN_INLINE(NULLABLE, nullable_##name, type) \
     NUM_FORMAT_PARSE_BOTH_INLINE(NULLABLE, strict_nullable_##name, type)
 
+/* Each inline call that parses was declared above, without its symbol. */
+#pragma GCC diagnostic push
+#pragma GCC diagnostic ignored "-Wredundant-decls"
 NUM_FORMAT_NUMBERS_INLINE(i8, int8_t)
 NUM_FORMAT_NUMBERS_INLINE(i16, int16_t)
 NUM_FORMAT_NUMBERS_INLINE(i32, int32_t)
@@ -1105,9 +1041,11 @@ NUM_FORMAT_NUMBERS_INLINE(u64, uint64_t)
 NUM_FORMAT_NUMBERS_INLINE(u128, num_format_wide)
 NUM_FORMAT_COLUMN_INLINE(SCALED, decimal, num_format_wide)
 NUM_FORMAT_COLUMN_INLINE(SCALED_NULLABLE, nullable_decimal, num_format_wide)
+#pragma GCC diagnostic pop
 
 #undef NUM_FORMAT_SOME
 #undef NUM_FORMAT_INLINE
+#undef NUM_FORMAT_STATIC
 #undef NUM_FORMAT_PLAIN_PARAMETERS
 #undef NUM_FORMAT_PLAIN_ARGUMENTS
 #undef NUM_FORMAT_NULLABLE_PARAMETERS

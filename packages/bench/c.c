@@ -64,7 +64,7 @@ static void print_column(void) {
 }
 
 static void parse_column(void) {
-    sum += (uint64_t)num_format_parse_strict_i64_large_column(&en, offsets, n + 1, bytes, size, parsed, n, statuses, n);
+    sum += (uint64_t)num_format_parse_strict_i64_large_column(&en, offsets, n + 1, bytes, size, parsed, statuses, n);
 }
 
 static void print_by_printf(void) {

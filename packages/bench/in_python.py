@@ -124,19 +124,22 @@ def place(work):
 
 
 def print_features(has_locale):
-    """Prints a table of what each does."""
-    rows = {"num_format": lambda text: num_format.parse(text, "en"), "int": lambda text: int(text.replace(",", ""))}
-    hindi = {"num_format": lambda: num_format.format(1234567, "hi")}
+    """Prints a table of what each does, by what it prints with and what it parses with."""
+    name, columns = "`num_format`", "`format_column`, without the GIL"
+    rows = [(name, lambda: num_format.format(1234567, "hi"), lambda text: num_format.parse(text, "en"), columns)]
+    rows.append(('`f"{n:,}"`, `int`', None, lambda text: int(text.replace(",", "")), "-"))
     if has_locale:
-        rows["locale"] = locale.atoi
+        rows.append(("`locale.format_string`, `atoi`", None, locale.atoi, "-"))
     if babel:
-        rows["babel.numbers"] = lambda text: babel.parse_number(text, locale="en")
-        hindi["babel.numbers"] = lambda: babel.format_decimal(1234567, locale="hi")
-    print("| | 1234567 under `hi` | `1,23` parsed under `en` | `12x` parsed |")
-    print("|---|---|---|---|")
-    for name, to_number in rows.items():
-        text = result(hindi[name]) if name in hindi else "-"
-        print(f"| `{name}` | {text} | {result(partial(to_number, '1,23'))} | {place(partial(to_number, '12x'))} |")
+        name, columns = "`babel.numbers.format_decimal`, `parse_number`", "-"
+        to_text, to_number = lambda: babel.format_decimal(1234567, locale="hi"), partial(babel.parse_number, locale="en")
+        rows.append((name, to_text, to_number, columns))
+    print("| | 1234567 under `hi` | `1,23` parsed under `en` | `12x` parsed | Many at once |")
+    print("|---|---|---|---|---|")
+    for name, to_text, to_number, columns in rows:
+        text = result(to_text) if to_text else "-"
+        cells = [name, text, result(partial(to_number, "1,23")), place(partial(to_number, "12x")), columns]
+        print(f"| {' | '.join(cells)} |")
 
 
 def main():

@@ -129,7 +129,7 @@ public:
         std::vector<std::int64_t> numbers(n);
         std::vector<std::int32_t> statuses(n);
         check(num_format_parse_strict_i64_large_column(&held, texts.offsets.data(), n + 1, texts.bytes.data(),
-                                                       texts.bytes.size(), numbers.data(), n, statuses.data(), n));
+                                                       texts.bytes.size(), numbers.data(), statuses.data(), n));
         for (std::size_t k = 0; k < n; k++)
             if (statuses[k] < 0) parse<std::int64_t>(texts[k]);
         return numbers;

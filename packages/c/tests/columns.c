@@ -49,17 +49,17 @@ static uint64_t number_at(size_t row) {
         } \
         for (size_t k = 0; k < ROWS; k += REFUSED) bytes[offsets[k]] = 'x'; \
         memset(parsed, 0x55, sizeof parsed); \
-        CHECK(#name ": parsed", 0, num_format_parse_strict_##print_one##large##_column(format, offsets, ROWS + 1, bytes, size, parsed, ROWS, statuses, ROWS), 0); \
+        CHECK(#name ": parsed", 0, num_format_parse_strict_##print_one##large##_column(format, offsets, ROWS + 1, bytes, size, parsed, statuses, ROWS), 0); \
         for (size_t k = 0; k < ROWS; k++) { \
             CHECK(#name ": status", k, statuses[k], k % REFUSED ? 0 : NUM_FORMAT_UNEXPECTED); \
             CHECK(#name ": number", k, parsed[k], k % REFUSED ? numbers[k] : (number_type)0x5555555555555555); \
         } \
-        CHECK(#name ": lenient", 0, num_format_parse_##print_one##large##_column(format, offsets, ROWS + 1, bytes, size, parsed, ROWS, statuses, ROWS), 0); \
+        CHECK(#name ": lenient", 0, num_format_parse_##print_one##large##_column(format, offsets, ROWS + 1, bytes, size, parsed, statuses, ROWS), 0); \
         CHECK(#name ": no digit", 0, statuses[0], NUM_FORMAT_NOT_A_NUMBER); \
-        CHECK(#name ": past the bytes", 0, num_format_parse_##print_one##large##_column(format, offsets, ROWS + 1, bytes, size - 1, parsed, ROWS, statuses, ROWS), NUM_FORMAT_BAD_OFFSETS); \
+        CHECK(#name ": past the bytes", 0, num_format_parse_##print_one##large##_column(format, offsets, ROWS + 1, bytes, size - 1, parsed, statuses, ROWS), NUM_FORMAT_BAD_OFFSETS); \
         offsets[3] = -1; \
-        CHECK(#name ": below 0", 0, num_format_parse_##print_one##large##_column(format, offsets, ROWS + 1, bytes, size, parsed, ROWS, statuses, ROWS), NUM_FORMAT_BAD_OFFSETS); \
-        CHECK(#name ": no statuses", 0, num_format_parse_##print_one##large##_column(format, offsets, ROWS + 1, bytes, size, parsed, ROWS, statuses, ROWS - 1), NUM_FORMAT_BAD_LENGTH); \
+        CHECK(#name ": below 0", 0, num_format_parse_##print_one##large##_column(format, offsets, ROWS + 1, bytes, size, parsed, statuses, ROWS), NUM_FORMAT_BAD_OFFSETS); \
+        CHECK(#name ": no statuses", 0, num_format_call_parse_##print_one##large##_column(format, offsets, ROWS + 1, bytes, size, parsed, ROWS, statuses, ROWS - 1), NUM_FORMAT_BAD_LENGTH); \
         free(bytes); \
     }
 
@@ -76,7 +76,7 @@ static void check_empty(const num_format *format) {
     CHECK("no rows", 0, num_format_print_i64_column(format, &number, 0, &offset, 1, &byte, 0), 0);
     CHECK("no rows: offset", 0, offset, 0);
     CHECK("no rows, no offset", 0, num_format_print_i64_column(format, &number, 0, &offset, 0, &byte, 0), NUM_FORMAT_BAD_LENGTH);
-    CHECK("no rows parsed", 0, num_format_parse_i64_column(format, &offset, 1, &byte, 0, &number, 0, &row_status, 0), 0);
+    CHECK("no rows parsed", 0, num_format_parse_i64_column(format, &offset, 1, &byte, 0, &number, &row_status, 0), 0);
     CHECK("no rows parsed: as they were", 0, number == 7 && row_status == 7, 1);
 }
 
@@ -86,9 +86,20 @@ static void check_part(const num_format *format) {
     static const int32_t offsets[] = {2, 8, 8, 12};
     int64_t numbers[3] = {7, 7, 7};
     int32_t statuses[3];
-    CHECK("part", 0, num_format_parse_strict_i64_column(format, offsets, 4, bytes, sizeof bytes - 1, numbers, 3, statuses, 3), 0);
+    CHECK("part", 0, num_format_parse_strict_i64_column(format, offsets, 4, bytes, sizeof bytes - 1, numbers, statuses, 3), 0);
     CHECK("part: numbers", 0, numbers[0] == -1234 && numbers[1] == 7 && numbers[2] == -567, 1);
     CHECK("part: statuses", 0, statuses[0] == 0 && statuses[1] == NUM_FORMAT_NO_DIGIT && statuses[2] == 0, 1);
+}
+
+/* An inline call by a pointer. */
+static void check_pointer(const num_format *format) {
+    int32_t (*volatile parse)(const num_format *, const int32_t *, size_t, const char *, size_t, int64_t *, int32_t *, size_t) = num_format_parse_i64_column;
+    static const int32_t offsets[] = {0, 2, 3};
+    int64_t numbers[2] = {7, 7};
+    int32_t statuses[2] = {1, 1};
+    CHECK("pointer", 0, parse(format, offsets, 3, "12x", 3, numbers, statuses, 2), 0);
+    CHECK("pointer: written", 0, numbers[0] == 12 && numbers[1] == 7 && statuses[0] == 0 && statuses[1] == NUM_FORMAT_NOT_A_NUMBER, 1);
+    CHECK("pointer: null", 0, parse(format, offsets, 1, NULL, 0, NULL, NULL, 0), 0);
 }
 
 /* Decimals of each scale, of either sign and of up to 128 bits, each as by the calls for one. */
@@ -111,7 +122,7 @@ static void check_decimals(const num_format *format) {
             CHECK("decimals: length of a text", k, offsets[k + 1] - offsets[k], length);
             if (memcmp(bytes + offsets[k], text, (size_t)length) != 0) fail("decimals: text", k);
         }
-        CHECK("decimals parsed", scale, num_format_parse_decimal_column(format, offsets, N + 1, bytes, size, parsed, N, scale, statuses, N), 0);
+        CHECK("decimals parsed", scale, num_format_parse_decimal_column(format, offsets, N + 1, bytes, size, parsed, statuses, N, scale), 0);
         for (size_t k = 0; k < N; k++) CHECK("decimals: status", k, statuses[k], 0);
         if (memcmp(parsed, units, sizeof units) != 0) fail("decimals: units", scale);
     }
@@ -124,7 +135,7 @@ static void check_scale(const num_format *format) {
     static const uint8_t validity[] = {7};
     num_format_wide units[4] = {{7, 0}, {7, 0}, {7, 0}, {7, 0}};
     int32_t statuses[4];
-    CHECK("scale", 0, num_format_parse_nullable_decimal_column(format, offsets, 5, bytes, sizeof bytes - 1, units, 4, 2, validity, 1, statuses, 4), 0);
+    CHECK("scale", 0, num_format_parse_nullable_decimal_column(format, offsets, 5, bytes, sizeof bytes - 1, units, statuses, 4, 2, validity, 1), 0);
     CHECK("scale: units", 0, units[0].low == 150 && units[1].low == 150 && units[2].low == 7 && units[3].low == 7, 1);
     CHECK("scale: statuses", 0, statuses[0] == 0 && statuses[1] == 0 && statuses[2] == NUM_FORMAT_DIGITS_LOST && statuses[3] == 0, 1);
     CHECK("scale above 38", 0, num_format_print_decimal_column_len(format, units, 4, 39, &(size_t){0}), NUM_FORMAT_BAD_SCALE);
@@ -154,13 +165,13 @@ static void check_null(const num_format *format) {
     CHECK("null text of a decimal", 0, num_format_parse_decimal(format, NULL, 0, &low, &high, &scale, &at), NUM_FORMAT_NO_DIGIT);
     CHECK("null column", 0, num_format_print_i64_column(format, NULL, 0, &offset, 1, NULL, 0), 0);
     CHECK("null column's length", 0, num_format_print_i64_column_len(format, NULL, 0, &size), 0);
-    CHECK("null column parsed", 0, num_format_parse_i64_column(format, &offset, 1, NULL, 0, NULL, 0, NULL, 0), 0);
+    CHECK("null column parsed", 0, num_format_parse_i64_column(format, &offset, 1, NULL, 0, NULL, NULL, 0), 0);
     CHECK("null nullable column", 0, num_format_print_nullable_u8_large_column(format, NULL, 0, NULL, 0, &large_offset, 1, NULL, 0), 0);
     CHECK("null nullable column's length", 0, num_format_print_nullable_i128_column_len(format, NULL, 0, NULL, 0, &size), 0);
-    CHECK("null nullable column parsed", 0, num_format_parse_strict_nullable_u128_large_column(format, &large_offset, 1, NULL, 0, NULL, 0, NULL, 0, NULL, 0), 0);
+    CHECK("null nullable column parsed", 0, num_format_parse_strict_nullable_u128_large_column(format, &large_offset, 1, NULL, 0, NULL, NULL, 0, NULL, 0), 0);
     CHECK("null column of decimals", 0, num_format_print_decimal_column(format, NULL, 0, 2, &offset, 1, NULL, 0), 0);
-    CHECK("null column of decimals parsed", 0, num_format_parse_nullable_decimal_column(format, &offset, 1, NULL, 0, NULL, 0, 2, NULL, 0, NULL, 0), 0);
-    CHECK("null offsets", 0, num_format_parse_i64_column(format, NULL, 0, NULL, 0, NULL, 0, NULL, 0), NUM_FORMAT_BAD_LENGTH);
+    CHECK("null column of decimals parsed", 0, num_format_parse_nullable_decimal_column(format, &offset, 1, NULL, 0, NULL, NULL, 0, 2, NULL, 0), 0);
+    CHECK("null offsets", 0, num_format_parse_i64_column(format, NULL, 0, NULL, 0, NULL, NULL, 0), NUM_FORMAT_BAD_LENGTH);
     CHECK("written", 0, number == 7 && low == 7 && high == 7 && scale == 7 && at == 7 && offset == 0 && large_offset == 0 && size == 0, 1);
 }
 
@@ -177,6 +188,7 @@ int main(void) {
     unsigned_large(&format);
     check_empty(&format);
     check_part(&format);
+    check_pointer(&format);
     check_decimals(&format);
     check_scale(&format);
     check_null(&format);

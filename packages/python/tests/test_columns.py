@@ -70,6 +70,18 @@ def test_layout_of_nulls_is_that_of_arrow():
     assert column.buffers() == (column.offsets, column.data, column.validity)
 
 
+def test_the_example_of_arrows_specification():
+    """Its layout of `["joe", null, null, "mark"]`, each buffer padded to 64 bytes, which it recommends."""
+    buffers = [bytes([0b00001001]), np.array([0, 3, 3, 3, 7], dtype="<i4").tobytes(), b"joemark"]
+    validity, offsets, data = (buffer.ljust(64, b"\0") for buffer in buffers)
+    column = columns.StringColumn(np.frombuffer(offsets, dtype=np.int32, count=5), data, validity)
+    assert column.tolist() == ["joe", None, None, "mark"]
+    _, causes = columns.try_parse_column(column, "en")
+    assert causes.tolist() == [Cause.UNEXPECTED, 0, 0, Cause.UNEXPECTED]
+    numbers = columns.StringColumn(column.offsets, b"1,2,345".ljust(64, b"\0"), validity)
+    assert columns.parse_column(numbers, "en", lenient=True).tolist() == [12, None, None, 345]
+
+
 def test_pyarrow():
     pyarrow = pytest.importorskip("pyarrow")
     for numbers in [np.array([1234, -5, 0, 7]), np.ma.array([1234, -5, 0, 7], mask=[0, 0, 1, 0])]:

@@ -1,8 +1,11 @@
 """The programs beside the package, and how it is built."""
+import importlib.metadata
+import importlib.util
 import os
 import shutil
 import subprocess
 import sys
+import zipfile
 from pathlib import Path
 
 import pytest
@@ -13,11 +16,11 @@ PACKAGE = Path(__file__).resolve().parents[1]
 HOW = "import build_native; print(build_native.library, build_native.include)"
 
 
-def run(*words, **env):
+def run(*words, python=sys.executable, **env):
     """A program's status and what it prints, without the library's name in the environment."""
     kept = {name: value for name, value in os.environ.items() if not name.startswith(("NUM_FORMAT", "PKG_CONFIG"))}
     how = {"env": kept | env, "cwd": PACKAGE, "capture_output": True, "text": True, "timeout": 300}
-    ended = subprocess.run([sys.executable, *words], check=False, **how)
+    ended = subprocess.run([python, *words], check=False, **how)
     return ended.returncode, ended.stdout, ended.stderr
 
 
@@ -64,3 +67,52 @@ def test_no_header(tmp_path):
     library.touch()
     status, _, errors = run("-c", HOW, NUM_FORMAT_LIBRARY=str(library))
     assert status == 1 and "no num_format.h" in errors
+
+
+def make_wheel(name, needs, folder):
+    """Makes the wheel that a registry would have of an installed distribution, which has these needs."""
+    found = importlib.metadata.distribution(name)
+    info = f"{name}-{found.version}.dist-info"
+    specs = map(importlib.util.find_spec, (found.read_text("top_level.txt") or name).split())
+    with zipfile.ZipFile(folder / f"{name}-{found.version}-py3-none-any.whl", "w") as wheel:
+        for origin in [Path(spec.origin) for spec in specs if spec]:
+            is_package = origin.stem == "__init__"
+            for path in origin.parent.rglob("*.*") if is_package else [origin]:
+                if path.is_file() and path.suffix != ".pyc":
+                    wheel.write(path, path.relative_to(origin.parents[is_package]))
+        lines = ["Metadata-Version: 2.1", f"Name: {name}", f"Version: {found.version}"]
+        wheel.writestr(f"{info}/METADATA", "\n".join([*lines, *(f"Requires-Dist: {need}" for need in needs)]))
+        wheel.writestr(f"{info}/WHEEL", "Wheel-Version: 1.0\nRoot-Is-Purelib: true\nTag: py3-none-any\n")
+        wheel.writestr(f"{info}/entry_points.txt", found.read_text("entry_points.txt") or "")
+        record = f"{info}/RECORD"
+        wheel.writestr(record, "".join(f"{path},,\n" for path in [*wheel.namelist(), record]))
+
+
+def test_plain_pip_install(tmp_path):
+    """With wheels of a folder in place of a network, pip takes what pyproject.toml names, and nothing that is here."""
+    # Debian's pycparser has ply beside it, and others have it inside.
+    beside = ["ply"] if importlib.util.find_spec("ply") else []
+    needs = {"setuptools": [], "wheel": [], "cffi": ["pycparser"], "pycparser": beside, **dict.fromkeys(beside, [])}
+    for name in needs:
+        make_wheel(name, needs[name], tmp_path)
+    environment = tmp_path / "environment"
+    status, _, errors = run("-m", "venv", environment)
+    assert status == 0, errors
+    made, library = environment / "bin" / "python", os.environ["NUM_FORMAT_LIBRARY"]
+    words = ["-m", "pip", "install", "--quiet", "--no-index", "--find-links", tmp_path, "--no-cache-dir", PACKAGE]
+    status, _, errors = run(*words, python=made, NUM_FORMAT_LIBRARY=library)
+    assert status == 0, errors
+    status, output, errors = run("-c", "import num_format; print(num_format.format(1234567, 'de'))", python=made)
+    assert (status, output) == (0, "1.234.567\n"), errors
+
+
+def test_build(tmp_path):
+    """The archive of sources has what the wheel that is built of it needs."""
+    pytest.importorskip("build.__main__")
+    library = os.environ["NUM_FORMAT_LIBRARY"]
+    words = ["-m", "build", "--no-isolation", "--outdir", tmp_path, PACKAGE]
+    status, output, errors = run(*words, NUM_FORMAT_LIBRARY=library)
+    assert status == 0, output + errors
+    (wheel,) = tmp_path.glob("*.whl")
+    names = {name.split(".")[0] for name in zipfile.ZipFile(wheel).namelist()}
+    assert {"num_format/_native", "num_format/columns", "num_format/py"} <= names

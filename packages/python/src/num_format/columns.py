@@ -467,7 +467,7 @@ def _parse_into(numbers: Any, name: str, struct: Any, texts: StringColumn, *scal
     call = getattr(lib, f"num_format_parse_{name}{_OFFSETS[offsets.dtype]}_column")
     inputs = ffi.from_buffer(f"{offsets.dtype}_t[]", offsets), len(offsets), ffi.from_buffer("char[]", data), len(data)
     statuses = ffi.from_buffer("int32_t[]", causes)
-    _check(call(struct, *inputs, numbers, len(texts), *scale, statuses, len(causes)))
+    _check(call(struct, *inputs, numbers, statuses, len(texts), *scale))
     return causes
 
 
