@@ -895,8 +895,8 @@ static inline const char *num_format_strerror(int32_t status) {
 }
 
 /* Null pointers. In place of a null pointer to a text or an array of length 0, a call passes on one that is not
- * null, to where nothing is read or written. A call by a pointer to a function, or from another language, does
- * not. */
+ * null, to where nothing is read or written. A call from another language does not, nor one by a pointer to a
+ * function, but for those that parse a column. */
 #ifdef __GNUC__
 #define NUM_FORMAT_SOME(pointer) ((pointer) ? (pointer) : (__typeof__(pointer))sizeof *(pointer))
 
@@ -907,8 +907,7 @@ static inline const char *num_format_strerror(int32_t status) {
         return num_format_call_##name arguments; \
     }
 
-/* The function that is called num_format_X in C, with parameters other than those of the library's. It has a
- * symbol of its own, where it is called by a pointer, say. */
+/* The same with other parameters than the library's, and a symbol of its own, which a pointer to it needs. */
 #define NUM_FORMAT_STATIC(name, parameters, arguments) \
     static __inline__ int32_t num_format_##name parameters __asm__("num_format_inline_" #name); \
     static __inline__ int32_t num_format_##name parameters { \

@@ -1,4 +1,5 @@
-/* Eight threads print and parse at once, under one format. Ends with status 1 where one found another text. */
+/* Eight threads print and parse numbers and columns at once, under one format. Ends with status 1 where one found
+ * another text. */
 #include <num_format.h>
 #include <pthread.h>
 #include <stdio.h>
@@ -6,8 +7,20 @@
 
 #define THREADS 8
 #define ROUNDS 20000
+#define ROWS 1000
 
 static num_format format;
+
+/* Whether multiples of a number, printed and parsed as a column, are as they were. */
+static int is_column_kept(int64_t first) {
+    int64_t numbers[ROWS], parsed[ROWS];
+    int32_t offsets[ROWS + 1], statuses[ROWS];
+    char bytes[ROWS * 27];
+    for (int64_t k = 0; k < ROWS; k++) numbers[k] = first * k;
+    return num_format_print_i64_column(&format, numbers, ROWS, offsets, ROWS + 1, bytes, sizeof bytes) == 0
+        && num_format_parse_strict_i64_column(&format, offsets, ROWS + 1, bytes, sizeof bytes, parsed, statuses, ROWS) == 0
+        && memcmp(numbers, parsed, sizeof numbers) == 0;
+}
 
 /* Prints and parses the numbers of a thread. Returns null if all are as they were. */
 static void *work(void *first) {
@@ -19,7 +32,7 @@ static void *work(void *first) {
         if (length < 1 || num_format_parse_strict_i64(&format, 64, text, (size_t)length, &parsed, &at) != 0 || parsed != number)
             return first;
     }
-    return NULL;
+    return is_column_kept(*(const int64_t *)first) ? NULL : first;
 }
 
 int main(void) {
