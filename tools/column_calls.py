@@ -202,22 +202,22 @@ DOCS = {
     "num_format_print_decimal_column_len": """\
 /// Writes how many bytes the texts of the decimals have, as `num_format_print_i8_column_len` does. Its first
 /// error is a scale above 38.""",
-    "num_format_parse_i8_column": """\
+    "num_format_call_parse_i8_column": """\
 /// Parses each text of a column, writes the number of each that is not refused, writes the status of each,
 /// and returns 0. There is one offset more than numbers, and there are as many statuses.
 ///
 /// Errors, in this order: a struct that has no format, other numbers of offsets or statuses, an offset that
 /// is below the one before it or past the bytes.""",
-    "num_format_parse_nullable_i8_column": """\
-/// Parses the texts as `num_format_parse_i8_column` does, but for null rows: their status is 0, and their number
+    "num_format_call_parse_nullable_i8_column": """\
+/// Parses the texts as `num_format_call_parse_i8_column` does, but for null rows: their status is 0, and their number
 /// as it was. There is a bit for each row, and fewer are the same error as another number of offsets.""",
-    "num_format_parse_strict_i8_column": """\
-/// Parses the texts strictly, and else as `num_format_parse_i8_column` does.""",
-    "num_format_parse_strict_nullable_i8_column": """\
-/// Parses the texts strictly, and else as `num_format_parse_nullable_i8_column` does.""",
-    "num_format_parse_decimal_column": """\
+    "num_format_call_parse_strict_i8_column": """\
+/// Parses the texts strictly, and else as `num_format_call_parse_i8_column` does.""",
+    "num_format_call_parse_strict_nullable_i8_column": """\
+/// Parses the texts strictly, and else as `num_format_call_parse_nullable_i8_column` does.""",
+    "num_format_call_parse_decimal_column": """\
 /// Parses the texts strictly as decimals, writes their units at this scale, and else does as
-/// `num_format_parse_i8_column`. Its first error is a scale above 38.""",
+/// `num_format_call_parse_i8_column`. Its first error is a scale above 38.""",
 }
 
 
@@ -298,7 +298,7 @@ NULLABLE = """\
 
 def docs(name, first):
     """How a call is documented, by itself or by the first of its shape."""
-    verb = "Measures" if name.endswith("_len") else name.split("_")[2].capitalize() + "s"
+    verb = "Measures" if name.endswith("_len") else "Parses" if "_parse_" in name else "Prints"
     return DOCS.get(name, f"/// {verb} a column as `{first}` does.")
 
 
@@ -362,13 +362,14 @@ def measured(values, validity):
 def parsed(values, validity, offset, strict):
     """The call that parses a column, in Rattle and in C, where it is inline and the lengths of both slices are n."""
     (nullable, _, c_validity, passed, _), (large, rust, c, limit) = validity, offset
-    name, first = (f"num_format_parse_{strict}{nullable}{each}_{large}column" for each in (values.name, "i8"))
+    call, first = (f"parse_{strict}{nullable}{each}_{large}column" for each in (values.name, "i8"))
     parses, function, before, arguments = values.parses(strict)
     line = body(function, [*before, "format", "offsets", "bytes", *arguments, passed, "statuses"])
-    text = export(PARSE, name, first.replace("large_", ""), values, validity, offset=rust, limit=limit, parses=parses, body=line)
+    name, first = (f"num_format_call_{each}" for each in (call, first.replace("large_", "")))
+    text = export(PARSE, name, first, values, validity, offset=rust, limit=limit, parses=parses, body=line)
     c_column = [f"const {c} *offsets", "size_t offsets_length", "const char *bytes", "size_t bytes_length"]
     c_values = [f"{values.c_value} *{values.values}", "int32_t *statuses", "size_t n", *values.c_scale, *c_validity]
-    return text, inline_declaration(name, ["const num_format *format", *c_column, *c_values])
+    return text, inline_declaration(f"num_format_{call}", ["const num_format *format", *c_column, *c_values])
 
 
 def families():

@@ -57,7 +57,7 @@ unsafe extern "C" {
         bytes: *mut u8,
         bytes_len: usize,
     ) -> i32;
-    fn num_format_parse_strict_i64_column(
+    fn num_format_call_parse_strict_i64_column(
         format: *const Format,
         offsets: *const i32,
         offsets_len: usize,
@@ -182,7 +182,7 @@ pub fn read_column_strictly(
     statuses: &mut [i32],
 ) {
     let status = unsafe {
-        num_format_parse_strict_i64_column(
+        num_format_call_parse_strict_i64_column(
             format,
             column.offsets.as_ptr(),
             column.offsets.len(),

@@ -297,9 +297,9 @@ uint32_t num_format_version(void);
  *
  * An array is aligned as C aligns its type.
  *
- * The calls that parse a column are inline, for GCC and Clang, and are called as they are declared. The library's
- * symbol of the same name, which other languages link to, is passed the length of both arrays, and the statuses
- * last: (.., values, n, .., statuses, n). In C it is num_format_call_parse_i64_column and its like. */
+ * The calls that parse a column are inline, for GCC and Clang. They call those of the library, to which other
+ * languages link, num_format_call_parse_i64_column and its like. These are passed the length of both arrays, and
+ * the statuses last: (.., values, n, .., statuses, n). */
 
 /* A number of 128 bits in a column, by its low and its high half, as an __int128 lies in memory. */
 typedef struct num_format_wide {
@@ -907,13 +907,6 @@ static inline const char *num_format_strerror(int32_t status) {
         return num_format_call_##name arguments; \
     }
 
-/* The same with other parameters than the library's, and a symbol of its own, which a pointer to it needs. */
-#define NUM_FORMAT_STATIC(name, parameters, arguments) \
-    static __inline__ int32_t num_format_##name parameters __asm__("num_format_inline_" #name); \
-    static __inline__ int32_t num_format_##name parameters { \
-        return num_format_call_##name arguments; \
-    }
-
 NUM_FORMAT_INLINE(locale, (num_format *format, const char *name, size_t length),
                   (format, NUM_FORMAT_SOME(name), length))
 NUM_FORMAT_INLINE(lookup, (num_format *format, const char *tag, size_t length),
@@ -1004,13 +997,15 @@ NUM_FORMAT_INLINE(lookup_name, (const char *tag, size_t tag_length, char *name, 
     int32_t num_format_call_parse_##name(const num_format *format, const offset *offsets, size_t offsets_length, \
                                          const char *bytes, size_t bytes_length, type *values, \
                                          size_t n NUM_FORMAT_##kind##_PARAMETERS, int32_t *statuses, \
-                                         size_t statuses_length) __asm__("num_format_parse_" #name); \
-    NUM_FORMAT_STATIC(parse_##name, \
-                      (const num_format *format, const offset *offsets, size_t offsets_length, \
-                       const char *bytes, size_t bytes_length, type *values, int32_t *statuses, \
-                       size_t n NUM_FORMAT_##kind##_PARAMETERS), \
-                      (format, NUM_FORMAT_SOME(offsets), offsets_length, NUM_FORMAT_SOME(bytes), bytes_length, \
-                       NUM_FORMAT_SOME(values), n NUM_FORMAT_##kind##_ARGUMENTS, NUM_FORMAT_SOME(statuses), n))
+                                         size_t statuses_length); \
+    static __inline__ int32_t num_format_parse_##name (const num_format *format, const offset *offsets, \
+                                                       size_t offsets_length, const char *bytes, \
+                                                       size_t bytes_length, type *values, int32_t *statuses, \
+                                                       size_t n NUM_FORMAT_##kind##_PARAMETERS) { \
+        return num_format_call_parse_##name(format, NUM_FORMAT_SOME(offsets), offsets_length, \
+                                            NUM_FORMAT_SOME(bytes), bytes_length, NUM_FORMAT_SOME(values), \
+                                            n NUM_FORMAT_##kind##_ARGUMENTS, NUM_FORMAT_SOME(statuses), n); \
+    }
 #define NUM_FORMAT_PARSE_BOTH_INLINE(kind, name, type) \
     NUM_FORMAT_PARSE_INLINE(kind, name##_column, type, int32_t) \
     NUM_FORMAT_PARSE_INLINE(kind, name##_large_column, type, int64_t)
@@ -1025,9 +1020,6 @@ NUM_FORMAT_INLINE(lookup_name, (const char *tag, size_t tag_length, char *name, 
     NUM_FORMAT_COLUMN_INLINE(NULLABLE, nullable_##name, type) \
     NUM_FORMAT_PARSE_BOTH_INLINE(NULLABLE, strict_nullable_##name, type)
 
-/* Each inline call that parses was declared above, without its symbol. */
-#pragma GCC diagnostic push
-#pragma GCC diagnostic ignored "-Wredundant-decls"
 NUM_FORMAT_NUMBERS_INLINE(i8, int8_t)
 NUM_FORMAT_NUMBERS_INLINE(i16, int16_t)
 NUM_FORMAT_NUMBERS_INLINE(i32, int32_t)
@@ -1040,11 +1032,9 @@ NUM_FORMAT_NUMBERS_INLINE(u64, uint64_t)
 NUM_FORMAT_NUMBERS_INLINE(u128, num_format_wide)
 NUM_FORMAT_COLUMN_INLINE(SCALED, decimal, num_format_wide)
 NUM_FORMAT_COLUMN_INLINE(SCALED_NULLABLE, nullable_decimal, num_format_wide)
-#pragma GCC diagnostic pop
 
 #undef NUM_FORMAT_SOME
 #undef NUM_FORMAT_INLINE
-#undef NUM_FORMAT_STATIC
 #undef NUM_FORMAT_PLAIN_PARAMETERS
 #undef NUM_FORMAT_PLAIN_ARGUMENTS
 #undef NUM_FORMAT_NULLABLE_PARAMETERS

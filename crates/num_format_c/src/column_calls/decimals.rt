@@ -53,9 +53,9 @@ pub extern "C" fn num_format_print_decimal_column_len(
 }
 
 /// Parses the texts strictly as decimals, writes their units at this scale, and else does as
-/// `num_format_parse_i8_column`. Its first error is a scale above 38.
+/// `num_format_call_parse_i8_column`. Its first error is a scale above 38.
 #[unsafe(no_mangle)]
-pub extern "C" fn num_format_parse_decimal_column(
+pub extern "C" fn num_format_call_parse_decimal_column(
     format: &NumFormat,
     offsets: &[u32],
     bytes: &[u8],
@@ -68,9 +68,9 @@ pub extern "C" fn num_format_parse_decimal_column(
     returned(columns::parse_decimals(format, offsets, bytes, units, scale, &AllValid, statuses))
 }
 
-/// Parses a column as `num_format_parse_i8_column` does.
+/// Parses a column as `num_format_call_parse_i8_column` does.
 #[unsafe(no_mangle)]
-pub extern "C" fn num_format_parse_decimal_large_column(
+pub extern "C" fn num_format_call_parse_decimal_large_column(
     format: &NumFormat,
     offsets: &[u64],
     bytes: &[u8],
@@ -127,9 +127,9 @@ pub extern "C" fn num_format_print_nullable_decimal_column_len(
     returned(columns::measure_decimals(format, units, scale, &Bitmap::new(validity), len))
 }
 
-/// Parses a column as `num_format_parse_nullable_i8_column` does.
+/// Parses a column as `num_format_call_parse_nullable_i8_column` does.
 #[unsafe(no_mangle)]
-pub extern "C" fn num_format_parse_nullable_decimal_column(
+pub extern "C" fn num_format_call_parse_nullable_decimal_column(
     format: &NumFormat,
     offsets: &[u32],
     bytes: &[u8],
@@ -151,9 +151,9 @@ pub extern "C" fn num_format_parse_nullable_decimal_column(
     ))
 }
 
-/// Parses a column as `num_format_parse_nullable_i8_column` does.
+/// Parses a column as `num_format_call_parse_nullable_i8_column` does.
 #[unsafe(no_mangle)]
-pub extern "C" fn num_format_parse_nullable_decimal_large_column(
+pub extern "C" fn num_format_call_parse_nullable_decimal_large_column(
     format: &NumFormat,
     offsets: &[u64],
     bytes: &[u8],

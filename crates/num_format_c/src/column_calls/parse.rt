@@ -17,7 +17,7 @@ use num_format_columns::AllValid;
 /// Errors, in this order: a struct that has no format, other numbers of offsets or statuses, an offset that
 /// is below the one before it or past the bytes.
 #[unsafe(no_mangle)]
-pub extern "C" fn num_format_parse_i8_column(
+pub extern "C" fn num_format_call_parse_i8_column(
     format: &NumFormat,
     offsets: &[u32],
     bytes: &[u8],
@@ -31,9 +31,9 @@ pub extern "C" fn num_format_parse_i8_column(
     ))
 }
 
-/// Parses a column as `num_format_parse_i8_column` does.
+/// Parses a column as `num_format_call_parse_i8_column` does.
 #[unsafe(no_mangle)]
-pub extern "C" fn num_format_parse_i8_large_column(
+pub extern "C" fn num_format_call_parse_i8_large_column(
     format: &NumFormat,
     offsets: &[u64],
     bytes: &[u8],
@@ -47,9 +47,9 @@ pub extern "C" fn num_format_parse_i8_large_column(
     ))
 }
 
-/// Parses a column as `num_format_parse_i8_column` does.
+/// Parses a column as `num_format_call_parse_i8_column` does.
 #[unsafe(no_mangle)]
-pub extern "C" fn num_format_parse_i16_column(
+pub extern "C" fn num_format_call_parse_i16_column(
     format: &NumFormat,
     offsets: &[u32],
     bytes: &[u8],
@@ -63,9 +63,9 @@ pub extern "C" fn num_format_parse_i16_column(
     ))
 }
 
-/// Parses a column as `num_format_parse_i8_column` does.
+/// Parses a column as `num_format_call_parse_i8_column` does.
 #[unsafe(no_mangle)]
-pub extern "C" fn num_format_parse_i16_large_column(
+pub extern "C" fn num_format_call_parse_i16_large_column(
     format: &NumFormat,
     offsets: &[u64],
     bytes: &[u8],
@@ -79,9 +79,9 @@ pub extern "C" fn num_format_parse_i16_large_column(
     ))
 }
 
-/// Parses a column as `num_format_parse_i8_column` does.
+/// Parses a column as `num_format_call_parse_i8_column` does.
 #[unsafe(no_mangle)]
-pub extern "C" fn num_format_parse_i32_column(
+pub extern "C" fn num_format_call_parse_i32_column(
     format: &NumFormat,
     offsets: &[u32],
     bytes: &[u8],
@@ -95,9 +95,9 @@ pub extern "C" fn num_format_parse_i32_column(
     ))
 }
 
-/// Parses a column as `num_format_parse_i8_column` does.
+/// Parses a column as `num_format_call_parse_i8_column` does.
 #[unsafe(no_mangle)]
-pub extern "C" fn num_format_parse_i32_large_column(
+pub extern "C" fn num_format_call_parse_i32_large_column(
     format: &NumFormat,
     offsets: &[u64],
     bytes: &[u8],
@@ -111,9 +111,9 @@ pub extern "C" fn num_format_parse_i32_large_column(
     ))
 }
 
-/// Parses a column as `num_format_parse_i8_column` does.
+/// Parses a column as `num_format_call_parse_i8_column` does.
 #[unsafe(no_mangle)]
-pub extern "C" fn num_format_parse_i64_column(
+pub extern "C" fn num_format_call_parse_i64_column(
     format: &NumFormat,
     offsets: &[u32],
     bytes: &[u8],
@@ -127,9 +127,9 @@ pub extern "C" fn num_format_parse_i64_column(
     ))
 }
 
-/// Parses a column as `num_format_parse_i8_column` does.
+/// Parses a column as `num_format_call_parse_i8_column` does.
 #[unsafe(no_mangle)]
-pub extern "C" fn num_format_parse_i64_large_column(
+pub extern "C" fn num_format_call_parse_i64_large_column(
     format: &NumFormat,
     offsets: &[u64],
     bytes: &[u8],
@@ -143,9 +143,9 @@ pub extern "C" fn num_format_parse_i64_large_column(
     ))
 }
 
-/// Parses a column as `num_format_parse_i8_column` does.
+/// Parses a column as `num_format_call_parse_i8_column` does.
 #[unsafe(no_mangle)]
-pub extern "C" fn num_format_parse_i128_column(
+pub extern "C" fn num_format_call_parse_i128_column(
     format: &NumFormat,
     offsets: &[u32],
     bytes: &[u8],
@@ -159,9 +159,9 @@ pub extern "C" fn num_format_parse_i128_column(
     ))
 }
 
-/// Parses a column as `num_format_parse_i8_column` does.
+/// Parses a column as `num_format_call_parse_i8_column` does.
 #[unsafe(no_mangle)]
-pub extern "C" fn num_format_parse_i128_large_column(
+pub extern "C" fn num_format_call_parse_i128_large_column(
     format: &NumFormat,
     offsets: &[u64],
     bytes: &[u8],
@@ -175,9 +175,9 @@ pub extern "C" fn num_format_parse_i128_large_column(
     ))
 }
 
-/// Parses a column as `num_format_parse_i8_column` does.
+/// Parses a column as `num_format_call_parse_i8_column` does.
 #[unsafe(no_mangle)]
-pub extern "C" fn num_format_parse_u8_column(
+pub extern "C" fn num_format_call_parse_u8_column(
     format: &NumFormat,
     offsets: &[u32],
     bytes: &[u8],
@@ -191,9 +191,9 @@ pub extern "C" fn num_format_parse_u8_column(
     ))
 }
 
-/// Parses a column as `num_format_parse_i8_column` does.
+/// Parses a column as `num_format_call_parse_i8_column` does.
 #[unsafe(no_mangle)]
-pub extern "C" fn num_format_parse_u8_large_column(
+pub extern "C" fn num_format_call_parse_u8_large_column(
     format: &NumFormat,
     offsets: &[u64],
     bytes: &[u8],
@@ -207,9 +207,9 @@ pub extern "C" fn num_format_parse_u8_large_column(
     ))
 }
 
-/// Parses a column as `num_format_parse_i8_column` does.
+/// Parses a column as `num_format_call_parse_i8_column` does.
 #[unsafe(no_mangle)]
-pub extern "C" fn num_format_parse_u16_column(
+pub extern "C" fn num_format_call_parse_u16_column(
     format: &NumFormat,
     offsets: &[u32],
     bytes: &[u8],
@@ -223,9 +223,9 @@ pub extern "C" fn num_format_parse_u16_column(
     ))
 }
 
-/// Parses a column as `num_format_parse_i8_column` does.
+/// Parses a column as `num_format_call_parse_i8_column` does.
 #[unsafe(no_mangle)]
-pub extern "C" fn num_format_parse_u16_large_column(
+pub extern "C" fn num_format_call_parse_u16_large_column(
     format: &NumFormat,
     offsets: &[u64],
     bytes: &[u8],
@@ -239,9 +239,9 @@ pub extern "C" fn num_format_parse_u16_large_column(
     ))
 }
 
-/// Parses a column as `num_format_parse_i8_column` does.
+/// Parses a column as `num_format_call_parse_i8_column` does.
 #[unsafe(no_mangle)]
-pub extern "C" fn num_format_parse_u32_column(
+pub extern "C" fn num_format_call_parse_u32_column(
     format: &NumFormat,
     offsets: &[u32],
     bytes: &[u8],
@@ -255,9 +255,9 @@ pub extern "C" fn num_format_parse_u32_column(
     ))
 }
 
-/// Parses a column as `num_format_parse_i8_column` does.
+/// Parses a column as `num_format_call_parse_i8_column` does.
 #[unsafe(no_mangle)]
-pub extern "C" fn num_format_parse_u32_large_column(
+pub extern "C" fn num_format_call_parse_u32_large_column(
     format: &NumFormat,
     offsets: &[u64],
     bytes: &[u8],
@@ -271,9 +271,9 @@ pub extern "C" fn num_format_parse_u32_large_column(
     ))
 }
 
-/// Parses a column as `num_format_parse_i8_column` does.
+/// Parses a column as `num_format_call_parse_i8_column` does.
 #[unsafe(no_mangle)]
-pub extern "C" fn num_format_parse_u64_column(
+pub extern "C" fn num_format_call_parse_u64_column(
     format: &NumFormat,
     offsets: &[u32],
     bytes: &[u8],
@@ -287,9 +287,9 @@ pub extern "C" fn num_format_parse_u64_column(
     ))
 }
 
-/// Parses a column as `num_format_parse_i8_column` does.
+/// Parses a column as `num_format_call_parse_i8_column` does.
 #[unsafe(no_mangle)]
-pub extern "C" fn num_format_parse_u64_large_column(
+pub extern "C" fn num_format_call_parse_u64_large_column(
     format: &NumFormat,
     offsets: &[u64],
     bytes: &[u8],
@@ -303,9 +303,9 @@ pub extern "C" fn num_format_parse_u64_large_column(
     ))
 }
 
-/// Parses a column as `num_format_parse_i8_column` does.
+/// Parses a column as `num_format_call_parse_i8_column` does.
 #[unsafe(no_mangle)]
-pub extern "C" fn num_format_parse_u128_column(
+pub extern "C" fn num_format_call_parse_u128_column(
     format: &NumFormat,
     offsets: &[u32],
     bytes: &[u8],
@@ -319,9 +319,9 @@ pub extern "C" fn num_format_parse_u128_column(
     ))
 }
 
-/// Parses a column as `num_format_parse_i8_column` does.
+/// Parses a column as `num_format_call_parse_i8_column` does.
 #[unsafe(no_mangle)]
-pub extern "C" fn num_format_parse_u128_large_column(
+pub extern "C" fn num_format_call_parse_u128_large_column(
     format: &NumFormat,
     offsets: &[u64],
     bytes: &[u8],

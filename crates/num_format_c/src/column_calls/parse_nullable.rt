@@ -11,10 +11,10 @@ use crate::status::returned;
 use crate::wide::{SignedWide, UnsignedWide};
 use num_format_columns::Bitmap;
 
-/// Parses the texts as `num_format_parse_i8_column` does, but for null rows: their status is 0, and their number
+/// Parses the texts as `num_format_call_parse_i8_column` does, but for null rows: their status is 0, and their number
 /// as it was. There is a bit for each row, and fewer are the same error as another number of offsets.
 #[unsafe(no_mangle)]
-pub extern "C" fn num_format_parse_nullable_i8_column(
+pub extern "C" fn num_format_call_parse_nullable_i8_column(
     format: &NumFormat,
     offsets: &[u32],
     bytes: &[u8],
@@ -35,9 +35,9 @@ pub extern "C" fn num_format_parse_nullable_i8_column(
     ))
 }
 
-/// Parses a column as `num_format_parse_nullable_i8_column` does.
+/// Parses a column as `num_format_call_parse_nullable_i8_column` does.
 #[unsafe(no_mangle)]
-pub extern "C" fn num_format_parse_nullable_i8_large_column(
+pub extern "C" fn num_format_call_parse_nullable_i8_large_column(
     format: &NumFormat,
     offsets: &[u64],
     bytes: &[u8],
@@ -58,9 +58,9 @@ pub extern "C" fn num_format_parse_nullable_i8_large_column(
     ))
 }
 
-/// Parses a column as `num_format_parse_nullable_i8_column` does.
+/// Parses a column as `num_format_call_parse_nullable_i8_column` does.
 #[unsafe(no_mangle)]
-pub extern "C" fn num_format_parse_nullable_i16_column(
+pub extern "C" fn num_format_call_parse_nullable_i16_column(
     format: &NumFormat,
     offsets: &[u32],
     bytes: &[u8],
@@ -81,9 +81,9 @@ pub extern "C" fn num_format_parse_nullable_i16_column(
     ))
 }
 
-/// Parses a column as `num_format_parse_nullable_i8_column` does.
+/// Parses a column as `num_format_call_parse_nullable_i8_column` does.
 #[unsafe(no_mangle)]
-pub extern "C" fn num_format_parse_nullable_i16_large_column(
+pub extern "C" fn num_format_call_parse_nullable_i16_large_column(
     format: &NumFormat,
     offsets: &[u64],
     bytes: &[u8],
@@ -104,9 +104,9 @@ pub extern "C" fn num_format_parse_nullable_i16_large_column(
     ))
 }
 
-/// Parses a column as `num_format_parse_nullable_i8_column` does.
+/// Parses a column as `num_format_call_parse_nullable_i8_column` does.
 #[unsafe(no_mangle)]
-pub extern "C" fn num_format_parse_nullable_i32_column(
+pub extern "C" fn num_format_call_parse_nullable_i32_column(
     format: &NumFormat,
     offsets: &[u32],
     bytes: &[u8],
@@ -127,9 +127,9 @@ pub extern "C" fn num_format_parse_nullable_i32_column(
     ))
 }
 
-/// Parses a column as `num_format_parse_nullable_i8_column` does.
+/// Parses a column as `num_format_call_parse_nullable_i8_column` does.
 #[unsafe(no_mangle)]
-pub extern "C" fn num_format_parse_nullable_i32_large_column(
+pub extern "C" fn num_format_call_parse_nullable_i32_large_column(
     format: &NumFormat,
     offsets: &[u64],
     bytes: &[u8],
@@ -150,9 +150,9 @@ pub extern "C" fn num_format_parse_nullable_i32_large_column(
     ))
 }
 
-/// Parses a column as `num_format_parse_nullable_i8_column` does.
+/// Parses a column as `num_format_call_parse_nullable_i8_column` does.
 #[unsafe(no_mangle)]
-pub extern "C" fn num_format_parse_nullable_i64_column(
+pub extern "C" fn num_format_call_parse_nullable_i64_column(
     format: &NumFormat,
     offsets: &[u32],
     bytes: &[u8],
@@ -173,9 +173,9 @@ pub extern "C" fn num_format_parse_nullable_i64_column(
     ))
 }
 
-/// Parses a column as `num_format_parse_nullable_i8_column` does.
+/// Parses a column as `num_format_call_parse_nullable_i8_column` does.
 #[unsafe(no_mangle)]
-pub extern "C" fn num_format_parse_nullable_i64_large_column(
+pub extern "C" fn num_format_call_parse_nullable_i64_large_column(
     format: &NumFormat,
     offsets: &[u64],
     bytes: &[u8],
@@ -196,9 +196,9 @@ pub extern "C" fn num_format_parse_nullable_i64_large_column(
     ))
 }
 
-/// Parses a column as `num_format_parse_nullable_i8_column` does.
+/// Parses a column as `num_format_call_parse_nullable_i8_column` does.
 #[unsafe(no_mangle)]
-pub extern "C" fn num_format_parse_nullable_i128_column(
+pub extern "C" fn num_format_call_parse_nullable_i128_column(
     format: &NumFormat,
     offsets: &[u32],
     bytes: &[u8],
@@ -219,9 +219,9 @@ pub extern "C" fn num_format_parse_nullable_i128_column(
     ))
 }
 
-/// Parses a column as `num_format_parse_nullable_i8_column` does.
+/// Parses a column as `num_format_call_parse_nullable_i8_column` does.
 #[unsafe(no_mangle)]
-pub extern "C" fn num_format_parse_nullable_i128_large_column(
+pub extern "C" fn num_format_call_parse_nullable_i128_large_column(
     format: &NumFormat,
     offsets: &[u64],
     bytes: &[u8],
@@ -242,9 +242,9 @@ pub extern "C" fn num_format_parse_nullable_i128_large_column(
     ))
 }
 
-/// Parses a column as `num_format_parse_nullable_i8_column` does.
+/// Parses a column as `num_format_call_parse_nullable_i8_column` does.
 #[unsafe(no_mangle)]
-pub extern "C" fn num_format_parse_nullable_u8_column(
+pub extern "C" fn num_format_call_parse_nullable_u8_column(
     format: &NumFormat,
     offsets: &[u32],
     bytes: &[u8],
@@ -265,9 +265,9 @@ pub extern "C" fn num_format_parse_nullable_u8_column(
     ))
 }
 
-/// Parses a column as `num_format_parse_nullable_i8_column` does.
+/// Parses a column as `num_format_call_parse_nullable_i8_column` does.
 #[unsafe(no_mangle)]
-pub extern "C" fn num_format_parse_nullable_u8_large_column(
+pub extern "C" fn num_format_call_parse_nullable_u8_large_column(
     format: &NumFormat,
     offsets: &[u64],
     bytes: &[u8],
@@ -288,9 +288,9 @@ pub extern "C" fn num_format_parse_nullable_u8_large_column(
     ))
 }
 
-/// Parses a column as `num_format_parse_nullable_i8_column` does.
+/// Parses a column as `num_format_call_parse_nullable_i8_column` does.
 #[unsafe(no_mangle)]
-pub extern "C" fn num_format_parse_nullable_u16_column(
+pub extern "C" fn num_format_call_parse_nullable_u16_column(
     format: &NumFormat,
     offsets: &[u32],
     bytes: &[u8],
@@ -311,9 +311,9 @@ pub extern "C" fn num_format_parse_nullable_u16_column(
     ))
 }
 
-/// Parses a column as `num_format_parse_nullable_i8_column` does.
+/// Parses a column as `num_format_call_parse_nullable_i8_column` does.
 #[unsafe(no_mangle)]
-pub extern "C" fn num_format_parse_nullable_u16_large_column(
+pub extern "C" fn num_format_call_parse_nullable_u16_large_column(
     format: &NumFormat,
     offsets: &[u64],
     bytes: &[u8],
@@ -334,9 +334,9 @@ pub extern "C" fn num_format_parse_nullable_u16_large_column(
     ))
 }
 
-/// Parses a column as `num_format_parse_nullable_i8_column` does.
+/// Parses a column as `num_format_call_parse_nullable_i8_column` does.
 #[unsafe(no_mangle)]
-pub extern "C" fn num_format_parse_nullable_u32_column(
+pub extern "C" fn num_format_call_parse_nullable_u32_column(
     format: &NumFormat,
     offsets: &[u32],
     bytes: &[u8],
@@ -357,9 +357,9 @@ pub extern "C" fn num_format_parse_nullable_u32_column(
     ))
 }
 
-/// Parses a column as `num_format_parse_nullable_i8_column` does.
+/// Parses a column as `num_format_call_parse_nullable_i8_column` does.
 #[unsafe(no_mangle)]
-pub extern "C" fn num_format_parse_nullable_u32_large_column(
+pub extern "C" fn num_format_call_parse_nullable_u32_large_column(
     format: &NumFormat,
     offsets: &[u64],
     bytes: &[u8],
@@ -380,9 +380,9 @@ pub extern "C" fn num_format_parse_nullable_u32_large_column(
     ))
 }
 
-/// Parses a column as `num_format_parse_nullable_i8_column` does.
+/// Parses a column as `num_format_call_parse_nullable_i8_column` does.
 #[unsafe(no_mangle)]
-pub extern "C" fn num_format_parse_nullable_u64_column(
+pub extern "C" fn num_format_call_parse_nullable_u64_column(
     format: &NumFormat,
     offsets: &[u32],
     bytes: &[u8],
@@ -403,9 +403,9 @@ pub extern "C" fn num_format_parse_nullable_u64_column(
     ))
 }
 
-/// Parses a column as `num_format_parse_nullable_i8_column` does.
+/// Parses a column as `num_format_call_parse_nullable_i8_column` does.
 #[unsafe(no_mangle)]
-pub extern "C" fn num_format_parse_nullable_u64_large_column(
+pub extern "C" fn num_format_call_parse_nullable_u64_large_column(
     format: &NumFormat,
     offsets: &[u64],
     bytes: &[u8],
@@ -426,9 +426,9 @@ pub extern "C" fn num_format_parse_nullable_u64_large_column(
     ))
 }
 
-/// Parses a column as `num_format_parse_nullable_i8_column` does.
+/// Parses a column as `num_format_call_parse_nullable_i8_column` does.
 #[unsafe(no_mangle)]
-pub extern "C" fn num_format_parse_nullable_u128_column(
+pub extern "C" fn num_format_call_parse_nullable_u128_column(
     format: &NumFormat,
     offsets: &[u32],
     bytes: &[u8],
@@ -449,9 +449,9 @@ pub extern "C" fn num_format_parse_nullable_u128_column(
     ))
 }
 
-/// Parses a column as `num_format_parse_nullable_i8_column` does.
+/// Parses a column as `num_format_call_parse_nullable_i8_column` does.
 #[unsafe(no_mangle)]
-pub extern "C" fn num_format_parse_nullable_u128_large_column(
+pub extern "C" fn num_format_call_parse_nullable_u128_large_column(
     format: &NumFormat,
     offsets: &[u64],
     bytes: &[u8],

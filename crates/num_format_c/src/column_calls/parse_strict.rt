@@ -10,9 +10,9 @@ use crate::status::returned;
 use crate::wide::{SignedWide, UnsignedWide};
 use num_format_columns::AllValid;
 
-/// Parses the texts strictly, and else as `num_format_parse_i8_column` does.
+/// Parses the texts strictly, and else as `num_format_call_parse_i8_column` does.
 #[unsafe(no_mangle)]
-pub extern "C" fn num_format_parse_strict_i8_column(
+pub extern "C" fn num_format_call_parse_strict_i8_column(
     format: &NumFormat,
     offsets: &[u32],
     bytes: &[u8],
@@ -26,9 +26,9 @@ pub extern "C" fn num_format_parse_strict_i8_column(
     ))
 }
 
-/// Parses a column as `num_format_parse_strict_i8_column` does.
+/// Parses a column as `num_format_call_parse_strict_i8_column` does.
 #[unsafe(no_mangle)]
-pub extern "C" fn num_format_parse_strict_i8_large_column(
+pub extern "C" fn num_format_call_parse_strict_i8_large_column(
     format: &NumFormat,
     offsets: &[u64],
     bytes: &[u8],
@@ -42,9 +42,9 @@ pub extern "C" fn num_format_parse_strict_i8_large_column(
     ))
 }
 
-/// Parses a column as `num_format_parse_strict_i8_column` does.
+/// Parses a column as `num_format_call_parse_strict_i8_column` does.
 #[unsafe(no_mangle)]
-pub extern "C" fn num_format_parse_strict_i16_column(
+pub extern "C" fn num_format_call_parse_strict_i16_column(
     format: &NumFormat,
     offsets: &[u32],
     bytes: &[u8],
@@ -58,9 +58,9 @@ pub extern "C" fn num_format_parse_strict_i16_column(
     ))
 }
 
-/// Parses a column as `num_format_parse_strict_i8_column` does.
+/// Parses a column as `num_format_call_parse_strict_i8_column` does.
 #[unsafe(no_mangle)]
-pub extern "C" fn num_format_parse_strict_i16_large_column(
+pub extern "C" fn num_format_call_parse_strict_i16_large_column(
     format: &NumFormat,
     offsets: &[u64],
     bytes: &[u8],
@@ -74,9 +74,9 @@ pub extern "C" fn num_format_parse_strict_i16_large_column(
     ))
 }
 
-/// Parses a column as `num_format_parse_strict_i8_column` does.
+/// Parses a column as `num_format_call_parse_strict_i8_column` does.
 #[unsafe(no_mangle)]
-pub extern "C" fn num_format_parse_strict_i32_column(
+pub extern "C" fn num_format_call_parse_strict_i32_column(
     format: &NumFormat,
     offsets: &[u32],
     bytes: &[u8],
@@ -90,9 +90,9 @@ pub extern "C" fn num_format_parse_strict_i32_column(
     ))
 }
 
-/// Parses a column as `num_format_parse_strict_i8_column` does.
+/// Parses a column as `num_format_call_parse_strict_i8_column` does.
 #[unsafe(no_mangle)]
-pub extern "C" fn num_format_parse_strict_i32_large_column(
+pub extern "C" fn num_format_call_parse_strict_i32_large_column(
     format: &NumFormat,
     offsets: &[u64],
     bytes: &[u8],
@@ -106,9 +106,9 @@ pub extern "C" fn num_format_parse_strict_i32_large_column(
     ))
 }
 
-/// Parses a column as `num_format_parse_strict_i8_column` does.
+/// Parses a column as `num_format_call_parse_strict_i8_column` does.
 #[unsafe(no_mangle)]
-pub extern "C" fn num_format_parse_strict_i64_column(
+pub extern "C" fn num_format_call_parse_strict_i64_column(
     format: &NumFormat,
     offsets: &[u32],
     bytes: &[u8],
@@ -122,9 +122,9 @@ pub extern "C" fn num_format_parse_strict_i64_column(
     ))
 }
 
-/// Parses a column as `num_format_parse_strict_i8_column` does.
+/// Parses a column as `num_format_call_parse_strict_i8_column` does.
 #[unsafe(no_mangle)]
-pub extern "C" fn num_format_parse_strict_i64_large_column(
+pub extern "C" fn num_format_call_parse_strict_i64_large_column(
     format: &NumFormat,
     offsets: &[u64],
     bytes: &[u8],
@@ -138,9 +138,9 @@ pub extern "C" fn num_format_parse_strict_i64_large_column(
     ))
 }
 
-/// Parses a column as `num_format_parse_strict_i8_column` does.
+/// Parses a column as `num_format_call_parse_strict_i8_column` does.
 #[unsafe(no_mangle)]
-pub extern "C" fn num_format_parse_strict_i128_column(
+pub extern "C" fn num_format_call_parse_strict_i128_column(
     format: &NumFormat,
     offsets: &[u32],
     bytes: &[u8],
@@ -154,9 +154,9 @@ pub extern "C" fn num_format_parse_strict_i128_column(
     ))
 }
 
-/// Parses a column as `num_format_parse_strict_i8_column` does.
+/// Parses a column as `num_format_call_parse_strict_i8_column` does.
 #[unsafe(no_mangle)]
-pub extern "C" fn num_format_parse_strict_i128_large_column(
+pub extern "C" fn num_format_call_parse_strict_i128_large_column(
     format: &NumFormat,
     offsets: &[u64],
     bytes: &[u8],
@@ -170,9 +170,9 @@ pub extern "C" fn num_format_parse_strict_i128_large_column(
     ))
 }
 
-/// Parses a column as `num_format_parse_strict_i8_column` does.
+/// Parses a column as `num_format_call_parse_strict_i8_column` does.
 #[unsafe(no_mangle)]
-pub extern "C" fn num_format_parse_strict_u8_column(
+pub extern "C" fn num_format_call_parse_strict_u8_column(
     format: &NumFormat,
     offsets: &[u32],
     bytes: &[u8],
@@ -186,9 +186,9 @@ pub extern "C" fn num_format_parse_strict_u8_column(
     ))
 }
 
-/// Parses a column as `num_format_parse_strict_i8_column` does.
+/// Parses a column as `num_format_call_parse_strict_i8_column` does.
 #[unsafe(no_mangle)]
-pub extern "C" fn num_format_parse_strict_u8_large_column(
+pub extern "C" fn num_format_call_parse_strict_u8_large_column(
     format: &NumFormat,
     offsets: &[u64],
     bytes: &[u8],
@@ -202,9 +202,9 @@ pub extern "C" fn num_format_parse_strict_u8_large_column(
     ))
 }
 
-/// Parses a column as `num_format_parse_strict_i8_column` does.
+/// Parses a column as `num_format_call_parse_strict_i8_column` does.
 #[unsafe(no_mangle)]
-pub extern "C" fn num_format_parse_strict_u16_column(
+pub extern "C" fn num_format_call_parse_strict_u16_column(
     format: &NumFormat,
     offsets: &[u32],
     bytes: &[u8],
@@ -218,9 +218,9 @@ pub extern "C" fn num_format_parse_strict_u16_column(
     ))
 }
 
-/// Parses a column as `num_format_parse_strict_i8_column` does.
+/// Parses a column as `num_format_call_parse_strict_i8_column` does.
 #[unsafe(no_mangle)]
-pub extern "C" fn num_format_parse_strict_u16_large_column(
+pub extern "C" fn num_format_call_parse_strict_u16_large_column(
     format: &NumFormat,
     offsets: &[u64],
     bytes: &[u8],
@@ -234,9 +234,9 @@ pub extern "C" fn num_format_parse_strict_u16_large_column(
     ))
 }
 
-/// Parses a column as `num_format_parse_strict_i8_column` does.
+/// Parses a column as `num_format_call_parse_strict_i8_column` does.
 #[unsafe(no_mangle)]
-pub extern "C" fn num_format_parse_strict_u32_column(
+pub extern "C" fn num_format_call_parse_strict_u32_column(
     format: &NumFormat,
     offsets: &[u32],
     bytes: &[u8],
@@ -250,9 +250,9 @@ pub extern "C" fn num_format_parse_strict_u32_column(
     ))
 }
 
-/// Parses a column as `num_format_parse_strict_i8_column` does.
+/// Parses a column as `num_format_call_parse_strict_i8_column` does.
 #[unsafe(no_mangle)]
-pub extern "C" fn num_format_parse_strict_u32_large_column(
+pub extern "C" fn num_format_call_parse_strict_u32_large_column(
     format: &NumFormat,
     offsets: &[u64],
     bytes: &[u8],
@@ -266,9 +266,9 @@ pub extern "C" fn num_format_parse_strict_u32_large_column(
     ))
 }
 
-/// Parses a column as `num_format_parse_strict_i8_column` does.
+/// Parses a column as `num_format_call_parse_strict_i8_column` does.
 #[unsafe(no_mangle)]
-pub extern "C" fn num_format_parse_strict_u64_column(
+pub extern "C" fn num_format_call_parse_strict_u64_column(
     format: &NumFormat,
     offsets: &[u32],
     bytes: &[u8],
@@ -282,9 +282,9 @@ pub extern "C" fn num_format_parse_strict_u64_column(
     ))
 }
 
-/// Parses a column as `num_format_parse_strict_i8_column` does.
+/// Parses a column as `num_format_call_parse_strict_i8_column` does.
 #[unsafe(no_mangle)]
-pub extern "C" fn num_format_parse_strict_u64_large_column(
+pub extern "C" fn num_format_call_parse_strict_u64_large_column(
     format: &NumFormat,
     offsets: &[u64],
     bytes: &[u8],
@@ -298,9 +298,9 @@ pub extern "C" fn num_format_parse_strict_u64_large_column(
     ))
 }
 
-/// Parses a column as `num_format_parse_strict_i8_column` does.
+/// Parses a column as `num_format_call_parse_strict_i8_column` does.
 #[unsafe(no_mangle)]
-pub extern "C" fn num_format_parse_strict_u128_column(
+pub extern "C" fn num_format_call_parse_strict_u128_column(
     format: &NumFormat,
     offsets: &[u32],
     bytes: &[u8],
@@ -314,9 +314,9 @@ pub extern "C" fn num_format_parse_strict_u128_column(
     ))
 }
 
-/// Parses a column as `num_format_parse_strict_i8_column` does.
+/// Parses a column as `num_format_call_parse_strict_i8_column` does.
 #[unsafe(no_mangle)]
-pub extern "C" fn num_format_parse_strict_u128_large_column(
+pub extern "C" fn num_format_call_parse_strict_u128_large_column(
     format: &NumFormat,
     offsets: &[u64],
     bytes: &[u8],

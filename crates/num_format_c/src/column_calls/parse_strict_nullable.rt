@@ -10,9 +10,9 @@ use crate::status::returned;
 use crate::wide::{SignedWide, UnsignedWide};
 use num_format_columns::Bitmap;
 
-/// Parses the texts strictly, and else as `num_format_parse_nullable_i8_column` does.
+/// Parses the texts strictly, and else as `num_format_call_parse_nullable_i8_column` does.
 #[unsafe(no_mangle)]
-pub extern "C" fn num_format_parse_strict_nullable_i8_column(
+pub extern "C" fn num_format_call_parse_strict_nullable_i8_column(
     format: &NumFormat,
     offsets: &[u32],
     bytes: &[u8],
@@ -33,9 +33,9 @@ pub extern "C" fn num_format_parse_strict_nullable_i8_column(
     ))
 }
 
-/// Parses a column as `num_format_parse_strict_nullable_i8_column` does.
+/// Parses a column as `num_format_call_parse_strict_nullable_i8_column` does.
 #[unsafe(no_mangle)]
-pub extern "C" fn num_format_parse_strict_nullable_i8_large_column(
+pub extern "C" fn num_format_call_parse_strict_nullable_i8_large_column(
     format: &NumFormat,
     offsets: &[u64],
     bytes: &[u8],
@@ -56,9 +56,9 @@ pub extern "C" fn num_format_parse_strict_nullable_i8_large_column(
     ))
 }
 
-/// Parses a column as `num_format_parse_strict_nullable_i8_column` does.
+/// Parses a column as `num_format_call_parse_strict_nullable_i8_column` does.
 #[unsafe(no_mangle)]
-pub extern "C" fn num_format_parse_strict_nullable_i16_column(
+pub extern "C" fn num_format_call_parse_strict_nullable_i16_column(
     format: &NumFormat,
     offsets: &[u32],
     bytes: &[u8],
@@ -79,9 +79,9 @@ pub extern "C" fn num_format_parse_strict_nullable_i16_column(
     ))
 }
 
-/// Parses a column as `num_format_parse_strict_nullable_i8_column` does.
+/// Parses a column as `num_format_call_parse_strict_nullable_i8_column` does.
 #[unsafe(no_mangle)]
-pub extern "C" fn num_format_parse_strict_nullable_i16_large_column(
+pub extern "C" fn num_format_call_parse_strict_nullable_i16_large_column(
     format: &NumFormat,
     offsets: &[u64],
     bytes: &[u8],
@@ -102,9 +102,9 @@ pub extern "C" fn num_format_parse_strict_nullable_i16_large_column(
     ))
 }
 
-/// Parses a column as `num_format_parse_strict_nullable_i8_column` does.
+/// Parses a column as `num_format_call_parse_strict_nullable_i8_column` does.
 #[unsafe(no_mangle)]
-pub extern "C" fn num_format_parse_strict_nullable_i32_column(
+pub extern "C" fn num_format_call_parse_strict_nullable_i32_column(
     format: &NumFormat,
     offsets: &[u32],
     bytes: &[u8],
@@ -125,9 +125,9 @@ pub extern "C" fn num_format_parse_strict_nullable_i32_column(
     ))
 }
 
-/// Parses a column as `num_format_parse_strict_nullable_i8_column` does.
+/// Parses a column as `num_format_call_parse_strict_nullable_i8_column` does.
 #[unsafe(no_mangle)]
-pub extern "C" fn num_format_parse_strict_nullable_i32_large_column(
+pub extern "C" fn num_format_call_parse_strict_nullable_i32_large_column(
     format: &NumFormat,
     offsets: &[u64],
     bytes: &[u8],
@@ -148,9 +148,9 @@ pub extern "C" fn num_format_parse_strict_nullable_i32_large_column(
     ))
 }
 
-/// Parses a column as `num_format_parse_strict_nullable_i8_column` does.
+/// Parses a column as `num_format_call_parse_strict_nullable_i8_column` does.
 #[unsafe(no_mangle)]
-pub extern "C" fn num_format_parse_strict_nullable_i64_column(
+pub extern "C" fn num_format_call_parse_strict_nullable_i64_column(
     format: &NumFormat,
     offsets: &[u32],
     bytes: &[u8],
@@ -171,9 +171,9 @@ pub extern "C" fn num_format_parse_strict_nullable_i64_column(
     ))
 }
 
-/// Parses a column as `num_format_parse_strict_nullable_i8_column` does.
+/// Parses a column as `num_format_call_parse_strict_nullable_i8_column` does.
 #[unsafe(no_mangle)]
-pub extern "C" fn num_format_parse_strict_nullable_i64_large_column(
+pub extern "C" fn num_format_call_parse_strict_nullable_i64_large_column(
     format: &NumFormat,
     offsets: &[u64],
     bytes: &[u8],
@@ -194,9 +194,9 @@ pub extern "C" fn num_format_parse_strict_nullable_i64_large_column(
     ))
 }
 
-/// Parses a column as `num_format_parse_strict_nullable_i8_column` does.
+/// Parses a column as `num_format_call_parse_strict_nullable_i8_column` does.
 #[unsafe(no_mangle)]
-pub extern "C" fn num_format_parse_strict_nullable_i128_column(
+pub extern "C" fn num_format_call_parse_strict_nullable_i128_column(
     format: &NumFormat,
     offsets: &[u32],
     bytes: &[u8],
@@ -217,9 +217,9 @@ pub extern "C" fn num_format_parse_strict_nullable_i128_column(
     ))
 }
 
-/// Parses a column as `num_format_parse_strict_nullable_i8_column` does.
+/// Parses a column as `num_format_call_parse_strict_nullable_i8_column` does.
 #[unsafe(no_mangle)]
-pub extern "C" fn num_format_parse_strict_nullable_i128_large_column(
+pub extern "C" fn num_format_call_parse_strict_nullable_i128_large_column(
     format: &NumFormat,
     offsets: &[u64],
     bytes: &[u8],
@@ -240,9 +240,9 @@ pub extern "C" fn num_format_parse_strict_nullable_i128_large_column(
     ))
 }
 
-/// Parses a column as `num_format_parse_strict_nullable_i8_column` does.
+/// Parses a column as `num_format_call_parse_strict_nullable_i8_column` does.
 #[unsafe(no_mangle)]
-pub extern "C" fn num_format_parse_strict_nullable_u8_column(
+pub extern "C" fn num_format_call_parse_strict_nullable_u8_column(
     format: &NumFormat,
     offsets: &[u32],
     bytes: &[u8],
@@ -263,9 +263,9 @@ pub extern "C" fn num_format_parse_strict_nullable_u8_column(
     ))
 }
 
-/// Parses a column as `num_format_parse_strict_nullable_i8_column` does.
+/// Parses a column as `num_format_call_parse_strict_nullable_i8_column` does.
 #[unsafe(no_mangle)]
-pub extern "C" fn num_format_parse_strict_nullable_u8_large_column(
+pub extern "C" fn num_format_call_parse_strict_nullable_u8_large_column(
     format: &NumFormat,
     offsets: &[u64],
     bytes: &[u8],
@@ -286,9 +286,9 @@ pub extern "C" fn num_format_parse_strict_nullable_u8_large_column(
     ))
 }
 
-/// Parses a column as `num_format_parse_strict_nullable_i8_column` does.
+/// Parses a column as `num_format_call_parse_strict_nullable_i8_column` does.
 #[unsafe(no_mangle)]
-pub extern "C" fn num_format_parse_strict_nullable_u16_column(
+pub extern "C" fn num_format_call_parse_strict_nullable_u16_column(
     format: &NumFormat,
     offsets: &[u32],
     bytes: &[u8],
@@ -309,9 +309,9 @@ pub extern "C" fn num_format_parse_strict_nullable_u16_column(
     ))
 }
 
-/// Parses a column as `num_format_parse_strict_nullable_i8_column` does.
+/// Parses a column as `num_format_call_parse_strict_nullable_i8_column` does.
 #[unsafe(no_mangle)]
-pub extern "C" fn num_format_parse_strict_nullable_u16_large_column(
+pub extern "C" fn num_format_call_parse_strict_nullable_u16_large_column(
     format: &NumFormat,
     offsets: &[u64],
     bytes: &[u8],
@@ -332,9 +332,9 @@ pub extern "C" fn num_format_parse_strict_nullable_u16_large_column(
     ))
 }
 
-/// Parses a column as `num_format_parse_strict_nullable_i8_column` does.
+/// Parses a column as `num_format_call_parse_strict_nullable_i8_column` does.
 #[unsafe(no_mangle)]
-pub extern "C" fn num_format_parse_strict_nullable_u32_column(
+pub extern "C" fn num_format_call_parse_strict_nullable_u32_column(
     format: &NumFormat,
     offsets: &[u32],
     bytes: &[u8],
@@ -355,9 +355,9 @@ pub extern "C" fn num_format_parse_strict_nullable_u32_column(
     ))
 }
 
-/// Parses a column as `num_format_parse_strict_nullable_i8_column` does.
+/// Parses a column as `num_format_call_parse_strict_nullable_i8_column` does.
 #[unsafe(no_mangle)]
-pub extern "C" fn num_format_parse_strict_nullable_u32_large_column(
+pub extern "C" fn num_format_call_parse_strict_nullable_u32_large_column(
     format: &NumFormat,
     offsets: &[u64],
     bytes: &[u8],
@@ -378,9 +378,9 @@ pub extern "C" fn num_format_parse_strict_nullable_u32_large_column(
     ))
 }
 
-/// Parses a column as `num_format_parse_strict_nullable_i8_column` does.
+/// Parses a column as `num_format_call_parse_strict_nullable_i8_column` does.
 #[unsafe(no_mangle)]
-pub extern "C" fn num_format_parse_strict_nullable_u64_column(
+pub extern "C" fn num_format_call_parse_strict_nullable_u64_column(
     format: &NumFormat,
     offsets: &[u32],
     bytes: &[u8],
@@ -401,9 +401,9 @@ pub extern "C" fn num_format_parse_strict_nullable_u64_column(
     ))
 }
 
-/// Parses a column as `num_format_parse_strict_nullable_i8_column` does.
+/// Parses a column as `num_format_call_parse_strict_nullable_i8_column` does.
 #[unsafe(no_mangle)]
-pub extern "C" fn num_format_parse_strict_nullable_u64_large_column(
+pub extern "C" fn num_format_call_parse_strict_nullable_u64_large_column(
     format: &NumFormat,
     offsets: &[u64],
     bytes: &[u8],
@@ -424,9 +424,9 @@ pub extern "C" fn num_format_parse_strict_nullable_u64_large_column(
     ))
 }
 
-/// Parses a column as `num_format_parse_strict_nullable_i8_column` does.
+/// Parses a column as `num_format_call_parse_strict_nullable_i8_column` does.
 #[unsafe(no_mangle)]
-pub extern "C" fn num_format_parse_strict_nullable_u128_column(
+pub extern "C" fn num_format_call_parse_strict_nullable_u128_column(
     format: &NumFormat,
     offsets: &[u32],
     bytes: &[u8],
@@ -447,9 +447,9 @@ pub extern "C" fn num_format_parse_strict_nullable_u128_column(
     ))
 }
 
-/// Parses a column as `num_format_parse_strict_nullable_i8_column` does.
+/// Parses a column as `num_format_call_parse_strict_nullable_i8_column` does.
 #[unsafe(no_mangle)]
-pub extern "C" fn num_format_parse_strict_nullable_u128_large_column(
+pub extern "C" fn num_format_call_parse_strict_nullable_u128_large_column(
     format: &NumFormat,
     offsets: &[u64],
     bytes: &[u8],
