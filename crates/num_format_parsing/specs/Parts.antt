@@ -9,8 +9,8 @@ use Rattle.num_format_text.specs.Format.{FormatData}
 use Rattle.num_format_int.specs.Grouped.{stands, separated, printed_separator}
 use Rattle.num_format_int.specs.Groups.{HasLastGroup, HasGroups}
 use Rattle.num_format_parsing.specs.Figures.{HasFigures}
-use Rattle.num_format_parsing.specs.Reading.{denoted, is_other_numeral}
-use Rattle.num_format_parsing.specs.Shapes.{byte_figures, EndsSeparator, IsInGroups}
+use Rattle.num_format_parsing.specs.Reading.{denoted, is_negative_text, is_other_numeral}
+use Rattle.num_format_parsing.specs.Shapes.{byte_figures, EndsSeparator, IsInGroups, IsPlainStart}
 use Rattle.num_format_parsing.specs.Strict.{SpellsNumber, begins, unread, unexpected}
 use Rattle.num_format_parsing.specs.declared.reading.Reading.{Reading}
 use Rattle.num_format_parsing.specs.declared.reading.Reading.TheVariants.{Number, Spelled, Unexpected, Unspelled, Unknown}
@@ -76,6 +76,12 @@ pub record GroupsBy (g : Grouping) (last size least : ℕ) : Type 0 where
   pub many : (d right : ℕ) → right < d → stands g d right ≡ true → least ≤ d
   pub found : (s body : List ℕ) (found : IsInGroups last size s body) → least + length s ≤ length body
       → HasLastGroup (stands g (length found.ds)) last × HasGroups (stands g (length found.ds)) size
+
+-- a text is negative or not, and its minus sign, of that length, has no numeric character
+pub record HasPlainSign (f : FormatData) (t : List ℕ) (negative : Bool) (start : ℕ) : Type 0 where
+  pub plain : IsPlainStart f t start
+  pub tested : negative ≡ is_negative_text f t
+  pub numeral : list_any is_other_numeral (chars (take start t)) ≡ false
 
 -- a text was read that spells the number that it denotes. If its minus sign has no numeric character, its figures write n
 pub record HasReadNumber (f : FormatData) (t : List ℕ) (start most n : ℕ) : Type 0 where

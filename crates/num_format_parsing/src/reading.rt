@@ -52,6 +52,9 @@ struct Groups {
     least: usize,
 }
 
+/// The fewest bytes of groups: a digit, a separator and three digits.
+const SHORTEST_GROUPED: usize = 5;
+
 /// Returns what one pass over a text finds. Its minus sign has the length `start`, and `most` is the number of
 /// digits that it may have.
 #[inline]
@@ -99,6 +102,70 @@ pub(crate) fn read_short(text: &[u8], start: usize, most: usize) -> Option<u64>
         return None;
     }
     push_few(text, start, count, 0)
+}
+
+/// Returns the number of a text that is in groups after its minus sign, with a separator of one byte, and has at
+/// most `most` digits. It may return `None` for any text.
+///
+/// Where the first separator stands is found before its digits are read, so that none is looked at twice.
+#[inline(always)]
+pub(crate) fn read_in_groups<F: Format, A: Accumulator>(
+    text: &[u8],
+    start: usize,
+    most: usize,
+    format: &F,
+) -> Option<A>
+    requires { IsPlainStart (F.answers format.now) text.now start }
+    ensures { IfSome result (λ n.
+        HasReadNumber (F.answers format.now) text.now start most (A.number n)) }
+{
+    let groups = groups_of(format.grouping())?;
+    let separator = format.separator().into_str();
+    let bytes = separator.as_bytes();
+    if bytes.len() != 1 || has_digit_in_symbol(bytes) || has_numeral_in_symbol(separator) {
+        return None;
+    }
+    let len = text.len() - start;
+    if len < SHORTEST_GROUPED || len <= groups.least || !begins_with_digit(&text[start..]) {
+        return None;
+    }
+    let first = read_first_group::<A>(text, start, bytes[0])?;
+    let Ok(whole) = read_by(text, start, first, bytes, groups) else {
+        return None;
+    };
+    if whole.figures > most || !is_exact(text, start, whole) {
+        return None;
+    }
+    Some(whole.magnitude)
+}
+
+/// Returns the first group of a text, which is the one to three digits before a separator.
+#[inline(always)]
+fn read_first_group<A: Accumulator>(text: &[u8], start: usize, separator: u8) -> Option<Part<A>>
+    requires { start + SHORTEST_GROUPED ≤ length text.now }
+    ensures { IfSome result (λ first. HasReadDigits A.bound text.now start first.end 0 (A.number first.magnitude)
+        × (first.figures + start ≡ first.end)
+        × (start < first.end)
+        × (first.end < length text.now)
+        × (slice_index text.now first.end ≡ separator)) }
+{
+    let figures = if text[start + 1] == separator {
+        1
+    } else if text[start + 2] == separator {
+        2
+    } else {
+        3
+    };
+    let end = start + figures;
+    if text[end] != separator {
+        return None;
+    }
+    let magnitude = push_few(text, start, figures, A::zero())?;
+    Some(Part {
+        end,
+        figures,
+        magnitude,
+    })
 }
 
 /// Returns the same of a text whose first digits, up to `end`, do not end it. They write `magnitude`, modulo the

@@ -2,21 +2,22 @@
 //!
 //! A text *spells* a number if it is the text of the number under the format, or that text without
 //! separators. Strict parsing returns the number that a text spells, and refuses every other text.
-ghost use Rattle.std.specs.Prelude.{◌≡◌, ◌↔◌, nat_eq, ◌-◌, ◌<◌, ◌≤◌, ◌&&◌, [], IsTrue, take, drop, length, Some, IsUtf8, IfSome, MatchOption, MatchResult, if◌then◌else◌};
+ghost use Rattle.std.specs.Prelude.{◌≡◌, ◌↔◌, ℕ, List, nat_eq, ◌-◌, ◌<◌, ◌≤◌, ◌&&◌, [], IsTrue, take, drop, length, Some, IsUtf8, IfSome, MatchOption, MatchResult, if◌then◌else◌};
 ghost use Rattle.std.specs.Char.{is_ascii_digit};
 ghost use Rattle.std.specs.Int.Digits.{number_from_digits};
 ghost use Rattle.std.specs.List.{list_any, starts_with};
 ghost use Rattle.std.specs.Str.{chars};
+ghost use Rattle.num_format_text.specs.Format.{FormatData};
 ghost use Rattle.num_format_int.specs.Grouped.{stands, grouped, printed_separator};
 ghost use Rattle.num_format_int.specs.Kind.{Kind};
 ghost use Rattle.num_format_parsing.specs.Reading.{denoted, figures, is_other_numeral};
 ghost use Rattle.num_format_parsing.specs.Strict.{SpellsNumber, ParsesStrictly, IsOutOfRange, IsCause, IsExpected, begins, unread, unexpected, sign_len, strict_message_of};
-ghost use Rattle.num_format_parsing.specs.Parts.{IsRead, IsUnspelled};
+ghost use Rattle.num_format_parsing.specs.Parts.{HasPlainSign, HasReadNumber, IsRead, IsUnspelled};
 ghost use Rattle.num_format_parsing.specs.Shapes.{BeginsWithDigit, byte_figures};
 
 use crate::numeral::{has_digit_in_symbol, has_numeral_in_symbol};
 use crate::parsing::{Accumulator, SAFE_FIGURES, most_figures, parse};
-use crate::reading::{Reading, read_short, read_text};
+use crate::reading::{Reading, read_in_groups, read_short, read_text};
 use num_format_int::sealed::Sealed;
 use num_format_text::{Format, Grouping};
 use std::fmt;
@@ -76,10 +77,35 @@ pub(crate) fn parse_strict<N: Sealed, F: Format>(
         (λ n. ParsesStrictly N.kind (F.answers format.now) bytes.now (N.value n))
         (λ e. IsCause N.kind (F.answers format.now) bytes.now e) }
 {
-    if let Some(answer) = parse_short(bytes, format) {
-        return match answer {
-            Some(number) => Ok(number),
-            None => Err(StrictError::OutOfRange),
+    if bytes.len() <= SHORT_LEN {
+        if let Some(result) = parse_short(bytes, format) {
+            return match result {
+                Ok(number) => Ok(number),
+                Err(OutOfRange) => Err(StrictError::OutOfRange),
+            };
+        }
+    }
+    parse_long(bytes, is_text, format)
+}
+
+/// Returns the same of a text that is not short, or spells no number.
+///
+/// It is a function of its own, so that short texts are parsed without its space.
+#[inline(never)]
+fn parse_long<N: Sealed, F: Format>(
+    bytes: &[u8],
+    is_text: bool,
+    format: &F,
+) -> Result<N, StrictError>
+    requires { IsTrue is_text → IsUtf8 bytes.now }
+    ensures { MatchResult result
+        (λ n. ParsesStrictly N.kind (F.answers format.now) bytes.now (N.value n))
+        (λ e. IsCause N.kind (F.answers format.now) bytes.now e) }
+{
+    if let Some(result) = parse_groups(bytes, format) {
+        return match result {
+            Ok(number) => Ok(number),
+            Err(OutOfRange) => Err(StrictError::OutOfRange),
         };
     }
     // Most texts are short: their digits fit 64 bits, which take less time than 128. Whether a type is wide is
@@ -156,30 +182,112 @@ fn parse_rest<N: Sealed, F: Format, A: Accumulator>(
 }
 
 /// A short text has at most so many bytes, as those of a minus sign and three digits.
-const SHORT_LEN: usize = 4;
+pub(crate) const SHORT_LEN: usize = 4;
 
-/// Returns the number that a short text spells, or `Some(None)` if parsing refuses it. It may return `None` for any
-/// text.
+/// Nineteen digits in groups of three take so many bytes with a separator of one byte.
+const SAFE_GROUPED_LEN: usize = SAFE_FIGURES + 6;
+
+/// Why a text is refused that spells a number.
+#[derive(Clone, Copy)]
+pub(crate) struct OutOfRange;
+
+/// Returns the number that a short text spells, or that parsing refuses it. It may return `None` for any text.
 ///
 /// Most numbers are short, and the format is asked for its minus sign alone. Most short texts that spell none have
 /// no digit at their end, and are left before that.
 #[inline(always)]
-pub(crate) fn parse_short<N: Sealed, F: Format>(text: &[u8], format: &F) -> Option<Option<N>>
-    ensures { IfSome result (λ answer. MatchOption answer
-        (IsOutOfRange N.kind (F.answers format.now) text.now)
-        (λ n. ParsesStrictly N.kind (F.answers format.now) text.now (N.value n))) }
+pub(crate) fn parse_short<N: Sealed, F: Format>(
+    text: &[u8],
+    format: &F,
+) -> Option<Result<N, OutOfRange>>
+    requires { length text.now ≤ SHORT_LEN }
+    ensures { IfSome result (λ answer. MatchResult answer
+        (λ n. ParsesStrictly N.kind (F.answers format.now) text.now (N.value n))
+        (λ _. IsOutOfRange N.kind (F.answers format.now) text.now)) }
 {
-    if text.len() > SHORT_LEN || !text.last()?.is_ascii_digit() {
+    if !text.last()?.is_ascii_digit() {
         return None;
     }
+    let sign = sign_of(text, format)?;
+    let magnitude = read_short(text, sign.len, most_figures::<N>(sign.is_negative))?;
+    Some(number_of(sign, magnitude as u128))
+}
+
+/// Returns the same of a text in groups.
+#[inline(always)]
+fn parse_groups<N: Sealed, F: Format>(text: &[u8], format: &F) -> Option<Result<N, OutOfRange>>
+    ensures { IfSome result (λ answer. MatchResult answer
+        (λ n. ParsesStrictly N.kind (F.answers format.now) text.now (N.value n))
+        (λ _. IsOutOfRange N.kind (F.answers format.now) text.now)) }
+{
+    if text.len() <= SHORT_LEN {
+        None
+    } else if N::is_wide() && text.len() > SAFE_GROUPED_LEN {
+        parse_groups_by::<N, F, u128>(text, format)
+    } else {
+        parse_groups_by::<N, F, u64>(text, format)
+    }
+}
+
+/// Returns the same of a text that ends with a separator of one byte and three digits, by way of the accumulator.
+///
+/// The text is looked at before the format is asked for anything, so that others are left early.
+#[inline(always)]
+fn parse_groups_by<N: Sealed, F: Format, A: Accumulator>(
+    text: &[u8],
+    format: &F,
+) -> Option<Result<N, OutOfRange>>
+    requires { SHORT_LEN < length text.now }
+    ensures { IfSome result (λ answer. MatchResult answer
+        (λ n. ParsesStrictly N.kind (F.answers format.now) text.now (N.value n))
+        (λ _. IsOutOfRange N.kind (F.answers format.now) text.now)) }
+{
+    let last = text[text.len() - 1];
+    let separator = text[text.len() - 4];
+    if !last.is_ascii_digit() || separator.is_ascii_digit() || !separator.is_ascii() {
+        return None;
+    }
+    let sign = sign_of(text, format)?;
+    let most = most_figures::<N>(sign.is_negative);
+    let magnitude = read_in_groups::<F, A>(text, sign.len, most, format)?;
+    Some(number_of(sign, magnitude.number()))
+}
+
+/// Whether a text is negative, and the length of its minus sign, which is else 0.
+#[derive(Clone, Copy)]
+struct Sign {
+    is_negative: bool,
+    len: usize,
+}
+
+/// Returns the sign of a text, or `None` if a numeric character stands in its minus sign.
+#[inline(always)]
+fn sign_of<F: Format>(text: &[u8], format: &F) -> Option<Sign>
+    ensures { IfSome result (λ sign.
+        HasPlainSign (F.answers format.now) text.now sign.is_negative sign.len) }
+{
     let minus_sign = format.minus_sign().into_str();
     let is_negative = is_prefix(text, minus_sign.as_bytes());
-    let start = minus_len(minus_sign, is_negative);
+    let len = minus_len(minus_sign, is_negative);
     if has_digit_in_sign(minus_sign, is_negative) || has_numeral_in_sign(minus_sign, is_negative) {
         return None;
     }
-    let magnitude = read_short(text, start, most_figures::<N>(is_negative))?;
-    Some(N::from_sign_and_magnitude(is_negative, magnitude as u128))
+    Some(Sign { is_negative, len })
+}
+
+/// Returns the number of that sign and magnitude, if it is a value of the type.
+#[inline(always)]
+fn number_of<N: Sealed>(sign: Sign, magnitude: u128) -> Result<N, OutOfRange>
+    ensures { (f : FormatData) (t : List ℕ) (most : ℕ) → HasPlainSign f t sign.is_negative sign.len
+        → most ≤ N.kind.limit - (if sign.is_negative then 1 else 0)
+        → HasReadNumber f t sign.len most magnitude → MatchResult result
+        (λ n. ParsesStrictly N.kind f t (N.value n))
+        (λ _. IsOutOfRange N.kind f t) }
+{
+    match N::from_sign_and_magnitude(sign.is_negative, magnitude) {
+        Some(number) => Ok(number),
+        None => Err(OutOfRange),
+    }
 }
 
 /// Returns the length of the minus sign of a negative text, and else 0.

@@ -1,5 +1,6 @@
-use Rattle.std.proofs.Common.{◌≡◌, ◌⊎◌, inr, ℤ, List, ℕ, Option, Some, None, IsUtf8}
-use Rattle.std.specs.Prelude.{MatchOption}
+use Rattle.std.proofs.Common.{◌≡◌, ◌⊎◌, inr, ℤ, List, ℕ, Result, Ok, Err, IsUtf8, sym, subst}
+use Rattle.std.specs.Prelude.{MatchOption, MatchResult}
+use Rattle.std.specs.Result.{result_ok}
 use Rattle.num_format_text.specs.Format.{FormatData}
 use Rattle.num_format_int.specs.Kind.{Kind}
 use Rattle.num_format_parsing.specs.Reading.{denoted, Refused}
@@ -7,10 +8,15 @@ use Rattle.num_format_parsing.specs.Strict.{IsOutOfRange, ParsesStrictly}
 use Rattle.num_format_parsing.proofs.parsing.parse.Goals as goal
 
 -- what is parsed strictly is parsed, and what is out of range is refused
-parsed : {X : Type 0} (value : X → ℤ) (k : Kind) (f : FormatData) (t : List ℕ) (r : Option X) → MatchOption r (IsOutOfRange k f t) (λ n. ParsesStrictly k f t (value n)) →
-    MatchOption r ((¬ (IsUtf8 t)) ⊎ Refused k f t) (λ n. IsUtf8 t × (value n ≡ denoted f t) × ¬ (Refused k f t))
-parsed value k f t None out = inr out.refused
-parsed value k f t (Some n) read = (read.utf8, read.number, read.accepted)
+parsed : {X E : Type 0} (value : X → ℤ) (k : Kind) (f : FormatData) (t : List ℕ) (r : Result X E) → MatchResult r (λ n. ParsesStrictly k f t (value n)) (λ _. IsOutOfRange k f t) →
+    MatchOption (result_ok r) ((¬ (IsUtf8 t)) ⊎ Refused k f t) (λ n. IsUtf8 t × (value n ≡ denoted f t) × ¬ (Refused k f t))
+parsed value k f t (Err _) out = inr out.refused
+parsed value k f t (Ok n) read = (read.utf8, read.number, read.accepted)
 
 pub returns-in-Some : goal.returns-in-Some
-returns-in-Some g c = parsed g.N.Sealed.value g.N.Sealed.kind (g.F.Format.answers c.args.format.now) c.args.bytes.now c.in-Some.answer c.in-Some.ensures
+returns-in-Some g c =
+    let k = g.N.Sealed.kind in
+    let f = g.F.Format.answers c.args.format.now in
+    let t = c.args.bytes.now in
+    subst (λ o. MatchOption o ((¬ (IsUtf8 t)) ⊎ Refused k f t) (λ n. IsUtf8 t × (g.N.Sealed.value n ≡ denoted f t) × ¬ (Refused k f t))) (sym c.ok.ensures.value)
+    (parsed g.N.Sealed.value k f t c.in-Some.result c.in-Some.ensures)
