@@ -8,7 +8,6 @@ use Rattle.num_format_text.specs.Format.{FormatData}
 use Rattle.num_format_int.specs.Digits.{digits}
 use Rattle.num_format_int.specs.Groups.{last_digits, plain}
 use Rattle.num_format_int.specs.Kind.{I128, kind_of, signed_number}
-use Rattle.num_format_int.specs.Text.{body_of}
 use Rattle.num_format_int.proofs.DigitLemmas.{length-digits-le}
 use Rattle.num_format_int.proofs.GroupedLemmas.{grouped-Posix, grouped-short}
 use Rattle.num_format_parsing.specs.Reading.{Refused, denoted, no_digit, no_value, other_numeral, too_many_figures}
