@@ -1,4 +1,5 @@
 pub mod CauseLemmas
+pub mod FewLemmas
 pub mod LawLemmas
 pub mod LengthLemmas
 pub mod LocaleMarkLemmas

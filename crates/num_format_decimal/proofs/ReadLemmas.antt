@@ -1,16 +1,16 @@
 -- Decimals that are read in one pass.
-use Rattle.std.proofs.Common.{◌≡◌, ℕ, zero, suc, ◌+◌, ◌-◌, ◌*◌, ◌/◌, ◌%◌, ◌^◌, ◌<◌, ◌≤◌, Bool, true, false, List, [], ◌∷◌, ◌++◌, length, get_or, take, drop, take-append-drop, refl, ap, ◌∙◌, sym, subst, arith, append-nil, length-append, length-drop, inl, inr, ◌⊎◌, ℤ, pos, unsigned_abs}
+use Rattle.std.proofs.Common.{◌≡◌, ℕ, zero, suc, ◌+◌, ◌-◌, ◌*◌, ◌/◌, ◌%◌, ◌^◌, ◌<◌, ◌≤◌, Bool, true, false, List, [], ◌∷◌, ◌++◌, length, get_or, take, drop, take-append-drop, drop-drop, refl, ap, ◌∙◌, sym, subst, arith, append_assoc, append-nil, length-append, length-drop, inl, inr, ◌⊎◌, ℤ, pos, negsuc, unsigned_abs}
 use Rattle.std.specs.Prelude.{nat_eq, nat_lt, if◌then◌else◌, Option, Some, None, IfSome, SomeIff}
 use Rattle.std.specs.Char.{is_ascii_digit}
 use Rattle.std.specs.Int.{is_negative}
 use Rattle.std.specs.Int.Digits.{number_from_digits}
 use Rattle.std.specs.List.{list_all, starts_with}
-use Rattle.std.proofs.Math.Nat.{pow-le-pow_right, pow-suc}
+use Rattle.std.proofs.Math.Nat.{mul_assoc, pow-le-pow_right, pow-suc, zero-div}
 use Rattle.std.proofs.Math.Seq.{drop-length, take-suc}
 use Rattle.std.proofs.lemmas.Bool.{and_from, both_ways, cases_eq, true_from_ne_false}
 use Rattle.std.proofs.lemmas.Bool.Decides.{nat_tests, Decides-eqb}
 use Rattle.std.proofs.lemmas.Int.Digits.{number_after_append}
-use Rattle.std.proofs.lemmas.List.{get_or-take, length-map, length-take-le, take_at, take_rest}
+use Rattle.std.proofs.lemmas.List.{get_or-drop, get_or-take, length-map, length-take-le, take_at, take_rest}
 use Rattle.std.proofs.lemmas.List.Folds.{list_all-append, list_all_at}
 use Rattle.std.proofs.lemmas.Nat.{div-mul-add, mod-mul-add}
 use Rattle.std.proofs.lemmas.Slice.Eq.{starts_is}
@@ -78,6 +78,42 @@ pub more_small : (n i d : ℕ) → n < 10 ^ i → d ≤ 9 → 10 * n + d < 10 ^ 
 more_small n i d small digit =
     let next : i + 1 ≡ suc i = omega arith in
     let power = ap (λ j. 10 ^ j) next ∙ pow-suc 10 i in
+    omega (arith, power)
+
+-- the byte at a place, counted from another
+byte_after : (t : List ℕ) (start place : ℕ) → start ≤ place → get_or (drop start t) (place - start) 0 ≡ get_or t place 0
+byte_after t start place order = get_or-drop start t (place - start) 0 ∙ ap (λ i. get_or t i 0) (let e : start + (place - start) ≡ place = omega arith in e)
+
+-- digits from a place on, and one more
+pub next_are_digits : (t : List ℕ) (start place : ℕ) → start ≤ place → place < length t → list_all is_ascii_digit (take (place - start) (drop start t)) ≡ true → is_ascii_digit (get_or t place 0) ≡ true →
+    list_all is_ascii_digit (take (place + 1 - start) (drop start t)) ≡ true
+next_are_digits t start place order inside all digit =
+    let i = place - start in
+    let next : place + 1 - start ≡ i + 1 = omega arith in
+    ap (λ j. list_all is_ascii_digit (take j (drop start t))) next
+    ∙ more_are_digits (drop start t) i (omega (arith, length-drop start t)) all (ap is_ascii_digit (byte_after t start place order) ∙ digit)
+
+-- and the number that they write after another
+pub next_digit : (t : List ℕ) (start place first n : ℕ) → start ≤ place → place < length t → is_ascii_digit (get_or t place 0) ≡ true →
+    n ≡ first * 10 ^ (place - start) + number_from_digits 10 (byte_figures (take (place - start) (drop start t))) →
+    10 * n + (get_or t place 0 - 48) ≡ first * 10 ^ (place + 1 - start) + number_from_digits 10 (byte_figures (take (place + 1 - start) (drop start t)))
+next_digit t start place first n order inside digit number =
+    let u = drop start t in
+    let i = place - start in
+    let m = number_from_digits 10 (byte_figures (take i u)) in
+    let b = get_or t place 0 in
+    let same = byte_after t start place order in
+    let next : i + 1 ≡ place + 1 - start = omega arith in
+    let step : i + 1 ≡ suc i = omega arith in
+    let more : 10 * m + (b - 48) ≡ number_from_digits 10 (byte_figures (take (i + 1) u)) =
+    ap (λ c. 10 * m + (c - 48)) (sym same) ∙ one_more_digit u i m (omega (arith, length-drop start t)) (ap is_ascii_digit same ∙ digit) refl in
+    let power : first * 10 ^ (i + 1) ≡ first * 10 ^ i * 10 = ap (λ p. first * p) (ap (λ j. 10 ^ j) step ∙ pow-suc 10 i) ∙ sym (mul_assoc first (10 ^ i) 10) in
+    let sum : 10 * n + (b - 48) ≡ first * 10 ^ (i + 1) + number_from_digits 10 (byte_figures (take (i + 1) u)) = omega (arith, number, power, more) in
+    sum ∙ ap (λ j. first * 10 ^ j + number_from_digits 10 (byte_figures (take j u))) next
+
+pub later_small : (n place end : ℕ) → n < 10 ^ place → place ≤ end → n < 10 ^ end
+later_small n place end small order =
+    let power : 10 ^ place ≤ 10 ^ end = pow-le-pow_right {n = 10} (omega arith) {i = place} {j = end} order in
     omega (arith, power)
 
 pub few_fit : (n i d len : ℕ) → n < 10 ^ i → d ≤ 9 → i < len → len ≤ 19 → 10 * n + d < 2 ^ 64
@@ -228,6 +264,61 @@ parts_read f t body b start place end k m n marks all order digit sign between s
           let spelled : SpellsNumber f (drop start t) (pos n) = subst (λ xs. SpellsNumber f xs (pos n)) whole (subst (λ j. SpellsNumber f body (pos j)) (sym same) spells) in
           subst (λ j. SpellsDecimal f t (fixed_point (signed_number b n) j)) (sym none) (unmarked_read f t b start n sign spelled signed)
     ]
+
+-- a number whose whole part has a sign is not zero
+some_read : (z : ℤ) (n k : ℕ) → is_negative z ≡ true → n / 10 ^ k ≡ unsigned_abs z → 0 < n
+some_read (pos m) n k negative whole = absurd (both_ways (is_negative (pos m)) (is_negative-pos m) negative)
+some_read (negsuc m) zero k negative whole = let none : 0 / 10 ^ k ≡ 0 = zero-div (10 ^ k) in omega (arith, none, whole)
+some_read (negsuc m) (suc n) k negative whole = omega arith
+
+-- what follows a place is the mark and the digits after it, or nothing
+rest_marked : (f : FormatData) (t : List ℕ) (place end k : ℕ) → IsMarkedAt f.decimal t place end → end + k ≡ length t → drop place t ≡ mark_at f k ++ drop end t
+rest_marked f t place end k marks all =
+    elim marks [
+      | marked more stands ↦
+          let test : nat_lt 0 k ≡ true = grind (arith, nat_tests) in
+          let rest = drop place t in
+          let split = (starts_is Decides-eqb rest f.decimal (starts_with nat_eq rest f.decimal) refl).0 (begins_starts f.decimal rest stands.there) in
+          split
+          ∙ ap (λ xs. f.decimal ++ xs) (drop-drop (length f.decimal) place t ∙ ap (λ i. drop i t) stands.after)
+          ∙ ap (λ (c : Bool). (if c then f.decimal else []) ++ drop end t) (sym test)
+      | unmarked at_place at_end ↦
+          let test : nat_lt 0 k ≡ false = grind (arith, nat_tests) in
+          ap (λ i. drop i t) (at_place ∙ sym at_end) ∙ ap (λ (c : Bool). (if c then f.decimal else []) ++ drop end t) (sym test)
+    ]
+
+-- a whole number with its sign, and the mark with digits if there are any
+pub amount_read : (f : FormatData) (t : List ℕ) (z : ℤ) (place end k n : ℕ) → IsMarkedAt f.decimal t place end → end + k ≡ length t → list_all is_ascii_digit (drop end t) ≡ true →
+    SpellsNumber f (take place t) z → n ≡ unsigned_abs z * 10 ^ k + number_from_digits 10 (byte_figures (drop end t)) → SpellsDecimal f t (fixed_point (signed_number (is_negative z) n) k)
+amount_read f t z place end k n marks all digit spells sum =
+    let b = is_negative z in
+    let y = signed_number b n in
+    let parts = number_parts f (take place t) z spells in
+    let body = parts.0 in
+    let read = decimals_read t end k (unsigned_abs z) n all digit sum in
+    let abs : n ≡ unsigned_abs y = sym (signed-abs b n) in
+    let signs : is_negative y ≡ b = negative_read b n (λ negative. some_read z n k negative read.1) in
+    let tail : drop place t ≡ mark_at f k ++ plain (last_digits k (unsigned_abs y)) =
+    rest_marked f t place end k marks all ∙ ap (λ xs. mark_at f k ++ xs) (read.0 ∙ ap (λ j. plain (last_digits k j)) abs) in
+    spelled-from_parts f t y k body (record {
+      split =
+          sym (take-append-drop place t)
+          ∙ ap (λ xs. xs ++ drop place t) parts.1.0
+          ∙ append_assoc (sign_of f z) body (drop place t)
+          ∙ ap (λ xs. sign_of f z ++ (body ++ xs)) tail
+          ∙ ap (λ (c : Bool). (if c then f.minus_sign else []) ++ (body ++ (mark_at f k ++ plain (last_digits k (unsigned_abs y))))) (sym signs);
+      whole = subst (IsBody f body) (sym read.1 ∙ ap (λ j. j / 10 ^ k) abs) parts.1.1;
+    })
+
+-- a whole number is a decimal without decimals
+pub whole_read : (f : FormatData) (t : List ℕ) (z : ℤ) → SpellsNumber f t z → SpellsDecimal f t (fixed_point z 0)
+whole_read f t z spells =
+    let parts = number_parts f t z spells in
+    let abs : unsigned_abs z ≡ unsigned_abs z / 10 ^ 0 = omega arith in
+    spelled-from_parts f t z 0 parts.0 (record {
+      split = parts.1.0 ∙ ap (λ xs. sign_of f z ++ xs) (sym (append-nil parts.0));
+      whole = subst (IsBody f parts.0) abs parts.1.1;
+    })
 
 -- the decimal with that sign, if there is one
 pub signed_read : (f : FormatData) (t : List ℕ) (d : FixedPoint) (result : Option FixedPoint) → SomeIff result (HasUnits d) d → d.scale ≤ 38 → SpellsDecimal f t d → IfSome result (λ x. IsSpelled f t x)

@@ -27,10 +27,9 @@ pub data IsMarkedAt (mark t : List ℕ) (place end : ℕ) : Type 0 where
   marked : end < length t → StandsAt mark t place end → IsMarkedAt mark t place end
   unmarked : place ≡ length t → end ≡ length t → IsMarkedAt mark t place end
 
--- a text is cut after its sign: the mark, if there is one, stands between the places, and the digits at the end, if there is a mark, are
--- no more than the largest scale
-pub record IsCut (mark t : List ℕ) (start place end : ℕ) : Type 0 where
-  pub order : start ≤ place
+-- a text is cut: the mark, if there is one, stands between the places, and the digits at the end, if there is a mark, are no more than
+-- the largest scale
+pub record IsCut (mark t : List ℕ) (place end : ℕ) : Type 0 where
   pub before : place ≤ end
   pub within : end ≤ length t
   pub few : length t ≤ end + MAX_SCALE

@@ -134,7 +134,7 @@ impl Decimal {
 
 /// Returns the number with that sign and that absolute value, or `None` if it is no `i128`.
 #[tactic(auto, using(crate::proofs::ScaleLemmas::zero_minus, crate::proofs::ScaleLemmas::zero_plus))]
-fn with_sign(is_negative: bool, magnitude: u128) -> Option<i128>
+pub(crate) fn with_sign(is_negative: bool, magnitude: u128) -> Option<i128>
     ensures { let z = signed_number is_negative magnitude in
         SomeIff result (FitsSigned w128 z) z }
 {

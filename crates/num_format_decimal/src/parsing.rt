@@ -12,9 +12,9 @@ ghost use Rattle.num_format_decimal.specs.declared.parsing.ParseDecimalError.{Pa
 ghost use Rattle.num_format_decimal.specs.declared.parsing.ParseDecimalError.TheVariants as cause;
 ghost use Rattle.num_format_parsing.specs.Strict.{unexpected};
 
-use crate::decimal::{Decimal, MAX_SCALE};
+use crate::decimal::{Decimal, MAX_SCALE, with_sign};
 use crate::error::DecimalError;
-use crate::reading::read;
+use crate::reading::{ends_in_group, ends_in_two_decimals, read, read_plain, read_whole_number};
 use crate::rounding::Rounding;
 use crate::spelling::find_scale;
 use num_format_parsing::FromFormattedStr;
@@ -220,7 +220,35 @@ impl ParseDecimal for String {
 }
 
 /// Returns the decimal that a text spells, or the first cause for which it is refused.
+///
+/// Most texts are short. It is inlined, so that what is read of them stays in registers.
+#[inline(always)]
 fn parse_decimal<F: Format>(text: &[u8], format: &F) -> Result<Decimal, ParseDecimalError>
+    requires { IsUtf8 text.now }
+    ensures { MatchResult result
+        (λ d. ParsesDecimal (F.answers format.now) text.now d)
+        (λ e. IsDecimalCause (F.answers format.now) text.now e) }
+{
+    if ends_in_group(text, format) {
+        if let Some(decimal) = read_whole_number(text, format) {
+            return Ok(decimal);
+        }
+    }
+    if !ends_in_two_decimals(text, format) {
+        if let Some(plain) = read_plain(text, format) {
+            if let Some(units) = with_sign(plain.is_negative, plain.magnitude as u128) {
+                return Ok(Decimal::of(units, plain.scale));
+            }
+        }
+    }
+    parse_parts(text, format)
+}
+
+/// Returns the same of a text with separators and decimals, or of a long one.
+///
+/// It is a function of its own, so that short texts are read without its space.
+#[inline(never)]
+fn parse_parts<F: Format>(text: &[u8], format: &F) -> Result<Decimal, ParseDecimalError>
     requires { IsUtf8 text.now }
     ensures { MatchResult result
         (λ d. ParsesDecimal (F.answers format.now) text.now d)

@@ -1,9 +1,9 @@
 //! Decimals read in one pass over a text, under a format whose texts tell them.
 //!
-//! Short texts without separators are read from the first byte to the last. Of others the digits at the end are the
-//! decimals if the mark stands before them, and what stands between the sign and the mark is a whole number. Under
-//! most formats no other scale is possible.
-ghost use Rattle.std.specs.Prelude.{◌≡◌, ℕ, List, ◌+◌, ◌*◌, ◌^◌, ◌<◌, ◌≤◌, [], true, IsTrue, IsUtf8, IfSome, pos, take, drop, length, if◌then◌else◌};
+//! Short texts without separators are read from the first byte to the last, and those that end in a group as a whole
+//! number. Of others the digits at the end are the decimals if the mark stands before them, and what stands between the
+//! sign and the mark is a whole number. Under most formats no other scale is possible.
+ghost use Rattle.std.specs.Prelude.{◌≡◌, ℕ, List, ◌+◌, ◌-◌, ◌*◌, ◌^◌, ◌<◌, ◌≤◌, [], true, IsTrue, IsUtf8, IfSome, pos, take, drop, length, if◌then◌else◌};
 ghost use Rattle.std.specs.Char.{is_ascii_digit};
 ghost use Rattle.std.specs.Int.Digits.{number_from_digits};
 ghost use Rattle.std.specs.List.{list_all};
@@ -28,21 +28,132 @@ use num_format_text::{Format, Grouping};
 /// So many digits fit 64 bits, whatever they are.
 const SAFE_DIGITS: usize = 19;
 
-/// The most digits that have no separator among them under any grouping.
-const FIRST_DIGITS: usize = 3;
+/// So many digits are in the last group under most groupings.
+const LAST_GROUP: usize = 3;
+
+/// Below this a number has no separator under any grouping.
+const LEAST_GROUPED: u64 = 1_000;
+
+/// What was read of a short text: its sign, the number that its digits write, and how many of them are decimals.
+#[derive(Clone, Copy)]
+pub(crate) struct Plain {
+    pub(crate) is_negative: bool,
+    pub(crate) magnitude: u64,
+    pub(crate) scale: u8,
+}
 
 /// Returns the decimal that a text spells, or `None` if one pass does not tell.
 #[inline(always)]
 pub(crate) fn read<F: Format>(text: &[u8], format: &F) -> Option<Decimal>
     ensures { IfSome result (λ d. ParsesDecimal (F.answers format.now) text.now d) }
 {
-    if text.is_empty() {
-        return None;
-    }
     if !tells_decimals(format) {
         return None;
     }
     read_decimal(text, format)
+}
+
+/// Returns whether a text seems to end in a separator and a group of three digits.
+#[inline(always)]
+pub(crate) fn ends_in_group<F: Format>(text: &[u8], format: &F) -> bool {
+    text.len() > LAST_GROUP + 1 && ends_separator(text, text.len() - LAST_GROUP - 1, format)
+}
+
+/// Returns whether a text seems to have such a group before two decimals, as most amounts with separators have.
+#[inline(always)]
+pub(crate) fn ends_in_two_decimals<F: Format>(text: &[u8], format: &F) -> bool {
+    text.len() > LAST_GROUP + 4
+        && !text[text.len() - 3].is_ascii_digit()
+        && ends_separator(text, text.len() - LAST_GROUP - 4, format)
+}
+
+/// Returns whether the byte at a place is the last of the separator, and no digit.
+#[inline(always)]
+fn ends_separator<F: Format>(text: &[u8], place: usize, format: &F) -> bool
+    requires { place < length text.now }
+{
+    let byte = text[place];
+    if byte.is_ascii_digit() {
+        return false;
+    }
+    match format.separator().into_str().as_bytes() {
+        [.., last] => byte == *last,
+        [] => false,
+    }
+}
+
+/// Returns the whole number that a text spells.
+///
+/// It is a function of its own, so that short texts are read without its space.
+#[inline(never)]
+pub(crate) fn read_whole_number<F: Format>(text: &[u8], format: &F) -> Option<Decimal>
+    ensures { IfSome result (λ d. ParsesDecimal (F.answers format.now) text.now d) }
+{
+    if !tells_decimals(format) {
+        return None;
+    }
+    match i128::from_strict_bytes(text, format) {
+        Ok(units) => Some(Decimal::of(units, 0)),
+        Err(_) => None,
+    }
+}
+
+/// Returns what is read of a text without separators, from its first byte to its last, if it is short and spells a
+/// decimal.
+///
+/// Most decimals are short, and of a format for one below [`LEAST_GROUPED`] only the minus sign and the mark are
+/// asked for.
+#[inline(always)]
+pub(crate) fn read_plain<F: Format>(text: &[u8], format: &F) -> Option<Plain>
+    ensures decimal { IfSome result (λ p. ParsesDecimal (F.answers format.now) text.now
+        (fixed_point (signed_number p.is_negative p.magnitude) p.scale)) }
+    ensures scale { IfSome result (λ p. p.scale ≤ MAX_SCALE) }
+{
+    if text.is_empty() || text.len() > SAFE_DIGITS {
+        return None;
+    }
+    let mark = format.decimal().into_str();
+    let minus_sign = format.minus_sign().into_str();
+    if !is_usual(mark) || !is_usual(minus_sign) {
+        return None;
+    }
+    let (is_negative, start) = sign(text, minus_sign);
+    let plain = read_digits_and_mark(text, is_negative, start, mark)?;
+    if plain.magnitude < LEAST_GROUPED {
+        return Some(plain);
+    }
+    if !tells_decimals(format) {
+        return None;
+    }
+    Some(plain)
+}
+
+/// Returns what is read of digits after a sign, among which the mark may stand.
+#[inline(always)]
+fn read_digits_and_mark(text: &[u8], is_negative: bool, start: usize, mark: &str) -> Option<Plain>
+    requires start { start ≤ length text.now }
+    requires few { length text.now ≤ SAFE_DIGITS }
+    ensures spelled { IfSome result (λ p. (f : FormatData) → f.decimal ≡ mark.now
+        → take start text.now ≡ (if is_negative then f.minus_sign else [])
+        → SpellsDecimal f text.now (fixed_point (signed_number p.is_negative p.magnitude) p.scale)) }
+    ensures scale { IfSome result (λ p. p.scale ≤ MAX_SCALE) }
+    ensures small { IfSome result (λ p. p.magnitude < 10 ^ SAFE_DIGITS) }
+{
+    let whole = read_number(text, start)?;
+    let end = mark_end(text, whole.0, mark)?;
+    let all = digits_end(text, end, whole.1);
+    if all.0 != text.len() {
+        return None;
+    }
+    let magnitude = all.1;
+    if magnitude == 0 && is_negative {
+        return None;
+    }
+    Some(Plain {
+        is_negative,
+        magnitude,
+        scale: (all.0 - end) as u8,
+    })
 }
 
 /// Returns whether a text tells of which decimal it is: neither the minus sign, the separator nor the mark can be
@@ -98,110 +209,68 @@ fn separator<F: Format>(format: &F) -> &str
     }
 }
 
-/// Returns the decimal that a text spells, if it is not zero with a sign, and its units are an `i128`.
+/// Returns the decimal that a text spells, if its units are an `i128` and what is before the mark is not zero with a
+/// sign.
 #[inline(always)]
 fn read_decimal<F: Format>(text: &[u8], format: &F) -> Option<Decimal>
-    requires { 0 < length text.now }
     ensures { IfSome result (λ d. IsSpelled (F.answers format.now) text.now d) }
 {
-    let (is_negative, start) = sign(text, format);
-    if text.len() <= SAFE_DIGITS {
-        if let Some(decimal) = read_plain(text, is_negative, start, format) {
-            return Some(decimal);
-        }
-    }
-    let (place, end) = mark_places(text, start, format.decimal().into_str());
-    let whole = read_whole(&text[start..place], format)?;
+    let (place, end) = mark_places(text, format.decimal().into_str());
+    let Ok(whole) = i128::from_strict_bytes(&text[..place], format) else {
+        return None;
+    };
     let decimals = &text[end..];
-    let magnitude = joined(whole, decimals)?;
-    signed(is_negative, magnitude, decimals.len() as u8)
+    let magnitude = joined(whole.unsigned_abs(), decimals)?;
+    Decimal::with_magnitude(whole.is_negative(), magnitude, decimals.len() as u8)
 }
 
-/// Returns the decimal with that sign and that absolute value, unless it is zero with a sign or its units are no `i128`.
+/// Returns where the digits end that stand at a place, and the number that they write, if they are a number as it is
+/// printed.
 #[inline(always)]
-fn signed(is_negative: bool, magnitude: u128, scale: u8) -> Option<Decimal>
-    requires { scale ≤ MAX_SCALE }
-    ensures { (f : FormatData) (t : List ℕ)
-        → ((is_negative ≡ true → 0 < magnitude) → SpellsDecimal f t (fixed_point (signed_number is_negative magnitude) scale))
-        → IfSome result (λ d. IsSpelled f t d) }
-{
-    if magnitude == 0 && is_negative {
-        return None;
-    }
-    Decimal::with_magnitude(is_negative, magnitude, scale)
-}
-
-/// Returns the decimal that a short text without separators spells, which is read from its first byte to its last.
-#[inline(always)]
-fn read_plain<F: Format>(
-    text: &[u8],
-    is_negative: bool,
-    start: usize,
-    format: &F,
-) -> Option<Decimal>
+fn read_number(text: &[u8], start: usize) -> Option<(usize, u64)>
     requires start { start ≤ length text.now }
-    requires sign { take start text.now ≡ (if is_negative then (F.answers format.now).minus_sign else []) }
     requires few { length text.now ≤ SAFE_DIGITS }
-    ensures { IfSome result (λ d. IsSpelled (F.answers format.now) text.now d) }
-{
-    if ends_in_group(&text[start..]) {
-        return None;
-    }
-    let whole = read_number(&text[start..])?;
-    let place = start + whole.0;
-    let end = mark_end(text, place, format.decimal().into_str())?;
-    let decimals = leading_digits(&text[end..]);
-    let scale = text.len() - end;
-    if decimals.0 != scale {
-        return None;
-    }
-    let one = narrow_power_of_ten(scale as u8);
-    let magnitude = whole.1 as u128 * one as u128 + decimals.1 as u128;
-    signed(is_negative, magnitude, scale as u8)
-}
-
-/// Returns whether a text seems to end in a group of three digits, which another byte precedes.
-#[inline(always)]
-fn ends_in_group(text: &[u8]) -> bool {
-    text.len() > 3 && !text[text.len() - 4].is_ascii_digit()
-}
-
-/// Returns how many digits a text begins with, and the number that they write, if they are a number as it is printed.
-#[inline(always)]
-fn read_number(text: &[u8]) -> Option<(usize, u64)>
-    requires { length text.now ≤ SAFE_DIGITS }
+    ensures order { IfSome result (λ r. start ≤ r.0) }
     ensures within { IfSome result (λ r. r.0 ≤ length text.now) }
-    ensures number { IfSome result (λ r. (f : FormatData) → SpellsNumber f (take r.0 text.now) (pos r.1)) }
+    ensures number { IfSome result (λ r. (f : FormatData)
+        → SpellsNumber f (take (r.0 - start) (drop start text.now)) (pos r.1)) }
+    ensures small { IfSome result (λ r. r.1 < 10 ^ r.0) }
 {
-    let digits = leading_digits(text);
-    if digits.0 == 0 {
+    let digits = digits_end(text, start, 0);
+    let count = digits.0 - start;
+    if count == 0 {
         return None;
     }
-    if text[0] == b'0' && digits.0 > 1 {
+    if text[start] == b'0' && count > 1 {
         return None;
     }
     Some(digits)
 }
 
-/// Returns how many digits a text begins with, and the number that they write.
+/// Returns where the digits end that stand at a place, and the number that they write after those of another.
 #[inline(always)]
-fn leading_digits(text: &[u8]) -> (usize, u64)
-    requires { length text.now ≤ SAFE_DIGITS }
+fn digits_end(text: &[u8], start: usize, first: u64) -> (usize, u64)
+    requires start { start ≤ length text.now }
+    requires few { length text.now ≤ SAFE_DIGITS }
+    requires small { first < 10 ^ start }
+    ensures order { start ≤ result.0 }
     ensures within { result.0 ≤ length text.now }
-    ensures digits { list_all is_ascii_digit (take result.0 text.now) ≡ true }
-    ensures number { result.1 ≡ number_from_digits 10 (byte_figures (take result.0 text.now)) }
+    ensures digits { list_all is_ascii_digit (take (result.0 - start) (drop start text.now)) ≡ true }
+    ensures number { result.1 ≡ first * 10 ^ (result.0 - start)
+        + number_from_digits 10 (byte_figures (take (result.0 - start) (drop start text.now))) }
+    ensures small { result.1 < 10 ^ result.0 }
 {
-    let mut n = 0u64;
-    let mut count = 0;
-    while count < text.len() {
-        let byte = text[count];
+    let mut n = first;
+    let mut place = start;
+    while place < text.len() {
+        let byte = text[place];
         if !byte.is_ascii_digit() {
-            return (count, n);
+            return (place, n);
         }
         n = 10 * n + (byte - b'0') as u64;
-        count += 1;
+        place += 1;
     }
-    (count, n)
+    (place, n)
 }
 
 /// Returns where the digits after the mark begin, if the mark stands at the place and more follows, or the place if
@@ -209,6 +278,7 @@ fn leading_digits(text: &[u8]) -> (usize, u64)
 #[inline(always)]
 fn mark_end(text: &[u8], place: usize, mark: &str) -> Option<usize>
     requires { place ≤ length text.now }
+    ensures order { IfSome result (λ end. place ≤ end) }
     ensures within { IfSome result (λ end. end ≤ length text.now) }
     ensures mark { IfSome result (λ end. IsMarkedAt mark.now text.now place end) }
 {
@@ -227,11 +297,10 @@ fn mark_end(text: &[u8], place: usize, mark: &str) -> Option<usize>
 
 /// Returns where the mark stands and where the digits after it begin, or the length twice where there is no mark.
 #[inline(always)]
-fn mark_places(text: &[u8], start: usize, mark: &str) -> (usize, usize)
-    requires { start ≤ length text.now }
-    ensures { IsCut mark.now text.now start result.0 result.1 }
+fn mark_places(text: &[u8], mark: &str) -> (usize, usize)
+    ensures { IsCut mark.now text.now result.0 result.1 }
 {
-    match mark_place(text, start, mark) {
+    match mark_place(text, mark) {
         Some(place) => (place, place + mark.len()),
         None => (text.len(), text.len()),
     }
@@ -240,8 +309,7 @@ fn mark_places(text: &[u8], start: usize, mark: &str) -> (usize, usize)
 /// Returns where the mark stands before the digits at the end of a text, if it does and they are no more than the
 /// largest scale.
 #[inline(always)]
-fn mark_place(text: &[u8], start: usize, mark: &str) -> Option<usize>
-    ensures order { IfSome result (λ place. start ≤ place) }
+fn mark_place(text: &[u8], mark: &str) -> Option<usize>
     ensures mark { IfSome result (λ place. StandsAt mark.now text.now place (place + length mark.now)) }
     ensures some { IfSome result (λ place. place + length mark.now < length text.now) }
     ensures few { IfSome result (λ place. length text.now ≤ place + length mark.now + MAX_SCALE) }
@@ -254,59 +322,10 @@ fn mark_place(text: &[u8], start: usize, mark: &str) -> Option<usize>
     }
     let end = text.len() - count;
     let place = end.checked_sub(mark.len())?;
-    if place < start {
-        return None;
-    }
     if !begins_with(&text[place..], mark.as_bytes()) {
         return None;
     }
     Some(place)
-}
-
-/// Returns the whole number that a text without a sign spells.
-#[inline(always)]
-fn read_whole<F: Format>(text: &[u8], format: &F) -> Option<u128>
-    ensures { IfSome result (λ n. SpellsNumber (F.answers format.now) text.now (pos n)) }
-{
-    if text.len() <= FIRST_DIGITS {
-        return match read_short(text) {
-            Some(n) => Some(n as u128),
-            None => None,
-        };
-    }
-    // Most numbers are short: their digits fit 64 bits, which take less time than 128.
-    if text.len() <= SAFE_DIGITS {
-        return match u64::from_strict_bytes(text, format) {
-            Ok(n) => Some(n as u128),
-            Err(_) => None,
-        };
-    }
-    match u128::from_strict_bytes(text, format) {
-        Ok(n) => Some(n),
-        Err(_) => None,
-    }
-}
-
-/// Returns the whole number that a text of a few digits spells.
-#[inline(always)]
-fn read_short(text: &[u8]) -> Option<u64>
-    requires { length text.now ≤ FIRST_DIGITS }
-    ensures { IfSome result (λ n. (f : FormatData) → SpellsNumber f text.now (pos n)) }
-{
-    if text.is_empty() {
-        return None;
-    }
-    if text[0] == b'0' && text.len() > 1 {
-        return None;
-    }
-    let mut n = 0u64;
-    for byte in text {
-        if !byte.is_ascii_digit() {
-            return None;
-        }
-        n = 10 * n + (*byte - b'0') as u64;
-    }
-    Some(n)
 }
 
 /// Returns the number that the digits of a whole number and its decimals write together.
@@ -331,13 +350,12 @@ fn joined(whole: u128, decimals: &[u8]) -> Option<u128>
 
 /// Returns whether a text begins with the minus sign, and the length of that.
 #[inline(always)]
-fn sign<F: Format>(text: &[u8], format: &F) -> (bool, usize)
+fn sign(text: &[u8], minus_sign: &str) -> (bool, usize)
     requires { 0 < length text.now }
     ensures within { result.1 ≤ length text.now }
-    ensures sign { take result.1 text.now ≡ (if result.0 then (F.answers format.now).minus_sign else []) }
+    ensures sign { take result.1 text.now ≡ (if result.0 then minus_sign.now else []) }
 {
-    let minus_sign = format.minus_sign().into_str().as_bytes();
-    if begins_with(text, minus_sign) {
+    if begins_with(text, minus_sign.as_bytes()) {
         (true, minus_sign.len())
     } else {
         (false, 0)

@@ -7,7 +7,6 @@ use Rattle.num_format_decimal.proofs.reading.mark_places.Goals as goal
 
 pub returns-in-None : goal.returns-in-None
 returns-in-None c = record {
-  order = c.requires;
   before = omega arith;
   within = omega arith;
   few = omega arith;
@@ -17,7 +16,6 @@ returns-in-None c = record {
 
 pub returns-in-Some : goal.returns-in-Some
 returns-in-Some c = record {
-  order = c.in-Some.ensures.order;
   before = omega arith;
   within = omega (arith, c.in-Some.ensures.some);
   few = c.in-Some.ensures.few;
