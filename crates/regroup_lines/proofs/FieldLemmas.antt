@@ -12,13 +12,14 @@ use Rattle.num_format.specs.Format.{FormatData}
 use Rattle.num_format.specs.Writing.{StopsWithin}
 use Rattle.regroup_shared.specs.Sending.{Sends, line}
 use Rattle.regroup_shared.proofs.SendingLemmas.{StopsWithin_prefix, StopsWithin_suffix}
-use Rattle.regroup_lines.specs.Fault.{Fault, fault_of}
+use Rattle.regroup_lines.specs.Fault.{Fault}
 use Rattle.regroup_lines.specs.Fault.Fault.{FewFields, Write}
 use Rattle.regroup_lines.specs.Fields.{SendsIfOk, checked}
+use Rattle.regroup_lines.specs.LineFaults.{line_fault_of}
 use Rattle.regroup_lines.specs.Lines.{field_written, fields_written, with_first}
 use Rattle.regroup_lines.specs.Places.{are_enough, is_at_most, is_chosen, is_chosen_from, is_enough}
-use Rattle.regroup_lines.specs.declared.fault.RegroupFault.{RegroupFault}
-use Rattle.regroup_lines.specs.declared.fault.RegroupFault.TheVariants as fault
+use Rattle.regroup_lines.specs.declared.line_fault.LineFault.{LineFault}
+use Rattle.regroup_lines.specs.declared.line_fault.LineFault.TheVariants as fault
 use Rattle.regroup_lines.specs.declared.rules.FieldRange.{FieldRange}
 use Rattle.regroup_lines.specs.declared.rules.Rules.{Rules}
 
@@ -157,10 +158,10 @@ SendsIfOk-err T first text a b f is sends = subst (λ r. SendsIfOk {T = T} r a b
 
 -- a call that sends a text, as a call of this crate
 module _ {E : Type 0} (a b : Option (List ℕ)) (text : List ℕ) where
-  pub text-sent : (call : Result (Unit {0}) E) → Sends call a b text → (result : Result (Unit {0}) RegroupFault) → result ≡ result_or call (Err fault.Write) →
-      SendsIfOk (Ok text) a b (result_map_both (λ done. done) fault_of result)
-  text-sent (Ok done) sends result is = subst (λ r. SendsIfOk (Ok text) a b (result_map_both (λ done. done) fault_of r)) (sym is) sends.whole
-  text-sent (Err e) sends result is = subst (λ r. SendsIfOk (Ok text) a b (result_map_both (λ done. done) fault_of r)) (sym is) (refl, sends.prefix)
+  pub text-sent : (call : Result (Unit {0}) E) → Sends call a b text → (result : Result (Unit {0}) LineFault) → result ≡ result_or call (Err fault.Write) →
+      SendsIfOk (Ok text) a b (result_map_both (λ done. done) line_fault_of result)
+  text-sent (Ok done) sends result is = subst (λ r. SendsIfOk (Ok text) a b (result_map_both (λ done. done) line_fault_of r)) (sym is) sends.whole
+  text-sent (Err e) sends result is = subst (λ r. SendsIfOk (Ok text) a b (result_map_both (λ done. done) line_fault_of r)) (sym is) (refl, sends.prefix)
 
 -- a first text is at the start of the joined ones
 joined-first : (d : ℕ) (text : List ℕ) (later : List (List ℕ)) → (more : List ℕ) × (join_with_byte d (text ∷ later) ≡ text ++ more)

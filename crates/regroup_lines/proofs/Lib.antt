@@ -4,9 +4,14 @@ mod DecimalLemmas
 mod Examples
 mod FieldLemmas
 mod InputLemmas
+pub mod LineFaultLemmas
 mod LineLemmas
 mod ListLemmas
 mod LongLemmas
 mod OneFieldLemmas
 mod PlaceLemmas
+mod ProgressLemmas
+mod SentLemmas
 mod TextLemmas
+mod ToldLemmas
+mod UnnamedLemmas

@@ -3,15 +3,13 @@ use Rattle.std.proofs.Common.{◌≡◌, ℕ, Bool, true, false, List, ◌++◌,
 use Rattle.std.specs.Prelude.{ℤ, IsUtf8, ◌↔◌}
 use Rattle.std.specs.Result.{result_map_both, result_or}
 use Rattle.std.specs.Str.{is_utf8}
-use Rattle.std.proofs.lemmas.Bool.{both_ways, false_from_ne_true}
+use Rattle.std.proofs.lemmas.Bool.{false_from_ne_true}
 use Rattle.std.proofs.lemmas.Str.{IsUtf8-from_is_utf8, is_utf8-from_IsUtf8}
-use Rattle.num_format.specs.Cut.{cut_text}
 use Rattle.num_format.specs.Format.{FormatData}
 use Rattle.num_format.specs.Kind.{signed}
 use Rattle.num_format.specs.ParseBytesError.{ParseBytesError}
 use Rattle.num_format.specs.ParseBytesError.TheVariants.{NotANumber, NotUtf8}
 use Rattle.num_format.specs.Reading.{Refused, denoted}
-use Rattle.num_format.specs.Refusal.{ParseNumber}
 use Rattle.num_format.specs.Text.{text_of}
 use Rattle.num_format_decimal.specs.FixedPoint.{FixedPoint}
 use Rattle.num_format_decimal.specs.Parsing.{ParsesDecimal}
@@ -20,71 +18,66 @@ use Rattle.num_format_decimal.specs.declared.parsing.ParseDecimalError.{ParseDec
 use Rattle.regroup_shared.specs.Sending.{Sends, line}
 use Rattle.regroup_shared.proofs.ReadingLemmas.{readable-from_accepted, unreadable-from_refused}
 use Rattle.regroup_lines.specs.Decimals.{decimal_read}
-use Rattle.regroup_lines.specs.Fault.{Fault, fault_of}
-use Rattle.regroup_lines.specs.Fault.Fault.{Line, NotText}
+use Rattle.regroup_lines.specs.Fault.{Fault}
+use Rattle.regroup_lines.specs.Fault.Fault.{Write}
+use Rattle.regroup_lines.specs.LineFaults.{line_fault_of, text_fault}
 use Rattle.regroup_lines.specs.Lines.{between, number_in_text, number_written}
 use Rattle.regroup_lines.specs.Sending.{SendsLine}
-use Rattle.regroup_lines.specs.declared.fault.RegroupFault.{RegroupFault}
-use Rattle.regroup_lines.specs.declared.fault.RegroupFault.TheVariants as fault
+use Rattle.regroup_lines.specs.declared.line_fault.LineFault.{LineFault}
+use Rattle.regroup_lines.specs.declared.line_fault.LineFault.TheVariants as fault
 use Rattle.regroup_lines.specs.declared.rules.Reading.TheVariants.{Lenient, Strict}
 use Rattle.regroup_lines.proofs.DecimalLemmas.{decimal_read-parsed, decimal_read-refused}
 
 module _ (from : FormatData) (number : ℕ) (text : List ℕ) where
-  -- bytes that are not UTF-8
-  not_text : ¬ IsUtf8 text → number_in_text from number text ≡ Err (NotText number)
-  not_text invalid =
-      let no : is_utf8 text ≡ false = false_from_ne_true (is_utf8 text) (λ yes. invalid (IsUtf8-from_is_utf8 text yes)) in
-      rw no refl
-
-  -- a text that is refused
-  refused : IsUtf8 text → Refused (signed 127 40) from text → number_in_text from number text ≡ Err (Line number (ParseNumber (cut_text text)))
-  refused utf8 cause = rw (is_utf8-from_IsUtf8 text utf8, false_from_ne_true _ (unreadable-from_refused from text cause)) refl
-
   -- the number of a text that is accepted
   pub number_in_text-accepted : (n : ℤ) → n ≡ denoted from text → IsUtf8 text × ¬ (Refused (signed 127 40) from text) → number_in_text from number text ≡ Ok n
   number_in_text-accepted n is accepted =
       rw (is_utf8-from_IsUtf8 text accepted.0, readable-from_accepted from text accepted.1) (ap Ok (sym is))
 
   -- the fault of any other
-  pub number_in_text-refused : (e : ParseBytesError) (f : Fault) → (e ≡ NotUtf8 → ¬ (IsUtf8 text)) →
-      (e ≡ NotANumber → IsUtf8 text × Refused (signed 127 40) from text) → (¬ (IsUtf8 text) → f ≡ NotText number) →
-      (IsUtf8 text → f ≡ Line number (ParseNumber (cut_text text))) → number_in_text from number text ≡ Err f
-  number_in_text-refused NotUtf8 f invalid cause not line = not_text (invalid refl) ∙ ap Err (sym (not (invalid refl)))
-  number_in_text-refused NotANumber f invalid cause not line =
+  pub number_in_text-refused : (e : ParseBytesError) → (e ≡ NotUtf8 → ¬ (IsUtf8 text)) → (e ≡ NotANumber → IsUtf8 text × Refused (signed 127 40) from text) →
+      number_in_text from number text ≡ Err (text_fault number text)
+  number_in_text-refused NotUtf8 invalid cause =
+      let no : is_utf8 text ≡ false = false_from_ne_true (is_utf8 text) (λ yes. invalid refl (IsUtf8-from_is_utf8 text yes)) in
+      rw no refl
+  number_in_text-refused NotANumber invalid cause =
       let parsed : IsUtf8 text × Refused (signed 127 40) from text = cause refl in
-      refused parsed.0 parsed.1 ∙ ap Err (sym (line parsed.0))
+      rw (is_utf8-from_IsUtf8 text parsed.0, false_from_ne_true _ (unreadable-from_refused from text parsed.1)) refl
 
   -- a fault in place of a line
   pub sends-fault : (written : Result (List ℕ) Fault) (s : Option (List ℕ)) (f : Fault) → written ≡ Err f → SendsLine {T = Unit {0}} written s s (Err f)
   sends-fault written s f is = subst (λ n. SendsLine {T = Unit {0}} n s s (Err f)) (sym is) (refl, refl)
 
--- a line that is sent
-module _ {E : Type 0} (a b : Option (List ℕ)) where
+-- a line that is sent, by a call with faults of any type
+module _ {E F : Type 0} (of : F → Fault) (failed : F) (is_write : of failed ≡ Write) (a b : Option (List ℕ)) where
   sent : (text : List ℕ) (call : Result (Unit {0}) E) → Sends call a b (line text) →
-      SendsLine (Ok text) a b (result_map_both (λ done. done) fault_of (result_or call (Err fault.Write)))
+      SendsLine (Ok text) a b (result_map_both (λ done. done) of (result_or call (Err failed)))
   sent text (Ok done) sends = sends.whole
-  sent text (Err e) sends = (refl, sends.prefix)
+  sent text (Err e) sends = (is_write, sends.prefix)
 
-  pub sends-line : (written : Result (List ℕ) Fault) (text : List ℕ) → written ≡ Ok text → (call : Result (Unit {0}) E) → Sends call a b (line text) →
-      (result : Result (Unit {0}) RegroupFault) → result ≡ result_or call (Err fault.Write) → SendsLine written a b (result_map_both (λ done. done) fault_of result)
-  sends-line written text is call sends result returned =
-      subst (λ q. SendsLine written a b (result_map_both (λ done. done) fault_of q)) (sym returned)
-      (subst (λ q. SendsLine q a b (result_map_both (λ done. done) fault_of (result_or call (Err fault.Write)))) (sym is) (sent text call sends))
+  pub sends-line_by : (written : Result (List ℕ) Fault) (text : List ℕ) → written ≡ Ok text → (call : Result (Unit {0}) E) → Sends call a b (line text) →
+      (result : Result (Unit {0}) F) → result ≡ result_or call (Err failed) → SendsLine written a b (result_map_both (λ done. done) of result)
+  sends-line_by written text is call sends result returned =
+      subst (λ q. SendsLine written a b (result_map_both (λ done. done) of q)) (sym returned)
+      (subst (λ q. SendsLine q a b (result_map_both (λ done. done) of (result_or call (Err failed)))) (sym is) (sent text call sends))
+
+pub sends-line : {E : Type 0} (a b : Option (List ℕ)) (written : Result (List ℕ) Fault) (text : List ℕ) → written ≡ Ok text → (call : Result (Unit {0}) E) →
+    Sends call a b (line text) → (result : Result (Unit {0}) LineFault) → result ≡ result_or call (Err fault.Write) →
+    SendsLine written a b (result_map_both (λ done. done) line_fault_of result)
+sends-line a b = sends-line_by line_fault_of fault.Write refl a b
 
 -- the text of a number that is read strictly
 module _ (from to : FormatData) (number : ℕ) (text : List ℕ) where
   pub strict-accepted : (d : FixedPoint) → ParsesDecimal from text d → number_written Strict from to number text ≡ Ok (decimal_text to d)
   strict-accepted d parsed = rw (is_utf8-from_IsUtf8 text parsed.utf8, decimal_read-parsed from text d parsed) refl
 
-  strict-utf8 : (utf8 : Bool) (f : Fault) → is_utf8 text ≡ utf8 → decimal_read from text ≡ None → (¬ (IsUtf8 text) → f ≡ NotText number) →
-      (IsUtf8 text → f ≡ Line number (ParseNumber (cut_text text))) → number_written Strict from to number text ≡ Err f
-  strict-utf8 true f utf8 none not refused = rw (utf8, none) (ap Err (sym (refused (IsUtf8-from_is_utf8 text utf8))))
-  strict-utf8 false f utf8 none not refused = rw utf8 (ap Err (sym (not (λ is. both_ways _ utf8 (is_utf8-from_IsUtf8 text is)))))
+  strict-none : (utf8 : Bool) → is_utf8 text ≡ utf8 → decimal_read from text ≡ None → number_written Strict from to number text ≡ Err (text_fault number text)
+  strict-none true utf8 none = rw (utf8, none) refl
+  strict-none false utf8 none = rw utf8 refl
 
-  pub strict-refused : (r : Result FixedPoint ParseDecimalError) (e : ParseDecimalError) (f : Fault) → r ≡ Err e →
-      ((d : FixedPoint) → (r ≡ Ok d) ↔ ParsesDecimal from text d) → (¬ (IsUtf8 text) → f ≡ NotText number) →
-      (IsUtf8 text → f ≡ Line number (ParseNumber (cut_text text))) → number_written Strict from to number text ≡ Err f
-  strict-refused r e f failed exactly = strict-utf8 (is_utf8 text) f refl (decimal_read-refused from text r e failed exactly)
+  pub strict-refused : (r : Result FixedPoint ParseDecimalError) (e : ParseDecimalError) → r ≡ Err e →
+      ((d : FixedPoint) → (r ≡ Ok d) ↔ ParsesDecimal from text d) → number_written Strict from to number text ≡ Err (text_fault number text)
+  strict-refused r e failed exactly = strict-none (is_utf8 text) refl (decimal_read-refused from text r e failed exactly)
 
   -- and leniently
   pub lenient-read : (n : ℤ) → number_in_text from number text ≡ Ok n → number_written Lenient from to number text ≡ Ok (text_of to n)

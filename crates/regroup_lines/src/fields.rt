@@ -5,14 +5,14 @@ ghost use Rattle.std.specs.Option.{option_map};
 ghost use Rattle.std.specs.Result.{result_map_both};
 ghost use Rattle.num_format.specs.Format.{FormatData};
 ghost use Rattle.regroup_shared.specs.Sending.{line};
-ghost use Rattle.regroup_lines.specs.Fault.{fault_of};
 ghost use Rattle.regroup_lines.specs.Fields.{SendsIfOk, checked};
+ghost use Rattle.regroup_lines.specs.LineFaults.{line_fault_of};
 ghost use Rattle.regroup_lines.specs.Lines.{field_written, fields_replaced, fields_written};
 ghost use Rattle.regroup_lines.specs.Places.{field_place, place_of};
 ghost use Rattle.regroup_lines.specs.Sending.{SendsLine};
 ghost use Rattle.regroup_lines.specs.declared.rules.Rules.{Rules};
 
-use crate::fault::RegroupFault;
+use crate::line_fault::LineFault;
 use crate::number::{Around, Number};
 use crate::rules::{Fields, Rules, trim};
 use crate::{pass_on, regroup_place};
@@ -23,40 +23,40 @@ use std::io::Write;
 use std::ops::Range;
 
 /// Sends a line with the number in each chosen field regrouped, and a newline.
-pub(crate) fn regroup_fields<W: Write, F: Format, G: Format>(
+pub(crate) fn regroup_fields<'a, W: Write, F: Format, G: Format>(
     rules: &Rules,
     fields: &Fields,
-    text: &[u8],
+    text: &'a [u8],
     number: u64,
     w: &mut W,
     from: &F,
     to: &G,
-) -> Result<(), RegroupFault>
+) -> Result<(), LineFault<'a>>
     ensures { SendsLine (fields_replaced fields.now rules.now (F.answers from.now) (G.answers to.now) number text.now)
-        (W.contents w.old) (W.contents w.new) (result_map_both (λ sent. sent) fault_of result) }
+        (W.contents w.old) (W.contents w.new) (result_map_both (λ sent. sent) line_fault_of result) }
 {
     // One field is read once, and the bytes before it and after it are sent as they are.
     match fields.only() {
         Some(field) => match field_place(fields.delimiter, text, field - 1) {
             Some(place) => regroup_place(rules, text, trim(text, place), number, w, from, to),
-            None => Err(RegroupFault::FewFields(number)),
+            None => Err(LineFault::FewFields(number)),
         },
         None => regroup_each(rules, fields, text, number, w, from, to),
     }
 }
 
 /// Does the same for any fields: reads the number in each, and reads and sends it again if none is at fault.
-fn regroup_each<W: Write, F: Format, G: Format>(
+fn regroup_each<'a, W: Write, F: Format, G: Format>(
     rules: &Rules,
     fields: &Fields,
-    text: &[u8],
+    text: &'a [u8],
     number: u64,
     w: &mut W,
     from: &F,
     to: &G,
-) -> Result<(), RegroupFault>
+) -> Result<(), LineFault<'a>>
     ensures { SendsLine (fields_replaced fields.now rules.now (F.answers from.now) (G.answers to.now) number text.now)
-        (W.contents w.old) (W.contents w.new) (result_map_both (λ sent. sent) fault_of result) }
+        (W.contents w.old) (W.contents w.new) (result_map_both (λ sent. sent) line_fault_of result) }
 {
     check_fields(rules, fields, text, number, from)?;
     send_fields(rules, fields, text, number, w, from, to)
@@ -85,14 +85,14 @@ fn field_place(delimiter: u8, text: &[u8], before: u64) -> Option<Range<usize>>
 /// # Errors
 ///
 /// Returns the fault of the first field at fault, or that the line has too few fields.
-fn check_fields<F: Format>(
+fn check_fields<'a, F: Format>(
     rules: &Rules,
     fields: &Fields,
-    text: &[u8],
+    text: &'a [u8],
     number: u64,
     from: &F,
-) -> Result<(), RegroupFault>
-    ensures { (to : FormatData) → result_map_both (λ done. done) fault_of result
+) -> Result<(), LineFault<'a>>
+    ensures { (to : FormatData) → result_map_both (λ done. done) line_fault_of result
         ≡ checked (fields_written rules.now fields.now.list.now (F.answers from.now) to number 0
         (slice_split (λ b. b == fields.now.delimiter) text.now)) }
 {
@@ -117,18 +117,18 @@ fn check_fields<F: Format>(
 }
 
 /// Sends a line without a fault, with the number in each chosen field regrouped, and a newline.
-fn send_fields<W: Write, F: Format, G: Format>(
+fn send_fields<'a, W: Write, F: Format, G: Format>(
     rules: &Rules,
     fields: &Fields,
-    text: &[u8],
+    text: &'a [u8],
     number: u64,
     w: &mut W,
     from: &F,
     to: &G,
-) -> Result<(), RegroupFault>
+) -> Result<(), LineFault<'a>>
     ensures { SendsIfOk (result_map_both line (λ fault. fault)
         (fields_replaced fields.now rules.now (F.answers from.now) (G.answers to.now) number text.now))
-        (W.contents w.old) (W.contents w.new) (result_map_both (λ sent. sent) fault_of result) }
+        (W.contents w.old) (W.contents w.new) (result_map_both (λ sent. sent) line_fault_of result) }
 {
     let mut start = 0;
     let mut count = 0;
@@ -143,7 +143,7 @@ fn send_fields<W: Write, F: Format, G: Format>(
         send_bytes(&[fields.delimiter], w)?;
         start = end + 1;
     }
-    pass_on(&text[start..], w).or(Err(RegroupFault::Write))
+    pass_on(&text[start..], w).or(Err(LineFault::Write))
 }
 
 /// Returns where the field ends that begins at `start`: at the next delimiter, or at the end of the line.
@@ -167,14 +167,14 @@ fn field_end(delimiter: u8, text: &[u8], start: usize) -> usize
 /// # Errors
 ///
 /// Returns the fault of a field at fault.
-fn check_field<F: Format>(
+fn check_field<'a, F: Format>(
     rules: &Rules,
     is_chosen: bool,
-    field: &[u8],
+    field: &'a [u8],
     number: u64,
     from: &F,
-) -> Result<(), RegroupFault>
-    ensures { (to : FormatData) → result_map_both (λ done. done) fault_of result
+) -> Result<(), LineFault<'a>>
+    ensures { (to : FormatData) → result_map_both (λ done. done) line_fault_of result
         ≡ checked (field_written rules.now (F.answers from.now) to number is_chosen field.now) }
 {
     if !is_chosen {
@@ -190,29 +190,29 @@ fn check_field<F: Format>(
 }
 
 /// Returns the fault of a line of so many fields, if it has too few.
-fn check_count(fields: &Fields, count: u64, number: u64) -> Result<(), RegroupFault>
-    ensures { (rules : Rules) (from to : FormatData) → result_map_both (λ done. done) fault_of result
+fn check_count(fields: &Fields, count: u64, number: u64) -> Result<(), LineFault<'static>>
+    ensures { (rules : Rules) (from to : FormatData) → result_map_both (λ done. done) line_fault_of result
         ≡ checked (fields_written rules fields.now.list.now from to number count []) }
 {
     if fields.are_enough(count) {
         Ok(())
     } else {
-        Err(RegroupFault::FewFields(number))
+        Err(LineFault::FewFields(number))
     }
 }
 
 /// Sends a field without a fault, with the number in it regrouped if it is chosen.
-fn send_field<W: Write, F: Format, G: Format>(
+fn send_field<'a, W: Write, F: Format, G: Format>(
     rules: &Rules,
     is_chosen: bool,
-    field: &[u8],
+    field: &'a [u8],
     number: u64,
     w: &mut W,
     from: &F,
     to: &G,
-) -> Result<(), RegroupFault>
+) -> Result<(), LineFault<'a>>
     ensures { SendsIfOk (field_written rules.now (F.answers from.now) (G.answers to.now) number is_chosen field.now)
-        (W.contents w.old) (W.contents w.new) (result_map_both (λ sent. sent) fault_of result) }
+        (W.contents w.old) (W.contents w.new) (result_map_both (λ sent. sent) line_fault_of result) }
 {
     if !is_chosen {
         return send_bytes(field, w);
@@ -227,16 +227,16 @@ fn send_field<W: Write, F: Format, G: Format>(
         after: &field[end..],
     };
     let value = Number::read(rules.reading, &field[start..end], number, from)?;
-    value.send(&around, w, to).or(Err(RegroupFault::Write))
+    value.send(&around, w, to).or(Err(LineFault::Write))
 }
 
 /// Sends bytes.
-pub(crate) fn send_bytes<W: Write>(bytes: &[u8], w: &mut W) -> Result<(), RegroupFault>
+fn send_bytes<W: Write>(bytes: &[u8], w: &mut W) -> Result<(), LineFault<'static>>
     ensures { SendsIfOk (Ok bytes.now) (W.contents w.old) (W.contents w.new)
-        (result_map_both (λ sent. sent) fault_of result) }
+        (result_map_both (λ sent. sent) line_fault_of result) }
 {
     match write_whole(bytes, w) {
         Ok(_) => Ok(()),
-        Err(_) => Err(RegroupFault::Write),
+        Err(_) => Err(LineFault::Write),
     }
 }

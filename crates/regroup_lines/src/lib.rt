@@ -16,6 +16,7 @@ mod fault;
 mod fields;
 mod input;
 pub mod laws;
+mod line_fault;
 mod list;
 mod message;
 mod number;
@@ -27,14 +28,16 @@ ghost use Rattle.regroup_shared.specs.Sending.{Sends, line};
 ghost use Rattle.regroup_lines.specs.Fault.{are_any, fault_of};
 ghost use Rattle.regroup_lines.specs.Fields.{SendsIfOk};
 ghost use Rattle.regroup_lines.specs.Input.{IsLong, PassesLong, held};
+ghost use Rattle.regroup_lines.specs.LineFaults.{line_fault_of};
 ghost use Rattle.regroup_lines.specs.Lines.{body_written, fault_named, fault_written, lenient, place_written, text_named, text_written};
 ghost use Rattle.regroup_lines.specs.Messages.{fault_message, messages};
 ghost use Rattle.regroup_lines.specs.Places.{place_of};
 ghost use Rattle.regroup_lines.specs.Sending.{Names, Regroups, RegroupsNaming, SendsLine, SendsTold};
 
 pub use crate::fault::RegroupFault;
-use crate::fields::{regroup_fields, send_bytes};
+use crate::fields::regroup_fields;
 use crate::input::{Input, Piece};
+use crate::line_fault::LineFault;
 pub use crate::list::field_list;
 pub use crate::message::{MAX_FAULT_MESSAGE_LEN, MAX_NAME_LEN, fault_message};
 use crate::number::{Around, Number};
@@ -187,14 +190,36 @@ fn regroup_line<W: Write, E: Write, F: Format, G: Format>(
         (are_any (text_named rules.now (F.answers from.now) (G.answers to.now) number text.now))
         (W.contents w.old) (W.contents w.new) (E.contents e.old) (E.contents e.new) (result_map_both (λ told. told) fault_of result) }
 {
+    match regroup_text(rules, name, text, number, w, e, from, to) {
+        Ok(is_named) => Ok(is_named),
+        Err(fault) => Err(fault.kept()),
+    }
+}
+
+/// Does the same, and returns a fault without a copy of the text.
+fn regroup_text<'a, W: Write, E: Write, F: Format, G: Format>(
+    rules: &Rules,
+    name: &str,
+    text: &'a [u8],
+    number: u64,
+    w: &mut W,
+    e: &mut E,
+    from: &F,
+    to: &G,
+) -> Result<bool, LineFault<'a>>
+    ensures { SendsTold (text_written rules.now (F.answers from.now) (G.answers to.now) number text.now)
+        (messages name.now rules.now.reading (F.answers from.now) (text_named rules.now (F.answers from.now) (G.answers to.now) number text.now))
+        (are_any (text_named rules.now (F.answers from.now) (G.answers to.now) number text.now))
+        (W.contents w.old) (W.contents w.new) (E.contents e.old) (E.contents e.new) (result_map_both (λ told. told) line_fault_of result) }
+{
     if number <= rules.header_lines {
-        pass_on(text, w).or(Err(RegroupFault::Write))?;
+        pass_on(text, w).or(Err(LineFault::Write))?;
         return Ok(false);
     }
     match regroup_body(rules, text, number, w, from, to) {
         Ok(()) => Ok(false),
         Err(fault) => match fault {
-            RegroupFault::Write => Err(RegroupFault::Write),
+            LineFault::Write => Err(LineFault::Write),
             _ => pass_fault(rules, name, fault, text, w, e, from),
         },
     }
@@ -202,25 +227,27 @@ fn regroup_line<W: Write, E: Write, F: Format, G: Format>(
 
 /// Sends a line at fault as it is, and a newline, and before it the message that names the fault, if the rules say so.
 /// Returns whether there is a message.
-fn pass_fault<W: Write, E: Write, F: Format>(
+fn pass_fault<'a, W: Write, E: Write, F: Format>(
     rules: &Rules,
     name: &str,
-    fault: RegroupFault,
+    fault: LineFault<'a>,
     text: &[u8],
     w: &mut W,
     e: &mut E,
     from: &F,
-) -> Result<bool, RegroupFault>
-    ensures { SendsTold (fault_written rules.now.invalid text.now (fault_of fault))
-        (messages name.now rules.now.reading (F.answers from.now) (fault_named rules.now.invalid (fault_of fault)))
-        (are_any (fault_named rules.now.invalid (fault_of fault)))
-        (W.contents w.old) (W.contents w.new) (E.contents e.old) (E.contents e.new) (result_map_both (λ told. told) fault_of result) }
+) -> Result<bool, LineFault<'a>>
+    ensures { SendsTold (fault_written rules.now.invalid text.now (line_fault_of fault.entry))
+        (messages name.now rules.now.reading (F.answers from.now) (fault_named rules.now.invalid (line_fault_of fault.entry)))
+        (are_any (fault_named rules.now.invalid (line_fault_of fault.entry)))
+        (W.contents w.old) (W.contents w.new) (E.contents e.old) (E.contents e.new) (result_map_both (λ told. told) line_fault_of result) }
 {
     if !rules.invalid.passes() {
         return Err(fault);
     }
-    let is_named = name_fault(rules, name, &fault, e, from)?;
-    pass_on(text, w).or(Err(RegroupFault::Write))?;
+    let Ok(is_named) = name_fault(rules, name, &fault.kept(), e, from) else {
+        return Err(LineFault::Report);
+    };
+    pass_on(text, w).or(Err(LineFault::Write))?;
     Ok(is_named)
 }
 
@@ -286,20 +313,23 @@ fn send_held<W: Write>(input: &mut Input, w: &mut W) -> Result<(), RegroupFault>
 {
     let len = input.held().len();
     let place = input.take(len);
-    send_bytes(input.bytes(place), w)
+    match write_whole(input.bytes(place), w) {
+        Ok(_) => Ok(()),
+        Err(_) => Err(RegroupFault::Write),
+    }
 }
 
 /// Sends a line that is no header, with its numbers regrouped, and a newline.
-fn regroup_body<W: Write, F: Format, G: Format>(
+fn regroup_body<'a, W: Write, F: Format, G: Format>(
     rules: &Rules,
-    text: &[u8],
+    text: &'a [u8],
     number: u64,
     w: &mut W,
     from: &F,
     to: &G,
-) -> Result<(), RegroupFault>
+) -> Result<(), LineFault<'a>>
     ensures { SendsLine (body_written rules.now (F.answers from.now) (G.answers to.now) number text.now)
-        (W.contents w.old) (W.contents w.new) (result_map_both (λ sent. sent) fault_of result) }
+        (W.contents w.old) (W.contents w.new) (result_map_both (λ sent. sent) line_fault_of result) }
 {
     let whole = 0..text.len();
     match &rules.span {
@@ -310,30 +340,30 @@ fn regroup_body<W: Write, F: Format, G: Format>(
 }
 
 /// Sends a line with the number at a place regrouped, and a newline.
-fn regroup_place<W: Write, F: Format, G: Format>(
+fn regroup_place<'a, W: Write, F: Format, G: Format>(
     rules: &Rules,
-    text: &[u8],
+    text: &'a [u8],
     place: Range<usize>,
     number: u64,
     w: &mut W,
     from: &F,
     to: &G,
-) -> Result<(), RegroupFault>
+) -> Result<(), LineFault<'a>>
     requires ordered { place.start ≤ place.end }
     requires within { place.end ≤ length text.now }
     ensures { SendsLine (place_written rules.now (F.answers from.now) (G.answers to.now) number text.now (place_of place))
-        (W.contents w.old) (W.contents w.new) (result_map_both (λ sent. sent) fault_of result) }
+        (W.contents w.old) (W.contents w.new) (result_map_both (λ sent. sent) line_fault_of result) }
 {
     let (start, end) = (place.start, place.end);
     if rules.passes_empty && start == end {
-        return pass_on(text, w).or(Err(RegroupFault::Write));
+        return pass_on(text, w).or(Err(LineFault::Write));
     }
     let around = Around {
         before: &text[..start],
         after: &text[end..],
     };
     let value = Number::read(rules.reading, &text[start..end], number, from)?;
-    value.send_line(&around, w, to).or(Err(RegroupFault::Write))
+    value.send_line(&around, w, to).or(Err(LineFault::Write))
 }
 
 /// Sends a line as it is, and a newline.

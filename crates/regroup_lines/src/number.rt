@@ -1,25 +1,25 @@
 //! A number in a line: how it is read and sent.
-ghost use Rattle.std.specs.Prelude.{◌≡◌, ◌<◌, ◌++◌, length, IsUtf8};
+ghost use Rattle.std.specs.Prelude.{◌≡◌, ◌<◌, ◌++◌, length};
 ghost use Rattle.std.specs.Result.{result_map_both};
-ghost use Rattle.num_format.specs.Cut.{cut_text};
 ghost use Rattle.num_format.specs.Format.{FormatData};
-ghost use Rattle.num_format.specs.Refusal.{ParseNumber};
 ghost use Rattle.regroup_shared.specs.Sending.{Sends, line};
-ghost use Rattle.regroup_lines.specs.Fault.Fault.{Line, NotText};
-ghost use Rattle.regroup_lines.specs.Fault.{fault_of};
+ghost use Rattle.regroup_lines.specs.LineFaults.{line_fault_of};
 ghost use Rattle.regroup_lines.specs.Lines.{number_written};
 ghost use Rattle.regroup_lines.specs.Numbers.{number_text};
 
-use crate::fault::RegroupFault;
+use crate::line_fault::LineFault;
 use crate::rules::Reading;
-use num_format::error::cut;
+use arrayvec::ArrayString;
 use num_format::parsing::FromFormattedStr;
 use num_format::to_formatted_string::write_whole;
-use num_format::{Buffer, Error, ErrorKind, Format};
+use num_format::{Buffer, Format};
 use num_format_decimal::{Decimal, DecimalBuffer};
 use regroup_shared::{MAX_SENT_LINE_LEN, send_line};
+use std::io;
 use std::io::Write;
-use std::{io, str};
+
+/// The most bytes of a short line, with its newline.
+const MAX_SHORT_LINE_LEN: usize = 64;
 
 /// A number that was read.
 #[derive(Clone, Copy)]
@@ -43,23 +43,23 @@ impl Number {
     /// # Errors
     ///
     /// Returns the fault of a text that does not parse.
-    pub(crate) fn read<F: Format>(
+    pub(crate) fn read<'a, F: Format>(
         reading: Reading,
-        text: &[u8],
+        text: &'a [u8],
         number: u64,
         from: &F,
-    ) -> Result<Number, RegroupFault>
+    ) -> Result<Number, LineFault<'a>>
         ensures { (to : FormatData) → number_written reading (F.answers from.now) to number text.now
-            ≡ result_map_both (number_text to) fault_of result }
+            ≡ result_map_both (number_text to) line_fault_of result }
     {
         match reading {
             Reading::Strict => match Decimal::from_strict_bytes(text, from) {
                 Ok(value) => Ok(Number::Decimal(value)),
-                Err(_) => Err(text_fault(text, number)),
+                Err(_) => Err(LineFault::NotANumber(number, text)),
             },
             Reading::Lenient => match i128::from_formatted_bytes(text, from) {
                 Ok(value) => Ok(Number::Whole(value)),
-                Err(_) => Err(text_fault(text, number)),
+                Err(_) => Err(LineFault::NotANumber(number, text)),
             },
         }
     }
@@ -142,24 +142,38 @@ fn send_line_between<W: Write>(around: &Around<'_>, text: &str, w: &mut W) -> io
         (line (around.now.before.now ++ (text.now ++ around.now.after.now))) }
 {
     if around.before.is_empty() && around.after.is_empty() {
-        return send_line(text, w);
+        return send_text(text, w);
     }
     send_between(around, text, w)?;
     write_whole(b"\n", w)?;
     Ok(())
 }
 
-/// Returns the fault of a text that does not parse. It keeps a prefix of the text, so it is made
-/// where nothing else waits for it.
-#[cold]
-#[inline(never)]
-fn text_fault(text: &[u8], number: u64) -> RegroupFault
-    ensures not_text { ¬ (IsUtf8 text.now) → fault_of result ≡ NotText number }
-    ensures refused { IsUtf8 text.now
-        → fault_of result ≡ Line number (ParseNumber (cut_text text.now)) }
+/// Sends a text and a newline, by one write if that writes both. Most texts are short, and fit an array that is made in less
+/// time.
+///
+/// # Errors
+///
+/// Returns the error of the first write that fails, also of one that was interrupted, or that writes no bytes.
+fn send_text<W: Write>(text: &str, w: &mut W) -> io::Result<()>
+    requires { length text.now < MAX_SENT_LINE_LEN }
+    ensures { Sends result (W.contents w.old) (W.contents w.new) (line text.now) }
 {
-    match str::from_utf8(text) {
-        Ok(text) => RegroupFault::Line(number, Error::from(ErrorKind::ParseNumber(cut(text)))),
-        Err(_) => RegroupFault::NotText(number),
+    if text.len() < MAX_SHORT_LINE_LEN {
+        send_short_text(text, w)
+    } else {
+        send_line(text, w)
     }
+}
+
+/// Does the same with a short text.
+fn send_short_text<W: Write>(text: &str, w: &mut W) -> io::Result<()>
+    requires { length text.now < MAX_SHORT_LINE_LEN }
+    ensures { Sends result (W.contents w.old) (W.contents w.new) (line text.now) }
+{
+    let mut line = ArrayString::<MAX_SHORT_LINE_LEN>::new();
+    line.push_str(text);
+    line.push('\n');
+    write_whole(line.as_str().as_bytes(), w)?;
+    Ok(())
 }

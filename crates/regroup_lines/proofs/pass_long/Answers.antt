@@ -8,7 +8,8 @@ use Rattle.regroup_lines.specs.Fault.{fault_of}
 use Rattle.regroup_lines.specs.Input.{FindsPiece, held}
 use Rattle.regroup_lines.specs.Sending.{SendsLine}
 use Rattle.regroup_lines.proofs.LongLemmas.{PassesLong-end, PassesLong-end_write, PassesLong-first, PassesLong-line, PassesLong-line_write, PassesLong-read, PassesLong-write, SentLong-next}
-use Rattle.regroup_lines.proofs.TextLemmas.{sends-line}
+use Rattle.regroup_lines.proofs.TextLemmas.{sends-line_by}
+use Rattle.regroup_lines.specs.declared.fault.RegroupFault.TheVariants as kept
 use Rattle.regroup_lines.proofs.pass_long.Goals as goal
 
 pub returns-in_err-send_held : goal.returns-in_err-send_held
@@ -26,7 +27,7 @@ returns-in_err-or-in-Ok-Line g c =
     let a = g.W.Write.contents c.loop.w in
     let b = g.W.Write.contents c.pass_on.new.w in
     let sends = subst (λ r. SendsLine {T = Unit {0}} (Ok text) a b (result_map_both (λ done. done) fault_of r)) c.in_err-or-in-Ok-Line.was
-    (sends-line a b (Ok text) text refl c.pass_on.result c.pass_on.ensures c.or.result c.or.ensures) in
+    (sends-line_by fault_of kept.Write refl a b (Ok text) text refl c.pass_on.result c.pass_on.ensures c.or.result c.or.ensures) in
     let p = err_from_is_err_and c.from_residual-in_err-or-in-Ok-Line.result c.from_residual-in_err-or-in-Ok-Line.ensures.1 in
     rw (p.1, p.2) (PassesLong-line_write _ _ _ _ _ _ _ _ _ c.loop.invariant _ _ found.0 found.1 (fault_of fault) sends.0 (subst (λ (t : List ℕ). StopsWithin a b (line t)) c.bytes.ensures sends.1))
 
@@ -38,7 +39,7 @@ returns-in-Ok-Line g c =
     let a = g.W.Write.contents c.loop.w in
     let b = g.W.Write.contents c.pass_on.new.w in
     let sends = subst (λ r. SendsLine {T = Unit {0}} (Ok text) a b (result_map_both (λ done. done) fault_of r)) c.in_ok-or-in-Ok-Line.was
-    (sends-line a b (Ok text) text refl c.pass_on.result c.pass_on.ensures c.or.result c.or.ensures) in
+    (sends-line_by fault_of kept.Write refl a b (Ok text) text refl c.pass_on.result c.pass_on.ensures c.or.result c.or.ensures) in
     PassesLong-line _ _ _ _ _ _ _ _ _ c.loop.invariant _ _ found.0 found.1 (subst (λ (t : List ℕ). Appends a b (line t)) c.bytes.ensures sends)
 
 pub returns-in_err-or-in-Ok-Rest : goal.returns-in_err-or-in-Ok-Rest
@@ -50,7 +51,7 @@ returns-in_err-or-in-Ok-Rest g c =
     let a = g.W.Write.contents c.loop.w in
     let b = g.W.Write.contents c.pass_on-in-Ok-Rest.new.w in
     let sends = subst (λ r. SendsLine {T = Unit {0}} (Ok text) a b (result_map_both (λ done. done) fault_of r)) c.in_err-or-in-Ok-Rest.was
-    (sends-line a b (Ok text) text refl c.pass_on-in-Ok-Rest.result c.pass_on-in-Ok-Rest.ensures c.or-in-Ok-Rest.result c.or-in-Ok-Rest.ensures) in
+    (sends-line_by fault_of kept.Write refl a b (Ok text) text refl c.pass_on-in-Ok-Rest.result c.pass_on-in-Ok-Rest.ensures c.or-in-Ok-Rest.result c.or-in-Ok-Rest.ensures) in
     let p = err_from_is_err_and c.from_residual-in_err-or-in-Ok-Rest.result c.from_residual-in_err-or-in-Ok-Rest.ensures.1 in
     rw (p.1, p.2) (PassesLong-end_write _ _ _ _ _ _ _ _ _ c.loop.invariant _ found.0 found.1 (held c.next_piece.new.self) (fault_of fault) found.3 sends.0
     (subst (λ (t : List ℕ). StopsWithin a b (line t)) c.bytes-in-Ok-Rest.ensures sends.1))
@@ -63,7 +64,7 @@ returns-in-Ok-Rest g c =
     let a = g.W.Write.contents c.loop.w in
     let b = g.W.Write.contents c.pass_on-in-Ok-Rest.new.w in
     let sends = subst (λ r. SendsLine {T = Unit {0}} (Ok text) a b (result_map_both (λ done. done) fault_of r)) c.in_ok-or-in-Ok-Rest.was
-    (sends-line a b (Ok text) text refl c.pass_on-in-Ok-Rest.result c.pass_on-in-Ok-Rest.ensures c.or-in-Ok-Rest.result c.or-in-Ok-Rest.ensures) in
+    (sends-line_by fault_of kept.Write refl a b (Ok text) text refl c.pass_on-in-Ok-Rest.result c.pass_on-in-Ok-Rest.ensures c.or-in-Ok-Rest.result c.or-in-Ok-Rest.ensures) in
     PassesLong-end _ _ _ _ _ _ _ _ _ c.loop.invariant _ found.0 found.1 (held c.next_piece.new.self) found.3 (subst (λ (t : List ℕ). Appends a b (line t)) c.bytes-in-Ok-Rest.ensures sends)
 
 pub returns-in_err-send_held-in-Ok-TooLong : goal.returns-in_err-send_held-in-Ok-TooLong

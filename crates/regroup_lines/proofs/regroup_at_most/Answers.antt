@@ -3,7 +3,8 @@ use Rattle.std.proofs.lemmas.Result.{err_from_is_err_and}
 use Rattle.regroup_lines.specs.Fault.{fault_of}
 use Rattle.regroup_lines.specs.Input.{EndsOrGoesOn, FindsPiece, IsInArray, IsLong, PassesLong, held}
 use Rattle.regroup_lines.specs.Lines.{passes}
-use Rattle.regroup_lines.proofs.LineLemmas.{Progress-long, Progress-next, Progress-none, Regroups-all, Regroups-empty, Regroups-last, Regroups-last_fault, Regroups-line, Regroups-long, Regroups-long_failed, Regroups-long_last, Regroups-long_unnamed, Regroups-many, Regroups-read, Regroups-unread, SendsText}
+use Rattle.regroup_lines.proofs.ProgressLemmas.{Progress-long, Progress-next, Progress-none, Regroups-all, Regroups-empty, Regroups-last, Regroups-last_fault, Regroups-line, Regroups-long, Regroups-long_failed, Regroups-long_last, Regroups-long_unnamed, Regroups-many, Regroups-read, Regroups-unread}
+use Rattle.regroup_lines.proofs.ToldLemmas.{SendsText}
 use Rattle.regroup_lines.specs.declared.TheConstants.{MAX_LINE_LEN}
 use Rattle.regroup_lines.proofs.regroup_at_most.Goals as goal
 use Rattle.regroup_lines.proofs.regroup_at_most.Goals.{in-Line+in_ok-has_faults-in-Line, in-TooLong+else-not-passes+in_ok-has_faults-in-TooLong+in_ok-pass_long-in-TooLong+else-branch}

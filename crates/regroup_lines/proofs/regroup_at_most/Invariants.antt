@@ -1,5 +1,5 @@
 use Rattle.regroup_lines.specs.Input.{held}
-use Rattle.regroup_lines.proofs.LineLemmas.{Progress}
+use Rattle.regroup_lines.proofs.ProgressLemmas.{Progress}
 use Rattle.regroup_lines.proofs.regroup_at_most.Given as goal
 
 -- so many lines were sent

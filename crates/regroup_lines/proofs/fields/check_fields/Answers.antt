@@ -1,7 +1,7 @@
 use Rattle.std.proofs.Common.{◌≡◌, ◌∙◌, ◌+◌, ◌<◌, ◌==◌, Ok, Err, [], false, ap, arith, drop, length, slice_range, subst, sym}
 use Rattle.std.specs.List.{slice_split}
 use Rattle.std.proofs.lemmas.Result.{err_from_is_err_and}
-use Rattle.regroup_lines.specs.Fault.{fault_of}
+use Rattle.regroup_lines.specs.LineFaults.{line_fault_of}
 use Rattle.regroup_lines.specs.Fields.{checked}
 use Rattle.regroup_lines.specs.Lines.{field_written, fields_written}
 use Rattle.regroup_lines.specs.Places.{is_chosen_from}
@@ -16,7 +16,7 @@ returns-in_err-check_field g c to =
     let from = g.F.Format.answers c.args.from.now in
     let text = c.args.text.now in
     let field = slice_range text c.fields.start c.field_end-end.result in
-    let fault = fault_of c.in_err-check_field.field-0.0 in
+    let fault = line_fault_of c.in_err-check_field.field-0.0 in
     let split = split-either _ _ _ _ _ c.field_end-end.ensures.within c.field_end-end.ensures.more c.field_end-end.ensures.last in
     let p = err_from_is_err_and c.from_residual.result c.from_residual.ensures.1 in
     rw (p.1, p.2) (sym (check-first rules list from to c.args.number c.fields.count

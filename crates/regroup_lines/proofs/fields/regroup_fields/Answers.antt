@@ -1,6 +1,6 @@
 use Rattle.std.proofs.Common.{None, Some, Err, refl, subst, sym}
 use Rattle.std.specs.Result.{result_map_both}
-use Rattle.regroup_lines.specs.Fault.{fault_of}
+use Rattle.regroup_lines.specs.LineFaults.{line_fault_of}
 use Rattle.regroup_lines.specs.Fault.Fault.{FewFields}
 use Rattle.regroup_lines.specs.Lines.{place_written}
 use Rattle.regroup_lines.specs.Places.{place_of}
@@ -16,7 +16,7 @@ returns-in-Some-field_place g c =
     let text = c.args.text.now in
     let a = g.W.Write.contents c.args.w.now in
     let b = g.W.Write.contents c.regroup_place.new.w in
-    let result = result_map_both (λ sent. sent) fault_of c.regroup_place.result in
+    let result = result_map_both (λ sent. sent) line_fault_of c.regroup_place.result in
     let only = c.in-Some.ensures in
     subst (λ written. SendsLine written a b result)
     (sym (one-replaced rules from to c.args.number c.in-Some.field text c.args.fields.now (Some (place_of c.in-Some-field_place.place)) only.1 only.0

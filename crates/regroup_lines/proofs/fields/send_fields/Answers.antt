@@ -3,7 +3,7 @@ use Rattle.std.specs.List.{slice_split}
 use Rattle.std.proofs.lemmas.List.{take_rest}
 use Rattle.std.proofs.lemmas.List.Splits.{length-slice_split}
 use Rattle.std.proofs.lemmas.Result.{err_from_is_err_and}
-use Rattle.regroup_lines.specs.Fault.{fault_of}
+use Rattle.regroup_lines.specs.LineFaults.{line_fault_of}
 use Rattle.regroup_lines.specs.Fields.{SendsIfOk}
 use Rattle.regroup_lines.specs.Lines.{field_written, fields_written}
 use Rattle.regroup_lines.specs.Places.{is_chosen_from}
@@ -22,7 +22,7 @@ returns-in_err-send_field g c =
     let to = g.G.Format.answers c.args.to.now in
     let text = c.args.text.now in
     let field = slice_range text c.fields.start c.field_end-end.result in
-    let fault = fault_of c.in_err-send_field.field-0.0 in
+    let fault = line_fault_of c.in_err-send_field.field-0.0 in
     let split = split-either _ _ _ _ _ c.field_end-end.ensures.within c.field_end-end.ensures.more c.field_end-end.ensures.last in
     let p = err_from_is_err_and c.from_residual.result c.from_residual.ensures.1 in
     let a = g.W.Write.contents c.args.w.now in
@@ -63,7 +63,7 @@ returns-in_err-send_bytes g c =
     let end = c.field_end-end.result in
     let field = slice_range text c.fields.start end in
     let below : end < length text = omega arith in
-    let fault = fault_of c.in_err-send_bytes.field-0.0 in
+    let fault = line_fault_of c.in_err-send_bytes.field-0.0 in
     let p = err_from_is_err_and c.from_residual-in_err-send_bytes.result c.from_residual-in_err-send_bytes.ensures.1 in
     let a = g.W.Write.contents c.args.w.now in
     let b = g.W.Write.contents c.fields.w in

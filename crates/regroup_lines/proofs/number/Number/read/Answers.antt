@@ -3,7 +3,7 @@ use Rattle.std.specs.Int.{w128}
 use Rattle.std.proofs.lemmas.Int.{to_z-of_z}
 use Rattle.num_format.specs.Text.{text_of}
 use Rattle.num_format_decimal.specs.Text.{decimal_text}
-use Rattle.regroup_lines.specs.Fault.{fault_of}
+use Rattle.regroup_lines.specs.LineFaults.{text_fault}
 use Rattle.regroup_lines.specs.Lines.{number_written}
 use Rattle.regroup_lines.proofs.TextLemmas.{lenient-fault, lenient-read, number_in_text-accepted, number_in_text-refused, strict-accepted, strict-refused}
 use Rattle.regroup_lines.proofs.number.Number.read.Goals as goal
@@ -20,10 +20,8 @@ pub returns-in-Err : goal.returns-in-Err
 returns-in-Err g c to =
     let from = g.F.Format.answers c.args.from.now in
     let text = c.args.text.now in
-    let fault = fault_of c.text_fault.result in
-    subst (λ reading. number_written reading from to c.args.number text ≡ Err fault) (sym c.in-Strict.is)
-    (strict-refused from to c.args.number text c.from_strict_bytes.result c.in-Err.field-0 fault c.in-Err.is c.from_strict_bytes.ensures.decimal
-    c.text_fault.ensures.not_text c.text_fault.ensures.refused)
+    subst (λ reading. number_written reading from to c.args.number text ≡ Err (text_fault c.args.number text)) (sym c.in-Strict.is)
+    (strict-refused from to c.args.number text c.from_strict_bytes.result c.in-Err.field-0 c.in-Err.is c.from_strict_bytes.ensures.decimal)
 
 pub returns-in-Ok-from_formatted_bytes : goal.returns-in-Ok-from_formatted_bytes
 returns-in-Ok-from_formatted_bytes g c to =
@@ -39,9 +37,6 @@ pub returns-in-Err-from_formatted_bytes : goal.returns-in-Err-from_formatted_byt
 returns-in-Err-from_formatted_bytes g c to =
     let from = g.F.Format.answers c.args.from.now in
     let text = c.args.text.now in
-    let refused = c.text_fault-in-Err-from_formatted_bytes in
-    let fault = fault_of refused.result in
-    subst (λ reading. number_written reading from to c.args.number text ≡ Err fault) (sym c.in-Lenient.is)
-    (lenient-fault from to c.args.number text fault
-    (number_in_text-refused from c.args.number text _ _ c.in-Err-from_formatted_bytes.ensures.not_utf8 c.in-Err-from_formatted_bytes.ensures.refused
-    refused.ensures.not_text refused.ensures.refused))
+    subst (λ reading. number_written reading from to c.args.number text ≡ Err (text_fault c.args.number text)) (sym c.in-Lenient.is)
+    (lenient-fault from to c.args.number text (text_fault c.args.number text)
+    (number_in_text-refused from c.args.number text _ c.in-Err-from_formatted_bytes.ensures.not_utf8 c.in-Err-from_formatted_bytes.ensures.refused))

@@ -1,0 +1,20 @@
+-- The fault of a line, while its text is at hand.
+use Rattle.std.specs.Prelude.{ℕ, if◌then◌else◌, List}
+use Rattle.std.specs.Str.{is_utf8}
+use Rattle.num_format.specs.Cut.{cut_text}
+use Rattle.num_format.specs.Refusal.{ParseNumber}
+use Rattle.regroup_lines.specs.Fault.{Fault}
+use Rattle.regroup_lines.specs.Fault.Fault.{FewFields, Line, NotText, Report, Write}
+use Rattle.regroup_lines.specs.declared.line_fault.LineFault.{LineFault}
+use Rattle.regroup_lines.specs.declared.line_fault.LineFault.TheVariants as fault
+
+-- the fault of a text that is not a number, in the line of this number
+abbrev pub text_fault : ℕ → List ℕ → Fault
+text_fault number text = if is_utf8 text then Line number (ParseNumber (cut_text text)) else NotText number
+
+-- the `Fault` of a `LineFault`
+abbrev pub line_fault_of : LineFault → Fault
+line_fault_of (fault.NotANumber number text) = text_fault number text.now
+line_fault_of (fault.FewFields number) = FewFields number
+line_fault_of fault.Write = Write
+line_fault_of fault.Report = Report

@@ -1,0 +1,49 @@
+//! Faults of a line while its text is at hand.
+ghost use Rattle.std.specs.Prelude.{◌≡◌};
+ghost use Rattle.regroup_lines.specs.Fault.{fault_of};
+ghost use Rattle.regroup_lines.specs.LineFaults.{line_fault_of, text_fault};
+
+use crate::fault::RegroupFault;
+use num_format::error::cut;
+use num_format::{Error, ErrorKind};
+use std::str;
+
+/// Why a line was not sent. It borrows the text, and so has a few bytes, where a [`RegroupFault`] keeps a copy.
+#[derive(Clone, Copy)]
+pub(crate) enum LineFault<'a> {
+    /// This text in the line of this number is not a number.
+    NotANumber(u64, &'a [u8]),
+    /// The line of this number has too few fields.
+    FewFields(u64),
+    /// A write failed.
+    Write,
+    /// A write of a message that names a fault failed.
+    Report,
+}
+
+impl LineFault<'_> {
+    /// Returns the fault with a copy of the text. It is made where nothing else waits for it.
+    #[cold]
+    #[inline(never)]
+    pub(crate) fn kept(self) -> RegroupFault
+        ensures { fault_of result ≡ line_fault_of self.entry }
+    {
+        match self {
+            LineFault::NotANumber(number, text) => text_fault(number, text),
+            LineFault::FewFields(number) => RegroupFault::FewFields(number),
+            LineFault::Write => RegroupFault::Write,
+            LineFault::Report => RegroupFault::Report,
+        }
+    }
+}
+
+/// Returns the fault of a text that is not a number.
+#[tactic(auto, using(crate::proofs::LineFaultLemmas::text_fault_utf8, crate::proofs::LineFaultLemmas::text_fault_bytes))]
+fn text_fault(number: u64, text: &[u8]) -> RegroupFault
+    ensures { fault_of result ≡ text_fault number text.now }
+{
+    match str::from_utf8(text) {
+        Ok(text) => RegroupFault::Line(number, Error::from(ErrorKind::ParseNumber(cut(text)))),
+        Err(_) => RegroupFault::NotText(number),
+    }
+}
