@@ -1,5 +1,5 @@
 //! Strict parsing of most texts in one pass: of digits, alone or in groups with a separator between them.
-ghost use Rattle.std.specs.Prelude.{◌≡◌, ℕ, List, ◌+◌, ◌-◌, ◌<◌, ◌≤◌, [], true, false, length, drop, slice_index, IsTrue, IfSome, MatchOption, MatchResult};
+ghost use Rattle.std.specs.Prelude.{◌≡◌, ℕ, List, ◌+◌, ◌-◌, ◌^◌, ◌<◌, ◌≤◌, [], true, false, length, drop, slice_index, IsTrue, IfSome, MatchOption, MatchResult};
 ghost use Rattle.std.specs.Char.{is_ascii_digit};
 ghost use Rattle.std.specs.Int.Digits.{number_from_digits};
 ghost use Rattle.num_format_text.specs.declared.grouping.Grouping.TheVariants.{Posix};
@@ -8,7 +8,7 @@ ghost use Rattle.num_format_parsing.specs.Parts.{GroupsBy, HasReadNumber, HasRea
 ghost use Rattle.num_format_parsing.specs.Shapes.{IsPlainStart, BeginsWithDigit, byte_figures};
 
 use crate::numeral::{has_digit_in_symbol, has_numeral_in_symbol};
-use crate::parsing::Accumulator;
+use crate::parsing::{Accumulator, SAFE_FIGURES};
 use crate::strict::{begins_with, begins_with_digit};
 use num_format_text::{Format, Grouping};
 
@@ -52,8 +52,11 @@ struct Groups {
     least: usize,
 }
 
-/// The fewest bytes of groups: a digit, a separator and three digits.
-const SHORTEST_GROUPED: usize = 5;
+/// The fewest bytes of groups with a separator of one byte: a digit, the separator and three digits.
+const SHORTEST_GROUPS: usize = 5;
+
+/// The bytes of [`SAFE_FIGURES`] digits in groups of three with such a separator.
+const LONGEST_GROUPS: usize = SAFE_FIGURES + 6;
 
 /// Returns what one pass over a text finds. Its minus sign has the length `start`, and `most` is the number of
 /// digits that it may have.
@@ -104,20 +107,19 @@ pub(crate) fn read_short(text: &[u8], start: usize, most: usize) -> Option<u64>
     push_few(text, start, count, 0)
 }
 
-/// Returns the number of a text that is in groups after its minus sign, with a separator of one byte, and has at
-/// most `most` digits. It may return `None` for any text.
+/// Returns the number of a text that is in groups after its minus sign, with a separator of one byte, and has few
+/// digits, at most `most`. It may return `None` for any text, and does so where the digits may not fit 64 bits.
 ///
 /// Where the first separator stands is found before its digits are read, so that none is looked at twice.
 #[inline(always)]
-pub(crate) fn read_in_groups<F: Format, A: Accumulator>(
+pub(crate) fn read_in_groups<F: Format>(
     text: &[u8],
     start: usize,
     most: usize,
     format: &F,
-) -> Option<A>
+) -> Option<u64>
     requires { IsPlainStart (F.answers format.now) text.now start }
-    ensures { IfSome result (λ n.
-        HasReadNumber (F.answers format.now) text.now start most (A.number n)) }
+    ensures { IfSome result (λ n. HasReadNumber (F.answers format.now) text.now start most n) }
 {
     let groups = groups_of(format.grouping())?;
     let separator = format.separator().into_str();
@@ -126,14 +128,17 @@ pub(crate) fn read_in_groups<F: Format, A: Accumulator>(
         return None;
     }
     let len = text.len() - start;
-    if len < SHORTEST_GROUPED || len <= groups.least || !begins_with_digit(&text[start..]) {
+    if len < SHORTEST_GROUPS || len > LONGEST_GROUPS || len <= groups.least {
         return None;
     }
-    let first = read_first_group::<A>(text, start, bytes[0])?;
+    if !begins_with_digit(&text[start..]) {
+        return None;
+    }
+    let first = read_first_group(text, start, bytes[0])?;
     let Ok(whole) = read_by(text, start, first, bytes, groups) else {
         return None;
     };
-    if whole.figures > most || !is_exact(text, start, whole) {
+    if whole.figures > most || whole.figures > SAFE_FIGURES {
         return None;
     }
     Some(whole.magnitude)
@@ -141,9 +146,9 @@ pub(crate) fn read_in_groups<F: Format, A: Accumulator>(
 
 /// Returns the first group of a text, which is the one to three digits before a separator.
 #[inline(always)]
-fn read_first_group<A: Accumulator>(text: &[u8], start: usize, separator: u8) -> Option<Part<A>>
-    requires { start + SHORTEST_GROUPED ≤ length text.now }
-    ensures { IfSome result (λ first. HasReadDigits A.bound text.now start first.end 0 (A.number first.magnitude)
+fn read_first_group(text: &[u8], start: usize, separator: u8) -> Option<Part<u64>>
+    requires { start + SHORTEST_GROUPS ≤ length text.now }
+    ensures { IfSome result (λ first. HasReadDigits (2 ^ 64) text.now start first.end 0 first.magnitude
         × (first.figures + start ≡ first.end)
         × (start < first.end)
         × (first.end < length text.now)
@@ -160,7 +165,7 @@ fn read_first_group<A: Accumulator>(text: &[u8], start: usize, separator: u8) ->
     if text[end] != separator {
         return None;
     }
-    let magnitude = push_few(text, start, figures, A::zero())?;
+    let magnitude = push_few(text, start, figures, 0u64)?;
     Some(Part {
         end,
         figures,

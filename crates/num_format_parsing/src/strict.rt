@@ -77,22 +77,26 @@ pub(crate) fn parse_strict<N: Sealed, F: Format>(
         (λ n. ParsesStrictly N.kind (F.answers format.now) bytes.now (N.value n))
         (λ e. IsCause N.kind (F.answers format.now) bytes.now e) }
 {
-    if bytes.len() <= SHORT_LEN {
-        if let Some(result) = parse_short(bytes, format) {
-            return match result {
-                Ok(number) => Ok(number),
-                Err(OutOfRange) => Err(StrictError::OutOfRange),
-            };
-        }
+    if let Some(result) = parse_directly(bytes, format) {
+        return match result {
+            Ok(number) => Ok(number),
+            Err(OutOfRange) => Err(StrictError::OutOfRange),
+        };
     }
-    parse_long(bytes, is_text, format)
+    // Most texts are short: their digits fit 64 bits, which take less time than 128. Whether a type is wide is
+    // known where the code is compiled.
+    if N::is_wide() && bytes.len() > SAFE_FIGURES {
+        parse_wide(bytes, is_text, format)
+    } else {
+        parse_by::<N, F, u64>(bytes, is_text, format)
+    }
 }
 
-/// Returns the same of a text that is not short, or spells no number.
+/// Returns the same, by way of 128 bits.
 ///
-/// It is a function of its own, so that short texts are parsed without its space.
+/// It is a function of its own, so that shorter texts are parsed without its space.
 #[inline(never)]
-fn parse_long<N: Sealed, F: Format>(
+fn parse_wide<N: Sealed, F: Format>(
     bytes: &[u8],
     is_text: bool,
     format: &F,
@@ -102,19 +106,7 @@ fn parse_long<N: Sealed, F: Format>(
         (λ n. ParsesStrictly N.kind (F.answers format.now) bytes.now (N.value n))
         (λ e. IsCause N.kind (F.answers format.now) bytes.now e) }
 {
-    if let Some(result) = parse_groups(bytes, format) {
-        return match result {
-            Ok(number) => Ok(number),
-            Err(OutOfRange) => Err(StrictError::OutOfRange),
-        };
-    }
-    // Most texts are short: their digits fit 64 bits, which take less time than 128. Whether a type is wide is
-    // known where the code is compiled.
-    if N::is_wide() && bytes.len() > SAFE_FIGURES {
-        parse_by::<N, F, u128>(bytes, is_text, format)
-    } else {
-        parse_by::<N, F, u64>(bytes, is_text, format)
-    }
+    parse_by::<N, F, u128>(bytes, is_text, format)
 }
 
 /// Returns the same, by way of the accumulator.
@@ -184,14 +176,26 @@ fn parse_rest<N: Sealed, F: Format, A: Accumulator>(
 /// A short text has at most so many bytes, as those of a minus sign and three digits.
 pub(crate) const SHORT_LEN: usize = 4;
 
-/// Nineteen digits in groups of three take so many bytes with a separator of one byte.
-const SAFE_GROUPED_LEN: usize = SAFE_FIGURES + 6;
-
 /// Why a text is refused that spells a number.
 #[derive(Clone, Copy)]
 pub(crate) struct OutOfRange;
 
-/// Returns the number that a short text spells, or that parsing refuses it. It may return `None` for any text.
+/// Returns the number that a text spells, or that parsing refuses it. It may return `None` for any text, and does
+/// not for most that people write.
+#[inline(always)]
+fn parse_directly<N: Sealed, F: Format>(text: &[u8], format: &F) -> Option<Result<N, OutOfRange>>
+    ensures { IfSome result (λ answer. MatchResult answer
+        (λ n. ParsesStrictly N.kind (F.answers format.now) text.now (N.value n))
+        (λ _. IsOutOfRange N.kind (F.answers format.now) text.now)) }
+{
+    if text.len() <= SHORT_LEN {
+        parse_short(text, format)
+    } else {
+        parse_groups(text, format)
+    }
+}
+
+/// Returns the same of a short text.
 ///
 /// Most numbers are short, and the format is asked for its minus sign alone. Most short texts that spell none have
 /// no digit at their end, and are left before that.
@@ -210,33 +214,14 @@ pub(crate) fn parse_short<N: Sealed, F: Format>(
     }
     let sign = sign_of(text, format)?;
     let magnitude = read_short(text, sign.len, most_figures::<N>(sign.is_negative))?;
-    Some(number_of(sign, magnitude as u128))
+    Some(number_of(sign, magnitude))
 }
 
-/// Returns the same of a text in groups.
-#[inline(always)]
-fn parse_groups<N: Sealed, F: Format>(text: &[u8], format: &F) -> Option<Result<N, OutOfRange>>
-    ensures { IfSome result (λ answer. MatchResult answer
-        (λ n. ParsesStrictly N.kind (F.answers format.now) text.now (N.value n))
-        (λ _. IsOutOfRange N.kind (F.answers format.now) text.now)) }
-{
-    if text.len() <= SHORT_LEN {
-        None
-    } else if N::is_wide() && text.len() > SAFE_GROUPED_LEN {
-        parse_groups_by::<N, F, u128>(text, format)
-    } else {
-        parse_groups_by::<N, F, u64>(text, format)
-    }
-}
-
-/// Returns the same of a text that ends with a separator of one byte and three digits, by way of the accumulator.
+/// Returns the same of a longer text that ends with a separator of one byte and three digits.
 ///
 /// The text is looked at before the format is asked for anything, so that others are left early.
 #[inline(always)]
-fn parse_groups_by<N: Sealed, F: Format, A: Accumulator>(
-    text: &[u8],
-    format: &F,
-) -> Option<Result<N, OutOfRange>>
+fn parse_groups<N: Sealed, F: Format>(text: &[u8], format: &F) -> Option<Result<N, OutOfRange>>
     requires { SHORT_LEN < length text.now }
     ensures { IfSome result (λ answer. MatchResult answer
         (λ n. ParsesStrictly N.kind (F.answers format.now) text.now (N.value n))
@@ -249,8 +234,8 @@ fn parse_groups_by<N: Sealed, F: Format, A: Accumulator>(
     }
     let sign = sign_of(text, format)?;
     let most = most_figures::<N>(sign.is_negative);
-    let magnitude = read_in_groups::<F, A>(text, sign.len, most, format)?;
-    Some(number_of(sign, magnitude.number()))
+    let magnitude = read_in_groups(text, sign.len, most, format)?;
+    Some(number_of(sign, magnitude))
 }
 
 /// Whether a text is negative, and the length of its minus sign, which is else 0.
@@ -277,14 +262,14 @@ fn sign_of<F: Format>(text: &[u8], format: &F) -> Option<Sign>
 
 /// Returns the number of that sign and magnitude, if it is a value of the type.
 #[inline(always)]
-fn number_of<N: Sealed>(sign: Sign, magnitude: u128) -> Result<N, OutOfRange>
+fn number_of<N: Sealed>(sign: Sign, magnitude: u64) -> Result<N, OutOfRange>
     ensures { (f : FormatData) (t : List ℕ) (most : ℕ) → HasPlainSign f t sign.is_negative sign.len
         → most ≤ N.kind.limit - (if sign.is_negative then 1 else 0)
         → HasReadNumber f t sign.len most magnitude → MatchResult result
         (λ n. ParsesStrictly N.kind f t (N.value n))
         (λ _. IsOutOfRange N.kind f t) }
 {
-    match N::from_sign_and_magnitude(sign.is_negative, magnitude) {
+    match N::from_sign_and_magnitude(sign.is_negative, magnitude as u128) {
         Some(number) => Ok(number),
         None => Err(OutOfRange),
     }

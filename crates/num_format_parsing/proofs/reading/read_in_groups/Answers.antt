@@ -1,14 +1,14 @@
-use Rattle.std.proofs.Common.{◌≡◌, ◌∙◌, false, [], length, drop, length-drop, sym, subst, arith, rules, IsUtf8}
+use Rattle.std.proofs.Common.{◌≡◌, ◌^◌, ◌∙◌, false, [], length, drop, length-drop, sym, subst, arith, rules, IsUtf8}
 use Rattle.std.specs.List.{list_any}
 use Rattle.std.specs.Str.{chars}
 use Rattle.std.proofs.lemmas.List.{take_rest}
 use Rattle.num_format_int.specs.Grouped.{stands}
-use Rattle.num_format_parsing.specs.Parts.{GroupsBy, HasReadNumber, WriteWhole}
+use Rattle.num_format_parsing.specs.Parts.{GroupsBy, HasReadNumber}
 use Rattle.num_format_parsing.specs.Reading.{is_other_numeral}
 use Rattle.num_format_parsing.specs.Shapes.{BeginsWithDigit, byte_figures}
 use Rattle.num_format_parsing.proofs.FigureLemmas.{figures-none}
-use Rattle.num_format_parsing.proofs.GroupsLemmas.{first-byte, spells-groups}
-use Rattle.num_format_parsing.proofs.NumberLemmas.{number-spelled}
+use Rattle.num_format_parsing.proofs.GroupsLemmas.{spells-groups}
+use Rattle.num_format_parsing.proofs.NumberLemmas.{exact-few, number-spelled}
 use Rattle.num_format_parsing.proofs.reading.read_in_groups.Goals as goal
 
 pub returns : goal.returns
@@ -31,14 +31,6 @@ returns g c =
     let is_due = stands f.grouping (length ds) in
     let text = read.found.text is_due sizes.0 sizes.1 in
     let no_other : list_any is_other_numeral (chars s) ≡ false = subst (λ xs. list_any is_other_numeral (chars xs) ≡ false) (sym c.as_bytes-bytes.ensures.value) (sym c.has_numeral_in_symbol.ensures ∙ c.if-has_numeral_in_symbol.false) in
-    let byte = first-byte t start is_due s ds begin text in
-    let write : WriteWhole g.A.Accumulator.bound t start ds whole.figures (g.A.Accumulator.number whole.magnitude) = record {
-      below = read.found.below;
-      rest = byte.rest;
-      first = byte.first;
-      length = read.figures;
-      number = read.number;
-    } in
-    let exact = c.is_exact.ensures ds write c.if-not-is_exact.false in
+    let exact = exact-few (2 ^ 64) 19 ds whole.magnitude read.found.below read.number (omega (arith, read.figures, c.if-whole-gt-SAFE_FIGURES.false)) (omega arith) in
     subst (HasReadNumber f t start c.args.most) (sym exact)
     (number-spelled f t start is_due s ds whole.figures c.args.most c.requires both.0 both.1 text read.found.below plain separator_utf8 no_other read.figures (omega (arith, c.if-whole-most.false)))
