@@ -101,8 +101,7 @@ pub(crate) fn read_whole_number<F: Format>(text: &[u8], format: &F) -> Option<De
 /// Returns what is read of a text without separators, from its first byte to its last, if it is short and spells a
 /// decimal.
 ///
-/// Most decimals are short, and of a format for one below [`LEAST_GROUPED`] only the minus sign and the mark are
-/// asked for.
+/// Most decimals are short. For one below [`LEAST_GROUPED`] the format is asked for its minus sign and mark alone.
 #[inline(always)]
 pub(crate) fn read_plain<F: Format>(text: &[u8], format: &F) -> Option<Plain>
     ensures decimal { IfSome result (λ p. ParsesDecimal (F.answers format.now) text.now
