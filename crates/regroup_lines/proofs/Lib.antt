@@ -9,4 +9,5 @@ mod ListLemmas
 mod LongLemmas
 mod OneFieldLemmas
 mod PlaceLemmas
+pub mod SplitLemmas
 mod TextLemmas
