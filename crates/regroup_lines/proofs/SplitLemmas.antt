@@ -22,7 +22,6 @@ use Rattle.regroup_lines.specs.Lines.{Regrouped, between, body_named, body_or_it
 use Rattle.regroup_lines.specs.Lines.Stop.{Ended}
 use Rattle.regroup_lines.specs.Places.{are_enough, is_chosen, trimmed}
 use Rattle.regroup_lines.specs.declared.rules.FieldRange.{FieldRange}
-use Rattle.regroup_lines.specs.declared.rules.Fields.{Fields}
 use Rattle.regroup_lines.specs.declared.rules.Invalid.{Invalid}
 use Rattle.regroup_lines.specs.declared.rules.Invalid.TheVariants.{Abort, Fail, Warn, Ignore}
 use Rattle.regroup_lines.specs.declared.rules.Reading.{Reading}
