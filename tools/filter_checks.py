@@ -474,7 +474,7 @@ def check_formats(tally, program):
             (folder / file).write_bytes(content)
         for source, target, text, *expected in FORMATS:
             ended = regroup(program, [source, target], text, cwd=folder)
-            compare(tally, shown(f"{source} {target}"), ended, *expected)
+            compare(tally, repr(f"{source} {target}"), ended, *expected)
 
 
 def check_example(tally, program):
