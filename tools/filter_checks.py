@@ -6,6 +6,7 @@
 Each check compares the exit status, standard output and standard error with what was worked out by
 hand. The last line says how many passed and failed. The exit status is 1 where one failed.
 """
+import json
 import os
 import resource
 import subprocess
@@ -296,6 +297,54 @@ OPERANDS = [
     (["c", "inner", "-"], b"1\n", 3, b"", unopened(b"c", MISSING) + b"regroup-lines: inner: read error: Is a directory\n"),
 ]
 
+# A format's seven texts as a file has them, and files of a folder: these, others, and such as have no format.
+SWISS = {"dec": ".", "grp": "Standard", "inf": "\u221e", "min": "-", "nan": "NaN", "plus": "+", "sep": "'"}
+OTHER = {**SWISS, "dec": "\u066b", "min": "\u2212", "sep": "\u00b7", "note": [1]}
+FORMAT_FILES = {
+    "swiss.json": json.dumps(SWISS).encode(),
+    "other.json": json.dumps(OTHER, ensure_ascii=False, indent=1).encode(),
+    "points.json": json.dumps({**SWISS, "sep": "."}).encode(),
+    "cut.json": json.dumps(SWISS).encode()[:-1],
+    "two.json": 2 * json.dumps(SWISS).encode(),
+    "empty.json": b"",
+    "latin.json": json.dumps(SWISS).encode().replace(b"NaN", b"\xff"),
+    "list.json": b"[]",
+    "no_sep.json": json.dumps({key: SWISS[key] for key in SWISS if key != "sep"}).encode(),
+    "number.json": json.dumps({**SWISS, "min": 5}).encode(),
+    "roman.json": json.dumps({**SWISS, "grp": "Roman"}).encode(),
+    "long.json": json.dumps({**SWISS, "sep": 9 * "'"}).encode(),
+}
+
+
+def unfit(name, cause):
+    """The message of a file, its name as messages show it, that has no format."""
+    return b"regroup-lines: " + name + b": " + cause + b"\n"
+
+
+# FROM and TO in that folder, standard input, the status, standard output and standard error.
+FORMATS = [
+    ("en", "@swiss.json", b"-1,234,567.50\n", 0, b"-1'234'567.50\n", b""),
+    ("@swiss.json", "de", b"-1'234'567.50\n", 0, b"-1.234.567,50\n", b""),
+    ("@swiss.json", "@other.json", b"-1'234.5\n", 0, "\u22121\u00b7234\u066b5\n".encode(), b""),
+    ("@./swiss.json", "@swiss.json", b"1000\n", 0, b"1'000\n", b""),
+    ("en", "@points.json", b"1,000.5\n", 0, b"1.000.5\n", b""),
+    ("@points.json", "en", b"1\n", 2, b"", unmarked(b"'points.json'")),
+    ("en", "@cut.json", b"1\n", 2, b"", unfit(b"cut.json", b"not JSON")),
+    ("@two.json", "en", b"1\n", 2, b"", unfit(b"two.json", b"not JSON")),
+    ("@empty.json", "en", b"1\n", 2, b"", unfit(b"empty.json", b"not JSON")),
+    ("en", "@latin.json", b"1\n", 2, b"", unfit(b"latin.json", b"not JSON")),
+    ("en", "@list.json", b"1\n", 2, b"", unfit(b"list.json", b"not a JSON object")),
+    ("en", "@no_sep.json", b"1\n", 2, b"", unfit(b"no_sep.json", b"no key 'sep'")),
+    ("en", "@number.json", b"1\n", 2, b"", unfit(b"number.json", b"wrong value of key 'min'")),
+    ("en", "@roman.json", b"1\n", 2, b"", unfit(b"roman.json", b"wrong value of key 'grp'")),
+    ("en", "@long.json", b"1\n", 2, b"", unfit(b"long.json", b"too long text of key 'sep'")),
+    ("@none.json", "xx", b"1\n", 2, b"", unfit(b"none.json", b"cannot read: No such file or directory")),
+    ("xx", "@none.json", b"1\n", 2, b"", unknown(b"'xx'")),
+    ("@inner", "en", b"1\n", 2, b"", unfit(b"inner", b"cannot read: Is a directory")),
+    ("@", "en", b"1\n", 2, b"", unfit(b"", b"cannot read: No such file or directory")),
+    ("@\x1b[2J\n", "en", b"1\n", 2, b"", unfit(rb"\x1B[2J\x0A", b"cannot read: No such file or directory")),
+]
+
 # Standard input, the output that fails, and what the other output receives where it is full and where it is closed.
 WRITE_ERRORS = [
     b"regroup-lines: write error: No space left on device\n",
@@ -416,6 +465,18 @@ def check_files(tally, program):
             compare(tally, shown(" ".join(words).encode()), ended, *expected)
 
 
+def check_formats(tally, program):
+    heading("files that have a format")
+    with tempfile.TemporaryDirectory() as name:
+        folder = Path(name)
+        (folder / "inner").mkdir()
+        for file, content in FORMAT_FILES.items():
+            (folder / file).write_bytes(content)
+        for source, target, text, *expected in FORMATS:
+            ended = regroup(program, [source, target], text, cwd=folder)
+            compare(tally, repr(f"{source} {target}"), ended, *expected)
+
+
 def check_example(tally, program):
     """Regroups the third column of a table. Two amounts are none, and are passed on or end the program."""
     heading("a table")
@@ -517,6 +578,7 @@ def check_all(tally, program):
     check_inputs(tally, program)
     check_words(tally, program)
     check_files(tally, program)
+    check_formats(tally, program)
     check_example(tally, program)
     check_failures(tally, program)
     check_closed_pipe(tally, program)

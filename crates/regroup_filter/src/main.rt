@@ -5,9 +5,11 @@
 
 mod misuse;
 mod options;
+mod words;
 
 use crate::misuse::{refuse_arguments, refuse_words};
 use crate::options::{files_of, kept_of, list_of, rules_of, words_of};
+use crate::words::Word;
 use clap::error::ErrorKind;
 use regroup_options::matches;
 use regroup_stream::{
@@ -63,7 +65,8 @@ fn try_main(rt: &HostRuntime) -> io::Result<u8> {
         return Ok(MISUSED);
     };
     let [from, to] = words_of(&matches);
-    let formats = match formats_named(rules.reading, from, to) {
+    let (from, to) = (Word::read(rt, from), Word::read(rt, to));
+    let formats = match formats_named(rt.alloc(), rules.reading, from.source(), to.source()) {
         Ok(formats) => formats,
         Err(misuse) => return Ok(misuse.send(&mut rt.stderr())),
     };

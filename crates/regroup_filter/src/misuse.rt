@@ -2,11 +2,9 @@
 
 use clap::error::ErrorKind;
 use regroup_shared::quoted;
+use regroup_stream::TRY_HELP;
 use std::alloc::{AllocError, Global};
 use std::io;
-
-/// The second line of each message.
-const TRY_HELP: &str = "Try 'regroup-lines --help' for more information.";
 
 /// Prints the message of a cause.
 ///
@@ -14,7 +12,7 @@ const TRY_HELP: &str = "Try 'regroup-lines --help' for more information.";
 ///
 /// Returns the error of a write that fails.
 pub(crate) fn refuse_words(rt: &HostRuntime, cause: &str) -> io::Result<()> {
-    eprintln!(rt; "regroup-lines: {cause}\n{TRY_HELP}")
+    eprint!(rt; "regroup-lines: {cause}\n{TRY_HELP}")
 }
 
 /// Prints the message of an error of the command line.

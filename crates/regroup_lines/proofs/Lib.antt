@@ -12,6 +12,7 @@ mod OneFieldLemmas
 mod PlaceLemmas
 mod ProgressLemmas
 mod SentLemmas
+pub mod SplitLemmas
 mod TextLemmas
 mod ToldLemmas
 mod UnnamedLemmas

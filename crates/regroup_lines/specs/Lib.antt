@@ -3,6 +3,7 @@ pub mod Decimals
 pub mod Fault
 pub mod Fields
 pub mod Input
+pub mod Laws
 pub mod LineFaults
 pub mod Lines
 pub mod Lists

@@ -11,8 +11,9 @@ const VERSION: &str = "0.1.0";
 
 /// What `--help` says after the options.
 const AFTER_HELP: &str = "\
-FROM and TO are each plain, as in -1234.5, a locale, as en-US, de_DE.UTF-8 or C, or custom:SEP:GROUPING:MINUS:
-the format of en with these three fields. GROUPING is Standard, Indian, Posix, Myriad or Sparse.
+FROM and TO are each plain, as in -1234.5, a locale, as en-US, de_DE.UTF-8 or C, custom:SEP:GROUPING:MINUS:
+the format of en with these three fields, or @FILE: that of a JSON object with the texts dec, grp, inf, min, nan,
+plus and sep. GROUPING, or grp, is Standard, Indian, Posix, Myriad or Sparse.
 
 LIST has parts N, N-M, N- or -M, with commas between them, as 1,3-5: fields are counted from 1. A line needs each
 field that LIST names, and of N- the field N.
@@ -28,7 +29,7 @@ names it, and with fail the status is 1.
 
 Lines are numbered in each file, and each has its header. A file that cannot be opened is left out. The status
 is 0 if all lines were written; 1 if a file was left out or a line is at fault; 2 for other arguments, also such
-that are not UTF-8; 3 if a read or a write failed; and 141 if standard output was closed.";
+that are not UTF-8 or whose FILE has no format; 3 if a read or a write failed; and 141 if standard output was closed.";
 
 /// Returns what the arguments say.
 ///

@@ -2,7 +2,7 @@
 use Rattle.std.specs.Prelude.{◌≡◌, ◌⊎◌, ℕ, Bool, true, false, List, [], ◌++◌, codes, Option, None, Some}
 use Rattle.std.specs.Io.KnownBytes.{Appends}
 use Rattle.std.specs.declared.io.ErrorKind.{ErrorKind}
-use Rattle.std.specs.declared.io.ErrorKind.TheVariants.{BrokenPipe, ConnectionReset, FileTooLarge, FilesystemLoop, Interrupted, InvalidFilename, InvalidInput, IsADirectory, NotADirectory, NotFound, PermissionDenied, QuotaExceeded, ReadOnlyFilesystem, StorageFull, TimedOut, WouldBlock, WriteZero}
+use Rattle.std.specs.declared.io.ErrorKind.TheVariants.{BrokenPipe, ConnectionReset, FileTooLarge, FilesystemLoop, Interrupted, InvalidFilename, InvalidInput, IsADirectory, NotADirectory, NotFound, OutOfMemory, PermissionDenied, QuotaExceeded, ReadOnlyFilesystem, StorageFull, TimedOut, WouldBlock, WriteZero}
 use Rattle.num_format.specs.Writing.{StopsWithin}
 use Rattle.regroup_shared.specs.Sending.{line}
 use Rattle.regroup_lines.specs.Messages.{shown_name}
@@ -67,6 +67,7 @@ reason_of InvalidInput = codes ": Invalid argument"
 reason_of IsADirectory = codes ": Is a directory"
 reason_of NotADirectory = codes ": Not a directory"
 reason_of NotFound = codes ": No such file or directory"
+reason_of OutOfMemory = codes ": Cannot allocate memory"
 reason_of PermissionDenied = codes ": Permission denied"
 reason_of QuotaExceeded = codes ": Disk quota exceeded"
 reason_of ReadOnlyFilesystem = codes ": Read-only file system"

@@ -1,4 +1,5 @@
 -- The definitions that the contracts of this crate use.
 pub mod Ending
+pub mod Files
 pub mod Stream
 pub mod Words

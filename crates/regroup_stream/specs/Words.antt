@@ -1,10 +1,11 @@
--- The formats that words name, and what is wrong with words that name none.
+-- The formats that words and files name, and what is wrong with those that name none.
 use Rattle.std.specs.Prelude.{◌≡◌, ◌⊎◌, ℕ, ◌==◌, Bool, true, false, if◌then◌else◌, nat_eq, List, [], ◌∷◌, ◌++◌, drop, codes, Option, None, Some, option_and_then, Result, Ok, Err, ⊤}
 use Rattle.std.specs.List.{starts_with}
 use Rattle.std.specs.Io.KnownBytes.{Appends}
 use Rattle.std.specs.Option.{option_map}
-use Rattle.std.specs.Result.{result_ok}
+use Rattle.std.specs.Result.{result_map_both, result_ok}
 use Rattle.std.specs.Str.{bytes_eq}
+use Rattle.std.specs.declared.io.ErrorKind.{ErrorKind}
 use Rattle.num_format.specs.Data.{locale_data}
 use Rattle.num_format.specs.Format.{FormatData}
 use Rattle.num_format.specs.Grouping.TheVariants.{Posix}
@@ -17,8 +18,12 @@ use Rattle.regroup_lines.specs.declared.rules.Reading.TheVariants.{Lenient, Stri
 use Rattle.regroup_shared.specs.Formats.{custom_format}
 use Rattle.regroup_shared.specs.Quoting.{quoted}
 use Rattle.regroup_shared.specs.Sending.{line}
+use Rattle.regroup_stream.specs.Files.{HoldsFormat, Unfit, unfit_message, unfit_of}
+use Rattle.regroup_stream.specs.Files.Unfit.{Unread}
 use Rattle.regroup_stream.specs.declared.words.Misuse.{Misuse}
 use Rattle.regroup_stream.specs.declared.words.Misuse.TheVariants as misuse
+use Rattle.regroup_stream.specs.declared.words.Source.{Source}
+use Rattle.regroup_stream.specs.declared.words.Source.TheVariants as source
 
 -- the split before the first byte of a text: that of the bytes after it, or else that at the byte itself if it is a colon
 abbrev pub split_before : ℕ → List ℕ → Option (List ℕ × List ℕ) → Option (List ℕ × List ℕ)
@@ -72,39 +77,64 @@ abbrev pub IsReadUnder : Reading → FormatData → Type 0
 IsReadUnder Strict format = MarksDecimals format
 IsReadUnder Lenient format = ⊤
 
--- what is wrong with words, with the word that is wrong
+-- what names a format: a word, or the name of a file and its bytes, or why it cannot be read
+pub data Named : Type 0 where
+  Word : List ℕ → Named
+  File : List ℕ → Result (List ℕ) ErrorKind → Named
+
+-- the `Named` of a `Source`
+abbrev pub named_of : Source → Named
+named_of (source.Word word) = Word word.now
+named_of (source.File name bytes) = File name.now (result_map_both (λ bytes. bytes.now) (λ kind. kind) bytes)
+
+-- the word, or the name of the file
+abbrev pub text_of_named : Named → List ℕ
+text_of_named (Word word) = word
+text_of_named (File name bytes) = name
+
+-- what is wrong with words or files, with the one that is wrong
 pub data Wrong : Type 0 where
   NoFormat : List ℕ → Wrong
   NoDecimals : List ℕ → Wrong
+  BadFile : List ℕ → Unfit → Wrong
 
 -- the `Wrong` of a `Misuse`
 abbrev pub wrong_of : Misuse → Wrong
 wrong_of (misuse.NoFormat word) = NoFormat word.now
 wrong_of (misuse.NoDecimals word) = NoDecimals word.now
+wrong_of (misuse.BadFile name fault) = BadFile name.now (unfit_of fault)
 
--- the word is the first of the two, and it names no format; or it is the second and does not, and the first names one that is read
-pub data IsUnknown (reading : Reading) (from to : List ℕ) : List ℕ → Type 0 where
-  first : NamesFormat from None → IsUnknown reading from to from
-  second : (format : FormatData) → NamesFormat from (Some format) → IsReadUnder reading format → NamesFormat to None → IsUnknown reading from to to
+-- the format that a word names, or that it names none
+abbrev pub IsNamed : List ℕ → Result FormatData Wrong → Type 0
+IsNamed word (Ok format) = NamesFormat word (Some format)
+IsNamed word (Err wrong) = (wrong ≡ NoFormat word) × NamesFormat word None
 
--- the word is the first of the two, and it names a format that is not read
-pub record IsUnread (reading : Reading) (from word : List ℕ) : Type 0 where
-  pub is : word ≡ from
-  pub format : FormatData
-  pub named : NamesFormat from (Some format)
-  pub unread : ¬ IsReadUnder reading format
+-- the format that the file of this name holds, or why it holds none
+abbrev pub IsHeld : (name : List ℕ) → Result (List ℕ) ErrorKind → Result FormatData Wrong → Type 0
+IsHeld name (Err kind) result = result ≡ Err (BadFile name (Unread kind))
+IsHeld name (Ok bytes) result = (held : Result FormatData Unfit) × HoldsFormat bytes held × (result ≡ result_map_both (λ format. format) (BadFile name) held)
 
--- the two words name these formats, and the first is read
-pub record NamesBoth (reading : Reading) (from to : List ℕ) (formats : FormatData × FormatData) : Type 0 where
-  pub first : NamesFormat from (Some formats.0)
+-- the format of a word or of a file, or what is wrong with it
+abbrev pub IsFormatOf : Named → Result FormatData Wrong → Type 0
+IsFormatOf (Word word) result = IsNamed word result
+IsFormatOf (File name bytes) result = IsHeld name bytes result
+
+-- what is wrong with two of them: the first has no format, or one that is not read; or the second has none, and the first one that is read
+pub data IsWrong (reading : Reading) (from to : Named) : Wrong → Type 0 where
+  first : (wrong : Wrong) → IsFormatOf from (Err wrong) → IsWrong reading from to wrong
+  unread : (format : FormatData) → IsFormatOf from (Ok format) → ¬ IsReadUnder reading format → IsWrong reading from to (NoDecimals (text_of_named from))
+  second : (format : FormatData) (wrong : Wrong) → IsFormatOf from (Ok format) → IsReadUnder reading format → IsFormatOf to (Err wrong) → IsWrong reading from to wrong
+
+-- the two have these formats, and the first is read
+pub record NamesBoth (reading : Reading) (from to : Named) (formats : FormatData × FormatData) : Type 0 where
+  pub first : IsFormatOf from (Ok formats.0)
   pub read : IsReadUnder reading formats.0
-  pub second : NamesFormat to (Some formats.1)
+  pub second : IsFormatOf to (Ok formats.1)
 
--- the formats that two words name, or what is wrong with them
-abbrev pub NamesFormats : Reading → (from to : List ℕ) → Result (FormatData × FormatData) Wrong → Type 0
+-- the formats of two of them, or what is wrong
+abbrev pub NamesFormats : Reading → (from to : Named) → Result (FormatData × FormatData) Wrong → Type 0
 NamesFormats reading from to (Ok formats) = NamesBoth reading from to formats
-NamesFormats reading from to (Err (NoFormat word)) = IsUnknown reading from to word
-NamesFormats reading from to (Err (NoDecimals word)) = IsUnread reading from word
+NamesFormats reading from to (Err wrong) = IsWrong reading from to wrong
 
 -- the message that shows a word with what is wrong with it
 abbrev pub misuse_message : (word cause : List ℕ) → List ℕ
@@ -114,6 +144,7 @@ misuse_message word cause = line (codes "regroup-lines: " ++ (quoted word ++ cau
 abbrev pub message_of_wrong : Wrong → List ℕ
 message_of_wrong (NoFormat word) = misuse_message word (codes " names no format")
 message_of_wrong (NoDecimals word) = misuse_message word (codes ": decimals do not parse back")
+message_of_wrong (BadFile name unfit) = unfit_message name unfit
 
 -- standard error received the message and the status is 2, or not all of the message, and it is 3
 abbrev pub SendsMisuse : Wrong → ℕ → (err_old err_new : Option (List ℕ)) → Type 0

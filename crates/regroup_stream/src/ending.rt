@@ -2,6 +2,7 @@
 ghost use Rattle.std.specs.Prelude.{◌≡◌, ◌≤◌, length};
 ghost use Rattle.regroup_stream.specs.Ending.{Finishes, end_of, failure_message, known_reason, message_of_end, reason_of, status_of};
 
+use crate::files::MAX_CAUSE_LEN;
 use crate::{CLOSED, FAILED, FAULTY, REGROUPED};
 use arrayvec::ArrayString;
 use num_format::to_formatted_string::write_whole;
@@ -76,12 +77,12 @@ impl Ending {
 }
 
 /// Returns the message of a failure, with the name of the input before it, and its cause if that is known.
-fn failure_message(
+pub(crate) fn failure_message(
     name: &str,
     failure: &str,
     kind: Option<io::ErrorKind>,
 ) -> ArrayString<MAX_FAULT_MESSAGE_LEN>
-    requires { length failure.now ≤ 16 }
+    requires { length failure.now ≤ MAX_CAUSE_LEN }
     ensures { result.bytes ≡ failure_message name.now failure.now kind }
 {
     let mut message = ArrayString::new();
@@ -121,6 +122,7 @@ fn reason(kind: io::ErrorKind) -> &'static str
         io::ErrorKind::IsADirectory => ": Is a directory",
         io::ErrorKind::NotADirectory => ": Not a directory",
         io::ErrorKind::NotFound => ": No such file or directory",
+        io::ErrorKind::OutOfMemory => ": Cannot allocate memory",
         io::ErrorKind::PermissionDenied => ": Permission denied",
         io::ErrorKind::QuotaExceeded => ": Disk quota exceeded",
         io::ErrorKind::ReadOnlyFilesystem => ": Read-only file system",

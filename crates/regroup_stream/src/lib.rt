@@ -14,6 +14,7 @@
 #![tactic(auto)]
 
 mod ending;
+mod files;
 mod watched;
 mod words;
 
@@ -26,8 +27,9 @@ ghost use Rattle.regroup_stream.specs.Ending.End.{Unopened};
 ghost use Rattle.regroup_stream.specs.Stream.{IsEndOf, RegroupsAll, Runs};
 
 use crate::ending::Ending;
+pub use crate::files::FileFault;
 use crate::watched::Watched;
-pub use crate::words::{Formats, Misuse, formats_named};
+pub use crate::words::{Formats, Misuse, Source, TRY_HELP, formats_named};
 use num_format::CustomFormat;
 pub use regroup_lines::{FieldRange, Fields, Invalid, Reading, Rules, Span, field_list};
 use regroup_lines::{RegroupFault, Summary, fault_message, regroup_at_most};
@@ -61,7 +63,7 @@ pub const CLOSED: u8 = 141;
 /// - [`CLOSED`] (141): a write or a flush failed since nothing reads `out`, and `err` received nothing.
 ///
 /// ```text
-/// let formats = formats_named(rules.reading, "en", "de").unwrap();
+/// let formats = formats_named(alloc, rules.reading, Source::Word("en"), Source::Word("de")).unwrap();
 /// run(&rules, &formats, "-", b"1,000\n".as_slice(), &mut out, &mut err)    // 0, and "1.000\n" in `out`
 /// ```
 pub fn run<R: Read + Drop, O: Write + Drop, E: Write>(

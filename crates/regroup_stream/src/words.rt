@@ -1,21 +1,23 @@
-//! The formats that words name.
+//! The formats that words and files name.
 ghost use Rattle.std.specs.Prelude.{◌≡◌, ◌≤◌, nat_eq, codes, length, IsTrue, ◌↔◌};
 ghost use Rattle.std.specs.List.{starts_with};
 ghost use Rattle.std.specs.Option.{option_map};
 ghost use Rattle.std.specs.Result.{result_map_both};
-ghost use Rattle.regroup_stream.specs.Words.{IsReadUnder, LooksUpFormat, NamesCustomOrLocale, NamesFormat, NamesFormats, SendsMisuse, custom_format_named, message_of_wrong, misuse_message, split_last, wrong_of};
+ghost use Rattle.regroup_stream.specs.Words.{IsFormatOf, IsHeld, IsNamed, IsReadUnder, LooksUpFormat, NamesCustomOrLocale, NamesFormat, NamesFormats, SendsMisuse, custom_format_named, message_of_wrong, misuse_message, named_of, split_last, text_of_named, wrong_of};
 
+use crate::files::{FileFault, format_held};
 use crate::{FAILED, MISUSED};
 use arrayvec::ArrayString;
 use num_format::to_formatted_string::write_whole;
 use num_format::{CustomFormat, Grouping, Locale};
 use num_format_decimal::marks_decimals;
-use regroup_lines::Reading;
-use regroup_shared::{MAX_QUOTED_LEN, custom_format, quoted};
-use std::io::Write;
+use regroup_lines::{MAX_FAULT_MESSAGE_LEN, Reading};
+use regroup_shared::{custom_format, quoted};
+use std::alloc::Global;
+use std::io::{ErrorKind, Write};
 
-/// The most bytes of the message of a misuse: of a word in quotes, and of what is around it.
-const MAX_MISUSE_LEN: usize = MAX_QUOTED_LEN + 93;
+/// The second line of each message about arguments.
+pub const TRY_HELP: &str = "Try 'regroup-lines --help' for more information.\n";
 
 /// The formats of the numbers that are read, and of those that are written.
 #[derive(Drop)]
@@ -26,18 +28,54 @@ pub struct Formats {
     pub to: CustomFormat,
 }
 
-/// What is wrong with words that do not name two formats.
+/// What names a format.
+#[derive(Clone, Copy, Debug)]
+pub enum Source<'a> {
+    /// A word: `plain`, `custom:SEP:GROUPING:MINUS` or a locale.
+    Word(&'a str),
+    /// A file of this name, with its bytes or why it cannot be read. It has the format as a JSON object with its
+    /// seven fields, as [`format_to_value`](num_format::json::format_to_value) returns it.
+    File(&'a str, Result<&'a [u8], ErrorKind>),
+}
+
+impl<'a> Source<'a> {
+    /// Returns the format, or what is wrong.
+    fn format(self, alloc: Global) -> Result<CustomFormat, Misuse<'a>>
+        ensures { IsFormatOf (named_of self.entry) (result_map_both (λ format. format) wrong_of result) }
+    {
+        match self {
+            Source::Word(word) => format_named(word).ok_or(Misuse::NoFormat(word)),
+            Source::File(name, Ok(bytes)) => {
+                format_held(alloc, bytes).map_err(|fault| Misuse::BadFile(name, fault))
+            }
+            Source::File(name, Err(kind)) => Err(Misuse::BadFile(name, FileFault::Unread(kind))),
+        }
+    }
+
+    /// Returns the word, or the name of the file.
+    fn text(self) -> &'a str
+        ensures { result.now ≡ text_of_named (named_of self.entry) }
+    {
+        match self {
+            Source::Word(text) | Source::File(text, _) => text,
+        }
+    }
+}
+
+/// What is wrong with words or files that do not name two formats.
 #[derive(Clone, Copy, Debug, PartialEq, Eq)]
 pub enum Misuse<'a> {
     /// This word names no format.
     NoFormat(&'a str),
-    /// Not each decimal parses back from its text under the format that this word names.
+    /// Not each decimal parses back from its text under the format that this word names, or this file holds.
     NoDecimals(&'a str),
+    /// The file of this name holds no format.
+    BadFile(&'a str, FileFault),
 }
 
 impl Misuse<'_> {
-    /// Sends the message, which shows the word in quotes, and returns the status: [`MISUSED`], or [`FAILED`] if not all
-    /// of the message could be sent.
+    /// Sends the message, which shows the word in quotes or names the file, and returns the status: [`MISUSED`], or
+    /// [`FAILED`] if not all of the message could be sent.
     ///
     /// ```text
     /// NoFormat("xx").send(&mut err)    // 2, and in `err`
@@ -54,18 +92,19 @@ impl Misuse<'_> {
     }
 
     /// Returns the message.
-    fn message(&self) -> ArrayString<MAX_MISUSE_LEN>
+    fn message(&self) -> ArrayString<MAX_FAULT_MESSAGE_LEN>
         ensures { result.bytes ≡ message_of_wrong (wrong_of self.now) }
     {
         match self {
             Misuse::NoFormat(word) => misuse_message(word, " names no format"),
             Misuse::NoDecimals(word) => misuse_message(word, ": decimals do not parse back"),
+            Misuse::BadFile(name, fault) => fault.message(name),
         }
     }
 }
 
 /// Returns the message that shows the word with what is wrong with it: two lines.
-fn misuse_message(word: &str, cause: &str) -> ArrayString<MAX_MISUSE_LEN>
+fn misuse_message(word: &str, cause: &str) -> ArrayString<MAX_FAULT_MESSAGE_LEN>
     requires { length cause.now ≤ 28 }
     ensures { result.bytes ≡ misuse_message word.now cause.now }
 {
@@ -74,45 +113,43 @@ fn misuse_message(word: &str, cause: &str) -> ArrayString<MAX_MISUSE_LEN>
     message.push_str(quoted(word.as_bytes()).as_str());
     message.push_str(cause);
     message.push('\n');
-    message.push_str("Try 'regroup-lines --help' for more information.\n");
+    message.push_str(TRY_HELP);
     message
 }
 
-/// Returns the formats that the words name.
+/// Returns the formats that two words or files name.
 ///
 /// A word is `plain`, as in `-1234.5`, `custom:SEP:GROUPING:MINUS`, which is the format of `en` with these three
 /// fields, or a locale as [`Locale::lookup`] finds it, such as `de_DE.UTF-8`. The last two colons are those before
 /// and after GROUPING, so `custom:::Standard:-` has the separator `:`.
 ///
 /// ```text
-/// formats_named(Reading::Strict, "C", "de")    // the formats of en-US-POSIX and of de
+/// let (from, to) = (Source::Word("C"), Source::File("x.json", Ok(b"{\"dec\":\".\", .. }".as_slice())));
+/// formats_named(alloc, Reading::Strict, from, to)    // the formats of en-US-POSIX and of the file
 /// ```
 ///
 /// # Errors
 ///
-/// Returns what is wrong: the first word names no format, or one under which decimals do not parse back, unless
-/// numbers are read leniently; or the second names no format.
+/// Returns what is wrong: the first has no format, or one under which decimals do not parse back, unless
+/// numbers are read leniently; or the second has no format.
 pub fn formats_named<'a>(
+    alloc: Global,
     reading: Reading,
-    from: &'a str,
-    to: &'a str,
+    from: Source<'a>,
+    to: Source<'a>,
 ) -> Result<Formats, Misuse<'a>>
-    ensures { NamesFormats reading from.now to.now
+    ensures { NamesFormats reading (named_of from.entry) (named_of to.entry)
         (result_map_both (λ formats. (formats.from, formats.to)) wrong_of result) }
 {
-    let Some(source) = format_named(from) else {
-        return Err(Misuse::NoFormat(from));
-    };
+    let source = from.format(alloc)?;
     if !is_read_under(reading, &source) {
-        return Err(Misuse::NoDecimals(from));
+        return Err(Misuse::NoDecimals(from.text()));
     }
-    match format_named(to) {
-        Some(target) => Ok(Formats {
-            from: source,
-            to: target,
-        }),
-        None => Err(Misuse::NoFormat(to)),
-    }
+    let target = to.format(alloc)?;
+    Ok(Formats {
+        from: source,
+        to: target,
+    })
 }
 
 /// Returns whether numbers are read under the format.

@@ -1,9 +1,20 @@
-use Rattle.regroup_stream.specs.Words.{IsUnknown}
+use Rattle.std.proofs.lemmas.Bool.{both_ways}
+use Rattle.std.proofs.lemmas.Result.{err_from_is_err_and}
+use Rattle.regroup_stream.specs.Words.{IsWrong, wrong_of}
 use Rattle.regroup_stream.proofs.words.formats_named.Goals as goal
 
-pub returns-in_default : goal.returns-in_default
-returns-in_default c = IsUnknown.first c.in_default.ensures
+pub returns-in_err-source : goal.returns-in_err-source
+returns-in_err-source c =
+    let p = err_from_is_err_and c.from_residual.result c.from_residual.ensures.1 in
+    rw (p.1, p.2) (IsWrong.first (wrong_of c.in_err-source.field-0.0) c.in_err-source.ensures)
 
-pub returns-in-None : goal.returns-in-None
-returns-in-None c =
-    IsUnknown.second c.in-Some.source c.in-Some.ensures (c.is_read_under.ensures.0 c.if-not-is_read_under.false) c.in-None.ensures
+pub returns-then-not-is_read_under : goal.returns-then-not-is_read_under
+returns-then-not-is_read_under c =
+    rw c.text.ensures (IsWrong.unread c.in_ok-source.source c.in_ok-source.ensures
+    (λ read. both_ways _ c.if-not-is_read_under.true (c.is_read_under.ensures.1 read)))
+
+pub returns-in_err-target : goal.returns-in_err-target
+returns-in_err-target c =
+    let p = err_from_is_err_and c.from_residual-in_err-target.result c.from_residual-in_err-target.ensures.1 in
+    rw (p.1, p.2) (IsWrong.second c.in_ok-source.source (wrong_of c.in_err-target.field-0.0) c.in_ok-source.ensures
+    (c.is_read_under.ensures.0 c.if-not-is_read_under.false) c.in_err-target.ensures)

@@ -1,0 +1,24 @@
+-- A law of inputs that are split.
+use Rattle.std.specs.Prelude.{◌≡◌, ℕ, ◌+◌, ◌||◌, List, ◌++◌, Some, Ok}
+use Rattle.num_format.specs.Format.{FormatData}
+use Rattle.regroup_shared.specs.Sending.{line}
+use Rattle.regroup_lines.specs.Fault.{are_any}
+use Rattle.regroup_lines.specs.Lines.{Regrouped, regrouped}
+use Rattle.regroup_lines.specs.Lines.Stop.{Ended}
+use Rattle.regroup_lines.specs.declared.rules.Rules.{Rules}
+
+-- the whole has this many lines: each part returns its lines, writes its part of the bytes, and names a fault if the whole does
+pub record SplitsInto (all first second : Regrouped) (lines : ℕ) : Type 0 where
+  pub first_lines : ℕ
+  pub second_lines : ℕ
+  pub first_returned : first.returned ≡ Some (Ok first_lines)
+  pub second_returned : second.returned ≡ Some (Ok second_lines)
+  pub counted : lines ≡ first_lines + second_lines
+  pub written : all.written ≡ first.written ++ second.written
+  pub named : are_any all.named ≡ (are_any first.named || are_any second.named)
+
+-- where no line is at fault, or none ends the run, and there is no header, an input may be split after a newline
+abbrev pub SplitLaw : Type 0
+SplitLaw = (rules : Rules) (most : ℕ) (from to : FormatData) (a b : List ℕ) (lines : ℕ) → rules.header_lines ≡ 0 →
+    (regrouped rules most from to Ended (line a ++ b)).returned ≡ Some (Ok lines) →
+    SplitsInto (regrouped rules most from to Ended (line a ++ b)) (regrouped rules most from to Ended (line a)) (regrouped rules most from to Ended b) lines

@@ -1,0 +1,4 @@
+use Rattle.regroup_stream.proofs.files.FileFault.message.Goals as goal
+
+pub returns-in-Unread : goal.returns-in-Unread
+returns-in-Unread c = rw c.in-Unread.is c.failure_message.ensures

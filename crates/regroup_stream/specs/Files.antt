@@ -1,0 +1,50 @@
+-- The format that a file holds as a JSON object.
+use Rattle.std.specs.Prelude.{◌≡◌, ℕ, List, ◌++◌, codes, Option, None, Some, Result, Ok, Err, IsUtf8}
+use Rattle.std.specs.declared.io.ErrorKind.{ErrorKind}
+use Rattle.std.specs.declared.io.ErrorKind.TheVariants.{OutOfMemory}
+use Rattle.serde_json.specs.Data.{Data}
+use Rattle.serde_json.specs.Read.{read}
+use Rattle.num_format.specs.Format.{FormatData}
+use Rattle.num_format.specs.Json.{Fault, fault_of, format_in}
+use Rattle.num_format.specs.Json.Fault.{Missing, TooLong, WrongKind}
+use Rattle.regroup_shared.specs.Quoting.{quoted}
+use Rattle.regroup_stream.specs.Ending.{failure_message}
+use Rattle.regroup_stream.specs.declared.files.FileFault.{FileFault}
+use Rattle.regroup_stream.specs.declared.files.FileFault.TheVariants as fault
+
+-- why a file holds no format: it cannot be read, is no JSON text, or holds another value
+pub data Unfit : Type 0 where
+  Unread : ErrorKind → Unfit
+  NotJson : Unfit
+  NotFormat : Fault → Unfit
+
+-- the `Unfit` of a `FileFault`
+abbrev pub unfit_of : FileFault → Unfit
+unfit_of (fault.Unread kind) = Unread kind
+unfit_of fault.NotJson = NotJson
+unfit_of (fault.NotFormat fault) = NotFormat (fault_of fault)
+
+-- the bytes are the text of this JSON value, or of none
+abbrev pub IsJson : List ℕ → Option Data → Type 0
+IsJson bytes (Some value) = IsUtf8 bytes × (read bytes ≡ Some value)
+IsJson bytes None = IsUtf8 bytes → read bytes ≡ None
+
+-- the format that the bytes hold, or why they hold none: there may be no memory to read them
+abbrev pub HoldsFormat : List ℕ → Result FormatData Unfit → Type 0
+HoldsFormat bytes (Ok format) = (value : Data) × IsJson bytes (Some value) × (format_in value ≡ Ok format)
+HoldsFormat bytes (Err (NotFormat fault)) = (value : Data) × IsJson bytes (Some value) × (format_in value ≡ Err fault)
+HoldsFormat bytes (Err NotJson) = IsJson bytes None
+HoldsFormat bytes (Err (Unread kind)) = kind ≡ OutOfMemory
+
+-- what is said of a JSON value that holds no format, which names the key that is at fault
+abbrev pub json_cause : Fault → List ℕ
+json_cause (Missing key) = codes ": no key " ++ quoted key
+json_cause (WrongKind key) = codes ": wrong value of key " ++ quoted key
+json_cause (TooLong key) = codes ": too long text of key " ++ quoted key
+json_cause _ = codes ": not a JSON object"
+
+-- the message of a file of this name that holds no format
+abbrev pub unfit_message : (name : List ℕ) → Unfit → List ℕ
+unfit_message name (Unread kind) = failure_message name (codes ": cannot read") (Some kind)
+unfit_message name NotJson = failure_message name (codes ": not JSON") None
+unfit_message name (NotFormat fault) = failure_message name (json_cause fault) None

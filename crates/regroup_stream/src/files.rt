@@ -1,0 +1,87 @@
+//! The format that a file holds as a JSON object.
+ghost use Rattle.std.specs.Prelude.{◌≡◌, ◌≤◌, ◌++◌, length};
+ghost use Rattle.std.specs.Result.{result_map_both};
+ghost use Rattle.num_format.specs.Json.{fault_of};
+ghost use Rattle.regroup_shared.specs.Quoting.{quoted};
+ghost use Rattle.regroup_stream.specs.Files.{HoldsFormat, json_cause, unfit_message, unfit_of};
+
+use crate::ending::failure_message;
+use arrayvec::ArrayString;
+use num_format::CustomFormat;
+use num_format::json::{JsonFault, format_from_value};
+use regroup_lines::MAX_FAULT_MESSAGE_LEN;
+use regroup_shared::{MAX_QUOTED_LEN, quoted};
+use serde_json::Value;
+use std::alloc::Global;
+use std::io::ErrorKind;
+
+/// The most bytes of what is said of a JSON value that holds no format.
+pub(crate) const MAX_CAUSE_LEN: usize = MAX_QUOTED_LEN + 24;
+
+/// Why a file holds no format.
+#[derive(Clone, Copy, Debug, PartialEq, Eq)]
+pub enum FileFault {
+    /// The file cannot be read, or there is no memory for what it holds.
+    Unread(ErrorKind),
+    /// The file is no JSON text.
+    NotJson,
+    /// The JSON value is no format.
+    NotFormat(JsonFault),
+}
+
+impl FileFault {
+    /// Returns the message of a file of this name.
+    pub(crate) fn message(&self, name: &str) -> ArrayString<MAX_FAULT_MESSAGE_LEN>
+        ensures { result.bytes ≡ unfit_message name.now (unfit_of self.now) }
+    {
+        match self {
+            FileFault::Unread(kind) => failure_message(name, ": cannot read", Some(*kind)),
+            FileFault::NotJson => failure_message(name, ": not JSON", None),
+            FileFault::NotFormat(fault) => {
+                failure_message(name, json_cause(*fault).as_str(), None)
+            }
+        }
+    }
+}
+
+/// Returns what is said of a JSON value that holds no format, which names the key that is at fault.
+fn json_cause(fault: JsonFault) -> ArrayString<MAX_CAUSE_LEN>
+    ensures { result.bytes ≡ json_cause (fault_of fault) }
+{
+    match fault {
+        JsonFault::Missing(key) => key_cause(": no key ", key),
+        JsonFault::WrongKind(key) => key_cause(": wrong value of key ", key),
+        JsonFault::TooLong(key) => key_cause(": too long text of key ", key),
+        _ => {
+            let mut cause = ArrayString::new();
+            cause.push_str(": not a JSON object");
+            cause
+        }
+    }
+}
+
+/// Returns a text and after it the key in quotes.
+fn key_cause(text: &str, key: &str) -> ArrayString<MAX_CAUSE_LEN>
+    requires { length text.now ≤ 24 }
+    ensures { result.bytes ≡ text.now ++ quoted key.now }
+{
+    let mut cause = ArrayString::new();
+    cause.push_str(text);
+    cause.push_str(quoted(key.as_bytes()).as_str());
+    cause
+}
+
+/// Returns the format that the bytes of a file hold, as a JSON object with its seven fields.
+///
+/// # Errors
+///
+/// Returns why they hold none.
+pub(crate) fn format_held(alloc: Global, bytes: &[u8]) -> Result<CustomFormat, FileFault>
+    ensures { HoldsFormat bytes.now (result_map_both (λ format. format) unfit_of result) }
+{
+    match Value::from_slice(alloc, bytes) {
+        Ok(value) => format_from_value(&value).map_err(FileFault::NotFormat),
+        Err(error) if error.is_memory() => Err(FileFault::Unread(ErrorKind::OutOfMemory)),
+        Err(_) => Err(FileFault::NotJson),
+    }
+}
