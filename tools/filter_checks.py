@@ -41,10 +41,17 @@ def fault(number, cause, name=b"-"):
     return b"regroup-lines: %s:%d: %s\n" % (name, number, cause)
 
 
-def unparsed(text, byte=None):
-    """What a message says of a text, as messages show it, that is no number, of which this byte is unexpected."""
+def in_field(number, cause):
+    """What a message says of the field of this number."""
+    return b"field %d: %s" % (number, cause)
+
+
+def unparsed(text, byte=None, lenient=None):
+    """What a message says of a text, as messages show it, that is no number, of which this byte is unexpected, and which
+    lenient reading takes for this number."""
     place = b"" if byte is None else b" at byte %d" % byte
-    return b"'" + text + b"': not a number" + place
+    number = b"" if lenient is None else b"; --lenient reads %d" % lenient
+    return b"'" + text + b"': not a number" + place + number
 
 
 def unknown(word):
@@ -70,19 +77,19 @@ INPUTS = [
     ("de", "en", b"1.234,50\n1234,5\n", 0, b"1,234.50\n1,234.5\n", b""),
     ("en", "en_IN", b"1234567.89\n", 0, b"12,34,567.89\n", b""),
     ("en", "de", b"0." + 37 * b"0" + b"1\n", 0, b"0," + 37 * b"0" + b"1\n", b""),
-    ("en", "de", b"1\n0." + 39 * b"0" + b"\n", 1, b"1\n", fault(2, unparsed(b"0." + 39 * b"0"))),
+    ("en", "de", b"1\n0." + 39 * b"0" + b"\n", 1, b"1\n", fault(2, unparsed(b"0." + 39 * b"0", None, 0))),
     ("en", "de", b"\t1,000\n  -2.5 \r\n 3", 0, b"\t1.000\n  -2,5 \r\n 3\n", b""),
-    ("en", "de", b"1\n2 3\n", 1, b"1\n", fault(2, unparsed(b"2 3", 2))),
+    ("en", "de", b"1\n2 3\n", 1, b"1\n", fault(2, unparsed(b"2 3", 2, 23))),
     ("en", "de", b"1\n \t\n", 1, b"1\n", fault(2, unparsed(b""))),
-    ("en", "de", b"1\n12,34\n", 1, b"1\n", fault(2, unparsed(b"12,34"))),
-    ("en", "de", b"1\n1.234,50\n", 1, b"1\n", fault(2, unparsed(b"1.234,50", 6))),
+    ("en", "de", b"1\n12,34\n", 1, b"1\n", fault(2, unparsed(b"12,34", None, 1234))),
+    ("en", "de", b"1\n1.234,50\n", 1, b"1\n", fault(2, unparsed(b"1.234,50", 6, 123450))),
     ("en", "custom:':Standard:-", b"-1234567\n", 0, b"-1'234'567\n", b""),
     ("en", "custom:::Standard:~", b"-1234567\n", 0, b"~1:234:567\n", b""),
     ("en", "custom::Indian:", b"-100000\n", 0, b"100000\n", b""),
     ("custom:':Myriad:m", "en", b"m1'0000\n7.5\n", 0, b"-10,000\n7.5\n", b""),
     ("de", "plain", b"-1.234,50\n1234\n", 0, b"-1234.50\n1234\n", b""),
     ("plain", "en", b"-1234.50\n1234567\n", 0, b"-1,234.50\n1,234,567\n", b""),
-    ("plain", "en", b"1\n1,234\n", 1, b"1\n", fault(2, unparsed(b"1,234", 2))),
+    ("plain", "en", b"1\n1,234\n", 1, b"1\n", fault(2, unparsed(b"1,234", 2, 1234))),
     ("en", "custom: :Sparse:-", b"1,234\n12,345\n", 0, b"1234\n12 345\n", b""),
     ("en", "custom:7:Standard:17", b"1,000\n-1000\n", 0, b"17000\n1717000\n", b""),
     # Language tags.
@@ -99,9 +106,14 @@ INPUTS = [
     ("en", "de", b"1\r\n\r\n", 1, b"1\r\n", fault(2, unparsed(b""))),
     ("en", "de", b"7,000\nabc\n9\n", 1, b"7.000\n", fault(2, unparsed(b"abc", 1))),
     ("en", "de", b"7,000\nabc", 1, b"7.000\n", fault(2, unparsed(b"abc", 1))),
-    ("en", "de", b"1\n\x1b[2J'\\\r\t~\x7f\n", 1, b"1\n", fault(2, unparsed(rb"\x1B[2J\x27\x5C\x0D\x09~\x7F", 1))),
-    ("en", "de", "1\n5\u20ac\n".encode(), 1, b"1\n", fault(2, unparsed(rb"5\xE2\x82\xAC", 2))),
+    ("en", "de", b"1\n\x1b[2J'\\\r\t~\x7f\n", 1, b"1\n", fault(2, unparsed(rb"\x1B[2J\x27\x5C\x0D\x09~\x7F", 1, 2))),
+    ("en", "de", "1\n5\u20ac\n".encode(), 1, b"1\n", fault(2, unparsed(rb"5\xE2\x82\xAC", 2, 5))),
     ("en", "de", b"1\n\xff\n", 1, b"1\n", fault(2, NOT_TEXT)),
+    ("en", "de", b"-1x", 1, b"", fault(1, unparsed(b"-1x", 3, -1))),
+    ("en", "de", b"x%d" % -(2**127), 1, b"", fault(1, unparsed(b"x%d" % -(2**127), 1))),
+    ("en", "de", b"-x%d" % 2**127, 1, b"", fault(1, unparsed(b"-x%d" % 2**127, 2, -(2**127)))),
+    ("en", "de", 63 * b"a" + b"1", 1, b"", fault(1, unparsed(63 * b"a" + b"1", 1, 1))),
+    ("en", "de", 64 * b"a" + b"1", 1, b"", fault(1, unparsed(64 * b"a", 1))),
     ("en", "de", 300 * b"a", 1, b"", fault(1, unparsed(64 * b"a", 1))),
     ("en", "de", 4096 * b" " + b"1\n", 1, b"", fault(1, TOO_LONG)),
     ("en", "de", b"8\n" + 4096 * b" " + b"1", 1, b"8\n", fault(2, TOO_LONG)),
@@ -127,7 +139,7 @@ LONG = 100_000 * b"x" + b"\n"
 SOME_FAULTS = b"1,000\nx\n\n12,34\r\n\xff\n2,000"
 SOME_PASSED = b"1.000\nx\n\n12,34\r\n\xff\n2.000\n"
 SOME_NAMED = b"".join(
-    [fault(2, unparsed(b"x", 1)), fault(3, unparsed(b"")), fault(4, unparsed(b"12,34")), fault(5, NOT_TEXT)]
+    [fault(2, unparsed(b"x", 1)), fault(3, unparsed(b"")), fault(4, unparsed(b"12,34", None, 1234)), fault(5, NOT_TEXT)]
 )
 
 # Options, standard input, the status, standard output and standard error, from `en` to `de`.
@@ -137,8 +149,8 @@ OPTIONS = [
     ("--field=3", b"\t\t 1,000 \r\n", 0, b"\t\t 1.000 \r\n", b""),
     ("--field 2", b"\xff\t5\n", 0, b"\xff\t5\n", b""),
     ("--field 2", b"1\t2\n3\n", 1, b"1\t2\n", fault(2, FEW_FIELDS)),
-    ("--field 2", b"1\t2\n3\t\n", 1, b"1\t2\n", fault(2, unparsed(b""))),
-    ("--field 2", b"1\t2\n3\tx\n", 1, b"1\t2\n", fault(2, unparsed(b"x", 1))),
+    ("--field 2", b"1\t2\n3\t\n", 1, b"1\t2\n", fault(2, in_field(2, unparsed(b"")))),
+    ("--field 2", b"1\t2\n3\tx\n", 1, b"1\t2\n", fault(2, in_field(2, unparsed(b"x", 1)))),
     ("--field 18446744073709551615", b"1\n", 1, b"", fault(1, FEW_FIELDS)),
     ("--field 1,3", b"1,000\tb\t2,000.5\td\n", 0, b"1.000\tb\t2.000,5\td\n", b""),
     ("--field 3,1", b"1,000\tb\t2,000.5\td\n", 0, b"1.000\tb\t2.000,5\td\n", b""),
@@ -148,19 +160,23 @@ OPTIONS = [
     ("--field -1,3", b"1,000\t2,000\t3,000\n", 0, b"1.000\t2,000\t3.000\n", b""),
     ("--field=-2", b"1,000\t2,000\t3,000\n", 0, b"1.000\t2.000\t3,000\n", b""),
     ("--field 2-3,1-2,2", b"1,000\t2,000\t3,000\t4,000\n", 0, b"1.000\t2.000\t3.000\t4,000\n", b""),
-    ("--field 1-2", b" 1,000 \t\t2,000\r\n", 1, b"", fault(1, unparsed(b""))),
+    ("--field 1-2", b" 1,000 \t\t2,000\r\n", 1, b"", fault(1, in_field(2, unparsed(b"")))),
     ("--field 1-2 --empty", b" 1,000 \t \t2,000\n", 0, b" 1.000 \t \t2,000\n", b""),
     ("--field 1- --empty", b" 1,000 \t\t2,000\r", 0, b" 1.000 \t\t2.000\r\n", b""),
     ("--field 1,3", b"1\t2\t3\n1,000\t2\n", 1, b"1\t2\t3\n", fault(2, FEW_FIELDS)),
     ("--field 3-5", b"1\t2\t3\t4\n", 1, b"", fault(1, FEW_FIELDS)),
     ("--field 2-", b"1\t2\n3\n", 1, b"1\t2\n", fault(2, FEW_FIELDS)),
-    ("--field 1,3", b"x\t2\n", 1, b"", fault(1, unparsed(b"x", 1))),
-    ("--field 1,3", b"1,000\t2\ty\tz\n", 1, b"", fault(1, unparsed(b"y", 1))),
-    ("--field 2-", b"1\t2,000\ty\tz\n", 1, b"", fault(1, unparsed(b"y", 1))),
+    ("--field 1,3", b"x\t2\n", 1, b"", fault(1, in_field(1, unparsed(b"x", 1)))),
+    ("--field 1,3", b"1,000\t2\ty\tz\n", 1, b"", fault(1, in_field(3, unparsed(b"y", 1)))),
+    ("--field 2-", b"1\t2,000\ty\tz\n", 1, b"", fault(1, in_field(3, unparsed(b"y", 1)))),
     ("--field 1- --invalid ignore", b"1,000\tx\n1,000\t2,000\n", 0, b"1,000\tx\n1.000\t2.000\n", b""),
     ("--field 1- --lenient", b"$1,000\t(2)\n", 0, b"1.000\t2\n", b""),
     ("--field 1- -d;", 409 * b"123456789;" + b"12345\n", 0, 409 * b"123.456.789;" + b"12.345\n", b""),
     ("--field 1- -d;", 2047 * b"1;" + b"7\n", 0, 2047 * b"1;" + b"7\n", b""),
+    ("--field 2", b"1\t2\n3\t12.5O\n", 1, b"1\t2\n", fault(2, in_field(2, unparsed(b"12.5O", 5, 125)))),
+    ("--field 2", b"1\t2\n3\t\xff\n", 1, b"1\t2\n", fault(2, in_field(2, NOT_TEXT))),
+    ("--field 1,3", b"1\t2\t\xff\n", 1, b"", fault(1, in_field(3, NOT_TEXT))),
+    ("--field 1,3 --lenient", b"1\t2\t-\n", 1, b"", fault(1, in_field(3, unparsed(b"-")))),
     ("--field 2 -d;", b"1,000;2,000;3,000\n", 0, b"1,000;2.000;3,000\n", b""),
     ("--field 2 --delimiter ,", b"1,2,3\n", 0, b"1,2,3\n", b""),
     ("--lenient --field 2", b"a\t$1,234\tb\n", 0, b"a\t1.234\tb\n", b""),
@@ -189,8 +205,8 @@ OPTIONS = [
     ("--invalid warn --header-lines 2", b"x\ny\nz\n", 0, b"x\ny\nz\n", fault(3, unparsed(b"z", 1))),
     ("--invalid fail --lenient", b"$5\n-$\n", 1, b"5\n-$\n", fault(2, unparsed(b"-$"))),
     ("--invalid fail --field 2", b"1\na\t1,000\n", 1, b"1\na\t1.000\n", fault(1, FEW_FIELDS)),
-    ("--invalid warn --field 1-", b"1,000\tx\n2,000\n", 0, b"1,000\tx\n2.000\n", fault(1, unparsed(b"x", 1))),
-    ("--invalid warn --field 2 -d;", b"1;\n1; 2,000 \n", 0, b"1;\n1; 2.000 \n", fault(1, unparsed(b""))),
+    ("--invalid warn --field 1-", b"1,000\tx\n2,000\n", 0, b"1,000\tx\n2.000\n", fault(1, in_field(2, unparsed(b"x", 1)))),
+    ("--invalid warn --field 2 -d;", b"1;\n1; 2,000 \n", 0, b"1;\n1; 2.000 \n", fault(1, in_field(2, unparsed(b"")))),
 ]
 
 # Words that do not name two formats, and the message.
@@ -485,13 +501,13 @@ def check_example(tally, program):
     words = ["--header", "--field", "3", "en", "de"]
     ended = regroup(program, ["--invalid", "ignore", *words], table)
     compare(tally, "all lines", ended, 0, expected, b"")
-    named = fault(8, unparsed(b"12.5O", 5)) + fault(12, unparsed(b"n/a", 1))
+    first = fault(8, in_field(3, unparsed(b"12.5O", 5, 125)))
+    named = first + fault(12, in_field(3, unparsed(b"n/a", 1)))
     for mode, status in [("fail", 1), ("warn", 0)]:
         ended = regroup(program, ["--invalid", mode, *words], table)
         compare(tally, f"all lines, --invalid {mode}", ended, status, expected, named)
     before = b"".join(expected.splitlines(keepends=True)[:7])
-    message = fault(8, unparsed(b"12.5O", 5))
-    compare(tally, "up to line 8", regroup(program, words, table), 1, before, message)
+    compare(tally, "up to line 8", regroup(program, words, table), 1, before, first)
 
 
 def check_failures(tally, program):

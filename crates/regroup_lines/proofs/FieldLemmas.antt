@@ -65,7 +65,7 @@ module _ (rules : Rules) (list : List FieldRange) (from to : FormatData) (number
       fields_written rules list from to number count fields ≡ Ok fields
   fields-passed count [] past = ap (λ enough. if enough then Ok [] else Err (FewFields number)) (enough-all list count past)
   fields-passed count (field ∷ fields) past =
-      ap (λ chosen. with_first (field_written rules from to number chosen field) (fields_written rules list from to number (count + 1) fields)) (chosen-none list (count + 1) past)
+      ap (λ chosen. with_first (field_written rules from to number (count + 1) chosen field) (fields_written rules list from to number (count + 1) fields)) (chosen-none list (count + 1) past)
       ∙ ap (with_first (Ok field)) (fields-passed (count + 1) fields (chosen_from-later list (count + 1) (count + 1 + 1) (omega arith) past))
 
 -- a fault, or none, before others
@@ -90,16 +90,16 @@ split-either end n fields field rest within more last = by (nat_lt end n) refl
 -- what a check found of the fields so far: the fault of the line is that of the fields from here on
 module _ (rules : Rules) (list : List FieldRange) (from to : FormatData) (number count : ℕ) (whole : Result (List (List ℕ)) Fault) (fields : List (List ℕ))
     (same : checked whole ≡ checked (fields_written rules list from to number count fields)) (field : List ℕ) (rest : List (List ℕ)) (split : fields ≡ field ∷ rest) where
-  pub check-later : Ok tt ≡ checked (field_written rules from to number (is_chosen list (count + 1)) field) →
+  pub check-later : Ok tt ≡ checked (field_written rules from to number (count + 1) (is_chosen list (count + 1)) field) →
       checked whole ≡ checked (fields_written rules list from to number (count + 1) rest)
   check-later sound =
       same ∙ ap (λ l. checked (fields_written rules list from to number count l)) split
-      ∙ checked-later (field_written rules from to number (is_chosen list (count + 1)) field) (fields_written rules list from to number (count + 1) rest) sound
+      ∙ checked-later (field_written rules from to number (count + 1) (is_chosen list (count + 1)) field) (fields_written rules list from to number (count + 1) rest) sound
 
-  pub check-first : (f : Fault) → Err f ≡ checked (field_written rules from to number (is_chosen list (count + 1)) field) → checked whole ≡ Err f
+  pub check-first : (f : Fault) → Err f ≡ checked (field_written rules from to number (count + 1) (is_chosen list (count + 1)) field) → checked whole ≡ Err f
   check-first f is =
       same ∙ ap (λ l. checked (fields_written rules list from to number count l)) split
-      ∙ checked-first (field_written rules from to number (is_chosen list (count + 1)) field) (fields_written rules list from to number (count + 1) rest) f is
+      ∙ checked-first (field_written rules from to number (count + 1) (is_chosen list (count + 1)) field) (fields_written rules list from to number (count + 1) rest) f is
 
 -- the parts of what is written of a field and those after it
 pub record Parts (first : Result (List ℕ) Fault) (rest : Result (List (List ℕ)) Fault) (texts : List (List ℕ)) : Type 0 where
@@ -127,7 +127,7 @@ written-length : (rules : Rules) (list : List FieldRange) (from to : FormatData)
     fields_written rules list from to number count fields ≡ Ok texts → 0 < length fields → 0 < length texts
 written-length rules list from to number count [] texts is some = absurd (omega arith)
 written-length rules list from to number count (field ∷ fields) texts is some =
-    let found = parts (field_written rules from to number (is_chosen list (count + 1)) field) (fields_written rules list from to number (count + 1) fields) texts is in
+    let found = parts (field_written rules from to number (count + 1) (is_chosen list (count + 1)) field) (fields_written rules list from to number (count + 1) fields) texts is in
     subst (λ l. 0 < length l) (sym found.texts_are) (omega arith)
 
 written-none : (rules : Rules) (list : List FieldRange) (from to : FormatData) (number count : ℕ) (fields texts : List (List ℕ)) →
@@ -193,12 +193,12 @@ module _ (rules : Rules) (list : List FieldRange) (from to : FormatData) (number
         (ap line (ap (join_with_byte d) (left ∙ split) ∙ join_with_byte-slice_split d text)) sends
 
     module _ (field : List ℕ) (rest : List (List ℕ)) (split : fields ≡ field ∷ rest) where
-      found : Parts (field_written rules from to number (is_chosen list (count + 1)) field) (fields_written rules list from to number (count + 1) rest) so_far.left
+      found : Parts (field_written rules from to number (count + 1) (is_chosen list (count + 1)) field) (fields_written rules list from to number (count + 1) rest) so_far.left
       found = parts _ _ so_far.left (ap (fields_written rules list from to number count) (sym split) ∙ so_far.left_is)
 
       -- the field was sent, or not
       pub sent-stop : (T : Type 0) (c : Option (List ℕ)) (f : Fault) →
-          SendsIfOk {T = T} (field_written rules from to number (is_chosen list (count + 1)) field) b c (Err f) → SendsIfOk {T = T} (Ok (line (join_with_byte d texts))) a c (Err f)
+          SendsIfOk {T = T} (field_written rules from to number (count + 1) (is_chosen list (count + 1)) field) b c (Err f) → SendsIfOk {T = T} (Ok (line (join_with_byte d texts))) a c (Err f)
       sent-stop T c f sends =
           let stops = SendsIfOk-err T _ found.text b c f found.first_is sends in
           let more = joined-first d found.text found.later in (
@@ -209,7 +209,7 @@ module _ (rules : Rules) (list : List FieldRange) (from to : FormatData) (number
                 (subst (StopsWithin b c) (sym (ap (join_with_byte d) found.texts_are ∙ more.1)) (StopsWithin_prefix b c found.text more.0 stops.1)))),
           )
 
-      module _ {T : Type 0} (c : Option (List ℕ)) (done : T) (sends : SendsIfOk (field_written rules from to number (is_chosen list (count + 1)) field) b c (Ok done)) where
+      module _ {T : Type 0} (c : Option (List ℕ)) (done : T) (sends : SendsIfOk (field_written rules from to number (count + 1) (is_chosen list (count + 1)) field) b c (Ok done)) where
         appended : Appends a c (so_far.sent ++ found.text)
         appended = Appends-trans a b c so_far.sent found.text so_far.appended (SendsIfOk-ok _ found.text b c done found.first_is sends)
 

@@ -8,6 +8,7 @@ pub mod LineFaultLemmas
 mod LineLemmas
 mod ListLemmas
 mod LongLemmas
+mod MessageLemmas
 mod OneFieldLemmas
 mod PlaceLemmas
 mod ProgressLemmas

@@ -11,11 +11,12 @@ use Rattle.std.proofs.lemmas.List.Splits.{join_with_byte-slice_split}
 use Rattle.std.proofs.lemmas.List.Sums.{prefix_len-le-length, suffix_len-le-length}
 use lib.Seq.{take-add}
 use Rattle.num_format.specs.Format.{FormatData}
-use Rattle.regroup_lines.specs.Fault.{Fault}
+use Rattle.regroup_lines.specs.Fault.{Fault, in_field}
 use Rattle.regroup_lines.specs.Fault.Fault.{FewFields}
 use Rattle.regroup_lines.specs.Lines.{between, field_written, fields_replaced, fields_written, number_replaced, number_written, place_written, with_first}
 use Rattle.regroup_lines.specs.Lists.{one_field}
 use Rattle.regroup_lines.specs.Places.{field_place, is_chosen, is_chosen_from, trimmed}
+use Rattle.regroup_lines.specs.Sending.{SendsLine}
 use Rattle.regroup_lines.specs.declared.rules.FieldRange.{FieldRange}
 use Rattle.regroup_lines.specs.declared.rules.Fields.{Fields}
 use Rattle.regroup_lines.specs.declared.rules.Rules.{Rules}
@@ -86,6 +87,23 @@ same-test m a b = by (a == b) refl
         both_ways _ is (eq-eqb a b same))
         ∙ sym is
 
+-- what is written in place of the field of this number
+abbrev pub as_field : ℕ → Result (List ℕ) Fault → Result (List ℕ) Fault
+as_field n written = result_map_both (λ text. text) (in_field n) written
+
+as_field-later : (n : ℕ) (more : List ℕ → List ℕ) (written : Result (List ℕ) Fault) →
+    as_field n (result_map_both more (λ fault. fault) written) ≡ result_map_both more (λ fault. fault) (as_field n written)
+as_field-later n more (Ok text) = refl
+as_field-later n more (Err fault) = refl
+
+-- what a call that sends a line does, as one that sends the line with the field of this number
+pub sends-field : {T : Type 0} (n : ℕ) (written : Result (List ℕ) Fault) (a b : Option (List ℕ)) (result : Result T Fault) → SendsLine written a b result →
+    SendsLine (as_field n written) a b (result_map_both (λ sent. sent) (in_field n) result)
+sends-field n (Ok text) a b (Ok sent) sends = sends
+sends-field n (Ok text) a b (Err fault) sends = (ap (in_field n) sends.0, sends.1)
+sends-field n (Err fault) a b (Ok sent) sends = absurd sends
+sends-field n (Err fault) a b (Err returned) sends = (ap (in_field n) sends.0, sends.1)
+
 -- a text with another one after it, or before it
 empty-after : (empty : Bool) (text before after more : List ℕ) (written : Result (List ℕ) Fault) →
     (if empty then Ok (text ++ more) else between before (after ++ more) written)
@@ -126,17 +144,18 @@ module _ (rules : Rules) (from to : FormatData) (number : ℕ) where
       ∙ ap (λ (l : List ℕ). if empty then Ok text else between (xs ++ take a ys) l (written (slice_range ys a b))) (drop-later xs ys m b len)
       ∙ empty-before empty ys (take a ys) (drop b ys) xs (written (slice_range ys a b))
 
-  -- a line with the number at a place, if there is such a place
-  abbrev pub at_place : List ℕ → Option (ℕ × ℕ) → Result (List ℕ) Fault
-  at_place text None = Err (FewFields number)
-  at_place text (Some place) = place_written rules from to number text (trimmed text place)
+  -- a line with the number in the field at a place, if there is such a place
+  abbrev pub at_place : ℕ → List ℕ → Option (ℕ × ℕ) → Result (List ℕ) Fault
+  at_place one text None = Err (FewFields number)
+  at_place one text (Some place) = as_field one (place_written rules from to number text (trimmed text place))
 
-  at_place-later : (xs ys : List ℕ) (m : ℕ) → length xs ≡ m → (place : Option (ℕ × ℕ)) →
-      at_place (xs ++ ys) (option_map (λ p. (m + p.0, m + p.1)) place) ≡ result_map_both (λ t. xs ++ t) (λ fault. fault) (at_place ys place)
-  at_place-later xs ys m len None = refl
-  at_place-later xs ys m len (Some place) =
-      ap (place_written rules from to number (xs ++ ys)) (trimmed-later xs ys m place.0 place.1 len)
-      ∙ place-later xs ys m (trimmed ys place).0 (trimmed ys place).1 len
+  at_place-later : (one : ℕ) (xs ys : List ℕ) (m : ℕ) → length xs ≡ m → (place : Option (ℕ × ℕ)) →
+      at_place one (xs ++ ys) (option_map (λ p. (m + p.0, m + p.1)) place) ≡ result_map_both (λ t. xs ++ t) (λ fault. fault) (at_place one ys place)
+  at_place-later one xs ys m len None = refl
+  at_place-later one xs ys m len (Some place) =
+      ap (λ p. as_field one (place_written rules from to number (xs ++ ys) p)) (trimmed-later xs ys m place.0 place.1 len)
+      ∙ ap (as_field one) (place-later xs ys m (trimmed ys place).0 (trimmed ys place).1 len)
+      ∙ as_field-later one (λ t. xs ++ t) (place_written rules from to number ys (trimmed ys place))
 
 -- places of fields that are further on
 place-later_start : (m start : ℕ) (fields : List (List ℕ)) (before : ℕ) →
@@ -200,29 +219,32 @@ module _ (rules : Rules) (from to : FormatData) (number d one : ℕ) where
   one-before count low = ap (λ b. (b && nat_le (count + 1) one) || false) (lt-leb one (count + 1) low)
 
   here-written : (count : ℕ) (field : List ℕ) (fields : List (List ℕ)) → one ≡ count + 1 →
-      written count (field ∷ fields) ≡ at_place rules from to number (join_with_byte d (field ∷ fields)) (Some (0, 0 + length field))
+      written count (field ∷ fields) ≡ at_place rules from to number one (join_with_byte d (field ∷ fields)) (Some (0, 0 + length field))
   here-written count field fields is =
       let more = tail_of d fields in
       let len : 0 + length field ≡ length field = omega arith in
       let p = trimmed field (0, length field) in
       let within = trimmed-within field 0 (length field) (omega arith) (omega arith) in
       ap (λ chosen. result_map_both (join_with_byte d) (λ fault. fault)
-      (with_first (field_written rules from to number chosen field) (fields_written rules list from to number (count + 1) fields))) (one-chosen count is)
-      ∙ ap (λ rest. result_map_both (join_with_byte d) (λ fault. fault) (with_first (number_replaced rules from to number field) rest))
+      (with_first (field_written rules from to number (count + 1) chosen field) (fields_written rules list from to number (count + 1) fields))) (one-chosen count is)
+      ∙ ap (λ n. result_map_both (join_with_byte d) (λ fault. fault)
+      (with_first (as_field n (number_replaced rules from to number field)) (fields_written rules list from to number (count + 1) fields))) (sym is)
+      ∙ ap (λ rest. result_map_both (join_with_byte d) (λ fault. fault) (with_first (as_field one (number_replaced rules from to number field)) rest))
       (fields-passed rules list from to number (count + 1) fields (one-past count is))
-      ∙ first-passed d (number_replaced rules from to number field) fields
-      ∙ sym (place-first rules from to number field more p within.0 within.1)
-      ∙ ap (place_written rules from to number (field ++ more)) (sym (trimmed-first field more (length field) (omega arith)))
-      ∙ ap (λ l. place_written rules from to number l (trimmed l (0, length field))) (sym (joined-tail d field fields))
-      ∙ ap (λ n. place_written rules from to number (join_with_byte d (field ∷ fields)) (trimmed (join_with_byte d (field ∷ fields)) (0, n))) (sym len)
+      ∙ first-passed d (as_field one (number_replaced rules from to number field)) fields
+      ∙ sym (as_field-later one (λ t. t ++ more) (number_replaced rules from to number field))
+      ∙ ap (as_field one) (sym (place-first rules from to number field more p within.0 within.1))
+      ∙ ap (λ q. as_field one (place_written rules from to number (field ++ more) q)) (sym (trimmed-first field more (length field) (omega arith)))
+      ∙ ap (λ l. as_field one (place_written rules from to number l (trimmed l (0, length field)))) (sym (joined-tail d field fields))
+      ∙ ap (λ n. as_field one (place_written rules from to number (join_with_byte d (field ∷ fields)) (trimmed (join_with_byte d (field ∷ fields)) (0, n)))) (sym len)
 
   before-written : (count before : ℕ) (field : List ℕ) (fields : List (List ℕ)) → count + 1 < one →
-      written (count + 1) fields ≡ at_place rules from to number (join_with_byte d fields) (field_place 0 fields before) →
-      written count (field ∷ fields) ≡ at_place rules from to number (join_with_byte d (field ∷ fields)) (field_place (0 + length field + 1) fields before)
+      written (count + 1) fields ≡ at_place rules from to number one (join_with_byte d fields) (field_place 0 fields before) →
+      written count (field ∷ fields) ≡ at_place rules from to number one (join_with_byte d (field ∷ fields)) (field_place (0 + length field + 1) fields before)
   unfolding field_place
   before-written count before field [] low same =
       ap (λ chosen. result_map_both (join_with_byte d) (λ fault. fault)
-      (with_first (field_written rules from to number chosen field) (fields_written rules list from to number (count + 1) []))) (one-before count low)
+      (with_first (field_written rules from to number (count + 1) chosen field) (fields_written rules list from to number (count + 1) []))) (one-before count low)
       ∙ ap (λ (b : Bool). result_map_both (join_with_byte d) (λ fault. fault)
       (with_first (Ok field) (if◌then◌else◌ {A = Result (List (List ℕ)) Fault} (b && true) (Ok []) (Err (FewFields number))))) (lt-leb one (count + 1) low)
   before-written count before field (next ∷ fields) low same =
@@ -231,16 +253,16 @@ module _ (rules : Rules) (from to : FormatData) (number d one : ℕ) where
       let len : length pre ≡ length field + 1 = length-append field (d ∷ []) in
       let sum : length field + 1 + 0 ≡ 0 + length field + 1 = omega arith in
       ap (λ chosen. result_map_both (join_with_byte d) (λ fault. fault)
-      (with_first (field_written rules from to number chosen field) (fields_written rules list from to number (count + 1) rest))) (one-before count low)
-      ∙ rest-written d field next fields (field_written rules from to number (is_chosen list (count + 1 + 1)) next) (fields_written rules list from to number (count + 1 + 1) fields)
+      (with_first (field_written rules from to number (count + 1) chosen field) (fields_written rules list from to number (count + 1) rest))) (one-before count low)
+      ∙ rest-written d field next fields (field_written rules from to number (count + 1 + 1) (is_chosen list (count + 1 + 1)) next) (fields_written rules list from to number (count + 1 + 1) fields)
       ∙ ap (result_map_both (λ t. pre ++ t) (λ fault. fault)) same
-      ∙ sym (at_place-later rules from to number pre (join_with_byte d rest) (length field + 1) len (field_place 0 rest before))
-      ∙ ap (at_place rules from to number (pre ++ join_with_byte d rest))
+      ∙ sym (at_place-later rules from to number one pre (join_with_byte d rest) (length field + 1) len (field_place 0 rest before))
+      ∙ ap (at_place rules from to number one (pre ++ join_with_byte d rest))
       (sym (place-later_start (length field + 1) 0 rest before) ∙ ap (λ n. field_place n rest before) sum)
-      ∙ ap (λ l. at_place rules from to number l (field_place (0 + length field + 1) rest before)) (append_assoc field (d ∷ []) (join_with_byte d rest))
+      ∙ ap (λ l. at_place rules from to number one l (field_place (0 + length field + 1) rest before)) (append_assoc field (d ∷ []) (join_with_byte d rest))
 
   one-written : (count : ℕ) (fields : List (List ℕ)) (before : ℕ) → one ≡ count + before + 1 →
-      written count fields ≡ at_place rules from to number (join_with_byte d fields) (field_place 0 fields before)
+      written count fields ≡ at_place rules from to number one (join_with_byte d fields) (field_place 0 fields before)
   unfolding field_place
   one-written count [] before is = none-written count (omega (arith, is))
   one-written count (field ∷ fields) zero is = here-written count field fields (omega (arith, is))
@@ -250,14 +272,14 @@ module _ (rules : Rules) (from to : FormatData) (number d one : ℕ) where
 -- a line with one chosen field
 pub one-replaced : (rules : Rules) (from to : FormatData) (number one : ℕ) (text : List ℕ) (fields : Fields) (place : Option (ℕ × ℕ)) →
     fields.list.now ≡ one_field one ∷ [] → 0 < one → place ≡ field_place 0 (slice_split (λ b. b == fields.delimiter) text) (one - 1) →
-    fields_replaced fields rules from to number text ≡ at_place rules from to number text place
+    fields_replaced fields rules from to number text ≡ at_place rules from to number one text place
 one-replaced rules from to number one text fields place is some there =
     let d = fields.delimiter in
     let parts = slice_split (λ b. b == d) text in
     ap (λ list. result_map_both (join_with_byte d) (λ fault. fault) (fields_written rules list from to number 0 parts)) is
     ∙ one-written rules from to number d one 0 parts (one - 1) (omega (arith, some))
-    ∙ ap (λ l. at_place rules from to number l (field_place 0 parts (one - 1))) (join_with_byte-slice_split d text)
-    ∙ ap (at_place rules from to number text) (sym there)
+    ∙ ap (λ l. at_place rules from to number one l (field_place 0 parts (one - 1))) (join_with_byte-slice_split d text)
+    ∙ ap (at_place rules from to number one text) (sym there)
 
 -- the place of a field, field after field
 slice-length : (text : List ℕ) (start end : ℕ) → end ≤ length text → length (slice_range text start end) ≡ end - start

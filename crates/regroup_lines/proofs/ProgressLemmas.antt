@@ -10,7 +10,7 @@ use Rattle.num_format.specs.Writing.{StopsWithin}
 use Rattle.regroup_shared.specs.Sending.{line}
 use Rattle.regroup_shared.proofs.SendingLemmas.{StopsWithin_prefix, StopsWithin_suffix}
 use Rattle.regroup_lines.specs.Fault.{Fault, are_any, is_unsent}
-use Rattle.regroup_lines.specs.Fault.Fault.{FewFields, Line, NotText, Read, Report, TooLong, TooMany, Write}
+use Rattle.regroup_lines.specs.Fault.Fault.{FewFields, Line, NotText, FieldNotText, Field, Read, Report, TooLong, TooMany, Write}
 use Rattle.regroup_lines.specs.Input.{HasNoNewline, IsLong, PassesLong, Reads, StopsInLong}
 use Rattle.regroup_lines.specs.Lines.{Regrouped, Stop, line_begun, long_returned, fault_named, fault_written, passes, text_named, text_written, regrouped, regrouped_after, regrouped_rest, returning, writing, writing_line}
 use Rattle.regroup_lines.specs.Lines.Stop.{Ended, Endless, Failed, Unread}
@@ -44,7 +44,9 @@ Sends-fault all told a b d e (TooLong number) sent is written named = (is, writt
 Sends-fault all told a b d e (FewFields number) sent is written named = (is, written, named)
 Sends-fault all told a b d e Read sent is written named = (is, written, named)
 Sends-fault all told a b d e (NotText number) sent is written named = (is, written, named)
+Sends-fault all told a b d e (FieldNotText number field) sent is written named = (is, written, named)
 Sends-fault all told a b d e (Line number refusal) sent is written named = (is, written, named)
+Sends-fault all told a b d e (Field number field refusal) sent is written named = (is, written, named)
 Sends-fault all told a b d e Write sent is written named = absurd (cc)
 Sends-fault all told a b d e Report sent is written named = absurd (cc)
 
@@ -207,7 +209,9 @@ module _ (rules : Rules) (name : List ℕ) (most : ℕ) (from to : FormatData) (
     Regroups-stopped held stop (Ok n) faults rest (FewFields number) s2 t2 so_far at_end ends is other sends = absurd sends
     Regroups-stopped held stop (Ok n) faults rest Read s2 t2 so_far at_end ends is other sends = absurd sends
     Regroups-stopped held stop (Ok n) faults rest (NotText number) s2 t2 so_far at_end ends is other sends = absurd sends
+    Regroups-stopped held stop (Ok n) faults rest (FieldNotText number field) s2 t2 so_far at_end ends is other sends = absurd sends
     Regroups-stopped held stop (Ok n) faults rest (Line number refusal) s2 t2 so_far at_end ends is other sends = absurd sends
+    Regroups-stopped held stop (Ok n) faults rest (Field number field refusal) s2 t2 so_far at_end ends is other sends = absurd sends
 
   -- what the next piece of the input gives, where so many lines were sent
   module _ (count : ℕ) (has : Bool) (few : count < most) (r1 r2 s1 s2 t1 t2 : Option (List ℕ)) (held : List ℕ) (so_far : Progress rules name most from to count has held r0 r1 s0 s1 t0 t1) where
@@ -376,7 +380,9 @@ module _ (rules : Rules) (name : List ℕ) (most : ℕ) (from to : FormatData) (
           Regroups-long_failed left (TooLong number) passed = absurd passed
           Regroups-long_failed left (FewFields number) passed = absurd passed
           Regroups-long_failed left (NotText number) passed = absurd passed
+          Regroups-long_failed left (FieldNotText number field) passed = absurd passed
           Regroups-long_failed left (Line number refusal) passed = absurd passed
+          Regroups-long_failed left (Field number field refusal) passed = absurd passed
 
   -- what follows the last line allowed
   module _ (count : ℕ) (has : Bool) (all : count ≡ most) (r1 r2 s1 t1 : Option (List ℕ)) (held : List ℕ) (so_far : Progress rules name most from to count has held r0 r1 s0 s1 t0 t1) where

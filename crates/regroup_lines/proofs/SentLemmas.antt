@@ -1,5 +1,5 @@
 -- No text is at fault of a write that failed.
-use Rattle.std.proofs.Common.{◌≡◌, ℕ, ◌+◌, ◌==◌, Bool, true, false, List, [], ◌∷◌, length, Option, Some, None, Result, Ok, Err, if◌then◌else◌, refl}
+use Rattle.std.proofs.Common.{◌≡◌, ℕ, ◌+◌, ◌==◌, Bool, true, false, List, [], ◌∷◌, length, Option, Some, None, Result, Ok, Err, if◌then◌else◌, refl, ◌∙◌}
 use Rattle.std.specs.Prelude.{ℤ, ◌-◌, nat_le, ◌&&◌, take, drop, slice_range, ⊤}
 use Rattle.std.specs.List.{join_with_byte, slice_split}
 use Rattle.std.specs.Option.{ok_or}
@@ -10,8 +10,8 @@ use Rattle.num_format.specs.Refusal.{Refusal}
 use Rattle.num_format.specs.Text.{text_of}
 use Rattle.regroup_shared.specs.Reading.{number_read}
 use Rattle.regroup_shared.specs.Sending.{line}
-use Rattle.regroup_lines.specs.Fault.{Fault, is_unsent}
-use Rattle.regroup_lines.specs.Fault.Fault.{FewFields, Line, NotText}
+use Rattle.regroup_lines.specs.Fault.{Fault, in_field, is_unsent}
+use Rattle.regroup_lines.specs.Fault.Fault.{TooMany, TooLong, FewFields, Read, NotText, FieldNotText, Line, Field, Write, Report}
 use Rattle.regroup_lines.specs.Lines.{between, body_or_itself, body_written, fault_written, field_written, fields_written, number_in_text, number_written, numbers_replaced, place_written, text_written, with_first}
 use Rattle.regroup_lines.specs.Places.{are_enough, is_chosen, trimmed}
 use Rattle.regroup_lines.specs.declared.fault.RegroupFault.TheVariants as fault
@@ -63,9 +63,25 @@ place-sent rules from to number text place =
     (between-sent (take place.0 text) (drop place.1 text) _ (number_written-sent rules.reading from to number bytes))
 
 -- nor is a field, nor are fields
-field-sent : (rules : Rules) (from to : FormatData) (number : ℕ) (chosen : Bool) (field : List ℕ) → IsSent (field_written rules from to number chosen field)
-field-sent rules from to number true field = place-sent rules from to number field (trimmed field (0, length field))
-field-sent rules from to number false field = tt
+in_field-sent : (n : ℕ) (fault : Fault) → is_unsent (in_field n fault) ≡ is_unsent fault
+in_field-sent n TooMany = refl
+in_field-sent n (TooLong number) = refl
+in_field-sent n (FewFields number) = refl
+in_field-sent n Read = refl
+in_field-sent n (NotText number) = refl
+in_field-sent n (FieldNotText number field) = refl
+in_field-sent n (Line number refusal) = refl
+in_field-sent n (Field number field refusal) = refl
+in_field-sent n Write = refl
+in_field-sent n Report = refl
+
+as_field-sent : (n : ℕ) (written : Result (List ℕ) Fault) → IsSent written → IsSent (result_map_both (λ text. text) (in_field n) written)
+as_field-sent n (Ok text) sent = tt
+as_field-sent n (Err fault) sent = in_field-sent n fault ∙ sent
+
+field-sent : (rules : Rules) (from to : FormatData) (number n : ℕ) (chosen : Bool) (field : List ℕ) → IsSent (field_written rules from to number n chosen field)
+field-sent rules from to number n true field = as_field-sent n _ (place-sent rules from to number field (trimmed field (0, length field)))
+field-sent rules from to number n false field = tt
 
 first-sent : (first : Result (List ℕ) Fault) (rest : Result (List (List ℕ)) Fault) → IsSent first → IsSent rest → IsSent (with_first first rest)
 first-sent (Ok text) (Ok texts) here there = tt
@@ -80,7 +96,7 @@ fields-sent : (rules : Rules) (list : List FieldRange) (from to : FormatData) (n
     IsSent (fields_written rules list from to number before fields)
 fields-sent rules list from to number before [] = count-sent (are_enough list before) number
 fields-sent rules list from to number before (field ∷ fields) =
-    first-sent _ _ (field-sent rules from to number (is_chosen list (before + 1)) field) (fields-sent rules list from to number (before + 1) fields)
+    first-sent _ _ (field-sent rules from to number (before + 1) (is_chosen list (before + 1)) field) (fields-sent rules list from to number (before + 1) fields)
 
 joined-sent : (delimiter : ℕ) (texts : Result (List (List ℕ)) Fault) → IsSent texts → IsSent (result_map_both (join_with_byte delimiter) (λ fault. fault) texts)
 joined-sent delimiter (Ok texts) sent = tt

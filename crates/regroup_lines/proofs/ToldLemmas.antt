@@ -8,8 +8,8 @@ use Rattle.std.proofs.lemmas.Bool.{both_ways, le-leb, lt-leb}
 use Rattle.num_format.specs.Format.{FormatData}
 use Rattle.num_format.specs.Writing.{StopsWithin}
 use Rattle.regroup_shared.specs.Sending.{line}
-use Rattle.regroup_lines.specs.Fault.{Fault, are_any, is_unsent}
-use Rattle.regroup_lines.specs.Fault.Fault.{Report, Write}
+use Rattle.regroup_lines.specs.Fault.{Fault, are_any, in_field, is_unsent}
+use Rattle.regroup_lines.specs.Fault.Fault.{TooMany, TooLong, FewFields, Read, NotText, FieldNotText, Line, Field, Write, Report}
 use Rattle.regroup_lines.specs.LineFaults.{line_fault_of}
 use Rattle.regroup_lines.specs.Lines.{body_named, body_or_itself, body_written, fault_named, fault_written, passes, text_named, text_written}
 use Rattle.regroup_lines.specs.Messages.{messages}
@@ -124,8 +124,21 @@ either_other : (utf8 : Bool) (a b : Fault) → a ≢ Write → b ≢ Write → (
 either_other true a b first second = first
 either_other false a b first second = second
 
+field_other : (n : ℕ) (fault : Fault) → fault ≢ Write → in_field n fault ≢ Write
+field_other n TooMany other is = other is
+field_other n (TooLong number) other is = other is
+field_other n (FewFields number) other is = other is
+field_other n Read other is = other is
+field_other n (NotText number) other is = cc
+field_other n (FieldNotText number field) other is = other is
+field_other n (Line number refusal) other is = cc
+field_other n (Field number field refusal) other is = other is
+field_other n Write other is = other is
+field_other n Report other is = other is
+
 pub other_fault : (f : LineFault) → f ≢ fault.Write → line_fault_of f ≢ Write
 other_fault (fault.NotANumber number text) other is = either_other (is_utf8 text.now) _ _ (λ same. cc) (λ same. cc) is
+other_fault (fault.NotAField number field text) other is = field_other field _ (either_other (is_utf8 text.now) _ _ (λ same. cc) (λ same. cc)) is
 other_fault (fault.FewFields number) other is = cc
 other_fault fault.Write other is = other refl
 other_fault fault.Report other is = cc

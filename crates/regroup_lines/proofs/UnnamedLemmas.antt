@@ -9,7 +9,7 @@ use Rattle.num_format.specs.Format.{FormatData}
 use Rattle.num_format.specs.Writing.{StopsWithin}
 use Rattle.regroup_shared.specs.Sending.{line}
 use Rattle.regroup_lines.specs.Fault.{Fault}
-use Rattle.regroup_lines.specs.Fault.Fault.{FewFields, Line, NotText, Read, Report, TooLong, TooMany, Write}
+use Rattle.regroup_lines.specs.Fault.Fault.{FewFields, Line, NotText, FieldNotText, Field, Read, Report, TooLong, TooMany, Write}
 use Rattle.regroup_lines.specs.Lines.{Regrouped, Stop, line_begun, line_named, line_written, long_begun, stop_returned, body_named, body_written, fault_named, fault_written, text_named, regrouped, regrouped_parts, regrouped_rest, returning, writing_line}
 use Rattle.regroup_lines.specs.Lines.Stop.{Ended, Endless, Failed, Unread}
 use Rattle.regroup_lines.specs.Messages.{messages}
@@ -106,7 +106,9 @@ module _ (all : Regrouped) (a b d e : Option (List ℕ)) where
   untold_returned (Err (FewFields number)) sent other = sent.0
   untold_returned (Err Read) sent other = sent.0
   untold_returned (Err (NotText number)) sent other = sent.0
+  untold_returned (Err (FieldNotText number field)) sent other = sent.0
   untold_returned (Err (Line number refusal)) sent other = sent.0
+  untold_returned (Err (Field number field refusal)) sent other = sent.0
 
   untold_written : (result : Result Summary Fault) → Sends all [] a b d e result → lines_of result ≢ Err Write → Appends a b all.written
   untold_written (Ok summary) sent other = sent.2
@@ -117,7 +119,9 @@ module _ (all : Regrouped) (a b d e : Option (List ℕ)) where
   untold_written (Err (FewFields number)) sent other = sent.1
   untold_written (Err Read) sent other = sent.1
   untold_written (Err (NotText number)) sent other = sent.1
+  untold_written (Err (FieldNotText number field)) sent other = sent.1
   untold_written (Err (Line number refusal)) sent other = sent.1
+  untold_written (Err (Field number field refusal)) sent other = sent.1
 
   untold_prefix : (result : Result Summary Fault) → Sends all [] a b d e result → lines_of result ≡ Err Write → StopsWithin a b all.written
   untold_prefix (Ok summary) sent failed = absurd (cc)
@@ -128,7 +132,9 @@ module _ (all : Regrouped) (a b d e : Option (List ℕ)) where
   untold_prefix (Err (FewFields number)) sent failed = absurd (cc)
   untold_prefix (Err Read) sent failed = absurd (cc)
   untold_prefix (Err (NotText number)) sent failed = absurd (cc)
+  untold_prefix (Err (FieldNotText number field)) sent failed = absurd (cc)
   untold_prefix (Err (Line number refusal)) sent failed = absurd (cc)
+  untold_prefix (Err (Field number field refusal)) sent failed = absurd (cc)
 
 -- so what is returned and written is all that they do
 pub Regroups-naming_none : (rules : Rules) (name : List ℕ) (most : ℕ) (from to : FormatData) (a b d e f g : Option (List ℕ)) (result : Result Summary Fault) → rules.invalid ≡ Abort →

@@ -3,7 +3,7 @@ use Rattle.std.specs.Prelude.{ℕ, if◌then◌else◌, List}
 use Rattle.std.specs.Str.{is_utf8}
 use Rattle.num_format.specs.Cut.{cut_text}
 use Rattle.num_format.specs.Refusal.{ParseNumber}
-use Rattle.regroup_lines.specs.Fault.{Fault}
+use Rattle.regroup_lines.specs.Fault.{Fault, in_field}
 use Rattle.regroup_lines.specs.Fault.Fault.{FewFields, Line, NotText, Report, Write}
 use Rattle.regroup_lines.specs.declared.line_fault.LineFault.{LineFault}
 use Rattle.regroup_lines.specs.declared.line_fault.LineFault.TheVariants as fault
@@ -15,6 +15,7 @@ text_fault number text = if is_utf8 text then Line number (ParseNumber (cut_text
 -- the `Fault` of a `LineFault`
 abbrev pub line_fault_of : LineFault → Fault
 line_fault_of (fault.NotANumber number text) = text_fault number text.now
+line_fault_of (fault.NotAField number field text) = in_field field (text_fault number text.now)
 line_fault_of (fault.FewFields number) = FewFields number
 line_fault_of fault.Write = Write
 line_fault_of fault.Report = Report

@@ -12,7 +12,7 @@ use Rattle.num_format_decimal.specs.Text.{decimal_text}
 use Rattle.regroup_shared.specs.Reading.{number_read}
 use Rattle.regroup_shared.specs.Sending.{line}
 use Rattle.regroup_lines.specs.Decimals.{decimal_read}
-use Rattle.regroup_lines.specs.Fault.{Fault}
+use Rattle.regroup_lines.specs.Fault.{Fault, in_field}
 use Rattle.regroup_lines.specs.Fault.Fault.{TooMany, TooLong, FewFields, Read, NotText, Line}
 use Rattle.regroup_lines.specs.Places.{are_enough, is_chosen, trimmed}
 use Rattle.regroup_lines.specs.declared.rules.FieldRange.{FieldRange}
@@ -78,9 +78,10 @@ place_written rules from to number text place =
 abbrev pub number_replaced : Rules → FormatData → FormatData → ℕ → List ℕ → Result (List ℕ) Fault
 number_replaced rules from to number text = place_written rules from to number text (trimmed text (0, length text))
 
--- a field, which may be chosen
-abbrev pub field_written : Rules → FormatData → FormatData → ℕ → (chosen : Bool) → List ℕ → Result (List ℕ) Fault
-field_written rules from to number chosen field = if chosen then number_replaced rules from to number field else Ok field
+-- the field of the last number, which may be chosen: its fault names it
+abbrev pub field_written : Rules → FormatData → FormatData → ℕ → ℕ → (chosen : Bool) → List ℕ → Result (List ℕ) Fault
+field_written rules from to number n chosen field =
+    if chosen then result_map_both (λ text. text) (in_field n) (number_replaced rules from to number field) else Ok field
 
 -- a text before others, or the first fault
 abbrev pub with_first : Result (List ℕ) Fault → Result (List (List ℕ)) Fault → Result (List (List ℕ)) Fault
@@ -92,7 +93,7 @@ with_first (Err fault) texts = Err fault
 abbrev pub fields_written : Rules → List FieldRange → FormatData → FormatData → ℕ → (before : ℕ) → List (List ℕ) → Result (List (List ℕ)) Fault
 fields_written rules list from to number before [] = if are_enough list before then Ok [] else Err (FewFields number)
 fields_written rules list from to number before (field ∷ fields) =
-    with_first (field_written rules from to number (is_chosen list (before + 1)) field) (fields_written rules list from to number (before + 1) fields)
+    with_first (field_written rules from to number (before + 1) (is_chosen list (before + 1)) field) (fields_written rules list from to number (before + 1) fields)
 
 -- a line split at the delimiter, with the number in each chosen field replaced, and joined again
 abbrev pub fields_replaced : Fields → Rules → FormatData → FormatData → ℕ → List ℕ → Result (List ℕ) Fault

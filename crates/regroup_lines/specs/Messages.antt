@@ -1,6 +1,6 @@
 -- The messages that name faults.
-use Rattle.std.specs.Prelude.{ℕ, ◌+◌, ◌-◌, List, [], ◌∷◌, ◌++◌, length, codes, Option, None, Some}
-use Rattle.std.specs.Fmt.{decimal}
+use Rattle.std.specs.Prelude.{ℕ, ◌+◌, ◌-◌, nat_le, ℤ, if◌then◌else◌, List, [], ◌∷◌, ◌++◌, length, codes, Option, None, Some, Result, Ok, Err}
+use Rattle.std.specs.Fmt.{decimal, signed_decimal}
 use Rattle.std.specs.List.{flat_map}
 use Rattle.num_format.specs.Format.{FormatData}
 use Rattle.num_format.specs.Refusal.{Refusal, Capacity, Other, ParseLocale, ParseNumber}
@@ -9,10 +9,12 @@ use Rattle.num_format_decimal.specs.declared.decimal.TheConstants.{MAX_SCALE}
 use Rattle.num_format_decimal.specs.declared.parsing.ParseDecimalError.{ParseDecimalError}
 use Rattle.num_format_decimal.specs.declared.parsing.ParseDecimalError.TheVariants.{Unexpected}
 use Rattle.regroup_shared.specs.Quoting.{quoted, shown}
+use Rattle.regroup_shared.specs.Reading.{number_read}
 use Rattle.regroup_shared.specs.Sending.{line}
+use Rattle.regroup_shared.specs.declared.quoting.TheConstants.{MAX_SHOWN_LEN}
 use Rattle.regroup_lines.specs.Decimals.{only, scales_below}
 use Rattle.regroup_lines.specs.Fault.{Fault}
-use Rattle.regroup_lines.specs.Fault.Fault.{TooMany, TooLong, FewFields, Read, NotText, Line, Write, Report}
+use Rattle.regroup_lines.specs.Fault.Fault.{TooMany, TooLong, FewFields, Read, NotText, FieldNotText, Line, Field, Write, Report}
 use Rattle.regroup_lines.specs.declared.rules.Reading.{Reading}
 use Rattle.regroup_lines.specs.declared.rules.Reading.TheVariants.{Lenient, Strict}
 
@@ -60,17 +62,33 @@ shown_name name = shown 256 name
 abbrev pub line_message : (name : List ℕ) → ℕ → List ℕ → List ℕ
 line_message name number text = line (codes "regroup-lines: " ++ (shown_name name ++ (codes ":" ++ (decimal number ++ (codes ": " ++ text)))))
 
--- a message about a text that is no number
-abbrev pub number_message : (name : List ℕ) → Reading → FormatData → ℕ → List ℕ → List ℕ
-number_message name reading from number text =
-    line_message name number (quoted text ++ (codes ": not a number" ++ byte_text (before_fault reading from text)))
+-- a message about the field of the second number in this line
+abbrev pub field_message : (name : List ℕ) → ℕ → ℕ → List ℕ → List ℕ
+field_message name number field text = line_message name number (codes "field " ++ (decimal field ++ (codes ": " ++ text)))
+
+-- what is said of a number that lenient reading returns
+abbrev pub read_text : Result ℤ Refusal → List ℕ
+read_text (Ok value) = codes "; --lenient reads " ++ signed_decimal value
+read_text (Err refusal) = []
+
+-- which number lenient reading would return of a text that strict reading refuses, if it returns one and all of the text is shown
+abbrev pub lenient_text : Reading → FormatData → List ℕ → List ℕ
+lenient_text Strict from text = if nat_le (length text) MAX_SHOWN_LEN then read_text (number_read from text) else []
+lenient_text Lenient from text = []
+
+-- what is said of a text that is not a number
+abbrev pub refused_text : Reading → FormatData → List ℕ → List ℕ
+refused_text reading from text =
+    quoted text ++ (codes ": not a number" ++ (byte_text (before_fault reading from text) ++ lenient_text reading from text))
 
 -- the message that names the fault of a line, in an input of this name that is read under the format; other faults have none
 abbrev pub fault_message : (name : List ℕ) → Reading → FormatData → Fault → List ℕ
 fault_message name reading from (TooLong number) = line_message name number (codes "more than 4096 bytes")
 fault_message name reading from (FewFields number) = line_message name number (codes "too few fields")
 fault_message name reading from (NotText number) = line_message name number (codes "not UTF-8")
-fault_message name reading from (Line number refusal) = number_message name reading from number (kept_in refusal)
+fault_message name reading from (FieldNotText number field) = field_message name number field (codes "not UTF-8")
+fault_message name reading from (Line number refusal) = line_message name number (refused_text reading from (kept_in refusal))
+fault_message name reading from (Field number field refusal) = field_message name number field (refused_text reading from (kept_in refusal))
 fault_message name reading from TooMany = []
 fault_message name reading from Read = []
 fault_message name reading from Write = []

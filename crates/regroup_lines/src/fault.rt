@@ -8,7 +8,7 @@ use regroup_shared::MAX_SENT_LEN;
 use std::fmt;
 
 /// Why [`regroup_lines`](crate::regroup_lines) or [`regroup_at_most`](crate::regroup_at_most) stopped.
-/// Lines are numbered from 1.
+/// Lines are numbered from 1, and so are the fields of a line.
 ///
 /// ```text
 /// TooLong(2)        displays as  line 2: More than 4096 bytes.
@@ -26,8 +26,12 @@ pub enum RegroupFault {
     Read,
     /// The line of this number is not UTF-8.
     NotText(u64),
-    /// The line of this number does not parse as an `i128`.
+    /// In the line of the first number, the field of the second number is not UTF-8.
+    FieldNotText(u64, u64),
+    /// The line of this number does not parse.
     Line(u64, Error),
+    /// In the line of the first number, the field of the second number does not parse.
+    Field(u64, u64, Error),
     /// A write failed, also one that was interrupted, or wrote no bytes.
     Write,
     /// A write of a message that names a fault failed, also one that was interrupted, or wrote no bytes.
@@ -48,8 +52,10 @@ impl RegroupFault {
             RegroupFault::TooLong(number) => line_message(*number, "More than 4096 bytes."),
             RegroupFault::FewFields(number) => line_message(*number, "Too few fields."),
             RegroupFault::Read => whole_message("Failed to read."),
-            RegroupFault::NotText(number) => line_message(*number, "Not UTF-8."),
-            RegroupFault::Line(number, error) => {
+            RegroupFault::NotText(number) | RegroupFault::FieldNotText(number, _) => {
+                line_message(*number, "Not UTF-8.")
+            }
+            RegroupFault::Line(number, error) | RegroupFault::Field(number, _, error) => {
                 line_message(*number, error.kind().message().as_str())
             }
             RegroupFault::Write => whole_message("Failed to write."),

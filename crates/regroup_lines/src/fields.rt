@@ -38,7 +38,12 @@ pub(crate) fn regroup_fields<'a, W: Write, F: Format, G: Format>(
     // One field is read once, and the bytes before it and after it are sent as they are.
     match fields.only() {
         Some(field) => match field_place(fields.delimiter, text, field - 1) {
-            Some(place) => regroup_place(rules, text, trim(text, place), number, w, from, to),
+            Some(place) => {
+                match regroup_place(rules, text, trim(text, place), number, w, from, to) {
+                    Ok(()) => Ok(()),
+                    Err(fault) => Err(fault.in_field(field)),
+                }
+            }
             None => Err(LineFault::FewFields(number)),
         },
         None => regroup_each(rules, fields, text, number, w, from, to),
@@ -101,13 +106,8 @@ fn check_fields<'a, F: Format>(
     'fields: while fields.reach(count + 1) {
         let end = field_end(fields.delimiter, text, start);
         count += 1;
-        check_field(
-            rules,
-            fields.contain(count),
-            &text[start..end],
-            number,
-            from,
-        )?;
+        let is_chosen = fields.contain(count);
+        check_field(rules, count, is_chosen, &text[start..end], number, from)?;
         if end == text.len() {
             return check_count(fields, count, number);
         }
@@ -136,7 +136,8 @@ fn send_fields<'a, W: Write, F: Format, G: Format>(
         let end = field_end(fields.delimiter, text, start);
         count += 1;
         let is_chosen = fields.contain(count);
-        send_field(rules, is_chosen, &text[start..end], number, w, from, to)?;
+        let field = &text[start..end];
+        send_field(rules, count, is_chosen, field, number, w, from, to)?;
         if end == text.len() {
             return send_bytes(b"\n", w);
         }
@@ -162,20 +163,21 @@ fn field_end(delimiter: u8, text: &[u8], start: usize) -> usize
     }
 }
 
-/// Reads the number in a field that is chosen.
+/// Reads the number in the field of this number, `count`, if it is chosen.
 ///
 /// # Errors
 ///
 /// Returns the fault of a field at fault.
 fn check_field<'a, F: Format>(
     rules: &Rules,
+    count: u64,
     is_chosen: bool,
     field: &'a [u8],
     number: u64,
     from: &F,
 ) -> Result<(), LineFault<'a>>
     ensures { (to : FormatData) → result_map_both (λ done. done) line_fault_of result
-        ≡ checked (field_written rules.now (F.answers from.now) to number is_chosen field.now) }
+        ≡ checked (field_written rules.now (F.answers from.now) to number count is_chosen field.now) }
 {
     if !is_chosen {
         return Ok(());
@@ -185,8 +187,10 @@ fn check_field<'a, F: Format>(
     if rules.passes_empty && start == end {
         return Ok(());
     }
-    Number::read(rules.reading, &field[start..end], number, from)?;
-    Ok(())
+    match Number::read(rules.reading, &field[start..end], number, from) {
+        Ok(_) => Ok(()),
+        Err(fault) => Err(fault.in_field(count)),
+    }
 }
 
 /// Returns the fault of a line of so many fields, if it has too few.
@@ -201,9 +205,10 @@ fn check_count(fields: &Fields, count: u64, number: u64) -> Result<(), LineFault
     }
 }
 
-/// Sends a field without a fault, with the number in it regrouped if it is chosen.
+/// Sends the field of this number, `count`, without a fault, with the number in it regrouped if it is chosen.
 fn send_field<'a, W: Write, F: Format, G: Format>(
     rules: &Rules,
+    count: u64,
     is_chosen: bool,
     field: &'a [u8],
     number: u64,
@@ -211,7 +216,7 @@ fn send_field<'a, W: Write, F: Format, G: Format>(
     from: &F,
     to: &G,
 ) -> Result<(), LineFault<'a>>
-    ensures { SendsIfOk (field_written rules.now (F.answers from.now) (G.answers to.now) number is_chosen field.now)
+    ensures { SendsIfOk (field_written rules.now (F.answers from.now) (G.answers to.now) number count is_chosen field.now)
         (W.contents w.old) (W.contents w.new) (result_map_both (λ sent. sent) line_fault_of result) }
 {
     if !is_chosen {
@@ -226,8 +231,10 @@ fn send_field<'a, W: Write, F: Format, G: Format>(
         before: &field[..start],
         after: &field[end..],
     };
-    let value = Number::read(rules.reading, &field[start..end], number, from)?;
-    value.send(&around, w, to).or(Err(LineFault::Write))
+    match Number::read(rules.reading, &field[start..end], number, from) {
+        Ok(value) => value.send(&around, w, to).or(Err(LineFault::Write)),
+        Err(fault) => Err(fault.in_field(count)),
+    }
 }
 
 /// Sends bytes.

@@ -1,6 +1,8 @@
 //! Faults of a line while its text is at hand.
 ghost use Rattle.std.specs.Prelude.{◌≡◌};
-ghost use Rattle.regroup_lines.specs.Fault.{fault_of};
+ghost use Rattle.num_format.specs.Cut.{cut_text};
+ghost use Rattle.num_format.specs.Refusal.{ParseNumber, refusal_of};
+ghost use Rattle.regroup_lines.specs.Fault.{fault_of, in_field};
 ghost use Rattle.regroup_lines.specs.LineFaults.{line_fault_of, text_fault};
 
 use crate::fault::RegroupFault;
@@ -13,6 +15,8 @@ use std::str;
 pub(crate) enum LineFault<'a> {
     /// This text in the line of this number is not a number.
     NotANumber(u64, &'a [u8]),
+    /// This text is not a number: in the line of the first number, the field of the second.
+    NotAField(u64, u64, &'a [u8]),
     /// The line of this number has too few fields.
     FewFields(u64),
     /// A write failed.
@@ -21,7 +25,22 @@ pub(crate) enum LineFault<'a> {
     Report,
 }
 
-impl LineFault<'_> {
+impl<'a> LineFault<'a> {
+    /// Returns the fault of a text in the field of this number.
+    #[cold]
+    #[tactic(auto, using(crate::proofs::LineFaultLemmas::in_field_again))]
+    pub(crate) fn in_field(self, field: u64) -> LineFault<'a>
+        ensures { line_fault_of result ≡ in_field field (line_fault_of self.entry) }
+    {
+        match self {
+            LineFault::NotANumber(number, text) => LineFault::NotAField(number, field, text),
+            LineFault::NotAField(..)
+            | LineFault::FewFields(_)
+            | LineFault::Write
+            | LineFault::Report => self,
+        }
+    }
+
     /// Returns the fault with a copy of the text. It is made where nothing else waits for it.
     #[cold]
     #[inline(never)]
@@ -30,6 +49,7 @@ impl LineFault<'_> {
     {
         match self {
             LineFault::NotANumber(number, text) => text_fault(number, text),
+            LineFault::NotAField(number, field, text) => field_fault(number, field, text),
             LineFault::FewFields(number) => RegroupFault::FewFields(number),
             LineFault::Write => RegroupFault::Write,
             LineFault::Report => RegroupFault::Report,
@@ -43,7 +63,25 @@ fn text_fault(number: u64, text: &[u8]) -> RegroupFault
     ensures { fault_of result ≡ text_fault number text.now }
 {
     match str::from_utf8(text) {
-        Ok(text) => RegroupFault::Line(number, Error::from(ErrorKind::ParseNumber(cut(text)))),
+        Ok(text) => RegroupFault::Line(number, error_of(text)),
         Err(_) => RegroupFault::NotText(number),
     }
+}
+
+/// Returns the same of a text in the field of this number.
+#[tactic(auto, using(crate::proofs::LineFaultLemmas::text_fault_utf8, crate::proofs::LineFaultLemmas::text_fault_bytes))]
+fn field_fault(number: u64, field: u64, text: &[u8]) -> RegroupFault
+    ensures { fault_of result ≡ in_field field (text_fault number text.now) }
+{
+    match str::from_utf8(text) {
+        Ok(text) => RegroupFault::Field(number, field, error_of(text)),
+        Err(_) => RegroupFault::FieldNotText(number, field),
+    }
+}
+
+/// Returns the error of a text that is not a number.
+fn error_of(text: &str) -> Error
+    ensures { refusal_of result ≡ ParseNumber (cut_text text.now) }
+{
+    Error::from(ErrorKind::ParseNumber(cut(text)))
 }

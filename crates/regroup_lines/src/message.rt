@@ -1,15 +1,18 @@
 //! The messages that name faults.
-ghost use Rattle.std.specs.Prelude.{◌≡◌, ◌≤◌, ◌++◌, length};
+ghost use Rattle.std.specs.Prelude.{◌≡◌, ◌≤◌, length};
+ghost use Rattle.std.specs.Result.{result_map_both};
 ghost use Rattle.num_format.specs.Refusal.{refusal_of};
+ghost use Rattle.regroup_shared.specs.Reading.{number_read};
 ghost use Rattle.regroup_lines.specs.Fault.{fault_of};
-ghost use Rattle.regroup_lines.specs.Messages.{before_fault, before_in, byte_text, fault_message, kept_in, line_message};
+ghost use Rattle.regroup_lines.specs.Messages.{before_fault, before_in, byte_text, fault_message, field_message, kept_in, lenient_text, line_message, read_text, refused_text};
 
 use crate::fault::RegroupFault;
 use crate::rules::Reading;
 use arrayvec::ArrayString;
+use num_format::parsing::ParseFormatted;
 use num_format::{Error, ErrorKind, Format};
 use num_format_decimal::{Decimal, ParseDecimalError};
-use regroup_shared::{MAX_QUOTED_LEN, quoted, shown};
+use regroup_shared::{MAX_QUOTED_LEN, MAX_SHOWN_LEN, quoted, shown};
 
 /// The most bytes of what is shown of a name: four for each of its bytes.
 pub const MAX_NAME_LEN: usize = 1024;
@@ -17,11 +20,26 @@ pub const MAX_NAME_LEN: usize = 1024;
 /// The most bytes of ` at byte ` and a number.
 const MAX_BYTE_TEXT_LEN: usize = 50;
 
-/// The most bytes that a message has besides a name and a text in quotes.
-const MAX_ADDED_LEN: usize = 128;
+/// The most bytes of `; --lenient reads ` and a number.
+const MAX_LENIENT_TEXT_LEN: usize = 60;
+
+/// The most bytes of `: not a number` and what follows it.
+const MAX_CAUSE_LEN: usize = 14 + MAX_BYTE_TEXT_LEN + MAX_LENIENT_TEXT_LEN;
+
+/// The most bytes of what is said of a text that is not a number.
+const MAX_REFUSED_TEXT_LEN: usize = MAX_QUOTED_LEN + MAX_CAUSE_LEN;
+
+/// The most bytes of `field `, a number and `: `.
+const MAX_FIELD_PREFIX_LEN: usize = 30;
+
+/// The most bytes of what is said of a line.
+const MAX_LINE_TEXT_LEN: usize = MAX_FIELD_PREFIX_LEN + MAX_REFUSED_TEXT_LEN;
+
+/// The most bytes that a message has besides a name and what is said of a line.
+const MAX_ADDED_LEN: usize = 64;
 
 /// The most bytes of a message that names a fault.
-pub const MAX_FAULT_MESSAGE_LEN: usize = MAX_NAME_LEN + MAX_QUOTED_LEN + MAX_ADDED_LEN;
+pub const MAX_FAULT_MESSAGE_LEN: usize = MAX_NAME_LEN + MAX_LINE_TEXT_LEN + MAX_ADDED_LEN;
 
 /// Returns the message that names the fault of a line, with a newline, in an input of this name that is read under the
 /// format. It is empty for a fault that no line has.
@@ -38,34 +56,29 @@ pub fn fault_message<F: Format>(
     ensures { result.bytes ≡ fault_message name.now reading (F.answers from.now) (fault_of fault.now) }
 {
     match fault {
-        RegroupFault::TooLong(number) => {
-            line_message(name, *number, "more than 4096 bytes", "", None)
+        RegroupFault::TooLong(number) => line_message(name, *number, "more than 4096 bytes"),
+        RegroupFault::FewFields(number) => line_message(name, *number, "too few fields"),
+        RegroupFault::NotText(number) => line_message(name, *number, "not UTF-8"),
+        RegroupFault::FieldNotText(number, field) => {
+            field_message(name, *number, *field, "not UTF-8")
         }
-        RegroupFault::FewFields(number) => line_message(name, *number, "too few fields", "", None),
-        RegroupFault::NotText(number) => line_message(name, *number, "not UTF-8", "", None),
         RegroupFault::Line(number, error) => {
-            let text = kept_in(error);
-            let before = before_fault(reading, text, from);
-            let shown = quoted(text.as_bytes());
-            line_message(name, *number, shown.as_str(), ": not a number", before)
+            let text = refused_text(reading, kept_in(error), from);
+            line_message(name, *number, text.as_str())
+        }
+        RegroupFault::Field(number, field, error) => {
+            let text = refused_text(reading, kept_in(error), from);
+            field_message(name, *number, *field, text.as_str())
         }
         RegroupFault::TooMany | RegroupFault::Read | RegroupFault::Write | RegroupFault::Report =>
             ArrayString::new(),
     }
 }
 
-/// Returns a message with the name of the input and the number of a line before the text and the cause, and after
-/// them the byte that is after so many others.
-fn line_message(
-    name: &str,
-    number: u64,
-    text: &str,
-    cause: &str,
-    before: Option<usize>,
-) -> ArrayString<MAX_FAULT_MESSAGE_LEN>
-    requires text { length text.now ≤ MAX_QUOTED_LEN }
-    requires cause { length cause.now ≤ 14 }
-    ensures { result.bytes ≡ line_message name.now number (text.now ++ (cause.now ++ byte_text before)) }
+/// Returns a message with the name of the input and the number of a line before the text.
+fn line_message(name: &str, number: u64, text: &str) -> ArrayString<MAX_FAULT_MESSAGE_LEN>
+    requires { length text.now ≤ MAX_LINE_TEXT_LEN }
+    ensures { result.bytes ≡ line_message name.now number text.now }
 {
     let mut digits = itoa::Buffer::new();
     let mut message = ArrayString::new();
@@ -75,10 +88,83 @@ fn line_message(
     message.push_str(digits.format(number));
     message.push_str(": ");
     message.push_str(text);
-    message.push_str(cause);
-    message.push_str(byte_text(before).as_str());
     message.push('\n');
     message
+}
+
+/// Returns a message with the number of a field, too, before the text.
+fn field_message(
+    name: &str,
+    number: u64,
+    field: u64,
+    text: &str,
+) -> ArrayString<MAX_FAULT_MESSAGE_LEN>
+    requires { length text.now ≤ MAX_REFUSED_TEXT_LEN }
+    ensures { result.bytes ≡ field_message name.now number field text.now }
+{
+    let mut digits = itoa::Buffer::new();
+    let mut message: ArrayString<MAX_LINE_TEXT_LEN> = ArrayString::new();
+    message.push_str("field ");
+    message.push_str(digits.format(field));
+    message.push_str(": ");
+    message.push_str(text);
+    line_message(name, number, message.as_str())
+}
+
+/// Returns what is said of a text that is not a number.
+fn refused_text<F: Format>(
+    reading: Reading,
+    text: &str,
+    from: &F,
+) -> ArrayString<MAX_REFUSED_TEXT_LEN>
+    ensures { result.bytes ≡ refused_text reading (F.answers from.now) text.now }
+{
+    let mut message = ArrayString::new();
+    message.push_str(quoted(text.as_bytes()).as_str());
+    message.push_str(": not a number");
+    message.push_str(byte_text(before_fault(reading, text, from)).as_str());
+    message.push_str(lenient_text(reading, text, from).as_str());
+    message
+}
+
+/// Returns which number lenient reading would return of a text that strict reading refuses, if it returns one and all
+/// of the text is shown.
+fn lenient_text<F: Format>(
+    reading: Reading,
+    text: &str,
+    from: &F,
+) -> ArrayString<MAX_LENIENT_TEXT_LEN>
+    ensures { result.bytes ≡ lenient_text reading (F.answers from.now) text.now }
+{
+    match reading {
+        Reading::Strict if text.len() <= MAX_SHOWN_LEN => read_text(number_read(text, from)),
+        Reading::Strict | Reading::Lenient => ArrayString::new(),
+    }
+}
+
+/// Returns the text of a number that lenient reading returned.
+fn read_text(read: Result<i128, Error>) -> ArrayString<MAX_LENIENT_TEXT_LEN>
+    ensures { result.bytes ≡ read_text (result_map_both (λ number. number) refusal_of read) }
+{
+    let mut text = ArrayString::new();
+    if let Ok(number) = read {
+        let mut digits = itoa::Buffer::new();
+        text.push_str("; --lenient reads ");
+        text.push_str(digits.format(number));
+    }
+    text
+}
+
+/// Returns the number that lenient reading returns of a text.
+///
+/// # Errors
+///
+/// Returns an error if the text does not parse as an `i128`.
+#[tactic(auto, using(regroup_shared::proofs::ReadingLemmas::number_read_from_parse))]
+fn number_read<F: Format>(text: &str, from: &F) -> Result<i128, Error>
+    ensures { result_map_both (λ number. number) refusal_of result ≡ number_read (F.answers from.now) text.now }
+{
+    text.parse_formatted(from)
 }
 
 /// Returns which byte it is that so many others are before, counted from 1.

@@ -6,7 +6,7 @@ use Rattle.std.proofs.KnownBytes.{Appends-kept}
 use Rattle.num_format.specs.Format.{FormatData}
 use Rattle.num_format.specs.Writing.{StopsWithin}
 use Rattle.regroup_lines.specs.Fault.{Fault, fault_of}
-use Rattle.regroup_lines.specs.Fault.Fault.{TooMany, TooLong, FewFields, Read, NotText, Line, Write, Report}
+use Rattle.regroup_lines.specs.Fault.Fault.{TooMany, TooLong, FewFields, Read, NotText, FieldNotText, Line, Field, Write, Report}
 use Rattle.regroup_lines.specs.Lines.{Regrouped}
 use Rattle.regroup_lines.specs.Sending.{ReceivesPrefix, RegroupsNaming, Sends}
 use Rattle.regroup_lines.specs.declared.Summary.{Summary}
@@ -49,7 +49,9 @@ module _ (rules : Rules) (name : List ℕ) (from to : FormatData) (q r s a b c d
   Sends-kept all told (Err (FewFields number)) sends = (sends.0, Appends-kept a b c _ sends.1 kept, sends.2)
   Sends-kept all told (Err Read) sends = (sends.0, Appends-kept a b c _ sends.1 kept, sends.2)
   Sends-kept all told (Err (NotText number)) sends = (sends.0, Appends-kept a b c _ sends.1 kept, sends.2)
+  Sends-kept all told (Err (FieldNotText number field)) sends = (sends.0, Appends-kept a b c _ sends.1 kept, sends.2)
   Sends-kept all told (Err (Line number refusal)) sends = (sends.0, Appends-kept a b c _ sends.1 kept, sends.2)
+  Sends-kept all told (Err (Field number field refusal)) sends = (sends.0, Appends-kept a b c _ sends.1 kept, sends.2)
 
   flushed : RegroupsNaming rules name most_lines from to r s a c d e result
   flushed = subst (λ o. RegroupsNaming rules name most_lines from to o s a c d e result) same (record {
@@ -79,6 +81,8 @@ of_line (fault.TooLong number) read write report many = refl
 of_line (fault.FewFields number) read write report many = refl
 of_line fault.Read read write report many = absurd (read refl)
 of_line (fault.NotText number) read write report many = refl
+of_line (fault.FieldNotText number field) read write report many = refl
 of_line (fault.Line number error) read write report many = refl
+of_line (fault.Field number field error) read write report many = refl
 of_line fault.Write read write report many = absurd (write refl)
 of_line fault.Report read write report many = absurd (report refl)

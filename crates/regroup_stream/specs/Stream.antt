@@ -3,7 +3,7 @@ use Rattle.std.specs.Prelude.{◌≡◌, ℕ, ◌-◌, ◌^◌, Bool, true, fals
 use Rattle.std.specs.declared.io.ErrorKind.{ErrorKind}
 use Rattle.num_format.specs.Format.{FormatData}
 use Rattle.regroup_lines.specs.Fault.{Fault}
-use Rattle.regroup_lines.specs.Fault.Fault.{TooMany, TooLong, FewFields, Read, NotText, Line, Write, Report}
+use Rattle.regroup_lines.specs.Fault.Fault.{TooMany, TooLong, FewFields, Read, NotText, FieldNotText, Line, Field, Write, Report}
 use Rattle.regroup_lines.specs.Messages.{fault_message}
 use Rattle.regroup_lines.specs.Sending.{RegroupsNaming}
 use Rattle.regroup_lines.specs.declared.Summary.{Summary}
@@ -22,7 +22,9 @@ is_of_line (TooLong number) = true
 is_of_line (FewFields number) = true
 is_of_line Read = false
 is_of_line (NotText number) = true
+is_of_line (FieldNotText number field) = true
 is_of_line (Line number refusal) = true
+is_of_line (Field number field refusal) = true
 is_of_line Write = false
 is_of_line Report = false
 

@@ -22,7 +22,7 @@ returns-in_err-check_field g c to =
     rw (p.1, p.2) (sym (check-first rules list from to c.args.number c.fields.count
     (fields_written rules list from to c.args.number 0 (slice_split (λ b. b == d) text)) (slice_split (λ b. b == d) (drop c.fields.start text))
     (c.fields.invariant.2 to) field split.0 split.1 fault
-    (subst (λ b. Err fault ≡ checked (field_written rules from to c.args.number b field)) c.contain.ensures (c.in_err-check_field.ensures to))))
+    (subst (λ b. Err fault ≡ checked (field_written rules from to c.args.number (c.fields.count + 1) b field)) c.contain-is_chosen.ensures (c.in_err-check_field.ensures to))))
 
 pub returns-then-end-text : goal.returns-then-end-text
 returns-then-end-text g c to =
@@ -37,7 +37,7 @@ returns-then-end-text g c to =
     ∙ sym (check-later rules list from to c.args.number c.fields.count
     (fields_written rules list from to c.args.number 0 (slice_split (λ b. b == d) text)) (slice_split (λ b. b == d) (drop c.fields.start text))
     (c.fields.invariant.2 to) field [] (c.field_end-end.ensures.last last)
-    (subst (λ b. Ok tt ≡ checked (field_written rules from to c.args.number b field)) c.contain.ensures (c.in_ok-check_field.ensures to)))
+    (subst (λ b. Ok tt ≡ checked (field_written rules from to c.args.number (c.fields.count + 1) b field)) c.contain-is_chosen.ensures (c.in_ok-check_field.ensures to)))
 
 pub fields-preserved : goal.fields-preserved
 fields-preserved g c =
@@ -53,7 +53,7 @@ fields-preserved g c =
       λ to. check-later rules list from to c.args.number c.fields.count
           (fields_written rules list from to c.args.number 0 (slice_split (λ b. b == d) text)) (slice_split (λ b. b == d) (drop c.fields.start text))
           (c.fields.invariant.2 to) field _ (c.field_end-end.ensures.more below)
-          (subst (λ b. Ok tt ≡ checked (field_written rules from to c.args.number b field)) c.contain.ensures (c.in_ok-check_field.ensures to)),
+          (subst (λ b. Ok tt ≡ checked (field_written rules from to c.args.number (c.fields.count + 1) b field)) c.contain-is_chosen.ensures (c.in_ok-check_field.ensures to)),
     )
 
 pub returns : goal.returns

@@ -31,7 +31,7 @@ returns-in_err-send_field g c =
     rw (p.1, p.2) (sends-any d (fields_written rules list from to c.args.number 0 (slice_split (λ b. b == d) text)) a e (Err fault)
     (λ texts is. sent-stop rules list from to c.args.number d a c.fields.count texts (slice_split (λ b. b == d) (drop c.fields.start text)) b
     (c.fields.invariant.2 texts is) field split.0 split.1 (Unit {0}) e fault
-    (subst (λ x. SendsIfOk {T = Unit {0}} (field_written rules from to c.args.number x field) b e (Err fault)) c.contain-is_chosen.ensures c.in_err-send_field.ensures)))
+    (subst (λ x. SendsIfOk {T = Unit {0}} (field_written rules from to c.args.number (c.fields.count + 1) x field) b e (Err fault)) c.contain-is_chosen.ensures c.in_err-send_field.ensures)))
 
 pub returns-then-end-text : goal.returns-then-end-text
 returns-then-end-text g c =
@@ -49,7 +49,7 @@ returns-then-end-text g c =
     sends-any d (fields_written rules list from to c.args.number 0 (slice_split (λ b. b == d) text)) a _ _
     (λ texts is. sent-end rules list from to c.args.number d a c.fields.count texts (slice_split (λ b. b == d) (drop c.fields.start text)) b
     (c.fields.invariant.2 texts is) field [] (c.field_end-end.ensures.last last) e tt
-    (subst (λ x. SendsIfOk {T = Unit {0}} (field_written rules from to c.args.number x field) b e (Ok tt)) c.contain-is_chosen.ensures c.in_ok-send_field.ensures)
+    (subst (λ x. SendsIfOk {T = Unit {0}} (field_written rules from to c.args.number (c.fields.count + 1) x field) b e (Ok tt)) c.contain-is_chosen.ensures c.in_ok-send_field.ensures)
     _ _ refl c.send_bytes.ensures)
 
 pub returns-in_err-send_bytes : goal.returns-in_err-send_bytes
@@ -71,7 +71,7 @@ returns-in_err-send_bytes g c =
     rw (p.1, p.2) (sends-any d (fields_written rules list from to c.args.number 0 (slice_split (λ b. b == d) text)) a _ (Err fault)
     (λ texts is. sent-cut rules list from to c.args.number d a c.fields.count texts (slice_split (λ b. b == d) (drop c.fields.start text)) b
     (c.fields.invariant.2 texts is) field (slice_split (λ b. b == d) (drop (end + 1) text)) (c.field_end-end.ensures.more below) e tt
-    (subst (λ x. SendsIfOk {T = Unit {0}} (field_written rules from to c.args.number x field) b e (Ok tt)) c.contain-is_chosen.ensures c.in_ok-send_field.ensures)
+    (subst (λ x. SendsIfOk {T = Unit {0}} (field_written rules from to c.args.number (c.fields.count + 1) x field) b e (Ok tt)) c.contain-is_chosen.ensures c.in_ok-send_field.ensures)
     (Unit {0}) _ fault (omega (arith, length-slice_split (λ b. b == d) (drop (end + 1) text))) c.in_err-send_bytes.ensures))
 
 pub fields-preserved : goal.fields-preserved
@@ -92,7 +92,7 @@ fields-preserved g c =
       omega arith,
       λ texts is. sent-next rules list from to c.args.number d a c.fields.count texts (slice_split (λ b. b == d) (drop c.fields.start text)) b
           (c.fields.invariant.2 texts is) field (slice_split (λ b. b == d) (drop (end + 1) text)) (c.field_end-end.ensures.more below) e tt
-          (subst (λ x. SendsIfOk {T = Unit {0}} (field_written rules from to c.args.number x field) b e (Ok tt)) c.contain-is_chosen.ensures c.in_ok-send_field.ensures)
+          (subst (λ x. SendsIfOk {T = Unit {0}} (field_written rules from to c.args.number (c.fields.count + 1) x field) b e (Ok tt)) c.contain-is_chosen.ensures c.in_ok-send_field.ensures)
           _ (tt {0}) (omega (arith, length-slice_split (λ b. b == d) (drop (end + 1) text))) c.in_ok-send_bytes.ensures,
     )
 
