@@ -15,10 +15,10 @@ use Rattle.num_format_decimal.specs.Text.{decimal_text}
 use Rattle.regroup_shared.specs.Reading.{number_read}
 use Rattle.regroup_shared.specs.Sending.{line}
 use Rattle.regroup_lines.specs.Decimals.{decimal_read}
-use Rattle.regroup_lines.specs.Fault.{Fault, are_any}
+use Rattle.regroup_lines.specs.Fault.{Fault, are_any, in_field}
 use Rattle.regroup_lines.specs.Fault.Fault.{TooMany, TooLong, FewFields, NotText, Line}
 use Rattle.regroup_lines.specs.Laws.{SplitLaw, SplitsInto}
-use Rattle.regroup_lines.specs.Lines.{Regrouped, between, body_named, body_or_itself, fault_named, fault_written, field_written, fields_written, line_named, line_written, number_written, numbers_replaced, place_written, regrouped, regrouped_parts, returning, text_named, text_written, with_first, writing_line}
+use Rattle.regroup_lines.specs.Lines.{Regrouped, between, body_named, body_or_itself, fault_named, fault_written, field_written, fields_written, line_named, line_written, number_replaced, number_written, numbers_replaced, place_written, regrouped, regrouped_parts, returning, text_named, text_written, with_first, writing_line}
 use Rattle.regroup_lines.specs.Lines.Stop.{Ended}
 use Rattle.regroup_lines.specs.Places.{are_enough, is_chosen, trimmed}
 use Rattle.regroup_lines.specs.declared.rules.FieldRange.{FieldRange}
@@ -46,6 +46,10 @@ with_first-joined (Err fault) xs = refl
 between-map : (before after : List ℕ) (x : Result (List ℕ) Fault) → result_ok (between before after x) ≡ option_map (λ text. before ++ (text ++ after)) (result_ok x)
 between-map before after (Ok text) = refl
 between-map before after (Err fault) = refl
+
+named-ok : (name : Fault → Fault) (x : Result (List ℕ) Fault) → result_ok (result_map_both (λ text. text) name x) ≡ result_ok x
+named-ok name (Ok text) = refl
+named-ok name (Err fault) = refl
 
 join-map : (d : ℕ) (x : Result (List (List ℕ)) Fault) → result_ok (result_map_both (join_with_byte d) (λ fault. fault) x) ≡ option_map (join_with_byte d) (result_ok x)
 join-map d (Ok texts) = refl
@@ -91,9 +95,12 @@ module _ (rules : Rules) (from to : FormatData) (n m : ℕ) where
       ∙ ap (option_map (λ number. take place.0 text ++ (number ++ drop place.1 text))) (number-same rules.reading at)
       ∙ sym (between-map (take place.0 text) (drop place.1 text) (number_written rules.reading from to m at)))
 
-  field-same : (chosen : Bool) (field : List ℕ) → result_ok (field_written rules from to n chosen field) ≡ result_ok (field_written rules from to m chosen field)
-  field-same true field = place-same field (trimmed field (0, length field))
-  field-same false field = refl
+  field-same : (k : ℕ) (chosen : Bool) (field : List ℕ) → result_ok (field_written rules from to n k chosen field) ≡ result_ok (field_written rules from to m k chosen field)
+  field-same k true field =
+      named-ok (in_field k) (number_replaced rules from to n field)
+      ∙ place-same field (trimmed field (0, length field))
+      ∙ sym (named-ok (in_field k) (number_replaced rules from to m field))
+  field-same k false field = refl
 
   enough-same : (is : Bool) → result_ok (ended is n) ≡ result_ok (ended is m)
   enough-same true = refl
@@ -104,10 +111,10 @@ module _ (rules : Rules) (from to : FormatData) (n m : ℕ) where
   fields-same list before [] = enough-same (are_enough list before)
   fields-same list before (field ∷ fields) =
       let chosen = is_chosen list (before + 1) in
-      with_first-joined (field_written rules from to n chosen field) (fields_written rules list from to n (before + 1) fields)
-      ∙ ap (λ text. joined text (result_ok (fields_written rules list from to n (before + 1) fields))) (field-same chosen field)
-      ∙ ap (joined (result_ok (field_written rules from to m chosen field))) (fields-same list (before + 1) fields)
-      ∙ sym (with_first-joined (field_written rules from to m chosen field) (fields_written rules list from to m (before + 1) fields))
+      with_first-joined (field_written rules from to n (before + 1) chosen field) (fields_written rules list from to n (before + 1) fields)
+      ∙ ap (λ text. joined text (result_ok (fields_written rules list from to n (before + 1) fields))) (field-same (before + 1) chosen field)
+      ∙ ap (joined (result_ok (field_written rules from to m (before + 1) chosen field))) (fields-same list (before + 1) fields)
+      ∙ sym (with_first-joined (field_written rules from to m (before + 1) chosen field) (fields_written rules list from to m (before + 1) fields))
 
   numbers-same : (where_is : Span) (text : List ℕ) → result_ok (numbers_replaced where_is rules from to n text) ≡ result_ok (numbers_replaced where_is rules from to m text)
   numbers-same span.Line text = place-same text (0, length text)
