@@ -245,9 +245,7 @@ fn parse_decimal<F: Format>(text: &[u8], format: &F) -> Result<Decimal, ParseDec
 }
 
 /// Returns the same of a text with separators and decimals, or of a long one.
-///
-/// It is a function of its own, so that short texts are read without its space.
-#[inline(never)]
+#[inline(always)]
 fn parse_parts<F: Format>(text: &[u8], format: &F) -> Result<Decimal, ParseDecimalError>
     requires { IsUtf8 text.now }
     ensures { MatchResult result

@@ -83,9 +83,7 @@ fn ends_separator<F: Format>(text: &[u8], place: usize, format: &F) -> bool
 }
 
 /// Returns the whole number that a text spells.
-///
-/// It is a function of its own, so that short texts are read without its space.
-#[inline(never)]
+#[inline(always)]
 pub(crate) fn read_whole_number<F: Format>(text: &[u8], format: &F) -> Option<Decimal>
     ensures { IfSome result (λ d. ParsesDecimal (F.answers format.now) text.now d) }
 {
