@@ -1,6 +1,6 @@
 -- No text is at fault of a write that failed.
 use Rattle.std.proofs.Common.{◌≡◌, ℕ, ◌+◌, ◌==◌, Bool, true, false, List, [], ◌∷◌, length, Option, Some, None, Result, Ok, Err, if◌then◌else◌, refl, ◌∙◌}
-use Rattle.std.specs.Prelude.{ℤ, ◌-◌, nat_le, ◌&&◌, take, drop, slice_range, ⊤}
+use Rattle.std.specs.Prelude.{ℤ, nat_le, ◌&&◌, take, drop, slice_range, ⊤}
 use Rattle.std.specs.List.{join_with_byte, slice_split}
 use Rattle.std.specs.Option.{ok_or}
 use Rattle.std.specs.Result.{result_map_both}
@@ -9,12 +9,10 @@ use Rattle.num_format.specs.Format.{FormatData}
 use Rattle.num_format.specs.Refusal.{Refusal}
 use Rattle.num_format.specs.Text.{text_of}
 use Rattle.regroup_shared.specs.Reading.{number_read}
-use Rattle.regroup_shared.specs.Sending.{line}
 use Rattle.regroup_lines.specs.Fault.{Fault, in_field, is_unsent}
 use Rattle.regroup_lines.specs.Fault.Fault.{TooMany, TooLong, FewFields, Read, NotText, FieldNotText, Line, Field, Write, Report}
 use Rattle.regroup_lines.specs.Lines.{between, body_or_itself, body_written, fault_written, field_written, fields_written, number_in_text, number_written, numbers_replaced, place_written, text_written, with_first}
 use Rattle.regroup_lines.specs.Places.{are_enough, is_chosen, trimmed}
-use Rattle.regroup_lines.specs.declared.fault.RegroupFault.TheVariants as fault
 use Rattle.regroup_lines.specs.declared.rules.FieldRange.{FieldRange}
 use Rattle.regroup_lines.specs.declared.rules.Invalid.{Invalid}
 use Rattle.regroup_lines.specs.declared.rules.Invalid.TheVariants.{Abort, Fail, Ignore, Warn}

@@ -1,5 +1,5 @@
 -- The number in the text of a line.
-use Rattle.std.proofs.Common.{◌≡◌, ℕ, Bool, true, false, List, ◌++◌, Option, None, Result, Ok, Err, refl, sym, ap, subst, ◌∙◌}
+use Rattle.std.proofs.Common.{◌≡◌, ℕ, Bool, true, false, List, ◌++◌, Option, None, Result, Ok, Err, refl, sym, ap, subst}
 use Rattle.std.specs.Prelude.{ℤ, IsUtf8, ◌↔◌}
 use Rattle.std.specs.Result.{result_map_both, result_or}
 use Rattle.std.specs.Str.{is_utf8}

@@ -1,13 +1,12 @@
 -- What regrouping returns where it names no fault.
 use Rattle.std.proofs.Common.{◌≡◌, ◌≢◌, ℕ, ◌+◌, ◌==◌, Bool, true, false, List, [], ◌∷◌, ◌++◌, length, Option, Some, Result, Ok, Err, if◌then◌else◌, refl, ap, subst, ◌∙◌, arith}
-use Rattle.std.specs.Prelude.{◌-◌, nat_le, nat_lt}
+use Rattle.std.specs.Prelude.{nat_le, nat_lt}
 use Rattle.std.specs.List.{slice_split}
 use Rattle.std.specs.Result.{result_map_both}
 use Rattle.std.specs.Io.KnownBytes.{Appends}
 use Rattle.std.proofs.lemmas.List.{length-append}
 use Rattle.num_format.specs.Format.{FormatData}
 use Rattle.num_format.specs.Writing.{StopsWithin}
-use Rattle.regroup_shared.specs.Sending.{line}
 use Rattle.regroup_lines.specs.Fault.{Fault}
 use Rattle.regroup_lines.specs.Fault.Fault.{FewFields, Line, NotText, FieldNotText, Field, Read, Report, TooLong, TooMany, Write}
 use Rattle.regroup_lines.specs.Lines.{Regrouped, Stop, line_begun, line_named, line_written, long_begun, stop_returned, body_named, body_written, fault_named, fault_written, text_named, regrouped, regrouped_parts, regrouped_rest, returning, writing_line}
@@ -15,7 +14,6 @@ use Rattle.regroup_lines.specs.Lines.Stop.{Ended, Endless, Failed, Unread}
 use Rattle.regroup_lines.specs.Messages.{messages}
 use Rattle.regroup_lines.specs.Sending.{Regroups, RegroupsNaming, Sends}
 use Rattle.regroup_lines.specs.declared.Summary.{Summary}
-use Rattle.regroup_lines.specs.declared.fault.RegroupFault.TheVariants as fault
 use Rattle.regroup_lines.specs.declared.rules.Invalid.{Invalid}
 use Rattle.regroup_lines.specs.declared.rules.Invalid.TheVariants.{Abort, Fail, Ignore, Warn}
 use Rattle.regroup_lines.specs.declared.rules.Rules.{Rules}

@@ -119,6 +119,8 @@ pub fn regroup_lines<R: Read, W: Write, F: Format, G: Format>(
 /// Returns the first fault, of those of [`regroup_lines`], that is not passed on.
 /// [`TooMany`](RegroupFault::TooMany) is that a byte follows the last of these lines, and
 /// [`Report`](RegroupFault::Report) that a write to `e` failed. The line of that message is not sent.
+/// Where fields are chosen, [`FewFields`](RegroupFault::FewFields) is that a line has too few, and
+/// [`FieldNotText`](RegroupFault::FieldNotText) and [`Field`](RegroupFault::Field) are in place of `NotText` and `Line`.
 pub fn regroup_at_most<R: Read, W: Write, E: Write, F: Format, G: Format>(
     most: u64,
     rules: &Rules,
