@@ -14,7 +14,7 @@ import sys
 from api_page import CRATES, links, sections
 
 # The crates of programs and of callers that have an interface for others.
-MORE = ["regroup_shared", "regroup_commands", "regroup_options", "uses_money", "uses_settings"]
+MORE = ["regroup_shared", "regroup_commands", "regroup_options", "regroup_lines", "uses_money", "uses_settings"]
 
 # A name in brackets, with the path to it where that stands behind.
 LINK = re.compile(r"\[`([^`]+)`\](?!\()|\[[^]]+\]\(([^)]+)\)")

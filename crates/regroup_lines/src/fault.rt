@@ -10,9 +10,8 @@ use std::fmt;
 /// Why [`regroup_lines`](crate::regroup_lines) or [`regroup_at_most`](crate::regroup_at_most) stopped.
 /// Lines are numbered from 1, and so are the fields of a line.
 ///
-/// ```text
-/// TooLong(2)        displays as  line 2: More than 4096 bytes.
-/// Line(3, error)    displays as  line 3: Failed to parse x into a number.
+/// ```rust
+/// println!(rt; "{}", RegroupFault::TooLong(2))    // line 2: More than 4096 bytes.
 /// ```
 #[derive(Clone, Debug, Drop, PartialEq, Eq)]
 pub enum RegroupFault {
@@ -41,8 +40,8 @@ pub enum RegroupFault {
 impl RegroupFault {
     /// Returns the message, which needs no memory and cannot fail.
     ///
-    /// ```text
-    /// TooLong(2).message()    // "line 2: More than 4096 bytes."
+    /// ```rust
+    /// RegroupFault::TooLong(2).message()    // "line 2: More than 4096 bytes."
     /// ```
     pub fn message(&self) -> ArrayString<MAX_SENT_LEN>
         ensures { result.bytes ≡ message_of_fault (fault_of self.now) }

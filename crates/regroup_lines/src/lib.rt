@@ -4,9 +4,11 @@
 //! another. A line ends before a newline, the byte 10. Bytes after the last newline are a line, unless
 //! there are none.
 //!
-//! ```text
+//! ```rust
 //! let mut reader = "1,000000\n-5".as_bytes();
-//! regroup_lines(&mut reader, &mut out, &Locale::en, &Locale::en_IN)    // Ok(2), and "10,00,000\n-5\n" in `out`
+//! let mut out = Vec::new(alloc);
+//! regroup_lines(&mut reader, &mut out, &Locale::en, &Locale::en_IN)    // Ok(2)
+//! str::from_utf8(&out)                                                 // Ok("10,00,000\n-5\n")
 //! ```
 //!
 //! The input is read into an array of 4,097 bytes, and parsed there. Only [`field_list`] allocates.
@@ -76,6 +78,12 @@ pub struct Summary {
 /// Parses each line of `r` as an `i128` under the format `from`, and writes the number under the format
 /// `to`, and a newline, to `w`. Returns the number of lines.
 ///
+/// ```rust
+/// let (mut reader, mut out) = ("1,000\n(7)".as_bytes(), Vec::new(alloc));
+/// regroup_lines(&mut reader, &mut out, &Locale::en, &Locale::de)    // Ok(2)
+/// str::from_utf8(&out)                                              // Ok("1.000\n7\n")
+/// ```
+///
 /// Of each line, all digits and a minus sign at its start are parsed. Each character that is not numeric is ignored,
 /// as [`parse_formatted`](num_format::parsing::ParseFormatted::parse_formatted) does. So a carriage
 /// return before the newline is ignored too, but counts as a byte of the line. A line and its newline
@@ -113,6 +121,21 @@ pub fn regroup_lines<R: Read, W: Write, F: Format, G: Format>(
 
 /// Regroups the lines of `r`, at most this many, as the rules say. The messages that name faults are sent to `e`, and have
 /// the name of the input.
+///
+/// ```rust
+/// let rules = Rules {
+///     span: Span::Line,
+///     reading: Reading::Strict,
+///     header_lines: 1,
+///     passes_empty: false,
+///     invalid: Invalid::Warn,
+/// };
+/// let (mut reader, mut out) = ("amount\n1,000\n12x\n".as_bytes(), Vec::new(alloc));
+/// let mut err = Vec::new(alloc);
+/// let summary = regroup_at_most(9, &rules, "-", &mut reader, &mut out, &mut err, &Locale::en, &Locale::de);
+/// summary                 // Ok(Summary { lines: 3, has_faults: true })
+/// str::from_utf8(&out)    // Ok("amount\n1.000\n12x\n")
+/// ```
 ///
 /// # Errors
 ///

@@ -14,9 +14,10 @@ use std::alloc::{AllocError, Global};
 /// Returns `None` if a part is none of these: it is empty, has another character or a number that a `u64` does not
 /// hold, or decreases, or if a number is 0. Parts may be in any order, and name a field twice.
 ///
-/// ```text
-/// field_list(alloc, "1,3-")?     // the ranges from 1 to 1, and from 3 on
-/// field_list(alloc, "5-3")?      // None
+/// ```rust
+/// field_list(alloc, "3-5")?    // Some([FieldRange { first: 3, last: Some(5) }])
+/// field_list(alloc, "2-")?     // Some([FieldRange { first: 2, last: None }])
+/// field_list(alloc, "5-3")?    // None
 /// ```
 ///
 /// # Errors

@@ -44,8 +44,9 @@ pub const MAX_FAULT_MESSAGE_LEN: usize = MAX_NAME_LEN + MAX_LINE_TEXT_LEN + MAX_
 /// Returns the message that names the fault of a line, with a newline, in an input of this name that is read under the
 /// format. It is empty for a fault that no line has.
 ///
-/// ```text
-/// fault_message("x.tsv", Reading::Strict, &TooLong(7), &Locale::en)    // regroup-lines: x.tsv:7: more than 4096 bytes
+/// ```rust
+/// let fault = RegroupFault::TooLong(7);
+/// fault_message("x.tsv", Reading::Strict, &fault, &Locale::en)    // "regroup-lines: x.tsv:7: more than 4096 bytes\n"
 /// ```
 pub fn fault_message<F: Format>(
     name: &str,

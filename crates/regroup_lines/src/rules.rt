@@ -31,10 +31,8 @@ pub enum Invalid {
 
 /// Fields that follow one another, by their numbers, which are counted from 1.
 ///
-/// ```text
-/// FieldRange { first: 3, last: Some(5) }    // the fields 3, 4 and 5: a line has to have all of them
-/// FieldRange { first: 2, last: None }       // all fields from 2 on: a line has to have field 2
-/// ```
+/// The fields 3, 4 and 5 are `FieldRange { first: 3, last: Some(5) }`: a line has to have all of them. All fields from 2
+/// on are `FieldRange { first: 2, last: None }`: a line has to have field 2.
 #[derive(Clone, Copy, Debug, PartialEq, Eq)]
 pub struct FieldRange {
     /// The number of the first field.

@@ -62,9 +62,19 @@ pub const CLOSED: u8 = 141;
 ///   write failed. So too where there are more lines than a `u64` counts. Or else `err` did not receive all of its message.
 /// - [`CLOSED`] (141): a write or a flush failed since nothing reads `out`, and `err` received nothing.
 ///
-/// ```text
+/// ```rust
+/// let rules = Rules {
+///     span: Span::Line,
+///     reading: Reading::Strict,
+///     header_lines: 0,
+///     passes_empty: false,
+///     invalid: Invalid::Abort,
+/// };
 /// let formats = formats_named(alloc, rules.reading, Source::Word("en"), Source::Word("de")).unwrap();
-/// run(&rules, &formats, "-", b"1,000\n".as_slice(), &mut out, &mut err)    // 0, and "1.000\n" in `out`
+/// let mut out = BufWriter::new(alloc, Vec::new(alloc))?;
+/// let mut err = Vec::new(alloc);
+/// run(&rules, &formats, "-", "1,000\n".as_bytes(), &mut out, &mut err)    // 0
+/// str::from_utf8(out.get_ref())                                           // Ok("1.000\n")
 /// ```
 pub fn run<R: Read + Drop, O: Write + Drop, E: Write>(
     rules: &Rules,
@@ -84,9 +94,10 @@ pub fn run<R: Read + Drop, O: Write + Drop, E: Write>(
 /// Sends the message of an input that cannot be opened, and returns the status: [`FAULTY`], or [`FAILED`] if not all
 /// of the message could be sent.
 ///
-/// ```text
-/// refuse("x.tsv", ErrorKind::NotFound, &mut err)    // 1, and in `err`
-/// regroup-lines: x.tsv: cannot open: No such file or directory
+/// ```rust
+/// let mut err = Vec::new(alloc);
+/// refuse("x.tsv", io::ErrorKind::NotFound, &mut err)    // 1
+/// str::from_utf8(&err)    // Ok("regroup-lines: x.tsv: cannot open: No such file or directory\n")
 /// ```
 pub fn refuse<E: Write>(name: &str, kind: ErrorKind, err: &mut E) -> u8
     ensures { Finishes name.now (Unopened kind) result (E.contents err.old) (E.contents err.new) }

@@ -77,10 +77,10 @@ impl Misuse<'_> {
     /// Sends the message, which shows the word in quotes or names the file, and returns the status: [`MISUSED`], or
     /// [`FAILED`] if not all of the message could be sent.
     ///
-    /// ```text
-    /// NoFormat("xx").send(&mut err)    // 2, and in `err`
-    /// regroup-lines: 'xx' names no format
-    /// Try 'regroup-lines --help' for more information.
+    /// ```rust
+    /// let mut err = Vec::new(alloc);
+    /// Misuse::NoFormat("xx").send(&mut err)                                  // 2
+    /// err.starts_with(b"regroup-lines: 'xx' names no format\nTry 'regroup-")    // true
     /// ```
     pub fn send<E: Write>(&self, err: &mut E) -> u8
         ensures { SendsMisuse (wrong_of self.now) result (E.contents err.old) (E.contents err.new) }
@@ -123,9 +123,9 @@ fn misuse_message(word: &str, cause: &str) -> ArrayString<MAX_FAULT_MESSAGE_LEN>
 /// fields, or a locale as [`Locale::lookup`] finds it, such as `de_DE.UTF-8`. The last two colons are those before
 /// and after GROUPING, so `custom:::Standard:-` has the separator `:`.
 ///
-/// ```text
-/// let (from, to) = (Source::Word("C"), Source::File("x.json", Ok(b"{\"dec\":\".\", .. }".as_slice())));
-/// formats_named(alloc, Reading::Strict, from, to)    // the formats of en-US-POSIX and of the file
+/// ```rust
+/// formats_named(alloc, Reading::Strict, Source::Word("C"), Source::Word("de_DE.UTF-8")).is_ok()    // true
+/// formats_named(alloc, Reading::Strict, Source::Word("C"), Source::Word("xx")).err()               // Some(NoFormat("xx"))
 /// ```
 ///
 /// # Errors
