@@ -11,9 +11,10 @@ ghost use Rattle.num_format_text.specs.Format.{FormatData};
 ghost use Rattle.num_format_int.specs.Grouped.{stands, grouped, printed_separator};
 ghost use Rattle.num_format_int.specs.Kind.{Kind};
 ghost use Rattle.num_format_parsing.specs.Reading.{denoted, figures, is_other_numeral};
-ghost use Rattle.num_format_parsing.specs.Strict.{SpellsNumber, ParsesStrictly, IsOutOfRange, IsCause, IsExpected, begins, unread, unexpected, sign_len, strict_message_of};
+ghost use Rattle.num_format_parsing.specs.Strict.{SpellsNumber, ParsesStrictly, IsCause, IsExpected, begins, unread, unexpected, sign_len, strict_message_of};
 ghost use Rattle.num_format_parsing.specs.Parts.{HasPlainSign, HasReadNumber, IsRead, IsUnspelled};
 ghost use Rattle.num_format_parsing.specs.Shapes.{BeginsWithDigit, byte_figures};
+ghost use Rattle.num_format_parsing.specs.declared.strict.StrictError.TheVariants as cause;
 
 use crate::numeral::{has_digit_in_symbol, has_numeral_in_symbol};
 use crate::parsing::{Accumulator, SAFE_FIGURES, most_figures, parse};
@@ -78,10 +79,7 @@ pub(crate) fn parse_strict<N: Sealed, F: Format>(
         (λ e. IsCause N.kind (F.answers format.now) bytes.now e) }
 {
     if let Some(result) = parse_directly(bytes, format) {
-        return match result {
-            Ok(number) => Ok(number),
-            Err(OutOfRange) => Err(StrictError::OutOfRange),
-        };
+        return result;
     }
     // Most texts are short: their digits fit 64 bits, which take less time than 128. Whether a type is wide is
     // known where the code is compiled.
@@ -176,17 +174,13 @@ fn parse_rest<N: Sealed, F: Format, A: Accumulator>(
 /// A short text has at most so many bytes, as those of a minus sign and three digits.
 pub(crate) const SHORT_LEN: usize = 4;
 
-/// Why a text is refused that spells a number.
-#[derive(Clone, Copy)]
-pub(crate) struct OutOfRange;
-
-/// Returns the number that a text spells, or that parsing refuses it. It may return `None` for any text, and does
+/// Returns the number that a text spells, or that it is out of range. It may return `None` for any text, and does
 /// not for most that people write.
 #[inline(always)]
-fn parse_directly<N: Sealed, F: Format>(text: &[u8], format: &F) -> Option<Result<N, OutOfRange>>
+fn parse_directly<N: Sealed, F: Format>(text: &[u8], format: &F) -> Option<Result<N, StrictError>>
     ensures { IfSome result (λ answer. MatchResult answer
         (λ n. ParsesStrictly N.kind (F.answers format.now) text.now (N.value n))
-        (λ _. IsOutOfRange N.kind (F.answers format.now) text.now)) }
+        (λ e. (e ≡ cause.OutOfRange) × IsCause N.kind (F.answers format.now) text.now e)) }
 {
     if text.len() <= SHORT_LEN {
         parse_short(text, format)
@@ -203,11 +197,11 @@ fn parse_directly<N: Sealed, F: Format>(text: &[u8], format: &F) -> Option<Resul
 pub(crate) fn parse_short<N: Sealed, F: Format>(
     text: &[u8],
     format: &F,
-) -> Option<Result<N, OutOfRange>>
+) -> Option<Result<N, StrictError>>
     requires { length text.now ≤ SHORT_LEN }
     ensures { IfSome result (λ answer. MatchResult answer
         (λ n. ParsesStrictly N.kind (F.answers format.now) text.now (N.value n))
-        (λ _. IsOutOfRange N.kind (F.answers format.now) text.now)) }
+        (λ e. (e ≡ cause.OutOfRange) × IsCause N.kind (F.answers format.now) text.now e)) }
 {
     if !text.last()?.is_ascii_digit() {
         return None;
@@ -221,11 +215,11 @@ pub(crate) fn parse_short<N: Sealed, F: Format>(
 ///
 /// The text is looked at before the format is asked for anything, so that others are left early.
 #[inline(always)]
-fn parse_groups<N: Sealed, F: Format>(text: &[u8], format: &F) -> Option<Result<N, OutOfRange>>
+fn parse_groups<N: Sealed, F: Format>(text: &[u8], format: &F) -> Option<Result<N, StrictError>>
     requires { SHORT_LEN < length text.now }
     ensures { IfSome result (λ answer. MatchResult answer
         (λ n. ParsesStrictly N.kind (F.answers format.now) text.now (N.value n))
-        (λ _. IsOutOfRange N.kind (F.answers format.now) text.now)) }
+        (λ e. (e ≡ cause.OutOfRange) × IsCause N.kind (F.answers format.now) text.now e)) }
 {
     let last = text[text.len() - 1];
     let separator = text[text.len() - 4];
@@ -262,16 +256,16 @@ fn sign_of<F: Format>(text: &[u8], format: &F) -> Option<Sign>
 
 /// Returns the number of that sign and magnitude, if it is a value of the type.
 #[inline(always)]
-fn number_of<N: Sealed>(sign: Sign, magnitude: u64) -> Result<N, OutOfRange>
+fn number_of<N: Sealed>(sign: Sign, magnitude: u64) -> Result<N, StrictError>
     ensures { (f : FormatData) (t : List ℕ) (most : ℕ) → HasPlainSign f t sign.is_negative sign.len
         → most ≤ N.kind.limit - (if sign.is_negative then 1 else 0)
         → HasReadNumber f t sign.len most magnitude → MatchResult result
         (λ n. ParsesStrictly N.kind f t (N.value n))
-        (λ _. IsOutOfRange N.kind f t) }
+        (λ e. (e ≡ cause.OutOfRange) × IsCause N.kind f t e) }
 {
     match N::from_sign_and_magnitude(sign.is_negative, magnitude as u128) {
         Some(number) => Ok(number),
-        None => Err(OutOfRange),
+        None => Err(StrictError::OutOfRange),
     }
 }
 

@@ -1,4 +1,4 @@
-use Rattle.std.proofs.Common.{◌≡◌, ◌≤◌, ◌-◌, ◌∙◌, ap, arith, sym, subst}
+use Rattle.std.proofs.Common.{◌≡◌, ◌≤◌, ◌-◌, ◌∙◌, ap, arith, refl, sym, subst}
 use Rattle.std.specs.Prelude.{if◌then◌else◌}
 use Rattle.num_format_int.specs.Kind.{IsSignedValueOf, signed_number}
 use Rattle.num_format_parsing.specs.Reading.{is_negative_text}
@@ -14,6 +14,8 @@ returns-in-Some g c = λ f t most sign few read.
     parses-read k f t _ most m _ read sign.numeral limit value (c.in-Some.ensures.1 ∙ ap (λ b. signed_number b m) sign.tested)
 
 pub returns-in-None : goal.returns-in-None
-returns-in-None g c = λ f t most sign few read.
-    out_of_range-read g.N.Sealed.kind f t _ most c.args.magnitude read sign.numeral
-    (λ value. c.in-None.ensures (subst (λ b. IsSignedValueOf g.N.Sealed.kind b c.args.magnitude) (sym sign.tested) value))
+returns-in-None g c = λ f t most sign few read. (
+  refl,
+  out_of_range-read g.N.Sealed.kind f t _ most c.args.magnitude read sign.numeral
+      (λ value. c.in-None.ensures (subst (λ b. IsSignedValueOf g.N.Sealed.kind b c.args.magnitude) (sym sign.tested) value)),
+)
