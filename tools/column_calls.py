@@ -249,7 +249,7 @@ COMMENTS = [
  * Errors, in this order, after which all is as it was:
  * - NUM_FORMAT_BAD_FORMAT.
  * - NUM_FORMAT_BAD_LENGTH: offsets_length is not n + 1.
- * - NUM_FORMAT_BAD_OFFSETS: an offset is below the one before it or below 0, or the last of several is above
+ * - NUM_FORMAT_BAD_OFFSETS: of several offsets, one is below 0 or below the one before it, or the last is above
  *   bytes_length. */
 """,
     """\

@@ -257,7 +257,7 @@ int32_t num_format_parse_strict_i128(const num_format *format, const char *text,
  * - NUM_FORMAT_TOO_MANY_DECIMALS.
  * - NUM_FORMAT_MISSPELLED.
  * - NUM_FORMAT_OUT_OF_RANGE: the units are no signed number of 128 bits. Where num_format_reads_back returns 0,
- *   it may also be a text whose digits num_format_parse_i128 refuses. */
+ *   or the decimal mark has a numeric character, it may also be a text that num_format_parse_i128 refuses. */
 int32_t num_format_parse_decimal(const num_format *format, const char *text, size_t length, uint64_t *low,
                                  uint64_t *high, uint32_t *scale, size_t *at);
 
@@ -402,7 +402,7 @@ int32_t num_format_print_u128_column_len(const num_format *format, const num_for
  * Errors, in this order, after which all is as it was:
  * - NUM_FORMAT_BAD_FORMAT.
  * - NUM_FORMAT_BAD_LENGTH: offsets_length is not n + 1.
- * - NUM_FORMAT_BAD_OFFSETS: an offset is below the one before it or below 0, or the last of several is above
+ * - NUM_FORMAT_BAD_OFFSETS: of several offsets, one is below 0 or below the one before it, or the last is above
  *   bytes_length. */
 static inline int32_t num_format_parse_i8_column(
     const num_format *format, const int32_t *offsets, size_t offsets_length, const char *bytes,
