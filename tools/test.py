@@ -11,11 +11,11 @@ In this order:
    the page docs/api/ with the doc comments, which tools/doc_comments.py finds complete, and tools/column_calls.py
    the calls for columns of the library for C with what it writes. tools/counts.py finds where each number and each
    claim of README.md and docs/ comes from.
-2. `rt ci` has every proof from nothing, the tests, and each program as two compilers build it. It works
-   on a copy of the repository. With --edits that has all; else it has no must-fail edits, not the library
-   that bench/ measures, and not the crates of tests that tools/trials.py names: `rt try` runs those, with a
-   check of each access in place of a proof. The log has the time at which each crate was proved, and for
-   each edit the function and the goal that refused it.
+2. `rt ci` has every proof, but of crates that an earlier run here proved and that did not change since, the
+   tests, and each program as two compilers build it. It works on a copy of the repository. With --edits that
+   has all; else it has no must-fail edits, not the library that bench/ measures, and not the crates of tests
+   that tools/trials.py names: `rt try` runs those, with a check of each access in place of a proof. The log has
+   the time at which each crate was proved, and for each edit the function and the goal that refused it.
 3. tools/regroup_checks.py runs `regroup` with words of each status, and with outputs that are full or
    closed.
 4. tools/program_checks.py runs test_streams with such outputs, test_oracle with cases of
