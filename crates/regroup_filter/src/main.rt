@@ -8,7 +8,7 @@ mod options;
 mod words;
 
 use crate::misuse::{refuse_arguments, refuse_words};
-use crate::options::{files_of, kept_of, list_of, rules_of, words_of};
+use crate::options::{capacity_of, files_of, list_of, rules_of, words_of};
 use crate::words::Word;
 use clap::error::ErrorKind;
 use regroup_options::matches;
@@ -23,8 +23,8 @@ use std::{env, io};
 /// The bytes of each buffer.
 const CAPACITY: usize = 65536;
 
-/// Regroups the lines and exits with the status. The status is 3, and nothing is written, also where
-/// the program has no memory for its arguments and buffers.
+/// Regroups the lines and exits with the status. The status is 3 also where the program has no memory for its
+/// arguments or for the buffers of a file, and then nothing of that file is written.
 fn main(rt: HostRuntime) -> ExitCode {
     ExitCode::from(try_main(&rt).unwrap_or(FAILED))
 }
@@ -70,12 +70,12 @@ fn try_main(rt: &HostRuntime) -> io::Result<u8> {
         Ok(formats) => formats,
         Err(misuse) => return Ok(misuse.send(&mut rt.stderr())),
     };
-    let kept = kept_of(&matches, CAPACITY);
-    regroup_files(rt, &rules, &formats, kept, files_of(&matches))
+    let capacity = capacity_of(&matches, CAPACITY);
+    regroup_files(rt, &rules, &formats, capacity, files_of(&matches))
 }
 
 /// Regroups the lines of the files in turn, up to the first whose lines are not all written, and returns the highest
-/// status. A file that cannot be opened is left out. So many bytes of the output are kept until they are written.
+/// status. A file that cannot be opened is left out. The buffer of the output has this capacity.
 ///
 /// # Errors
 ///
@@ -84,10 +84,10 @@ fn regroup_files(
     rt: &HostRuntime,
     rules: &Rules,
     formats: &Formats,
-    kept: usize,
+    capacity: usize,
     names: &[&str],
 ) -> io::Result<u8> {
-    let mut out = BufWriter::with_capacity(rt.alloc(), kept, rt.stdout())?;
+    let mut out = BufWriter::with_capacity(rt.alloc(), capacity, rt.stdout())?;
     let mut err = rt.stderr();
     let mut status = REGROUPED;
     for name in names {

@@ -62,8 +62,8 @@ fn span_of<'a>(matches: &ArgMatches<'_>, list: &'a [FieldRange]) -> Option<Span<
     Some(Span::Fields(Fields { list, delimiter }))
 }
 
-/// Returns how many bytes of the output are kept until they are written, if a block has so many.
-pub(crate) fn kept_of(matches: &ArgMatches<'_>, block: usize) -> usize {
+/// Returns the capacity of the output's buffer in bytes: that of a block, or none where each line is written at once.
+pub(crate) fn capacity_of(matches: &ArgMatches<'_>, block: usize) -> usize {
     if matches.get_flag("line-buffered") {
         0
     } else {

@@ -21,7 +21,7 @@ field that LIST names, and of N- the field N.
 A number is read exactly as it is printed under FROM, grouped or not, and is written with as many decimals
 as it has. Spaces, tabs and carriage returns around it are passed on. A last line without a newline is
 written with one. Without --lenient, each decimal under FROM has to parse back from its text: FROM needs a
-minus sign, and a decimal mark that is not its separator.
+minus sign, and a decimal mark that is not a separator that it prints.
 
 A line is at fault if its number is none, or if it has too few fields or more than 4,096 bytes. With MODE abort
 no line after it is written. With fail, warn and ignore it is passed on as it is. With fail and warn a message

@@ -7,8 +7,8 @@
 //! | 1 | the lines before the one at fault; or nothing of an input that cannot be opened | its message |
 //! | 1 | with [`Invalid::Fail`] each line, or one at fault as it is | the message of each line at fault |
 //! | 2 | nothing | what is wrong with the words |
-//! | 3 | the lines before a read or a write failed | which, and why if it is known |
-//! | 141 | the lines before it was closed | nothing |
+//! | 3 | the lines before a read or a write failed | which, and why if it is known, after the messages of those lines |
+//! | 141 | the lines before it was closed | the messages of those lines |
 //!
 //! The status is 3 also where a message could not be written. That of several inputs is the highest.
 #![tactic(auto)]
@@ -58,9 +58,11 @@ pub const CLOSED: u8 = 141;
 /// - [`FAULTY`] (1): `out` received the lines before the first one at fault, and `err` its message and
 ///   a newline. Lines are numbered from 1. Or else, with [`Invalid::Fail`], as with `Warn` where a line is at fault.
 /// - [`FAILED`] (3): a read failed, also one that was interrupted, a write to `out` or a flush of it, and `err` received
-///   a message with the kind of the error if it is known. `out` received the lines before that, or a prefix of them where a
-///   write failed. So too where there are more lines than a `u64` counts. Or else `err` did not receive all of its message.
-/// - [`CLOSED`] (141): a write or a flush failed since nothing reads `out`, and `err` received nothing.
+///   a message with the kind of the error if it is known, after those of lines that were passed on. `out` received the
+///   lines before that, and what was read of a long line that is passed on, or a prefix of these where a write failed. So
+///   too where there are more lines than a `u64` counts. Or else `err` did not receive all of its messages.
+/// - [`CLOSED`] (141): a write or a flush failed since nothing reads `out`, and `err` received the messages of lines that
+///   were passed on, and no more.
 ///
 /// ```rust
 /// let rules = Rules {
