@@ -131,6 +131,7 @@ RULES = [
     ("numbers of 1 to N digits as", LINES, r"ALL_DIGITS: \S+ = 1\.\.=(\d+);"),
     ("numbers of N to 18", LINES, r"NUMFMT_DIGITS: \S+ = (\d+)\.\."),
     (r"numbers of 1 to N digits\.", LINES, r"NUMFMT_DIGITS: \S+ = 1\.\.=(\d+);"),
+    ("table of N fields", LINES, r"FIELDS: usize = (\d+);"),
     (r"\*\*N to N digits", "bench/src/table.rs", '"4 to 6 digits"', None),
     ("One to N digits", "bench/src/table.rs", r'"1 to (\d) digits"'),
     ("load, which is N where", "bench/src/documents.rs", r"which is (\d) where nothing else ran"),

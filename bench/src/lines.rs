@@ -1,5 +1,5 @@
 //! Measures a program that regroups lines beside the same program over the original crate, and
-//! beside `numfmt` of coreutils.
+//! beside what people use in its place: `numfmt` and `cut` of coreutils, `sed` and Python.
 //!
 //! Each is started anew for each run, with a file as its input and an output that is thrown away. They
 //! take turns, and the best run of each counts.
@@ -18,7 +18,7 @@ use std::time::{Duration, Instant};
 const LINES: usize = 1_000_000;
 
 /// How often each program is run on an input.
-const RUNS: usize = 10;
+const RUNS: usize = 5;
 
 /// The digits of the numbers of `i128`.
 const ALL_DIGITS: RangeInclusive<u32> = 1..=39;
@@ -26,20 +26,57 @@ const ALL_DIGITS: RangeInclusive<u32> = 1..=39;
 /// The digits of the numbers that `numfmt` is given, since it computes in floating point.
 const NUMFMT_DIGITS: RangeInclusive<u32> = 1..=18;
 
+/// The fields of a line of a table, and the number of the one that is regrouped.
+const FIELDS: usize = 10;
+const FIELD: usize = 3;
+
+/// Groups the digits of each line, as people do it by `sed`.
+const SED: &str = r":a;s/\B[0-9]\{3\}\>/.&/;ta";
+
+/// Does the same under the locale of the environment.
+const PYTHON: &str = r#"
+import locale, sys
+locale.setlocale(locale.LC_ALL, "")
+for line in sys.stdin:
+    print(locale.format_string("%d", int(line), grouping=True))
+"#;
+
+/// Does the same with the third field of each line, whose groups have commas.
+const PYTHON_FIELD: &str = r#"
+import locale, sys
+locale.setlocale(locale.LC_ALL, "")
+for line in sys.stdin:
+    fields = line.split("\t")
+    fields[2] = locale.format_string("%d", int(fields[2].replace(",", "")), grouping=True)
+    sys.stdout.write("\t".join(fields))
+"#;
+
 /// The option of this program that makes it the tool over the original crate.
 pub const LINE_TOOL: &str = "--line-tool";
 
 /// The locales of the input and the output.
 const LOCALES: [&str; 2] = ["en", "de"];
 
-/// A program that regroups lines.
+/// A program that is measured.
 struct Program {
     name: &'static str,
     path: PathBuf,
     words: Vec<&'static str>,
+    /// Whether it writes what the first one does.
+    is_compared: bool,
 }
 
 impl Program {
+    /// A program of the system.
+    fn of_system(name: &'static str, path: &str, words: &[&'static str]) -> Program {
+        Program {
+            name,
+            path: PathBuf::from(path),
+            words: words.to_vec(),
+            is_compared: true,
+        }
+    }
+
     /// The program's command, with a file as standard input.
     fn command(&self, input: &Path) -> io::Result<Command> {
         let mut command = Command::new(&self.path);
@@ -68,48 +105,90 @@ impl Program {
     }
 }
 
-/// Measures the program of this path, which is given the names of two locales, and prints and writes the
-/// table.
+/// Measures the program of this path, which is given options and the names of two locales, and prints and writes
+/// the table.
 pub fn measure(path: &str) -> Result<(), Box<dyn Error>> {
-    let port = Program {
-        name: "port",
-        path: fs::canonicalize(path)?,
-        words: LOCALES.to_vec(),
+    let path = fs::canonicalize(path)?;
+    let port = |name, options: &[&'static str]| Program {
+        name,
+        path: path.clone(),
+        words: [options, &LOCALES[..]].concat(),
+        is_compared: true,
     };
     let original = Program {
         name: "original",
         path: std::env::current_exe()?,
         words: [&[LINE_TOOL], &LOCALES[..]].concat(),
-    };
-    let numfmt = Program {
-        name: "numfmt --grouping",
-        path: PathBuf::from("numfmt"),
-        words: vec!["--grouping"],
+        is_compared: true,
     };
     let mut table = String::from(
         "| Numbers | Program | Seconds | Million lines a second | Port / program |\n|---|---|---|---|---|\n",
     );
-    let grouped = Sizes::mixed(ALL_DIGITS).numbers::<i128>(LINES);
-    let grouped = original::texts(&grouped, 0, 0);
-    table += &compare("1 to 39 digits, grouped", &grouped, &[&port, &original])?;
-    let plain = Sizes::mixed(NUMFMT_DIGITS).numbers::<i128>(LINES);
-    let plain = String::from_iter(plain.iter().map(|number| format!("{number}\n")));
+    let numbers = Sizes::mixed(ALL_DIGITS).numbers::<i128>(LINES);
+    let grouped = original::texts(&numbers, 0, 0);
+    table += &compare(
+        "1 to 39 digits, grouped",
+        &grouped,
+        &[
+            port("port", &[]),
+            port("port --lenient", &["--lenient"]),
+            original,
+        ],
+    )?;
+    let numbers = Sizes::mixed(NUMFMT_DIGITS).numbers::<i128>(LINES);
+    let plain = String::from_iter(numbers.iter().map(|number| format!("{number}\n")));
     table += &compare(
         "1 to 18 digits, plain",
         &plain,
-        &[&port, &original, &numfmt],
+        &[
+            port("port", &[]),
+            Program::of_system("numfmt --grouping", "numfmt", &["--grouping"]),
+            Program::of_system("sed", "sed", &[SED]),
+            Program::of_system("python3, locale", "python3", &["-c", PYTHON]),
+        ],
+    )?;
+    let cut = Program {
+        is_compared: false,
+        ..Program::of_system("cut -f3", "cut", &["-f3"])
+    };
+    table += &compare(
+        "field 3 of 10, 1 to 18 digits",
+        &with_fields(&original::texts(&numbers, 0, 0)),
+        &[
+            port("port --field 3", &["--field", "3"]),
+            port("port --field 2-3 --empty", &["--field", "2-3", "--empty"]),
+            cut,
+            Program::of_system("python3, locale", "python3", &["-c", PYTHON_FIELD]),
+        ],
     )?;
     print!("{table}");
     documents::write(&[("lines", table)])
 }
 
+/// Lines of a table, whose third field is each of these lines, the second is empty, and the others are words.
+fn with_fields(lines: &str) -> String {
+    let mut table = String::new();
+    for line in lines.lines() {
+        let fields: Vec<&str> = (1..=FIELDS)
+            .map(|field| match field {
+                2 => "",
+                FIELD => line,
+                _ => "a field",
+            })
+            .collect();
+        table += &fields.join("\t");
+        table.push('\n');
+    }
+    table
+}
+
 /// Compares what programs write for the lines, and returns a row for each, the first of which the
 /// others are compared with.
-fn compare(label: &str, lines: &str, programs: &[&Program]) -> io::Result<String> {
+fn compare(label: &str, lines: &str, programs: &[Program]) -> io::Result<String> {
     let input = std::env::temp_dir().join(format!("test_bench_{}", std::process::id()));
     fs::write(&input, lines)?;
     let written = programs[0].output(&input)?;
-    for program in &programs[1..] {
+    for program in programs[1..].iter().filter(|it| it.is_compared) {
         assert_same_texts(program.name, &written, &program.output(&input)?);
     }
     let mut best = vec![Duration::MAX; programs.len()];
