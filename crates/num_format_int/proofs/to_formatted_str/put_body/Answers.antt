@@ -9,23 +9,14 @@ use Rattle.num_format_int.proofs.to_formatted_str.put_body.Goals as goal
 pub put_first_group-requires-clause-fits : goal.put_first_group-requires-clause-fits
 put_first_group-requires-clause-fits g c = omega (arith, ap length c.requires, length-digits-le 3 c.args.n (omega arith) (omega arith))
 
-pub returns-then-limit-eq3-clause-text : goal.returns-then-limit-eq3-clause-text
-returns-then-limit-eq3-clause-text g c =
-    let format = g.F.Format.answers c.args.format.now in
-    c.put_plain.ensures
-    ∙ sym (grouped-short format.grouping format.separator (digits c.args.n) (length-digits-le 3 c.args.n (omega arith) (omega arith)))
-
-pub returns-then-limit-eq3-clause-fits : goal.returns-then-limit-eq3-clause-fits
-returns-then-limit-eq3-clause-fits g c = length-plain-fits c.put_plain.new.buffer (digits c.args.n) c.put_plain.ensures (length-digits-le39 c.args.n (omega arith))
-
-pub returns-else-limit-eq3-clause-text : goal.returns-else-limit-eq3-clause-text
-returns-else-limit-eq3-clause-text g c =
+pub returns-then-n-lt-FOUR_DIGITS-clause-text : goal.returns-then-n-lt-FOUR_DIGITS-clause-text
+returns-then-n-lt-FOUR_DIGITS-clause-text g c =
     let format = g.F.Format.answers c.args.format.now in
     plain-alone c.put_first_group.new.buffer c.args.buffer.now (digits c.args.n) c.put_first_group.ensures c.requires
     ∙ sym (grouped-short format.grouping format.separator (digits c.args.n) (length-digits-le 3 c.args.n (omega arith) (omega arith)))
 
-pub returns-else-limit-eq3-clause-fits : goal.returns-else-limit-eq3-clause-fits
-returns-else-limit-eq3-clause-fits g c =
+pub returns-then-n-lt-FOUR_DIGITS-clause-fits : goal.returns-then-n-lt-FOUR_DIGITS-clause-fits
+returns-then-n-lt-FOUR_DIGITS-clause-fits g c =
     length-plain-fits c.put_first_group.new.buffer (digits c.args.n)
     (plain-alone c.put_first_group.new.buffer c.args.buffer.now (digits c.args.n) c.put_first_group.ensures c.requires)
     (length-digits-le39 c.args.n (omega arith))
