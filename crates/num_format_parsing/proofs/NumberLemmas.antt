@@ -152,6 +152,12 @@ parses-read k f t start most n z read plain limit value number =
       ];
     }
 
+-- and it is that of its sign and its figures
+pub spells-read : (f : FormatData) (t : List ℕ) (start most n : ℕ) (b : Bool) → HasReadNumber f t start most n → HasNoOther (take start t) → b ≡ is_negative_text f t → SpellsNumber f t (signed_number b n)
+spells-read f t start most n b read plain sign =
+    let same : signed_number b n ≡ denoted f t = ap (λ c. signed_number c n) sign ∙ ap (signed_number (is_negative_text f t)) (read.number plain).number in
+    subst (SpellsNumber f t) (sym same) read.spelled
+
 -- or of none
 pub out_of_range-read : (k : Kind) (f : FormatData) (t : List ℕ) (start most n : ℕ) → HasReadNumber f t start most n → HasNoOther (take start t) → ¬ (IsSignedValueOf k (is_negative_text f t) n) → IsOutOfRange k f t
 out_of_range-read k f t start most n read plain wrong = record {

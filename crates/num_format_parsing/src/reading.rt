@@ -56,7 +56,7 @@ struct Groups {
 const SHORTEST_GROUPS: usize = 5;
 
 /// The bytes of [`SAFE_FIGURES`] digits in groups of three with such a separator.
-const LONGEST_GROUPS: usize = SAFE_FIGURES + 6;
+pub(crate) const LONGEST_GROUPS: usize = SAFE_FIGURES + 6;
 
 /// Returns what one pass over a text finds. Its minus sign has the length `start`, and `most` is the number of
 /// digits that it may have.
@@ -110,7 +110,7 @@ pub(crate) fn read_short(text: &[u8], start: usize, most: usize) -> Option<u64>
 /// Returns the number of a text that is in groups after its minus sign, with a separator of one byte, and has few
 /// digits, at most `most`. It may return `None` for any text, and does so where the digits may not fit 64 bits.
 ///
-/// Where the first separator stands is found before its digits are read, so that none is looked at twice.
+/// The first separator is found before the digits to its left are read.
 #[inline(always)]
 pub(crate) fn read_in_groups<F: Format>(
     text: &[u8],

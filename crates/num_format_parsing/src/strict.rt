@@ -9,7 +9,7 @@ ghost use Rattle.std.specs.List.{list_any, starts_with};
 ghost use Rattle.std.specs.Str.{chars};
 ghost use Rattle.num_format_text.specs.Format.{FormatData};
 ghost use Rattle.num_format_int.specs.Grouped.{stands, grouped, printed_separator};
-ghost use Rattle.num_format_int.specs.Kind.{Kind};
+ghost use Rattle.num_format_int.specs.Kind.{Kind, signed_number};
 ghost use Rattle.num_format_parsing.specs.Reading.{denoted, figures, is_other_numeral};
 ghost use Rattle.num_format_parsing.specs.Strict.{SpellsNumber, ParsesStrictly, IsCause, IsExpected, begins, unread, unexpected, sign_len, strict_message_of};
 ghost use Rattle.num_format_parsing.specs.Parts.{HasPlainSign, HasReadNumber, IsRead, IsUnspelled};
@@ -18,7 +18,7 @@ ghost use Rattle.num_format_parsing.specs.declared.strict.StrictError.TheVariant
 
 use crate::numeral::{has_digit_in_symbol, has_numeral_in_symbol};
 use crate::parsing::{Accumulator, SAFE_FIGURES, most_figures, parse};
-use crate::reading::{Reading, read_in_groups, read_short, read_text};
+use crate::reading::{LONGEST_GROUPS, Reading, read_in_groups, read_short, read_text};
 use num_format_int::sealed::Sealed;
 use num_format_text::{Format, Grouping};
 use std::fmt;
@@ -212,8 +212,6 @@ pub(crate) fn parse_short<N: Sealed, F: Format>(
 }
 
 /// Returns the same of a longer text that ends with a separator of one byte and three digits.
-///
-/// The text is looked at before the format is asked for anything, so that others are left early.
 #[inline(always)]
 fn parse_groups<N: Sealed, F: Format>(text: &[u8], format: &F) -> Option<Result<N, StrictError>>
     requires { SHORT_LEN < length text.now }
@@ -221,15 +219,53 @@ fn parse_groups<N: Sealed, F: Format>(text: &[u8], format: &F) -> Option<Result<
         (λ n. ParsesStrictly N.kind (F.answers format.now) text.now (N.value n))
         (λ e. (e ≡ cause.OutOfRange) × IsCause N.kind (F.answers format.now) text.now e)) }
 {
-    let last = text[text.len() - 1];
-    let separator = text[text.len() - 4];
-    if !last.is_ascii_digit() || separator.is_ascii_digit() || !separator.is_ascii() {
+    if !ends_in_group(text) {
         return None;
     }
     let sign = sign_of(text, format)?;
     let most = most_figures::<N>(sign.is_negative);
     let magnitude = read_in_groups(text, sign.len, most, format)?;
     Some(number_of(sign, magnitude))
+}
+
+/// Returns whether the number that a text spells is negative, and its absolute value, which is above zero. It may
+/// return `None` for any text, and does not for most that are in groups with a separator of one byte.
+///
+/// Unlike strict parsing it is inlined, for a caller that reads other parts of a text too.
+///
+/// ```rust
+/// grouped_number(b"-1,234", &Locale::en)    // Some((true, 1234))
+/// grouped_number(b"1,23", &Locale::en)      // None
+/// grouped_number(b"123", &Locale::en)       // None
+/// ```
+#[inline(always)]
+pub fn grouped_number<F: Format>(text: &[u8], format: &F) -> Option<(bool, u64)>
+    ensures spelled { IfSome result
+        (λ read. SpellsNumber (F.answers format.now) text.now (signed_number read.0 read.1)) }
+    ensures some { IfSome result (λ read. 0 < read.1) }
+{
+    // A longer text has too many digits, or a minus sign of more than one byte.
+    if text.len() <= SHORT_LEN || text.len() > LONGEST_GROUPS + 1 || !ends_in_group(text) {
+        return None;
+    }
+    let sign = sign_of(text, format)?;
+    let magnitude = read_in_groups(text, sign.len, SAFE_FIGURES, format)?;
+    if magnitude == 0 {
+        return None;
+    }
+    Some((sign.is_negative, magnitude))
+}
+
+/// Returns whether a text seems to end with a separator of one byte and three digits.
+///
+/// The text is looked at before the format is asked for anything, so that others are left early.
+#[inline(always)]
+fn ends_in_group(text: &[u8]) -> bool
+    requires { SHORT_LEN < length text.now }
+{
+    let last = text[text.len() - 1];
+    let separator = text[text.len() - 4];
+    last.is_ascii_digit() && !separator.is_ascii_digit() && separator.is_ascii()
 }
 
 /// Whether a text is negative, and the length of its minus sign, which is else 0.
