@@ -29,7 +29,7 @@ use Rattle.num_format_int.proofs.DigitLemmas.{AreDigits, digits-below_ten, digit
 use Rattle.num_format_int.proofs.GroupedLemmas.{grouped-printed, of_either}
 use Rattle.num_format_parsing.specs.Reading.{Refused, denoted, figures, is_negative_text, is_other_numeral, magnitude_of, no_digit, no_value, other_numeral, signed_number, too_many_figures}
 use Rattle.num_format_parsing.specs.Shapes.{byte_figures}
-use Rattle.num_format_parsing.specs.Strict.{ParsesStrictly, ungrouped}
+use Rattle.num_format_parsing.specs.Strict.{ungrouped}
 use Rattle.num_format_parsing.proofs.FigureLemmas.{figures-bytes, figures-digit, figures-drop-digit, figures-other}
 use Rattle.num_format_parsing.proofs.ReadingLemmas.{digits_among-append, digits_among-first, is_ascii_digit-digit, is_other_numeral-digit}
 use Rattle.num_format_certificates.specs.RoundTrips.{HasNoNumeral}
@@ -44,7 +44,6 @@ use Rattle.num_format_decimal.specs.Shapes.{IsBody, IsSpelled, mark_at, sign_of,
 use Rattle.num_format_decimal.specs.Text.{decimal_text}
 use Rattle.num_format_decimal.specs.Values.{HasUnits}
 use Rattle.num_format_decimal.proofs.CauseLemmas.{one_parsed}
-use Rattle.num_format_decimal.proofs.ReadLemmas.{whole_read}
 use Rattle.num_format_decimal.proofs.ScaleLemmas.{abs_le}
 use Rattle.num_format_decimal.proofs.SpelledLemmas.{HasParts, decimal_text-parts, digit-decimals, parts-spelled}
 use Rattle.num_format_decimal.proofs.TextLemmas.{length-plain, text_of_whole, whole_digits}
@@ -440,10 +439,6 @@ parses_read f t d tells read = parses-spelled f t d tells.plain tells.apart read
 pub parses_if_read : (f : FormatData) (t : List ℕ) (read : Option FixedPoint) → TellsDecimals f → IfSome read (λ d. IsSpelled f t d) → IfSome read (λ d. ParsesDecimal f t d)
 parses_if_read f t None tells none = tt
 parses_if_read f t (Some d) tells spelled = parses_read f t d tells spelled
-
--- and a text that spells a whole number
-pub parses_whole : (f : FormatData) (t : List ℕ) (z : ℤ) → TellsDecimals f → FitsSigned w128 z → ParsesStrictly (kind_of I128) f t z → ParsesDecimal f t (fixed_point z 0)
-parses_whole f t z tells fits parses = parses-spelled f t (fixed_point z 0) tells.plain tells.apart (omega arith) fits (whole_read f t z parses.spelled)
 
 pub decimal-exact : (f : FormatData) → IsUtf8 f.minus_sign → IsUtf8 f.separator → IsUtf8 f.decimal → MarksDecimals f → IsDecimalExact f
 decimal-exact f sign separator mark marks =

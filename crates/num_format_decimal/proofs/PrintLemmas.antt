@@ -1,20 +1,60 @@
 -- What is prepended to the decimals.
-use Rattle.std.proofs.Common.{◌≡◌, ℕ, zero, suc, ◌+◌, ◌*◌, ◌/◌, ◌%◌, ◌^◌, ◌<◌, ◌≤◌, ◌⊎◌, inl, inr, Bool, List, [], ◌++◌, length, drop, refl, ap, ◌∙◌, sym, arith, append_assoc}
-use Rattle.std.specs.Fmt.{decimal}
-use Rattle.std.proofs.lemmas.List.{drop-drop}
+use Rattle.std.proofs.Common.{◌≡◌, ℕ, zero, suc, ◌+◌, ◌*◌, ◌/◌, ◌%◌, ◌^◌, ◌<◌, ◌≤◌, ◌⊎◌, inl, inr, Bool, List, [], ◌∷◌, ◌++◌, length, refl, ap, ◌∙◌, sym, arith, append-nil, append_assoc}
+use Rattle.std.proofs.Math.Nat.{div-div-eq-div-mul, pow-succ'}
+use Rattle.std.proofs.lemmas.List.{map-append}
+use Rattle.std.proofs.lemmas.Nat.{pow-add}
 use Rattle.num_format_int.specs.Digits.{digits}
 use Rattle.num_format_int.specs.Grouped.{separated}
 use Rattle.num_format_int.specs.Groups.{last_digits, plain, BeginsWithSeparator, HasLastGroup, HasGroups}
 use Rattle.num_format_int.proofs.DigitLemmas.{length-digits-le, length-digits-split}
 use Rattle.num_format_int.proofs.GroupLemmas.{prepends-all, prepends-middle, prepends-more, prepends-none, put-last_group}
 use Rattle.num_format_decimal.specs.Printing.{PrependsAnywhere}
-use Rattle.num_format_decimal.proofs.TextLemmas.{printed_decimals}
 
--- digits that were written before a text, without the digit 1 before them
-pub without_one : (k n one at : ℕ) (new old : List ℕ) → k ≤ 38 → n < 10 ^ k → one ≡ 10 ^ k → drop at new ≡ decimal (one + n) ++ old → drop (at + 1) new ≡ plain (last_digits k n) ++ old
-without_one k n one at new old few below power written =
-    sym (drop-drop 1 at new)
-    ∙ ap (drop 1) (written ∙ ap (λ t. t ++ old) (printed_decimals k n one (decimal (one + n)) few below power refl))
+-- the last digits of a number, and those before them
+digits_joined : (k j n : ℕ) → last_digits j (n / 10 ^ k) ++ last_digits k n ≡ last_digits (k + j) n
+digits_joined zero j n =
+    let whole : n / 10 ^ 0 ≡ n = omega arith in
+    let none : zero + j ≡ j = omega arith in
+    append-nil (last_digits j (n / 10 ^ 0)) ∙ ap (last_digits j) whole ∙ ap (λ i. last_digits i n) (sym none)
+digits_joined (suc k) j n =
+    let whole : n / 10 ^ suc k ≡ n / 10 / 10 ^ k = ap (λ d. n / d) (pow-succ' 10 k) ∙ sym (div-div-eq-div-mul n 10 (10 ^ k)) in
+    let more : suc k + j ≡ suc (k + j) = omega arith in
+    ap (λ m. last_digits j m ++ last_digits (suc k) n) whole
+    ∙ sym (append_assoc (last_digits j (n / 10 / 10 ^ k)) (last_digits k (n / 10)) (n % 10 ∷ []))
+    ∙ ap (λ ds. ds ++ (n % 10 ∷ [])) (digits_joined k j (n / 10))
+    ∙ ap (λ i. last_digits i n) (sym more)
+
+-- a number without its last digits, and without some more
+pub quotient_more : (n k j : ℕ) → n / 10 ^ k / 10 ^ j ≡ n / 10 ^ (k + j)
+quotient_more n k j = div-div-eq-div-mul n (10 ^ k) (10 ^ j) ∙ ap (λ d. n / d) (sym (pow-add 10 k j))
+
+pub undivided : (n k : ℕ) → k ≡ 0 → n ≡ n / 10 ^ k
+undivided n k none = let whole : n ≡ n / 10 ^ 0 = omega arith in whole ∙ ap (λ i. n / 10 ^ i) (sym none)
+
+-- digits before the last digits of a number, and before a text
+digits_before : (k j n left : ℕ) (part text new old : List ℕ) → left ≡ n / 10 ^ k → text ≡ plain (last_digits k n) ++ old → part ≡ plain (last_digits j left) → new ≡ part ++ text →
+    new ≡ plain (last_digits (k + j) n) ++ old
+digits_before k j n left part text new old is_left before is_part after =
+    after
+    ∙ ap (λ t. t ++ text) (is_part ∙ ap (λ m. plain (last_digits j m)) is_left)
+    ∙ ap (λ t. plain (last_digits j (n / 10 ^ k)) ++ t) before
+    ∙ sym (append_assoc (plain (last_digits j (n / 10 ^ k))) (plain (last_digits k n)) old)
+    ∙ ap (λ t. t ++ old) (sym (map-append (λ d. 48 + d) (last_digits j (n / 10 ^ k)) (last_digits k n)) ∙ ap plain (digits_joined k j n))
+
+pub two_digits_more : (k n left : ℕ) (pair text new old : List ℕ) → left ≡ n / 10 ^ k → text ≡ plain (last_digits k n) ++ old → pair ≡ (48 + left % 100 / 10) ∷ (48 + left % 100 % 10) ∷ [] →
+    new ≡ pair ++ text → new ≡ plain (last_digits (k + 2) n) ++ old
+two_digits_more k n left pair text new old is_left before is_pair after =
+    let high : left % 100 / 10 ≡ left / 10 % 10 = omega arith in
+    let low : left % 100 % 10 ≡ left % 10 = omega arith in
+    digits_before k 2 n left pair text new old is_left before (is_pair ∙ ap (λ d. (48 + d) ∷ (48 + left % 100 % 10) ∷ []) high ∙ ap (λ d. (48 + left / 10 % 10) ∷ (48 + d) ∷ []) low) after
+
+pub one_digit_more : (k n left : ℕ) (digit text new old : List ℕ) → left ≡ n / 10 ^ k → text ≡ plain (last_digits k n) ++ old → digit ≡ (48 + left % 10) ∷ [] →
+    new ≡ digit ++ text → new ≡ plain (last_digits (k + 1) n) ++ old
+one_digit_more k n left digit text new old is_left before is_digit after = digits_before k 1 n left digit text new old is_left before is_digit after
+
+-- digits before nothing
+pub before_none : (text old new : List ℕ) → old ≡ [] → new ≡ text ++ old → new ≡ text
+before_none text old new empty after = after ∙ ap (λ t. text ++ t) empty ∙ append-nil text
 
 -- a group and its separator fit, if five bytes a digit did
 pub group_fits : (held separator size base left most : ℕ) → 2 ≤ size → base ≡ 10 ^ size → base ≤ left → separator ≤ 8 → held + 5 * length (digits left) ≤ most →

@@ -154,7 +154,7 @@ body_read f t n spells =
     let same : t ≡ parts.0 = parts.1.0 ∙ ap (λ (b : Bool). (if b then f.minus_sign else []) ++ parts.0) (is_negative-pos n) in
     subst (λ b. IsBody f b n) (sym same) parts.1.1
 
-negative_read : (b : Bool) (n : ℕ) → (b ≡ true → 0 < n) → is_negative (signed_number b n) ≡ b
+pub negative_read : (b : Bool) (n : ℕ) → (b ≡ true → 0 < n) → is_negative (signed_number b n) ≡ b
 negative_read true zero some = absurd (omega (arith, some refl))
 negative_read true (suc n) some = refl
 negative_read false n some = is_negative-pos n
@@ -264,6 +264,15 @@ parts_read f t body b start place end k m n marks all order digit sign between s
           let spelled : SpellsNumber f (drop start t) (pos n) = subst (λ xs. SpellsNumber f xs (pos n)) whole (subst (λ j. SpellsNumber f body (pos j)) (sym same) spells) in
           subst (λ j. SpellsDecimal f t (fixed_point (signed_number b n) j)) (sym none) (unmarked_read f t b start n sign spelled signed)
     ]
+
+-- a number is that of its sign and its absolute value
+pub of_its_parts : (z : ℤ) → signed_number (is_negative z) (unsigned_abs z) ≡ z
+of_its_parts (pos m) = ap (λ b. signed_number b m) (is_negative-pos m)
+of_its_parts (negsuc m) = refl
+
+pub some_if_negative : (z : ℤ) → is_negative z ≡ true → 0 < unsigned_abs z
+some_if_negative (pos m) negative = absurd (both_ways (is_negative (pos m)) (is_negative-pos m) negative)
+some_if_negative (negsuc m) negative = omega arith
 
 -- a number whose whole part has a sign is not zero
 some_read : (z : ℤ) (n k : ℕ) → is_negative z ≡ true → n / 10 ^ k ≡ unsigned_abs z → 0 < n

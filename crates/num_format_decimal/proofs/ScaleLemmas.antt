@@ -38,12 +38,6 @@ small_remainder n k small many =
     let large : 10 ^ 20 ≤ 10 ^ k = pow-le-pow_right {n = 10} (omega arith) {i = 20} {j = k} many in
     sym (mod-eq_of_lt (omega arith))
 
--- a digit 1 and up to 18 digits are a number of 64 bits
-pub narrow_sum : (n k one : ℕ) → k < 19 → n < 10 ^ k → one ≡ 10 ^ k → one + n < 2 ^ 64
-narrow_sum n k one few below power =
-    let small : 10 ^ k ≤ 10 ^ 18 = pow-le-pow_right {n = 10} (omega arith) {i = k} {j = 18} (omega arith) in
-    omega arith
-
 power_zero : (e : ℕ) → e ≡ 0 → 10 ^ e ≡ 1
 power_zero e none = ap (λ k. 10 ^ k) none
 

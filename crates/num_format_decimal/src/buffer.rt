@@ -1,5 +1,5 @@
 //! The text of a decimal, kept in place.
-ghost use Rattle.std.specs.Prelude.{◌≡◌, ℕ, Bool, List, ◌+◌, ◌*◌, ◌^◌, ◌<◌, ◌≤◌, [], ◌++◌, length, nat_lt, unsigned_abs, Some, if◌then◌else◌};
+ghost use Rattle.std.specs.Prelude.{◌≡◌, ℕ, Bool, List, ◌+◌, ◌*◌, ◌/◌, ◌^◌, ◌<◌, ◌≤◌, [], ◌++◌, length, nat_lt, unsigned_abs, Some, if◌then◌else◌};
 ghost use Rattle.num_format_int.specs.Digits.{digits};
 ghost use Rattle.num_format_int.specs.Grouped.{separated};
 ghost use Rattle.num_format_int.specs.Groups.{last_digits, plain, BeginsWithSeparator, HasLastGroup, HasGroups};
@@ -8,10 +8,10 @@ ghost use Rattle.num_format_decimal.specs.Printing.{unsigned_text, PrependsAnywh
 ghost use Rattle.num_format_decimal.specs.Text.{decimal_text};
 
 use crate::decimal::{Decimal, MAX_SCALE};
-use crate::powers::{narrow_power_of_ten, power_of_ten, split, split_narrow};
+use crate::powers::{narrow_power_of_ten, power_of_ten, split};
 use num_format_int::Buffer;
 use num_format_int::buffer::copy_bytes;
-use num_format_int::to_formatted_str::split_wide;
+use num_format_int::to_formatted_str::{one_digit, split_wide, two_digits};
 use num_format_text::capacities::{MAX_DEC_LEN, MAX_MIN_LEN, MAX_SEP_LEN};
 use num_format_text::{Format, Grouping};
 use std::marker::Model;
@@ -79,10 +79,7 @@ impl DecimalBuffer {
             inner: [0; MAX_DECIMAL_LEN],
             start: MAX_DECIMAL_LEN,
         };
-        buffer.put_unsigned(d, format);
-        if d.is_negative() {
-            buffer.put_front(format.minus_sign().into_str());
-        }
+        buffer.put_text(d, format);
         buffer
     }
 
@@ -112,6 +109,20 @@ impl DecimalBuffer {
 }
 
 impl DecimalBuffer {
+    /// Prepends the text of a number to the empty text.
+    ///
+    /// It is a call: a buffer on which [`of`](DecimalBuffer::of) makes one call is not copied when it is returned.
+    #[inline(never)]
+    fn put_text<F: Format>(&mut self, d: &Decimal, format: &F)
+        requires { self.old ≡ [] }
+        ensures { self.new ≡ decimal_text (F.answers format.now) d.now }
+    {
+        self.put_unsigned(d, format);
+        if d.is_negative() {
+            self.put_front(format.minus_sign().into_str());
+        }
+    }
+
     /// Prepends the text of a number without its sign to the empty text: the digits before the decimals, grouped as
     /// the format says, and if there are decimals the decimal mark and each of them.
     #[inline]
@@ -138,8 +149,7 @@ impl DecimalBuffer {
         requires scale { scale < NINETEEN_DIGITS }
         ensures { self.new ≡ unsigned_text (F.answers format.now) n scale }
     {
-        let (whole, rest) = split_narrow(n, scale);
-        self.put_decimals(rest as u128, scale, format);
+        let whole = self.put_decimals(n, scale, format);
         self.put_narrow_whole(whole, format);
     }
 
@@ -153,13 +163,31 @@ impl DecimalBuffer {
         ensures { self.new ≡ unsigned_text (F.answers format.now) n scale }
     {
         let (whole, rest) = split(n, scale);
-        self.put_decimals(rest, scale, format);
+        self.put_wide_decimals(rest, scale, format);
         self.put_whole(whole, format);
     }
 
-    /// Prepends the decimal mark and `count` decimals to the empty text, or nothing if there are none.
+    /// Prepends the decimal mark and the last `count` digits of `n` to the empty text, or nothing if they are none.
+    /// Returns `n` without these digits.
     #[inline(always)]
-    fn put_decimals<F: Format>(&mut self, n: u128, count: u8, format: &F)
+    fn put_decimals<F: Format>(&mut self, n: u64, count: u8, format: &F) -> u64
+        requires empty { self.old ≡ [] }
+        requires count { count < NINETEEN_DIGITS }
+        ensures text { self.new
+            ≡ (if nat_lt 0 count then (F.answers format.now).decimal ++ plain (last_digits count n) else []) }
+        ensures room { length self.new ≤ count + MAX_DEC_LEN }
+        ensures rest { result ≡ n / 10 ^ count }
+    {
+        if count == 0 {
+            return n;
+        }
+        let whole = self.put_last_digits(n, count);
+        self.put_front(format.decimal().into_str());
+        whole
+    }
+
+    /// Prepends the same of a number that has no more than `count` digits.
+    fn put_wide_decimals<F: Format>(&mut self, n: u128, count: u8, format: &F)
         requires empty { self.old ≡ [] }
         requires count { count ≤ MAX_SCALE }
         requires below { n < 10 ^ count }
@@ -167,10 +195,11 @@ impl DecimalBuffer {
             ≡ (if nat_lt 0 count then (F.answers format.now).decimal ++ plain (last_digits count n) else []) }
         ensures room { length self.new ≤ count + MAX_DEC_LEN }
     {
-        if count == 0 {
+        if count < NINETEEN_DIGITS {
+            self.put_decimals(n as u64, count, format);
             return;
         }
-        self.put_each_decimal(n, count);
+        self.put_wide_digits(n, count);
         self.put_front(format.decimal().into_str());
     }
 
@@ -217,16 +246,28 @@ impl DecimalBuffer {
     }
 
     /// Prepends the digits of a number of 64 bits, grouped as the format says.
-    #[inline]
+    #[inline(always)]
     fn put_narrow_whole<F: Format>(&mut self, n: u64, format: &F)
         requires { length self.old ≤ MAX_SCALE + MAX_DEC_LEN }
         ensures { self.new ≡ body_of (F.answers format.now) n ++ self.old }
     {
         if n < FOUR_DIGITS {
             // There is no separator, so the format is not read.
-            self.put_digits(n);
-            return;
+            self.put_few_digits(n);
+        } else {
+            self.put_long_whole(n, format);
         }
+    }
+
+    /// Prepends the digits of `n`, which has four or more, grouped as the format says.
+    ///
+    /// It is a function of its own, so that fewer digits are prepended without its space.
+    #[inline(never)]
+    fn put_long_whole<F: Format>(&mut self, n: u64, format: &F)
+        requires many { FOUR_DIGITS ≤ n }
+        requires short { length self.old ≤ MAX_SCALE + MAX_DEC_LEN }
+        ensures { self.new ≡ body_of (F.answers format.now) n ++ self.old }
+    {
         let separator = format.separator().into_str();
         match format.grouping() {
             Grouping::Standard => self.put_grouped::<3, 3>(n, separator),
@@ -373,22 +414,8 @@ impl DecimalBuffer {
         self.put_front(&separator[..LEN]);
     }
 
-    /// Prepends the digits of `n`, which has no more than `count`, leading zeros included, to the empty text.
-    #[inline(always)]
-    fn put_each_decimal(&mut self, n: u128, count: u8)
-        requires empty { self.old ≡ [] }
-        requires count { count ≤ MAX_SCALE }
-        requires below { n < 10 ^ count }
-        ensures { self.new ≡ plain (last_digits count n) }
-    {
-        if count < NINETEEN_DIGITS {
-            self.put_last_digits(n as u64, count);
-        } else {
-            self.put_wide_digits(n, count);
-        }
-    }
-
-    /// Prepends the same digits, where they and a digit 1 before them are a number of more than 64 bits.
+    /// Prepends the digits of `n`, which has no more than `count`, leading zeros included, to the empty text. A digit 1
+    /// before them keeps the zeros, and is left out.
     fn put_wide_digits(&mut self, n: u128, count: u8)
         requires empty { self.old ≡ [] }
         requires count { count ≤ MAX_SCALE }
@@ -400,18 +427,42 @@ impl DecimalBuffer {
         self.put_front(&digits[1..count as usize + 1]);
     }
 
-    /// Prepends the digits of `n`, which has no more than `count`, leading zeros included.
-    ///
-    /// A digit 1 before them keeps the zeros, and is left out. All are a number of 64 bits.
+    /// Prepends the last `count` digits of `n`, leading zeros included, two at a time. Returns `n` without these digits.
     #[inline(always)]
-    fn put_last_digits(&mut self, n: u64, count: u8)
-        requires count { count < NINETEEN_DIGITS }
-        requires below { n < 10 ^ count }
-        requires fits { count + length self.old < MAX_DECIMAL_LEN }
-        ensures { self.new ≡ plain (last_digits count n) ++ self.old }
+    fn put_last_digits(&mut self, n: u64, count: u8) -> u64
+        requires { count + length self.old ≤ MAX_DECIMAL_LEN }
+        ensures text { self.new ≡ plain (last_digits count n) ++ self.old }
+        ensures rest { result ≡ n / 10 ^ count }
     {
-        let one = itoa::write_digits(narrow_power_of_ten(count) + n, &mut self.inner, self.start);
-        self.start = one + 1;
+        let mut left = n;
+        let mut put = 0;
+        while put + 2 <= count {
+            self.put_front(two_digits(left % 100));
+            left /= 100;
+            put += 2;
+        }
+        if put == count {
+            return left;
+        }
+        self.put_front(one_digit(left % 10));
+        left / 10
+    }
+
+    /// Prepends the digits of a number below a thousand.
+    #[inline(always)]
+    fn put_few_digits(&mut self, n: u64)
+        requires few { n < FOUR_DIGITS }
+        requires fits { length (digits n) + length self.old ≤ MAX_DECIMAL_LEN }
+        ensures { self.new ≡ plain (digits n) ++ self.old }
+    {
+        if n < 10 {
+            self.put_front(one_digit(n));
+            return;
+        }
+        self.put_front(two_digits(n % 100));
+        if n >= 100 {
+            self.put_front(one_digit(n / 100));
+        }
     }
 
     /// Prepends the digits of `n`, with nothing between them.

@@ -137,7 +137,7 @@ fn divide(n: u128, one: u128) -> (u128, u128)
 /// Returns the same as [`split`] of a number of 64 bits. A division by a number that is known where the
 /// code is compiled takes a few multiplications.
 #[tactic(auto, using(crate::proofs::ScaleLemmas::power_positive))]
-pub(crate) fn split_narrow(n: u64, scale: u8) -> (u64, u64)
+fn split_narrow(n: u64, scale: u8) -> (u64, u64)
     requires { scale < TWENTY_DIGITS }
     ensures whole { result.0 ≡ n / 10 ^ scale }
     ensures rest { result.1 ≡ n % 10 ^ scale }

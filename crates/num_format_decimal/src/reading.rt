@@ -22,7 +22,7 @@ use crate::marks::{is_apart, is_plain, is_usual};
 use crate::powers::{narrow_power_of_ten, power_of_ten};
 use crate::spelling::trailing_digits;
 use num_format_parsing::FromFormattedStr;
-use num_format_parsing::strict::begins_with;
+use num_format_parsing::strict::{begins_with, grouped_number};
 use num_format_text::{Format, Grouping};
 
 /// So many digits fit 64 bits, whatever they are.
@@ -90,10 +90,8 @@ pub(crate) fn read_whole_number<F: Format>(text: &[u8], format: &F) -> Option<De
     if !tells_decimals(format) {
         return None;
     }
-    match i128::from_strict_bytes(text, format) {
-        Ok(units) => Some(Decimal::of(units, 0)),
-        Err(_) => None,
-    }
+    let (is_negative, magnitude) = whole_number(text, format)?;
+    Decimal::with_magnitude(is_negative, magnitude, 0)
 }
 
 /// Returns what is read of a text without separators, from its first byte to its last, if it is short and spells a
@@ -213,12 +211,27 @@ fn read_decimal<F: Format>(text: &[u8], format: &F) -> Option<Decimal>
     ensures { IfSome result (λ d. IsSpelled (F.answers format.now) text.now d) }
 {
     let (place, end) = mark_places(text, format.decimal().into_str());
-    let Ok(whole) = i128::from_strict_bytes(&text[..place], format) else {
-        return None;
-    };
+    let (is_negative, whole) = whole_number(&text[..place], format)?;
     let decimals = &text[end..];
-    let magnitude = joined(whole.unsigned_abs(), decimals)?;
-    Decimal::with_magnitude(whole.is_negative(), magnitude, decimals.len() as u8)
+    let magnitude = joined(whole, decimals)?;
+    Decimal::with_magnitude(is_negative, magnitude, decimals.len() as u8)
+}
+
+/// Returns whether the whole number that a text spells is negative, and its absolute value.
+#[inline(always)]
+fn whole_number<F: Format>(text: &[u8], format: &F) -> Option<(bool, u128)>
+    ensures spelled { IfSome result
+        (λ read. SpellsNumber (F.answers format.now) text.now (signed_number read.0 read.1)) }
+    ensures sign { IfSome result (λ read. read.0 ≡ true → 0 < read.1) }
+{
+    // Most are in groups. Others are parsed by a call, which asks the format once more.
+    if let Some((is_negative, magnitude)) = grouped_number(text, format) {
+        return Some((is_negative, magnitude as u128));
+    }
+    match i128::from_strict_bytes(text, format) {
+        Ok(whole) => Some((whole.is_negative(), whole.unsigned_abs())),
+        Err(_) => None,
+    }
 }
 
 /// Returns where the digits end that stand at a place, and the number that they write, if they are a number as it is

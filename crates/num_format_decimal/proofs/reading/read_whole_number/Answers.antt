@@ -1,16 +1,14 @@
-use Rattle.std.proofs.Common.{◌≡◌, arith, sym, subst}
-use Rattle.std.proofs.lemmas.Int.{to_z-of_z}
+use Rattle.num_format_int.specs.Kind.{signed_number}
+use Rattle.std.proofs.Common.{arith}
 use Rattle.num_format_decimal.specs.FixedPoint.{fixed_point}
-use Rattle.num_format_decimal.specs.Parsing.{ParsesDecimal}
-use Rattle.num_format_decimal.specs.Values.{HasUnits}
-use Rattle.num_format_decimal.proofs.MarkLemmas.{parses_whole}
+use Rattle.num_format_decimal.proofs.MarkLemmas.{parses_if_read}
+use Rattle.num_format_decimal.proofs.ReadLemmas.{signed_read, whole_read}
 use Rattle.num_format_decimal.proofs.reading.read_whole_number.Goals as goal
 
-pub returns-in-Ok : goal.returns-in-Ok
-returns-in-Ok g c =
+pub returns : goal.returns
+returns g c =
     let f = g.F.Format.answers c.args.format.now in
     let t = c.args.text.now in
-    let z = c.in-Ok.units in
-    let same : c.of.result ≡ fixed_point z 0 = grind (arith, to_z-of_z, c.of.ensures.decimal) in
-    let fits = subst HasUnits same c.of.ensures.fits in
-    subst (ParsesDecimal f t) (sym same) (parses_whole f t z (c.tells_decimals.ensures c.if-not-tells_decimals.false) fits c.in-Ok.ensures.number)
+    let z = signed_number c.in_ok-is_negative.is_negative c.in_ok-is_negative.magnitude in
+    parses_if_read f t c.with_magnitude.result (c.tells_decimals.ensures c.if-not-tells_decimals.false)
+    (signed_read f t (fixed_point z 0) c.with_magnitude.result c.with_magnitude.ensures (omega arith) (whole_read f t z c.in_ok-is_negative.ensures.spelled))

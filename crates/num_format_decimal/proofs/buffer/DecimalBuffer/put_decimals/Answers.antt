@@ -1,18 +1,34 @@
-use Rattle.std.proofs.Common.{length, ap, arith, length-append}
-use Rattle.num_format_decimal.proofs.TextLemmas.{length-plain}
+use Rattle.std.proofs.Common.{◌∙◌, length, ap, arith, length-append}
+use Rattle.num_format_int.specs.Groups.{last_digits, plain}
+use Rattle.num_format_decimal.proofs.TextLemmas.{length-plain, some_decimals}
+use Rattle.num_format_decimal.proofs.PrintLemmas.{before_none, undivided}
 use Rattle.num_format_decimal.proofs.buffer.DecimalBuffer.put_decimals.Goals as goal
+
+pub returns-then-count-eq0-clause-rest : goal.returns-then-count-eq0-clause-rest
+returns-then-count-eq0-clause-rest g c = undivided c.args.n c.args.count c.if-count-eq0.true
+
+pub put_last_digits-whole-requires : goal.put_last_digits-whole-requires
+put_last_digits-whole-requires g c = omega (arith, ap length c.requires.empty, c.requires.count)
 
 pub put_front-requires : goal.put_front-requires
 put_front-requires g c =
-    omega (arith, ap length c.put_each_decimal.ensures, length-plain c.args.count c.args.n, c.into_str.ensures.fits, c.requires.count)
+    let digits = before_none (plain (last_digits c.args.count c.args.n)) c.args.self.now c.put_last_digits-whole.new.self c.requires.empty c.put_last_digits-whole.ensures.text in
+    omega (arith, ap length digits, length-plain c.args.count c.args.n, c.into_str.ensures.fits, c.requires.count)
+
+pub returns-clause-text : goal.returns-clause-text
+returns-clause-text g c =
+    let f = g.F.Format.answers c.args.format.now in
+    let digits = before_none (plain (last_digits c.args.count c.args.n)) c.args.self.now c.put_last_digits-whole.new.self c.requires.empty c.put_last_digits-whole.ensures.text in
+    some_decimals f c.args.count c.args.n c.into_str.result.now c.put_last_digits-whole.new.self c.put_front.new.self c.if-count-eq0.false (c.into_str.ensures.same ∙ c.decimal.ensures) digits c.put_front.ensures
 
 pub returns-clause-room : goal.returns-clause-room
 returns-clause-room g c =
+    let digits = before_none (plain (last_digits c.args.count c.args.n)) c.args.self.now c.put_last_digits-whole.new.self c.requires.empty c.put_last_digits-whole.ensures.text in
     omega (
       arith,
-      ap length c.put_each_decimal.ensures,
+      ap length digits,
       length-plain c.args.count c.args.n,
       c.into_str.ensures.fits,
       ap length c.put_front.ensures,
-      length-append c.into_str.result.now c.put_each_decimal.new.self,
+      length-append c.into_str.result.now c.put_last_digits-whole.new.self,
     )

@@ -7,7 +7,7 @@ pub put_front-requires : goal.put_front-requires
 put_front-requires g c =
     omega (
       arith,
-      ap length c.put_last_digits.ensures,
+      ap length c.put_last_digits.ensures.text,
       length-append (plain (last_digits g.row.SIZE c.args.group)) c.args.self.now,
       length-plain g.row.SIZE c.args.group,
       c.range.ensures.len,

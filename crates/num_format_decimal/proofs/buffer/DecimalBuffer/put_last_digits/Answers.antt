@@ -1,39 +1,57 @@
-use Rattle.std.proofs.Common.{◌+◌, ◌++◌, ◌∙◌, length, drop, refl, ap, arith, length-drop}
-use Rattle.std.specs.Fmt.{decimal}
-use Rattle.std.proofs.lemmas.Str.{IsUtf8-append, IsUtf8-had}
+use Rattle.std.proofs.Common.{◌≡◌, ◌+◌, ◌/◌, ◌^◌, ◌++◌, ◌∙◌, length, refl, ap, arith, length-append}
 use Rattle.num_format_int.specs.Groups.{last_digits, plain}
-use Rattle.num_format_decimal.proofs.MarkLemmas.{last_digits-utf8}
-use Rattle.num_format_decimal.proofs.PrintLemmas.{without_one}
-use Rattle.num_format_decimal.proofs.ScaleLemmas.{narrow_sum}
-use Rattle.num_format_decimal.proofs.TextLemmas.{printed_length}
+use Rattle.num_format_decimal.proofs.PrintLemmas.{one_digit_more, quotient_more, two_digits_more}
+use Rattle.num_format_decimal.proofs.TextLemmas.{length-plain}
 use Rattle.num_format_decimal.proofs.buffer.DecimalBuffer.put_last_digits.Goals as goal
 
-pub overflow_add-narrow_power_of_ten : goal.overflow_add-narrow_power_of_ten
-overflow_add-narrow_power_of_ten c = omega (arith, narrow_sum c.args.n c.args.count c.narrow_power_of_ten.result c.requires.count c.requires.below c.narrow_power_of_ten.ensures)
+pub loop-put-init : goal.loop-put-init
+loop-put-init c = record { text = refl; rest = omega arith; within = omega arith }
 
-pub write_digits-one-requires : goal.write_digits-one-requires
-write_digits-one-requires c =
-    let one = c.narrow_power_of_ten.result in
-    let long = printed_length c.args.count c.args.n one (decimal (one + c.args.n)) (omega (arith, c.requires.count)) c.requires.below c.narrow_power_of_ten.ensures refl in
-    let held = ap length c.self.view_is in (
-      omega (arith, long, held, length-drop c.self.inside.start c.self.inside.inner, c.self.told, c.self.invariant.0, c.requires.fits),
-      omega (arith, c.self.told, c.self.invariant.0),
+pub put_front-requires : goal.put_front-requires
+put_front-requires c =
+    let l = c.loop-put in
+    omega (
+      arith,
+      ap length c.two_digits.ensures,
+      ap length l.invariant.text,
+      length-append (plain (last_digits l.put c.args.n)) c.args.self.now,
+      length-plain l.put c.args.n,
+      c.loop-put-test.true,
+      c.requires,
     )
 
-pub invariant_of-self : goal.invariant_of-self
-invariant_of-self c =
-    let w = c.write_digits-one in
-    let one = c.narrow_power_of_ten.result in
-    let old = drop c.self.inside.start c.self.inside.inner in
-    let long = printed_length c.args.count c.args.n one (decimal (one + c.args.n)) (omega (arith, c.requires.count)) c.requires.below c.narrow_power_of_ten.ensures refl in
-    let text = without_one c.args.count c.args.n one w.result w.new.buf old (omega (arith, c.requires.count)) c.requires.below c.narrow_power_of_ten.ensures w.ensures.written in (
-      omega (arith, w.ensures.start, long, c.self.invariant.0),
-      w.auto.buf ∙ c.self.told,
-      ∣ rw text (IsUtf8-append (plain (last_digits c.args.count c.args.n)) old (last_digits-utf8 c.args.count c.args.n) (IsUtf8-had _ c.self.invariant.2)) ∣₁,
+pub loop-put-preserved : goal.loop-put-preserved
+loop-put-preserved c =
+    let l = c.loop-put in
+    record {
+      text = two_digits_more l.put c.args.n l.left c.two_digits.result.now l.self c.put_front.new.self c.args.self.now l.invariant.rest l.invariant.text c.two_digits.ensures c.put_front.ensures;
+      rest = ap (λ m. m / 100) l.invariant.rest ∙ quotient_more c.args.n l.put 2;
+      within = omega (arith, c.loop-put-test.true);
+    }
+
+pub put_front-requires-2 : goal.put_front-requires-2
+put_front-requires-2 c =
+    let l = c.loop-put in
+    omega (
+      arith,
+      ap length c.one_digit.ensures,
+      ap length l.invariant.text,
+      length-append (plain (last_digits l.put c.args.n)) c.args.self.now,
+      length-plain l.put c.args.n,
+      l.invariant.within,
+      c.if-put-count.false,
+      c.requires,
     )
 
-pub returns : goal.returns
-returns c =
-    let w = c.write_digits-one in
-    without_one c.args.count c.args.n c.narrow_power_of_ten.result w.result w.new.buf (drop c.self.inside.start c.self.inside.inner) (omega (arith, c.requires.count)) c.requires.below c.narrow_power_of_ten.ensures w.ensures.written
-    ∙ ap (λ t. plain (last_digits c.args.count c.args.n) ++ t) c.self.view_is
+pub returns-clause-text : goal.returns-clause-text
+returns-clause-text c =
+    let l = c.loop-put in
+    let count : l.put + 1 ≡ c.args.count = omega (arith, l.invariant.within, c.loop-put-test.false, c.if-put-count.false) in
+    one_digit_more l.put c.args.n l.left c.one_digit.result.now l.self c.put_front-2.new.self c.args.self.now l.invariant.rest l.invariant.text c.one_digit.ensures c.put_front-2.ensures
+    ∙ ap (λ k. plain (last_digits k c.args.n) ++ c.args.self.now) count
+
+pub returns-clause-rest : goal.returns-clause-rest
+returns-clause-rest c =
+    let l = c.loop-put in
+    let count : l.put + 1 ≡ c.args.count = omega (arith, l.invariant.within, c.loop-put-test.false, c.if-put-count.false) in
+    ap (λ m. m / 10) l.invariant.rest ∙ quotient_more c.args.n l.put 1 ∙ ap (λ k. c.args.n / 10 ^ k) count

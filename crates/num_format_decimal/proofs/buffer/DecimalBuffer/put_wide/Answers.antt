@@ -5,14 +5,14 @@ use Rattle.num_format_decimal.proofs.ScaleLemmas.{power_positive}
 use Rattle.num_format_decimal.proofs.TextLemmas.{unsigned_text_from, whole_digits, whole_fits}
 use Rattle.num_format_decimal.proofs.buffer.DecimalBuffer.put_wide.Goals as goal
 
-pub put_decimals-requires-clause-below : goal.put_decimals-requires-clause-below
-put_decimals-requires-clause-below g c = omega (arith, c.split-whole.ensures.rest, mod-lt c.args.n (power_positive c.args.scale))
+pub put_wide_decimals-requires-clause-below : goal.put_wide_decimals-requires-clause-below
+put_wide_decimals-requires-clause-below g c = omega (arith, c.split-whole.ensures.rest, mod-lt c.args.n (power_positive c.args.scale))
 
 pub put_whole-requires-clause-fits : goal.put_whole-requires-clause-fits
 put_whole-requires-clause-fits g c =
     let f = g.F.Format.answers c.args.format.now in
     let fits = whole_fits f c.args.n c.args.scale c.args.scale c.split-whole.result.0 refl c.requires.scale c.requires.below c.requires.separator c.split-whole.ensures.whole in
-    omega (arith, fits, c.put_decimals.ensures.room)
+    omega (arith, fits, c.put_wide_decimals.ensures.room)
 
 pub put_whole-requires-clause-digits : goal.put_whole-requires-clause-digits
 put_whole-requires-clause-digits g c =
@@ -20,10 +20,10 @@ put_whole-requires-clause-digits g c =
       arith,
       whole_digits c.args.n c.args.scale (omega (arith, c.requires.below)) c.requires.scale,
       ap (λ m. length (digits m)) c.split-whole.ensures.whole,
-      c.put_decimals.ensures.room,
+      c.put_wide_decimals.ensures.room,
     )
 
 pub returns : goal.returns
 returns g c =
-    unsigned_text_from (g.F.Format.answers c.args.format.now) c.put_decimals.new.self c.put_whole.new.self c.args.n c.args.scale c.split-whole.result.0 c.split-whole.result.1
-    c.split-whole.ensures.whole c.split-whole.ensures.rest c.put_decimals.ensures.text c.put_whole.ensures
+    unsigned_text_from (g.F.Format.answers c.args.format.now) c.put_wide_decimals.new.self c.put_whole.new.self c.args.n c.args.scale c.split-whole.result.0 c.split-whole.result.1
+    c.split-whole.ensures.whole c.split-whole.ensures.rest c.put_wide_decimals.ensures.text c.put_whole.ensures
