@@ -6,8 +6,12 @@
 Each check compares the exit status, standard output and standard error with what was worked out by
 hand. The last line says how many passed and failed. The exit status is 1 where one failed.
 """
+import csv
+import io
+import itertools
 import json
 import os
+import random
 import resource
 import subprocess
 import sys
@@ -22,9 +26,12 @@ PROGRAM = CRATE / "out" / CRATE.name
 EXAMPLES = ROOT / "examples"
 
 TRY_HELP = b"Try 'regroup-lines --help' for more information.\n"
-TOO_LONG = b"more than 4096 bytes"
+MAX_LINE_LEN = 1_048_576
+TOO_LONG = b"more than %d bytes" % MAX_LINE_LEN
 NOT_TEXT = b"not UTF-8"
 FEW_FIELDS = b"too few fields"
+UNCLOSED = b"unclosed quote"
+MARK = "\ufeff".encode()
 
 
 def refused(cause):
@@ -115,9 +122,23 @@ INPUTS = [
     ("en", "de", 63 * b"a" + b"1", 1, b"", fault(1, unparsed(63 * b"a" + b"1", 1, 1))),
     ("en", "de", 64 * b"a" + b"1", 1, b"", fault(1, unparsed(64 * b"a", 1))),
     ("en", "de", 300 * b"a", 1, b"", fault(1, unparsed(64 * b"a", 1))),
-    ("en", "de", 4096 * b" " + b"1\n", 1, b"", fault(1, TOO_LONG)),
-    ("en", "de", b"8\n" + 4096 * b" " + b"1", 1, b"8\n", fault(2, TOO_LONG)),
-    ("en", "de", 100_000 * b" ", 1, b"", fault(1, TOO_LONG)),
+    ("en", "de", (MAX_LINE_LEN - 4) * b" " + b"1000\n5", 0, (MAX_LINE_LEN - 4) * b" " + b"1.000\n5\n", b""),
+    ("en", "de", b"8\n" + (MAX_LINE_LEN - 1) * b" " + b"1", 0, b"8\n" + (MAX_LINE_LEN - 1) * b" " + b"1\n", b""),
+    ("en", "de", MAX_LINE_LEN * b" " + b"1\n", 1, b"", fault(1, TOO_LONG)),
+    ("en", "de", b"8\n" + MAX_LINE_LEN * b" " + b"1", 1, b"8\n", fault(2, TOO_LONG)),
+    ("en", "de", 3_000_000 * b" ", 1, b"", fault(1, TOO_LONG)),
+    # A byte order mark, at the start of the first line and elsewhere.
+    ("en", "de", MARK + b"1,000\n2,000\n", 0, MARK + b"1.000\n2.000\n", b""),
+    ("en", "de", MARK + b" -1,000.5\r\n", 0, MARK + b" -1.000,5\r\n", b""),
+    ("en", "de", MARK + (MAX_LINE_LEN - 4) * b" " + b"1", 0, MARK + (MAX_LINE_LEN - 4) * b" " + b"1\n", b""),
+    ("en", "de", MARK + (MAX_LINE_LEN - 3) * b" " + b"1", 1, b"", fault(1, TOO_LONG)),
+    ("en", "de", MARK, 1, b"", fault(1, unparsed(b""))),
+    ("en", "de", MARK + b"x\n", 1, b"", fault(1, unparsed(b"x", 1))),
+    ("en", "de", MARK + b"\xff\n", 1, b"", fault(1, NOT_TEXT)),
+    ("en", "de", 2 * MARK + b"1\n", 1, b"", fault(1, unparsed(rb"\xEF\xBB\xBF1", 1, 1))),
+    ("en", "de", b" " + MARK + b"1\n", 1, b"", fault(1, unparsed(rb"\xEF\xBB\xBF1", 1, 1))),
+    ("en", "de", b"1\n" + MARK + b"2\n", 1, b"1\n", fault(2, unparsed(rb"\xEF\xBB\xBF2", 1, 2))),
+    ("en", "de", MARK[:2] + b"1\n", 1, b"", fault(1, NOT_TEXT)),
 ]
 
 # The same of lines that are read leniently.
@@ -128,14 +149,14 @@ LENIENT = [
     # Formats whose separator and minus sign have digits, or whose minus sign is empty.
     ("custom:7:Standard:17", "en", b"17000\n5\n", 0, b"-17,000\n5\n", b""),
     ("custom:,:Standard:", "en", b"5\n1,000\n", 0, b"-5\n-1,000\n", b""),
-    ("en", "de", 4095 * b"x" + b"1\n", 0, b"1\n", b""),
+    ("en", "de", (MAX_LINE_LEN - 1) * b"x" + b"1\n", 0, b"1\n", b""),
     ("en", "de", b"1\n-$\n", 1, b"1\n", fault(2, unparsed(b"-$"))),
     ("en", "de", b"1\r\n\r\n", 1, b"1\r\n", fault(2, unparsed(b""))),
 ]
 
 # A line that is too long. Lines at fault among others, what is written where they are passed on, and the messages that
 # name them.
-LONG = 100_000 * b"x" + b"\n"
+LONG = (MAX_LINE_LEN + 9) * b"x" + b"\n"
 SOME_FAULTS = b"1,000\nx\n\n12,34\r\n\xff\n2,000"
 SOME_PASSED = b"1.000\nx\n\n12,34\r\n\xff\n2.000\n"
 SOME_NAMED = b"".join(
@@ -173,6 +194,9 @@ OPTIONS = [
     ("--field 1- --lenient", b"$1,000\t(2)\n", 0, b"1.000\t2\n", b""),
     ("--field 1- -d;", 409 * b"123456789;" + b"12345\n", 0, 409 * b"123.456.789;" + b"12.345\n", b""),
     ("--field 1- -d;", 2047 * b"1;" + b"7\n", 0, 2047 * b"1;" + b"7\n", b""),
+    ("--field 1- -d;", 104_857 * b"123456789;" + b"123456\n", 0, 104_857 * b"123.456.789;" + b"123.456\n", b""),
+    ("--field 2", (MAX_LINE_LEN - 5) * b"x" + b"\t1000\n", 0, (MAX_LINE_LEN - 5) * b"x" + b"\t1.000\n", b""),
+    ("--field 2", (MAX_LINE_LEN - 4) * b"x" + b"\t1000\n", 1, b"", fault(1, TOO_LONG)),
     ("--field 2", b"1\t2\n3\t12.5O\n", 1, b"1\t2\n", fault(2, in_field(2, unparsed(b"12.5O", 5, 125)))),
     ("--field 2", b"1\t2\n3\t\xff\n", 1, b"1\t2\n", fault(2, in_field(2, NOT_TEXT))),
     ("--field 1,3", b"1\t2\t\xff\n", 1, b"", fault(1, in_field(3, NOT_TEXT))),
@@ -184,18 +208,18 @@ OPTIONS = [
     ("--header", b"", 0, b"", b""),
     ("--header-lines 2", b"1,000\n\xff\n1,000\n", 0, b"1,000\n\xff\n1.000\n", b""),
     ("--header-lines 0", b"x\n", 1, b"", fault(1, unparsed(b"x", 1))),
-    ("--header", 4097 * b"x" + b"\n", 1, b"", fault(1, TOO_LONG)),
+    ("--header", LONG, 1, b"", fault(1, TOO_LONG)),
     ("--header --invalid warn", LONG + b"1,000\n", 0, LONG + b"1.000\n", fault(1, TOO_LONG)),
     ("--empty", b"\n1,000\n \r\n", 0, b"\n1.000\n \r\n", b""),
     ("--empty --field 2", b"a\t\tb\n", 0, b"a\t\tb\n", b""),
     ("--empty --field 2", b"\n", 1, b"", fault(1, FEW_FIELDS)),
     ("--invalid ignore", b"1,000\nx\n\xff\n2,000", 0, b"1.000\nx\n\xff\n2.000\n", b""),
     ("--invalid=ignore --field 2", b"1\na\t1,000\n", 0, b"1\na\t1.000\n", b""),
-    ("--invalid ignore", b"1\n" + 4097 * b"x", 0, b"1\n" + 4097 * b"x" + b"\n", b""),
+    ("--invalid ignore", b"1\n" + (MAX_LINE_LEN + 1) * b"x", 0, b"1\n" + (MAX_LINE_LEN + 1) * b"x" + b"\n", b""),
     ("--invalid fail", LONG + b"1,000\n", 1, LONG + b"1.000\n", fault(1, TOO_LONG)),
     ("--invalid warn", 2 * (LONG + b"1,000\n"), 0, 2 * (LONG + b"1.000\n"), fault(1, TOO_LONG) + fault(3, TOO_LONG)),
-    ("--invalid ignore", 3 * LONG + 1_000_000 * b"1" + LONG, 0, 3 * LONG + 1_000_000 * b"1" + LONG, b""),
-    ("--invalid warn", 8194 * b"x", 0, 8194 * b"x" + b"\n", fault(1, TOO_LONG)),
+    ("--invalid ignore", 3 * LONG + 9_000_000 * b"1" + LONG, 0, 3 * LONG + 9_000_000 * b"1" + LONG, b""),
+    ("--invalid warn", 2 * (MAX_LINE_LEN + 1) * b"x", 0, 2 * (MAX_LINE_LEN + 1) * b"x" + b"\n", fault(1, TOO_LONG)),
     ("--invalid abort", b"1\nx\n", 1, b"1\n", fault(2, unparsed(b"x", 1))),
     ("--invalid fail", b"1,000\n2", 0, b"1.000\n2\n", b""),
     ("--invalid fail", SOME_FAULTS, 1, SOME_PASSED, SOME_NAMED),
@@ -207,6 +231,67 @@ OPTIONS = [
     ("--invalid fail --field 2", b"1\na\t1,000\n", 1, b"1\na\t1.000\n", fault(1, FEW_FIELDS)),
     ("--invalid warn --field 1-", b"1,000\tx\n2,000\n", 0, b"1,000\tx\n2.000\n", fault(1, in_field(2, unparsed(b"x", 1)))),
     ("--invalid warn --field 2 -d;", b"1;\n1; 2,000 \n", 0, b"1;\n1; 2.000 \n", fault(1, in_field(2, unparsed(b"")))),
+    # A byte order mark.
+    ("--empty", MARK + b"\n1,000", 0, MARK + b"\n1.000\n", b""),
+    ("--field 1", MARK + b"1,000\tx\n", 0, MARK + b"1.000\tx\n", b""),
+    ("--field 2", MARK + b"a\t1,000\n", 0, MARK + b"a\t1.000\n", b""),
+    ("--field 1,3 -d;", MARK + b"1,000;2;3,000\n", 0, MARK + b"1.000;2;3.000\n", b""),
+    ("--field 1-", MARK + b"1,000\t\xff\n", 1, b"", fault(1, in_field(2, NOT_TEXT))),
+    ("--header", MARK + b"x\n" + MARK + b"1\n", 1, MARK + b"x\n", fault(2, unparsed(rb"\xEF\xBB\xBF1", 1, 1))),
+    ("--lenient", MARK + b"-5\n", 0, MARK + b"-5\n", b""),
+    ("--invalid warn", MARK + b"x\n1,000\n", 0, MARK + b"x\n1.000\n", fault(1, unparsed(b"x", 1))),
+    ("-z", MARK + b"1,000\0" + b"2", 0, MARK + b"1.000\0" + b"2\0", b""),
+    # Lines that end with NUL. A newline is whitespace around a number, and at fault within one.
+    ("-z", b"", 0, b"", b""),
+    ("-z", b"1,000\0-2,000.5\0", 0, b"1.000\0-2.000,5\0", b""),
+    ("--zero-terminated", b"1,000\0" + b"2,000", 0, b"1.000\0" + b"2.000\0", b""),
+    ("-z", b"\n1,000\r\n\0" + b"2\n", 0, b"\n1.000\r\n\0" + b"2\n\0", b""),
+    ("-z", b"1\0" + b"1\n2\0", 1, b"1\0", fault(2, unparsed(rb"1\x0A2", 2, 12))),
+    ("-z", b"1\0\0" + b"2\0", 1, b"1\0", fault(2, unparsed(b""))),
+    ("-z", MAX_LINE_LEN * b" " + b"1\0", 1, b"", fault(1, TOO_LONG)),
+    ("-z --empty", b"\n\0\0" + b"1,000\0", 0, b"\n\0\0" + b"1.000\0", b""),
+    ("-z --lenient", b"$1,000\n\0", 0, b"1.000\n\0", b""),
+    ("-z --field 2", b"a\t1,000\tb\n\0" + b"\t2,000.5\n", 0, b"a\t1.000\tb\n\0" + b"\t2.000,5\n\0", b""),
+    ("-z --field 1,3 -d;", b"1,000;b\n;2,000\0" + b"3,000;4", 1, b"1.000;b\n;2.000\0", fault(2, FEW_FIELDS)),
+    ("-z --field 1-", b"1,000\t2,000\0", 0, b"1.000\t2.000\0", b""),
+    ("-z --header", b"x\ny\0" + b"1,000\0", 0, b"x\ny\0" + b"1.000\0", b""),
+    ("-z --invalid warn", b"x\0\xff\0" + b"2,000", 0, b"x\0\xff\0" + b"2.000\0", fault(1, unparsed(b"x", 1)) + fault(2, NOT_TEXT)),
+    ("-z --invalid fail", LONG + b"\0" + b"1,000\0", 1, LONG + b"\0" + b"1.000\0", fault(1, TOO_LONG)),
+    # Records of RFC 4180.
+    ("--csv --field 2", b'a,"1,234.50",b\n', 0, b'a,"1.234,50",b\n', b""),
+    ("--csv --field 2", b'"a,""x""",5,"b\nc,1"\n', 0, b'"a,""x""",5,"b\nc,1"\n', b""),
+    ("--csv --field 2", b"a,1234.5\r\n\r\n", 1, b'a,"1.234,5"\r\n', fault(2, FEW_FIELDS)),
+    ("--csv --field 1", b"1234.5\r\n", 0, b'"1.234,5"\r\n', b""),
+    ("--csv --field 1", b" 1234.5 \r", 0, b'" 1.234,5 "\r\n', b""),
+    ("--csv --field 1", b' "1,234.5" \r\n', 0, b' "1.234,5" \r\n', b""),
+    ("--csv --field 1", b'" 1,234.5 "\n', 0, b'" 1.234,5 "\n', b""),
+    ("--csv --field 1", b'"5"\n7', 0, b'"5"\n7\n', b""),
+    ("--csv --field 1 --empty", b'\n"",x\n" "\n\r\n', 0, b'\n"",x\n" "\n\r\n', b""),
+    ("--csv --field 1", b"1\n\n", 1, b"1\n", fault(2, in_field(1, unparsed(b"")))),
+    ("--csv --field 1", b'""\n', 1, b"", fault(1, in_field(1, unparsed(b"")))),
+    ("--csv --field 3", b'"a\nb",x,"1,000"\n', 0, b'"a\nb",x,"1.000"\n', b""),
+    ("--csv --field 3", b'x,"\n\n1,000\n",1000,y\n', 0, b'x,"\n\n1,000\n",1.000,y\n', b""),
+    ("--csv --field 2", b'x,"1\n000",y\n', 1, b"", fault(1, in_field(2, unparsed(b'"1', 1, 1)))),
+    ("--csv --field 2 --invalid warn", b'x,"1\n000",y\n', 0, b'x,"1\n000",y\n', fault(1, in_field(2, unparsed(b'"1', 1, 1)))),
+    ("--csv --field 3 --invalid warn", b'x,"\n",y\nx,"\n",5\n', 0, b'x,"\n",y\nx,"\n",5\n', fault(2, in_field(3, unparsed(b"y", 1)))),
+    ("--csv --field 3", b'x,"\n"\n', 1, b'x,"\n', fault(2, FEW_FIELDS)),
+    ("--csv --field 1,3", b'1000.5,"\n",2000.5\n', 0, b'"1.000,5","\n","2.000,5"\n', b""),
+    ("--csv --field 2-", b'x,"1,000",2000.5\n', 0, b'x,"1.000","2.000,5"\n', b""),
+    ("--csv --field 1", b'1""\n', 1, b"", fault(1, in_field(1, unparsed(b'1""', 2, 1)))),
+    ("--csv --field 1 --lenient", b'1""\n', 1, b"", fault(1, in_field(1, unparsed(b'1""')))),
+    ("--csv --field 1 --lenient", b'"$1,000"\n', 0, b'"1.000"\n', b""),
+    ("--csv --field 2 -d;", b'"a;b";1,234.50;c\n', 0, b'"a;b";1.234,50;c\n', b""),
+    ("--csv --field 1", b'5,"x\n', 1, b'5,"x\n', fault(1, UNCLOSED)),
+    ("--csv --field 1", b'5,"x\n\ny', 1, b'5,"x\n\ny\n', fault(3, UNCLOSED)),
+    ("--csv --field 1 --invalid fail", b'5,"x\n', 1, b'5,"x\n', fault(1, UNCLOSED)),
+    ("--csv --field 1 --invalid warn", b'5,"x\n', 0, b'5,"x\n', fault(1, UNCLOSED)),
+    ("--csv --field 1 --invalid ignore", b'5,"x\n', 0, b'5,"x\n', b""),
+    ("--csv --field 1 --invalid warn", b'x,"' + LONG + b'",5\n1000.5\n', 0, b'x,"' + LONG + b'",5\n"1.000,5"\n', fault(1, TOO_LONG)),
+    ("--csv --field 2 --header", b'a,b\nx,1000\n', 0, b"a,b\nx,1.000\n", b""),
+    ("--csv --field 2 --header-lines 2", b'"a\nb",c\nx,1000\n', 0, b'"a\nb",c\nx,1.000\n', b""),
+    ("-z --csv --field 2", b'a\n,"1,000"\0' + b'"\0,",2\0', 0, b'a\n,"1.000"\0' + b'"\0,",2\0', b""),
+    ("--lenient", b"1,000\0" + b"2\n", 0, b"10.002\n", b""),
+    ("--empty", b"\0\n", 1, b"", fault(1, unparsed(rb"\x00", 1))),
 ]
 
 # Words that do not name two formats, and the message.
@@ -262,6 +347,8 @@ REFUSED = [
     (["--field", "18446744073709551616", "en", "de"], NO_LIST),
     (["--field", "en", "de"], refused(b"missing operand")),
     (["-d,", "en", "de"], refused(b"option '--delimiter' requires '--field'")),
+    (["--csv", "en", "de"], refused(b"option '--csv' requires '--field'")),
+    (["--csv", "--field=1", "-d", '"', "en", "de"], refused(b"the delimiter is a quote")),
     (["--field=1", "-d", "", "en", "de"], refused(b"the delimiter is not one ASCII character")),
     (["--field=1", "-d", "\u202f", "en", "de"], refused(b"the delimiter is not one ASCII character")),
     (["--header", "--header-lines=2", "en", "de"], TWO_HEADERS),
@@ -277,6 +364,7 @@ FILES = {
     "b.txt": b"y\n2,000",
     "bad.txt": b"3\nabc\n4\n",
     "empty.txt": b"",
+    "marked.txt": MARK + b"1,000\n",
     "-": b"-,6\n",
     "-d": b"7,000\n",
 }
@@ -298,6 +386,7 @@ OPERANDS = [
     (["--header", "a.txt", "-", "b.txt"], b"z\n5,000", 0, b"x\n1.000\nz\n5.000\ny\n2.000\n", b""),
     (["-", "-"], b"1,000\n", 0, b"1.000\n", b""),
     (["empty.txt"], b"1\n", 0, b"", b""),
+    (["marked.txt", "marked.txt"], b"", 0, 2 * (MARK + b"1.000\n"), b""),
     (["--field=2", "-d,", "./-"], b"", 0, b"-,6\n", b""),
     (["--", "-d"], b"", 0, b"7.000\n", b""),
     (["bad.txt", "a.txt"], b"", 1, b"3\n", fault(2, unparsed(b"abc", 1), b"bad.txt")),
@@ -380,12 +469,15 @@ FAULTS = [
     (1_000_000, b"x\n", fault(1000001, unparsed(b"x", 1))),
     (1_000_000, b"\n", fault(1000001, unparsed(b""))),
     (1_000_000, b"\xff\n1\n", fault(1000001, NOT_TEXT)),
-    (2_000_000, 4096 * b" " + b"1\n", fault(2000001, TOO_LONG)),
+    (2_000_000, MAX_LINE_LEN * b" " + b"1\n", fault(2000001, TOO_LONG)),
 ]
 
 # How many lines a long input has, and how many of them stand before the line at fault.
 LINES = 2_500_000
 SOUND_LINES = 2_400_000
+
+# How many records a text of them has.
+RECORDS = 2000
 
 # The memory in bytes that the program may have, with its code: less than the long input.
 MEMORY = 8 * 1024 * 1024
@@ -508,6 +600,53 @@ def check_example(tally, program):
         compare(tally, f"all lines, --invalid {mode}", ended, status, expected, named)
     before = b"".join(expected.splitlines(keepends=True)[:7])
     compare(tally, "up to line 8", regroup(program, words, table), 1, before, first)
+    records = (EXAMPLES / "sales.csv").read_bytes()
+    expected = (EXAMPLES / "sales_csv.expected").read_bytes()
+    named = first + fault(13, in_field(3, unparsed(b"n/a", 1)))
+    ended = regroup(program, ["--csv", "--invalid", "warn", *words], records)
+    compare(tally, "the same as records of RFC 4180", ended, 0, expected, named)
+
+
+def check_records(tally, program):
+    """Regroups records that Python's `csv` writes, there and back, and compares their fields as Python's `csv` reads them."""
+    heading("records that Python's csv writes and reads")
+    randomly = random.Random(4180)
+    for quoting, line_end in itertools.product([csv.QUOTE_MINIMAL, csv.QUOTE_ALL], ["\r\n", "\n"]):
+        rows = [row_of(randomly) for _ in range(RECORDS)]
+        text = written(rows, quoting, line_end)
+        name = f"quoting {quoting}, {line_end!r}"
+        words = ["--csv", "--field", "2,4"]
+        there = regroup(program, [*words, "en", "de"], text)
+        expected = [[first, german(second), third, german(fourth)] for first, second, third, fourth in rows]
+        compare_records(tally, name, there, expected)
+        compare_records(tally, f"{name}, back", regroup(program, [*words, "de", "en"], there.stdout), rows)
+        compare(tally, f"{name}, each byte", regroup(program, [*words, "en", "en"], text), 0, text, b"")
+
+
+def row_of(randomly):
+    """A record with two amounts, as `en` writes them."""
+    others = ["".join(randomly.choices('a,";\n \u20ac', k=randomly.randrange(6))) for _ in range(2)]
+    amounts = [f"{randomly.randrange(-10**8, 10**8) / 100:,.2f}" for _ in range(2)]
+    return [others[0], amounts[0], others[1], amounts[1]]
+
+
+def german(amount):
+    """The same amount as `de` writes it."""
+    return amount.translate(str.maketrans(",.", ".,"))
+
+
+def written(rows, quoting, line_end):
+    """The bytes that Python's `csv` writes of the rows."""
+    out = io.StringIO(newline="")
+    csv.writer(out, quoting=quoting, lineterminator=line_end).writerows(rows)
+    return out.getvalue().encode()
+
+
+def compare_records(tally, name, ended, rows):
+    """Counts a check of the fields that Python's `csv` reads of the output of a run."""
+    found = list(csv.reader(io.StringIO(ended.stdout.decode(), newline="")))
+    differ = next((pair for pair in itertools.zip_longest(found, rows) if pair[0] != pair[1]), None)
+    tally.compare(name, (ended.returncode, ended.stderr, differ), (0, b"", None))
 
 
 def check_failures(tally, program):
@@ -557,16 +696,18 @@ def check_closed_pipe(tally, program):
 def check_slow_input(tally, program):
     """Reads each line of the output before the next one of the input is written."""
     heading("a slow input")
-    lines = []
-    words = [program, "--line-buffered", "--field=2", "en", "de"]
-    with subprocess.Popen(words, stdin=subprocess.PIPE, stdout=subprocess.PIPE) as ended:
-        for line in [b"a\t1,000\tb\n", b"c\t2,000.5\td\n"]:
-            ended.stdin.write(line)
-            ended.stdin.flush()
-            lines.append(ended.stdout.readline())
-        ended.stdin.close()
-        found = (lines, ended.stdout.read(), ended.wait(RUN_SECONDS))
-    tally.compare("--line-buffered", found, ([b"a\t1.000\tb\n", b"c\t2.000,5\td\n"], b"", 0))
+    for options in [[], ["--line-buffered"]]:
+        lines = []
+        words = [program, *options, "--field=2", "en", "de"]
+        with subprocess.Popen(words, stdin=subprocess.PIPE, stdout=subprocess.PIPE) as ended:
+            for line in [b"a\t1,000\tb\n", b"c\t2,000.5\td\n"]:
+                ended.stdin.write(line)
+                ended.stdin.flush()
+                lines.append(ended.stdout.readline())
+            ended.stdin.close()
+            found = (lines, ended.stdout.read(), ended.wait(RUN_SECONDS))
+        name = " ".join(options) or "no option"
+        tally.compare(name, found, ([b"a\t1.000\tb\n", b"c\t2.000,5\td\n"], b"", 0))
 
 
 def check_long(tally, program):
@@ -596,6 +737,7 @@ def check_all(tally, program):
     check_files(tally, program)
     check_formats(tally, program)
     check_example(tally, program)
+    check_records(tally, program)
     check_failures(tally, program)
     check_closed_pipe(tally, program)
     check_slow_input(tally, program)

@@ -1,7 +1,7 @@
 # Completes the options of regroup-lines, and the values of --invalid.
 _regroup_lines() {
     local word=${COMP_WORDS[COMP_CWORD]} before=${COMP_WORDS[COMP_CWORD - 1]}
-    local words="--field --delimiter --header --header-lines --empty --invalid --lenient --line-buffered --help --version"
+    local words="--field --delimiter --csv --header --header-lines --empty --invalid --lenient --line-buffered --zero-terminated --help --version"
     case $before in
     --invalid) words="abort fail warn ignore" ;;
     --field | --delimiter | -d | --header-lines) return ;;

@@ -8,7 +8,7 @@ mod options;
 mod words;
 
 use crate::misuse::{refuse_arguments, refuse_words};
-use crate::options::{capacity_of, files_of, list_of, rules_of, words_of};
+use crate::options::{capacity_of, files_of, is_quote_between, list_of, rules_of, words_of};
 use crate::words::Word;
 use clap::error::ErrorKind;
 use regroup_options::matches;
@@ -16,15 +16,15 @@ use regroup_stream::{
     FAILED, FAULTY, Formats, Invalid, MISUSED, REGROUPED, Rules, formats_named, refuse, run,
 };
 use std::fs::File;
-use std::io::{BufReader, BufWriter, Read, Stdin};
+use std::io::{BufWriter, Read, Stdin};
 use std::process::ExitCode;
 use std::{env, io};
 
-/// The bytes of each buffer.
+/// The bytes of the output's buffer.
 const CAPACITY: usize = 65536;
 
 /// Regroups the lines and exits with the status. The status is 3 also where the program has no memory for its
-/// arguments or for the buffers of a file, and then nothing of that file is written.
+/// arguments or for the buffers, and then nothing is written.
 fn main(rt: HostRuntime) -> ExitCode {
     ExitCode::from(try_main(&rt).unwrap_or(FAILED))
 }
@@ -60,6 +60,10 @@ fn try_main(rt: &HostRuntime) -> io::Result<u8> {
         refuse_words(rt, "the fields are no list, as 1,3-5 or 2-")?;
         return Ok(MISUSED);
     };
+    if is_quote_between(&matches) {
+        refuse_words(rt, "the delimiter is a quote")?;
+        return Ok(MISUSED);
+    }
     let Some(rules) = rules_of(&matches, &list) else {
         refuse_words(rt, "the delimiter is not one ASCII character")?;
         return Ok(MISUSED);
@@ -75,7 +79,8 @@ fn try_main(rt: &HostRuntime) -> io::Result<u8> {
 }
 
 /// Regroups the lines of the files in turn, up to the first whose lines are not all written, and returns the highest
-/// status. A file that cannot be opened is left out. The buffer of the output has this capacity.
+/// status. A file that cannot be opened is left out. The buffer of the output has this capacity, and that of the input one
+/// byte more than a line may have.
 ///
 /// # Errors
 ///
@@ -88,14 +93,12 @@ fn regroup_files(
     names: &[&str],
 ) -> io::Result<u8> {
     let mut out = BufWriter::with_capacity(rt.alloc(), capacity, rt.stdout())?;
+    let mut buffer = vec![in rt.alloc(); 0; rules.max_line_len as usize + 1]?;
     let mut err = rt.stderr();
     let mut status = REGROUPED;
     for name in names {
         let ended = match Input::open(rt, name) {
-            Ok(input) => {
-                let input = BufReader::with_capacity(rt.alloc(), CAPACITY, input)?;
-                run(rules, formats, name, input, &mut out, &mut err)
-            }
+            Ok(input) => run(rules, formats, name, &mut buffer, input, &mut out, &mut err),
             Err(error) => {
                 status = status.max(refuse(name, error.kind(), &mut err));
                 continue;

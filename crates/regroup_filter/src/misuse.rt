@@ -52,6 +52,8 @@ fn cause_of(alloc: Global, kind: ErrorKind, text: &str) -> Result<String, AllocE
             let missing = between(text, "not provided:", "\n\n");
             let cause = if missing.contains("<TO>") {
                 "missing operand"
+            } else if text.contains("--csv") {
+                "option '--csv' requires '--field'"
             } else {
                 "option '--delimiter' requires '--field'"
             };

@@ -1,8 +1,13 @@
 //! What the options and words of the command line ask for.
 
 use clap::ArgMatches;
-use regroup_stream::{FieldRange, Fields, Invalid, Reading, Rules, Span, field_list};
+use regroup_stream::{
+    FieldRange, Fields, Invalid, Reading, Records, Rules, Span, Within, field_list,
+};
 use std::alloc::{AllocError, Global};
+
+/// The most bytes of a line, without its newline.
+const MAX_LINE_LEN: u32 = 1_048_576;
 
 /// Returns the fields that are chosen: none without `--field`. Returns `None` if its value is no list.
 ///
@@ -37,7 +42,15 @@ pub(crate) fn rules_of<'a>(matches: &ArgMatches<'_>, list: &'a [FieldRange]) -> 
         header_lines,
         passes_empty: matches.get_flag("empty"),
         invalid: invalid_of(matches),
+        line_end: line_end_of(matches),
+        max_line_len: MAX_LINE_LEN,
+        flushes: true,
     })
+}
+
+/// Returns whether fields that may be in quotes have a quote between them.
+pub(crate) fn is_quote_between(matches: &ArgMatches<'_>) -> bool {
+    matches.get_flag("csv") && matches.get_str("delimiter") == Some("\"")
 }
 
 /// Returns what is done with a line at fault.
@@ -50,16 +63,35 @@ fn invalid_of(matches: &ArgMatches<'_>) -> Invalid {
     }
 }
 
+/// Returns the byte that ends a line.
+fn line_end_of(matches: &ArgMatches<'_>) -> u8 {
+    if matches.get_flag("zero-terminated") {
+        b'\0'
+    } else {
+        b'\n'
+    }
+}
+
 /// Returns where the numbers of a line are, or `None` if the delimiter is not one ASCII character.
 fn span_of<'a>(matches: &ArgMatches<'_>, list: &'a [FieldRange]) -> Option<Span<'a>> {
     if list.is_empty() {
         return Some(Span::Trimmed);
     }
-    let delimiter = match matches.get_str("delimiter").unwrap_or("\t").as_bytes() {
+    let is_csv = matches.get_flag("csv");
+    let usual = if is_csv { "," } else { "\t" };
+    let delimiter = match matches.get_str("delimiter").unwrap_or(usual).as_bytes() {
         [byte] if byte.is_ascii() => *byte,
         _ => return None,
     };
-    Some(Span::Fields(Fields { list, delimiter }))
+    let fields = Fields { list, delimiter };
+    if !is_csv {
+        return Some(Span::Fields(fields));
+    }
+    let within = Within {
+        inside: false,
+        before: 0,
+    };
+    Some(Span::Csv(Records { fields, within }))
 }
 
 /// Returns the capacity of the output's buffer in bytes: that of a block, or none where each line is written at once.

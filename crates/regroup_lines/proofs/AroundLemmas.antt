@@ -3,20 +3,20 @@ use Rattle.std.proofs.Common.{ℕ, List, [], ◌∷◌, ◌++◌, Option}
 use Rattle.std.specs.Io.KnownBytes.{Appends}
 use Rattle.std.proofs.KnownBytes.{Appends-trans}
 use Rattle.num_format.specs.Writing.{StopsWithin}
-use Rattle.regroup_shared.specs.Sending.{line}
+use Rattle.regroup_shared.specs.Sending.{ended_by}
 use Rattle.regroup_shared.proofs.SendingLemmas.{StopsWithin_prefix, StopsWithin_suffix}
 
--- a text, and a newline
-module _ (a b : Option (List ℕ)) (text : List ℕ) where
-  pub passed_prefix : StopsWithin a b text → StopsWithin a b (line text)
-  passed_prefix stops = StopsWithin_prefix a b text (10 ∷ []) stops
+-- a text, and the byte that ends it
+module _ (end : ℕ) (a b : Option (List ℕ)) (text : List ℕ) where
+  pub passed_prefix : StopsWithin a b text → StopsWithin a b (ended_by end text)
+  passed_prefix stops = StopsWithin_prefix a b text (end ∷ []) stops
 
   module _ (c : Option (List ℕ)) (sent : Appends a b text) where
-    pub passed_suffix : StopsWithin b c (10 ∷ []) → StopsWithin a c (line text)
-    passed_suffix stops = StopsWithin_suffix a b c text (10 ∷ []) sent stops
+    pub passed_suffix : StopsWithin b c (end ∷ []) → StopsWithin a c (ended_by end text)
+    passed_suffix stops = StopsWithin_suffix a b c text (end ∷ []) sent stops
 
-    pub passed_whole : Appends b c (10 ∷ []) → Appends a c (line text)
-    passed_whole newline = Appends-trans a b c text (10 ∷ []) sent newline
+    pub passed_whole : Appends b c (end ∷ []) → Appends a c (ended_by end text)
+    passed_whole newline = Appends-trans a b c text (end ∷ []) sent newline
 
 -- a text, and the bytes around it
 module _ (before text after : List ℕ) (a b : Option (List ℕ)) where

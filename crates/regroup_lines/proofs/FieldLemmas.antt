@@ -10,7 +10,7 @@ use Rattle.std.proofs.lemmas.Bool.Decides.{Decides-ltb}
 use Rattle.std.proofs.lemmas.List.Splits.{join_with_byte-slice_split}
 use Rattle.num_format.specs.Format.{FormatData}
 use Rattle.num_format.specs.Writing.{StopsWithin}
-use Rattle.regroup_shared.specs.Sending.{Sends, line}
+use Rattle.regroup_shared.specs.Sending.{Sends, ended_by}
 use Rattle.regroup_shared.proofs.SendingLemmas.{StopsWithin_prefix, StopsWithin_suffix}
 use Rattle.regroup_lines.specs.Fault.{Fault}
 use Rattle.regroup_lines.specs.Fault.Fault.{FewFields, Write}
@@ -28,7 +28,7 @@ at_most-later : (last : Option ℕ) (m n : ℕ) → m ≤ n → is_at_most m las
 at_most-later None m n later past = absurd (cc)
 at_most-later (Some last) m n later past = let over = leb-false m last past in lt-leb n last (omega (arith, over))
 
-and_false : (x y : Bool) → y ≡ false → (x && y) ≡ false
+pub and_false : (x y : Bool) → y ≡ false → (x && y) ≡ false
 and_false true y past = past
 and_false false y past = refl
 
@@ -37,13 +37,13 @@ and_true true y here there = there
 and_true false y here there = here
 
 -- where past range reaches a field, neither it nor one after it is chosen, and the line has enough of them
-chosen_from-later : (list : List FieldRange) (m n : ℕ) → m ≤ n → is_chosen_from list m ≡ false → is_chosen_from list n ≡ false
+pub chosen_from-later : (list : List FieldRange) (m n : ℕ) → m ≤ n → is_chosen_from list m ≡ false → is_chosen_from list n ≡ false
 chosen_from-later [] m n later past = refl
 chosen_from-later (range ∷ list) m n later past =
     let parts = or_parts (is_at_most m range.last) (is_chosen_from list m) past in
     or_from _ _ (at_most-later range.last m n later parts.0) (chosen_from-later list m n later parts.1)
 
-chosen-none : (list : List FieldRange) (n : ℕ) → is_chosen_from list n ≡ false → is_chosen list n ≡ false
+pub chosen-none : (list : List FieldRange) (n : ℕ) → is_chosen_from list n ≡ false → is_chosen list n ≡ false
 chosen-none [] n past = refl
 chosen-none (range ∷ list) n past =
     let parts = or_parts (is_at_most n range.last) (is_chosen_from list n) past in
@@ -53,7 +53,7 @@ enough-one : (first : ℕ) (last : Option ℕ) (count : ℕ) → is_at_most (cou
 enough-one first None count past = absurd (cc)
 enough-one first (Some last) count past = let over = leb-false (count + 1) last past in le-leb last count (omega (arith, over))
 
-enough-all : (list : List FieldRange) (count : ℕ) → is_chosen_from list (count + 1) ≡ false → are_enough list count ≡ true
+pub enough-all : (list : List FieldRange) (count : ℕ) → is_chosen_from list (count + 1) ≡ false → are_enough list count ≡ true
 enough-all [] count past = refl
 enough-all (range ∷ list) count past =
     let parts = or_parts (is_at_most (count + 1) range.last) (is_chosen_from list (count + 1)) past in
@@ -69,12 +69,12 @@ module _ (rules : Rules) (list : List FieldRange) (from to : FormatData) (number
       ∙ ap (with_first (Ok field)) (fields-passed (count + 1) fields (chosen_from-later list (count + 1) (count + 1 + 1) (omega arith) past))
 
 -- a fault, or none, before others
-checked-later : (first : Result (List ℕ) Fault) (rest : Result (List (List ℕ)) Fault) → Ok tt ≡ checked first → checked (with_first first rest) ≡ checked rest
+pub checked-later : (first : Result (List ℕ) Fault) (rest : Result (List (List ℕ)) Fault) → Ok tt ≡ checked first → checked (with_first first rest) ≡ checked rest
 checked-later (Ok text) (Ok texts) sound = refl
 checked-later (Ok text) (Err fault) sound = refl
 checked-later (Err fault) rest sound = absurd (cc)
 
-checked-first : (first : Result (List ℕ) Fault) (rest : Result (List (List ℕ)) Fault) (f : Fault) → Err f ≡ checked first → checked (with_first first rest) ≡ Err f
+pub checked-first : (first : Result (List ℕ) Fault) (rest : Result (List (List ℕ)) Fault) (f : Fault) → Err f ≡ checked first → checked (with_first first rest) ≡ Err f
 checked-first (Ok text) rest f is = absurd (cc)
 checked-first (Err fault) rest f is = sym is
 
@@ -109,16 +109,16 @@ pub record Parts (first : Result (List ℕ) Fault) (rest : Result (List (List �
   pub rest_is : rest ≡ Ok later
   pub texts_are : texts ≡ text ∷ later
 
-abbrev texts_of : Result (List (List ℕ)) Fault → List (List ℕ)
+abbrev pub texts_of : Result (List (List ℕ)) Fault → List (List ℕ)
 texts_of (Ok texts) = texts
 texts_of (Err fault) = []
 
-parts : (first : Result (List ℕ) Fault) (rest : Result (List (List ℕ)) Fault) (texts : List (List ℕ)) → with_first first rest ≡ Ok texts → Parts first rest texts
+pub parts : (first : Result (List ℕ) Fault) (rest : Result (List (List ℕ)) Fault) (texts : List (List ℕ)) → with_first first rest ≡ Ok texts → Parts first rest texts
 parts (Ok text) (Ok later) texts is = record { text = text; later = later; first_is = refl; rest_is = refl; texts_are = sym (ap texts_of is) }
 parts (Ok text) (Err fault) texts is = absurd (cc)
 parts (Err fault) rest texts is = absurd (cc)
 
-none-left : (enough : Bool) (f : Fault) (texts : List (List ℕ)) → (if enough then Ok [] else Err f) ≡ Ok texts → texts ≡ []
+pub none-left : (enough : Bool) (f : Fault) (texts : List (List ℕ)) → (if enough then Ok [] else Err f) ≡ Ok texts → texts ≡ []
 none-left true f texts is = sym (ap texts_of is)
 none-left false f texts is = absurd (cc)
 
@@ -136,7 +136,7 @@ written-none rules list from to number count [] texts is none = none-left (are_e
 written-none rules list from to number count (field ∷ fields) texts is none = absurd (cc)
 
 -- texts with a delimiter between each two
-joined-more : (d : ℕ) (text : List ℕ) (texts : List (List ℕ)) → 0 < length texts → join_with_byte d (text ∷ texts) ≡ text ++ d ∷ join_with_byte d texts
+pub joined-more : (d : ℕ) (text : List ℕ) (texts : List (List ℕ)) → 0 < length texts → join_with_byte d (text ∷ texts) ≡ text ++ d ∷ join_with_byte d texts
 joined-more d text [] some = absurd (omega arith)
 joined-more d text (next ∷ texts) some = refl
 
@@ -149,10 +149,10 @@ pub record Sent (rules : Rules) (list : List FieldRange) (from to : FormatData) 
   pub appended : Appends old new sent
 
 -- what the call that sends a field, or a delimiter, did after that
-SendsIfOk-ok : {T : Type 0} (first : Result (List ℕ) Fault) (text : List ℕ) (a b : Option (List ℕ)) (done : T) → first ≡ Ok text → SendsIfOk first a b (Ok done) → Appends a b text
+pub SendsIfOk-ok : {T : Type 0} (first : Result (List ℕ) Fault) (text : List ℕ) (a b : Option (List ℕ)) (done : T) → first ≡ Ok text → SendsIfOk first a b (Ok done) → Appends a b text
 SendsIfOk-ok first text a b done is sends = subst (λ r. SendsIfOk r a b (Ok done)) is sends
 
-SendsIfOk-err : (T : Type 0) (first : Result (List ℕ) Fault) (text : List ℕ) (a b : Option (List ℕ)) (f : Fault) → first ≡ Ok text → SendsIfOk {T = T} first a b (Err f) →
+pub SendsIfOk-err : (T : Type 0) (first : Result (List ℕ) Fault) (text : List ℕ) (a b : Option (List ℕ)) (f : Fault) → first ≡ Ok text → SendsIfOk {T = T} first a b (Err f) →
     (f ≡ Write) × StopsWithin a b text
 SendsIfOk-err T first text a b f is sends = subst (λ r. SendsIfOk {T = T} r a b (Err f)) is sends
 
@@ -164,7 +164,7 @@ module _ {E : Type 0} (a b : Option (List ℕ)) (text : List ℕ) where
   text-sent (Err e) sends result is = subst (λ r. SendsIfOk (Ok text) a b (result_map_both (λ done. done) line_fault_of r)) (sym is) (refl, sends.prefix)
 
 -- a first text is at the start of the joined ones
-joined-first : (d : ℕ) (text : List ℕ) (later : List (List ℕ)) → (more : List ℕ) × (join_with_byte d (text ∷ later) ≡ text ++ more)
+pub joined-first : (d : ℕ) (text : List ℕ) (later : List (List ℕ)) → (more : List ℕ) × (join_with_byte d (text ∷ later) ≡ text ++ more)
 joined-first d text [] = ([], sym (append-nil text))
 joined-first d text (next ∷ later) = (d ∷ join_with_byte d (next ∷ later), refl)
 
@@ -173,12 +173,12 @@ module _ (rules : Rules) (list : List FieldRange) (from to : FormatData) (number
   Sent-none texts fields is = record { left = texts; left_is = is; sent = []; joined = refl; appended = Appends-nil a }
 
   module _ (count : ℕ) (texts fields : List (List ℕ)) (b : Option (List ℕ)) (so_far : Sent rules list from to number d count texts fields a b) where
-    whole : (text : List ℕ) → join_with_byte d so_far.left ++ 10 ∷ [] ≡ text → so_far.sent ++ text ≡ line (join_with_byte d texts)
-    whole text is = ap (λ l. so_far.sent ++ l) (sym is) ∙ sym (append_assoc so_far.sent (join_with_byte d so_far.left) (10 ∷ [])) ∙ ap line (sym so_far.joined)
+    whole : (text : List ℕ) → join_with_byte d so_far.left ++ rules.line_end ∷ [] ≡ text → so_far.sent ++ text ≡ ended_by rules.line_end (join_with_byte d texts)
+    whole text is = ap (λ l. so_far.sent ++ l) (sym is) ∙ sym (append_assoc so_far.sent (join_with_byte d so_far.left) (rules.line_end ∷ [])) ∙ ap (ended_by rules.line_end) (sym so_far.joined)
 
     -- a last part of the line
-    sent-last : {T : Type 0} (c : Option (List ℕ)) (text : List ℕ) (result : Result T Fault) → join_with_byte d so_far.left ++ 10 ∷ [] ≡ text → SendsIfOk (Ok text) b c result →
-        SendsIfOk (Ok (line (join_with_byte d texts))) a c result
+    sent-last : {T : Type 0} (c : Option (List ℕ)) (text : List ℕ) (result : Result T Fault) → join_with_byte d so_far.left ++ rules.line_end ∷ [] ≡ text → SendsIfOk (Ok text) b c result →
+        SendsIfOk (Ok (ended_by rules.line_end (join_with_byte d texts))) a c result
     sent-last c text (Ok done) is sends =
         subst (Appends a c) (whole text is) (Appends-trans a b c so_far.sent text so_far.appended sends)
     sent-last c text (Err f) is sends =
@@ -186,11 +186,11 @@ module _ (rules : Rules) (list : List FieldRange) (from to : FormatData) (number
 
     -- all other fields are passed on
     pub sent-rest : {T : Type 0} (c : Option (List ℕ)) (text : List ℕ) (result : Result T Fault) → is_chosen_from list (count + 1) ≡ false →
-        fields ≡ slice_split (λ b. b == d) text → SendsIfOk (Ok (line text)) b c result → SendsIfOk (Ok (line (join_with_byte d texts))) a c result
+        fields ≡ slice_split (λ b. b == d) text → SendsIfOk (Ok (ended_by rules.line_end text)) b c result → SendsIfOk (Ok (ended_by rules.line_end (join_with_byte d texts))) a c result
     sent-rest c text result past split sends =
         let left : so_far.left ≡ fields = ap texts_of (sym so_far.left_is ∙ fields-passed rules list from to number count fields past) in
-        sent-last c (line text) result
-        (ap line (ap (join_with_byte d) (left ∙ split) ∙ join_with_byte-slice_split d text)) sends
+        sent-last c (ended_by rules.line_end text) result
+        (ap (ended_by rules.line_end) (ap (join_with_byte d) (left ∙ split) ∙ join_with_byte-slice_split d text)) sends
 
     module _ (field : List ℕ) (rest : List (List ℕ)) (split : fields ≡ field ∷ rest) where
       found : Parts (field_written rules from to number (count + 1) (is_chosen list (count + 1)) field) (fields_written rules list from to number (count + 1) rest) so_far.left
@@ -198,14 +198,14 @@ module _ (rules : Rules) (list : List FieldRange) (from to : FormatData) (number
 
       -- the field was sent, or not
       pub sent-stop : (T : Type 0) (c : Option (List ℕ)) (f : Fault) →
-          SendsIfOk {T = T} (field_written rules from to number (count + 1) (is_chosen list (count + 1)) field) b c (Err f) → SendsIfOk {T = T} (Ok (line (join_with_byte d texts))) a c (Err f)
+          SendsIfOk {T = T} (field_written rules from to number (count + 1) (is_chosen list (count + 1)) field) b c (Err f) → SendsIfOk {T = T} (Ok (ended_by rules.line_end (join_with_byte d texts))) a c (Err f)
       sent-stop T c f sends =
           let stops = SendsIfOk-err T _ found.text b c f found.first_is sends in
           let more = joined-first d found.text found.later in (
             stops.0,
             subst (StopsWithin a c) (whole _ refl)
                 (StopsWithin_suffix a b c so_far.sent _ so_far.appended
-                (StopsWithin_prefix b c _ (10 ∷ [])
+                (StopsWithin_prefix b c _ (rules.line_end ∷ [])
                 (subst (StopsWithin b c) (sym (ap (join_with_byte d) found.texts_are ∙ more.1)) (StopsWithin_prefix b c found.text more.0 stops.1)))),
           )
 
@@ -213,18 +213,18 @@ module _ (rules : Rules) (list : List FieldRange) (from to : FormatData) (number
         appended : Appends a c (so_far.sent ++ found.text)
         appended = Appends-trans a b c so_far.sent found.text so_far.appended (SendsIfOk-ok _ found.text b c done found.first_is sends)
 
-        last : rest ≡ [] → (so_far.sent ++ found.text) ++ 10 ∷ [] ≡ line (join_with_byte d texts)
+        last : rest ≡ [] → (so_far.sent ++ found.text) ++ rules.line_end ∷ [] ≡ ended_by rules.line_end (join_with_byte d texts)
         last none =
             let ends : found.later ≡ [] = written-none rules list from to number (count + 1) rest found.later found.rest_is none in
-            ap line (sym (so_far.joined ∙ ap (λ l. so_far.sent ++ join_with_byte d l) (found.texts_are ∙ ap (λ l. found.text ∷ l) ends)))
+            ap (ended_by rules.line_end) (sym (so_far.joined ∙ ap (λ l. so_far.sent ++ join_with_byte d l) (found.texts_are ∙ ap (λ l. found.text ∷ l) ends)))
 
-        -- then a newline, where it is the last field
-        pub sent-end : {U : Type 0} (e : Option (List ℕ)) (result : Result U Fault) → rest ≡ [] → SendsIfOk (Ok (10 ∷ [])) c e result →
-            SendsIfOk (Ok (line (join_with_byte d texts))) a e result
+        -- then the byte that ends the line, where it is the last field
+        pub sent-end : {U : Type 0} (e : Option (List ℕ)) (result : Result U Fault) → rest ≡ [] → SendsIfOk (Ok (rules.line_end ∷ [])) c e result →
+            SendsIfOk (Ok (ended_by rules.line_end (join_with_byte d texts))) a e result
         sent-end e (Ok there) none newline =
-            subst (Appends a e) (last none) (Appends-trans a c e (so_far.sent ++ found.text) (10 ∷ []) appended newline)
+            subst (Appends a e) (last none) (Appends-trans a c e (so_far.sent ++ found.text) (rules.line_end ∷ []) appended newline)
         sent-end e (Err f) none newline =
-            (newline.0, subst (StopsWithin a e) (last none) (StopsWithin_suffix a c e (so_far.sent ++ found.text) (10 ∷ []) appended newline.1))
+            (newline.0, subst (StopsWithin a e) (last none) (StopsWithin_suffix a c e (so_far.sent ++ found.text) (rules.line_end ∷ []) appended newline.1))
 
         -- or a delimiter
         more : 0 < length rest → join_with_byte d texts ≡ ((so_far.sent ++ found.text) ++ d ∷ []) ++ join_with_byte d found.later
@@ -246,18 +246,18 @@ module _ (rules : Rules) (list : List FieldRange) (from to : FormatData) (number
         }
 
         pub sent-cut : (U : Type 0) (e : Option (List ℕ)) (f : Fault) → 0 < length rest → SendsIfOk {T = U} (Ok (d ∷ [])) c e (Err f) →
-            SendsIfOk {T = U} (Ok (line (join_with_byte d texts))) a e (Err f)
+            SendsIfOk {T = U} (Ok (ended_by rules.line_end (join_with_byte d texts))) a e (Err f)
         sent-cut U e f some delimiter = (
           delimiter.0,
-          subst (StopsWithin a e) (ap line (sym (more some)))
-              (StopsWithin_prefix a e (((so_far.sent ++ found.text) ++ d ∷ []) ++ join_with_byte d found.later) (10 ∷ [])
+          subst (StopsWithin a e) (ap (ended_by rules.line_end) (sym (more some)))
+              (StopsWithin_prefix a e (((so_far.sent ++ found.text) ++ d ∷ []) ++ join_with_byte d found.later) (rules.line_end ∷ [])
               (StopsWithin_prefix a e ((so_far.sent ++ found.text) ++ d ∷ []) (join_with_byte d found.later)
               (StopsWithin_suffix a c e (so_far.sent ++ found.text) (d ∷ []) appended delimiter.1))),
         )
 
 -- a line without a fault, or nothing said of one at fault
-pub sends-any : {T : Type 0} (d : ℕ) (written : Result (List (List ℕ)) Fault) (a b : Option (List ℕ)) (result : Result T Fault) →
-    ((texts : List (List ℕ)) → written ≡ Ok texts → SendsIfOk (Ok (line (join_with_byte d texts))) a b result) →
-    SendsIfOk (result_map_both line (λ fault. fault) (result_map_both (join_with_byte d) (λ fault. fault) written)) a b result
-sends-any d (Ok texts) a b result each = each texts refl
-sends-any d (Err fault) a b result each = tt
+pub sends-any : {T : Type 0} (line_end d : ℕ) (written : Result (List (List ℕ)) Fault) (a b : Option (List ℕ)) (result : Result T Fault) →
+    ((texts : List (List ℕ)) → written ≡ Ok texts → SendsIfOk (Ok (ended_by line_end (join_with_byte d texts))) a b result) →
+    SendsIfOk (result_map_both (ended_by line_end) (λ fault. fault) (result_map_both (join_with_byte d) (λ fault. fault) written)) a b result
+sends-any line_end d (Ok texts) a b result each = each texts refl
+sends-any line_end d (Err fault) a b result each = tt

@@ -9,7 +9,7 @@ use Rattle.std.proofs.lemmas.List.Elements.{All-append, All-from_get_or}
 use borrow.Rule.Slice.PartMut.{put_mid, post_of}
 use lib.Seq.{take-add}
 use Rattle.memchr.specs.Find.{IsFirstByte, is_byte}
-use Rattle.regroup_lines.specs.Input.{EndsOrGoesOn, FindsNewline, HasNoNewline, Reads}
+use Rattle.regroup_lines.specs.Input.{EndsOrGoesOn, FindsLineEnd, HasNoLineEnd, Reads}
 
 -- a range of an array without its first n bytes
 pub range-later : (xs : List ℕ) (start end n : ℕ) → start + n ≤ end → slice_range xs (start + n) end ≡ drop n (slice_range xs start end)
@@ -63,40 +63,40 @@ pub Reads-same : (xs ys zs : List ℕ) (a b : Option (List ℕ)) → Reads xs ys
 Reads-same xs ys zs a b first same = subst (λ l. Reads xs l a b) (sym same) first
 
 -- a search that finds nothing
-newlines-none : (bytes : List ℕ) → IsFirstByte (is_byte 10) bytes None → HasNoNewline bytes
-newlines-none bytes nowhere = All-from_get_or (λ b. (b == 10) ≡ false) bytes 0 (λ k within. false_from_ne_true _ (nowhere k (omega arith) within))
+line_ends-none : (line_end : ℕ) (bytes : List ℕ) → IsFirstByte (is_byte line_end) bytes None → HasNoLineEnd line_end bytes
+line_ends-none line_end bytes nowhere = All-from_get_or (λ b. (b == line_end) ≡ false) bytes 0 (λ k within. false_from_ne_true _ (nowhere k (omega arith) within))
 
--- bytes without a newline, and a search after them that finds nothing
-pub newlines-none_after : (bytes : List ℕ) (n : ℕ) → HasNoNewline (take n bytes) → IsFirstByte (is_byte 10) (take (length bytes - n) (drop n bytes)) None → HasNoNewline bytes
-newlines-none_after bytes n before nowhere =
-    let after : IsFirstByte (is_byte 10) (drop n bytes) None = subst (λ l. IsFirstByte (is_byte 10) l None) (take_rest bytes n) nowhere in
-    subst HasNoNewline (take-append-drop n bytes) (All-append (λ b. (b == 10) ≡ false) (take n bytes) (drop n bytes) before (newlines-none (drop n bytes) after))
+-- bytes none of which ends a line, and a search after them that finds nothing
+pub line_ends-none_after : (line_end : ℕ) (bytes : List ℕ) (n : ℕ) → HasNoLineEnd line_end (take n bytes) → IsFirstByte (is_byte line_end) (take (length bytes - n) (drop n bytes)) None → HasNoLineEnd line_end bytes
+line_ends-none_after line_end bytes n before nowhere =
+    let after : IsFirstByte (is_byte line_end) (drop n bytes) None = subst (λ l. IsFirstByte (is_byte line_end) l None) (take_rest bytes n) nowhere in
+    subst (HasNoLineEnd line_end) (take-append-drop n bytes) (All-append (λ b. (b == line_end) ≡ false) (take n bytes) (drop n bytes) before (line_ends-none line_end (drop n bytes) after))
 
--- no newline stands before the first one
-newlines-before : (bytes : List ℕ) (k : ℕ) → IsFirstByte (is_byte 10) bytes (Some k) → HasNoNewline (take k bytes)
-newlines-before bytes k found =
-    All-from_get_or (λ b. (b == 10) ≡ false) (take k bytes) 0 (λ j within.
+-- no byte before the first one that ends a line ends one
+line_ends-before : (line_end : ℕ) (bytes : List ℕ) (k : ℕ) → IsFirstByte (is_byte line_end) bytes (Some k) → HasNoLineEnd line_end (take k bytes)
+line_ends-before line_end bytes k found =
+    All-from_get_or (λ b. (b == line_end) ≡ false) (take k bytes) 0 (λ j within.
     let low : j < k = omega (arith, length-take k bytes) in
     let same : get_or (take k bytes) j 0 ≡ get_or bytes j 0 = get_or-take k bytes j 0 low in
-    subst (λ b. (b == 10) ≡ false) (sym same) (false_from_ne_true _ (found.0.before j (omega arith) low)))
+    subst (λ b. (b == line_end) ≡ false) (sym same) (false_from_ne_true _ (found.0.before j (omega arith) low)))
 
--- bytes without a newline, and a search after them that finds one
-pub newlines-first_after : (bytes : List ℕ) (n k : ℕ) → HasNoNewline (take n bytes) → n ≤ length bytes →
-    IsFirstByte (is_byte 10) (take (length bytes - n) (drop n bytes)) (Some k) → FindsNewline bytes (Some (n + k))
-newlines-first_after bytes n k before within found =
-    let after : IsFirstByte (is_byte 10) (drop n bytes) (Some k) = subst (λ l. IsFirstByte (is_byte 10) l (Some k)) (take_rest bytes n) found in
+-- bytes none of which ends a line, and a search after them that finds one
+pub line_ends-first_after : (line_end : ℕ) (bytes : List ℕ) (n k : ℕ) → HasNoLineEnd line_end (take n bytes) → n ≤ length bytes →
+    IsFirstByte (is_byte line_end) (take (length bytes - n) (drop n bytes)) (Some k) → FindsLineEnd line_end bytes (Some (n + k))
+line_ends-first_after line_end bytes n k before within found =
+    let after : IsFirstByte (is_byte line_end) (drop n bytes) (Some k) = subst (λ l. IsFirstByte (is_byte line_end) l (Some k)) (take_rest bytes n) found in
     let high : k < length (drop n bytes) = after.0.high in
     let inside : n + k < length bytes = omega (arith, length-drop n bytes) in
-    let byte : get_or bytes (n + k) 0 ≡ 10 = sym (get_or-drop n bytes k 0) ∙ eqb-true _ _ after.1 in (
+    let byte : get_or bytes (n + k) 0 ≡ line_end = sym (get_or-drop n bytes k 0) ∙ eqb-true _ _ after.1 in (
       inside,
       sym (take-append-drop (n + k) bytes) ∙ ap (λ l. take (n + k) bytes ++ l) (drop_more bytes (n + k) 0 inside ∙ ap (λ b. b ∷ drop (n + k + 1) bytes) byte),
-      subst HasNoNewline (sym (take-add n k bytes)) (All-append (λ b. (b == 10) ≡ false) (take n bytes) (take k (drop n bytes)) before (newlines-before (drop n bytes) k after)),
+      subst (HasNoLineEnd line_end) (sym (take-add n k bytes)) (All-append (λ b. (b == line_end) ≡ false) (take n bytes) (take k (drop n bytes)) before (line_ends-before line_end (drop n bytes) k after)),
     )
 
 -- after a read, the bytes that were held before it are those that were searched
-pub newlines-searched : (xs ys : List ℕ) (a b : Option (List ℕ)) (n : ℕ) → Reads xs ys a b → HasNoNewline xs → n ≡ length xs → HasNoNewline (take n ys)
-newlines-searched xs ys a b n read none searched =
-    subst HasNoNewline (sym (ap (take n) (sym read.joined) ∙ take_at xs read.given n (sym searched))) none
+pub line_ends-searched : (line_end : ℕ) (xs ys : List ℕ) (a b : Option (List ℕ)) (n : ℕ) → Reads xs ys a b → HasNoLineEnd line_end xs → n ≡ length xs → HasNoLineEnd line_end (take n ys)
+line_ends-searched line_end xs ys a b n read none searched =
+    subst (HasNoLineEnd line_end) (sym (ap (take n) (sym read.joined) ∙ take_at xs read.given n (sym searched))) none
 
 -- whether a byte follows
 pub ends_or_goes_on : (bytes : List ℕ) (a b : Option (List ℕ)) (read : Option ℕ) (end : Bool) → bytes ≡ [] → is_some read ≡ not end →
@@ -107,27 +107,27 @@ ends_or_goes_on bytes a b (Some byte) true empty is read = absurd (cc)
 ends_or_goes_on bytes a b (Some byte) false empty is read =
     (byte ∷ [], record { given = byte ∷ []; joined = ap (λ l. l ++ byte ∷ []) empty; consumed = read }, omega arith)
 
--- the line before the first newline
-pub line_found : (before bytes text left : List ℕ) (a b : Option (List ℕ)) (n : ℕ) → Reads before bytes a b → FindsNewline bytes (Some n) → text ≡ take n bytes →
-    left ≡ drop (n + 1) bytes → Reads before (text ++ 10 ∷ left) a b × HasNoNewline text
-line_found before bytes text left a b n read found is_text is_left = (
-  Reads-same before bytes (text ++ 10 ∷ left) a b read (rw (is_text, is_left) (sym found.1)),
-  subst HasNoNewline (sym is_text) found.2,
+-- the line before the first byte that ends one
+pub line_found : (line_end : ℕ) (before bytes text left : List ℕ) (a b : Option (List ℕ)) (n : ℕ) → Reads before bytes a b → FindsLineEnd line_end bytes (Some n) → text ≡ take n bytes →
+    left ≡ drop (n + 1) bytes → Reads before (text ++ line_end ∷ left) a b × HasNoLineEnd line_end text
+line_found line_end before bytes text left a b n read found is_text is_left = (
+  Reads-same before bytes (text ++ line_end ∷ left) a b read (rw (is_text, is_left) (sym found.1)),
+  subst (HasNoLineEnd line_end) (sym is_text) found.2,
 )
 
 -- a read that gives nothing
-pub newlines-unread : (xs ys : List ℕ) (a b : Option (List ℕ)) → Reads xs ys a b → HasNoNewline xs → length ys ≤ length xs → HasNoNewline ys
-newlines-unread xs ys a b read none same = subst HasNoNewline (take_all (length xs) ys same) (newlines-searched xs ys a b (length xs) read none refl)
+pub line_ends-unread : (line_end : ℕ) (xs ys : List ℕ) (a b : Option (List ℕ)) → Reads xs ys a b → HasNoLineEnd line_end xs → length ys ≤ length xs → HasNoLineEnd line_end ys
+line_ends-unread line_end xs ys a b read none same = subst (HasNoLineEnd line_end) (take_all (length xs) ys same) (line_ends-searched line_end xs ys a b (length xs) read none refl)
 
 -- the same of the slice that is searched, and the result of the search
-pub searched_none : (bytes shown : List ℕ) (n : ℕ) (r : Option ℕ) → shown ≡ bytes → HasNoNewline (take n bytes) →
-    IsFirstByte (is_byte 10) (take (length shown - n) (drop n shown)) r → r ≡ None → HasNoNewline bytes
-searched_none bytes shown n r same before search none =
-    newlines-none_after bytes n before (subst (λ l. IsFirstByte (is_byte 10) (take (length l - n) (drop n l)) None) same
-    (subst (IsFirstByte (is_byte 10) (take (length shown - n) (drop n shown))) none search))
+pub searched_none : (line_end : ℕ) (bytes shown : List ℕ) (n : ℕ) (r : Option ℕ) → shown ≡ bytes → HasNoLineEnd line_end (take n bytes) →
+    IsFirstByte (is_byte line_end) (take (length shown - n) (drop n shown)) r → r ≡ None → HasNoLineEnd line_end bytes
+searched_none line_end bytes shown n r same before search none =
+    line_ends-none_after line_end bytes n before (subst (λ l. IsFirstByte (is_byte line_end) (take (length l - n) (drop n l)) None) same
+    (subst (IsFirstByte (is_byte line_end) (take (length shown - n) (drop n shown))) none search))
 
-pub searched_first : (bytes shown : List ℕ) (n k : ℕ) (r : Option ℕ) → shown ≡ bytes → HasNoNewline (take n bytes) → n ≤ length bytes →
-    IsFirstByte (is_byte 10) (take (length shown - n) (drop n shown)) r → r ≡ Some k → FindsNewline bytes (Some (n + k))
-searched_first bytes shown n k r same before within search first =
-    newlines-first_after bytes n k before within (subst (λ l. IsFirstByte (is_byte 10) (take (length l - n) (drop n l)) (Some k)) same
-    (subst (IsFirstByte (is_byte 10) (take (length shown - n) (drop n shown))) first search))
+pub searched_first : (line_end : ℕ) (bytes shown : List ℕ) (n k : ℕ) (r : Option ℕ) → shown ≡ bytes → HasNoLineEnd line_end (take n bytes) → n ≤ length bytes →
+    IsFirstByte (is_byte line_end) (take (length shown - n) (drop n shown)) r → r ≡ Some k → FindsLineEnd line_end bytes (Some (n + k))
+searched_first line_end bytes shown n k r same before within search first =
+    line_ends-first_after line_end bytes n k before within (subst (λ l. IsFirstByte (is_byte line_end) (take (length l - n) (drop n l)) (Some k)) same
+    (subst (IsFirstByte (is_byte line_end) (take (length shown - n) (drop n shown))) first search))

@@ -1,5 +1,6 @@
 -- The proofs of this crate.
 pub mod AroundLemmas
+mod CsvLemmas
 mod DecimalLemmas
 mod Examples
 mod FieldLemmas
@@ -8,6 +9,7 @@ pub mod LineFaultLemmas
 mod LineLemmas
 mod ListLemmas
 mod LongLemmas
+mod MarkLemmas
 mod MessageLemmas
 mod OneFieldLemmas
 mod PlaceLemmas

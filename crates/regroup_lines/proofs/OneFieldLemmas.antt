@@ -97,12 +97,12 @@ as_field-later n more (Ok text) = refl
 as_field-later n more (Err fault) = refl
 
 -- what a call that sends a line does, as one that sends the line with the field of this number
-pub sends-field : {T : Type 0} (n : ℕ) (written : Result (List ℕ) Fault) (a b : Option (List ℕ)) (result : Result T Fault) → SendsLine written a b result →
-    SendsLine (as_field n written) a b (result_map_both (λ sent. sent) (in_field n) result)
-sends-field n (Ok text) a b (Ok sent) sends = sends
-sends-field n (Ok text) a b (Err fault) sends = (ap (in_field n) sends.0, sends.1)
-sends-field n (Err fault) a b (Ok sent) sends = absurd sends
-sends-field n (Err fault) a b (Err returned) sends = (ap (in_field n) sends.0, sends.1)
+pub sends-field : {T : Type 0} (line_end n : ℕ) (written : Result (List ℕ) Fault) (a b : Option (List ℕ)) (result : Result T Fault) → SendsLine line_end written a b result →
+    SendsLine line_end (as_field n written) a b (result_map_both (λ sent. sent) (in_field n) result)
+sends-field line_end n (Ok text) a b (Ok sent) sends = sends
+sends-field line_end n (Ok text) a b (Err fault) sends = (ap (in_field n) sends.0, sends.1)
+sends-field line_end n (Err fault) a b (Ok sent) sends = absurd sends
+sends-field line_end n (Err fault) a b (Err returned) sends = (ap (in_field n) sends.0, sends.1)
 
 -- a text with another one after it, or before it
 empty-after : (empty : Bool) (text before after more : List ℕ) (written : Result (List ℕ) Fault) →

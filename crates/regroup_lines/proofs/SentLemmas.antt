@@ -1,17 +1,20 @@
 -- No text is at fault of a write that failed.
 use Rattle.std.proofs.Common.{◌≡◌, ℕ, ◌+◌, ◌==◌, Bool, true, false, List, [], ◌∷◌, length, Option, Some, None, Result, Ok, Err, if◌then◌else◌, refl, ◌∙◌}
-use Rattle.std.specs.Prelude.{ℤ, nat_le, ◌&&◌, take, drop, slice_range, ⊤}
-use Rattle.std.specs.List.{join_with_byte, slice_split}
+use Rattle.std.specs.Prelude.{ℤ, nat_le, ◌&&◌, ◌||◌, not, take, drop, slice_range, ⊤}
+use Rattle.std.specs.List.{join_with_byte, list_any, slice_split}
 use Rattle.std.specs.Option.{ok_or}
 use Rattle.std.specs.Result.{result_map_both}
 use Rattle.std.specs.Str.{is_utf8}
 use Rattle.num_format.specs.Format.{FormatData}
-use Rattle.num_format.specs.Refusal.{Refusal}
+use Rattle.num_format.specs.Cut.{cut_text}
+use Rattle.num_format.specs.Refusal.{ParseNumber, Refusal}
 use Rattle.num_format.specs.Text.{text_of}
 use Rattle.regroup_shared.specs.Reading.{number_read}
 use Rattle.regroup_lines.specs.Fault.{Fault, in_field, is_unsent}
-use Rattle.regroup_lines.specs.Fault.Fault.{TooMany, TooLong, FewFields, Read, NotText, FieldNotText, Line, Field, Write, Report}
-use Rattle.regroup_lines.specs.Lines.{between, body_or_itself, body_written, fault_written, field_written, fields_written, number_in_text, number_written, numbers_replaced, place_written, text_written, with_first}
+use Rattle.regroup_lines.specs.Fault.Fault.{TooMany, TooLong, FewFields, Read, NotText, FieldNotText, Line, Field, Unclosed, Write, Report, Flush}
+use Rattle.regroup_lines.specs.Csv.{csv_place, csv_split, field_with, is_inside_after, is_quote, next_number}
+use Rattle.regroup_lines.specs.LineFaults.{text_fault}
+use Rattle.regroup_lines.specs.Lines.{csv_field_written, csv_number, csv_read, csv_written, after_mark, between, body_or_itself, body_written, fault_written, field_written, fields_written, number_in_text, number_written, numbers_replaced, passes_mark, place_written, text_written, with_first}
 use Rattle.regroup_lines.specs.Places.{are_enough, is_chosen, trimmed}
 use Rattle.regroup_lines.specs.declared.rules.FieldRange.{FieldRange}
 use Rattle.regroup_lines.specs.declared.rules.Invalid.{Invalid}
@@ -36,6 +39,17 @@ number_sent : (number : ℕ) (utf8 : Bool) (read : Result ℤ Refusal) →
 number_sent number true (Ok value) = tt
 number_sent number true (Err refusal) = refl
 number_sent number false read = refl
+
+refused-sent : {T : Type 0} (at_fault : Bool) (fault : Fault) (written : Result T Fault) → is_unsent fault ≡ false → IsSent written → IsSent (if at_fault then Err fault else written)
+refused-sent true fault written is sent = is
+refused-sent false fault written is sent = sent
+
+either-unsent : (utf8 : Bool) (a b : Fault) → is_unsent a ≡ false → is_unsent b ≡ false → is_unsent (if utf8 then a else b) ≡ false
+either-unsent true a b first second = first
+either-unsent false a b first second = second
+
+text_fault-sent : (number : ℕ) (text : List ℕ) → is_unsent (text_fault number text) ≡ false
+text_fault-sent number text = either-unsent (is_utf8 text) (Line number (ParseNumber (cut_text text))) (NotText number) refl refl
 
 strict_sent : (number : ℕ) (utf8 : Bool) (read : Option (List ℕ)) (refusal : Refusal) → IsSent (if utf8 then ok_or read (Line number refusal) else Err (NotText number))
 strict_sent number true (Some text) refusal = tt
@@ -63,15 +77,17 @@ place-sent rules from to number text place =
 -- nor is a field, nor are fields
 in_field-sent : (n : ℕ) (fault : Fault) → is_unsent (in_field n fault) ≡ is_unsent fault
 in_field-sent n TooMany = refl
-in_field-sent n (TooLong number) = refl
+in_field-sent n (TooLong number max_line_len) = refl
 in_field-sent n (FewFields number) = refl
 in_field-sent n Read = refl
 in_field-sent n (NotText number) = refl
 in_field-sent n (FieldNotText number field) = refl
 in_field-sent n (Line number refusal) = refl
 in_field-sent n (Field number field refusal) = refl
+in_field-sent n (Unclosed number) = refl
 in_field-sent n Write = refl
 in_field-sent n Report = refl
+in_field-sent n Flush = refl
 
 as_field-sent : (n : ℕ) (written : Result (List ℕ) Fault) → IsSent written → IsSent (result_map_both (λ text. text) (in_field n) written)
 as_field-sent n (Ok text) sent = tt
@@ -100,14 +116,62 @@ joined-sent : (delimiter : ℕ) (texts : Result (List (List ℕ)) Fault) → IsS
 joined-sent delimiter (Ok texts) sent = tt
 joined-sent delimiter (Err fault) sent = sent
 
+-- nor are those of a record
+map-sent : {T U : Type 0} (f : T → U) (written : Result T Fault) → IsSent written → IsSent (result_map_both f (λ fault. fault) written)
+map-sent f (Ok text) sent = tt
+map-sent f (Err fault) sent = sent
+
+csv_number-sent : (rules : Rules) (from to : FormatData) (number : ℕ) (text : List ℕ) → IsSent (csv_number rules from to number text)
+csv_number-sent rules from to number text =
+    refused-sent (list_any is_quote text) (text_fault number text) _ (text_fault-sent number text) (map-sent Some (number_written rules.reading from to number text) (number_written-sent rules.reading from to number text))
+
+none-sent : (empty : Bool) (written : Result (Option (List ℕ)) Fault) → IsSent written → IsSent (if empty then Ok None else written)
+none-sent true written sent = tt
+none-sent false written sent = sent
+
+csv_read-sent : (rules : Rules) (from to : FormatData) (number : ℕ) (field : List ℕ) → IsSent (csv_read rules from to number field)
+csv_read-sent rules from to number field =
+    let place = csv_place field in
+    refused-sent (is_inside_after false field) (text_fault number field) _ (text_fault-sent number field)
+    (none-sent (rules.passes_empty && (place.0 == place.1)) _ (csv_number-sent rules from to number (slice_range field place.0 place.1)))
+
+in_record-sent : (n : ℕ) (with_number : Option (List ℕ) → List ℕ) (read : Result (Option (List ℕ)) Fault) → IsSent read → IsSent (result_map_both with_number (in_field n) read)
+in_record-sent n with_number (Ok text) sent = tt
+in_record-sent n with_number (Err fault) sent = in_field-sent n fault ∙ sent
+
+csv_field-sent : (rules : Rules) (delimiter : ℕ) (from to : FormatData) (number n : ℕ) (chosen : Bool) (field : List ℕ) → IsSent (csv_field_written rules delimiter from to number n chosen field)
+csv_field-sent rules delimiter from to number n true field = in_record-sent n (field_with delimiter rules.line_end field) _ (csv_read-sent rules from to number field)
+csv_field-sent rules delimiter from to number n false field = tt
+
+csv-sent : (rules : Rules) (delimiter : ℕ) (list : List FieldRange) (from to : FormatData) (number before : ℕ) (inside : Bool) (fields : List (List ℕ)) →
+    IsSent (csv_written rules delimiter list from to number before inside fields)
+csv-sent rules delimiter list from to number before inside [] = count-sent (inside || are_enough list before) number
+csv-sent rules delimiter list from to number before inside (field ∷ fields) =
+    let n = next_number before in
+    first-sent _ _ (csv_field-sent rules delimiter from to number n (is_chosen list n && not inside) field) (csv-sent rules delimiter list from to number n (is_inside_after inside field) fields)
+
 numbers-sent : (span : Span) (rules : Rules) (from to : FormatData) (number : ℕ) (text : List ℕ) → IsSent (numbers_replaced span rules from to number text)
 numbers-sent span.Line rules from to number text = place-sent rules from to number text (0, length text)
 numbers-sent span.Trimmed rules from to number text = place-sent rules from to number text (trimmed text (0, length text))
 numbers-sent (span.Fields fields) rules from to number text =
     joined-sent fields.delimiter _ (fields-sent rules fields.list.now from to number 0 (slice_split (λ b. b == fields.delimiter) text))
+numbers-sent (span.Csv records) rules from to number text =
+    let delimiter = records.fields.delimiter in
+    let inside = records.within.inside in
+    joined-sent delimiter _ (csv-sent rules delimiter records.fields.list.now from to number records.within.before inside (csv_split delimiter inside text))
+
+mark-sent : (written : Result (List ℕ) Fault) → IsSent written → IsSent (after_mark written)
+mark-sent (Ok text) sent = tt
+mark-sent (Err fault) sent = sent
+
+either-sent : (marked : Bool) (x y : Result (List ℕ) Fault) → IsSent x → IsSent y → IsSent (if marked then x else y)
+either-sent true x y first second = first
+either-sent false x y first second = second
 
 pub body_written-sent : (rules : Rules) (from to : FormatData) (number : ℕ) (text : List ℕ) → IsSent (body_written rules from to number text)
-body_written-sent rules from to number text = numbers-sent rules.span rules from to number text
+body_written-sent rules from to number text =
+    either-sent (passes_mark rules.span number text) _ _ (mark-sent _ (numbers-sent rules.span rules from to number (drop 3 text)))
+    (numbers-sent rules.span rules from to number text)
 
 -- nor is the line itself
 fault-sent : (invalid : Invalid) (text : List ℕ) (fault : Fault) → is_unsent fault ≡ false → IsSent (fault_written invalid text fault)

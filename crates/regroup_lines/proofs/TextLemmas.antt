@@ -15,7 +15,7 @@ use Rattle.num_format_decimal.specs.FixedPoint.{FixedPoint}
 use Rattle.num_format_decimal.specs.Parsing.{ParsesDecimal}
 use Rattle.num_format_decimal.specs.Text.{decimal_text}
 use Rattle.num_format_decimal.specs.declared.parsing.ParseDecimalError.{ParseDecimalError}
-use Rattle.regroup_shared.specs.Sending.{Sends, line}
+use Rattle.regroup_shared.specs.Sending.{Sends, ended_by}
 use Rattle.regroup_shared.proofs.ReadingLemmas.{readable-from_accepted, unreadable-from_refused}
 use Rattle.regroup_lines.specs.Decimals.{decimal_read}
 use Rattle.regroup_lines.specs.Fault.{Fault}
@@ -45,26 +45,26 @@ module _ (from : FormatData) (number : ℕ) (text : List ℕ) where
       rw (is_utf8-from_IsUtf8 text parsed.0, false_from_ne_true _ (unreadable-from_refused from text parsed.1)) refl
 
   -- a fault in place of a line
-  pub sends-fault : (written : Result (List ℕ) Fault) (s : Option (List ℕ)) (f : Fault) → written ≡ Err f → SendsLine {T = Unit {0}} written s s (Err f)
-  sends-fault written s f is = subst (λ n. SendsLine {T = Unit {0}} n s s (Err f)) (sym is) (refl, refl)
+  pub sends-fault : (line_end : ℕ) (written : Result (List ℕ) Fault) (s : Option (List ℕ)) (f : Fault) → written ≡ Err f → SendsLine {T = Unit {0}} line_end written s s (Err f)
+  sends-fault line_end written s f is = subst (λ n. SendsLine {T = Unit {0}} line_end n s s (Err f)) (sym is) (refl, refl)
 
 -- a line that is sent, by a call with faults of any type
-module _ {E F : Type 0} (of : F → Fault) (failed : F) (is_write : of failed ≡ Write) (a b : Option (List ℕ)) where
-  sent : (text : List ℕ) (call : Result (Unit {0}) E) → Sends call a b (line text) →
-      SendsLine (Ok text) a b (result_map_both (λ done. done) of (result_or call (Err failed)))
+module _ {E F : Type 0} (of : F → Fault) (failed : F) (is_write : of failed ≡ Write) (line_end : ℕ) (a b : Option (List ℕ)) where
+  sent : (text : List ℕ) (call : Result (Unit {0}) E) → Sends call a b (ended_by line_end text) →
+      SendsLine line_end (Ok text) a b (result_map_both (λ done. done) of (result_or call (Err failed)))
   sent text (Ok done) sends = sends.whole
   sent text (Err e) sends = (is_write, sends.prefix)
 
-  pub sends-line_by : (written : Result (List ℕ) Fault) (text : List ℕ) → written ≡ Ok text → (call : Result (Unit {0}) E) → Sends call a b (line text) →
-      (result : Result (Unit {0}) F) → result ≡ result_or call (Err failed) → SendsLine written a b (result_map_both (λ done. done) of result)
+  pub sends-line_by : (written : Result (List ℕ) Fault) (text : List ℕ) → written ≡ Ok text → (call : Result (Unit {0}) E) → Sends call a b (ended_by line_end text) →
+      (result : Result (Unit {0}) F) → result ≡ result_or call (Err failed) → SendsLine line_end written a b (result_map_both (λ done. done) of result)
   sends-line_by written text is call sends result returned =
-      subst (λ q. SendsLine written a b (result_map_both (λ done. done) of q)) (sym returned)
-      (subst (λ q. SendsLine q a b (result_map_both (λ done. done) of (result_or call (Err failed)))) (sym is) (sent text call sends))
+      subst (λ q. SendsLine line_end written a b (result_map_both (λ done. done) of q)) (sym returned)
+      (subst (λ q. SendsLine line_end q a b (result_map_both (λ done. done) of (result_or call (Err failed)))) (sym is) (sent text call sends))
 
-pub sends-line : {E : Type 0} (a b : Option (List ℕ)) (written : Result (List ℕ) Fault) (text : List ℕ) → written ≡ Ok text → (call : Result (Unit {0}) E) →
-    Sends call a b (line text) → (result : Result (Unit {0}) LineFault) → result ≡ result_or call (Err fault.Write) →
-    SendsLine written a b (result_map_both (λ done. done) line_fault_of result)
-sends-line a b = sends-line_by line_fault_of fault.Write refl a b
+pub sends-line : {E : Type 0} (line_end : ℕ) (a b : Option (List ℕ)) (written : Result (List ℕ) Fault) (text : List ℕ) → written ≡ Ok text → (call : Result (Unit {0}) E) →
+    Sends call a b (ended_by line_end text) → (result : Result (Unit {0}) LineFault) → result ≡ result_or call (Err fault.Write) →
+    SendsLine line_end written a b (result_map_both (λ done. done) line_fault_of result)
+sends-line line_end a b = sends-line_by line_fault_of fault.Write refl line_end a b
 
 -- the text of a number that is read strictly
 module _ (from to : FormatData) (number : ℕ) (text : List ℕ) where

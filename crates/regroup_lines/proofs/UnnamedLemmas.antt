@@ -8,16 +8,15 @@ use Rattle.std.proofs.lemmas.List.{length-append}
 use Rattle.num_format.specs.Format.{FormatData}
 use Rattle.num_format.specs.Writing.{StopsWithin}
 use Rattle.regroup_lines.specs.Fault.{Fault}
-use Rattle.regroup_lines.specs.Fault.Fault.{FewFields, Line, NotText, FieldNotText, Field, Read, Report, TooLong, TooMany, Write}
-use Rattle.regroup_lines.specs.Lines.{Regrouped, Stop, line_begun, line_named, line_written, long_begun, stop_returned, body_named, body_written, fault_named, fault_written, text_named, regrouped, regrouped_parts, regrouped_rest, returning, writing_line}
-use Rattle.regroup_lines.specs.Lines.Stop.{Ended, Endless, Failed, Unread}
+use Rattle.regroup_lines.specs.Fault.Fault.{FewFields, Line, NotText, FieldNotText, Field, Flush, Read, Report, TooLong, TooMany, Unclosed, Write}
+use Rattle.regroup_lines.specs.Lines.{Regrouped, Stop, input_end, is_inside, rules_after, line_begun, line_named, line_written, long_begun, stop_returned, body_named, body_written, fault_named, fault_written, text_named, regrouped, regrouped_parts, regrouped_rest, returning, writing_line}
+use Rattle.regroup_lines.specs.Lines.Stop.{Ended, Endless, Failed, Unflushed, Unread}
 use Rattle.regroup_lines.specs.Messages.{messages}
 use Rattle.regroup_lines.specs.Sending.{Regroups, RegroupsNaming, Sends}
 use Rattle.regroup_lines.specs.declared.Summary.{Summary}
 use Rattle.regroup_lines.specs.declared.rules.Invalid.{Invalid}
 use Rattle.regroup_lines.specs.declared.rules.Invalid.TheVariants.{Abort, Fail, Ignore, Warn}
 use Rattle.regroup_lines.specs.declared.rules.Rules.{Rules}
-use Rattle.regroup_lines.specs.declared.TheConstants.{MAX_LINE_LEN}
 
 -- rules that pass on no line at fault name none
 module _ (rules : Rules) (aborts : rules.invalid ≡ Abort) (most : ℕ) (from to : FormatData) where
@@ -35,7 +34,7 @@ module _ (rules : Rules) (aborts : rules.invalid ≡ Abort) (most : ℕ) (from t
   text_named-none : (number : ℕ) (text : List ℕ) → text_named rules from to number text ≡ []
   text_named-none number text = either_nothing (nat_le number rules.header_lines) _ (fault_named-none rules.invalid (body_written rules from to number text) aborts)
 
-  line_named-none : (number : Result (List ℕ) Fault) (named : List Fault) (rest : Regrouped) → named ≡ [] → rest.named ≡ [] → (writing_line number named rest).named ≡ []
+  line_named-none : (number : Result (List ℕ) Fault) (named : List Fault) (rest : Regrouped) → named ≡ [] → rest.named ≡ [] → (writing_line rules.line_end number named rest).named ≡ []
   line_named-none (Ok text) named rest none after = ap (λ f. f ++ rest.named) none ∙ after
   line_named-none (Err fault) named rest none after = refl
 
@@ -55,8 +54,8 @@ module _ (rules : Rules) (aborts : rules.invalid ≡ Abort) (most : ℕ) (from t
 
   line_unnamed : (number : ℕ) (text : List ℕ) → line_named rules from to number text ≡ []
   line_unnamed number text =
-      which_named-none (nat_lt MAX_LINE_LEN (length text)) (fault_named rules.invalid (TooLong number)) (text_named rules from to number text)
-      (fault_unnamed rules.invalid (TooLong number) aborts) (text_named-none number text)
+      which_named-none (nat_lt rules.max_line_len (length text)) (fault_named rules.invalid (TooLong number rules.max_line_len)) (text_named rules from to number text)
+      (fault_unnamed rules.invalid (TooLong number rules.max_line_len) aborts) (text_named-none number text)
 
   begun_named-none : (written : Result (List ℕ) Fault) (named : List Fault) (stop : Stop) → named ≡ [] → (long_begun written named stop).named ≡ []
   begun_named-none (Ok text) named stop none = none
@@ -66,26 +65,33 @@ module _ (rules : Rules) (aborts : rules.invalid ≡ Abort) (most : ℕ) (from t
   line_begun-none stop number text =
       if_named-none (length text == 0) (returning (stop_returned stop)) _ refl
       (if_named-none (nat_lt most number) (returning (Some (Err TooMany))) _ refl
-      (if_named-none (nat_lt MAX_LINE_LEN (length text)) (long_begun (fault_written rules.invalid text (TooLong number)) (fault_named rules.invalid (TooLong number)) stop) (returning (stop_returned stop))
-      (begun_named-none (fault_written rules.invalid text (TooLong number)) (fault_named rules.invalid (TooLong number)) stop (fault_unnamed rules.invalid (TooLong number) aborts)) refl))
+      (if_named-none (nat_lt rules.max_line_len (length text)) (long_begun (fault_written rules.invalid text (TooLong number rules.max_line_len)) (fault_named rules.invalid (TooLong number rules.max_line_len)) stop) (returning (stop_returned stop))
+      (begun_named-none (fault_written rules.invalid text (TooLong number rules.max_line_len)) (fault_named rules.invalid (TooLong number rules.max_line_len)) stop (fault_unnamed rules.invalid (TooLong number rules.max_line_len) aborts)) refl))
+
+  end_unnamed : (inside : Bool) (number : ℕ) → (if inside then fault_named rules.invalid (Unclosed number) else []) ≡ []
+  end_unnamed inside number = which_named-none inside (fault_named rules.invalid (Unclosed number)) [] (fault_unnamed rules.invalid (Unclosed number) aborts) refl
 
   rest_named-none : (stop : Stop) (count : ℕ) (text : List ℕ) → (regrouped_rest rules most from to stop count text).named ≡ []
   rest_named-none Ended count text =
-      if_named-none (length text == 0) (returning (Some (Ok count))) _ refl
-      (line_named-none (line_written rules most from to (count + 1) text) (line_named rules from to (count + 1) text) _ (line_unnamed (count + 1) text) refl)
+      if_named-none (length text == 0) (input_end rules count) _ (end_unnamed (is_inside rules.span) count)
+      (line_named-none (line_written rules most from to (count + 1) text) (line_named rules from to (count + 1) text) _ (line_unnamed (count + 1) text)
+      (end_unnamed (is_inside (rules_after rules text).span) (count + 1)))
   rest_named-none Failed count text = line_begun-none Failed (count + 1) text
+  rest_named-none Unflushed count text = line_begun-none Unflushed (count + 1) text
   rest_named-none Unread count text = line_begun-none Unread (count + 1) text
   rest_named-none Endless count text = line_begun-none Endless (count + 1) text
 
-  parts_named-none : (stop : Stop) (count : ℕ) (parts : List (List ℕ)) → (regrouped_parts rules most from to stop count parts).named ≡ []
-  parts_named-none stop count [] = refl
-  parts_named-none stop count (rest ∷ []) = rest_named-none stop count rest
-  parts_named-none stop count (text ∷ next ∷ parts) =
-      line_named-none (line_written rules most from to (count + 1) text) (line_named rules from to (count + 1) text) _ (line_unnamed (count + 1) text)
-      (parts_named-none stop (count + 1) (next ∷ parts))
+parts_named-none : (rules : Rules) → rules.invalid ≡ Abort → (most : ℕ) (from to : FormatData) (stop : Stop) (count : ℕ) (parts : List (List ℕ)) →
+    (regrouped_parts rules most from to stop count parts).named ≡ []
+parts_named-none rules aborts most from to stop count [] = refl
+parts_named-none rules aborts most from to stop count (rest ∷ []) = rest_named-none rules aborts most from to stop count rest
+parts_named-none rules aborts most from to stop count (text ∷ next ∷ parts) =
+    line_named-none rules aborts most from to (line_written rules most from to (count + 1) text) (line_named rules from to (count + 1) text) _
+    (line_unnamed rules aborts most from to (count + 1) text)
+    (parts_named-none (rules_after rules text) aborts most from to stop (count + 1) (next ∷ parts))
 
-  pub named-none : (stop : Stop) (bytes : List ℕ) → (regrouped rules most from to stop bytes).named ≡ []
-  named-none stop bytes = parts_named-none stop 0 (slice_split (λ b. b == 10) bytes)
+pub named-none : (rules : Rules) → rules.invalid ≡ Abort → (most : ℕ) (from to : FormatData) (stop : Stop) (bytes : List ℕ) → (regrouped rules most from to stop bytes).named ≡ []
+named-none rules aborts most from to stop bytes = parts_named-none rules aborts most from to stop 0 (slice_split (λ b. b == rules.line_end) bytes)
 
 -- no writer stops within no text
 stops_nowhere : (a b : Option (List ℕ)) → StopsWithin a b [] → ⊥
@@ -99,40 +105,46 @@ module _ (all : Regrouped) (a b d e : Option (List ℕ)) where
   untold_returned (Ok summary) sent other = sent.0
   untold_returned (Err Write) sent other = absurd (other refl)
   untold_returned (Err Report) sent other = absurd (stops_nowhere d e sent.1)
+  untold_returned (Err Flush) sent other = sent.0
   untold_returned (Err TooMany) sent other = sent.0
-  untold_returned (Err (TooLong number)) sent other = sent.0
+  untold_returned (Err (TooLong number max_line_len)) sent other = sent.0
   untold_returned (Err (FewFields number)) sent other = sent.0
   untold_returned (Err Read) sent other = sent.0
   untold_returned (Err (NotText number)) sent other = sent.0
   untold_returned (Err (FieldNotText number field)) sent other = sent.0
   untold_returned (Err (Line number refusal)) sent other = sent.0
   untold_returned (Err (Field number field refusal)) sent other = sent.0
+  untold_returned (Err (Unclosed number)) sent other = sent.0
 
   untold_written : (result : Result Summary Fault) → Sends all [] a b d e result → lines_of result ≢ Err Write → Appends a b all.written
   untold_written (Ok summary) sent other = sent.2
   untold_written (Err Write) sent other = absurd (other refl)
   untold_written (Err Report) sent other = absurd (stops_nowhere d e sent.1)
+  untold_written (Err Flush) sent other = sent.1
   untold_written (Err TooMany) sent other = sent.1
-  untold_written (Err (TooLong number)) sent other = sent.1
+  untold_written (Err (TooLong number max_line_len)) sent other = sent.1
   untold_written (Err (FewFields number)) sent other = sent.1
   untold_written (Err Read) sent other = sent.1
   untold_written (Err (NotText number)) sent other = sent.1
   untold_written (Err (FieldNotText number field)) sent other = sent.1
   untold_written (Err (Line number refusal)) sent other = sent.1
   untold_written (Err (Field number field refusal)) sent other = sent.1
+  untold_written (Err (Unclosed number)) sent other = sent.1
 
   untold_prefix : (result : Result Summary Fault) → Sends all [] a b d e result → lines_of result ≡ Err Write → StopsWithin a b all.written
   untold_prefix (Ok summary) sent failed = absurd (cc)
   untold_prefix (Err Write) sent failed = sent.0
   untold_prefix (Err Report) sent failed = absurd (cc)
+  untold_prefix (Err Flush) sent failed = absurd (cc)
   untold_prefix (Err TooMany) sent failed = absurd (cc)
-  untold_prefix (Err (TooLong number)) sent failed = absurd (cc)
+  untold_prefix (Err (TooLong number max_line_len)) sent failed = absurd (cc)
   untold_prefix (Err (FewFields number)) sent failed = absurd (cc)
   untold_prefix (Err Read) sent failed = absurd (cc)
   untold_prefix (Err (NotText number)) sent failed = absurd (cc)
   untold_prefix (Err (FieldNotText number field)) sent failed = absurd (cc)
   untold_prefix (Err (Line number refusal)) sent failed = absurd (cc)
   untold_prefix (Err (Field number field refusal)) sent failed = absurd (cc)
+  untold_prefix (Err (Unclosed number)) sent failed = absurd (cc)
 
 -- so what is returned and written is all that they do
 pub Regroups-naming_none : (rules : Rules) (name : List ℕ) (most : ℕ) (from to : FormatData) (a b d e f g : Option (List ℕ)) (result : Result Summary Fault) → rules.invalid ≡ Abort →
@@ -147,6 +159,7 @@ Regroups-naming_none rules name most from to a b d e f g result aborts all =
       consumed = all.consumed;
       at_end = all.at_end;
       endless = all.endless;
+      unflushed = all.unflushed;
       returned = λ other. untold_returned whole d e f g result sent other;
       written = λ other. untold_written whole d e f g result sent other;
       prefix = λ failed. untold_prefix whole d e f g result sent failed;

@@ -5,31 +5,36 @@ use Rattle.num_format.specs.Refusal.{Refusal, message_of, refusal_of}
 use Rattle.regroup_lines.specs.declared.fault.RegroupFault.{RegroupFault}
 use Rattle.regroup_lines.specs.declared.fault.RegroupFault.TheVariants as fault
 
--- a fault, with the number of its line, and of its field if fields are chosen; an error is what clauses see of it
+-- a fault, with the number of its line, and of its field if fields are chosen; of a line that is too long, with how many bytes it may have;
+-- an error is what clauses see of it
 pub data Fault : Type 0 where
   TooMany : Fault
-  TooLong : ℕ → Fault
+  TooLong : ℕ → ℕ → Fault
   FewFields : ℕ → Fault
   Read : Fault
   NotText : ℕ → Fault
   FieldNotText : ℕ → ℕ → Fault
   Line : ℕ → Refusal → Fault
   Field : ℕ → ℕ → Refusal → Fault
+  Unclosed : ℕ → Fault
   Write : Fault
   Report : Fault
+  Flush : Fault
 
 -- the `Fault` of a `RegroupFault`
 abbrev pub fault_of : RegroupFault → Fault
 fault_of fault.TooMany = TooMany
-fault_of (fault.TooLong number) = TooLong number
+fault_of (fault.TooLong number max_line_len) = TooLong number max_line_len
 fault_of (fault.FewFields number) = FewFields number
 fault_of fault.Read = Read
 fault_of (fault.NotText number) = NotText number
 fault_of (fault.FieldNotText number field) = FieldNotText number field
 fault_of (fault.Line number error) = Line number (refusal_of error)
 fault_of (fault.Field number field error) = Field number field (refusal_of error)
+fault_of (fault.Unclosed number) = Unclosed number
 fault_of fault.Write = Write
 fault_of fault.Report = Report
+fault_of fault.Flush = Flush
 
 -- whether it is that of a write that failed, to one of the two writers
 abbrev pub is_unsent : Fault → Bool
@@ -52,15 +57,21 @@ are_any (fault ∷ faults) = true
 abbrev pub line_prefix : ℕ → List ℕ
 line_prefix number = codes "line " ++ (decimal number ++ codes ": ")
 
+-- what is said of a line that may have this many bytes and has more
+abbrev pub long_text : (max_line_len : ℕ) → List ℕ
+long_text max_line_len = codes "More than " ++ (decimal max_line_len ++ codes " bytes.")
+
 -- the message of a fault
 abbrev pub message_of_fault : Fault → List ℕ
 message_of_fault TooMany = codes "The input has more lines than are allowed."
-message_of_fault (TooLong number) = line_prefix number ++ codes "More than 4096 bytes."
+message_of_fault (TooLong number max_line_len) = line_prefix number ++ long_text max_line_len
 message_of_fault (FewFields number) = line_prefix number ++ codes "Too few fields."
 message_of_fault Read = codes "Failed to read."
 message_of_fault (NotText number) = line_prefix number ++ codes "Not UTF-8."
 message_of_fault (FieldNotText number field) = line_prefix number ++ codes "Not UTF-8."
 message_of_fault (Line number refusal) = line_prefix number ++ message_of refusal
 message_of_fault (Field number field refusal) = line_prefix number ++ message_of refusal
+message_of_fault (Unclosed number) = line_prefix number ++ codes "Unclosed quote."
 message_of_fault Write = codes "Failed to write."
 message_of_fault Report = codes "Failed to write a message."
+message_of_fault Flush = codes "Failed to flush."

@@ -1,9 +1,9 @@
 -- A law of inputs that are split.
-use Rattle.std.specs.Prelude.{◌≡◌, ℕ, ◌+◌, ◌||◌, List, ◌++◌, Some, Ok}
+use Rattle.std.specs.Prelude.{◌≡◌, ℕ, ◌+◌, false, ◌||◌, List, ◌++◌, Some, Ok}
 use Rattle.num_format.specs.Format.{FormatData}
-use Rattle.regroup_shared.specs.Sending.{line}
+use Rattle.regroup_shared.specs.Sending.{ended_by}
 use Rattle.regroup_lines.specs.Fault.{are_any}
-use Rattle.regroup_lines.specs.Lines.{Regrouped, regrouped}
+use Rattle.regroup_lines.specs.Lines.{Regrouped, begins_with_mark, is_inside, regrouped, span_after}
 use Rattle.regroup_lines.specs.Lines.Stop.{Ended}
 use Rattle.regroup_lines.specs.declared.rules.Rules.{Rules}
 
@@ -17,8 +17,10 @@ pub record SplitsInto (all first second : Regrouped) (lines : ℕ) : Type 0 wher
   pub written : all.written ≡ first.written ++ second.written
   pub named : are_any all.named ≡ (are_any first.named || are_any second.named)
 
--- where no line is at fault, or none ends the run, and there is no header, an input may be split after a newline
+-- where no line is at fault, or none ends the run, and there is no header, an input may be split after a byte that ends a line, and not
+-- before a byte order mark, if it begins outside quotes and that byte ends a record
 abbrev pub SplitLaw : Type 0
-SplitLaw = (rules : Rules) (most : ℕ) (from to : FormatData) (a b : List ℕ) (lines : ℕ) → rules.header_lines ≡ 0 →
-    (regrouped rules most from to Ended (line a ++ b)).returned ≡ Some (Ok lines) →
-    SplitsInto (regrouped rules most from to Ended (line a ++ b)) (regrouped rules most from to Ended (line a)) (regrouped rules most from to Ended b) lines
+SplitLaw = (rules : Rules) (most : ℕ) (from to : FormatData) (a b : List ℕ) (lines : ℕ) → rules.header_lines ≡ 0 → begins_with_mark b ≡ false →
+    is_inside rules.span ≡ false → span_after rules.line_end rules.span (ended_by rules.line_end a) ≡ rules.span →
+    (regrouped rules most from to Ended (ended_by rules.line_end a ++ b)).returned ≡ Some (Ok lines) →
+    SplitsInto (regrouped rules most from to Ended (ended_by rules.line_end a ++ b)) (regrouped rules most from to Ended (ended_by rules.line_end a)) (regrouped rules most from to Ended b) lines

@@ -1,7 +1,9 @@
 -- The definitions that the contracts of this crate use.
+pub mod Csv
 pub mod Decimals
 pub mod Fault
 pub mod Fields
+pub mod Halt
 pub mod Input
 pub mod Laws
 pub mod LineFaults

@@ -1,6 +1,6 @@
 -- What regrouping the lines of an input writes and returns.
-use Rattle.std.specs.Prelude.{ℕ, ◌+◌, ◌==◌, nat_le, nat_lt, Bool, false, true, ◌&&◌, ℤ, if◌then◌else◌, List, [], ◌∷◌, ◌++◌, length, take, drop, slice_range, Option, None, Some, Result, Ok, Err}
-use Rattle.std.specs.List.{join_with_byte, slice_split}
+use Rattle.std.specs.Prelude.{ℕ, ◌+◌, ◌==◌, nat_eq, nat_le, nat_lt, Bool, false, true, ◌&&◌, ◌||◌, not, ℤ, if◌then◌else◌, List, [], ◌∷◌, ◌++◌, length, take, drop, slice_range, Option, None, Some, Result, Ok, Err}
+use Rattle.std.specs.List.{join_with_byte, list_any, slice_split, starts_with}
 use Rattle.std.specs.Option.{ok_or, option_map}
 use Rattle.std.specs.Result.{result_map_both}
 use Rattle.std.specs.Str.{is_utf8}
@@ -10,10 +10,12 @@ use Rattle.num_format.specs.Refusal.{ParseNumber}
 use Rattle.num_format.specs.Text.{text_of}
 use Rattle.num_format_decimal.specs.Text.{decimal_text}
 use Rattle.regroup_shared.specs.Reading.{number_read}
-use Rattle.regroup_shared.specs.Sending.{line}
+use Rattle.regroup_shared.specs.Sending.{ended_by}
+use Rattle.regroup_lines.specs.Csv.{after_text, csv_place, csv_split, field_with, is_inside_after, is_quote, next_number}
 use Rattle.regroup_lines.specs.Decimals.{decimal_read}
 use Rattle.regroup_lines.specs.Fault.{Fault, in_field}
-use Rattle.regroup_lines.specs.Fault.Fault.{TooMany, TooLong, FewFields, Read, NotText, Line}
+use Rattle.regroup_lines.specs.Fault.Fault.{TooMany, TooLong, FewFields, Flush, Read, NotText, Line, Unclosed}
+use Rattle.regroup_lines.specs.LineFaults.{text_fault}
 use Rattle.regroup_lines.specs.Places.{are_enough, is_chosen, trimmed}
 use Rattle.regroup_lines.specs.declared.rules.FieldRange.{FieldRange}
 use Rattle.regroup_lines.specs.declared.rules.Fields.{Fields}
@@ -21,16 +23,18 @@ use Rattle.regroup_lines.specs.declared.rules.Invalid.{Invalid}
 use Rattle.regroup_lines.specs.declared.rules.Invalid.TheVariants.{Abort, Fail, Warn, Ignore}
 use Rattle.regroup_lines.specs.declared.rules.Reading.{Reading}
 use Rattle.regroup_lines.specs.declared.rules.Reading.TheVariants.{Lenient, Strict}
+use Rattle.regroup_lines.specs.declared.rules.Records.{Records}
 use Rattle.regroup_lines.specs.declared.rules.Rules.{Rules}
 use Rattle.regroup_lines.specs.declared.rules.Span.{Span}
 use Rattle.regroup_lines.specs.declared.rules.Span.TheVariants as span
 use Rattle.regroup_lines.specs.declared.TheConstants.{MAX_LINE_LEN}
 
--- how a reader stopped: at its end, by a failed read, or not at all, where no more was read, or no more of a line that is too long and
--- is passed on, since 2^64 - 1 bytes were
+-- how a reader stopped: at its end, by a failed read, by a flush that failed before a read, or not at all, where no more was read, or no
+-- more of a line that is too long and is passed on, since 2^64 - 1 bytes were
 pub data Stop : Type 0 where
   Ended : Stop
   Failed : Stop
+  Unflushed : Stop
   Unread : Stop
   Endless : Stop
 
@@ -49,9 +53,9 @@ abbrev pub writing : List ℕ → List Fault → Regrouped → Regrouped
 writing bytes faults rest = record { written = bytes ++ rest.written; named = faults ++ rest.named; returned = rest.returned }
 
 -- a line and its faults, and after them what is written and named; a fault in place of the line is returned
-abbrev pub writing_line : Result (List ℕ) Fault → List Fault → Regrouped → Regrouped
-writing_line (Ok text) named rest = writing (line text) named rest
-writing_line (Err fault) named rest = returning (Some (Err fault))
+abbrev pub writing_line : (line_end : ℕ) → Result (List ℕ) Fault → List Fault → Regrouped → Regrouped
+writing_line line_end (Ok text) named rest = writing (ended_by line_end text) named rest
+writing_line line_end (Err fault) named rest = returning (Some (Err fault))
 
 -- the number that the text of a line parses as, or the fault of the text
 abbrev pub number_in_text : FormatData → ℕ → List ℕ → Result ℤ Fault
@@ -101,15 +105,71 @@ fields_replaced fields rules from to number text =
     result_map_both (join_with_byte fields.delimiter) (λ fault. fault)
     (fields_written rules fields.list.now from to number 0 (slice_split (λ b. b == fields.delimiter) text))
 
+-- the text that is written in place of that of a number, or the fault of that text: no number has a quote
+abbrev pub csv_number : Rules → FormatData → FormatData → ℕ → List ℕ → Result (Option (List ℕ)) Fault
+csv_number rules from to number text =
+    if list_any is_quote text then Err (text_fault number text) else
+    result_map_both Some (λ fault. fault) (number_written rules.reading from to number text)
+
+-- the same of a field that begins outside quotes and has to end there, or nothing where the number has no byte and that is no fault
+abbrev pub csv_read : Rules → FormatData → FormatData → ℕ → (field : List ℕ) → Result (Option (List ℕ)) Fault
+csv_read rules from to number field =
+    if is_inside_after false field then Err (text_fault number field) else
+    let place = csv_place field in
+    if rules.passes_empty && (place.0 == place.1) then Ok None else csv_number rules from to number (slice_range field place.0 place.1)
+
+-- the field of the last number, which may be chosen: its fault names it
+abbrev pub csv_field_written : Rules → (delimiter : ℕ) → FormatData → FormatData → ℕ → ℕ → (chosen : Bool) → List ℕ → Result (List ℕ) Fault
+csv_field_written rules delimiter from to number n chosen field =
+    if chosen then result_map_both (field_with delimiter rules.line_end field) (in_field n) (csv_read rules from to number field) else Ok field
+
+-- the fields of a line that so many others of the record are before, or the first fault: the rest of a field that an earlier line began is
+-- passed on, and where the record ends, it may have too few
+abbrev pub csv_written : Rules → (delimiter : ℕ) → List FieldRange → FormatData → FormatData → ℕ → (before : ℕ) → (inside : Bool) → List (List ℕ) → Result (List (List ℕ)) Fault
+csv_written rules delimiter list from to number before inside [] = if inside || are_enough list before then Ok [] else Err (FewFields number)
+csv_written rules delimiter list from to number before inside (field ∷ fields) =
+    with_first (csv_field_written rules delimiter from to number (next_number before) (is_chosen list (next_number before) && not inside) field)
+    (csv_written rules delimiter list from to number (next_number before) (is_inside_after inside field) fields)
+
+-- a line split at the delimiters outside quotes, with the number in each chosen field replaced, and joined again
+abbrev pub csv_replaced : Records → Rules → FormatData → FormatData → ℕ → List ℕ → Result (List ℕ) Fault
+csv_replaced records rules from to number text =
+    let delimiter = records.fields.delimiter in
+    let inside = records.within.inside in
+    result_map_both (join_with_byte delimiter) (λ fault. fault)
+    (csv_written rules delimiter records.fields.list.now from to number records.within.before inside (csv_split delimiter inside text))
+
 -- a line with the numbers where the rules say replaced
 abbrev pub numbers_replaced : Span → Rules → FormatData → FormatData → ℕ → List ℕ → Result (List ℕ) Fault
 numbers_replaced span.Line rules from to number text = place_written rules from to number text (0, length text)
 numbers_replaced span.Trimmed rules from to number text = number_replaced rules from to number text
 numbers_replaced (span.Fields fields) rules from to number text = fields_replaced fields rules from to number text
+numbers_replaced (span.Csv records) rules from to number text = csv_replaced records rules from to number text
+
+-- the bytes of a byte order mark
+abbrev pub MARK : List ℕ
+MARK = 239 ∷ 187 ∷ 191 ∷ []
+
+-- whether a text begins with one
+abbrev pub begins_with_mark : List ℕ → Bool
+begins_with_mark text = starts_with nat_eq text MARK
+
+-- whether it is passed on: it is in the first line, and not all bytes of a line are those of its number
+abbrev pub passes_mark : Span → ℕ → List ℕ → Bool
+passes_mark span.Line number text = false
+passes_mark span.Trimmed number text = (number == 1) && begins_with_mark text
+passes_mark (span.Fields fields) number text = (number == 1) && begins_with_mark text
+passes_mark (span.Csv records) number text = (number == 1) && begins_with_mark text
+
+-- a text after a mark
+abbrev pub after_mark : Result (List ℕ) Fault → Result (List ℕ) Fault
+after_mark written = result_map_both (λ text. MARK ++ text) (λ fault. fault) written
 
 -- a line that is no header
 abbrev pub body_written : Rules → FormatData → FormatData → ℕ → List ℕ → Result (List ℕ) Fault
-body_written rules from to number text = numbers_replaced rules.span rules from to number text
+body_written rules from to number text =
+    if passes_mark rules.span number text then after_mark (numbers_replaced rules.span rules from to number (drop (length MARK) text)) else
+    numbers_replaced rules.span rules from to number text
 
 -- whether a line at fault is passed on
 abbrev pub passes : Invalid → Bool
@@ -154,22 +214,53 @@ text_named rules from to number text =
 
 -- the rules that read the whole of each line leniently
 abbrev pub lenient : Rules
-lenient = record { span = span.Line; reading = Lenient; header_lines = 0; passes_empty = false; invalid = Abort }
+lenient = record { span = span.Line; reading = Lenient; header_lines = 0; passes_empty = false; invalid = Abort; line_end = 10; max_line_len = MAX_LINE_LEN; flushes = false }
 
--- what is written in place of the line of this number, without its newline, or the line's first fault: it may be one too many, or too long
+-- where the numbers are of what follows a text: with CSV, where in a record it begins
+abbrev pub span_after : (line_end : ℕ) → Span → List ℕ → Span
+span_after line_end span.Line text = span.Line
+span_after line_end span.Trimmed text = span.Trimmed
+span_after line_end (span.Fields fields) text = span.Fields fields
+span_after line_end (span.Csv records) text = span.Csv (record { fields = records.fields; within = after_text records.fields.delimiter line_end records.within text })
+
+-- the rules with the numbers there
+abbrev pub with_span : Rules → Span → Rules
+with_span rules span = record rules { span = span }
+
+-- the rules for what follows a line
+abbrev pub rules_after : Rules → List ℕ → Rules
+rules_after rules text = with_span rules (span_after rules.line_end rules.span (ended_by rules.line_end text))
+
+-- whether it begins inside quotes
+abbrev pub is_inside : Span → Bool
+is_inside span.Line = false
+is_inside span.Trimmed = false
+is_inside (span.Fields fields) = false
+is_inside (span.Csv records) = records.within.inside
+
+-- the end of an input of so many lines: a quote that no other one closes is at fault
+abbrev pub input_end : Rules → ℕ → Regrouped
+input_end rules count = record {
+  written = [];
+  named = if is_inside rules.span then fault_named rules.invalid (Unclosed count) else [];
+  returned = Some (if is_inside rules.span && not (passes rules.invalid) then Err (Unclosed count) else Ok count);
+}
+
+-- what is written in place of the line of this number, without the byte that ends it, or the line's first fault: it may be one too many, or too long
 abbrev pub line_written : Rules → ℕ → FormatData → FormatData → ℕ → List ℕ → Result (List ℕ) Fault
 line_written rules most from to number text =
     if nat_lt most number then Err TooMany else
-    if nat_lt MAX_LINE_LEN (length text) then fault_written rules.invalid text (TooLong number) else text_written rules from to number text
+    if nat_lt rules.max_line_len (length text) then fault_written rules.invalid text (TooLong number rules.max_line_len) else text_written rules from to number text
 
 -- the faults of the line that are named
 abbrev pub line_named : Rules → FormatData → FormatData → ℕ → List ℕ → List Fault
 line_named rules from to number text =
-    if nat_lt MAX_LINE_LEN (length text) then fault_named rules.invalid (TooLong number) else text_named rules from to number text
+    if nat_lt rules.max_line_len (length text) then fault_named rules.invalid (TooLong number rules.max_line_len) else text_named rules from to number text
 
--- what a stop returns in a line that is not too long: the fault of a failed read
+-- what a stop returns in a line that is not too long: the fault of a failed read or flush
 abbrev pub stop_returned : Stop → Option (Result ℕ Fault)
 stop_returned Failed = Some (Err Read)
+stop_returned Unflushed = Some (Err Flush)
 stop_returned Ended = None
 stop_returned Unread = None
 stop_returned Endless = None
@@ -177,6 +268,7 @@ stop_returned Endless = None
 -- what it returns in one that is and is passed on
 abbrev pub long_returned : Stop → Option (Result ℕ Fault)
 long_returned Failed = Some (Err Read)
+long_returned Unflushed = Some (Err Flush)
 long_returned Endless = Some (Err TooMany)
 long_returned Ended = None
 long_returned Unread = None
@@ -191,27 +283,27 @@ abbrev pub line_begun : Rules → ℕ → Stop → ℕ → List ℕ → Regroupe
 line_begun rules most stop number text =
     if length text == 0 then returning (stop_returned stop) else
     if nat_lt most number then returning (Some (Err TooMany)) else
-    if nat_lt MAX_LINE_LEN (length text) then long_begun (fault_written rules.invalid text (TooLong number)) (fault_named rules.invalid (TooLong number)) stop else
+    if nat_lt rules.max_line_len (length text) then long_begun (fault_written rules.invalid text (TooLong number rules.max_line_len)) (fault_named rules.invalid (TooLong number rules.max_line_len)) stop else
     returning (stop_returned stop)
 
--- what stands after the last newline, with so many lines before it: at the end it is a line unless it is empty
+-- what stands after the last byte that ends a line, with so many lines before it: at the end it is a line unless it is empty
 abbrev pub regrouped_rest : Rules → ℕ → FormatData → FormatData → Stop → ℕ → List ℕ → Regrouped
 regrouped_rest rules most from to Ended count rest =
-    if length rest == 0 then returning (Some (Ok count)) else
-    writing_line (line_written rules most from to (count + 1) rest) (line_named rules from to (count + 1) rest) (returning (Some (Ok (count + 1))))
+    if length rest == 0 then input_end rules count else
+    writing_line rules.line_end (line_written rules most from to (count + 1) rest) (line_named rules from to (count + 1) rest) (input_end (rules_after rules rest) (count + 1))
 regrouped_rest rules most from to stop count rest = line_begun rules most stop (count + 1) rest
 
--- the parts between newlines, with so many lines before them: each but the last is a line
+-- the parts between the bytes that end lines, with so many lines before them: each but the last is a line
 abbrev pub regrouped_parts : Rules → ℕ → FormatData → FormatData → Stop → ℕ → List (List ℕ) → Regrouped
 regrouped_parts rules most from to stop count [] = returning None
 regrouped_parts rules most from to stop count (rest ∷ []) = regrouped_rest rules most from to stop count rest
 regrouped_parts rules most from to stop count (text ∷ next ∷ parts) =
-    writing_line (line_written rules most from to (count + 1) text) (line_named rules from to (count + 1) text)
-    (regrouped_parts rules most from to stop (count + 1) (next ∷ parts))
+    writing_line rules.line_end (line_written rules most from to (count + 1) text) (line_named rules from to (count + 1) text)
+    (regrouped_parts (rules_after rules text) most from to stop (count + 1) (next ∷ parts))
 
 -- the bytes of an input, with so many lines before them
 abbrev pub regrouped_after : Rules → ℕ → FormatData → FormatData → Stop → ℕ → List ℕ → Regrouped
-regrouped_after rules most from to stop count bytes = regrouped_parts rules most from to stop count (slice_split (λ b. b == 10) bytes)
+regrouped_after rules most from to stop count bytes = regrouped_parts rules most from to stop count (slice_split (λ b. b == rules.line_end) bytes)
 
 -- an input that may have this many lines: the bytes that a reader gave, and how it stopped
 abbrev pub regrouped : Rules → ℕ → FormatData → FormatData → Stop → List ℕ → Regrouped

@@ -14,7 +14,7 @@ use Rattle.regroup_shared.specs.Sending.{line}
 use Rattle.regroup_shared.specs.declared.quoting.TheConstants.{MAX_SHOWN_LEN}
 use Rattle.regroup_lines.specs.Decimals.{only, scales_below}
 use Rattle.regroup_lines.specs.Fault.{Fault}
-use Rattle.regroup_lines.specs.Fault.Fault.{TooMany, TooLong, FewFields, Read, NotText, FieldNotText, Line, Field, Write, Report}
+use Rattle.regroup_lines.specs.Fault.Fault.{TooMany, TooLong, FewFields, Read, NotText, FieldNotText, Line, Field, Unclosed, Write, Report, Flush}
 use Rattle.regroup_lines.specs.declared.rules.Reading.{Reading}
 use Rattle.regroup_lines.specs.declared.rules.Reading.TheVariants.{Lenient, Strict}
 
@@ -81,18 +81,24 @@ abbrev pub refused_text : Reading → FormatData → List ℕ → List ℕ
 refused_text reading from text =
     quoted text ++ (codes ": not a number" ++ (byte_text (before_fault reading from text) ++ lenient_text reading from text))
 
+-- what is said of a line that may have this many bytes and has more
+abbrev pub long_cause : (max_line_len : ℕ) → List ℕ
+long_cause max_line_len = codes "more than " ++ (decimal max_line_len ++ codes " bytes")
+
 -- the message that names the fault of a line, in an input of this name that is read under the format; other faults have none
 abbrev pub fault_message : (name : List ℕ) → Reading → FormatData → Fault → List ℕ
-fault_message name reading from (TooLong number) = line_message name number (codes "more than 4096 bytes")
+fault_message name reading from (TooLong number max_line_len) = line_message name number (long_cause max_line_len)
 fault_message name reading from (FewFields number) = line_message name number (codes "too few fields")
 fault_message name reading from (NotText number) = line_message name number (codes "not UTF-8")
 fault_message name reading from (FieldNotText number field) = field_message name number field (codes "not UTF-8")
 fault_message name reading from (Line number refusal) = line_message name number (refused_text reading from (kept_in refusal))
 fault_message name reading from (Field number field refusal) = field_message name number field (refused_text reading from (kept_in refusal))
+fault_message name reading from (Unclosed number) = line_message name number (codes "unclosed quote")
 fault_message name reading from TooMany = []
 fault_message name reading from Read = []
 fault_message name reading from Write = []
 fault_message name reading from Report = []
+fault_message name reading from Flush = []
 
 -- the messages that name faults, one after the other
 abbrev pub messages : (name : List ℕ) → Reading → FormatData → List Fault → List ℕ

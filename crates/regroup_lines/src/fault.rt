@@ -1,6 +1,6 @@
 //! Why lines were not regrouped to the end.
 ghost use Rattle.std.specs.Prelude.{◌≡◌, ◌≤◌, ◌++◌, Some, length};
-ghost use Rattle.regroup_lines.specs.Fault.{fault_of, line_prefix, message_of_fault};
+ghost use Rattle.regroup_lines.specs.Fault.{fault_of, line_prefix, long_text, message_of_fault};
 
 use arrayvec::ArrayString;
 use num_format::{Error, MAX_MESSAGE_LEN};
@@ -11,14 +11,14 @@ use std::fmt;
 /// Lines are numbered from 1, and so are the fields of a line.
 ///
 /// ```rust
-/// println!(rt; "{}", RegroupFault::TooLong(2))    // line 2: More than 4096 bytes.
+/// println!(rt; "{}", RegroupFault::TooLong(2, 4096))    // line 2: More than 4096 bytes.
 /// ```
 #[derive(Clone, Debug, Drop, PartialEq, Eq)]
 pub enum RegroupFault {
     /// A byte follows the last line that is allowed: the 1,000,000th of `regroup_lines`.
     TooMany,
-    /// The line of this number has more than 4,096 bytes.
-    TooLong(u64),
+    /// The line of the first number has more bytes than the second number.
+    TooLong(u64, u32),
     /// The line of this number has too few fields.
     FewFields(u64),
     /// A read failed, also one that was interrupted.
@@ -31,24 +31,30 @@ pub enum RegroupFault {
     Line(u64, Error),
     /// In the line of the first number, the field of the second number does not parse.
     Field(u64, u64, Error),
+    /// A quote is not closed where the input ends, after the line of this number.
+    Unclosed(u64),
     /// A write failed, also one that was interrupted, or wrote no bytes.
     Write,
     /// A write of a message that names a fault failed, also one that was interrupted, or wrote no bytes.
     Report,
+    /// A flush before a read failed, where the rules ask for flushes.
+    Flush,
 }
 
 impl RegroupFault {
     /// Returns the message, which needs no memory and cannot fail.
     ///
     /// ```rust
-    /// RegroupFault::TooLong(2).message()    // "line 2: More than 4096 bytes."
+    /// RegroupFault::TooLong(2, 4096).message()    // "line 2: More than 4096 bytes."
     /// ```
     pub fn message(&self) -> ArrayString<MAX_SENT_LEN>
         ensures { result.bytes ≡ message_of_fault (fault_of self.now) }
     {
         match self {
             RegroupFault::TooMany => whole_message("The input has more lines than are allowed."),
-            RegroupFault::TooLong(number) => line_message(*number, "More than 4096 bytes."),
+            RegroupFault::TooLong(number, max_line_len) => {
+                line_message(*number, long_text(*max_line_len).as_str())
+            }
             RegroupFault::FewFields(number) => line_message(*number, "Too few fields."),
             RegroupFault::Read => whole_message("Failed to read."),
             RegroupFault::NotText(number) | RegroupFault::FieldNotText(number, _) => {
@@ -57,10 +63,24 @@ impl RegroupFault {
             RegroupFault::Line(number, error) | RegroupFault::Field(number, _, error) => {
                 line_message(*number, error.kind().message().as_str())
             }
+            RegroupFault::Unclosed(number) => line_message(*number, "Unclosed quote."),
             RegroupFault::Write => whole_message("Failed to write."),
             RegroupFault::Report => whole_message("Failed to write a message."),
+            RegroupFault::Flush => whole_message("Failed to flush."),
         }
     }
+}
+
+/// Returns what is said of a line that may have this many bytes and has more.
+fn long_text(max_line_len: u32) -> ArrayString<MAX_MESSAGE_LEN>
+    ensures { result.bytes ≡ long_text max_line_len }
+{
+    let mut digits = itoa::Buffer::new();
+    let mut text = ArrayString::new();
+    text.push_str("More than ");
+    text.push_str(digits.format(max_line_len));
+    text.push_str(" bytes.");
+    text
 }
 
 /// Returns the message of a fault that no line has.

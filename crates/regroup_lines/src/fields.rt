@@ -4,7 +4,7 @@ ghost use Rattle.std.specs.List.{slice_split};
 ghost use Rattle.std.specs.Option.{option_map};
 ghost use Rattle.std.specs.Result.{result_map_both};
 ghost use Rattle.num_format.specs.Format.{FormatData};
-ghost use Rattle.regroup_shared.specs.Sending.{line};
+ghost use Rattle.regroup_shared.specs.Sending.{ended_by};
 ghost use Rattle.regroup_lines.specs.Fields.{SendsIfOk, checked};
 ghost use Rattle.regroup_lines.specs.LineFaults.{line_fault_of};
 ghost use Rattle.regroup_lines.specs.Lines.{field_written, fields_replaced, fields_written};
@@ -22,7 +22,7 @@ use num_format::to_formatted_string::write_whole;
 use std::io::Write;
 use std::ops::Range;
 
-/// Sends a line with the number in each chosen field regrouped, and a newline.
+/// Sends a line with the number in each chosen field regrouped, and the byte that ends it.
 pub(crate) fn regroup_fields<'a, W: Write, F: Format, G: Format>(
     rules: &Rules,
     fields: &Fields,
@@ -32,7 +32,7 @@ pub(crate) fn regroup_fields<'a, W: Write, F: Format, G: Format>(
     from: &F,
     to: &G,
 ) -> Result<(), LineFault<'a>>
-    ensures { SendsLine (fields_replaced fields.now rules.now (F.answers from.now) (G.answers to.now) number text.now)
+    ensures { SendsLine rules.now.line_end (fields_replaced fields.now rules.now (F.answers from.now) (G.answers to.now) number text.now)
         (W.contents w.old) (W.contents w.new) (result_map_both (λ sent. sent) line_fault_of result) }
 {
     // One field is read once, and the bytes before it and after it are sent as they are.
@@ -60,7 +60,7 @@ fn regroup_each<'a, W: Write, F: Format, G: Format>(
     from: &F,
     to: &G,
 ) -> Result<(), LineFault<'a>>
-    ensures { SendsLine (fields_replaced fields.now rules.now (F.answers from.now) (G.answers to.now) number text.now)
+    ensures { SendsLine rules.now.line_end (fields_replaced fields.now rules.now (F.answers from.now) (G.answers to.now) number text.now)
         (W.contents w.old) (W.contents w.new) (result_map_both (λ sent. sent) line_fault_of result) }
 {
     check_fields(rules, fields, text, number, from)?;
@@ -116,7 +116,7 @@ fn check_fields<'a, F: Format>(
     Ok(())
 }
 
-/// Sends a line without a fault, with the number in each chosen field regrouped, and a newline.
+/// Sends a line without a fault, with the number in each chosen field regrouped, and the byte that ends it.
 fn send_fields<'a, W: Write, F: Format, G: Format>(
     rules: &Rules,
     fields: &Fields,
@@ -126,7 +126,7 @@ fn send_fields<'a, W: Write, F: Format, G: Format>(
     from: &F,
     to: &G,
 ) -> Result<(), LineFault<'a>>
-    ensures { SendsIfOk (result_map_both line (λ fault. fault)
+    ensures { SendsIfOk (result_map_both (ended_by rules.now.line_end) (λ fault. fault)
         (fields_replaced fields.now rules.now (F.answers from.now) (G.answers to.now) number text.now))
         (W.contents w.old) (W.contents w.new) (result_map_both (λ sent. sent) line_fault_of result) }
 {
@@ -139,12 +139,12 @@ fn send_fields<'a, W: Write, F: Format, G: Format>(
         let field = &text[start..end];
         send_field(rules, count, is_chosen, field, number, w, from, to)?;
         if end == text.len() {
-            return send_bytes(b"\n", w);
+            return send_bytes(&[rules.line_end], w);
         }
         send_bytes(&[fields.delimiter], w)?;
         start = end + 1;
     }
-    pass_on(&text[start..], w).or(Err(LineFault::Write))
+    pass_on(&text[start..], rules.line_end, w).or(Err(LineFault::Write))
 }
 
 /// Returns where the field ends that begins at `start`: at the next delimiter, or at the end of the line.
@@ -238,7 +238,7 @@ fn send_field<'a, W: Write, F: Format, G: Format>(
 }
 
 /// Sends bytes.
-fn send_bytes<W: Write>(bytes: &[u8], w: &mut W) -> Result<(), LineFault<'static>>
+pub(crate) fn send_bytes<W: Write>(bytes: &[u8], w: &mut W) -> Result<(), LineFault<'static>>
     ensures { SendsIfOk (Ok bytes.now) (W.contents w.old) (W.contents w.new)
         (result_map_both (λ sent. sent) line_fault_of result) }
 {

@@ -1,49 +1,50 @@
 //! The input, piece by piece.
-ghost use Rattle.std.specs.Prelude.{◌≡◌, ◌+◌, ◌≤◌, ◌<◌, [], ◌∷◌, length, take, drop, IfOk, OnErr, IsNone, MatchOption};
+ghost use Rattle.std.specs.Prelude.{◌≡◌, ◌+◌, ◌≤◌, ◌<◌, [], ◌∷◌, length, take, drop, IfErr, IfOk, OnErr, IsNone, MatchOption};
 ghost use Rattle.std.specs.Io.KnownBytes.{Consumes, IsAtEnd, Keeps};
-ghost use Rattle.regroup_lines.specs.declared.input.TheConstants.{ARRAY_LEN};
+ghost use Rattle.regroup_lines.specs.Halt.{IsHalt, halt_fault};
 
-use crate::MAX_LINE_LEN;
+use crate::halt::{Halt, flush_before_read};
 use memchr::memchr;
 use std::io;
-use std::io::Read;
+use std::io::{Read, Write};
 use std::ops::Range;
 
-/// The bytes of the array: those of the longest line, and its newline.
-const ARRAY_LEN: usize = MAX_LINE_LEN + 1;
+/// The most bytes of one read. More at a time would not stay in the processor's caches.
+const MAX_READ_LEN: usize = 65536;
 
 /// A piece of the input, by its place in the array.
 pub(crate) enum Piece {
-    /// A line that a newline ends.
+    /// A line, without the byte that ends it.
     Line(Range<usize>),
-    /// What stands after the last newline, where the reader ended.
+    /// What stands after the last line, where the reader ended.
     Rest(Range<usize>),
-    /// The bytes that are held: more than a line may have, and no newline among them.
+    /// The bytes that are held: as many as the array has, and none of them ends a line.
     TooLong,
 }
 
 /// The bytes that were read and belong to no piece yet: those that are held.
 ///
-/// They are read into the array where the lines are found. They are moved once at most, to the start,
-/// where more of their line has to be read.
+/// They are read into the array where the lines are found, which has one byte more than a line may have. They are moved
+/// once at most, to the start, where more of their line has to be read.
 #[derive(Drop)]
-pub(crate) struct Input {
-    array: [u8; ARRAY_LEN],
+pub(crate) struct Input<'a> {
+    array: &'a mut [u8],
     start: usize,
     end: usize,
     ghost ordered: { start ≤ end },
-    ghost within: { end ≤ ARRAY_LEN },
+    ghost within: { end ≤ length array.now },
 }
 
-impl Input {
-    ghost use Rattle.regroup_lines.specs.Input.{EndsOrGoesOn, FindsNewline, FindsPiece, HasNoNewline, IsInArray, Reads, bytes_at, held};
+impl<'a> Input<'a> {
+    ghost use Rattle.regroup_lines.specs.Input.{EndsOrGoesOn, FindsLineEnd, FindsPiece, HasNoLineEnd, IsInArray, Reads, array_len, bytes_at, held};
 
     /// Returns an input of which nothing was read.
-    pub(crate) fn new() -> Input
-        ensures { held result ≡ [] }
+    pub(crate) fn new(array: &'a mut [u8]) -> Input<'a>
+        ensures none { held result ≡ [] }
+        ensures len { array_len result ≡ length array.old }
     {
         Input {
-            array: [0; ARRAY_LEN],
+            array,
             start: 0,
             end: 0,
         }
@@ -52,26 +53,36 @@ impl Input {
     /// Returns the bytes at a place of the array.
     pub(crate) fn bytes(&self, place: Range<usize>) -> &[u8]
         requires ordered { place.start ≤ place.end }
-        requires within { place.end ≤ ARRAY_LEN }
+        requires within { place.end ≤ array_len self.now }
         ensures { result.now ≡ bytes_at self.now place }
     {
         &self.array[place]
     }
 
-    /// Returns the next piece, reading as much as it takes.
+    /// Returns the next piece, reading as much as it takes. The byte `line_end` ends a line. The writer is flushed before
+    /// each read, if `flushes` says so.
     ///
     /// # Errors
     ///
-    /// Returns the error of the first read that fails. What was read is held.
-    pub(crate) fn next_piece<R: Read>(&mut self, reader: &mut R) -> io::Result<Piece>
-        ensures piece { IfOk result (FindsPiece (held self.old) self.new
+    /// Returns why the first read or flush that fails does. What was read is held.
+    pub(crate) fn next_piece<R: Read, W: Write>(
+        &mut self,
+        line_end: u8,
+        flushes: bool,
+        reader: &mut R,
+        writer: &mut W,
+    ) -> Result<Piece, Halt>
+        ensures piece { IfOk result (FindsPiece line_end (held self.old) self.new
             (R.remaining reader.old) (R.remaining reader.new)) }
-        ensures place { IfOk result IsInArray }
+        ensures place { IfOk result (IsInArray self.new) }
+        ensures len { array_len self.new ≡ array_len self.old }
         ensures failed { OnErr result (Reads (held self.old) (held self.new)
-            (R.remaining reader.old) (R.remaining reader.new) × HasNoNewline (held self.new)
-            × (length (held self.new) < ARRAY_LEN)) }
+            (R.remaining reader.old) (R.remaining reader.new) × HasNoLineEnd line_end (held self.new)
+            × (length (held self.new) < array_len self.new)) }
+        ensures halt { IfErr result (λ halt. IsHalt flushes (halt_fault halt)) }
+        ensures flushed { Keeps (W.contents writer.old) (W.contents writer.new) }
     {
-        let found = self.find_newline(reader)?;
+        let found = self.find_line_end(line_end, flushes, reader, writer)?;
         let len = self.held().len();
         match found {
             Some(len) => {
@@ -79,32 +90,43 @@ impl Input {
                 self.start += 1;
                 Ok(Piece::Line(line))
             }
-            None if len <= MAX_LINE_LEN => Ok(Piece::Rest(self.take(len))),
+            None if len < self.array.len() => Ok(Piece::Rest(self.take(len))),
             None => Ok(Piece::TooLong),
         }
     }
 
-    /// Returns whether nothing is held and the reader ends.
+    /// Returns whether nothing is held and the reader ends. The writer is flushed before a read, if `flushes` says so.
     ///
     /// # Errors
     ///
-    /// Returns the error of a read that fails.
-    pub(crate) fn is_at_end<R: Read>(&self, reader: &mut R) -> io::Result<bool>
+    /// Returns why a read or a flush fails.
+    pub(crate) fn is_at_end<R: Read, W: Write>(
+        &self,
+        flushes: bool,
+        reader: &mut R,
+        writer: &mut W,
+    ) -> Result<bool, Halt>
         ensures end { IfOk result (EndsOrGoesOn (held self.now)
             (R.remaining reader.old) (R.remaining reader.new)) }
         ensures failed { OnErr result ((held self.now ≡ [])
             × Keeps (R.remaining reader.old) (R.remaining reader.new)) }
+        ensures halt { IfErr result (λ halt. IsHalt flushes (halt_fault halt)) }
+        ensures flushed { Keeps (W.contents writer.old) (W.contents writer.new) }
     {
         if !self.held().is_empty() {
             return Ok(false);
         }
-        Ok(read_byte(reader)?.is_none())
+        flush_before_read(flushes, writer)?;
+        let Ok(byte) = read_byte(reader) else {
+            return Err(Halt::Read);
+        };
+        Ok(byte.is_none())
     }
 
     /// Returns the bytes that are held.
     pub(crate) fn held(&self) -> &[u8]
         ensures value { result.now ≡ held self.now }
-        ensures fits { length result.now ≤ ARRAY_LEN }
+        ensures fits { length result.now ≤ array_len self.now }
     {
         &self.array[self.start..self.end]
     }
@@ -113,7 +135,8 @@ impl Input {
     pub(crate) fn take(&mut self, len: usize) -> Range<usize>
         requires { len ≤ length (held self.old) }
         ensures ordered { result.start ≤ result.end }
-        ensures within { result.end ≤ ARRAY_LEN }
+        ensures within { result.end ≤ array_len self.new }
+        ensures len { array_len self.new ≡ array_len self.old }
         ensures taken { bytes_at self.new result ≡ take len (held self.old) }
         ensures left { held self.new ≡ drop len (held self.old) }
     {
@@ -122,30 +145,43 @@ impl Input {
         start..self.start
     }
 
-    /// Reads until a newline is held, and returns how many bytes stand before it. Returns `None` if
+    /// Reads until a byte that ends a line is held, and returns how many bytes stand before it. Returns `None` if
     /// the array is full or the reader ends before that.
     ///
     /// # Errors
     ///
-    /// Returns the error of the first read that fails. What was read before is held.
-    fn find_newline<R: Read>(&mut self, reader: &mut R) -> io::Result<Option<usize>>
+    /// Returns why the first read or flush that fails does. What was read before is held.
+    fn find_line_end<R: Read, W: Write>(
+        &mut self,
+        line_end: u8,
+        flushes: bool,
+        reader: &mut R,
+        writer: &mut W,
+    ) -> Result<Option<usize>, Halt>
         ensures read { Reads (held self.old) (held self.new)
             (R.remaining reader.old) (R.remaining reader.new) }
-        ensures found { IfOk result (FindsNewline (held self.new)) }
-        ensures end { IfOk result (λ found. IsNone found → length (held self.new) < ARRAY_LEN
+        ensures found { IfOk result (FindsLineEnd line_end (held self.new)) }
+        ensures end { IfOk result (λ found. IsNone found → length (held self.new) < array_len self.new
             → IsAtEnd (R.remaining reader.new)) }
-        ensures failed { OnErr result (HasNoNewline (held self.new) × (length (held self.new) < ARRAY_LEN)) }
+        ensures failed { OnErr result (HasNoLineEnd line_end (held self.new) × (length (held self.new) < array_len self.new)) }
+        ensures len { array_len self.new ≡ array_len self.old }
+        ensures halt { IfErr result (λ halt. IsHalt flushes (halt_fault halt)) }
+        ensures flushed { Keeps (W.contents writer.old) (W.contents writer.new) }
     {
         let mut searched = 0;
         'reads: loop {
-            match memchr(b'\n', &self.held()[searched..]) {
+            match memchr(line_end, &self.held()[searched..]) {
                 Some(index) => return Ok(Some(searched + index)),
                 None => searched = self.held().len(),
             }
-            if searched == ARRAY_LEN {
+            if searched == self.array.len() {
                 return Ok(None);
             }
-            if self.read_more(reader)? == 0 {
+            flush_before_read(flushes, writer)?;
+            let Ok(count) = self.read_more(reader) else {
+                return Err(Halt::Read);
+            };
+            if count == 0 {
                 return Ok(None);
             }
         }
@@ -157,16 +193,18 @@ impl Input {
     ///
     /// Returns the error of the read.
     fn read_more<R: Read>(&mut self, reader: &mut R) -> io::Result<usize>
-        requires { length (held self.old) < ARRAY_LEN }
+        requires { length (held self.old) < array_len self.old }
         ensures read { Reads (held self.old) (held self.new)
             (R.remaining reader.old) (R.remaining reader.new) }
         ensures count { IfOk result (λ count. length (held self.new) ≡ length (held self.old) + count) }
         ensures end { IfOk result (λ count. count ≡ 0 → IsAtEnd (R.remaining reader.new)) }
         ensures failed { OnErr result (held self.new ≡ held self.old) }
+        ensures len { array_len self.new ≡ array_len self.old }
     {
         self.move_to_front();
         let end = self.end;
-        let count = reader.read(&mut self.array[end..])?;
+        let room = self.array.len() - end;
+        let count = reader.read(&mut self.array[end..end + room.min(MAX_READ_LEN)])?;
         self.end = end + count;
         Ok(count)
     }
@@ -175,11 +213,14 @@ impl Input {
     fn move_to_front(&mut self)
         ensures held { held self.new ≡ held self.old }
         ensures end { self.new.end ≡ length (held self.new) }
+        ensures len { array_len self.new ≡ array_len self.old }
     {
         let (start, end) = (self.start, self.end);
-        self.array.copy_within(start..end, 0);
-        self.start = 0;
-        self.end = end - start;
+        if start > 0 {
+            self.array.copy_within(start..end, 0);
+            self.start = 0;
+            self.end = end - start;
+        }
     }
 }
 

@@ -11,11 +11,13 @@
 //! str::from_utf8(&out)                                                 // Ok("10,00,000\n-5\n")
 //! ```
 //!
-//! The input is read into an array of 4,097 bytes, and parsed there. Only [`field_list`] allocates.
+//! The input is read into an array, and parsed there. Only [`field_list`] allocates.
 #![tactic(auto)]
 
+mod csv;
 mod fault;
 mod fields;
+mod halt;
 mod input;
 pub mod laws;
 mod line_fault;
@@ -24,34 +26,35 @@ mod message;
 mod number;
 pub mod rules;
 
-ghost use Rattle.std.specs.Prelude.{◌≡◌, [], ◌≤◌, length};
+ghost use Rattle.std.specs.Prelude.{◌≡◌, ◌+◌, [], ◌<◌, ◌≤◌, length};
 ghost use Rattle.std.specs.Result.{result_map_both};
-ghost use Rattle.regroup_shared.specs.Sending.{Sends, line};
+ghost use Rattle.regroup_shared.specs.Sending.{Sends, ended_by};
 ghost use Rattle.regroup_lines.specs.Fault.{are_any, fault_of};
 ghost use Rattle.regroup_lines.specs.Fields.{SendsIfOk};
-ghost use Rattle.regroup_lines.specs.Input.{IsLong, PassesLong, held};
+ghost use Rattle.regroup_lines.specs.Input.{IsLong, PassesLong, array_len, held};
 ghost use Rattle.regroup_lines.specs.LineFaults.{line_fault_of};
-ghost use Rattle.regroup_lines.specs.Lines.{body_written, fault_named, fault_written, lenient, place_written, text_named, text_written};
+ghost use Rattle.regroup_lines.specs.Lines.{body_written, fault_named, fault_written, input_end, lenient, numbers_replaced, place_written, span_after, text_named, text_written, with_span};
 ghost use Rattle.regroup_lines.specs.Messages.{fault_message, messages};
 ghost use Rattle.regroup_lines.specs.Places.{place_of};
-ghost use Rattle.regroup_lines.specs.Sending.{Names, Regroups, RegroupsNaming, SendsLine, SendsTold};
+ghost use Rattle.regroup_lines.specs.Sending.{EndsInput, Names, Regroups, RegroupsNaming, SendsLine, SendsTold};
 
+use crate::csv::regroup_csv;
 pub use crate::fault::RegroupFault;
-use crate::fields::regroup_fields;
+use crate::fields::{regroup_fields, send_bytes};
 use crate::input::{Input, Piece};
 use crate::line_fault::LineFault;
 pub use crate::list::field_list;
 pub use crate::message::{MAX_FAULT_MESSAGE_LEN, MAX_NAME_LEN, fault_message};
 use crate::number::{Around, Number};
-use crate::rules::trim;
-pub use crate::rules::{FieldRange, Fields, Invalid, Reading, Rules, Span};
+use crate::rules::{MARK, trim};
+pub use crate::rules::{FieldRange, Fields, Invalid, Reading, Records, Rules, Span, Within};
 use num_format::Format;
 use num_format::to_formatted_string::write_whole;
 use std::io;
 use std::io::{Read, Write};
 use std::ops::Range;
 
-/// The most bytes of a line, without its newline.
+/// The most bytes of a line of [`regroup_lines`], without its newline.
 pub const MAX_LINE_LEN: usize = 4096;
 
 /// The most lines of an input of [`regroup_lines`].
@@ -64,6 +67,9 @@ const LENIENT: Rules = Rules {
     header_lines: 0,
     passes_empty: false,
     invalid: Invalid::Abort,
+    line_end: b'\n',
+    max_line_len: MAX_LINE_LEN as u32,
+    flushes: false,
 };
 
 /// What was regrouped, where no fault was returned.
@@ -115,12 +121,23 @@ pub fn regroup_lines<R: Read, W: Write, F: Format, G: Format>(
         (result_map_both (λ count. count) fault_of result) }
 {
     let mut sink = io::sink();
-    let summary = regroup_at_most(MAX_LINES, &LENIENT, "", r, w, &mut sink, from, to)?;
+    let mut buffer = [0; MAX_LINE_LEN + 1];
+    let summary = regroup_at_most(
+        MAX_LINES,
+        &LENIENT,
+        "",
+        &mut buffer,
+        r,
+        w,
+        &mut sink,
+        from,
+        to,
+    )?;
     Ok(summary.lines)
 }
 
 /// Regroups the lines of `r`, at most this many, as the rules say. The messages that name faults are sent to `e`, and have
-/// the name of the input.
+/// the name of the input. It is read into `buffer`, which has one byte more than a line may have.
 ///
 /// ```rust
 /// let rules = Rules {
@@ -129,10 +146,14 @@ pub fn regroup_lines<R: Read, W: Write, F: Format, G: Format>(
 ///     header_lines: 1,
 ///     passes_empty: false,
 ///     invalid: Invalid::Warn,
+///     line_end: b'\n',
+///     max_line_len: 4096,
+///     flushes: true,
 /// };
+/// let mut buffer = [0; 4097];
 /// let (mut reader, mut out) = ("amount\n1,000\n12x\n".as_bytes(), Vec::new(alloc));
 /// let mut err = Vec::new(alloc);
-/// let summary = regroup_at_most(9, &rules, "-", &mut reader, &mut out, &mut err, &Locale::en, &Locale::de);
+/// let summary = regroup_at_most(9, &rules, "-", &mut buffer, &mut reader, &mut out, &mut err, &Locale::en, &Locale::de);
 /// summary                 // Ok(Summary { lines: 3, has_faults: true })
 /// str::from_utf8(&out)    // Ok("amount\n1.000\n12x\n")
 /// ```
@@ -142,64 +163,100 @@ pub fn regroup_lines<R: Read, W: Write, F: Format, G: Format>(
 /// Returns the first fault, of those of [`regroup_lines`], that is not passed on.
 /// [`TooMany`](RegroupFault::TooMany) is that a byte follows the last of these lines, and
 /// [`Report`](RegroupFault::Report) that a write to `e` failed. The line of that message is not sent.
+/// [`Unclosed`](RegroupFault::Unclosed) is that the input ends inside quotes: all lines were sent, since only the end shows it.
+/// [`Flush`](RegroupFault::Flush) is that `w` is flushed before each read, and that this failed: as on `Read`, `w`
+/// received exactly the lines before.
 /// Where fields are chosen, [`FewFields`](RegroupFault::FewFields) is that a line has too few, and
 /// [`FieldNotText`](RegroupFault::FieldNotText) and [`Field`](RegroupFault::Field) are in place of `NotText` and `Line`.
 pub fn regroup_at_most<R: Read, W: Write, E: Write, F: Format, G: Format>(
     most: u64,
     rules: &Rules,
     name: &str,
+    buffer: &mut [u8],
     r: &mut R,
     w: &mut W,
     e: &mut E,
     from: &F,
     to: &G,
 ) -> Result<Summary, RegroupFault>
+    requires { length buffer.old ≡ rules.now.max_line_len + 1 }
     ensures { RegroupsNaming rules.now name.now most (F.answers from.now) (G.answers to.now)
         (R.remaining r.old) (R.remaining r.new) (W.contents w.old) (W.contents w.new) (E.contents e.old) (E.contents e.new)
         (result_map_both (λ summary. summary) fault_of result) }
 {
-    let mut input = Input::new();
+    let mut input = Input::new(buffer);
     let mut has_faults = false;
+    let mut span = rules.span;
     for count in 0..most {
         let lines = count + 1;
-        let Ok(piece) = input.next_piece(r) else {
-            return Err(RegroupFault::Read);
+        let now = Rules { span, ..*rules };
+        let piece = match input.next_piece(rules.line_end, rules.flushes, r, w) {
+            Ok(piece) => piece,
+            Err(halt) => return Err(halt.fault()),
         };
         match piece {
             Piece::Line(place) => {
-                has_faults |= regroup_line(rules, name, input.bytes(place), lines, w, e, from, to)?;
+                let text = input.bytes(place);
+                has_faults |= regroup_line(&now, name, text, lines, w, e, from, to)?;
+                span = span.after_line(rules.line_end, text);
             }
             Piece::Rest(place) => {
                 let rest = input.bytes(place);
                 if rest.is_empty() {
-                    let lines = count;
-                    return Ok(Summary { lines, has_faults });
+                    return finish(rules, span, name, count, has_faults, e, from);
                 }
-                has_faults |= regroup_line(rules, name, rest, lines, w, e, from, to)?;
-                return Ok(Summary { lines, has_faults });
+                has_faults |= regroup_line(&now, name, rest, lines, w, e, from, to)?;
+                span = span.after_line(rules.line_end, rest);
+                return finish(rules, span, name, lines, has_faults, e, from);
             }
             Piece::TooLong => {
-                let fault = RegroupFault::TooLong(lines);
+                let fault = RegroupFault::TooLong(lines, rules.max_line_len);
                 if !rules.invalid.passes() {
                     return Err(fault);
                 }
                 has_faults |= name_fault(rules, name, &fault, e, from)?;
-                if pass_long(&mut input, r, w)? {
-                    return Ok(Summary { lines, has_faults });
+                if pass_long(rules, &mut input, &mut span, r, w)? {
+                    return finish(rules, span, name, lines, has_faults, e, from);
                 }
             }
         }
     }
-    let lines = most;
-    match input.is_at_end(r) {
-        Ok(true) => Ok(Summary { lines, has_faults }),
+    match input.is_at_end(rules.flushes, r, w) {
+        Ok(true) => finish(rules, span, name, most, has_faults, e, from),
         Ok(false) => Err(RegroupFault::TooMany),
-        Err(_) => Err(RegroupFault::Read),
+        Err(halt) => Err(halt.fault()),
     }
 }
 
-/// Sends what is written in place of the text of a line, and a newline, and before it the message that names its fault, if
-/// there is one. Returns whether there is.
+/// Returns what was regrouped, where an input of so many lines ends. A quote that no other one closes is at fault, and the
+/// message that names it is sent if the rules say so.
+fn finish<'a, E: Write, F: Format>(
+    rules: &Rules<'a>,
+    span: Span<'a>,
+    name: &str,
+    lines: u64,
+    has_faults: bool,
+    e: &mut E,
+    from: &F,
+) -> Result<Summary, RegroupFault>
+    ensures { EndsInput (input_end (with_span rules.now span.entry) lines) has_faults
+        (messages name.now rules.now.reading (F.answers from.now) (input_end (with_span rules.now span.entry) lines).named)
+        (E.contents e.old) (E.contents e.new) (result_map_both (λ summary. summary) fault_of result) }
+{
+    if !span.is_inside() {
+        return Ok(Summary { lines, has_faults });
+    }
+    let fault = RegroupFault::Unclosed(lines);
+    if !rules.invalid.passes() {
+        return Err(fault);
+    }
+    let is_named = name_fault(rules, name, &fault, e, from)?;
+    let has_faults = has_faults || is_named;
+    Ok(Summary { lines, has_faults })
+}
+
+/// Sends what is written in place of the text of a line, and the byte that ends it, and before them the message that names
+/// its fault, if there is one. Returns whether there is.
 fn regroup_line<W: Write, E: Write, F: Format, G: Format>(
     rules: &Rules,
     name: &str,
@@ -210,7 +267,7 @@ fn regroup_line<W: Write, E: Write, F: Format, G: Format>(
     from: &F,
     to: &G,
 ) -> Result<bool, RegroupFault>
-    ensures { SendsTold (text_written rules.now (F.answers from.now) (G.answers to.now) number text.now)
+    ensures { SendsTold rules.now.line_end (text_written rules.now (F.answers from.now) (G.answers to.now) number text.now)
         (messages name.now rules.now.reading (F.answers from.now) (text_named rules.now (F.answers from.now) (G.answers to.now) number text.now))
         (are_any (text_named rules.now (F.answers from.now) (G.answers to.now) number text.now))
         (W.contents w.old) (W.contents w.new) (E.contents e.old) (E.contents e.new) (result_map_both (λ told. told) fault_of result) }
@@ -232,13 +289,13 @@ fn regroup_text<'a, W: Write, E: Write, F: Format, G: Format>(
     from: &F,
     to: &G,
 ) -> Result<bool, LineFault<'a>>
-    ensures { SendsTold (text_written rules.now (F.answers from.now) (G.answers to.now) number text.now)
+    ensures { SendsTold rules.now.line_end (text_written rules.now (F.answers from.now) (G.answers to.now) number text.now)
         (messages name.now rules.now.reading (F.answers from.now) (text_named rules.now (F.answers from.now) (G.answers to.now) number text.now))
         (are_any (text_named rules.now (F.answers from.now) (G.answers to.now) number text.now))
         (W.contents w.old) (W.contents w.new) (E.contents e.old) (E.contents e.new) (result_map_both (λ told. told) line_fault_of result) }
 {
     if number <= rules.header_lines {
-        pass_on(text, w).or(Err(LineFault::Write))?;
+        pass_on(text, rules.line_end, w).or(Err(LineFault::Write))?;
         return Ok(false);
     }
     match regroup_body(rules, text, number, w, from, to) {
@@ -250,8 +307,8 @@ fn regroup_text<'a, W: Write, E: Write, F: Format, G: Format>(
     }
 }
 
-/// Sends a line at fault as it is, and a newline, and before it the message that names the fault, if the rules say so.
-/// Returns whether there is a message.
+/// Sends a line at fault as it is, and the byte that ends it, and before them the message that names the fault, if the
+/// rules say so. Returns whether there is a message.
 fn pass_fault<'a, W: Write, E: Write, F: Format>(
     rules: &Rules,
     name: &str,
@@ -261,7 +318,7 @@ fn pass_fault<'a, W: Write, E: Write, F: Format>(
     e: &mut E,
     from: &F,
 ) -> Result<bool, LineFault<'a>>
-    ensures { SendsTold (fault_written rules.now.invalid text.now (line_fault_of fault.entry))
+    ensures { SendsTold rules.now.line_end (fault_written rules.now.invalid text.now (line_fault_of fault.entry))
         (messages name.now rules.now.reading (F.answers from.now) (fault_named rules.now.invalid (line_fault_of fault.entry)))
         (are_any (fault_named rules.now.invalid (line_fault_of fault.entry)))
         (W.contents w.old) (W.contents w.new) (E.contents e.old) (E.contents e.new) (result_map_both (λ told. told) line_fault_of result) }
@@ -272,7 +329,7 @@ fn pass_fault<'a, W: Write, E: Write, F: Format>(
     let Ok(is_named) = name_fault(rules, name, &fault.kept(), e, from) else {
         return Err(LineFault::Report);
     };
-    pass_on(text, w).or(Err(LineFault::Write))?;
+    pass_on(text, rules.line_end, w).or(Err(LineFault::Write))?;
     Ok(is_named)
 }
 
@@ -298,32 +355,40 @@ fn name_fault<E: Write, F: Format>(
     }
 }
 
-/// Sends a line that is too long, piece by piece: the bytes that are held, which it begins with, and those up to its newline or
-/// the end of the input, and a newline. Returns whether the input ended.
-fn pass_long<R: Read, W: Write>(
-    input: &mut Input,
+/// Sends a line that is too long, piece by piece: the bytes that are held, which it begins with, and those up to the byte
+/// that ends it or the end of the input, and that byte. Returns whether the input ended.
+fn pass_long<'a, R: Read, W: Write>(
+    rules: &Rules,
+    input: &mut Input<'_>,
+    span: &mut Span<'a>,
     r: &mut R,
     w: &mut W,
 ) -> Result<bool, RegroupFault>
-    requires { IsLong (held input.old) }
-    ensures { PassesLong (held input.old) (held input.new) (R.remaining r.old) (R.remaining r.new)
+    requires long { IsLong rules.now.line_end (array_len input.old) (held input.old) }
+    requires some { 0 < array_len input.old }
+    ensures passes { PassesLong span.old span.new rules.now.line_end (array_len input.old) rules.now.flushes (held input.old) (held input.new) (R.remaining r.old) (R.remaining r.new)
         (W.contents w.old) (W.contents w.new) (result_map_both (λ ended. ended) fault_of result) }
+    ensures len { array_len input.new ≡ array_len input.old }
 {
-    send_held(input, w)?;
+    send_held(rules.line_end, input, span, w)?;
     for _ in 0..u64::MAX {
-        match input.next_piece(r) {
+        match input.next_piece(rules.line_end, rules.flushes, r, w) {
             Ok(Piece::Line(place)) => {
-                pass_on(input.bytes(place), w).or(Err(RegroupFault::Write))?;
+                let text = input.bytes(place);
+                pass_on(text, rules.line_end, w).or(Err(RegroupFault::Write))?;
+                *span = span.after_line(rules.line_end, text);
                 return Ok(false);
             }
             Ok(Piece::Rest(place)) => {
-                pass_on(input.bytes(place), w).or(Err(RegroupFault::Write))?;
+                let text = input.bytes(place);
+                pass_on(text, rules.line_end, w).or(Err(RegroupFault::Write))?;
+                *span = span.after_line(rules.line_end, text);
                 return Ok(true);
             }
-            Ok(Piece::TooLong) => send_held(input, w)?,
-            Err(_) => {
-                send_held(input, w)?;
-                return Err(RegroupFault::Read);
+            Ok(Piece::TooLong) => send_held(rules.line_end, input, span, w)?,
+            Err(halt) => {
+                send_held(rules.line_end, input, span, w)?;
+                return Err(halt.fault());
             }
         }
     }
@@ -331,20 +396,29 @@ fn pass_long<R: Read, W: Write>(
 }
 
 /// Sends the bytes that are held.
-fn send_held<W: Write>(input: &mut Input, w: &mut W) -> Result<(), RegroupFault>
+fn send_held<'a, W: Write>(
+    line_end: u8,
+    input: &mut Input<'_>,
+    span: &mut Span<'a>,
+    w: &mut W,
+) -> Result<(), RegroupFault>
     ensures sent { SendsIfOk (Ok (held input.old)) (W.contents w.old) (W.contents w.new)
         (result_map_both (λ sent. sent) fault_of result) }
     ensures none_left { held input.new ≡ [] }
+    ensures len { array_len input.new ≡ array_len input.old }
+    ensures span { span.new ≡ span_after line_end span.old (held input.old) }
 {
     let len = input.held().len();
     let place = input.take(len);
-    match write_whole(input.bytes(place), w) {
+    let bytes = input.bytes(place);
+    *span = span.after(line_end, bytes);
+    match write_whole(bytes, w) {
         Ok(_) => Ok(()),
         Err(_) => Err(RegroupFault::Write),
     }
 }
 
-/// Sends a line that is no header, with its numbers regrouped, and a newline.
+/// Sends a line that is no header, with its numbers regrouped and a byte order mark passed on, and the byte that ends it.
 fn regroup_body<'a, W: Write, F: Format, G: Format>(
     rules: &Rules,
     text: &'a [u8],
@@ -353,7 +427,29 @@ fn regroup_body<'a, W: Write, F: Format, G: Format>(
     from: &F,
     to: &G,
 ) -> Result<(), LineFault<'a>>
-    ensures { SendsLine (body_written rules.now (F.answers from.now) (G.answers to.now) number text.now)
+    ensures { SendsLine rules.now.line_end (body_written rules.now (F.answers from.now) (G.answers to.now) number text.now)
+        (W.contents w.old) (W.contents w.new) (result_map_both (λ sent. sent) line_fault_of result) }
+{
+    if !rules.span.passes_mark(number, text) {
+        return regroup_numbers(rules, text, number, w, from, to);
+    }
+    let rest = &text[MARK.len()..];
+    // Of a line at fault nothing is sent, so it is read before the mark is sent.
+    regroup_numbers(rules, rest, number, &mut io::sink(), from, to)?;
+    send_bytes(&MARK, w)?;
+    regroup_numbers(rules, rest, number, w, from, to)
+}
+
+/// Sends a line with its numbers regrouped, and the byte that ends it.
+fn regroup_numbers<'a, W: Write, F: Format, G: Format>(
+    rules: &Rules,
+    text: &'a [u8],
+    number: u64,
+    w: &mut W,
+    from: &F,
+    to: &G,
+) -> Result<(), LineFault<'a>>
+    ensures { SendsLine rules.now.line_end (numbers_replaced rules.now.span rules.now (F.answers from.now) (G.answers to.now) number text.now)
         (W.contents w.old) (W.contents w.new) (result_map_both (λ sent. sent) line_fault_of result) }
 {
     let whole = 0..text.len();
@@ -361,10 +457,11 @@ fn regroup_body<'a, W: Write, F: Format, G: Format>(
         Span::Line => regroup_place(rules, text, whole, number, w, from, to),
         Span::Trimmed => regroup_place(rules, text, trim(text, whole), number, w, from, to),
         Span::Fields(fields) => regroup_fields(rules, fields, text, number, w, from, to),
+        Span::Csv(records) => regroup_csv(rules, records, text, number, w, from, to),
     }
 }
 
-/// Sends a line with the number at a place regrouped, and a newline.
+/// Sends a line with the number at a place regrouped, and the byte that ends it.
 fn regroup_place<'a, W: Write, F: Format, G: Format>(
     rules: &Rules,
     text: &'a [u8],
@@ -376,31 +473,33 @@ fn regroup_place<'a, W: Write, F: Format, G: Format>(
 ) -> Result<(), LineFault<'a>>
     requires ordered { place.start ≤ place.end }
     requires within { place.end ≤ length text.now }
-    ensures { SendsLine (place_written rules.now (F.answers from.now) (G.answers to.now) number text.now (place_of place))
+    ensures { SendsLine rules.now.line_end (place_written rules.now (F.answers from.now) (G.answers to.now) number text.now (place_of place))
         (W.contents w.old) (W.contents w.new) (result_map_both (λ sent. sent) line_fault_of result) }
 {
     let (start, end) = (place.start, place.end);
     if rules.passes_empty && start == end {
-        return pass_on(text, w).or(Err(LineFault::Write));
+        return pass_on(text, rules.line_end, w).or(Err(LineFault::Write));
     }
     let around = Around {
         before: &text[..start],
         after: &text[end..],
     };
     let value = Number::read(rules.reading, &text[start..end], number, from)?;
-    value.send_line(&around, w, to).or(Err(LineFault::Write))
+    value
+        .send_line(&around, rules.line_end, w, to)
+        .or(Err(LineFault::Write))
 }
 
-/// Sends a line as it is, and a newline.
+/// Sends a line as it is, and the byte that ends it.
 ///
 /// # Errors
 ///
 /// Returns the error of the first write that fails, also of one that was interrupted, or that writes no bytes.
 #[tactic(auto, using(crate::proofs::AroundLemmas::passed_prefix, crate::proofs::AroundLemmas::passed_suffix, crate::proofs::AroundLemmas::passed_whole))]
-fn pass_on<W: Write>(text: &[u8], w: &mut W) -> io::Result<()>
-    ensures { Sends result (W.contents w.old) (W.contents w.new) (line text.now) }
+fn pass_on<W: Write>(text: &[u8], line_end: u8, w: &mut W) -> io::Result<()>
+    ensures { Sends result (W.contents w.old) (W.contents w.new) (ended_by line_end text.now) }
 {
     write_whole(text, w)?;
-    write_whole(b"\n", w)?;
+    write_whole(&[line_end], w)?;
     Ok(())
 }

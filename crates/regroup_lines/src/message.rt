@@ -4,7 +4,7 @@ ghost use Rattle.std.specs.Result.{result_map_both};
 ghost use Rattle.num_format.specs.Refusal.{refusal_of};
 ghost use Rattle.regroup_shared.specs.Reading.{number_read};
 ghost use Rattle.regroup_lines.specs.Fault.{fault_of};
-ghost use Rattle.regroup_lines.specs.Messages.{before_fault, before_in, byte_text, fault_message, field_message, kept_in, lenient_text, line_message, read_text, refused_text};
+ghost use Rattle.regroup_lines.specs.Messages.{before_fault, before_in, byte_text, fault_message, field_message, kept_in, lenient_text, line_message, long_cause, read_text, refused_text};
 
 use crate::fault::RegroupFault;
 use crate::rules::Reading;
@@ -16,6 +16,9 @@ use regroup_shared::{MAX_QUOTED_LEN, MAX_SHOWN_LEN, quoted, shown};
 
 /// The most bytes of what is shown of a name: four for each of its bytes.
 pub const MAX_NAME_LEN: usize = 1024;
+
+/// The most bytes of what is said of a line that is too long.
+const MAX_LONG_CAUSE_LEN: usize = 40;
 
 /// The most bytes of ` at byte ` and a number.
 const MAX_BYTE_TEXT_LEN: usize = 50;
@@ -45,7 +48,7 @@ pub const MAX_FAULT_MESSAGE_LEN: usize = MAX_NAME_LEN + MAX_LINE_TEXT_LEN + MAX_
 /// format. It is empty for a fault that no line has.
 ///
 /// ```rust
-/// let fault = RegroupFault::TooLong(7);
+/// let fault = RegroupFault::TooLong(7, 4096);
 /// fault_message("x.tsv", Reading::Strict, &fault, &Locale::en)    // "regroup-lines: x.tsv:7: more than 4096 bytes\n"
 /// ```
 pub fn fault_message<F: Format>(
@@ -57,7 +60,9 @@ pub fn fault_message<F: Format>(
     ensures { result.bytes ≡ fault_message name.now reading (F.answers from.now) (fault_of fault.now) }
 {
     match fault {
-        RegroupFault::TooLong(number) => line_message(name, *number, "more than 4096 bytes"),
+        RegroupFault::TooLong(number, max_line_len) => {
+            line_message(name, *number, long_cause(*max_line_len).as_str())
+        }
         RegroupFault::FewFields(number) => line_message(name, *number, "too few fields"),
         RegroupFault::NotText(number) => line_message(name, *number, "not UTF-8"),
         RegroupFault::FieldNotText(number, field) => {
@@ -71,9 +76,25 @@ pub fn fault_message<F: Format>(
             let text = refused_text(reading, kept_in(error), from);
             field_message(name, *number, *field, text.as_str())
         }
-        RegroupFault::TooMany | RegroupFault::Read | RegroupFault::Write | RegroupFault::Report =>
-            ArrayString::new(),
+        RegroupFault::Unclosed(number) => line_message(name, *number, "unclosed quote"),
+        RegroupFault::TooMany
+        | RegroupFault::Read
+        | RegroupFault::Write
+        | RegroupFault::Report
+        | RegroupFault::Flush => ArrayString::new(),
     }
+}
+
+/// Returns what is said of a line that may have this many bytes and has more.
+fn long_cause(max_line_len: u32) -> ArrayString<MAX_LONG_CAUSE_LEN>
+    ensures { result.bytes ≡ long_cause max_line_len }
+{
+    let mut digits = itoa::Buffer::new();
+    let mut cause = ArrayString::new();
+    cause.push_str("more than ");
+    cause.push_str(digits.format(max_line_len));
+    cause.push_str(" bytes");
+    cause
 }
 
 /// Returns a message with the name of the input and the number of a line before the text.

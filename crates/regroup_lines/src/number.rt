@@ -1,24 +1,24 @@
 //! A number in a line: how it is read and sent.
-ghost use Rattle.std.specs.Prelude.{◌≡◌, ◌<◌, ◌++◌, length};
+ghost use Rattle.std.specs.Prelude.{◌≡◌, ◌<◌, [], ◌++◌, length};
 ghost use Rattle.std.specs.Result.{result_map_both};
 ghost use Rattle.num_format.specs.Format.{FormatData};
-ghost use Rattle.regroup_shared.specs.Sending.{Sends, line};
+ghost use Rattle.regroup_shared.specs.Sending.{Sends, ended_by};
 ghost use Rattle.regroup_lines.specs.LineFaults.{line_fault_of};
 ghost use Rattle.regroup_lines.specs.Lines.{number_written};
 ghost use Rattle.regroup_lines.specs.Numbers.{number_text};
 
 use crate::line_fault::LineFault;
 use crate::rules::Reading;
-use arrayvec::ArrayString;
+use arrayvec::ArrayVec;
 use num_format::parsing::FromFormattedStr;
 use num_format::to_formatted_string::write_whole;
 use num_format::{Buffer, Format};
 use num_format_decimal::{Decimal, DecimalBuffer};
-use regroup_shared::{MAX_SENT_LINE_LEN, send_line};
+use regroup_shared::MAX_SENT_LINE_LEN;
 use std::io;
 use std::io::Write;
 
-/// The most bytes of a short line, with its newline.
+/// The most bytes of a short line, with the byte that ends it.
 const MAX_SHORT_LINE_LEN: usize = 64;
 
 /// A number that was read.
@@ -88,7 +88,7 @@ impl Number {
         }
     }
 
-    /// Sends the bytes of a line around the number, its text between them, and a newline.
+    /// Sends the bytes of a line around the number, its text between them, and the byte that ends it.
     ///
     /// # Errors
     ///
@@ -96,17 +96,24 @@ impl Number {
     pub(crate) fn send_line<W: Write, G: Format>(
         &self,
         around: &Around<'_>,
+        line_end: u8,
         w: &mut W,
         to: &G,
     ) -> io::Result<()>
         ensures { Sends result (W.contents w.old) (W.contents w.new)
-            (line (around.now.before.now ++ (number_text (G.answers to.now) self.now ++ around.now.after.now))) }
+            (ended_by line_end (around.now.before.now ++ (number_text (G.answers to.now) self.now ++ around.now.after.now))) }
     {
         match self {
-            Number::Whole(value) => send_line_between(around, Buffer::of(value, to).as_str(), w),
+            Number::Whole(value) => send_line_between(
+                around,
+                Buffer::of(value, to).as_str(),
+                line_end,
+                w,
+            ),
             Number::Decimal(value) => send_line_between(
                 around,
                 DecimalBuffer::of(value, to).as_str(),
+                line_end,
                 w,
             ),
         }
@@ -129,51 +136,61 @@ fn send_between<W: Write>(around: &Around<'_>, text: &str, w: &mut W) -> io::Res
     Ok(())
 }
 
-/// Does the same, and sends a newline. A text with nothing around it is sent with the newline, by one write if that
-/// writes both.
+/// Does the same, and sends the byte that ends the line. A text with nothing around it is sent with that byte, by one write
+/// if that writes both.
 ///
 /// # Errors
 ///
 /// Returns the error of the first write that fails, also of one that was interrupted, or that writes no bytes.
 #[tactic(auto, using(crate::proofs::AroundLemmas::passed_prefix, crate::proofs::AroundLemmas::passed_suffix, crate::proofs::AroundLemmas::passed_whole))]
-fn send_line_between<W: Write>(around: &Around<'_>, text: &str, w: &mut W) -> io::Result<()>
+fn send_line_between<W: Write>(
+    around: &Around<'_>,
+    text: &str,
+    line_end: u8,
+    w: &mut W,
+) -> io::Result<()>
     requires { length text.now < MAX_SENT_LINE_LEN }
     ensures { Sends result (W.contents w.old) (W.contents w.new)
-        (line (around.now.before.now ++ (text.now ++ around.now.after.now))) }
+        (ended_by line_end (around.now.before.now ++ (text.now ++ around.now.after.now))) }
 {
     if around.before.is_empty() && around.after.is_empty() {
-        return send_text(text, w);
+        return send_text(text, line_end, w);
     }
     send_between(around, text, w)?;
-    write_whole(b"\n", w)?;
+    write_whole(&[line_end], w)?;
     Ok(())
 }
 
-/// Sends a text and a newline, by one write if that writes both. Most texts are short, and fit an array that is made in less
-/// time.
+/// Sends a text and the byte that ends its line, by one write if that writes both. Most texts are short, and fit an array
+/// that is made in less time.
 ///
 /// # Errors
 ///
 /// Returns the error of the first write that fails, also of one that was interrupted, or that writes no bytes.
-fn send_text<W: Write>(text: &str, w: &mut W) -> io::Result<()>
+fn send_text<W: Write>(text: &str, line_end: u8, w: &mut W) -> io::Result<()>
     requires { length text.now < MAX_SENT_LINE_LEN }
-    ensures { Sends result (W.contents w.old) (W.contents w.new) (line text.now) }
+    ensures { Sends result (W.contents w.old) (W.contents w.new) (ended_by line_end text.now) }
 {
     if text.len() < MAX_SHORT_LINE_LEN {
-        send_short_text(text, w)
+        send_in_array(ArrayVec::<u8, MAX_SHORT_LINE_LEN>::new(), text, line_end, w)
     } else {
-        send_line(text, w)
+        send_in_array(ArrayVec::<u8, MAX_SENT_LINE_LEN>::new(), text, line_end, w)
     }
 }
 
-/// Does the same with a short text.
-fn send_short_text<W: Write>(text: &str, w: &mut W) -> io::Result<()>
-    requires { length text.now < MAX_SHORT_LINE_LEN }
-    ensures { Sends result (W.contents w.old) (W.contents w.new) (line text.now) }
+/// Does the same by one write of this array, which is empty.
+fn send_in_array<const LEN: usize, W: Write>(
+    mut line: ArrayVec<u8, LEN>,
+    text: &str,
+    line_end: u8,
+    w: &mut W,
+) -> io::Result<()>
+    requires empty { line.items ≡ [] }
+    requires room { length text.now < LEN }
+    ensures { Sends result (W.contents w.old) (W.contents w.new) (ended_by line_end text.now) }
 {
-    let mut line = ArrayString::<MAX_SHORT_LINE_LEN>::new();
-    line.push_str(text);
-    line.push('\n');
-    write_whole(line.as_str().as_bytes(), w)?;
+    line.try_extend_from_slice(text.as_bytes()).unwrap();
+    line.push(line_end);
+    write_whole(line.as_slice(), w)?;
     Ok(())
 }

@@ -1,10 +1,14 @@
 //! How the lines of an input are regrouped, and where the numbers of a line are.
 ghost use Rattle.std.specs.Prelude.{◌≡◌, ◌<◌, ◌≤◌, [], ◌∷◌, length, IfSome};
-ghost use Rattle.regroup_lines.specs.Lines.{passes};
+ghost use Rattle.regroup_shared.specs.Sending.{ended_by};
+ghost use Rattle.regroup_lines.specs.Lines.{is_inside, passes, passes_mark, span_after};
 ghost use Rattle.regroup_lines.specs.Lists.{one_field};
 ghost use Rattle.regroup_lines.specs.Places.{are_enough, is_at_most, is_chosen, is_chosen_from, is_enough, is_in_range, place_of, trimmed};
 
 use std::ops::Range;
+
+/// The bytes of a byte order mark, the character U+FEFF.
+pub(crate) const MARK: [u8; 3] = [0xEF, 0xBB, 0xBF];
 
 /// How the text of a number is read.
 #[derive(Clone, Copy, Debug, PartialEq, Eq)]
@@ -50,8 +54,31 @@ pub struct Fields<'a> {
     pub delimiter: u8,
 }
 
-/// Where the numbers of a line are. ASCII whitespace around a number, as a carriage return, is not part of it, but
-/// for [`Span::Line`].
+/// Where a line begins in a record of RFC 4180: a record has more than one line where a newline is in quotes.
+#[derive(Clone, Copy, Debug, PartialEq, Eq)]
+pub struct Within {
+    /// Whether the line begins inside quotes.
+    pub inside: bool,
+    /// How many fields of the record end before the line.
+    pub before: u64,
+}
+
+/// The records of RFC 4180 in which some fields have a number. A field may be in quotes, and have delimiters, newlines and doubled
+/// quotes there. The number is read between the quotes, and has none. It is written in quotes if it was in quotes, or if a field with
+/// its text has to be: all other bytes are passed on.
+///
+/// A chosen field that begins in a line and does not end in it is at fault. The rest of a field that an earlier line began is
+/// passed on. A record needs the fields that are chosen.
+#[derive(Clone, Copy, Debug, PartialEq, Eq)]
+pub struct Records<'a> {
+    /// The fields.
+    pub fields: Fields<'a>,
+    /// Where the first line begins.
+    pub within: Within,
+}
+
+/// Where the numbers of a line are. ASCII whitespace around a number, as a carriage return, is not part of it, nor is a
+/// byte order mark at the start of the first line, but for [`Span::Line`].
 #[derive(Clone, Copy, Debug, PartialEq, Eq)]
 pub enum Span<'a> {
     /// All bytes of the line.
@@ -60,6 +87,8 @@ pub enum Span<'a> {
     Trimmed,
     /// Each of these fields without the ASCII whitespace at its ends.
     Fields(Fields<'a>),
+    /// Each of these fields of records of RFC 4180, without the quotes around it and the ASCII whitespace at its ends.
+    Csv(Records<'a>),
 }
 
 /// How the lines of an input are regrouped.
@@ -75,6 +104,12 @@ pub struct Rules<'a> {
     pub passes_empty: bool,
     /// What is done with a line at fault.
     pub invalid: Invalid,
+    /// The byte that ends a line: a newline, or NUL.
+    pub line_end: u8,
+    /// The most bytes of a line, without the byte that ends it.
+    pub max_line_len: u32,
+    /// Whether the writer is flushed before each read of the input.
+    pub flushes: bool,
 }
 
 impl Invalid {
@@ -85,6 +120,56 @@ impl Invalid {
         match self {
             Invalid::Abort => false,
             Invalid::Fail | Invalid::Warn | Invalid::Ignore => true,
+        }
+    }
+}
+
+impl Span<'_> {
+    /// Returns whether the line of this number begins with a byte order mark that is not part of it.
+    pub(crate) fn passes_mark(&self, number: u64, text: &[u8]) -> bool
+        ensures { result ≡ passes_mark self.now number text.now }
+    {
+        match self {
+            Span::Line => false,
+            Span::Trimmed | Span::Fields(_) | Span::Csv(_) => number == 1
+                && text.starts_with(&MARK),
+        }
+    }
+}
+
+impl<'a> Span<'a> {
+    /// Returns where the numbers are of what follows a text.
+    pub(crate) fn after(self, line_end: u8, text: &[u8]) -> Span<'a>
+        ensures { result ≡ span_after line_end self.entry text.now }
+    {
+        match self {
+            Span::Csv(records) => {
+                let Records { fields, within } = records;
+                let within = within.after(fields.delimiter, line_end, text);
+                Span::Csv(Records { fields, within })
+            }
+            Span::Line | Span::Trimmed | Span::Fields(_) => self,
+        }
+    }
+
+    /// Returns the same of what follows a text and the byte that ends its line.
+    #[inline]
+    pub(crate) fn after_line(self, line_end: u8, text: &[u8]) -> Span<'a>
+        ensures { result ≡ span_after line_end self.entry (ended_by line_end text.now) }
+    {
+        match self {
+            Span::Csv(_) => self.after(line_end, text).after(line_end, &[line_end]),
+            Span::Line | Span::Trimmed | Span::Fields(_) => self,
+        }
+    }
+
+    /// Returns whether a line begins inside quotes.
+    pub(crate) fn is_inside(self) -> bool
+        ensures { result ≡ is_inside self.entry }
+    {
+        match self {
+            Span::Csv(records) => records.within.inside,
+            Span::Line | Span::Trimmed | Span::Fields(_) => false,
         }
     }
 }

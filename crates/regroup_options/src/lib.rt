@@ -18,14 +18,19 @@ plus and sep. GROUPING, or grp, is Standard, Indian, Posix, Myriad or Sparse.
 LIST has parts N, N-M, N- or -M, with commas between them, as 1,3-5: fields are counted from 1. A line needs each
 field that LIST names, and of N- the field N.
 
-A number is read exactly as it is printed under FROM, grouped or not, and is written with as many decimals
-as it has. Spaces, tabs and carriage returns around it are passed on. A last line without a newline is
-written with one. Without --lenient, each decimal under FROM has to parse back from its text: FROM needs a
-minus sign, and a decimal mark that is not a separator that it prints.
+With --csv a field may be in quotes, and have delimiters, newlines and doubled quotes there. It is written in quotes
+if it was in quotes or has to be. A quote that no other one closes is at fault.
 
-A line is at fault if its number is none, or if it has too few fields or more than 4,096 bytes. With MODE abort
-no line after it is written. With fail, warn and ignore it is passed on as it is. With fail and warn a message
-names it, and with fail the status is 1.
+A number is read exactly as it is printed under FROM, grouped or not, and is written with as many decimals
+as it has. Spaces, tabs and carriage returns around it are passed on, and so is a byte order mark at the start
+of a file. A last line without a newline is written with one. Without --lenient, each decimal under FROM has to
+parse back from its text: FROM needs a minus sign, and a decimal mark that is not a separator that it prints.
+
+A line is at fault if its number is none, or if it has too few fields or more than 1,048,576 bytes. With MODE
+abort no line after it is written. With fail, warn and ignore it is passed on as it is. With fail and warn a
+message names it, and with fail the status is 1.
+
+Lines are written before more of a file is read, so that they come out as they go in.
 
 Lines are numbered in each file, and each has its header. A file that cannot be opened is left out. The status
 is 0 if all lines were written; 1 if a file was left out or a line is at fault; 2 for other arguments, also such
@@ -77,7 +82,14 @@ fn command<'a>(alloc: Global) -> Result<Command<'a>, AllocError> {
             Arg::new(alloc, "line-buffered")
                 .long("line-buffered")
                 .action(ArgAction::SetTrue)
-                .help("Write each line at once, and not when a block is full"),
+                .help("Write each line at once, and not when a block is full or more is read"),
+        )?
+        .arg(
+            Arg::new(alloc, "zero-terminated")
+                .short('z')
+                .long("zero-terminated")
+                .action(ArgAction::SetTrue)
+                .help("End lines with NUL, not with a newline"),
         )?;
     with_options(alloc, command)
 }
@@ -98,7 +110,16 @@ fn with_options<'a>(alloc: Global, command: Command<'a>) -> Result<Command<'a>, 
                 .long("delimiter")
                 .value_name("CHAR")
                 .requires_arg("field")?
-                .help("The ASCII character between two fields [default: a tab]"),
+                .help(
+                    "The ASCII character between two fields [default: a tab, or a comma with --csv]",
+                ),
+        )?
+        .arg(
+            Arg::new(alloc, "csv")
+                .long("csv")
+                .action(ArgAction::SetTrue)
+                .requires_arg("field")?
+                .help("Read records of RFC 4180: fields may be in quotes"),
         )?
         .arg(
             Arg::new(alloc, "header")

@@ -3,9 +3,13 @@ use Rattle.std.specs.Prelude.{ℕ, List, [], ◌∷◌, ◌++◌, Option, Result
 use Rattle.std.specs.Io.KnownBytes.{Appends}
 use Rattle.num_format.specs.Writing.{StopsWithin}
 
+-- a text and the byte that ends it
+abbrev pub ended_by : (end : ℕ) → List ℕ → List ℕ
+ended_by end text = text ++ end ∷ []
+
 -- a text and a newline
 abbrev pub line : List ℕ → List ℕ
-line text = text ++ 10 ∷ []
+line text = ended_by 10 text
 
 -- what a call that sends a text does, as `Writes` says it of a call that counts the bytes: on `Ok` the writer received all of the
 -- text; on `Err` it received a prefix of the text, and not all of it

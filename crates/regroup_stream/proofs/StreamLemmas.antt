@@ -6,7 +6,7 @@ use Rattle.std.proofs.KnownBytes.{Appends-kept}
 use Rattle.num_format.specs.Format.{FormatData}
 use Rattle.num_format.specs.Writing.{StopsWithin}
 use Rattle.regroup_lines.specs.Fault.{Fault, fault_of}
-use Rattle.regroup_lines.specs.Fault.Fault.{TooMany, TooLong, FewFields, Read, NotText, FieldNotText, Line, Field, Write, Report}
+use Rattle.regroup_lines.specs.Fault.Fault.{TooMany, TooLong, FewFields, Read, NotText, FieldNotText, Line, Field, Unclosed, Write, Report, Flush}
 use Rattle.regroup_lines.specs.Lines.{Regrouped}
 use Rattle.regroup_lines.specs.Sending.{ReceivesPrefix, RegroupsNaming, Sends}
 use Rattle.regroup_lines.specs.declared.Summary.{Summary}
@@ -44,14 +44,16 @@ module _ (rules : Rules) (name : List ℕ) (from to : FormatData) (q r s a b c d
   Sends-kept all told (Ok summary) sends = (sends.0, sends.1, Appends-kept a b c _ sends.2 kept, sends.3)
   Sends-kept all told (Err Write) sends = (StopsWithin-kept a b c _ sends.0 kept, sends.1)
   Sends-kept all told (Err Report) sends = (ReceivesPrefix-kept _ sends.0, sends.1)
+  Sends-kept all told (Err Flush) sends = (sends.0, Appends-kept a b c _ sends.1 kept, sends.2)
   Sends-kept all told (Err TooMany) sends = (sends.0, Appends-kept a b c _ sends.1 kept, sends.2)
-  Sends-kept all told (Err (TooLong number)) sends = (sends.0, Appends-kept a b c _ sends.1 kept, sends.2)
+  Sends-kept all told (Err (TooLong number max_line_len)) sends = (sends.0, Appends-kept a b c _ sends.1 kept, sends.2)
   Sends-kept all told (Err (FewFields number)) sends = (sends.0, Appends-kept a b c _ sends.1 kept, sends.2)
   Sends-kept all told (Err Read) sends = (sends.0, Appends-kept a b c _ sends.1 kept, sends.2)
   Sends-kept all told (Err (NotText number)) sends = (sends.0, Appends-kept a b c _ sends.1 kept, sends.2)
   Sends-kept all told (Err (FieldNotText number field)) sends = (sends.0, Appends-kept a b c _ sends.1 kept, sends.2)
   Sends-kept all told (Err (Line number refusal)) sends = (sends.0, Appends-kept a b c _ sends.1 kept, sends.2)
   Sends-kept all told (Err (Field number field refusal)) sends = (sends.0, Appends-kept a b c _ sends.1 kept, sends.2)
+  Sends-kept all told (Err (Unclosed number)) sends = (sends.0, Appends-kept a b c _ sends.1 kept, sends.2)
 
   flushed : RegroupsNaming rules name most_lines from to r s a c d e result
   flushed = subst (λ o. RegroupsNaming rules name most_lines from to o s a c d e result) same (record {
@@ -60,6 +62,7 @@ module _ (rules : Rules) (name : List ℕ) (from to : FormatData) (q r s a b c d
     consumed = lines.consumed;
     at_end = lines.at_end;
     endless = lines.endless;
+    unflushed = lines.unflushed;
     sent = Sends-kept _ _ result lines.sent;
   })
 
@@ -75,14 +78,16 @@ module _ (rules : Rules) (name : List ℕ) (from to : FormatData) (q r s a b c d
   }
 
 -- a fault that is none of the others is that of a line
-pub of_line : (f : RegroupFault) → f ≢ fault.Read → f ≢ fault.Write → f ≢ fault.Report → f ≢ fault.TooMany → is_of_line (fault_of f) ≡ true
-of_line fault.TooMany read write report many = absurd (many refl)
-of_line (fault.TooLong number) read write report many = refl
-of_line (fault.FewFields number) read write report many = refl
-of_line fault.Read read write report many = absurd (read refl)
-of_line (fault.NotText number) read write report many = refl
-of_line (fault.FieldNotText number field) read write report many = refl
-of_line (fault.Line number error) read write report many = refl
-of_line (fault.Field number field error) read write report many = refl
-of_line fault.Write read write report many = absurd (write refl)
-of_line fault.Report read write report many = absurd (report refl)
+pub of_line : (f : RegroupFault) → f ≢ fault.Read → f ≢ fault.Write → f ≢ fault.Flush → f ≢ fault.Report → f ≢ fault.TooMany → is_of_line (fault_of f) ≡ true
+of_line fault.TooMany read write flush report many = absurd (many refl)
+of_line (fault.TooLong number max_line_len) read write flush report many = refl
+of_line (fault.FewFields number) read write flush report many = refl
+of_line fault.Read read write flush report many = absurd (read refl)
+of_line (fault.NotText number) read write flush report many = refl
+of_line (fault.FieldNotText number field) read write flush report many = refl
+of_line (fault.Line number error) read write flush report many = refl
+of_line (fault.Field number field error) read write flush report many = refl
+of_line (fault.Unclosed number) read write flush report many = refl
+of_line fault.Write read write flush report many = absurd (write refl)
+of_line fault.Flush read write flush report many = absurd (flush refl)
+of_line fault.Report read write flush report many = absurd (report refl)

@@ -3,7 +3,7 @@ use Rattle.std.specs.Prelude.{◌≡◌, ℕ, ◌-◌, ◌^◌, Bool, true, fals
 use Rattle.std.specs.declared.io.ErrorKind.{ErrorKind}
 use Rattle.num_format.specs.Format.{FormatData}
 use Rattle.regroup_lines.specs.Fault.{Fault}
-use Rattle.regroup_lines.specs.Fault.Fault.{TooMany, TooLong, FewFields, Read, NotText, FieldNotText, Line, Field, Write, Report}
+use Rattle.regroup_lines.specs.Fault.Fault.{TooMany, TooLong, FewFields, Read, NotText, FieldNotText, Line, Field, Unclosed, Write, Report, Flush}
 use Rattle.regroup_lines.specs.Messages.{fault_message}
 use Rattle.regroup_lines.specs.Sending.{RegroupsNaming}
 use Rattle.regroup_lines.specs.declared.Summary.{Summary}
@@ -18,15 +18,17 @@ most_lines = 2 ^ 64 - 1
 -- whether it is the fault of a line
 abbrev pub is_of_line : Fault → Bool
 is_of_line TooMany = false
-is_of_line (TooLong number) = true
+is_of_line (TooLong number max_line_len) = true
 is_of_line (FewFields number) = true
 is_of_line Read = false
 is_of_line (NotText number) = true
 is_of_line (FieldNotText number field) = true
 is_of_line (Line number refusal) = true
 is_of_line (Field number field refusal) = true
+is_of_line (Unclosed number) = true
 is_of_line Write = false
 is_of_line Report = false
+is_of_line Flush = false
 
 -- how a run with this result ends, in an input of this name: a write fails, or a flush after any result
 pub data IsEndOf (rules : Rules) (name : List ℕ) (from : FormatData) : Result Summary Fault → End → Type 0 where

@@ -18,7 +18,7 @@ mod files;
 mod watched;
 mod words;
 
-ghost use Rattle.std.specs.Prelude.{◌≡◌};
+ghost use Rattle.std.specs.Prelude.{◌≡◌, ◌+◌, length};
 ghost use Rattle.std.specs.Io.Buffered.{writer_buffer, writer_contents};
 ghost use Rattle.std.specs.Result.{result_map_both};
 ghost use Rattle.regroup_lines.specs.Fault.{fault_of};
@@ -31,7 +31,9 @@ pub use crate::files::FileFault;
 use crate::watched::Watched;
 pub use crate::words::{Formats, Misuse, Source, TRY_HELP, formats_named};
 use num_format::CustomFormat;
-pub use regroup_lines::{FieldRange, Fields, Invalid, Reading, Rules, Span, field_list};
+pub use regroup_lines::{
+    FieldRange, Fields, Invalid, Reading, Records, Rules, Span, Within, field_list,
+};
 use regroup_lines::{RegroupFault, Summary, fault_message, regroup_at_most};
 use std::io::{BufWriter, ErrorKind, Read, Write};
 
@@ -51,12 +53,14 @@ pub const FAILED: u8 = 3;
 pub const CLOSED: u8 = 141;
 
 /// Regroups the lines of `input` from one format to another, flushes `out`, and returns the exit status. Messages
-/// have the name of the input, which is `-` for standard input.
+/// have the name of the input, which is `-` for standard input. It is read into `buffer`, which has one byte more than a
+/// line may have.
 ///
 /// - [`REGROUPED`] (0): `out` received each line, and `err` nothing, or with [`Invalid::Warn`] the message of each line at fault, which
 ///   is passed on as it is.
 /// - [`FAULTY`] (1): `out` received the lines before the first one at fault, and `err` its message and
 ///   a newline. Lines are numbered from 1. Or else, with [`Invalid::Fail`], as with `Warn` where a line is at fault.
+///   A quote that is not closed is at fault too: then `out` received each line.
 /// - [`FAILED`] (3): a read failed, also one that was interrupted, a write to `out` or a flush of it, and `err` received
 ///   a message with the kind of the error if it is known, after those of lines that were passed on. `out` received the
 ///   lines before that, and what was read of a long line that is passed on, or a prefix of these where a write failed. So
@@ -71,26 +75,32 @@ pub const CLOSED: u8 = 141;
 ///     header_lines: 0,
 ///     passes_empty: false,
 ///     invalid: Invalid::Abort,
+///     line_end: b'\n',
+///     max_line_len: 99,
+///     flushes: true,
 /// };
 /// let formats = formats_named(alloc, rules.reading, Source::Word("en"), Source::Word("de")).unwrap();
 /// let mut out = BufWriter::new(alloc, Vec::new(alloc))?;
 /// let mut err = Vec::new(alloc);
-/// run(&rules, &formats, "-", "1,000\n".as_bytes(), &mut out, &mut err)    // 0
+/// let mut buffer = [0; 100];
+/// run(&rules, &formats, "-", &mut buffer, "1,000\n".as_bytes(), &mut out, &mut err)    // 0
 /// str::from_utf8(out.get_ref())                                           // Ok("1.000\n")
 /// ```
 pub fn run<R: Read + Drop, O: Write + Drop, E: Write>(
     rules: &Rules,
     formats: &Formats,
     name: &str,
+    buffer: &mut [u8],
     input: R,
     out: &mut BufWriter<O>,
     err: &mut E,
 ) -> u8
+    requires { length buffer.old ≡ rules.now.max_line_len + 1 }
     ensures { Runs rules.now formats.now.from formats.now.to name.now result (R.remaining input)
         (writer_contents O.contents out.old) (writer_contents O.contents out.new) (writer_buffer out.new)
         (E.contents err.old) (E.contents err.new) }
 {
-    regroup(rules, formats, name, input, out, err).finish(name, err)
+    regroup(rules, formats, name, buffer, input, out, err).finish(name, err)
 }
 
 /// Sends the message of an input that cannot be opened, and returns the status: [`FAULTY`], or [`FAILED`] if not all
@@ -112,17 +122,29 @@ fn regroup<R: Read + Drop, O: Write + Drop, E: Write>(
     rules: &Rules,
     formats: &Formats,
     name: &str,
+    buffer: &mut [u8],
     input: R,
     out: &mut BufWriter<O>,
     err: &mut E,
 ) -> Ending
+    requires { length buffer.old ≡ rules.now.max_line_len + 1 }
     ensures { RegroupsAll rules.now name.now formats.now.from formats.now.to (end_of result) (R.remaining input)
         (writer_contents O.contents out.old) (writer_contents O.contents out.new) (writer_buffer out.new)
         (E.contents err.old) (E.contents err.new) }
 {
     let mut input = Watched::new(input);
     let (from, to) = (&formats.from, &formats.to);
-    let regrouped = regroup_at_most(u64::MAX, rules, name, &mut input, out, err, from, to);
+    let regrouped = regroup_at_most(
+        u64::MAX,
+        rules,
+        name,
+        buffer,
+        &mut input,
+        out,
+        err,
+        from,
+        to,
+    );
     match out.flush() {
         Ok(()) => ending_of(rules, name, from, regrouped, input.failure()),
         Err(error) => Ending::WriteFailed(Some(error.kind())),
@@ -144,6 +166,7 @@ fn ending_of(
         Err(fault) => match fault {
             RegroupFault::Read => Ending::ReadFailed(failure),
             RegroupFault::Write => Ending::WriteFailed(None),
+            RegroupFault::Flush => Ending::WriteFailed(None),
             RegroupFault::Report => Ending::Untold,
             RegroupFault::TooMany => Ending::TooManyLines,
             _ => Ending::Faulty(fault_message(name, rules.reading, &fault, from)),

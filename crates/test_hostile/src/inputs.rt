@@ -126,8 +126,13 @@ fn long_lines(rt: HostRuntime) -> Result<(), Fail> {
     assert_indian(&rt, &input[..4096], Ok(1), b"1\n");
     assert_indian(&rt, &input[1..], Ok(2), b"1\n2\n");
     input[4096] = b'1';
-    assert_indian(&rt, &input, Err(RegroupFault::TooLong(1)), b"");
-    assert_indian(&rt, &input[..4097], Err(RegroupFault::TooLong(1)), b"");
+    assert_indian(&rt, &input, Err(RegroupFault::TooLong(1, 4096)), b"");
+    assert_indian(
+        &rt,
+        &input[..4097],
+        Err(RegroupFault::TooLong(1, 4096)),
+        b"",
+    );
     Ok(())
 }
 
@@ -135,7 +140,7 @@ fn long_lines(rt: HostRuntime) -> Result<(), Fail> {
 fn blanks_without_end(rt: HostRuntime) -> Result<(), Fail> {
     let mut blanks = io::repeat(b' ');
     let result = regroup_lines(&mut blanks, &mut io::sink(), &Locale::en, &Locale::en_IN);
-    assert_eq!(rt; result, Err(RegroupFault::TooLong(1)));
+    assert_eq!(rt; result, Err(RegroupFault::TooLong(1, 4096)));
     Ok(())
 }
 
@@ -167,6 +172,9 @@ fn two_lines_at_most(rt: HostRuntime) -> Result<(), Fail> {
         header_lines: 0,
         passes_empty: false,
         invalid: Invalid::Abort,
+        line_end: b'\n',
+        max_line_len: 4,
+        flushes: false,
     };
     for (input, returned) in [
         ("", Ok(0)),
@@ -176,10 +184,12 @@ fn two_lines_at_most(rt: HostRuntime) -> Result<(), Fail> {
         ("1\n2\n3", Err(RegroupFault::TooMany)),
     ] {
         let (mut reader, mut out) = (input.as_bytes(), io::sink());
+        let mut buffer = [0; 5];
         let result = regroup_at_most(
             2,
             &rules,
             "-",
+            &mut buffer,
             &mut reader,
             &mut out,
             &mut io::sink(),
@@ -198,7 +208,10 @@ fn messages(rt: HostRuntime) -> Result<(), Fail> {
             RegroupFault::TooMany,
             "The input has more lines than are allowed.",
         ),
-        (RegroupFault::TooLong(2), "line 2: More than 4096 bytes."),
+        (
+            RegroupFault::TooLong(2, 4096),
+            "line 2: More than 4096 bytes.",
+        ),
         (RegroupFault::Read, "Failed to read."),
         (RegroupFault::NotText(2), "line 2: Not UTF-8."),
         (
@@ -207,6 +220,7 @@ fn messages(rt: HostRuntime) -> Result<(), Fail> {
         ),
         (RegroupFault::Write, "Failed to write."),
         (RegroupFault::Report, "Failed to write a message."),
+        (RegroupFault::Flush, "Failed to flush."),
     ] {
         let displayed = format!(in rt.alloc(); "{fault}")?;
         assert_eq!(rt; displayed.as_str(), message);

@@ -22,6 +22,9 @@ const LENIENT: Rules = Rules {
     header_lines: 0,
     passes_empty: false,
     invalid: Invalid::Abort,
+    line_end: b'\n',
+    max_line_len: 99,
+    flushes: false,
 };
 
 /// The space of a writer in bytes.
@@ -101,7 +104,17 @@ fn assert_run(rt: &impl Abort, alloc: Global, case: &Case<'_>) -> Result<(), Fai
         from: CustomFormat::from(Locale::en),
         to: CustomFormat::from(Locale::en_IN),
     };
-    let status = run(&LENIENT, &formats, "-", reader(case), &mut out, &mut err);
+    let mut buffer = [0; 100];
+    let input = reader(case);
+    let status = run(
+        &LENIENT,
+        &formats,
+        "-",
+        &mut buffer,
+        input,
+        &mut out,
+        &mut err,
+    );
     let (expected, messages) = if matches!(case.2, Ended::Lines(_)) {
         (REGROUPED, 0)
     } else {

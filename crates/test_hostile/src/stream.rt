@@ -19,6 +19,9 @@ const STRICT: Rules = Rules {
     header_lines: 0,
     passes_empty: false,
     invalid: Invalid::Abort,
+    line_end: b'\n',
+    max_line_len: 99,
+    flushes: true,
 };
 
 /// Returns the formats of `en` and this one.
@@ -34,7 +37,7 @@ fn to_de() -> Formats {
     to(CustomFormat::from(Locale::de))
 }
 
-/// Accepts all bytes, and fails the first time that it is flushed, for this cause.
+/// Accepts all bytes, and fails whenever it is flushed, for this cause.
 #[derive(Drop)]
 struct Unflushed {
     cause: ErrorKind,
@@ -48,10 +51,7 @@ impl Write for Unflushed {
 
     fn flush(&mut self) -> io::Result<()> {
         self.flushes = self.flushes.saturating_add(1);
-        if self.flushes == 1 {
-            return Err(io::Error::from(self.cause));
-        }
-        Ok(())
+        Err(io::Error::from(self.cause))
     }
 }
 
@@ -66,7 +66,16 @@ fn a_read_fails(rt: HostRuntime) -> Result<(), test::Fail> {
             steps: &[Give(3), Give(9), Fail],
             calls: 0,
         };
-        let status = run(&STRICT, &to_de(), "-", reader, &mut out, &mut err);
+        let mut buffer = [0; 100];
+        let status = run(
+            &STRICT,
+            &to_de(),
+            "-",
+            &mut buffer,
+            reader,
+            &mut out,
+            &mut err,
+        );
         assert_eq!(rt; status, FAILED);
         assert_eq!(rt; out.get_ref().as_slice(), b"1.000\n".as_slice());
         assert_eq!(rt;
@@ -77,8 +86,8 @@ fn a_read_fails(rt: HostRuntime) -> Result<(), test::Fail> {
     Ok(())
 }
 
-/// A failed flush is a failed write, and is not tried again. No message of a line follows it, and none at all where
-/// the output was closed.
+/// A flush that fails before the first read is a failed write, and only the flush at the end follows it. No line is read
+/// then, and where the output was closed there is no message.
 #[test]
 fn a_flush_fails(rt: HostRuntime) -> Result<(), test::Fail> {
     let full = b"regroup-lines: write error: No space left on device\n".as_slice();
@@ -90,11 +99,20 @@ fn a_flush_fails(rt: HostRuntime) -> Result<(), test::Fail> {
             let writer = Unflushed { cause, flushes: 0 };
             let mut out = BufWriter::new(rt.alloc(), writer)?;
             let mut err = Vec::new(rt.alloc());
+            let mut buffer = [0; 100];
             assert_eq!(rt;
-                run(&STRICT, &to_de(), "-", text, &mut out, &mut err),
+                run(
+                    &STRICT,
+                    &to_de(),
+                    "-",
+                    &mut buffer,
+                    text,
+                    &mut out,
+                    &mut err
+                ),
                 status
             );
-            assert_eq!(rt; out.get_ref().flushes, 1);
+            assert_eq!(rt; out.get_ref().flushes, 2);
             assert_eq!(rt; err.as_slice(), message);
         }
     }
@@ -112,8 +130,17 @@ fn assert_calls(
 ) -> Result<(), test::Fail> {
     let mut out = BufWriter::new(alloc, Scripted::new(alloc, 64, &[])?)?;
     let mut err = Scripted::new(alloc, 128, err_steps)?;
+    let mut buffer = [0; 100];
     assert_eq!(rt;
-        run(&STRICT, &to_de(), "-", text, &mut out, &mut err),
+        run(
+            &STRICT,
+            &to_de(),
+            "-",
+            &mut buffer,
+            text,
+            &mut out,
+            &mut err
+        ),
         status
     );
     let written = out.get_ref();
@@ -124,15 +151,15 @@ fn assert_calls(
     Ok(())
 }
 
-/// The buffered lines are one write and a flush after it, also where a line is at fault. A message is
-/// one write, if that writes all of it, and is not flushed.
+/// The buffered lines are one write and a flush after it, before the next read or at the end, also where a line is at fault.
+/// A message is one write, if that writes all of it, and is not flushed.
 #[test]
 fn writes_and_flushes(rt: HostRuntime) -> Result<(), test::Fail> {
     let alloc = rt.alloc();
-    assert_calls(&rt, alloc, b"", &[], REGROUPED, [0, 1, 0, 0])?;
-    assert_calls(&rt, alloc, b"1,000\n-5\n", &[], REGROUPED, [1, 1, 0, 0])?;
-    assert_calls(&rt, alloc, b"5\nx\n", &[], FAULTY, [1, 1, 1, 0])?;
-    assert_calls(&rt, alloc, b"x\n", &[Take(8)], FAULTY, [0, 1, 2, 0])?;
+    assert_calls(&rt, alloc, b"", &[], REGROUPED, [0, 2, 0, 0])?;
+    assert_calls(&rt, alloc, b"1,000\n-5\n", &[], REGROUPED, [1, 3, 0, 0])?;
+    assert_calls(&rt, alloc, b"5\nx\n", &[], FAULTY, [1, 2, 1, 0])?;
+    assert_calls(&rt, alloc, b"x\n", &[Take(8)], FAULTY, [0, 2, 2, 0])?;
     let mut err = Scripted::new(alloc, 128, &[])?;
     assert_eq!(rt; Misuse::NoFormat("xx").send(&mut err), MISUSED);
     assert_eq!(rt; [err.calls, err.flushes], [1, 0]);
@@ -144,7 +171,7 @@ fn writes_and_flushes(rt: HostRuntime) -> Result<(), test::Fail> {
 fn a_message_fails(rt: HostRuntime) -> Result<(), test::Fail> {
     for fault in [Step::Fail, Interrupt, Zero] {
         for (steps, calls) in [([fault, Take(0)], 1), ([Take(5), fault], 2)] {
-            assert_calls(&rt, rt.alloc(), b"x\n", &steps, FAILED, [0, 1, calls, 0])?;
+            assert_calls(&rt, rt.alloc(), b"x\n", &steps, FAILED, [0, 2, calls, 0])?;
             let mut err = Scripted::new(rt.alloc(), 128, &steps)?;
             assert_eq!(rt; Misuse::NoFormat("xx").send(&mut err), FAILED);
             assert_eq!(rt; err.calls, calls);
@@ -163,11 +190,13 @@ fn a_line_is_at_fault(rt: HostRuntime) -> Result<(), test::Fail> {
         .grouping(Grouping::Indian)
         .build()?;
     let formats = to(format);
+    let mut buffer = [0; 100];
     assert_eq!(rt;
         run(
             &STRICT,
             &formats,
             "-",
+            &mut buffer,
             b"100,000\n".as_slice(),
             &mut out,
             &mut err
@@ -179,6 +208,7 @@ fn a_line_is_at_fault(rt: HostRuntime) -> Result<(), test::Fail> {
             &STRICT,
             &formats,
             "x.tsv",
+            &mut buffer,
             b"-1,000\nx\n".as_slice(),
             &mut out,
             &mut err

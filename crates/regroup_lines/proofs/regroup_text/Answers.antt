@@ -14,7 +14,7 @@ returns-in-Write g c =
     let a = g.W.Write.contents c.args.w.now in
     let b = g.W.Write.contents c.regroup_body.new.w in
     let d = g.E.Write.contents c.args.e.now in
-    let sends = subst (λ r. SendsLine {T = Unit {0}} (body_written rules from to c.args.number c.args.text.now) a b (result_map_both (λ sent. sent) line_fault_of r))
+    let sends = subst (λ r. SendsLine {T = Unit {0}} rules.line_end (body_written rules from to c.args.number c.args.text.now) a b (result_map_both (λ sent. sent) line_fault_of r))
     (c.in-Err.is ∙ ap Err c.in-Write.is) c.regroup_body.ensures in
     text_unsent rules c.args.name.now from to c.args.number c.args.text.now a b d c.if-number-rules.false sends
 
@@ -26,7 +26,7 @@ returns-in_default g c =
     let a = g.W.Write.contents c.args.w.now in
     let b = g.W.Write.contents c.regroup_body.new.w in
     let d = g.E.Write.contents c.args.e.now in
-    let sends = subst (λ r. SendsLine {T = Unit {0}} (body_written rules from to c.args.number c.args.text.now) a b (result_map_both (λ sent. sent) line_fault_of r))
+    let sends = subst (λ r. SendsLine {T = Unit {0}} rules.line_end (body_written rules from to c.args.number c.args.text.now) a b (result_map_both (λ sent. sent) line_fault_of r))
     c.in-Err.is c.regroup_body.ensures in
     text_passed rules c.args.name.now from to c.args.number c.args.text.now a b d c.if-number-rules.false (line_fault_of c.in-Err.fault)
     (g.W.Write.contents c.pass_fault.new.w) (g.E.Write.contents c.pass_fault.new.e) _ (other_fault c.in-Err.fault c.in_default.not-Write) sends c.pass_fault.ensures

@@ -19,12 +19,12 @@ returns-in-Ok g c =
     let b = g.W.Write.contents c.regroup_place.new.w in
     let n = c.in-Some.field in
     let only = c.in-Some.ensures in
-    let sends = subst (λ r. SendsLine {T = Unit {0}} (as_field n (place_written rules from to c.args.number text (place_of c.trim.result))) a b
+    let sends = subst (λ r. SendsLine {T = Unit {0}} rules.line_end (as_field n (place_written rules from to c.args.number text (place_of c.trim.result))) a b
     (result_map_both (λ sent. sent) (in_field n) (result_map_both (λ sent. sent) line_fault_of r))) c.in-Ok.is
-    (sends-field n (place_written rules from to c.args.number text (place_of c.trim.result)) a b _ c.regroup_place.ensures) in
-    subst (λ written. SendsLine {T = Unit {0}} written a b (Ok tt))
+    (sends-field rules.line_end n (place_written rules from to c.args.number text (place_of c.trim.result)) a b _ c.regroup_place.ensures) in
+    subst (λ written. SendsLine {T = Unit {0}} rules.line_end written a b (Ok tt))
     (sym (one-replaced rules from to c.args.number n text c.args.fields.now (Some (place_of c.in-Some-field_place.place)) only.1 only.0 c.in-Some-field_place.ensures.place))
-    (subst (λ place. SendsLine {T = Unit {0}} (as_field n (place_written rules from to c.args.number text place)) a b (Ok tt)) c.trim.ensures.place sends)
+    (subst (λ place. SendsLine {T = Unit {0}} rules.line_end (as_field n (place_written rules from to c.args.number text place)) a b (Ok tt)) c.trim.ensures.place sends)
 
 pub returns-in-Err : goal.returns-in-Err
 returns-in-Err g c =
@@ -37,19 +37,19 @@ returns-in-Err g c =
     let n = c.in-Some.field in
     let only = c.in-Some.ensures in
     let fault = c.in_field.result in
-    let sends = subst (λ r. SendsLine {T = Unit {0}} (as_field n (place_written rules from to c.args.number text (place_of c.trim.result))) a b
+    let sends = subst (λ r. SendsLine {T = Unit {0}} rules.line_end (as_field n (place_written rules from to c.args.number text (place_of c.trim.result))) a b
     (result_map_both (λ sent. sent) (in_field n) (result_map_both (λ sent. sent) line_fault_of r))) c.in-Err.is
-    (sends-field n (place_written rules from to c.args.number text (place_of c.trim.result)) a b _ c.regroup_place.ensures) in
-    subst (λ written. SendsLine {T = Unit {0}} written a b (Err (line_fault_of fault)))
+    (sends-field rules.line_end n (place_written rules from to c.args.number text (place_of c.trim.result)) a b _ c.regroup_place.ensures) in
+    subst (λ written. SendsLine {T = Unit {0}} rules.line_end written a b (Err (line_fault_of fault)))
     (sym (one-replaced rules from to c.args.number n text c.args.fields.now (Some (place_of c.in-Some-field_place.place)) only.1 only.0 c.in-Some-field_place.ensures.place))
-    (subst (λ place. SendsLine {T = Unit {0}} (as_field n (place_written rules from to c.args.number text place)) a b (Err (line_fault_of fault))) c.trim.ensures.place
-    (subst (λ f. SendsLine {T = Unit {0}} (as_field n (place_written rules from to c.args.number text (place_of c.trim.result))) a b (Err f)) (sym c.in_field.ensures) sends))
+    (subst (λ place. SendsLine {T = Unit {0}} rules.line_end (as_field n (place_written rules from to c.args.number text place)) a b (Err (line_fault_of fault))) c.trim.ensures.place
+    (subst (λ f. SendsLine {T = Unit {0}} rules.line_end (as_field n (place_written rules from to c.args.number text (place_of c.trim.result))) a b (Err f)) (sym c.in_field.ensures) sends))
 
 pub returns-in-None-field_place : goal.returns-in-None-field_place
 returns-in-None-field_place g c =
     let a = g.W.Write.contents c.args.w.now in
     let only = c.in-Some.ensures in
-    subst (λ written. SendsLine {T = Unit {0}} written a a (Err (FewFields c.args.number)))
+    subst (λ written. SendsLine {T = Unit {0}} c.args.rules.now.line_end written a a (Err (FewFields c.args.number)))
     (sym (one-replaced c.args.rules.now (g.F.Format.answers c.args.from.now) (g.G.Format.answers c.args.to.now) c.args.number c.in-Some.field c.args.text.now
     c.args.fields.now None only.1 only.0 c.in-None-field_place.ensures.place))
     (refl, refl)

@@ -7,7 +7,7 @@ returns-in-Line g c =
     let from = g.F.Format.answers c.args.from.now in
     rw c.in-Line.is
     (c.line_message-in-Line.ensures
-    ∙ ap (λ (t : List ℕ). line_message c.args.name.now c.in-Line.number t) (c.as_str.ensures.value ∙ c.refused_text-text.ensures)
+    ∙ ap (λ (t : List ℕ). line_message c.args.name.now c.in-Line.number t) (c.as_str-in-Line.ensures.value ∙ c.refused_text-text.ensures)
     ∙ ap (λ (t : List ℕ). line_message c.args.name.now c.in-Line.number (refused_text c.args.reading from t)) c.kept_in.ensures)
 
 pub returns-in-Field : goal.returns-in-Field

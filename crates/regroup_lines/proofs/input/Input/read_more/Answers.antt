@@ -1,12 +1,11 @@
-use Rattle.std.proofs.Common.{◌-◌, ◌≤◌, ◌++◌, length, take, ap, sym, ◌∙◌, arith}
+use Rattle.std.proofs.Common.{◌≤◌, ◌++◌, length, take, ap, sym, ◌∙◌, arith}
 use Rattle.regroup_lines.proofs.InputLemmas.{Reads-kept, Reads-none, Reads-same, range-more, range-same}
-use Rattle.regroup_lines.specs.declared.input.TheConstants.{ARRAY_LEN}
 use Rattle.regroup_lines.proofs.input.Input.read_more.Goals as goal
 
 pub returns-in_err-count-clause-read : goal.returns-in_err-count-clause-read
 returns-in_err-count-clause-read g c =
     let input = c.move_to_front.new.self in
-    let same = range-same input.array c.read.new.buf input.start input.end (ARRAY_LEN - input.end) input.ordered (omega arith) in
+    let same = range-same input.array.now c.read.new.buf input.start input.end _ input.ordered (omega arith) in
     Reads-same _ _ _ _ _ (Reads-kept _ _ _ _ _ (Reads-none _ _) c.in_err-count.ensures.bytes) (same ∙ c.move_to_front.ensures.held)
 
 pub returns-clause-read : goal.returns-clause-read
@@ -17,6 +16,6 @@ returns-clause-read g c =
     record {
       given = take n c.read.new.buf;
       joined = ap (λ l. l ++ take n c.read.new.buf) (sym c.move_to_front.ensures.held)
-          ∙ sym (range-more input.array c.read.new.buf input.start input.end (ARRAY_LEN - input.end) n input.ordered (omega arith) fits);
+          ∙ sym (range-more input.array.now c.read.new.buf input.start input.end _ n input.ordered (omega arith) fits);
       consumed = c.in_ok-count.ensures.bytes.0;
     }

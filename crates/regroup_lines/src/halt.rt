@@ -1,0 +1,45 @@
+//! Why no more of the input is read.
+ghost use Rattle.std.specs.Prelude.{◌≡◌, IfErr};
+ghost use Rattle.std.specs.Io.KnownBytes.{Keeps};
+ghost use Rattle.regroup_lines.specs.Fault.{fault_of};
+ghost use Rattle.regroup_lines.specs.Halt.{IsHalt, halt_fault};
+
+use crate::fault::RegroupFault;
+use std::io::Write;
+
+/// Why no more is read.
+#[derive(Clone, Copy)]
+pub(crate) enum Halt {
+    /// A read failed.
+    Read,
+    /// A flush before a read failed.
+    Flush,
+}
+
+impl Halt {
+    /// Returns the fault.
+    #[cold]
+    pub(crate) fn fault(self) -> RegroupFault
+        ensures { fault_of result ≡ halt_fault self }
+    {
+        match self {
+            Halt::Read => RegroupFault::Read,
+            Halt::Flush => RegroupFault::Flush,
+        }
+    }
+}
+
+/// Flushes the writer, if it is flushed before each read.
+///
+/// # Errors
+///
+/// Returns an error if the flush fails.
+pub(crate) fn flush_before_read<W: Write>(flushes: bool, writer: &mut W) -> Result<(), Halt>
+    ensures halt { IfErr result (λ halt. IsHalt flushes (halt_fault halt)) }
+    ensures flushed { Keeps (W.contents writer.old) (W.contents writer.new) }
+{
+    if !flushes {
+        return Ok(());
+    }
+    writer.flush().or(Err(Halt::Flush))
+}
