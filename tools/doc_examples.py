@@ -41,7 +41,12 @@ ALWAYS = ["num_format::ToFormattedStr", "num_format::ToFormattedString", "num_fo
 OTHERS = {"Value": "serde_json::Value", "str::from_utf8": "std::str", "Cursor": "std::io::Cursor",
           "BufWriter": "std::io::BufWriter", "io::ErrorKind": "std::io",
           "BoundedString": "num_format_text::bounded_string::BoundedString",
-          "copy_bytes": "num_format_int::buffer::copy_bytes"}
+          "copy_bytes": "num_format_int::buffer::copy_bytes",
+          "one_digit": "num_format_int::to_formatted_str::one_digit",
+          "two_digits": "num_format_int::to_formatted_str::two_digits",
+          "grouped_number": "num_format_parsing::strict::grouped_number",
+          "is_short": "num_format_int::to_formatted_str::is_short",
+          "short_text": "num_format_int::to_formatted_str::short_text"}
 
 BLOCK = re.compile(r"^( *//[/!]) ?```(\w*)\n(.*?)^\1 ?```$", re.DOTALL | re.MULTILINE)
 SHOWN = re.compile(r"(.*?)\s*// (.*)", re.DOTALL)
