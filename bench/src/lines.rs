@@ -51,6 +51,15 @@ for line in sys.stdin:
     sys.stdout.write("\t".join(fields))
 "#;
 
+/// Writes the third field of each record with commas in place of the dots in its groups.
+const PYTHON_CSV: &str = r#"
+import csv, sys
+writer = csv.writer(sys.stdout, lineterminator="\n")
+for fields in csv.reader(sys.stdin):
+    fields[2] = f"{int(fields[2].replace('.', '')):,}"
+    writer.writerow(fields)
+"#;
+
 /// The option of this program that makes it the tool over the original crate.
 pub const LINE_TOOL: &str = "--line-tool";
 
@@ -147,13 +156,14 @@ pub fn measure(path: &str) -> Result<(), Box<dyn Error>> {
             Program::of_system("python3, locale", "python3", &["-c", PYTHON]),
         ],
     )?;
+    let grouped = original::texts(&numbers, 0, 0);
     let cut = Program {
         is_compared: false,
         ..Program::of_system("cut -f3", "cut", &["-f3"])
     };
     table += &compare(
         "field 3 of 10, 1 to 18 digits",
-        &with_fields(&original::texts(&numbers, 0, 0)),
+        &with_fields("\t", &grouped),
         &[
             port("port --field 3", &["--field", "3"]),
             port("port --field 2-3 --empty", &["--field", "2-3", "--empty"]),
@@ -161,12 +171,25 @@ pub fn measure(path: &str) -> Result<(), Box<dyn Error>> {
             Program::of_system("python3, locale", "python3", &["-c", PYTHON_FIELD]),
         ],
     )?;
+    let csv = Program {
+        name: "port --csv --field 3",
+        words: vec!["--csv", "--field", "3", "de", "en"],
+        ..port("", &[])
+    };
+    table += &compare(
+        "the same with dots, as CSV with commas",
+        &with_fields(",", &grouped.replace(',', ".")),
+        &[
+            csv,
+            Program::of_system("python3, csv", "python3", &["-c", PYTHON_CSV]),
+        ],
+    )?;
     print!("{table}");
     documents::write(&[("lines", table)])
 }
 
-/// Lines of a table, whose third field is each of these lines, the second is empty, and the others are words.
-fn with_fields(lines: &str) -> String {
+/// Lines of a table with this delimiter, whose third field is each of these lines, the second is empty, and the others are words.
+fn with_fields(delimiter: &str, lines: &str) -> String {
     let mut table = String::new();
     for line in lines.lines() {
         let fields: Vec<&str> = (1..=FIELDS)
@@ -176,7 +199,7 @@ fn with_fields(lines: &str) -> String {
                 _ => "a field",
             })
             .collect();
-        table += &fields.join("\t");
+        table += &fields.join(delimiter);
         table.push('\n');
     }
     table
