@@ -1,4 +1,4 @@
-//! The program `regroup-lines`: numbers in files or on standard input, one a line, from one format to another.
+//! The program `regroup-lines`: the numbers in lines of files or of standard input, from one format to another.
 //!
 //! The crate `regroup_stream` states what is proved of it.
 #![tactic(auto)]

@@ -6,7 +6,7 @@ use regroup_stream::{
 };
 use std::alloc::{AllocError, Global};
 
-/// The most bytes of a line, without its newline.
+/// The most bytes of a line, without the byte that ends it.
 const MAX_LINE_LEN: u32 = 1_048_576;
 
 /// Returns the fields that are chosen: none without `--field`. Returns `None` if its value is no list.

@@ -5,7 +5,7 @@ use Rattle.num_format.specs.Refusal.{Refusal, message_of, refusal_of}
 use Rattle.regroup_lines.specs.declared.fault.RegroupFault.{RegroupFault}
 use Rattle.regroup_lines.specs.declared.fault.RegroupFault.TheVariants as fault
 
--- a fault, with the number of its line, and of its field if fields are chosen; of a line that is too long, with how many bytes it may have;
+-- a fault, with the number of its line, and of its field where a text in a chosen field is at fault; of a line that is too long, with how many bytes it may have;
 -- an error is what clauses see of it
 pub data Fault : Type 0 where
   TooMany : Fault

@@ -7,7 +7,7 @@ use Rattle.regroup_lines.specs.Lines.{Regrouped, begins_with_mark, is_inside, re
 use Rattle.regroup_lines.specs.Lines.Stop.{Ended}
 use Rattle.regroup_lines.specs.declared.rules.Rules.{Rules}
 
--- the whole has this many lines: each part returns its lines, writes its part of the bytes, and names a fault if the whole does
+-- the whole has this many lines: each part returns its lines, writes its part of the bytes, and the whole names a fault exactly if a part does
 pub record SplitsInto (all first second : Regrouped) (lines : ℕ) : Type 0 where
   pub first_lines : ℕ
   pub second_lines : ℕ

@@ -8,7 +8,7 @@ use regroup_shared::MAX_SENT_LEN;
 use std::fmt;
 
 /// Why [`regroup_lines`](crate::regroup_lines) or [`regroup_at_most`](crate::regroup_at_most) stopped.
-/// Lines are numbered from 1, and so are the fields of a line.
+/// Lines are numbered from 1, and so are the fields of a line, or of a record of RFC 4180.
 ///
 /// ```rust
 /// println!(rt; "{}", RegroupFault::TooLong(2, 4096))    // line 2: More than 4096 bytes.
@@ -19,7 +19,7 @@ pub enum RegroupFault {
     TooMany,
     /// The line of the first number has more bytes than the second number.
     TooLong(u64, u32),
-    /// The line of this number has too few fields.
+    /// The line of this number has too few fields, or the record that ends in it.
     FewFields(u64),
     /// A read failed, also one that was interrupted.
     Read,

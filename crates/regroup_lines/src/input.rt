@@ -64,7 +64,7 @@ impl<'a> Input<'a> {
     ///
     /// # Errors
     ///
-    /// Returns why the first read or flush that fails does. What was read is held.
+    /// Returns whether the first call that fails is a read or a flush. What was read is held.
     pub(crate) fn next_piece<R: Read, W: Write>(
         &mut self,
         line_end: u8,
@@ -150,7 +150,7 @@ impl<'a> Input<'a> {
     ///
     /// # Errors
     ///
-    /// Returns why the first read or flush that fails does. What was read before is held.
+    /// Returns whether the first call that fails is a read or a flush. What was read before is held.
     fn find_line_end<R: Read, W: Write>(
         &mut self,
         line_end: u8,

@@ -164,8 +164,8 @@ pub fn regroup_lines<R: Read, W: Write, F: Format, G: Format>(
 /// [`TooMany`](RegroupFault::TooMany) is that a byte follows the last of these lines, and
 /// [`Report`](RegroupFault::Report) that a write to `e` failed. The line of that message is not sent.
 /// [`Unclosed`](RegroupFault::Unclosed) is that the input ends inside quotes: all lines were sent, since only the end shows it.
-/// [`Flush`](RegroupFault::Flush) is that `w` is flushed before each read, and that this failed: as on `Read`, `w`
-/// received exactly the lines before.
+/// [`Flush`](RegroupFault::Flush) is that a flush of `w` before a read failed, if the rules ask for flushes: as on `Read`,
+/// `w` received exactly the lines before, and what was read of a long line that is passed on.
 /// Where fields are chosen, [`FewFields`](RegroupFault::FewFields) is that a line has too few, and
 /// [`FieldNotText`](RegroupFault::FieldNotText) and [`Field`](RegroupFault::Field) are in place of `NotText` and `Line`.
 pub fn regroup_at_most<R: Read, W: Write, E: Write, F: Format, G: Format>(

@@ -54,7 +54,7 @@ pub struct Fields<'a> {
     pub delimiter: u8,
 }
 
-/// Where a line begins in a record of RFC 4180: a record has more than one line where a newline is in quotes.
+/// Where a line begins in a record of RFC 4180: a record has more than one line where a byte that ends lines is in quotes.
 #[derive(Clone, Copy, Debug, PartialEq, Eq)]
 pub struct Within {
     /// Whether the line begins inside quotes.
@@ -104,7 +104,7 @@ pub struct Rules<'a> {
     pub passes_empty: bool,
     /// What is done with a line at fault.
     pub invalid: Invalid,
-    /// The byte that ends a line: a newline, or NUL.
+    /// The byte that ends a line, as a newline or NUL.
     pub line_end: u8,
     /// The most bytes of a line, without the byte that ends it.
     pub max_line_len: u32,

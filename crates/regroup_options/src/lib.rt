@@ -33,8 +33,8 @@ message names it, and with fail the status is 1.
 Lines are written before more of a file is read, so that they come out as they go in.
 
 Lines are numbered in each file, and each has its header. A file that cannot be opened is left out. The status
-is 0 if all lines were written; 1 if a file was left out or a line is at fault; 2 for other arguments, also such
-that are not UTF-8 or whose FILE has no format; 3 if a read or a write failed; and 141 if standard output was closed.";
+is 0 if all lines were written; 1 if a file was left out, or with abort or fail a line is at fault; 2 for other
+arguments, also such that are not UTF-8 or whose FILE has no format; 3 if a read or a write failed; and 141 if standard output was closed.";
 
 /// Returns what the arguments say.
 ///
