@@ -244,7 +244,7 @@ pub fn grouped_number<F: Format>(text: &[u8], format: &F) -> Option<(bool, u64)>
         (λ read. SpellsNumber (F.answers format.now) text.now (signed_number read.0 read.1)) }
     ensures some { IfSome result (λ read. 0 < read.1) }
 {
-    // A longer text has too many digits, or a minus sign of more than one byte.
+    // A longer text is not read here: in groups of three it has too many digits, or a longer minus sign.
     if text.len() <= SHORT_LEN || text.len() > LONGEST_GROUPS + 1 || !ends_in_group(text) {
         return None;
     }

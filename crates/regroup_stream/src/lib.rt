@@ -4,7 +4,7 @@
 //! | Status | Standard output | Standard error |
 //! |---|---|---|
 //! | 0 | each line, or one at fault as it is | nothing, or with [`Invalid::Warn`] the message of each line at fault |
-//! | 1 | the lines before the one at fault; or nothing of an input that cannot be opened | its message |
+//! | 1 | the lines before the one at fault, or all where a quote is not closed; or nothing of an input that cannot be opened | its message |
 //! | 1 | with [`Invalid::Fail`] each line, or one at fault as it is | the message of each line at fault |
 //! | 2 | nothing | what is wrong with the words |
 //! | 3 | the lines before a read or a write failed | which, and why if it is known, after the messages of those lines |
