@@ -44,9 +44,7 @@ OTHERS = {"Value": "serde_json::Value", "str::from_utf8": "std::str", "Cursor": 
           "copy_bytes": "num_format_int::buffer::copy_bytes",
           "one_digit": "num_format_int::to_formatted_str::one_digit",
           "two_digits": "num_format_int::to_formatted_str::two_digits",
-          "grouped_number": "num_format_parsing::strict::grouped_number",
-          "is_short": "num_format_int::to_formatted_str::is_short",
-          "short_text": "num_format_int::to_formatted_str::short_text"}
+          "grouped_number": "num_format_parsing::strict::grouped_number"}
 
 BLOCK = re.compile(r"^( *//[/!]) ?```(\w*)\n(.*?)^\1 ?```$", re.DOTALL | re.MULTILINE)
 SHOWN = re.compile(r"(.*?)\s*// (.*)", re.DOTALL)

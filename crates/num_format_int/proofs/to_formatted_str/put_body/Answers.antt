@@ -1,6 +1,5 @@
-use Rattle.std.proofs.Common.{◌≡◌, ℕ, ◌+◌, ◌≤◌, ◌∙◌, List, [], ◌++◌, length, ap, sym, arith}
+use Rattle.std.proofs.Common.{◌∙◌, length, ap, sym, arith}
 use Rattle.num_format_int.specs.Digits.{digits}
-use Rattle.num_format_int.specs.Groups.{plain}
 use Rattle.num_format_int.proofs.DigitLemmas.{length-digits-le, length-digits-le39}
 use Rattle.num_format_int.proofs.GroupedLemmas.{grouped-short}
 use Rattle.num_format_int.proofs.GroupLemmas.{length-plain-fits, plain-alone}

@@ -1,10 +1,9 @@
-use Rattle.std.proofs.Common.{◌≡◌, ℕ, ◌+◌, ◌^◌, ◌<◌, ◌≤◌, ◌∙◌, List, [], ◌++◌, length, ap, sym, arith}
+use Rattle.std.proofs.Common.{◌≡◌, ℕ, ◌+◌, ◌^◌, ◌<◌, ◌≤◌, ◌∙◌, List, length, ap, sym, arith}
 use Rattle.std.proofs.lemmas.Bool.Decides.{nat_tests}
 use Rattle.num_format_text.specs.declared.grouping.Grouping.{Grouping}
 use Rattle.num_format_text.specs.declared.grouping.Grouping.TheVariants.{Standard, Indian, Myriad, Sparse}
 use Rattle.num_format_int.specs.Digits.{digits}
 use Rattle.num_format_int.specs.Grouped.{grouped, stands}
-use Rattle.num_format_int.specs.Groups.{plain}
 use Rattle.num_format_int.proofs.DigitLemmas.{length-digits-gt, length-digits-le, length-digits-le39}
 use Rattle.num_format_int.proofs.GroupedLemmas.{grouped-empty, grouped-Posix, grouped-Myriad-short, grouped-Sparse-short, length-grouped-le183}
 use Rattle.num_format_int.proofs.GroupLemmas.{length-plain-fits, plain-alone, last_group-Standard, groups-Standard, last_group-Indian, groups-Indian, last_group-Myriad, groups-Myriad, last_group-Sparse, groups-Sparse}
