@@ -1,3 +1,2 @@
 pub mod LocaleLemmas
 pub mod ReadingLemmas
-pub mod SendingLemmas

@@ -1,5 +1,5 @@
 use Rattle.std.proofs.Common.{rules}
-use Rattle.regroup_shared.proofs.SendingLemmas.{OnErr-always}
+use Rattle.num_format.proofs.WritingLemmas.{OnErr-always}
 use Rattle.regroup_commands.proofs.SendingLemmas.{StopsWithin_line}
 use Rattle.regroup_commands.proofs.sending.send_lines.Goals as goal
 
