@@ -330,7 +330,9 @@ fn variant_names() -> &'static [&'static str]
 }
 
 /// Returns the error for a text that is no name.
-#[inline(always)]
+///
+/// It is `#[inline]` and not `#[inline(always)]`: the compiler then drops a copy of the error.
+#[inline]
 fn unknown_name(text: &str) -> Error
     ensures { refusal_of result ≡ ParseLocale (cut_text text.now) }
 {
