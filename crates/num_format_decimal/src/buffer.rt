@@ -119,7 +119,7 @@ impl DecimalBuffer {
     {
         self.put_unsigned(d, format);
         if d.is_negative() {
-            self.put_front(format.minus_sign().into_str());
+            self.put_symbol(format.minus_sign().into_str());
         }
     }
 
@@ -182,8 +182,18 @@ impl DecimalBuffer {
             return n;
         }
         let whole = self.put_last_digits(n, count);
-        self.put_front(format.decimal().into_str());
+        self.put_mark(format);
         whole
+    }
+
+    /// Prepends the decimal mark.
+    #[inline(always)]
+    fn put_mark<F: Format>(&mut self, format: &F)
+        requires { length self.old ≤ MAX_SCALE }
+        ensures text { self.new ≡ (F.answers format.now).decimal ++ self.old }
+        ensures room { length self.new ≤ length self.old + MAX_DEC_LEN }
+    {
+        self.put_symbol(format.decimal().into_str());
     }
 
     /// Prepends the same of a number that has no more than `count` digits.
@@ -200,7 +210,7 @@ impl DecimalBuffer {
             return;
         }
         self.put_wide_digits(n, count);
-        self.put_front(format.decimal().into_str());
+        self.put_mark(format);
     }
 
     /// Prepends the digits of `n`, grouped as the format says.
@@ -224,11 +234,10 @@ impl DecimalBuffer {
         requires digits { length self.old + 5 * length (digits n) ≤ MAX_DECIMAL_LEN + 4 }
         ensures { self.new ≡ body_of (F.answers format.now) n ++ self.old }
     {
-        let separator = format.separator().into_str();
         match format.grouping() {
-            Grouping::Standard => self.put_wide_grouped::<3>(n, separator),
-            Grouping::Indian => self.put_wide_grouped::<2>(n, separator),
-            Grouping::Sparse => self.put_wide_grouped::<3>(n, separator),
+            Grouping::Standard => self.put_wide_grouped::<F, 3>(n, format),
+            Grouping::Indian => self.put_wide_grouped::<F, 2>(n, format),
+            Grouping::Sparse => self.put_wide_grouped::<F, 3>(n, format),
             Grouping::Posix => self.put_printed(n, format),
             Grouping::Myriad => self.put_printed(n, format),
         }
@@ -268,21 +277,40 @@ impl DecimalBuffer {
         requires short { length self.old ≤ MAX_SCALE + MAX_DEC_LEN }
         ensures { self.new ≡ body_of (F.answers format.now) n ++ self.old }
     {
-        let separator = format.separator().into_str();
         match format.grouping() {
-            Grouping::Standard => self.put_grouped::<3, 3>(n, separator),
-            Grouping::Indian => self.put_grouped::<3, 2>(n, separator),
+            Grouping::Standard => self.put_grouped::<F, 3, 3>(n, format),
+            Grouping::Indian => self.put_grouped::<F, 3, 2>(n, format),
             Grouping::Posix => self.put_digits(n),
             Grouping::Myriad if n < FIVE_DIGITS => self.put_digits(n),
-            Grouping::Myriad => self.put_grouped::<4, 4>(n, separator),
+            Grouping::Myriad => self.put_grouped::<F, 4, 4>(n, format),
             Grouping::Sparse if n < FIVE_DIGITS => self.put_digits(n),
-            Grouping::Sparse => self.put_grouped::<3, 3>(n, separator),
+            Grouping::Sparse => self.put_grouped::<F, 3, 3>(n, format),
         }
     }
 
     /// Prepends the digits of `n` in groups: the last of `LAST` digits, those before it of `SIZE`, and the first of up
-    /// to as many. The code is compiled for each length of a separator, so that a copy of it is a move or two.
-    fn put_grouped<const LAST: u8, const SIZE: u8>(&mut self, n: u64, separator: &str)
+    /// to as many.
+    #[inline(always)]
+    fn put_grouped<F: Format, const LAST: u8, const SIZE: u8>(&mut self, n: u64, format: &F)
+        requires some { 10 ^ LAST ≤ n }
+        requires sizes { (2 ≤ SIZE) × (SIZE ≤ LAST) × (LAST ≤ 4) }
+        requires short { length self.old ≤ MAX_SCALE + MAX_DEC_LEN }
+        ensures { (is_due : ℕ → Bool) → HasLastGroup is_due LAST → HasGroups is_due SIZE
+            → self.new ≡ separated is_due (F.answers format.now).separator (digits n) ++ self.old }
+    {
+        let separator = format.separator().into_str();
+        // Most have one byte. A test of that may take less time than a jump table over the lengths.
+        if separator.len() == 1 {
+            self.put_separated::<LAST, SIZE, 1>(n, separator);
+        } else {
+            self.put_by_length::<LAST, SIZE>(n, separator);
+        }
+    }
+
+    /// Prepends the digits of `n` in the same groups. The code is compiled for each length of a separator, so that a
+    /// copy of it is a move or two.
+    #[inline(never)]
+    fn put_by_length<const LAST: u8, const SIZE: u8>(&mut self, n: u64, separator: &str)
         requires some { 10 ^ LAST ≤ n }
         requires sizes { (2 ≤ SIZE) × (SIZE ≤ LAST) × (LAST ≤ 4) }
         requires separator { length separator.now ≤ MAX_SEP_LEN }
@@ -324,9 +352,27 @@ impl DecimalBuffer {
         self.put_groups::<SIZE, LEN>(n / last, separator);
     }
 
-    /// Prepends the digits of a number of more than 64 bits in groups, the last of three digits. The code is
-    /// compiled for each length of a separator too.
-    fn put_wide_grouped<const SIZE: u8>(&mut self, n: u128, separator: &str)
+    /// Prepends the digits of a number of more than 64 bits in groups, the last of three digits.
+    #[inline(always)]
+    fn put_wide_grouped<F: Format, const SIZE: u8>(&mut self, n: u128, format: &F)
+        requires large { 2 ^ 64 ≤ n }
+        requires size { (2 ≤ SIZE) × (SIZE ≤ 3) }
+        requires digits { length self.old + 5 * length (digits n) ≤ MAX_DECIMAL_LEN + 4 }
+        ensures { (is_due : ℕ → Bool) → HasLastGroup is_due 3 → HasGroups is_due SIZE
+            → self.new ≡ separated is_due (F.answers format.now).separator (digits n) ++ self.old }
+    {
+        let separator = format.separator().into_str();
+        if separator.len() == 1 {
+            self.put_wide_separated::<SIZE, 1>(n, separator);
+        } else {
+            self.put_wide_by_length::<SIZE>(n, separator);
+        }
+    }
+
+    /// Prepends the digits of such a number in the same groups. The code is compiled for each length of a separator
+    /// too.
+    #[inline(never)]
+    fn put_wide_by_length<const SIZE: u8>(&mut self, n: u128, separator: &str)
         requires large { 2 ^ 64 ≤ n }
         requires size { (2 ≤ SIZE) × (SIZE ≤ 3) }
         requires separator { length separator.now ≤ MAX_SEP_LEN }
@@ -434,6 +480,11 @@ impl DecimalBuffer {
         ensures text { self.new ≡ plain (last_digits count n) ++ self.old }
         ensures rest { result ≡ n / 10 ^ count }
     {
+        // Most scales above zero are two, which takes no loop.
+        if count == 2 {
+            self.put_front(two_digits(n % 100));
+            return n / 100;
+        }
         let mut left = n;
         let mut put = 0;
         while put + 2 <= count {
@@ -472,6 +523,30 @@ impl DecimalBuffer {
         ensures { self.new ≡ plain (digits n) ++ self.old }
     {
         self.start = itoa::write_digits(n, &mut self.inner, self.start);
+    }
+
+    /// Prepends a minus sign or a decimal mark. Most have one byte, whose copy is a move.
+    #[inline(always)]
+    fn put_symbol(&mut self, symbol: &str)
+        requires { length symbol.now + length self.old ≤ MAX_DECIMAL_LEN }
+        ensures { self.new ≡ symbol.now ++ self.old }
+    {
+        if symbol.len() == 1 {
+            self.put_front(&symbol[..1]);
+        } else {
+            self.put_long_symbol(symbol);
+        }
+    }
+
+    /// Prepends a symbol of any length.
+    ///
+    /// It is a function of its own, so that symbols of one byte are prepended without its space.
+    #[inline(never)]
+    fn put_long_symbol(&mut self, symbol: &str)
+        requires { length symbol.now + length self.old ≤ MAX_DECIMAL_LEN }
+        ensures { self.new ≡ symbol.now ++ self.old }
+    {
+        self.put_front(symbol);
     }
 
     /// Prepends a text.

@@ -77,14 +77,31 @@ pub(crate) fn split(n: u128, scale: u8) -> (u128, u128)
     if n <= u64::MAX as u128 {
         return split_short(n as u64, scale);
     }
+    // Most numbers have no decimals, two, or six. Three tests may take less time than a jump table over the scales.
+    if scale == 0 {
+        return (n, 0);
+    }
+    if scale == 2 {
+        return divide_by::<100>(n);
+    }
+    if scale == 6 {
+        return divide_by::<1_000_000>(n);
+    }
+    split_by_scale(n, scale)
+}
+
+/// Returns the same of a number of any size.
+#[inline(never)]
+fn split_by_scale(n: u128, scale: u8) -> (u128, u128)
+    requires { scale ≤ MAX_SCALE }
+    ensures whole { result.0 ≡ n / 10 ^ scale }
+    ensures rest { result.1 ≡ n % 10 ^ scale }
+{
     match scale {
-        0 => (n, 0),
         1 => divide_by::<10>(n),
-        2 => divide_by::<100>(n),
         3 => divide_by::<1000>(n),
         4 => divide_by::<10_000>(n),
         5 => divide_by::<100_000>(n),
-        6 => divide_by::<1_000_000>(n),
         7 => divide_by::<10_000_000>(n),
         8 => divide_by::<100_000_000>(n),
         9 => divide_by::<1_000_000_000>(n),

@@ -108,8 +108,11 @@ pub(crate) fn read_plain<F: Format>(text: &[u8], format: &F) -> Option<Plain>
         return None;
     }
     let mark = format.decimal().into_str();
+    if !is_usual(mark) {
+        return None;
+    }
     let minus_sign = format.minus_sign().into_str();
-    if !is_usual(mark) || !is_usual(minus_sign) {
+    if !is_usual(minus_sign) {
         return None;
     }
     let (is_negative, start) = sign(text, minus_sign);
@@ -159,10 +162,18 @@ fn read_digits_and_mark(text: &[u8], is_negative: bool, start: usize, mark: &str
 fn tells_decimals<F: Format>(format: &F) -> bool
     ensures { IsTrue result → TellsDecimals (F.answers format.now) }
 {
+    // Each text is tested before the format is asked for the next. The compiler then reads a locale's text by a load,
+    // and not through a jump table.
     let mark = format.decimal().into_str();
+    if !is_usual(mark) {
+        return tells_slowly(format);
+    }
     let minus_sign = format.minus_sign().into_str();
+    if !is_usual(minus_sign) {
+        return tells_slowly(format);
+    }
     let separator = format.separator().into_str();
-    if !is_usual(mark) || !is_usual(minus_sign) || !is_usual(separator) {
+    if !is_usual(separator) {
         return tells_slowly(format);
     }
     let first = mark.as_bytes()[0];

@@ -25,8 +25,8 @@ returns-then-plain-lt-LEAST_GROUPED-clause-decimal g c =
       separator_utf8 = IsUtf8-nil;
       mark_utf8 = subst IsUtf8 mark c.into_str-mark.utf8;
       unambiguous = record {
-        sign_given = λ none. let long = ap length (minus ∙ none) in omega (arith, long, c.is_usual-else-not-is_usual.ensures.given c.if-not-is_usual-2.false);
-        sign = subst HasNoNumeral minus (c.is_usual-else-not-is_usual.ensures.plain c.if-not-is_usual-2.false);
+        sign_given = λ none. let long = ap length (minus ∙ none) in omega (arith, long, c.is_usual-2.ensures.given c.if-not-is_usual-2.false);
+        sign = subst HasNoNumeral minus (c.is_usual-2.ensures.plain c.if-not-is_usual-2.false);
         separator = empty_plain;
       };
       given = λ none. let long = ap length (mark ∙ none) in omega (arith, long, c.is_usual.ensures.given c.if-not-is_usual.false);

@@ -17,9 +17,9 @@ returns g c =
         separator_utf8 = subst IsUtf8 separator (search rules);
         mark_utf8 = subst IsUtf8 mark (search rules);
         unambiguous = record {
-          sign_given = λ none. let long = ap length (minus ∙ none) in omega (arith, long, c.is_usual-else-not-is_usual.ensures.given c.if-not-is_usual-2.false);
-          sign = subst HasNoNumeral minus (c.is_usual-else-not-is_usual.ensures.plain c.if-not-is_usual-2.false);
-          separator = of_printed HasNoNumeral empty_plain f.grouping f.separator (subst HasNoNumeral separator (c.is_usual-else-not-is_usual-2.ensures.plain c.if-not-is_usual-3.false));
+          sign_given = λ none. let long = ap length (minus ∙ none) in omega (arith, long, c.is_usual-2.ensures.given c.if-not-is_usual-2.false);
+          sign = subst HasNoNumeral minus (c.is_usual-2.ensures.plain c.if-not-is_usual-2.false);
+          separator = of_printed HasNoNumeral empty_plain f.grouping f.separator (subst HasNoNumeral separator (c.is_usual-3.ensures.plain c.if-not-is_usual-3.false));
         };
         given = λ none. let long = ap length (mark ∙ none) in omega (arith, long, c.is_usual.ensures.given c.if-not-is_usual.false);
         mark = subst HasNoNumeral mark (c.is_usual.ensures.plain c.if-not-is_usual.false);

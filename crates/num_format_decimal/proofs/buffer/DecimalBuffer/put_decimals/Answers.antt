@@ -1,4 +1,4 @@
-use Rattle.std.proofs.Common.{◌∙◌, length, ap, arith, length-append}
+use Rattle.std.proofs.Common.{length, refl, ap, arith}
 use Rattle.num_format_int.specs.Groups.{last_digits, plain}
 use Rattle.num_format_decimal.proofs.TextLemmas.{length-plain, some_decimals}
 use Rattle.num_format_decimal.proofs.PrintLemmas.{before_none, undivided}
@@ -10,25 +10,18 @@ returns-then-count-eq0-clause-rest g c = undivided c.args.n c.args.count c.if-co
 pub put_last_digits-whole-requires : goal.put_last_digits-whole-requires
 put_last_digits-whole-requires g c = omega (arith, ap length c.requires.empty, c.requires.count)
 
-pub put_front-requires : goal.put_front-requires
-put_front-requires g c =
+pub put_mark-requires : goal.put_mark-requires
+put_mark-requires g c =
     let digits = before_none (plain (last_digits c.args.count c.args.n)) c.args.self.now c.put_last_digits-whole.new.self c.requires.empty c.put_last_digits-whole.ensures.text in
-    omega (arith, ap length digits, length-plain c.args.count c.args.n, c.into_str.ensures.fits, c.requires.count)
+    omega (arith, ap length digits, length-plain c.args.count c.args.n, c.requires.count)
 
 pub returns-clause-text : goal.returns-clause-text
 returns-clause-text g c =
     let f = g.F.Format.answers c.args.format.now in
     let digits = before_none (plain (last_digits c.args.count c.args.n)) c.args.self.now c.put_last_digits-whole.new.self c.requires.empty c.put_last_digits-whole.ensures.text in
-    some_decimals f c.args.count c.args.n c.into_str.result.now c.put_last_digits-whole.new.self c.put_front.new.self c.if-count-eq0.false (c.into_str.ensures.same ∙ c.decimal.ensures) digits c.put_front.ensures
+    some_decimals f c.args.count c.args.n f.decimal c.put_last_digits-whole.new.self c.put_mark.new.self c.if-count-eq0.false refl digits c.put_mark.ensures.text
 
 pub returns-clause-room : goal.returns-clause-room
 returns-clause-room g c =
     let digits = before_none (plain (last_digits c.args.count c.args.n)) c.args.self.now c.put_last_digits-whole.new.self c.requires.empty c.put_last_digits-whole.ensures.text in
-    omega (
-      arith,
-      ap length digits,
-      length-plain c.args.count c.args.n,
-      c.into_str.ensures.fits,
-      ap length c.put_front.ensures,
-      length-append c.into_str.result.now c.put_last_digits-whole.new.self,
-    )
+    omega (arith, ap length digits, length-plain c.args.count c.args.n, c.put_mark.ensures.room)

@@ -49,6 +49,4 @@ returns-in-Sparse-2 g c =
     let ds = digits c.args.n in
     let many = length-digits-gt 4 c.args.n c.if-n-lt-FIVE_DIGITS-2.false in
     c.put_grouped-in-Sparse-2.ensures (stands Sparse (length ds)) (last_group-Sparse (length ds) many) (groups-Sparse (length ds) many)
-    ∙ ap (λ t. t ++ c.args.self.now) (
-    ap (λ s. grouped Sparse s ds) (c.into_str-separator.ensures.same ∙ c.separator.ensures)
-    ∙ ap (λ k. grouped k f.separator ds) c.in-Sparse-2.ensures)
+    ∙ ap (λ t. t ++ c.args.self.now) (ap (λ k. grouped k f.separator ds) c.in-Sparse-2.ensures)

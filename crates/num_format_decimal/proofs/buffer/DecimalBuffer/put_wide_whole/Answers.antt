@@ -12,6 +12,4 @@ returns-in-Sparse g c =
     let ds = digits c.args.n in
     let many = length-digits-gt 4 c.args.n (omega (arith, c.requires.large)) in
     c.put_wide_grouped-in-Sparse.ensures (stands Sparse (length ds)) (last_group-Sparse (length ds) many) (groups-Sparse (length ds) many)
-    ∙ ap (λ t. t ++ c.args.self.now) (
-    ap (λ s. grouped Sparse s ds) (c.into_str-separator.ensures.same ∙ c.separator.ensures)
-    ∙ ap (λ k. grouped k f.separator ds) c.in-Sparse.ensures)
+    ∙ ap (λ t. t ++ c.args.self.now) (ap (λ k. grouped k f.separator ds) c.in-Sparse.ensures)
