@@ -11,7 +11,7 @@ use Rattle.std.proofs.lemmas.List.{drop_more, drop_all, length-drop, take_more, 
 use Rattle.std.proofs.lemmas.List.Sums.{fold-append}
 use Rattle.num_format.specs.Format.{FormatData}
 use Rattle.num_format.specs.Writing.{StopsWithin}
-use Rattle.regroup_shared.proofs.SendingLemmas.{StopsWithin_prefix, StopsWithin_suffix}
+use Rattle.num_format.proofs.WritingLemmas.{StopsWithin_prefix, StopsWithin_suffix}
 use Rattle.regroup_lines.specs.Csv.{blank_len, csv_split, doubled, enclosed, is_inside_after, is_quote, needs_quotes, next_number, toggled}
 use Rattle.regroup_lines.specs.Fault.{Fault}
 use Rattle.regroup_lines.specs.Fault.Fault.{FewFields}

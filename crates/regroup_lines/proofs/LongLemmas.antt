@@ -7,7 +7,7 @@ use Rattle.std.proofs.lemmas.List.Elements.{All-append}
 use Rattle.std.proofs.lemmas.List.Sums.{fold-append}
 use Rattle.num_format.specs.Writing.{StopsWithin}
 use Rattle.regroup_shared.specs.Sending.{ended_by}
-use Rattle.regroup_shared.proofs.SendingLemmas.{StopsWithin_suffix}
+use Rattle.num_format.proofs.WritingLemmas.{StopsWithin_suffix}
 use Rattle.regroup_lines.specs.Csv.{after_byte}
 use Rattle.regroup_lines.specs.Fault.{Fault}
 use Rattle.regroup_lines.specs.Fault.Fault.{FewFields, Line, NotText, FieldNotText, Field, Flush, Read, Report, TooLong, TooMany, Unclosed, Write}

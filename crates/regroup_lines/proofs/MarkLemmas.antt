@@ -6,7 +6,7 @@ use Rattle.std.proofs.lemmas.List.{take_rest}
 use Rattle.num_format.specs.Format.{FormatData}
 use Rattle.num_format.specs.Writing.{StopsWithin}
 use Rattle.regroup_shared.specs.Sending.{ended_by}
-use Rattle.regroup_shared.proofs.SendingLemmas.{HasReceivedUpTo-none, StopsWithin_prefix, StopsWithin_suffix}
+use Rattle.num_format.proofs.WritingLemmas.{HasReceivedUpTo-none, StopsWithin_prefix, StopsWithin_suffix}
 use Rattle.regroup_lines.specs.Fault.{Fault}
 use Rattle.regroup_lines.specs.Fault.Fault.{Write}
 use Rattle.regroup_lines.specs.Lines.{MARK, after_mark, body_written, numbers_replaced, passes_mark}

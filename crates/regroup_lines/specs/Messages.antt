@@ -1,7 +1,7 @@
 -- The messages that name faults.
-use Rattle.std.specs.Prelude.{ℕ, ◌+◌, ◌-◌, nat_le, ℤ, if◌then◌else◌, List, [], ◌∷◌, ◌++◌, length, codes, Option, None, Some, Result, Ok, Err}
+use Rattle.std.specs.Prelude.{ℕ, ◌+◌, ◌-◌, nat_le, ◌&&◌, not, ℤ, if◌then◌else◌, List, [], ◌∷◌, ◌++◌, length, codes, Option, None, Some, Result, Ok, Err}
 use Rattle.std.specs.Fmt.{decimal, signed_decimal}
-use Rattle.std.specs.List.{flat_map}
+use Rattle.std.specs.List.{flat_map, list_any}
 use Rattle.num_format.specs.Format.{FormatData}
 use Rattle.num_format.specs.Refusal.{Refusal, Capacity, Other, ParseLocale, ParseNumber}
 use Rattle.num_format_decimal.specs.Parsing.{unexpected_in_decimal}
@@ -12,6 +12,7 @@ use Rattle.regroup_shared.specs.Quoting.{quoted, shown}
 use Rattle.regroup_shared.specs.Reading.{number_read}
 use Rattle.regroup_shared.specs.Sending.{line}
 use Rattle.regroup_shared.specs.declared.quoting.TheConstants.{MAX_SHOWN_LEN}
+use Rattle.regroup_lines.specs.Csv.{is_quote}
 use Rattle.regroup_lines.specs.Decimals.{only, scales_below}
 use Rattle.regroup_lines.specs.Fault.{Fault}
 use Rattle.regroup_lines.specs.Fault.Fault.{TooMany, TooLong, FewFields, Read, NotText, FieldNotText, Line, Field, Unclosed, Write, Report, Flush}
@@ -71,9 +72,10 @@ abbrev pub read_text : Result ℤ Refusal → List ℕ
 read_text (Ok value) = codes "; --lenient reads " ++ signed_decimal value
 read_text (Err refusal) = []
 
--- which number lenient reading would return of a text that strict reading refuses, if it returns one and all of the text is shown
+-- which number lenient reading would return of a text that strict reading refuses, if it returns one, all of the text is shown, and no byte
+-- of it is a quote: in a record of RFC 4180 lenient reading refuses it too, and a message does not know whether its line is one
 abbrev pub lenient_text : Reading → FormatData → List ℕ → List ℕ
-lenient_text Strict from text = if nat_le (length text) MAX_SHOWN_LEN then read_text (number_read from text) else []
+lenient_text Strict from text = if nat_le (length text) MAX_SHOWN_LEN && not (list_any is_quote text) then read_text (number_read from text) else []
 lenient_text Lenient from text = []
 
 -- what is said of a text that is not a number

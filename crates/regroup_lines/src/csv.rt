@@ -94,6 +94,7 @@ struct Frame<'a> {
 }
 
 /// Sends a line with the number in each chosen field regrouped, and the byte that ends it.
+#[inline(never)]
 pub(crate) fn regroup_csv<'a, W: Write, F: Format, G: Format>(
     rules: &Rules,
     records: &Records,
@@ -415,7 +416,7 @@ fn read_number<'a, F: Format>(
 }
 
 /// Returns whether a byte is a quote.
-fn has_quote(text: &[u8]) -> bool
+pub(crate) fn has_quote(text: &[u8]) -> bool
     ensures { result ≡ list_any is_quote text.now }
 {
     text.iter().any(|byte| *byte == QUOTE)

@@ -23,6 +23,7 @@ use std::io::Write;
 use std::ops::Range;
 
 /// Sends a line with the number in each chosen field regrouped, and the byte that ends it.
+#[inline(never)]
 pub(crate) fn regroup_fields<'a, W: Write, F: Format, G: Format>(
     rules: &Rules,
     fields: &Fields,

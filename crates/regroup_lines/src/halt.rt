@@ -16,13 +16,13 @@ pub(crate) enum Halt {
     Flush,
 }
 
-impl Halt {
+impl From<Halt> for RegroupFault {
+    ghost from_gives = { λ halt fault. fault_of fault ≡ halt_fault halt };
+
     /// Returns the fault.
     #[cold]
-    pub(crate) fn fault(self) -> RegroupFault
-        ensures { fault_of result ≡ halt_fault self }
-    {
-        match self {
+    fn from(halt: Halt) -> RegroupFault {
+        match halt {
             Halt::Read => RegroupFault::Read,
             Halt::Flush => RegroupFault::Flush,
         }

@@ -26,14 +26,14 @@ mod message;
 mod number;
 pub mod rules;
 
-ghost use Rattle.std.specs.Prelude.{◌≡◌, ◌+◌, [], ◌<◌, ◌≤◌, length};
+ghost use Rattle.std.specs.Prelude.{◌≡◌, ◌+◌, [], ◌<◌, ◌≤◌, length, true};
 ghost use Rattle.std.specs.Result.{result_map_both};
 ghost use Rattle.regroup_shared.specs.Sending.{Sends, ended_by};
 ghost use Rattle.regroup_lines.specs.Fault.{are_any, fault_of};
 ghost use Rattle.regroup_lines.specs.Fields.{SendsIfOk};
 ghost use Rattle.regroup_lines.specs.Input.{IsLong, PassesLong, array_len, held};
 ghost use Rattle.regroup_lines.specs.LineFaults.{line_fault_of};
-ghost use Rattle.regroup_lines.specs.Lines.{body_written, fault_named, fault_written, input_end, lenient, numbers_replaced, place_written, span_after, text_named, text_written, with_span};
+ghost use Rattle.regroup_lines.specs.Lines.{body_written, fault_named, fault_written, input_end, lenient, numbers_replaced, passes_mark, place_written, span_after, text_named, text_written, with_span};
 ghost use Rattle.regroup_lines.specs.Messages.{fault_message, messages};
 ghost use Rattle.regroup_lines.specs.Places.{place_of};
 ghost use Rattle.regroup_lines.specs.Sending.{EndsInput, Names, Regroups, RegroupsNaming, SendsLine, SendsTold};
@@ -190,11 +190,7 @@ pub fn regroup_at_most<R: Read, W: Write, E: Write, F: Format, G: Format>(
     for count in 0..most {
         let lines = count + 1;
         let now = Rules { span, ..*rules };
-        let piece = match input.next_piece(rules.line_end, rules.flushes, r, w) {
-            Ok(piece) => piece,
-            Err(halt) => return Err(halt.fault()),
-        };
-        match piece {
+        match input.next_piece(rules.line_end, rules.flushes, r, w)? {
             Piece::Line(place) => {
                 let text = input.bytes(place);
                 has_faults |= regroup_line(&now, name, text, lines, w, e, from, to)?;
@@ -221,10 +217,10 @@ pub fn regroup_at_most<R: Read, W: Write, E: Write, F: Format, G: Format>(
             }
         }
     }
-    match input.is_at_end(rules.flushes, r, w) {
-        Ok(true) => finish(rules, span, name, most, has_faults, e, from),
-        Ok(false) => Err(RegroupFault::TooMany),
-        Err(halt) => Err(halt.fault()),
+    if input.is_at_end(rules.flushes, r, w)? {
+        finish(rules, span, name, most, has_faults, e, from)
+    } else {
+        Err(RegroupFault::TooMany)
     }
 }
 
@@ -257,29 +253,7 @@ fn finish<'a, E: Write, F: Format>(
 
 /// Sends what is written in place of the text of a line, and the byte that ends it, and before them the message that names
 /// its fault, if there is one. Returns whether there is.
-fn regroup_line<W: Write, E: Write, F: Format, G: Format>(
-    rules: &Rules,
-    name: &str,
-    text: &[u8],
-    number: u64,
-    w: &mut W,
-    e: &mut E,
-    from: &F,
-    to: &G,
-) -> Result<bool, RegroupFault>
-    ensures { SendsTold rules.now.line_end (text_written rules.now (F.answers from.now) (G.answers to.now) number text.now)
-        (messages name.now rules.now.reading (F.answers from.now) (text_named rules.now (F.answers from.now) (G.answers to.now) number text.now))
-        (are_any (text_named rules.now (F.answers from.now) (G.answers to.now) number text.now))
-        (W.contents w.old) (W.contents w.new) (E.contents e.old) (E.contents e.new) (result_map_both (λ told. told) fault_of result) }
-{
-    match regroup_text(rules, name, text, number, w, e, from, to) {
-        Ok(is_named) => Ok(is_named),
-        Err(fault) => Err(fault.kept()),
-    }
-}
-
-/// Does the same, and returns a fault without a copy of the text.
-fn regroup_text<'a, W: Write, E: Write, F: Format, G: Format>(
+fn regroup_line<'a, W: Write, E: Write, F: Format, G: Format>(
     rules: &Rules,
     name: &str,
     text: &'a [u8],
@@ -309,6 +283,8 @@ fn regroup_text<'a, W: Write, E: Write, F: Format, G: Format>(
 
 /// Sends a line at fault as it is, and the byte that ends it, and before them the message that names the fault, if the
 /// rules say so. Returns whether there is a message.
+#[cold]
+#[inline(never)]
 fn pass_fault<'a, W: Write, E: Write, F: Format>(
     rules: &Rules,
     name: &str,
@@ -326,7 +302,7 @@ fn pass_fault<'a, W: Write, E: Write, F: Format>(
     if !rules.invalid.passes() {
         return Err(fault);
     }
-    let Ok(is_named) = name_fault(rules, name, &fault.kept(), e, from) else {
+    let Ok(is_named) = name_fault(rules, name, &RegroupFault::from(fault), e, from) else {
         return Err(LineFault::Report);
     };
     pass_on(text, rules.line_end, w).or(Err(LineFault::Write))?;
@@ -388,7 +364,7 @@ fn pass_long<'a, R: Read, W: Write>(
             Ok(Piece::TooLong) => send_held(rules.line_end, input, span, w)?,
             Err(halt) => {
                 send_held(rules.line_end, input, span, w)?;
-                return Err(halt.fault());
+                return Err(halt.into());
             }
         }
     }
@@ -433,6 +409,25 @@ fn regroup_body<'a, W: Write, F: Format, G: Format>(
     if !rules.span.passes_mark(number, text) {
         return regroup_numbers(rules, text, number, w, from, to);
     }
+    regroup_marked(rules, text, number, w, from, to)
+}
+
+/// Sends the same of a line that begins with a byte order mark. It is a cold call, so that other lines are regrouped
+/// without its space.
+#[cold]
+#[inline(never)]
+fn regroup_marked<'a, W: Write, F: Format, G: Format>(
+    rules: &Rules,
+    text: &'a [u8],
+    number: u64,
+    w: &mut W,
+    from: &F,
+    to: &G,
+) -> Result<(), LineFault<'a>>
+    requires { passes_mark rules.now.span number text.now ≡ true }
+    ensures { SendsLine rules.now.line_end (body_written rules.now (F.answers from.now) (G.answers to.now) number text.now)
+        (W.contents w.old) (W.contents w.new) (result_map_both (λ sent. sent) line_fault_of result) }
+{
     let rest = &text[MARK.len()..];
     // Of a line at fault nothing is sent, so it is read before the mark is sent.
     regroup_numbers(rules, rest, number, &mut io::sink(), from, to)?;
@@ -441,6 +436,9 @@ fn regroup_body<'a, W: Write, F: Format, G: Format>(
 }
 
 /// Sends a line with its numbers regrouped, and the byte that ends it.
+///
+/// It is inlined, so that a line that is a number alone takes no call for its span.
+#[inline(always)]
 fn regroup_numbers<'a, W: Write, F: Format, G: Format>(
     rules: &Rules,
     text: &'a [u8],
@@ -462,6 +460,7 @@ fn regroup_numbers<'a, W: Write, F: Format, G: Format>(
 }
 
 /// Sends a line with the number at a place regrouped, and the byte that ends it.
+#[inline(always)]
 fn regroup_place<'a, W: Write, F: Format, G: Format>(
     rules: &Rules,
     text: &'a [u8],

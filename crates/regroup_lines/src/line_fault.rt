@@ -40,14 +40,17 @@ impl<'a> LineFault<'a> {
             | LineFault::Report => self,
         }
     }
+}
 
-    /// Returns the fault with a copy of the text. It is made where nothing else waits for it.
+impl<'a> From<LineFault<'a>> for RegroupFault {
+    ghost from_gives = { λ line fault. fault_of fault ≡ line_fault_of line };
+
+    /// Returns the fault with a copy of the text. It is a cold call, so that lines without a fault are regrouped without
+    /// the space of the copy.
     #[cold]
     #[inline(never)]
-    pub(crate) fn kept(self) -> RegroupFault
-        ensures { fault_of result ≡ line_fault_of self.entry }
-    {
-        match self {
+    fn from(fault: LineFault<'a>) -> RegroupFault {
+        match fault {
             LineFault::NotANumber(number, text) => text_fault(number, text),
             LineFault::NotAField(number, field, text) => field_fault(number, field, text),
             LineFault::FewFields(number) => RegroupFault::FewFields(number),

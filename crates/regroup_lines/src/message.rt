@@ -6,6 +6,7 @@ ghost use Rattle.regroup_shared.specs.Reading.{number_read};
 ghost use Rattle.regroup_lines.specs.Fault.{fault_of};
 ghost use Rattle.regroup_lines.specs.Messages.{before_fault, before_in, byte_text, fault_message, field_message, kept_in, lenient_text, line_message, long_cause, read_text, refused_text};
 
+use crate::csv::has_quote;
 use crate::fault::RegroupFault;
 use crate::rules::Reading;
 use arrayvec::ArrayString;
@@ -149,8 +150,9 @@ fn refused_text<F: Format>(
     message
 }
 
-/// Returns which number lenient reading would return of a text that strict reading refuses, if it returns one and all
-/// of the text is shown.
+/// Returns which number lenient reading would return of a text that strict reading refuses, if it returns one, all of the
+/// text is shown, and no byte of it is a quote. In a record of RFC 4180 lenient reading refuses a text with a quote too,
+/// and a message does not know whether its line is one.
 fn lenient_text<F: Format>(
     reading: Reading,
     text: &str,
@@ -159,7 +161,9 @@ fn lenient_text<F: Format>(
     ensures { result.bytes ≡ lenient_text reading (F.answers from.now) text.now }
 {
     match reading {
-        Reading::Strict if text.len() <= MAX_SHOWN_LEN => read_text(number_read(text, from)),
+        Reading::Strict if text.len() <= MAX_SHOWN_LEN && !has_quote(text.as_bytes()) => {
+            read_text(number_read(text, from))
+        }
         Reading::Strict | Reading::Lenient => ArrayString::new(),
     }
 }

@@ -43,6 +43,7 @@ impl Number {
     /// # Errors
     ///
     /// Returns the fault of a text that does not parse.
+    #[inline(always)]
     pub(crate) fn read<'a, F: Format>(
         reading: Reading,
         text: &'a [u8],
@@ -93,6 +94,7 @@ impl Number {
     /// # Errors
     ///
     /// Returns the error of the first write that fails, also of one that was interrupted, or that writes no bytes.
+    #[inline(always)]
     pub(crate) fn send_line<W: Write, G: Format>(
         &self,
         around: &Around<'_>,

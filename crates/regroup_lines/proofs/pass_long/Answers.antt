@@ -106,5 +106,5 @@ pub returns-in-Err-clause-passes : goal.returns-in-Err-clause-passes
 returns-in-Err-clause-passes g c =
     let so_far = SentLong-kept _ _ _ _ _ _ _ _ _ _ (g.W.Write.contents c.next_piece.new.writer) _ c.loop.invariant.0 c.in-Err.ensures.flushed in
     let read = c.in-Err.ensures.failed in
-    rw c.fault.ensures
+    rw c.into.ensures
     (PassesLong-halted c.args.span.now c.loop.span c.send_held-in-Err.new.span _ _ c.args.rules.now.flushes _ _ _ _ _ _ _ _ _ so_far _ read.0 read.1 (held c.send_held-in-Err.new.input) _ c.in-Err.ensures.halt c.in_ok-send_held-in-Err.ensures.sent)

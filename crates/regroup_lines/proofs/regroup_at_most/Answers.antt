@@ -2,6 +2,7 @@ use Rattle.std.proofs.Common.{rules, Bool, true, false, ◌==◌, ap, ◌∙◌,
 use Rattle.std.proofs.lemmas.Result.{err_from_is_err_and}
 use Rattle.regroup_shared.specs.Sending.{ended_by}
 use Rattle.regroup_lines.specs.Fault.{fault_of}
+use Rattle.regroup_lines.specs.LineFaults.{line_fault_of}
 use Rattle.regroup_lines.specs.Input.{EndsOrGoesOn, FindsPiece, IsInArray, IsLong, PassesLong, array_len, held}
 use Rattle.regroup_lines.specs.Lines.{passes, span_after, with_span}
 use Rattle.regroup_lines.proofs.LongLemmas.{long_held, short_held}
@@ -13,70 +14,71 @@ use Rattle.regroup_lines.proofs.regroup_at_most.Goals.{in-Line+in_ok-has_faults-
 pub loop-count-init : goal.loop-count-init
 loop-count-init g c = (Progress-none c.args.rules.now.span c.args.rules.now _ _ _ _ _ _ _ _ c.new-input.ensures.none, c.new-input.ensures.len ∙ c.requires)
 
-pub returns-in-Err : goal.returns-in-Err
-returns-in-Err g c =
+pub returns-in_err-place : goal.returns-in_err-place
+returns-in_err-place g c =
     let few : c.loop-count.count < c.args.most = omega arith in
-    let so_far = Progress-kept c.args.rules.now.span (with_span c.args.rules.now c.loop-count.span) _ _ _ _ _ _ _ _ _ _ _ _ _ (g.W.Write.contents c.next_piece.new.writer) c.loop-count.invariant.0 c.in-Err.ensures.flushed in
-    let failed = c.in-Err.ensures.failed in
+    let so_far = Progress-kept c.args.rules.now.span (with_span c.args.rules.now c.loop-count.span) _ _ _ _ _ _ _ _ _ _ _ _ _ (g.W.Write.contents c.next_piece.new.writer) c.loop-count.invariant.0 c.in_err-place.ensures.flushed in
+    let failed = c.in_err-place.ensures.failed in
     let below = failed.2 in
     let len = c.loop-count.invariant.1 in
     let short : length (held c.next_piece.new.self) ≤ c.args.rules.now.max_line_len = omega (arith, below, len) in
-    rw c.fault.ensures (Regroups-halted c.args.rules.now.span (with_span c.args.rules.now c.loop-count.span) _ _ _ _ _ _ _ _ _ few _ _ _ (g.W.Write.contents c.next_piece.new.writer) _ (g.E.Write.contents c.loop-count.e) _ so_far _ failed.0 failed.1 _ c.in-Err.ensures.halt short)
+    let p = err_from_is_err_and c.from_residual.result c.from_residual.ensures.1 in
+    rw (p.1, p.2) (Regroups-halted c.args.rules.now.span (with_span c.args.rules.now c.loop-count.span) _ _ _ _ _ _ _ _ _ few _ _ _ (g.W.Write.contents c.next_piece.new.writer) _ (g.E.Write.contents c.loop-count.e) _ so_far _ failed.0 failed.1 _ c.in_err-place.ensures.halt short)
 
 pub bytes-text-requires-clause-ordered : goal.bytes-text-requires-clause-ordered
-bytes-text-requires-clause-ordered g c = (subst (IsInArray c.next_piece.new.self) c.in-Line.is c.in-Ok.ensures.place).0
+bytes-text-requires-clause-ordered g c = (subst (IsInArray c.next_piece.new.self) c.in-Line.is c.in_ok-place.ensures.place).0
 
 pub bytes-text-requires-clause-within : goal.bytes-text-requires-clause-within
-bytes-text-requires-clause-within g c = (subst (IsInArray c.next_piece.new.self) c.in-Line.is c.in-Ok.ensures.place).1
+bytes-text-requires-clause-within g c = (subst (IsInArray c.next_piece.new.self) c.in-Line.is c.in_ok-place.ensures.place).1
 
 pub bytes-rest-requires-clause-ordered : goal.bytes-rest-requires-clause-ordered
-bytes-rest-requires-clause-ordered g c = (subst (IsInArray c.next_piece.new.self) c.in-Rest.is c.in-Ok.ensures.place).0
+bytes-rest-requires-clause-ordered g c = (subst (IsInArray c.next_piece.new.self) c.in-Rest.is c.in_ok-place.ensures.place).0
 
 pub bytes-rest-requires-clause-within : goal.bytes-rest-requires-clause-within
-bytes-rest-requires-clause-within g c = (subst (IsInArray c.next_piece.new.self) c.in-Rest.is c.in-Ok.ensures.place).1
+bytes-rest-requires-clause-within g c = (subst (IsInArray c.next_piece.new.self) c.in-Rest.is c.in_ok-place.ensures.place).1
 
 pub returns-in_err-has_faults-in-Line : goal.returns-in_err-has_faults-in-Line
 returns-in_err-has_faults-in-Line g c =
     let few : c.loop-count.count < c.args.most = omega arith in
-    let so_far = Progress-kept c.args.rules.now.span (with_span c.args.rules.now c.loop-count.span) _ _ _ _ _ _ _ _ _ _ _ _ _ (g.W.Write.contents c.next_piece.new.writer) c.loop-count.invariant.0 c.in-Ok.ensures.flushed in
+    let so_far = Progress-kept c.args.rules.now.span (with_span c.args.rules.now c.loop-count.span) _ _ _ _ _ _ _ _ _ _ _ _ _ (g.W.Write.contents c.next_piece.new.writer) c.loop-count.invariant.0 c.in_ok-place.ensures.flushed in
     let found = subst (FindsPiece c.args.rules.now.line_end (held c.loop-count.input) c.next_piece.new.self (g.R.Read.remaining c.loop-count.r) (g.R.Read.remaining c.next_piece.new.reader))
-    c.in-Line.is c.in-Ok.ensures.piece in
+    c.in-Line.is c.in_ok-place.ensures.piece in
     let fault = c.in_err-has_faults-in-Line.field-0.0 in
     let sends = subst (λ text. SendsText (with_span c.args.rules.now c.loop-count.span) c.args.name.now (g.F.Format.answers c.args.from.now) (g.G.Format.answers c.args.to.now) (c.loop-count.count + 1) text
-    (g.W.Write.contents c.next_piece.new.writer) (g.W.Write.contents c.regroup_line.new.w) (g.E.Write.contents c.loop-count.e) (g.E.Write.contents c.regroup_line.new.e) (Err (fault_of fault)))
+    (g.W.Write.contents c.next_piece.new.writer) (g.W.Write.contents c.regroup_line.new.w) (g.E.Write.contents c.loop-count.e) (g.E.Write.contents c.regroup_line.new.e) (Err (line_fault_of fault)))
     c.bytes-text.ensures c.in_err-has_faults-in-Line.ensures in
-    let p = err_from_is_err_and c.from_residual.result c.from_residual.ensures.1 in
-    rw (p.1, p.2) (Regroups-line c.args.rules.now.span (with_span c.args.rules.now c.loop-count.span) _ _ _ _ _ _ _ _ _ few _ _ _ _ _ _ _ so_far _ _ found.0 found.1 (short_held _ _ _ found.2 (c.in-Ok.ensures.len ∙ c.loop-count.invariant.1)) _ sends)
+    let p = err_from_is_err_and c.from_residual-in_err-has_faults-in-Line.result c.from_residual-in_err-has_faults-in-Line.ensures.1 in
+    rw (p.1, p.2) (Regroups-line c.args.rules.now.span (with_span c.args.rules.now c.loop-count.span) _ _ _ _ _ _ _ _ _ few _ _ _ _ _ _ _ so_far _ _ found.0 found.1 (short_held _ _ _ found.2 (c.in_ok-place.ensures.len ∙ c.loop-count.invariant.1)) _ sends)
 
 pub returns-then-is_empty : goal.returns-then-is_empty
 returns-then-is_empty g c =
     let few : c.loop-count.count < c.args.most = omega arith in
-    let so_far = Progress-kept c.args.rules.now.span (with_span c.args.rules.now c.loop-count.span) _ _ _ _ _ _ _ _ _ _ _ _ _ (g.W.Write.contents c.next_piece.new.writer) c.loop-count.invariant.0 c.in-Ok.ensures.flushed in
+    let so_far = Progress-kept c.args.rules.now.span (with_span c.args.rules.now c.loop-count.span) _ _ _ _ _ _ _ _ _ _ _ _ _ (g.W.Write.contents c.next_piece.new.writer) c.loop-count.invariant.0 c.in_ok-place.ensures.flushed in
     let found = subst (FindsPiece c.args.rules.now.line_end (held c.loop-count.input) c.next_piece.new.self (g.R.Read.remaining c.loop-count.r) (g.R.Read.remaining c.next_piece.new.reader))
-    c.in-Rest.is c.in-Ok.ensures.piece in
+    c.in-Rest.is c.in_ok-place.ensures.piece in
     let empty = ap (λ (text : List ℕ). length text == 0) (sym c.bytes-rest.ensures) ∙ sym c.is_empty.ensures ∙ c.if-is_empty.true in
     Regroups-empty c.args.rules.now.span (with_span c.args.rules.now c.loop-count.span) _ _ _ _ _ _ _ _ _ few _ _ _ (g.W.Write.contents c.next_piece.new.writer) _ (g.E.Write.contents c.loop-count.e) _ so_far _ found.0 found.1 found.3 empty _ _ c.finish.ensures
 
 pub returns-in_err-has_faults-in-Rest : goal.returns-in_err-has_faults-in-Rest
 returns-in_err-has_faults-in-Rest g c =
     let few : c.loop-count.count < c.args.most = omega arith in
-    let so_far = Progress-kept c.args.rules.now.span (with_span c.args.rules.now c.loop-count.span) _ _ _ _ _ _ _ _ _ _ _ _ _ (g.W.Write.contents c.next_piece.new.writer) c.loop-count.invariant.0 c.in-Ok.ensures.flushed in
+    let so_far = Progress-kept c.args.rules.now.span (with_span c.args.rules.now c.loop-count.span) _ _ _ _ _ _ _ _ _ _ _ _ _ (g.W.Write.contents c.next_piece.new.writer) c.loop-count.invariant.0 c.in_ok-place.ensures.flushed in
     let found = subst (FindsPiece c.args.rules.now.line_end (held c.loop-count.input) c.next_piece.new.self (g.R.Read.remaining c.loop-count.r) (g.R.Read.remaining c.next_piece.new.reader))
-    c.in-Rest.is c.in-Ok.ensures.piece in
+    c.in-Rest.is c.in_ok-place.ensures.piece in
     let some = ap (λ (text : List ℕ). length text == 0) (sym c.bytes-rest.ensures) ∙ sym c.is_empty.ensures ∙ c.if-is_empty.false in
     let fault = c.in_err-has_faults-in-Rest.field-0.0 in
     let sends = subst (λ text. SendsText (with_span c.args.rules.now c.loop-count.span) c.args.name.now (g.F.Format.answers c.args.from.now) (g.G.Format.answers c.args.to.now) (c.loop-count.count + 1) text
-    (g.W.Write.contents c.next_piece.new.writer) (g.W.Write.contents c.regroup_line-in-Rest.new.w) (g.E.Write.contents c.loop-count.e) (g.E.Write.contents c.regroup_line-in-Rest.new.e) (Err (fault_of fault)))
+    (g.W.Write.contents c.next_piece.new.writer) (g.W.Write.contents c.regroup_line-in-Rest.new.w) (g.E.Write.contents c.loop-count.e) (g.E.Write.contents c.regroup_line-in-Rest.new.e) (Err (line_fault_of fault)))
     c.bytes-rest.ensures c.in_err-has_faults-in-Rest.ensures in
     let p = err_from_is_err_and c.from_residual-in_err-has_faults-in-Rest.result c.from_residual-in_err-has_faults-in-Rest.ensures.1 in
-    rw (p.1, p.2) (Regroups-last_fault c.args.rules.now.span (with_span c.args.rules.now c.loop-count.span) _ _ _ _ _ _ _ _ _ few _ _ _ _ _ _ _ so_far _ found.0 found.1 _ found.3 some (short_held _ _ _ found.2 (c.in-Ok.ensures.len ∙ c.loop-count.invariant.1)) sends)
+    rw (p.1, p.2) (Regroups-last_fault c.args.rules.now.span (with_span c.args.rules.now c.loop-count.span) _ _ _ _ _ _ _ _ _ few _ _ _ _ _ _ _ so_far _ found.0 found.1 _ found.3 some (short_held _ _ _ found.2 (c.in_ok-place.ensures.len ∙ c.loop-count.invariant.1)) sends)
 
 pub returns-in-Rest : goal.returns-in-Rest
 returns-in-Rest g c =
     let few : c.loop-count.count < c.args.most = omega arith in
-    let so_far = Progress-kept c.args.rules.now.span (with_span c.args.rules.now c.loop-count.span) _ _ _ _ _ _ _ _ _ _ _ _ _ (g.W.Write.contents c.next_piece.new.writer) c.loop-count.invariant.0 c.in-Ok.ensures.flushed in
+    let so_far = Progress-kept c.args.rules.now.span (with_span c.args.rules.now c.loop-count.span) _ _ _ _ _ _ _ _ _ _ _ _ _ (g.W.Write.contents c.next_piece.new.writer) c.loop-count.invariant.0 c.in_ok-place.ensures.flushed in
     let found = subst (FindsPiece c.args.rules.now.line_end (held c.loop-count.input) c.next_piece.new.self (g.R.Read.remaining c.loop-count.r) (g.R.Read.remaining c.next_piece.new.reader))
-    c.in-Rest.is c.in-Ok.ensures.piece in
+    c.in-Rest.is c.in_ok-place.ensures.piece in
     let some = ap (λ (text : List ℕ). length text == 0) (sym c.bytes-rest.ensures) ∙ sym c.is_empty.ensures ∙ c.if-is_empty.false in
     let told = c.in_ok-has_faults-in-Rest.field-0 in
     let sends = subst (λ text. SendsText (with_span c.args.rules.now c.loop-count.span) c.args.name.now (g.F.Format.answers c.args.from.now) (g.G.Format.answers c.args.to.now) (c.loop-count.count + 1) text
@@ -85,15 +87,15 @@ returns-in-Rest g c =
     let last = c.after_line-span-in-Rest.ensures ∙ ap (λ (t : List ℕ). span_after c.args.rules.now.line_end c.loop-count.span (ended_by c.args.rules.now.line_end t)) c.bytes-rest.ensures in
     Regroups-last c.args.rules.now.span (with_span c.args.rules.now c.loop-count.span) _ _ _ _ _ _ _ _ _ few _ _ _ _ _ _ _ so_far _ found.0 found.1 told _ _ found.3
     (EndsInput-at (with_span c.args.rules.now c.loop-count.span) c.args.name.now (g.F.Format.answers c.args.from.now) _ _ last _ _ _ _ _ c.finish-in-Rest.ensures) some
-    (short_held _ _ _ found.2 (c.in-Ok.ensures.len ∙ c.loop-count.invariant.1)) sends
+    (short_held _ _ _ found.2 (c.in_ok-place.ensures.len ∙ c.loop-count.invariant.1)) sends
 
 pub returns-then-not-passes : goal.returns-then-not-passes
 returns-then-not-passes g c =
     let few : c.loop-count.count < c.args.most = omega arith in
-    let so_far = Progress-kept c.args.rules.now.span (with_span c.args.rules.now c.loop-count.span) _ _ _ _ _ _ _ _ _ _ _ _ _ (g.W.Write.contents c.next_piece.new.writer) c.loop-count.invariant.0 c.in-Ok.ensures.flushed in
+    let so_far = Progress-kept c.args.rules.now.span (with_span c.args.rules.now c.loop-count.span) _ _ _ _ _ _ _ _ _ _ _ _ _ (g.W.Write.contents c.next_piece.new.writer) c.loop-count.invariant.0 c.in_ok-place.ensures.flushed in
     let found = subst (FindsPiece c.args.rules.now.line_end (held c.loop-count.input) c.next_piece.new.self (g.R.Read.remaining c.loop-count.r) (g.R.Read.remaining c.next_piece.new.reader))
-    c.in-TooLong.is c.in-Ok.ensures.piece in
-    let len = c.in-Ok.ensures.len ∙ c.loop-count.invariant.1 in
+    c.in-TooLong.is c.in_ok-place.ensures.piece in
+    let len = c.in_ok-place.ensures.len ∙ c.loop-count.invariant.1 in
     let long : IsLong c.args.rules.now.line_end (c.args.rules.now.max_line_len + 1) (held c.next_piece.new.self) = long_held _ _ _ _ found.1 found.2 len in
     let aborts : passes c.args.rules.now.invalid ≡ false = search rules in
     Regroups-long c.args.rules.now.span (with_span c.args.rules.now c.loop-count.span) _ _ _ _ _ _ _ _ _ few _ _ _ (g.W.Write.contents c.next_piece.new.writer) _ (g.E.Write.contents c.loop-count.e) _ so_far _ found.0 long aborts
@@ -101,10 +103,10 @@ returns-then-not-passes g c =
 pub returns-in_err-has_faults-in-TooLong : goal.returns-in_err-has_faults-in-TooLong
 returns-in_err-has_faults-in-TooLong g c =
     let few : c.loop-count.count < c.args.most = omega arith in
-    let so_far = Progress-kept c.args.rules.now.span (with_span c.args.rules.now c.loop-count.span) _ _ _ _ _ _ _ _ _ _ _ _ _ (g.W.Write.contents c.next_piece.new.writer) c.loop-count.invariant.0 c.in-Ok.ensures.flushed in
+    let so_far = Progress-kept c.args.rules.now.span (with_span c.args.rules.now c.loop-count.span) _ _ _ _ _ _ _ _ _ _ _ _ _ (g.W.Write.contents c.next_piece.new.writer) c.loop-count.invariant.0 c.in_ok-place.ensures.flushed in
     let found = subst (FindsPiece c.args.rules.now.line_end (held c.loop-count.input) c.next_piece.new.self (g.R.Read.remaining c.loop-count.r) (g.R.Read.remaining c.next_piece.new.reader))
-    c.in-TooLong.is c.in-Ok.ensures.piece in
-    let len = c.in-Ok.ensures.len ∙ c.loop-count.invariant.1 in
+    c.in-TooLong.is c.in_ok-place.ensures.piece in
+    let len = c.in_ok-place.ensures.len ∙ c.loop-count.invariant.1 in
     let long : IsLong c.args.rules.now.line_end (c.args.rules.now.max_line_len + 1) (held c.next_piece.new.self) = long_held _ _ _ _ found.1 found.2 len in
     let does : passes c.args.rules.now.invalid ≡ true = search rules in
     let fault = c.in_err-has_faults-in-TooLong.field-0.0 in
@@ -114,10 +116,10 @@ returns-in_err-has_faults-in-TooLong g c =
 pub returns-in_err-pass_long-in-TooLong : goal.returns-in_err-pass_long-in-TooLong
 returns-in_err-pass_long-in-TooLong g c =
     let few : c.loop-count.count < c.args.most = omega arith in
-    let so_far = Progress-kept c.args.rules.now.span (with_span c.args.rules.now c.loop-count.span) _ _ _ _ _ _ _ _ _ _ _ _ _ (g.W.Write.contents c.next_piece.new.writer) c.loop-count.invariant.0 c.in-Ok.ensures.flushed in
+    let so_far = Progress-kept c.args.rules.now.span (with_span c.args.rules.now c.loop-count.span) _ _ _ _ _ _ _ _ _ _ _ _ _ (g.W.Write.contents c.next_piece.new.writer) c.loop-count.invariant.0 c.in_ok-place.ensures.flushed in
     let found = subst (FindsPiece c.args.rules.now.line_end (held c.loop-count.input) c.next_piece.new.self (g.R.Read.remaining c.loop-count.r) (g.R.Read.remaining c.next_piece.new.reader))
-    c.in-TooLong.is c.in-Ok.ensures.piece in
-    let len = c.in-Ok.ensures.len ∙ c.loop-count.invariant.1 in
+    c.in-TooLong.is c.in_ok-place.ensures.piece in
+    let len = c.in_ok-place.ensures.len ∙ c.loop-count.invariant.1 in
     let long : IsLong c.args.rules.now.line_end (c.args.rules.now.max_line_len + 1) (held c.next_piece.new.self) = long_held _ _ _ _ found.1 found.2 len in
     let does : passes c.args.rules.now.invalid ≡ true = search rules in
     let named = c.in_ok-has_faults-in-TooLong.ensures in
@@ -129,10 +131,10 @@ returns-in_err-pass_long-in-TooLong g c =
 pub returns-then-branch : goal.returns-then-branch
 returns-then-branch g c =
     let few : c.loop-count.count < c.args.most = omega arith in
-    let so_far = Progress-kept c.args.rules.now.span (with_span c.args.rules.now c.loop-count.span) _ _ _ _ _ _ _ _ _ _ _ _ _ (g.W.Write.contents c.next_piece.new.writer) c.loop-count.invariant.0 c.in-Ok.ensures.flushed in
+    let so_far = Progress-kept c.args.rules.now.span (with_span c.args.rules.now c.loop-count.span) _ _ _ _ _ _ _ _ _ _ _ _ _ (g.W.Write.contents c.next_piece.new.writer) c.loop-count.invariant.0 c.in_ok-place.ensures.flushed in
     let found = subst (FindsPiece c.args.rules.now.line_end (held c.loop-count.input) c.next_piece.new.self (g.R.Read.remaining c.loop-count.r) (g.R.Read.remaining c.next_piece.new.reader))
-    c.in-TooLong.is c.in-Ok.ensures.piece in
-    let len = c.in-Ok.ensures.len ∙ c.loop-count.invariant.1 in
+    c.in-TooLong.is c.in_ok-place.ensures.piece in
+    let len = c.in_ok-place.ensures.len ∙ c.loop-count.invariant.1 in
     let long : IsLong c.args.rules.now.line_end (c.args.rules.now.max_line_len + 1) (held c.next_piece.new.self) = long_held _ _ _ _ found.1 found.2 len in
     let does : passes c.args.rules.now.invalid ≡ true = search rules in
     let named = c.in_ok-has_faults-in-TooLong.ensures in
@@ -146,23 +148,23 @@ returns-then-branch g c =
 pub loop-count-preserved : goal.loop-count-preserved
 loop-count-preserved g c =
     let few : c.loop-count.count < c.args.most = omega arith in
-    let so_far = Progress-kept c.args.rules.now.span (with_span c.args.rules.now c.loop-count.span) _ _ _ _ _ _ _ _ _ _ _ _ _ (g.W.Write.contents c.next_piece.new.writer) c.loop-count.invariant.0 c.in-Ok.ensures.flushed in
-    elim c.match-piece.branch [
+    let so_far = Progress-kept c.args.rules.now.span (with_span c.args.rules.now c.loop-count.span) _ _ _ _ _ _ _ _ _ _ _ _ _ (g.W.Write.contents c.next_piece.new.writer) c.loop-count.invariant.0 c.in_ok-place.ensures.flushed in
+    elim c.match-branch-2.branch [
       | in-Line+in_ok-has_faults-in-Line w ↦
           let found = subst (FindsPiece c.args.rules.now.line_end (held c.loop-count.input) c.next_piece.new.self (g.R.Read.remaining c.loop-count.r) (g.R.Read.remaining c.next_piece.new.reader))
-          w.in-Line.is c.in-Ok.ensures.piece in
+          w.in-Line.is c.in_ok-place.ensures.piece in
           let told = w.in_ok-has_faults-in-Line.field-0 in
           let sends = subst (λ text. SendsText (with_span c.args.rules.now c.loop-count.span) c.args.name.now (g.F.Format.answers c.args.from.now) (g.G.Format.answers c.args.to.now) (c.loop-count.count + 1) text
           (g.W.Write.contents c.next_piece.new.writer) (g.W.Write.contents w.regroup_line.new.w) (g.E.Write.contents c.loop-count.e) (g.E.Write.contents w.regroup_line.new.e) (Ok told))
           w.bytes-text.ensures w.in_ok-has_faults-in-Line.ensures in
           rw (w.r-is, w.w-is, w.e-is, w.input-is, w.has_faults-is, w.span-is, w.after_line-span.ensures, w.bytes-text.ensures) (
-            Progress-next c.args.rules.now.span (with_span c.args.rules.now c.loop-count.span) _ _ _ _ _ _ _ _ _ few _ _ _ _ _ _ _ so_far _ _ found.0 found.1 (short_held _ _ _ found.2 (c.in-Ok.ensures.len ∙ c.loop-count.invariant.1)) told sends,
-            c.in-Ok.ensures.len ∙ c.loop-count.invariant.1,
+            Progress-next c.args.rules.now.span (with_span c.args.rules.now c.loop-count.span) _ _ _ _ _ _ _ _ _ few _ _ _ _ _ _ _ so_far _ _ found.0 found.1 (short_held _ _ _ found.2 (c.in_ok-place.ensures.len ∙ c.loop-count.invariant.1)) told sends,
+            c.in_ok-place.ensures.len ∙ c.loop-count.invariant.1,
           )
       | in-TooLong+else-not-passes+in_ok-has_faults-in-TooLong+in_ok-pass_long-in-TooLong+else-branch w ↦
           let found = subst (FindsPiece c.args.rules.now.line_end (held c.loop-count.input) c.next_piece.new.self (g.R.Read.remaining c.loop-count.r) (g.R.Read.remaining c.next_piece.new.reader))
-          w.in-TooLong.is c.in-Ok.ensures.piece in
-          let len = c.in-Ok.ensures.len ∙ c.loop-count.invariant.1 in
+          w.in-TooLong.is c.in_ok-place.ensures.piece in
+          let len = c.in_ok-place.ensures.len ∙ c.loop-count.invariant.1 in
           let long : IsLong c.args.rules.now.line_end (c.args.rules.now.max_line_len + 1) (held c.next_piece.new.self) = long_held _ _ _ _ found.1 found.2 len in
           let does : passes c.args.rules.now.invalid ≡ true = sym w.passes.ensures ∙ w.if-not-passes.false in
           let named = w.in_ok-has_faults-in-TooLong.ensures in
@@ -175,25 +177,26 @@ loop-count-preserved g c =
           )
     ]
 
-pub returns-in-Ok-true : goal.returns-in-Ok-true
-returns-in-Ok-true g c =
+pub returns-then-branch-2 : goal.returns-then-branch-2
+returns-then-branch-2 g c =
     let all : c.loop-count.count ≡ c.args.most = omega arith in
-    let so_far = Progress-kept c.args.rules.now.span (with_span c.args.rules.now c.loop-count.span) _ _ _ _ _ _ _ _ _ _ _ _ _ (g.W.Write.contents c.is_at_end.new.writer) c.loop-count.invariant.0 c.in-Ok-true.ensures.flushed in
-    let yes : c.in-Ok-true.field-0 ≡ true = search rules in
-    let end = subst (EndsOrGoesOn (held c.loop-count.input) (g.R.Read.remaining c.loop-count.r) (g.R.Read.remaining c.is_at_end.new.reader)) yes c.in-Ok-true.ensures.end in
-    Regroups-all c.args.rules.now.span (with_span c.args.rules.now c.loop-count.span) _ _ _ _ _ _ _ _ _ all _ _ _ _ _ so_far end.0 end.1 _ _ c.finish-in-Ok-true.ensures
+    let so_far = Progress-kept c.args.rules.now.span (with_span c.args.rules.now c.loop-count.span) _ _ _ _ _ _ _ _ _ _ _ _ _ (g.W.Write.contents c.is_at_end.new.writer) c.loop-count.invariant.0 c.in_ok-is_at_end.ensures.flushed in
+    let yes : c.in_ok-is_at_end.field-0 ≡ true = search rules in
+    let end = subst (EndsOrGoesOn (held c.loop-count.input) (g.R.Read.remaining c.loop-count.r) (g.R.Read.remaining c.is_at_end.new.reader)) yes c.in_ok-is_at_end.ensures.end in
+    Regroups-all c.args.rules.now.span (with_span c.args.rules.now c.loop-count.span) _ _ _ _ _ _ _ _ _ all _ _ _ _ _ so_far end.0 end.1 _ _ c.finish-then-branch-2.ensures
 
-pub returns-in-Ok-false : goal.returns-in-Ok-false
-returns-in-Ok-false g c =
+pub returns-else-branch-2 : goal.returns-else-branch-2
+returns-else-branch-2 g c =
     let all : c.loop-count.count ≡ c.args.most = omega arith in
-    let so_far = Progress-kept c.args.rules.now.span (with_span c.args.rules.now c.loop-count.span) _ _ _ _ _ _ _ _ _ _ _ _ _ (g.W.Write.contents c.is_at_end.new.writer) c.loop-count.invariant.0 c.in-Ok-false.ensures.flushed in
-    let no : c.in-Ok-false.field-0 ≡ false = search rules in
-    let end = subst (EndsOrGoesOn (held c.loop-count.input) (g.R.Read.remaining c.loop-count.r) (g.R.Read.remaining c.is_at_end.new.reader)) no c.in-Ok-false.ensures.end in
+    let so_far = Progress-kept c.args.rules.now.span (with_span c.args.rules.now c.loop-count.span) _ _ _ _ _ _ _ _ _ _ _ _ _ (g.W.Write.contents c.is_at_end.new.writer) c.loop-count.invariant.0 c.in_ok-is_at_end.ensures.flushed in
+    let no : c.in_ok-is_at_end.field-0 ≡ false = search rules in
+    let end = subst (EndsOrGoesOn (held c.loop-count.input) (g.R.Read.remaining c.loop-count.r) (g.R.Read.remaining c.is_at_end.new.reader)) no c.in_ok-is_at_end.ensures.end in
     Regroups-many c.args.rules.now.span (with_span c.args.rules.now c.loop-count.span) _ _ _ _ _ _ _ _ _ all _ _ _ _ _ so_far end.0 end.1 end.2
 
-pub returns-in-Err-is_at_end : goal.returns-in-Err-is_at_end
-returns-in-Err-is_at_end g c =
+pub returns-in_err-is_at_end : goal.returns-in_err-is_at_end
+returns-in_err-is_at_end g c =
     let all : c.loop-count.count ≡ c.args.most = omega arith in
-    let so_far = Progress-kept c.args.rules.now.span (with_span c.args.rules.now c.loop-count.span) _ _ _ _ _ _ _ _ _ _ _ _ _ (g.W.Write.contents c.is_at_end.new.writer) c.loop-count.invariant.0 c.in-Err-is_at_end.ensures.flushed in
-    let failed = c.in-Err-is_at_end.ensures.failed in
-    rw c.fault-in-Err-is_at_end.ensures (Regroups-unread c.args.rules.now.span (with_span c.args.rules.now c.loop-count.span) _ _ _ _ _ _ _ _ _ all _ _ _ _ _ so_far failed.0 failed.1 _ c.in-Err-is_at_end.ensures.halt)
+    let so_far = Progress-kept c.args.rules.now.span (with_span c.args.rules.now c.loop-count.span) _ _ _ _ _ _ _ _ _ _ _ _ _ (g.W.Write.contents c.is_at_end.new.writer) c.loop-count.invariant.0 c.in_err-is_at_end.ensures.flushed in
+    let failed = c.in_err-is_at_end.ensures.failed in
+    let p = err_from_is_err_and c.from_residual-in_err-is_at_end.result c.from_residual-in_err-is_at_end.ensures.1 in
+    rw (p.1, p.2) (Regroups-unread c.args.rules.now.span (with_span c.args.rules.now c.loop-count.span) _ _ _ _ _ _ _ _ _ all _ _ _ _ _ so_far failed.0 failed.1 _ c.in_err-is_at_end.ensures.halt)

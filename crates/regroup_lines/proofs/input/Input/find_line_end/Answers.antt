@@ -1,6 +1,6 @@
 use Rattle.std.proofs.Common.{◌∙◌, ◌<◌, length, ap, arith, subst, sym}
 use Rattle.std.proofs.KnownBytes.{Keeps-trans}
-use Rattle.regroup_shared.proofs.SendingLemmas.{OnErr-always}
+use Rattle.num_format.proofs.WritingLemmas.{OnErr-always}
 use Rattle.regroup_lines.specs.Input.{HasNoLineEnd, array_len, held}
 use Rattle.regroup_lines.proofs.InputLemmas.{Reads-trans, line_ends-searched, line_ends-unread, searched_first, searched_none}
 use Rattle.regroup_lines.proofs.input.Input.find_line_end.Goals as goal
