@@ -17,6 +17,8 @@
 //! | `outputs` | lines from readers to writers that both do what a list says |
 //! | `stream` | the program `regroup-lines` where its input, an output or a flush fails |
 //! | `program` | commands of `regroup` whose outputs fail at each of their writes |
+//!
+//! `records` has no such test: it compares the fields of regrouped CSV with those that the kit's `csv` reads.
 #![tactic(auto)]
 
 #[cfg(test)]
@@ -29,6 +31,8 @@ mod lines;
 mod outputs;
 #[cfg(test)]
 mod program;
+#[cfg(test)]
+mod records;
 mod scripted;
 mod scripted_reader;
 #[cfg(test)]

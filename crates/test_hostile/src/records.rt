@@ -1,0 +1,249 @@
+//! Fields of records of RFC 4180, as the kit's `csv` reads them of what is regrouped and of what is written.
+//!
+//! That library loses empty lines, a byte order mark and which fields were in quotes, so all of these may be there: it
+//! reads both texts alike. It ends a record at a carriage return without a newline after it, and takes a quote as a byte of
+//! its field where the field has a byte before it. RFC 4180 has neither, and no text here has.
+
+use csv::{ByteRecord, ReaderBuilder};
+use num_format::Locale;
+use regroup_lines::{
+    FieldRange, Fields, Invalid, Reading, Records, Rules, Span, Within, regroup_at_most,
+};
+use std::alloc::{AllocError, Global};
+use std::io;
+use std::process::Abort;
+use std::test::Fail;
+
+/// The second and the fourth field of each record.
+const CHOSEN: &[FieldRange] = &[
+    FieldRange {
+        first: 2,
+        last: Some(2),
+    },
+    FieldRange {
+        first: 4,
+        last: Some(4),
+    },
+];
+
+/// The rules for these fields. Lines at fault, as empty ones, are passed on.
+const RULES: Rules = Rules {
+    span: Span::Csv(Records {
+        fields: Fields {
+            list: CHOSEN,
+            delimiter: b',',
+        },
+        within: Within {
+            inside: false,
+            before: 0,
+        },
+    }),
+    reading: Reading::Strict,
+    header_lines: 0,
+    passes_empty: true,
+    invalid: Invalid::Ignore,
+    line_end: b'\n',
+    max_line_len: 999,
+    flushes: false,
+};
+
+/// Records with numbers of `en` in the chosen fields, all of which [`NUMBERS`] has.
+const TEXTS: &[&str] = &[
+    "",
+    "\n\r\n\n",
+    "a,\"1,000\",b,-2000000\n",
+    "a,\"1,000\",b,2000",
+    "\u{FEFF}a,1000,b,2000\r\n\r\n\"\u{FEFF}\",1000,\u{FEFF},2000\r\n",
+    "\"\",\"\",,\n,,\"\",\"1,000\"\n",
+    "\"a,b\",\" 1,000 \",\"x\ny\", 2000 \r\n",
+    "\"\"\"\",\"-1,000\",\"\"\"a\"\",\"\"b\"\"\",\"2,000\"\n",
+    "\"\n\",1000,\"\r\n,\n\n\",2000,\"\n\",9,9\n",
+    "\",\",1000,\"\"\"\n\"\"\",2000\n\na,3000,\n",
+    "a\n1000,1000\n\"\",1000,\"\",2000,\"3,000\",\"a\n\"\n",
+];
+
+/// The parts of which a field in quotes is made.
+const QUOTED: &[&[u8]] = &[
+    b"a",
+    b",",
+    b"\"\"",
+    b"\n",
+    b"\r\n",
+    b";",
+    b" ",
+    b"\xE2\x82\xAC",
+];
+
+/// The parts of which a field without quotes is made.
+const BARE: &[&[u8]] = &[b"a", b";", b" ", b"7", b"\xE2\x82\xAC"];
+
+/// What chosen fields have under `en` and under `de`, blanks included.
+const NUMBERS: &[(&[u8], &[u8])] = &[
+    (b"", b""),
+    (b"1000", b"1.000"),
+    (b"1,000", b"1.000"),
+    (b" 1,000 ", b" 1.000 "),
+    (b"-1,000", b"-1.000"),
+    (b"1,234", b"1.234"),
+    (b"2000", b"2.000"),
+    (b" 2000 ", b" 2.000 "),
+    (b"2,000", b"2.000"),
+    (b" 4,000\t", b" 4.000\t"),
+    (b"-12345", b"-12.345"),
+    (b" 98765 ", b" 98.765 "),
+    (b"-1,234,567", b"-1.234.567"),
+    (b"-2000000", b"-2.000.000"),
+];
+
+/// The chosen fields of texts that are made.
+const MADE: &[&[u8]] = &[
+    b"\"1,234\"",
+    b"-12345",
+    b" 98765 ",
+    b"\"-1,234,567\"",
+    b"\" 4,000\t\"",
+    b"\"\"",
+    b"",
+];
+
+/// What a record ends with.
+const ENDS: &[&[u8]] = &[b"\n", b"\r\n", b"\n\n", b"\r\n\r\n"];
+
+/// How many texts are made.
+const TEXT_COUNT: usize = 40;
+
+/// How many records each of them has.
+const RECORD_COUNT: usize = 10;
+
+/// Numbers that follow from the first, by Knuth's generator of 64 bits.
+#[derive(Drop)]
+struct Numbers {
+    state: u64,
+}
+
+impl Numbers {
+    /// Returns the next number below the limit, or 0 if that is 0.
+    fn below(&mut self, limit: usize) -> usize {
+        let state = self.state.wrapping_mul(6_364_136_223_846_793_005);
+        self.state = state.wrapping_add(1_442_695_040_888_963_407);
+        (self.state >> 33).checked_rem(limit as u64).unwrap_or(0) as usize
+    }
+
+    /// Returns one of the parts.
+    fn one_of(&mut self, parts: &[&'static [u8]]) -> &'static [u8] {
+        let index = self.below(parts.len());
+        parts.get(index).copied().unwrap_or(b"")
+    }
+}
+
+/// Appends a field that is not chosen.
+fn push_other(text: &mut Vec<u8>, numbers: &mut Numbers) -> Result<(), AllocError> {
+    let parts = numbers.below(6);
+    if numbers.below(3) == 0 {
+        for _ in 0..parts {
+            text.extend_from_slice(numbers.one_of(BARE))?;
+        }
+        return Ok(());
+    }
+    text.push(b'"')?;
+    for _ in 0..parts {
+        text.extend_from_slice(numbers.one_of(QUOTED))?;
+    }
+    text.push(b'"')?;
+    Ok(())
+}
+
+/// Appends a record.
+fn push_record(text: &mut Vec<u8>, numbers: &mut Numbers) -> Result<(), AllocError> {
+    push_other(text, numbers)?;
+    text.push(b',')?;
+    text.extend_from_slice(numbers.one_of(MADE))?;
+    text.push(b',')?;
+    push_other(text, numbers)?;
+    text.push(b',')?;
+    text.extend_from_slice(numbers.one_of(MADE))?;
+    text.extend_from_slice(numbers.one_of(ENDS))?;
+    Ok(())
+}
+
+/// Returns what is written of a text from `en` to `de`.
+fn regrouped(rt: &impl Abort, alloc: Global, text: &[u8]) -> Vec<u8> {
+    let mut out = Vec::new(alloc);
+    let mut buffer = [0; 1000];
+    let mut reader = text;
+    let result = regroup_at_most(
+        u64::MAX,
+        &RULES,
+        "-",
+        &mut buffer,
+        &mut reader,
+        &mut out,
+        &mut io::sink(),
+        &Locale::en,
+        &Locale::de,
+    );
+    assert!(rt; result.is_ok());
+    out
+}
+
+/// Returns the records that the kit's `csv` reads of a text.
+fn records(alloc: Global, text: &[u8]) -> Result<Vec<ByteRecord>, Fail> {
+    let mut builder = ReaderBuilder::new();
+    builder.has_headers(false).flexible(true);
+    let mut records = Vec::new(alloc);
+    for record in builder.from_reader(alloc, text).into_byte_records() {
+        records.push(record?)?;
+    }
+    Ok(records)
+}
+
+/// Asserts that the fields of what is written are those of the text, but for the numbers in chosen fields. A record with
+/// too few fields is passed on.
+fn assert_fields(rt: &impl Abort, alloc: Global, text: &[u8]) -> Result<(), Fail> {
+    let given = records(alloc, text)?;
+    let written = records(alloc, &regrouped(rt, alloc, text))?;
+    assert_eq!(rt; written.len(), given.len());
+    for (given, written) in given.iter().zip(written.iter()) {
+        assert_eq!(rt; written.len(), given.len());
+        let is_whole = given.len() >= 4;
+        for (at, (given, written)) in given.into_iter().zip(written).enumerate() {
+            if is_whole && matches!(at, 1 | 3) {
+                assert_eq!(rt; Some(written), regrouped_field(given));
+            } else {
+                assert_eq!(rt; written, given);
+            }
+        }
+    }
+    Ok(())
+}
+
+/// Returns what a chosen field becomes, or `None` if [`NUMBERS`] does not have it.
+fn regrouped_field(given: &[u8]) -> Option<&'static [u8]> {
+    for (number, text) in NUMBERS {
+        if *number == given {
+            return Some(text);
+        }
+    }
+    None
+}
+
+#[test]
+fn fields_of_texts_by_hand(rt: HostRuntime) -> Result<(), Fail> {
+    for text in TEXTS {
+        assert_fields(&rt, rt.alloc(), text.as_bytes())?;
+    }
+    Ok(())
+}
+
+#[test]
+fn fields_of_texts_that_are_made(rt: HostRuntime) -> Result<(), Fail> {
+    let mut numbers = Numbers { state: 4180 };
+    for _ in 0..TEXT_COUNT {
+        let mut text = Vec::new(rt.alloc());
+        for _ in 0..RECORD_COUNT {
+            push_record(&mut text, &mut numbers)?;
+        }
+        assert_fields(&rt, rt.alloc(), &text)?;
+    }
+    Ok(())
+}
