@@ -74,7 +74,6 @@ RULES = [
     ("a name of N `|error keeps the N `", "tools/examples.py", r'"a" \* (\d+) \+ "é", "a" \* 255'),
     ("longest line of N bytes", "crates/regroup_filter/src/options.rt", r"MAX_LINE_LEN: u32 = ([\d_]+);"),
     (r"and N letters\.", "bench/src/main.rs", r'"a"\.repeat\((\d+)\)'),
-    ("libraries by N bytes", "bench/README.md", r"`BENCH_SHIFT=(\d+) bench/run`"),
     # Numbers and bits.
     ("number below N", PRINTING, r"FOUR_DIGITS: u128 = (\d+);"),
     ("comparison with N", PRINTING, r"FIVE_DIGITS: u128 = ([\d_]+);"),
@@ -124,6 +123,11 @@ RULES = [
     ("a column of N million", "bench/src/columns.rs", r"ROWS: usize = (\d+)_000_000;"),
     ("for N ms", "bench/src/main.rs", r"from_millis\((\d+)\)"),
     ("measured N times", "bench/src/main.rs", r"PASSES: usize = (\d+);"),
+    ("In N layouts|the N ratios of a cell", "bench/run", "--beside cells", 1),
+    ("after N, 16 and 32 unused", "bench/build.rs", r'String::from\("(\d)"\)'),
+    ("after 0, N and 32 unused", "bench/run", r"for shift in (\d+) \d+;"),
+    ("after 0, 16 and N unused", "bench/run", r"for shift in \d+ (\d+);"),
+    ("takes over N seconds", LINES, r"from_secs\((\d+)\)"),
     ("best of N runs", LINES, r"RUNS: usize = (\d+);"),
     ("numbers of N to 39", LINES, r"ALL_DIGITS: \S+ = (\d+)\.\."),
     ("numbers of 1 to N digits as", LINES, r"ALL_DIGITS: \S+ = 1\.\.=(\d+);"),
@@ -148,7 +152,7 @@ WRITTEN = re.compile(r"<!-- \S+ .*?writes: \w+ -->.*?<!-- end -->", re.DOTALL)
 CASES = re.compile(r"(<!-- tools/counts.py writes: cases -->\n).*?(<!-- end -->)", re.DOTALL)
 
 # Code that no source has: the kit, a setting, code that does not compile, and what the Rust crate alone has.
-CODE = ["rattle-kit-13f", "BENCH_SHIFT=16 bench/run", "buffer.inner[0] = b'0';", "buffer.start = 0;",
+CODE = ["rattle-kit-13f", "buffer.inner[0] = b'0';", "buffer.start = 0;",
         'buffer.starts_with("1")', "BigInt::from(1000).to_formatted_string(&Locale::en)"]
 
 # The parts of the cases of test_oracle, by the line of comment with which each begins.

@@ -67,6 +67,20 @@ impl Format {
     }
 }
 
+/// Whole numbers of as many digits as the texts of the decimals have: the units, with a 1 in place of the zero that a
+/// text below one begins with. None of the units is zero.
+pub fn whole_numbers(units: &[i128], scale: u8) -> Vec<i128> {
+    let one = 10i128.pow(u32::from(scale));
+    let whole = |&units: &i128| {
+        if (1 - one..one).contains(&units) {
+            units + one * units.signum()
+        } else {
+            units
+        }
+    };
+    units.iter().map(whole).collect()
+}
+
 /// The same decimals of `rust_decimal`, where each has one: of up to 96 bits.
 pub fn of_rust_decimal(units: &[i128], scale: u8) -> Option<Vec<Decimal>> {
     let decimal = |units: &i128| Decimal::try_from_i128_with_scale(*units, scale.into()).ok();

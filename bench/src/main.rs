@@ -56,9 +56,6 @@ pub const C_PRINTING: [(&str, u8); 3] = [
 /// Reading through C, which is compared with reading.
 pub const C_READING: &str = "through C, read";
 
-/// The code of printing by `Buffer::of`, beside which decimals are printed.
-const BUFFER_OF: u8 = 5;
-
 /// The operation that groupings are compared by.
 const USED_BUFFER: &str = "used Buffer";
 
@@ -92,7 +89,7 @@ const WAYS: [(&str, bool); 4] = [
 ];
 
 /// How often all cells are measured.
-const PASSES: usize = 4;
+const PASSES: usize = 2;
 
 /// The time that a cell is measured for in a pass.
 const CELL_TIME: Duration = Duration::from_millis(6);
@@ -655,8 +652,8 @@ fn measure_strict_refusing<N: Number>(
     }
 }
 
-/// Measures printing of decimals by `DecimalBuffer::of` beside `Buffer::of` of whole numbers of the same digits,
-/// and beside `rust_decimal`.
+/// Measures printing of decimals by `DecimalBuffer::of` beside `Buffer::of` of the units of decimals that are
+/// whole numbers of as many digits, and beside `rust_decimal`.
 fn measure_printing_decimals(
     name: &str,
     units: &[i128],
@@ -666,9 +663,10 @@ fn measure_printing_decimals(
     let texts = rattle::decimal_texts(units, scale, format.code);
     assert_same_texts(name, &texts, &format.texts(units, scale));
     let theirs = decimals::of_rust_decimal(units, scale);
-    let (units, format) = (black_box(units), format.code);
+    let wholes = decimals::whole_numbers(units, scale);
+    let (units, wholes, format) = (black_box(units), black_box(&wholes), format.code);
     let mut port = || _ = black_box(rattle::print_decimals(units, scale, black_box(format)));
-    let mut whole = || _ = black_box(rattle::print(units, BUFFER_OF, black_box(format)));
+    let mut whole = || _ = black_box(rattle::print_units(wholes, scale, black_box(format)));
     let Some(theirs) = theirs else {
         let [port, reference] = best(units.len(), [&mut port, &mut whole]);
         return Times {
@@ -688,7 +686,7 @@ fn measure_printing_decimals(
     }
 }
 
-/// Measures reading of decimals beside strict reading of whole numbers of the same digits, and beside
+/// Measures reading of decimals beside strict reading of whole numbers of as many digits, and beside
 /// `rust_decimal`, which reads them without separators.
 fn measure_reading_decimals(
     name: &str,
@@ -697,7 +695,8 @@ fn measure_reading_decimals(
     format: &decimals::Format,
 ) -> Times {
     let texts = Texts::from_all(format.texts(units, scale).lines());
-    let wholes = Texts::from_all(rattle::texts(units, 0, format.code).lines());
+    let whole_numbers = decimals::whole_numbers(units, scale);
+    let wholes = Texts::from_all(rattle::texts(&whole_numbers, 0, format.code).lines());
     let theirs = decimals::of_rust_decimal(units, scale);
     let (mut read, mut read_wholes) = (vec![0; units.len()], vec![0; units.len()]);
     let all = BATCH as u64 * (1 + u64::from(scale));
@@ -724,7 +723,7 @@ fn measure_reading_decimals(
             ([port, whole], Some(other))
         }
     };
-    assert!(read == units && read_wholes == units, "{name}");
+    assert!(read == units && read_wholes == whole_numbers, "{name}");
     let [port, reference] = times;
     Times {
         port,
@@ -805,40 +804,63 @@ fn measure_names(name: &str, texts: &Texts) -> Times {
     }
 }
 
+/// What the words of the program ask for.
+#[derive(Default)]
+struct Options {
+    /// What the names of the cells contain.
+    words: Vec<String>,
+    /// Whether cells of one length are left out.
+    is_quick: bool,
+    /// Whether a line is printed for each cell.
+    shows_cells: bool,
+    /// The files with the cells of other layouts of the code.
+    layouts: Vec<String>,
+    /// The file that the cells are written to. No table is then printed.
+    file: Option<String>,
+}
+
 fn main() -> Result<(), Box<dyn Error>> {
-    let mut words = Vec::new();
-    let (mut shows_cells, mut is_quick) = (false, false);
+    let mut options = Options::default();
     let mut arguments = std::env::args().skip(1);
     while let Some(argument) = arguments.next() {
+        let mut next = || arguments.next().ok_or(format!("{argument} needs a word"));
         match argument.as_str() {
-            "--cells" => shows_cells = true,
-            "--quick" => is_quick = true,
-            "--only" => words.push(arguments.next().expect("--only needs a word")),
-            "--lines" => {
-                return lines::measure(&arguments.next().expect("--lines needs a program"));
-            }
-            lines::LINE_TOOL => {
-                let mut name = || arguments.next().expect("two names of locales are needed");
-                return line_tool::run(&name(), &name());
-            }
-            _ => panic!("no such option: {argument}"),
+            "--cells" => options.shows_cells = true,
+            "--quick" => options.is_quick = true,
+            "--only" => options.words.push(next()?),
+            "--to" => options.file = Some(next()?),
+            "--beside" => options.layouts.push(next()?),
+            "--lines" => return lines::measure(&next()?),
+            lines::LINE_TOOL => return line_tool::run(&next()?, &next()?),
+            _ => return Err(format!("no such option: {argument}").into()),
         }
     }
-    let is_whole = words.is_empty() && !is_quick;
+    measure(options)
+}
+
+/// Measures the cells that are wanted, and prints and writes the tables.
+fn measure(options: Options) -> Result<(), Box<dyn Error>> {
+    let is_whole = options.words.is_empty() && !options.layouts.is_empty();
     let mut run = Run {
-        words,
-        is_quick,
+        words: options.words,
+        is_quick: options.is_quick,
         table: Table::default(),
     };
     for _ in 0..PASSES {
         run.measure_all();
     }
-    let table = run.table;
+    let mut table = run.table;
     assert!(!table.is_empty(), "no cell has such a name");
-    if shows_cells {
+    for layout in options.layouts {
+        table.add_layout(&layout)?;
+    }
+    if let Some(file) = options.file {
+        return Ok(table.write(&file)?);
+    }
+    if options.shows_cells {
         table.print_cells();
     }
-    if is_quick {
+    if options.is_quick {
         print!("{}", table.medians_table());
         return Ok(());
     }

@@ -77,6 +77,7 @@ unsafe extern "C" {
         lengths_len: usize,
     ) -> u64;
     fn rattle_print_decimals(units: *const i128, units_len: usize, scale: u8, format: u8) -> u64;
+    fn rattle_print_units(units: *const i128, units_len: usize, scale: u8, format: u8) -> u64;
     fn rattle_texts_decimals(
         units: *const i128,
         units_len: usize,
@@ -161,6 +162,11 @@ fn read_in_way<N: Exported>(
 /// Prints the decimals of the units at a scale, and returns a sum over their texts.
 pub fn print_decimals(units: &[i128], scale: u8, format: u8) -> u64 {
     unsafe { rattle_print_decimals(units.as_ptr(), units.len(), scale, format) }
+}
+
+/// Prints the units of the same decimals as whole numbers, and returns a sum over their texts.
+pub fn print_units(units: &[i128], scale: u8, format: u8) -> u64 {
+    unsafe { rattle_print_units(units.as_ptr(), units.len(), scale, format) }
 }
 
 /// The texts of the decimals of the units at a scale, each with a line feed after it.

@@ -5,6 +5,7 @@ use crate::{
     REFUSE_STRICTLY,
 };
 use std::collections::HashMap;
+use std::error::Error;
 use std::fs;
 use std::io;
 
@@ -32,8 +33,11 @@ const BY_KIND: [&str; 6] = [
     READ_COLUMN,
 ];
 
+/// A ratio of two times of a cell, if it has both.
+type Ratio = fn(&Times) -> Option<f64>;
+
 /// An operation, what its time is compared with, and the ratio.
-type Comparison = (&'static str, &'static str, fn(&Times) -> Option<f64>);
+type Comparison = (&'static str, &'static str, Ratio);
 
 /// The comparisons, in the order of the tables.
 const COMPARISONS: [Comparison; 26] = [
@@ -173,10 +177,33 @@ impl Cell {
     }
 }
 
+/// The times of a cell, for each layout of the code that was measured.
+#[derive(Default)]
+struct Layouts(Vec<Times>);
+
+impl Layouts {
+    /// The median over the layouts of what they all have.
+    fn median(&self, part: impl Fn(&Times) -> Option<f64>) -> Option<f64> {
+        let mut parts: Vec<f64> = self.0.iter().map(part).collect::<Option<_>>()?;
+        parts.sort_by(f64::total_cmp);
+        parts.get(parts.len() / 2).copied()
+    }
+
+    /// The median time of each side.
+    fn times(&self) -> [Option<f64>; 4] {
+        [
+            self.median(|times| Some(times.port)),
+            self.median(|times| times.original),
+            self.median(|times| times.reference),
+            self.median(|times| times.floor),
+        ]
+    }
+}
+
 /// The cells that were measured, in order.
 #[derive(Default)]
 pub struct Table {
-    rows: Vec<(Cell, Times)>,
+    rows: Vec<(Cell, Layouts)>,
     places: HashMap<String, usize>,
 }
 
@@ -185,9 +212,30 @@ impl Table {
     pub fn record(&mut self, cell: &Cell, times: Times) {
         let place = *self.places.entry(cell.name()).or_insert(self.rows.len());
         match self.rows.get_mut(place) {
-            Some((_, best)) => *best = best.best(times),
-            None => self.rows.push((cell.clone(), times)),
+            Some((_, layouts)) => layouts.0[0] = layouts.0[0].best(times),
+            None => self.rows.push((cell.clone(), Layouts(vec![times]))),
         }
+    }
+
+    /// Adds the times of each cell in another layout of the code, as [`write`](Table::write) wrote them.
+    pub fn add_layout(&mut self, path: &str) -> Result<(), Box<dyn Error>> {
+        for line in fs::read_to_string(path)?.lines().skip(1) {
+            let fields = Vec::from_iter(line.split('\t'));
+            let (name, times) = fields
+                .split_at_checked(4)
+                .ok_or("a line has too few fields")?;
+            let place = *self.places.get(&name.join(" ")).ok_or("a file has a cell that was not measured")?;
+            let [_, port, original, reference, floor] = times else {
+                return Err("a line does not have nine fields".into());
+            };
+            self.rows[place].1.0.push(Times {
+                port: port.parse()?,
+                original: original.parse().ok(),
+                reference: reference.parse().ok(),
+                floor: floor.parse().ok(),
+            });
+        }
+        Ok(())
     }
 
     /// Whether no cell was measured.
@@ -201,7 +249,8 @@ impl Table {
             "| Operation | Format | Type | Digits | Port, ns | Original, ns | Reference, ns | Plain digits, ns | Port / original | Port / reference | Port / plain |"
         );
         println!("|---|---|---|---|---|---|---|---|---|---|---|");
-        for (cell, times) in &self.rows {
+        for (cell, layouts) in &self.rows {
+            let [port, original, reference, floor] = layouts.times();
             let shown = |number: Option<f64>, places: usize| {
                 number.map_or(String::new(), |number| format!("{number:.places$}"))
             };
@@ -211,13 +260,13 @@ impl Table {
                 cell.format,
                 cell.type_name,
                 cell.sizes,
-                shown(Some(times.port), 1),
-                shown(times.original, 1),
-                shown(times.reference, 1),
-                shown(times.floor, 1),
-                shown(times.ratio(), 2),
-                shown(times.ratio_to_reference(), 2),
-                shown(times.ratio_to_floor(), 2),
+                shown(port, 1),
+                shown(original, 1),
+                shown(reference, 1),
+                shown(floor, 1),
+                shown(layouts.median(Times::ratio), 2),
+                shown(layouts.median(Times::ratio_to_reference), 2),
+                shown(layouts.median(Times::ratio_to_floor), 2),
             );
         }
     }
@@ -272,7 +321,7 @@ impl Table {
     /// compared with, and with its ratios.
     fn for_each_kind(&self, mut show: impl FnMut(&str, &str, Summary)) {
         for (operation, over, ratio) in COMPARISONS {
-            let is_here = |cell: &Cell, _: &Times| cell.operation == operation;
+            let is_here = |cell: &Cell, _: &Layouts| cell.operation == operation;
             let kinds = if BY_KIND.contains(&operation) {
                 self.distinct(is_here, |cell| cell.group)
             } else {
@@ -301,8 +350,9 @@ impl Table {
 
     /// The same of one comparison, if a cell has it.
     fn digits_table(&self, (operation, over, ratio): Comparison) -> Option<String> {
-        let is_here =
-            |cell: &Cell, times: &Times| cell.operation == operation && ratio(times).is_some();
+        let is_here = |cell: &Cell, layouts: &Layouts| {
+            cell.operation == operation && layouts.median(ratio).is_some()
+        };
         let mut groups = self.distinct(is_here, |cell| cell.group);
         groups.sort_by_key(|group| GROUPS.iter().position(|other| other == group));
         let formats = self.distinct(is_here, |cell| cell.format);
@@ -329,14 +379,14 @@ impl Table {
     /// A part of those cells, each value once, in order.
     fn distinct(
         &self,
-        is_wanted: impl Fn(&Cell, &Times) -> bool,
+        is_wanted: impl Fn(&Cell, &Layouts) -> bool,
         part: impl Fn(&Cell) -> &'static str,
     ) -> Vec<&'static str> {
         let mut parts = Vec::new();
         for (cell, _) in self
             .rows
             .iter()
-            .filter(|(cell, times)| is_wanted(cell, times))
+            .filter(|(cell, layouts)| is_wanted(cell, layouts))
         {
             if !parts.contains(&part(cell)) {
                 parts.push(part(cell));
@@ -346,13 +396,7 @@ impl Table {
     }
 
     /// The median and the highest ratio of an operation, a group and formats.
-    fn entry(
-        &self,
-        operation: &str,
-        group: &str,
-        formats: &[&str],
-        ratio: fn(&Times) -> Option<f64>,
-    ) -> String {
+    fn entry(&self, operation: &str, group: &str, formats: &[&str], ratio: Ratio) -> String {
         let is_here = |cell: &Cell| {
             cell.operation == operation && cell.group == group && formats.contains(&cell.format)
         };
@@ -363,14 +407,10 @@ impl Table {
     }
 
     /// The lowest, the median and the highest ratio of some cells.
-    fn summary(
-        &self,
-        is_here: impl Fn(&Cell) -> bool,
-        ratio: fn(&Times) -> Option<f64>,
-    ) -> Option<Summary<'_>> {
+    fn summary(&self, is_here: impl Fn(&Cell) -> bool, ratio: Ratio) -> Option<Summary<'_>> {
         let here = self.rows.iter().filter(|(cell, _)| is_here(cell));
         let mut ratios =
-            Vec::from_iter(here.filter_map(|(cell, times)| Some((ratio(times)?, cell))));
+            Vec::from_iter(here.filter_map(|(cell, layouts)| Some((layouts.median(ratio)?, cell))));
         ratios.sort_by(|a, b| a.0.total_cmp(&b.0));
         let (highest, cell) = *ratios.last()?;
         Some(Summary {
@@ -386,14 +426,9 @@ impl Table {
         let mut text = String::from(
             "operation\tformat\ttype\tdigits\tgroup\tport\toriginal\treference\tplain\n",
         );
-        for (cell, times) in &self.rows {
-            let Times {
-                port,
-                original,
-                reference,
-                floor,
-            } = times;
-            let [original, reference, floor] = [original, reference, floor]
+        for (cell, layouts) in &self.rows {
+            let [port, original, reference, floor] = layouts
+                .times()
                 .map(|time| time.map_or(String::new(), |time| format!("{time:.2}")));
             let Cell {
                 operation,
@@ -403,7 +438,7 @@ impl Table {
                 group,
             } = cell;
             text += &format!(
-                "{operation}\t{format}\t{type_name}\t{sizes}\t{group}\t{port:.2}\t{original}\t{reference}\t{floor}\n"
+                "{operation}\t{format}\t{type_name}\t{sizes}\t{group}\t{port}\t{original}\t{reference}\t{floor}\n"
             );
         }
         fs::write(path, text)

@@ -5,27 +5,49 @@ use crate::checksum::Checksum;
 use crate::formats::{built, locale};
 use crate::halves::Halves;
 use crate::printing::{Sink, copy_lines};
-use num_format::Format;
+use num_format::{Buffer, Format};
 use num_format_decimal::{Decimal, DecimalBuffer};
 use std::alloc::Global;
 use std::str::from_utf8_unchecked;
 
-/// Prints one decimal into a new buffer, in place of the last one.
-#[inline(never)]
-fn print_one<F: Format>(buffer: &mut DecimalBuffer, decimal: &Decimal, format: &F) {
-    *buffer = DecimalBuffer::of(decimal, format);
+/// What is printed of a decimal.
+trait Printer {
+    /// Prints it into a new buffer and passes the text on, and returns whether memory sufficed.
+    fn print<F: Format, K: Sink>(decimal: &Decimal, format: &F, sink: &mut K) -> bool;
 }
 
-/// Prints the decimals of the units at a scale and passes each text on, and returns whether the scale is
-/// one and memory sufficed.
-fn print_each<F: Format, K: Sink>(units: &[Halves], scale: u8, format: &F, sink: &mut K) -> bool {
-    let mut buffer = DecimalBuffer::of(&Decimal::from(0u8), format);
+/// All of it.
+struct Whole;
+
+impl Printer for Whole {
+    #[inline(never)]
+    fn print<F: Format, K: Sink>(decimal: &Decimal, format: &F, sink: &mut K) -> bool {
+        sink.receive(DecimalBuffer::of(decimal, format).as_bytes())
+    }
+}
+
+/// Its units, as a whole number.
+struct Units;
+
+impl Printer for Units {
+    #[inline(never)]
+    fn print<F: Format, K: Sink>(decimal: &Decimal, format: &F, sink: &mut K) -> bool {
+        sink.receive(Buffer::of(&decimal.units(), format).as_bytes())
+    }
+}
+
+/// Prints the decimals of the units at a scale, and returns whether the scale is one and memory sufficed.
+fn print_each<P, F, K>(units: &[Halves], scale: u8, format: &F, sink: &mut K) -> bool
+where
+    P: Printer,
+    F: Format,
+    K: Sink,
+{
     for halves in units {
         let Ok(decimal) = Decimal::new(i128::from(*halves), scale) else {
             return false;
         };
-        print_one(&mut buffer, &decimal, format);
-        if !sink.receive(buffer.as_bytes()) {
+        if !P::print(&decimal, format, sink) {
             return false;
         }
     }
@@ -33,30 +55,40 @@ fn print_each<F: Format, K: Sink>(units: &[Halves], scale: u8, format: &F, sink:
 }
 
 /// Prints under the format of a code.
-fn print_under<K: Sink>(units: &[Halves], scale: u8, format: u8, sink: &mut K) -> bool {
+fn print_under<P: Printer, K: Sink>(units: &[Halves], scale: u8, format: u8, sink: &mut K) -> bool {
     if let Some(locale) = locale(format) {
-        return print_each(units, scale, &locale, sink);
+        return print_each::<P, _, _>(units, scale, &locale, sink);
     }
     match built(format) {
-        Ok(format) => print_each(units, scale, &format, sink),
+        Ok(format) => print_each::<P, _, _>(units, scale, &format, sink),
         Err(_) => false,
     }
 }
 
-/// Prints decimals, and returns a sum over their texts, or 0 if there is no such scale.
-pub fn print(units: &[Halves], scale: u8, format: u8) -> u64 {
+/// Prints by a printer, and returns a sum over the texts, or 0 if there is no such scale.
+fn print_by<P: Printer>(units: &[Halves], scale: u8, format: u8) -> u64 {
     let mut checksum = Checksum::new();
-    if !print_under(units, scale, format, &mut checksum) {
+    if !print_under::<P, _>(units, scale, format, &mut checksum) {
         return 0;
     }
     checksum.sum()
+}
+
+/// Prints decimals, and returns a sum over their texts, or 0 if there is no such scale.
+pub fn print(units: &[Halves], scale: u8, format: u8) -> u64 {
+    print_by::<Whole>(units, scale, format)
+}
+
+/// Prints the units of the same decimals as whole numbers, and returns the same.
+pub fn print_units(units: &[Halves], scale: u8, format: u8) -> u64 {
+    print_by::<Units>(units, scale, format)
 }
 
 /// Writes the texts of decimals, with a line feed after each, to the beginning of `texts`, and returns
 /// their length in bytes, or 0 if memory or `texts` did not suffice.
 pub fn texts(alloc: Global, units: &[Halves], scale: u8, format: u8, texts: &mut [u8]) -> usize {
     let mut lines = Vec::new(alloc);
-    if !print_under(units, scale, format, &mut lines) {
+    if !print_under::<Whole, _>(units, scale, format, &mut lines) {
         return 0;
     }
     copy_lines(&lines, texts)

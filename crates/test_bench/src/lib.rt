@@ -252,6 +252,12 @@ pub extern "C" fn rattle_print_decimals(units: &[Halves], scale: u8, format: u8)
     decimals::print(units, scale, format)
 }
 
+/// Prints the units of the decimals as whole numbers, and returns a sum over their texts.
+#[unsafe(no_mangle)]
+pub extern "C" fn rattle_print_units(units: &[Halves], scale: u8, format: u8) -> u64 {
+    decimals::print_units(units, scale, format)
+}
+
 /// Writes the texts of the decimals of the units at a scale, and returns their length in bytes.
 #[unsafe(no_mangle)]
 pub extern "C" fn rattle_texts_decimals(

@@ -18,9 +18,6 @@ const NEW_STRING: u8 = 2;
 /// The code of printing into an array of bytes.
 const ARRAY: u8 = 4;
 
-/// The code of printing by `Buffer::of`.
-const BUFFER_OF: u8 = 5;
-
 /// The length in bytes of the longest text of a number.
 const MAX: usize = 191;
 
@@ -61,24 +58,6 @@ impl Printer for NewBuffer {
     fn print<N: ToFormattedStr, F: Format>(&mut self, n: &N, format: &F) -> bool {
         self.buffer = Buffer::new();
         self.buffer.write_formatted(n, format) > 0
-    }
-
-    fn text(&self) -> &[u8] {
-        self.buffer.as_bytes()
-    }
-}
-
-/// A buffer that is made of each number.
-#[derive(Drop)]
-struct BufferOf {
-    buffer: Buffer,
-}
-
-impl Printer for BufferOf {
-    #[inline(never)]
-    fn print<N: ToFormattedStr, F: Format>(&mut self, n: &N, format: &F) -> bool {
-        self.buffer = Buffer::of(n, format);
-        !self.buffer.is_empty()
     }
 
     fn text(&self) -> &[u8] {
@@ -232,10 +211,6 @@ where
         NEW_STRING => {
             let text = String::new(alloc);
             print_under::<N, _, _, _>(numbers, format, &mut NewString { alloc, text }, sink)
-        }
-        BUFFER_OF => {
-            let buffer = Buffer::new();
-            print_under::<N, _, _, _>(numbers, format, &mut BufferOf { buffer }, sink)
         }
         ARRAY => {
             let (bytes, len) = ([0; MAX], 0);
