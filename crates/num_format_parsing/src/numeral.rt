@@ -45,6 +45,18 @@ pub(crate) fn has_numeral_in_symbol(symbol: &str) -> bool
     has_other_numeral(symbol)
 }
 
+/// Returns the same of a separator of any length. The loop is in place, so that none is left where the compiler knows the
+/// separator.
+#[inline(always)]
+pub(crate) fn has_numeral_in_separator(separator: &str) -> bool
+    ensures { result ≡ list_any is_other_numeral (chars separator.now) }
+{
+    if is_ascii(separator.as_bytes()) {
+        return false;
+    }
+    has_other_numeral(separator)
+}
+
 /// Returns whether a text is one byte of ASCII.
 #[inline(always)]
 fn is_ascii_byte(text: &[u8]) -> bool
@@ -66,6 +78,7 @@ fn has_other_numeral(text: &str) -> bool
 }
 
 /// Returns whether all bytes are ASCII.
+#[inline(always)]
 fn is_ascii(bytes: &[u8]) -> bool
     ensures { result ≡ list_all is_ascii bytes.now }
 {

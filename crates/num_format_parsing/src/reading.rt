@@ -7,7 +7,7 @@ ghost use Rattle.num_format_text.specs.Format.{FormatData};
 ghost use Rattle.num_format_parsing.specs.Parts.{GroupsBy, HasReadNumber, HasReading, HasReadDigits, HasReadGroup, HasReadGroups, IsReadWhole, LacksGroup, LacksGroups, WriteWhole};
 ghost use Rattle.num_format_parsing.specs.Shapes.{IsPlainStart, BeginsWithDigit, byte_figures};
 
-use crate::numeral::{has_digit_in_symbol, has_numeral_in_symbol};
+use crate::numeral::{has_digit_in_symbol, has_numeral_in_separator, has_numeral_in_symbol};
 use crate::parsing::{Accumulator, SAFE_FIGURES};
 use crate::strict::{begins_with, begins_with_digit};
 use num_format_text::{Format, Grouping};
@@ -219,7 +219,7 @@ fn read_grouped<F: Format, A: Accumulator>(
     match read_by(text, start, first, bytes, groups) {
         Ok(whole) => {
             // Only a text that spells a number is worth a look at the characters of the separator.
-            if has_numeral_in_symbol(separator) {
+            if has_numeral_in_separator(separator) {
                 return Reading::Spelled;
             }
             spelled(text, start, whole, most)

@@ -83,11 +83,19 @@ pub(crate) fn parse_strict<N: Sealed, F: Format>(
     }
     // Most texts are short: their digits fit 64 bits, which take less time than 128. Whether a type is wide is
     // known where the code is compiled.
-    if N::is_wide() && bytes.len() > SAFE_FIGURES {
+    if N::is_wide() && seems_wide(bytes) {
         parse_wide(bytes, is_text, format)
     } else {
         parse_by::<N, F, u64>(bytes, is_text, format)
     }
+}
+
+/// Returns whether a text seems to have more digits than fit 64 bits. One with a separator before its last three digits
+/// has so many only if it has more than [`LONGEST_GROUPS`] bytes.
+#[inline(always)]
+fn seems_wide(bytes: &[u8]) -> bool {
+    let len = bytes.len();
+    len > SAFE_FIGURES && (len > LONGEST_GROUPS || bytes[len - 4].is_ascii_digit())
 }
 
 /// Returns the same, by way of 128 bits.

@@ -87,8 +87,8 @@ read_by-requires-clause-some g c =
 pub read_by-requires-clause-plain : goal.read_by-requires-clause-plain
 read_by-requires-clause-plain g c = figures-none c.as_bytes-bytes.result.now (sym c.has_digit_in_symbol.ensures ∙ c.if-has_digit_in_symbol.false)
 
-pub returns-then-has_numeral_in_symbol : goal.returns-then-has_numeral_in_symbol
-returns-then-has_numeral_in_symbol g c =
+pub returns-then-has_numeral_in_separator : goal.returns-then-has_numeral_in_separator
+returns-then-has_numeral_in_separator g c =
     let f = g.F.Format.answers c.args.format.now in
     let t = c.args.text.now in
     let start = c.args.start in
@@ -102,8 +102,8 @@ returns-then-has_numeral_in_symbol g c =
     let sizes = by.found s (drop start t) read.found (omega (arith, c.if-text-start.false, length-drop start t)) in
     spells-groups f t s start groups.last groups.size c.requires.sign separator separator_utf8 plain c.requires.begin read.found sizes.0 sizes.1
 
-pub returns-else-has_numeral_in_symbol : goal.returns-else-has_numeral_in_symbol
-returns-else-has_numeral_in_symbol g c =
+pub returns-else-has_numeral_in_separator : goal.returns-else-has_numeral_in_separator
+returns-else-has_numeral_in_separator g c =
     let f = g.F.Format.answers c.args.format.now in
     let t = c.args.text.now in
     let start = c.args.start in
@@ -120,7 +120,7 @@ returns-else-has_numeral_in_symbol g c =
     let is_due = stands f.grouping (length ds) in
     let text = read.found.text is_due sizes.0 sizes.1 in
     let byte = first-byte t start is_due s ds c.requires.begin text in
-    let no_other : list_any is_other_numeral (chars s) ≡ false = subst (λ xs. list_any is_other_numeral (chars xs) ≡ false) (sym c.as_bytes-bytes.ensures.value) (sym c.has_numeral_in_symbol.ensures ∙ c.if-has_numeral_in_symbol.false) in
+    let no_other : list_any is_other_numeral (chars s) ≡ false = subst (λ xs. list_any is_other_numeral (chars xs) ≡ false) (sym c.as_bytes-bytes.ensures.value) (sym c.has_numeral_in_separator.ensures ∙ c.if-has_numeral_in_separator.false) in
     c.spelled.ensures f (record {
       utf8 = both.0;
       spelled = both.1;

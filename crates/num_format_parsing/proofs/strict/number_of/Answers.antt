@@ -1,4 +1,4 @@
-use Rattle.std.proofs.Common.{◌≡◌, ◌≤◌, ◌-◌, ◌∙◌, ap, arith, refl, sym, subst}
+use Rattle.std.proofs.Common.{◌≤◌, ◌-◌, ◌∙◌, ap, refl, sym, subst}
 use Rattle.std.specs.Prelude.{if◌then◌else◌}
 use Rattle.num_format_int.specs.Kind.{IsSignedValueOf, signed_number}
 use Rattle.num_format_parsing.specs.Reading.{is_negative_text}
