@@ -4,7 +4,7 @@
 //! The units of the decimal that is returned are what the digits of the text write, and its scale is the only one
 //! at which the text spells them. Under a format for which [`marks_decimals`](crate::marks_decimals) is true, each
 //! text that spells a decimal is parsed, and the law [`exact_under`](crate::laws::exact_under) says so.
-ghost use Rattle.std.specs.Prelude.{◌≡◌, ◌↔◌, ◌≤◌, length, drop, Ok, Err, Some, IsUtf8, MatchResult, ℕ, List, string_bytes};
+ghost use Rattle.std.specs.Prelude.{◌≡◌, ◌↔◌, ◌≤◌, length, drop, Ok, Err, Some, IsTrue, IsUtf8, IfSome, MatchResult, ℕ, List, string_bytes};
 ghost use Rattle.num_format_decimal.specs.FixedPoint.{FixedPoint};
 ghost use Rattle.num_format_decimal.specs.Parsing.{IsAtScaleCause, IsDecimalCause, ParsesAtScale, ParsesDecimal, SpellsNone, after_mark, at_scale_message_of, parse_message_of, unexpected_in_decimal};
 ghost use Rattle.num_format_decimal.specs.declared.parsing.ParseAtScaleError.{ParseAtScaleError};
@@ -18,7 +18,9 @@ use crate::reading::{ends_in_group, ends_in_two_decimals, read, read_plain, read
 use crate::rounding::Rounding;
 use crate::spelling::find_scale;
 use num_format_parsing::FromFormattedStr;
-use num_format_parsing::strict::{begins_with, expected_end, has_digit, printed_separator};
+use num_format_parsing::strict::{
+    begins_with, expected_end, has_digit, is_utf8, printed_separator,
+};
 use num_format_text::Format;
 use std::fmt;
 
@@ -117,7 +119,7 @@ impl Decimal {
             ↔ IsDecimalCause (F.answers format.now) text.now e }
         ensures utf8 { ¬ (result ≡ Err cause.NotUtf8) }
     {
-        parse_decimal(text.as_bytes(), format)
+        parse_decimal(text.as_bytes(), true, format)
     }
 
     /// Returns the decimal that the text of these bytes spells, as [`from_strict_str`](Decimal::from_strict_str)
@@ -140,10 +142,7 @@ impl Decimal {
         ensures refused { (e : ParseDecimalError) → (result ≡ Err e)
             ↔ IsDecimalCause (F.answers format.now) bytes.now e }
     {
-        match str::from_utf8(bytes) {
-            Ok(text) => Decimal::from_strict_str(text, format),
-            Err(_) => Err(ParseDecimalError::NotUtf8),
-        }
+        parse_decimal(bytes, false, format)
     }
 
     /// Returns the decimal that the text spells at another scale: the same number, or an error.
@@ -221,52 +220,63 @@ impl ParseDecimal for String {
 
 /// Returns the decimal that a text spells, or the first cause for which it is refused.
 ///
-/// Most texts are short. It is inlined, so that what is read of them stays in registers.
+/// Where the caller knows that the bytes are UTF-8, that is not tested again.
 #[inline(always)]
-fn parse_decimal<F: Format>(text: &[u8], format: &F) -> Result<Decimal, ParseDecimalError>
-    requires { IsUtf8 text.now }
+fn parse_decimal<F: Format>(
+    text: &[u8],
+    is_text: bool,
+    format: &F,
+) -> Result<Decimal, ParseDecimalError>
+    requires { IsTrue is_text → IsUtf8 text.now }
     ensures { MatchResult result
         (λ d. ParsesDecimal (F.answers format.now) text.now d)
         (λ e. IsDecimalCause (F.answers format.now) text.now e) }
 {
+    if let Some(decimal) = parse_directly(text, format) {
+        return Ok(decimal);
+    }
+    parse_slowly(text, is_text, format)
+}
+
+/// Returns the decimal that a text spells, or `None` if one pass does not tell.
+///
+/// Most texts are short. It is inlined, so that what is read of them stays in registers.
+#[inline(always)]
+fn parse_directly<F: Format>(text: &[u8], format: &F) -> Option<Decimal>
+    ensures { IfSome result (λ d. ParsesDecimal (F.answers format.now) text.now d) }
+{
     if ends_in_group(text, format) {
         if let Some(decimal) = read_whole_number(text, format) {
-            return Ok(decimal);
+            return Some(decimal);
         }
     }
     if !ends_in_two_decimals(text, format) {
         if let Some(plain) = read_plain(text, format) {
             if let Some(units) = with_sign(plain.is_negative, plain.magnitude as u128) {
-                return Ok(Decimal::of(units, plain.scale));
+                return Some(Decimal::of(units, plain.scale));
             }
         }
     }
-    parse_parts(text, format)
+    read(text, format)
 }
 
-/// Returns the same of a text with separators and decimals, or of a long one.
-#[inline(always)]
-fn parse_parts<F: Format>(text: &[u8], format: &F) -> Result<Decimal, ParseDecimalError>
-    requires { IsUtf8 text.now }
-    ensures { MatchResult result
-        (λ d. ParsesDecimal (F.answers format.now) text.now d)
-        (λ e. IsDecimalCause (F.answers format.now) text.now e) }
-{
-    if let Some(decimal) = read(text, format) {
-        return Ok(decimal);
-    }
-    parse_slowly(text, format)
-}
-
-/// Returns the same, after more than one pass over the text.
+/// Returns the decimal that a text spells, or the first cause for which it is refused, after more than one pass over it.
 #[cold]
 #[inline(never)]
-fn parse_slowly<F: Format>(text: &[u8], format: &F) -> Result<Decimal, ParseDecimalError>
-    requires { IsUtf8 text.now }
+fn parse_slowly<F: Format>(
+    text: &[u8],
+    is_text: bool,
+    format: &F,
+) -> Result<Decimal, ParseDecimalError>
+    requires { IsTrue is_text → IsUtf8 text.now }
     ensures { MatchResult result
         (λ d. ParsesDecimal (F.answers format.now) text.now d)
         (λ e. IsDecimalCause (F.answers format.now) text.now e) }
 {
+    // A text that is read directly spells a decimal, so it is UTF-8.
+    if !is_utf8(text, is_text) {
+        return Err(ParseDecimalError::NotUtf8);
+    }
     let Some(scale) = find_scale(text, format) else {
         return Err(refusal(text, format));
     };

@@ -1,10 +1,13 @@
-use Rattle.std.proofs.Common.{◌≡◌, Ok, rules, subst}
-use Rattle.std.specs.Prelude.{◌↔◌}
-use Rattle.num_format_decimal.specs.Parsing.{ParsesDecimal}
+use Rattle.num_format_decimal.proofs.CauseLemmas.{JudgedDecimal, decimal-exactly, error-exactly}
 use Rattle.num_format_decimal.proofs.decimal.Decimal.from_strict_bytes.Goals as goal
 
-pub returns-in-Ok-clause-decimal : goal.returns-in-Ok-clause-decimal
-returns-in-Ok-clause-decimal g c = λ d.
+pub returns : goal.returns
+returns g c =
     let f = g.F.Format.answers c.args.format.now in
-    let same : c.in-Ok.text.now ≡ c.args.bytes.now = search rules in
-    subst (λ t. (c.from_strict_str.result ≡ Ok d) ↔ ParsesDecimal f t d) same (c.from_strict_str.ensures.decimal d)
+    let t = c.args.bytes.now in
+    let r = c.parse_decimal.result in
+    let judged : JudgedDecimal f t r = c.parse_decimal.ensures in
+    record {
+      decimal = λ d. decimal-exactly f t r d judged;
+      refused = λ e. error-exactly f t r e judged;
+    }
