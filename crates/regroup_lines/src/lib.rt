@@ -36,6 +36,7 @@ ghost use Rattle.regroup_lines.specs.LineFaults.{line_fault_of};
 ghost use Rattle.regroup_lines.specs.Lines.{body_written, fault_named, fault_written, input_end, lenient, numbers_replaced, passes_mark, place_written, span_after, text_named, text_written, with_span};
 ghost use Rattle.regroup_lines.specs.Messages.{fault_message, messages};
 ghost use Rattle.regroup_lines.specs.Places.{place_of};
+ghost use Rattle.regroup_lines.specs.declared.rules.Span.TheVariants.{Trimmed};
 ghost use Rattle.regroup_lines.specs.Sending.{EndsInput, Names, Regroups, RegroupsNaming, SendsLine, SendsTold};
 
 use crate::csv::regroup_csv;
@@ -194,7 +195,7 @@ pub fn regroup_at_most<R: Read, W: Write, E: Write, F: Format, G: Format>(
             Piece::Line(place) => {
                 let text = input.bytes(place);
                 has_faults |= regroup_line(&now, name, text, lines, w, e, from, to)?;
-                span = span.after_line(rules.line_end, text);
+                span.pass_line(rules.line_end, text);
             }
             Piece::Rest(place) => {
                 let rest = input.bytes(place);
@@ -202,7 +203,7 @@ pub fn regroup_at_most<R: Read, W: Write, E: Write, F: Format, G: Format>(
                     return finish(rules, span, name, count, has_faults, e, from);
                 }
                 has_faults |= regroup_line(&now, name, rest, lines, w, e, from, to)?;
-                span = span.after_line(rules.line_end, rest);
+                span.pass_line(rules.line_end, rest);
                 return finish(rules, span, name, lines, has_faults, e, from);
             }
             Piece::TooLong => {
@@ -352,13 +353,13 @@ fn pass_long<'a, R: Read, W: Write>(
             Ok(Piece::Line(place)) => {
                 let text = input.bytes(place);
                 pass_on(text, rules.line_end, w).or(Err(RegroupFault::Write))?;
-                *span = span.after_line(rules.line_end, text);
+                span.pass_line(rules.line_end, text);
                 return Ok(false);
             }
             Ok(Piece::Rest(place)) => {
                 let text = input.bytes(place);
                 pass_on(text, rules.line_end, w).or(Err(RegroupFault::Write))?;
-                *span = span.after_line(rules.line_end, text);
+                span.pass_line(rules.line_end, text);
                 return Ok(true);
             }
             Ok(Piece::TooLong) => send_held(rules.line_end, input, span, w)?,
@@ -437,7 +438,7 @@ fn regroup_marked<'a, W: Write, F: Format, G: Format>(
 
 /// Sends a line with its numbers regrouped, and the byte that ends it.
 ///
-/// It is inlined, so that a line that is a number alone takes no call for its span.
+/// It is inlined, so that a line that is a number alone takes neither a call for its span nor a jump through a table.
 #[inline(always)]
 fn regroup_numbers<'a, W: Write, F: Format, G: Format>(
     rules: &Rules,
@@ -450,12 +451,33 @@ fn regroup_numbers<'a, W: Write, F: Format, G: Format>(
     ensures { SendsLine rules.now.line_end (numbers_replaced rules.now.span rules.now (F.answers from.now) (G.answers to.now) number text.now)
         (W.contents w.old) (W.contents w.new) (result_map_both (λ sent. sent) line_fault_of result) }
 {
-    let whole = 0..text.len();
     match &rules.span {
-        Span::Line => regroup_place(rules, text, whole, number, w, from, to),
-        Span::Trimmed => regroup_place(rules, text, trim(text, whole), number, w, from, to),
+        Span::Trimmed => {
+            let place = trim(text, 0..text.len());
+            regroup_place(rules, text, place, number, w, from, to)
+        }
+        _ => regroup_span(rules, text, number, w, from, to),
+    }
+}
+
+/// Does the same of the other spans: all bytes of the line, or fields.
+#[inline(never)]
+fn regroup_span<'a, W: Write, F: Format, G: Format>(
+    rules: &Rules,
+    text: &'a [u8],
+    number: u64,
+    w: &mut W,
+    from: &F,
+    to: &G,
+) -> Result<(), LineFault<'a>>
+    requires { ¬ (rules.now.span ≡ Trimmed) }
+    ensures { SendsLine rules.now.line_end (numbers_replaced rules.now.span rules.now (F.answers from.now) (G.answers to.now) number text.now)
+        (W.contents w.old) (W.contents w.new) (result_map_both (λ sent. sent) line_fault_of result) }
+{
+    match &rules.span {
         Span::Fields(fields) => regroup_fields(rules, fields, text, number, w, from, to),
         Span::Csv(records) => regroup_csv(rules, records, text, number, w, from, to),
+        _ => regroup_place(rules, text, 0..text.len(), number, w, from, to),
     }
 }
 

@@ -15,7 +15,6 @@ use num_format::to_formatted_string::write_whole;
 use num_format::{Buffer, Format};
 use num_format_decimal::{Decimal, DecimalBuffer};
 use regroup_shared::MAX_SENT_LINE_LEN;
-use std::io;
 use std::io::Write;
 
 /// The most bytes of a short line, with the byte that ends it.
@@ -29,6 +28,12 @@ pub(crate) enum Number {
     /// The decimal of strict reading.
     Decimal(Decimal),
 }
+
+/// A write failed, or wrote no bytes.
+///
+/// Which error it was is not kept, since no fault names it, and each call would copy the space of an error of std.
+#[derive(Clone, Copy)]
+pub(crate) struct Unsent;
 
 /// The bytes of a line around its number.
 #[derive(Clone, Copy)]
@@ -69,13 +74,13 @@ impl Number {
     ///
     /// # Errors
     ///
-    /// Returns the error of the first write that fails, also of one that was interrupted, or that writes no bytes.
+    /// Returns an error if a write fails, also where it was interrupted, or writes no bytes.
     pub(crate) fn send<W: Write, G: Format>(
         &self,
         around: &Around<'_>,
         w: &mut W,
         to: &G,
-    ) -> io::Result<()>
+    ) -> Result<(), Unsent>
         ensures { Sends result (W.contents w.old) (W.contents w.new)
             (around.now.before.now ++ (number_text (G.answers to.now) self.now ++ around.now.after.now)) }
     {
@@ -93,7 +98,7 @@ impl Number {
     ///
     /// # Errors
     ///
-    /// Returns the error of the first write that fails, also of one that was interrupted, or that writes no bytes.
+    /// Returns an error if a write fails, also where it was interrupted, or writes no bytes.
     #[inline(always)]
     pub(crate) fn send_line<W: Write, G: Format>(
         &self,
@@ -101,17 +106,17 @@ impl Number {
         line_end: u8,
         w: &mut W,
         to: &G,
-    ) -> io::Result<()>
+    ) -> Result<(), Unsent>
         ensures { Sends result (W.contents w.old) (W.contents w.new)
             (ended_by line_end (around.now.before.now ++ (number_text (G.answers to.now) self.now ++ around.now.after.now))) }
     {
         match self {
-            Number::Whole(value) => send_line_between(
-                around,
-                Buffer::of(value, to).as_str(),
-                line_end,
-                w,
-            ),
+            Number::Whole(value) => {
+                // The compiler would copy the result of `Buffer::of` here.
+                let mut buffer = Buffer::new();
+                buffer.write_formatted(value, to);
+                send_line_between(around, buffer.as_str(), line_end, w)
+            }
             Number::Decimal(value) => send_line_between(
                 around,
                 DecimalBuffer::of(value, to).as_str(),
@@ -126,16 +131,15 @@ impl Number {
 ///
 /// # Errors
 ///
-/// Returns the error of the first write that fails, also of one that was interrupted, or that writes no bytes.
+/// Returns an error if a write fails, also where it was interrupted, or writes no bytes.
 #[tactic(auto, using(crate::proofs::AroundLemmas::around_first, crate::proofs::AroundLemmas::around_second, crate::proofs::AroundLemmas::around_third, crate::proofs::AroundLemmas::around_whole))]
-fn send_between<W: Write>(around: &Around<'_>, text: &str, w: &mut W) -> io::Result<()>
+fn send_between<W: Write>(around: &Around<'_>, text: &str, w: &mut W) -> Result<(), Unsent>
     ensures { Sends result (W.contents w.old) (W.contents w.new)
         (around.now.before.now ++ (text.now ++ around.now.after.now)) }
 {
-    write_whole(around.before, w)?;
-    write_whole(text.as_bytes(), w)?;
-    write_whole(around.after, w)?;
-    Ok(())
+    send_whole(around.before, w)?;
+    send_whole(text.as_bytes(), w)?;
+    send_whole(around.after, w)
 }
 
 /// Does the same, and sends the byte that ends the line. A text with nothing around it is sent with that byte, by one write
@@ -143,14 +147,14 @@ fn send_between<W: Write>(around: &Around<'_>, text: &str, w: &mut W) -> io::Res
 ///
 /// # Errors
 ///
-/// Returns the error of the first write that fails, also of one that was interrupted, or that writes no bytes.
+/// Returns an error if a write fails, also where it was interrupted, or writes no bytes.
 #[tactic(auto, using(crate::proofs::AroundLemmas::passed_prefix, crate::proofs::AroundLemmas::passed_suffix, crate::proofs::AroundLemmas::passed_whole))]
 fn send_line_between<W: Write>(
     around: &Around<'_>,
     text: &str,
     line_end: u8,
     w: &mut W,
-) -> io::Result<()>
+) -> Result<(), Unsent>
     requires { length text.now < MAX_SENT_LINE_LEN }
     ensures { Sends result (W.contents w.old) (W.contents w.new)
         (ended_by line_end (around.now.before.now ++ (text.now ++ around.now.after.now))) }
@@ -159,8 +163,7 @@ fn send_line_between<W: Write>(
         return send_text(text, line_end, w);
     }
     send_between(around, text, w)?;
-    write_whole(&[line_end], w)?;
-    Ok(())
+    send_whole(&[line_end], w)
 }
 
 /// Sends a text and the byte that ends its line, by one write if that writes both. Most texts are short, and fit an array
@@ -168,8 +171,8 @@ fn send_line_between<W: Write>(
 ///
 /// # Errors
 ///
-/// Returns the error of the first write that fails, also of one that was interrupted, or that writes no bytes.
-fn send_text<W: Write>(text: &str, line_end: u8, w: &mut W) -> io::Result<()>
+/// Returns an error if a write fails, also where it was interrupted, or writes no bytes.
+fn send_text<W: Write>(text: &str, line_end: u8, w: &mut W) -> Result<(), Unsent>
     requires { length text.now < MAX_SENT_LINE_LEN }
     ensures { Sends result (W.contents w.old) (W.contents w.new) (ended_by line_end text.now) }
 {
@@ -186,13 +189,27 @@ fn send_in_array<const LEN: usize, W: Write>(
     text: &str,
     line_end: u8,
     w: &mut W,
-) -> io::Result<()>
+) -> Result<(), Unsent>
     requires empty { line.items ≡ [] }
     requires room { length text.now < LEN }
     ensures { Sends result (W.contents w.old) (W.contents w.new) (ended_by line_end text.now) }
 {
     line.try_extend_from_slice(text.as_bytes()).unwrap();
     line.push(line_end);
-    write_whole(line.as_slice(), w)?;
-    Ok(())
+    send_whole(line.as_slice(), w)
+}
+
+/// Sends bytes.
+///
+/// # Errors
+///
+/// Returns an error if a write fails, also where it was interrupted, or writes no bytes.
+#[inline(always)]
+fn send_whole<W: Write>(bytes: &[u8], w: &mut W) -> Result<(), Unsent>
+    ensures { Sends result (W.contents w.old) (W.contents w.new) bytes.now }
+{
+    match write_whole(bytes, w) {
+        Ok(_) => Ok(()),
+        Err(_) => Err(Unsent),
+    }
 }

@@ -152,14 +152,14 @@ impl<'a> Span<'a> {
         }
     }
 
-    /// Returns the same of what follows a text and the byte that ends its line.
+    /// Goes on to what follows a text and the byte that ends its line.
     #[inline]
-    pub(crate) fn after_line(self, line_end: u8, text: &[u8]) -> Span<'a>
-        ensures { result ≡ span_after line_end self.entry (ended_by line_end text.now) }
+    pub(crate) fn pass_line(&mut self, line_end: u8, text: &[u8])
+        ensures { self.new ≡ span_after line_end self.old (ended_by line_end text.now) }
     {
         match self {
-            Span::Csv(_) => self.after(line_end, text).after(line_end, &[line_end]),
-            Span::Line | Span::Trimmed | Span::Fields(_) => self,
+            Span::Csv(_) => *self = self.after(line_end, text).after(line_end, &[line_end]),
+            Span::Line | Span::Trimmed | Span::Fields(_) => {}
         }
     }
 

@@ -43,8 +43,8 @@ returns-in-Ok-Line-clause-passes g c =
     let b = g.W.Write.contents c.pass_on.new.w in
     let sends = subst (λ r. SendsLine {T = Unit {0}} c.args.rules.now.line_end (Ok text) a b (result_map_both (λ done. done) fault_of r)) c.in_ok-or-in-Ok-Line.was
     (sends-line_by fault_of kept.Write refl c.args.rules.now.line_end a b (Ok text) text refl c.pass_on.result c.pass_on.ensures c.or.result c.or.ensures) in
-    PassesLong-line c.args.span.now c.loop.span c.after_line.result _ _ c.args.rules.now.flushes _ _ _ _ _ _ _ _ _ so_far _ _ found.0 found.1 (subst (λ (t : List ℕ). Appends a b (ended_by c.args.rules.now.line_end t)) c.bytes-text.ensures sends)
-    (subst (λ (t : List ℕ). c.after_line.result ≡ span_after c.args.rules.now.line_end c.loop.span (ended_by c.args.rules.now.line_end t)) c.bytes-text.ensures c.after_line.ensures)
+    PassesLong-line c.args.span.now c.loop.span c.pass_line.new.self _ _ c.args.rules.now.flushes _ _ _ _ _ _ _ _ _ so_far _ _ found.0 found.1 (subst (λ (t : List ℕ). Appends a b (ended_by c.args.rules.now.line_end t)) c.bytes-text.ensures sends)
+    (subst (λ (t : List ℕ). c.pass_line.new.self ≡ span_after c.args.rules.now.line_end c.loop.span (ended_by c.args.rules.now.line_end t)) c.bytes-text.ensures c.pass_line.ensures)
 
 pub returns-in_err-or-in-Ok-Rest-clause-passes : goal.returns-in_err-or-in-Ok-Rest-clause-passes
 returns-in_err-or-in-Ok-Rest-clause-passes g c =
@@ -71,8 +71,8 @@ returns-in-Ok-Rest-clause-passes g c =
     let b = g.W.Write.contents c.pass_on-in-Ok-Rest.new.w in
     let sends = subst (λ r. SendsLine {T = Unit {0}} c.args.rules.now.line_end (Ok text) a b (result_map_both (λ done. done) fault_of r)) c.in_ok-or-in-Ok-Rest.was
     (sends-line_by fault_of kept.Write refl c.args.rules.now.line_end a b (Ok text) text refl c.pass_on-in-Ok-Rest.result c.pass_on-in-Ok-Rest.ensures c.or-in-Ok-Rest.result c.or-in-Ok-Rest.ensures) in
-    PassesLong-end c.args.span.now c.loop.span c.after_line-in-Ok-Rest.result _ _ c.args.rules.now.flushes _ _ _ _ _ _ _ _ _ so_far _ found.0 found.1 (held c.next_piece.new.self) found.3 (subst (λ (t : List ℕ). Appends a b (ended_by c.args.rules.now.line_end t)) c.bytes-text-in-Ok-Rest.ensures sends)
-    (subst (λ (t : List ℕ). c.after_line-in-Ok-Rest.result ≡ span_after c.args.rules.now.line_end c.loop.span (ended_by c.args.rules.now.line_end t)) c.bytes-text-in-Ok-Rest.ensures c.after_line-in-Ok-Rest.ensures)
+    PassesLong-end c.args.span.now c.loop.span c.pass_line-in-Ok-Rest.new.self _ _ c.args.rules.now.flushes _ _ _ _ _ _ _ _ _ so_far _ found.0 found.1 (held c.next_piece.new.self) found.3 (subst (λ (t : List ℕ). Appends a b (ended_by c.args.rules.now.line_end t)) c.bytes-text-in-Ok-Rest.ensures sends)
+    (subst (λ (t : List ℕ). c.pass_line-in-Ok-Rest.new.self ≡ span_after c.args.rules.now.line_end c.loop.span (ended_by c.args.rules.now.line_end t)) c.bytes-text-in-Ok-Rest.ensures c.pass_line-in-Ok-Rest.ensures)
 
 pub returns-in_err-send_held-in-Ok-TooLong-clause-passes : goal.returns-in_err-send_held-in-Ok-TooLong-clause-passes
 returns-in_err-send_held-in-Ok-TooLong-clause-passes g c =

@@ -84,7 +84,7 @@ returns-in-Rest g c =
     let sends = subst (λ text. SendsText (with_span c.args.rules.now c.loop-count.span) c.args.name.now (g.F.Format.answers c.args.from.now) (g.G.Format.answers c.args.to.now) (c.loop-count.count + 1) text
     (g.W.Write.contents c.next_piece.new.writer) (g.W.Write.contents c.regroup_line-in-Rest.new.w) (g.E.Write.contents c.loop-count.e) (g.E.Write.contents c.regroup_line-in-Rest.new.e) (Ok told))
     c.bytes-rest.ensures c.in_ok-has_faults-in-Rest.ensures in
-    let last = c.after_line-span-in-Rest.ensures ∙ ap (λ (t : List ℕ). span_after c.args.rules.now.line_end c.loop-count.span (ended_by c.args.rules.now.line_end t)) c.bytes-rest.ensures in
+    let last = c.pass_line-in-Rest.ensures ∙ ap (λ (t : List ℕ). span_after c.args.rules.now.line_end c.loop-count.span (ended_by c.args.rules.now.line_end t)) c.bytes-rest.ensures in
     Regroups-last c.args.rules.now.span (with_span c.args.rules.now c.loop-count.span) _ _ _ _ _ _ _ _ _ few _ _ _ _ _ _ _ so_far _ found.0 found.1 told _ _ found.3
     (EndsInput-at (with_span c.args.rules.now c.loop-count.span) c.args.name.now (g.F.Format.answers c.args.from.now) _ _ last _ _ _ _ _ c.finish-in-Rest.ensures) some
     (short_held _ _ _ found.2 (c.in_ok-place.ensures.len ∙ c.loop-count.invariant.1)) sends
@@ -157,7 +157,7 @@ loop-count-preserved g c =
           let sends = subst (λ text. SendsText (with_span c.args.rules.now c.loop-count.span) c.args.name.now (g.F.Format.answers c.args.from.now) (g.G.Format.answers c.args.to.now) (c.loop-count.count + 1) text
           (g.W.Write.contents c.next_piece.new.writer) (g.W.Write.contents w.regroup_line.new.w) (g.E.Write.contents c.loop-count.e) (g.E.Write.contents w.regroup_line.new.e) (Ok told))
           w.bytes-text.ensures w.in_ok-has_faults-in-Line.ensures in
-          rw (w.r-is, w.w-is, w.e-is, w.input-is, w.has_faults-is, w.span-is, w.after_line-span.ensures, w.bytes-text.ensures) (
+          rw (w.r-is, w.w-is, w.e-is, w.input-is, w.has_faults-is, w.span-is, w.pass_line.ensures, w.bytes-text.ensures) (
             Progress-next c.args.rules.now.span (with_span c.args.rules.now c.loop-count.span) _ _ _ _ _ _ _ _ _ few _ _ _ _ _ _ _ so_far _ _ found.0 found.1 (short_held _ _ _ found.2 (c.in_ok-place.ensures.len ∙ c.loop-count.invariant.1)) told sends,
             c.in_ok-place.ensures.len ∙ c.loop-count.invariant.1,
           )

@@ -1,4 +1,4 @@
-use Rattle.std.proofs.Common.{◌∙◌, ◌-◌, Err, drop, length, subst, sym, take}
+use Rattle.std.proofs.Common.{◌-◌, Err, drop, length, subst, sym, take}
 use Rattle.std.specs.Result.{result_map_both}
 use Rattle.std.proofs.lemmas.Result.{err_from_is_err_and}
 use Rattle.regroup_lines.specs.LineFaults.{line_fault_of}
