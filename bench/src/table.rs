@@ -308,11 +308,14 @@ impl Table {
     /// The ratios of each comparison, by kind of text where it has kinds.
     fn operations_table(&self) -> String {
         let mut table = String::from(
-            "| Time of | Over that of | Lowest | Median | Highest | Cell of the highest |\n|---|---|---|---|---|---|\n",
+            "| Time of | Over that of | Cells | Above 1.00 | Lowest | Median | Highest | Cell of the highest |\n|---|---|---|---|---|---|---|---|\n",
         );
         self.for_each_kind(|name, over, found| {
             let ([lowest, median, highest], cell) = (found.shown(), found.cell.place());
-            table += &format!("| {name} | {over} | {lowest} | {median} | {highest} | {cell} |\n");
+            let counts = format!("{} | {}", found.cells, found.above);
+            table += &format!(
+                "| {name} | {over} | {counts} | {lowest} | {median} | {highest} | {cell} |\n"
+            );
         });
         table
     }
@@ -413,7 +416,10 @@ impl Table {
             Vec::from_iter(here.filter_map(|(cell, layouts)| Some((layouts.median(ratio)?, cell))));
         ratios.sort_by(|a, b| a.0.total_cmp(&b.0));
         let (highest, cell) = *ratios.last()?;
+        let is_above = |(ratio, _): &&(f64, &Cell)| *ratio >= 1.005;
         Some(Summary {
+            cells: ratios.len(),
+            above: ratios.iter().filter(is_above).count(),
             lowest: ratios[0].0,
             median: ratios[ratios.len() / 2].0,
             highest,
@@ -447,6 +453,10 @@ impl Table {
 
 /// The ratios of some cells.
 struct Summary<'a> {
+    /// How many cells there are.
+    cells: usize,
+    /// How many of their ratios are above one, as they are shown.
+    above: usize,
     lowest: f64,
     median: f64,
     highest: f64,
