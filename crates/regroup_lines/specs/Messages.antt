@@ -1,5 +1,5 @@
 -- The messages that name faults.
-use Rattle.std.specs.Prelude.{ℕ, ◌+◌, ◌-◌, nat_le, ◌&&◌, not, ℤ, if◌then◌else◌, List, [], ◌∷◌, ◌++◌, length, codes, Option, None, Some, Result, Ok, Err}
+use Rattle.std.specs.Prelude.{ℕ, ◌+◌, ◌-◌, nat_le, ℤ, if◌then◌else◌, List, [], ◌∷◌, ◌++◌, length, codes, Option, None, Some, Result, Ok, Err}
 use Rattle.std.specs.Fmt.{decimal, signed_decimal}
 use Rattle.std.specs.List.{flat_map, list_any}
 use Rattle.num_format.specs.Format.{FormatData}
@@ -72,16 +72,20 @@ abbrev pub read_text : Result ℤ Refusal → List ℕ
 read_text (Ok value) = codes "; --lenient reads " ++ signed_decimal value
 read_text (Err refusal) = []
 
--- which number lenient reading would return of a text that strict reading refuses, if it returns one, all of the text is shown, and no byte
--- of it is a quote: in a record of RFC 4180 lenient reading refuses it too, and a message does not know whether its line is one
+-- which number lenient reading would return of a text that strict reading refuses, if it returns one and all of the text is shown
 abbrev pub lenient_text : Reading → FormatData → List ℕ → List ℕ
-lenient_text Strict from text = if nat_le (length text) MAX_SHOWN_LEN && not (list_any is_quote text) then read_text (number_read from text) else []
+lenient_text Strict from text = if nat_le (length text) MAX_SHOWN_LEN then read_text (number_read from text) else []
 lenient_text Lenient from text = []
 
--- what is said of a text that is not a number
-abbrev pub refused_text : Reading → FormatData → List ℕ → List ℕ
-refused_text reading from text =
-    quoted text ++ (codes ": not a number" ++ (byte_text (before_fault reading from text) ++ lenient_text reading from text))
+-- the same of the text of a field, unless a byte of it is a quote: in a record of RFC 4180 lenient reading refuses it too, and a message
+-- does not know whether the field is of one
+abbrev pub lenient_field_text : Reading → FormatData → List ℕ → List ℕ
+lenient_field_text reading from text = if list_any is_quote text then [] else lenient_text reading from text
+
+-- what is said of a text that is not a number, and after it what is said of lenient reading
+abbrev pub refused_text : Reading → FormatData → (lenient text : List ℕ) → List ℕ
+refused_text reading from lenient text =
+    quoted text ++ (codes ": not a number" ++ (byte_text (before_fault reading from text) ++ lenient))
 
 -- what is said of a line that may have this many bytes and has more
 abbrev pub long_cause : (max_line_len : ℕ) → List ℕ
@@ -93,8 +97,8 @@ fault_message name reading from (TooLong number max_line_len) = line_message nam
 fault_message name reading from (FewFields number) = line_message name number (codes "too few fields")
 fault_message name reading from (NotText number) = line_message name number (codes "not UTF-8")
 fault_message name reading from (FieldNotText number field) = field_message name number field (codes "not UTF-8")
-fault_message name reading from (Line number refusal) = line_message name number (refused_text reading from (kept_in refusal))
-fault_message name reading from (Field number field refusal) = field_message name number field (refused_text reading from (kept_in refusal))
+fault_message name reading from (Line number refusal) = line_message name number (refused_text reading from (lenient_text reading from (kept_in refusal)) (kept_in refusal))
+fault_message name reading from (Field number field refusal) = field_message name number field (refused_text reading from (lenient_field_text reading from (kept_in refusal)) (kept_in refusal))
 fault_message name reading from (Unclosed number) = line_message name number (codes "unclosed quote")
 fault_message name reading from TooMany = []
 fault_message name reading from Read = []

@@ -4,7 +4,7 @@ ghost use Rattle.std.specs.Result.{result_map_both};
 ghost use Rattle.num_format.specs.Refusal.{refusal_of};
 ghost use Rattle.regroup_shared.specs.Reading.{number_read};
 ghost use Rattle.regroup_lines.specs.Fault.{fault_of};
-ghost use Rattle.regroup_lines.specs.Messages.{before_fault, before_in, byte_text, fault_message, field_message, kept_in, lenient_text, line_message, long_cause, read_text, refused_text};
+ghost use Rattle.regroup_lines.specs.Messages.{before_fault, before_in, byte_text, fault_message, field_message, kept_in, lenient_field_text, lenient_text, line_message, long_cause, read_text, refused_text};
 
 use crate::csv::has_quote;
 use crate::fault::RegroupFault;
@@ -70,12 +70,16 @@ pub fn fault_message<F: Format>(
             field_message(name, *number, *field, "not UTF-8")
         }
         RegroupFault::Line(number, error) => {
-            let text = refused_text(reading, kept_in(error), from);
-            line_message(name, *number, text.as_str())
+            let text = kept_in(error);
+            let lenient = lenient_text(reading, text, from);
+            let refused = refused_text(reading, text, lenient.as_str(), from);
+            line_message(name, *number, refused.as_str())
         }
         RegroupFault::Field(number, field, error) => {
-            let text = refused_text(reading, kept_in(error), from);
-            field_message(name, *number, *field, text.as_str())
+            let text = kept_in(error);
+            let lenient = lenient_field_text(reading, text, from);
+            let refused = refused_text(reading, text, lenient.as_str(), from);
+            field_message(name, *number, *field, refused.as_str())
         }
         RegroupFault::Unclosed(number) => line_message(name, *number, "unclosed quote"),
         RegroupFault::TooMany
@@ -134,25 +138,26 @@ fn field_message(
     line_message(name, number, message.as_str())
 }
 
-/// Returns what is said of a text that is not a number.
+/// Returns what is said of a text that is not a number, and after it what is said of lenient reading.
 fn refused_text<F: Format>(
     reading: Reading,
     text: &str,
+    lenient: &str,
     from: &F,
 ) -> ArrayString<MAX_REFUSED_TEXT_LEN>
-    ensures { result.bytes ≡ refused_text reading (F.answers from.now) text.now }
+    requires { length lenient.now ≤ MAX_LENIENT_TEXT_LEN }
+    ensures { result.bytes ≡ refused_text reading (F.answers from.now) lenient.now text.now }
 {
     let mut message = ArrayString::new();
     message.push_str(quoted(text.as_bytes()).as_str());
     message.push_str(": not a number");
     message.push_str(byte_text(before_fault(reading, text, from)).as_str());
-    message.push_str(lenient_text(reading, text, from).as_str());
+    message.push_str(lenient);
     message
 }
 
-/// Returns which number lenient reading would return of a text that strict reading refuses, if it returns one, all of the
-/// text is shown, and no byte of it is a quote. In a record of RFC 4180 lenient reading refuses a text with a quote too,
-/// and a message does not know whether its line is one.
+/// Returns which number lenient reading would return of a text that strict reading refuses, if it returns one and all of
+/// the text is shown.
 fn lenient_text<F: Format>(
     reading: Reading,
     text: &str,
@@ -161,11 +166,24 @@ fn lenient_text<F: Format>(
     ensures { result.bytes ≡ lenient_text reading (F.answers from.now) text.now }
 {
     match reading {
-        Reading::Strict if text.len() <= MAX_SHOWN_LEN && !has_quote(text.as_bytes()) => {
-            read_text(number_read(text, from))
-        }
+        Reading::Strict if text.len() <= MAX_SHOWN_LEN => read_text(number_read(text, from)),
         Reading::Strict | Reading::Lenient => ArrayString::new(),
     }
+}
+
+/// Returns the same of the text of a field, unless a byte of it is a quote. In a record of RFC 4180 lenient reading refuses
+/// it too, and a message does not know whether the field is of one.
+fn lenient_field_text<F: Format>(
+    reading: Reading,
+    text: &str,
+    from: &F,
+) -> ArrayString<MAX_LENIENT_TEXT_LEN>
+    ensures { result.bytes ≡ lenient_field_text reading (F.answers from.now) text.now }
+{
+    if has_quote(text.as_bytes()) {
+        return ArrayString::new();
+    }
+    lenient_text(reading, text, from)
 }
 
 /// Returns the text of a number that lenient reading returned.

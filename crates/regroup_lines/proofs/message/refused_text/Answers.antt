@@ -1,6 +1,6 @@
 use Rattle.std.proofs.Common.{List, ℕ, ◌++◌, ◌∙◌, ap, codes}
 use Rattle.regroup_shared.specs.Quoting.{quoted}
-use Rattle.regroup_lines.specs.Messages.{before_fault, byte_text, lenient_text}
+use Rattle.regroup_lines.specs.Messages.{before_fault, byte_text}
 use Rattle.regroup_lines.proofs.MessageLemmas.{four-parts}
 use Rattle.regroup_lines.proofs.message.refused_text.Goals as goal
 
@@ -8,9 +8,9 @@ pub returns : goal.returns
 returns g c =
     let from = g.F.Format.answers c.args.from.now in
     let text = c.args.text.now in
-    four-parts _ _ _ _ _ (quoted text) (codes ": not a number") (byte_text (before_fault c.args.reading from text)) (lenient_text c.args.reading from text)
+    four-parts _ _ _ _ _ (quoted text) (codes ": not a number") (byte_text (before_fault c.args.reading from text)) c.args.lenient.now
     c.new-message.ensures
     (c.push_str.ensures.bytes ∙ ap (λ (t : List ℕ). c.new-message.result.bytes ++ t) (c.as_str.ensures.value ∙ c.quoted.ensures ∙ ap quoted c.as_bytes.ensures.value))
     c.push_str-2.ensures.bytes
     (c.push_str-3.ensures.bytes ∙ ap (λ (t : List ℕ). c.push_str-2.new.self.bytes ++ t) (c.as_str-2.ensures.value ∙ c.byte_text.ensures ∙ ap byte_text c.before_fault.ensures))
-    (c.push_str-4.ensures.bytes ∙ ap (λ (t : List ℕ). c.push_str-3.new.self.bytes ++ t) (c.as_str-3.ensures.value ∙ c.lenient_text.ensures))
+    c.push_str-4.ensures.bytes
