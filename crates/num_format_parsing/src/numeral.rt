@@ -65,15 +65,11 @@ fn is_ascii_byte(text: &[u8]) -> bool
     text.len() == 1 && text[0].is_ascii()
 }
 
-/// Returns whether a character is numeric and none of the digits `0` to `9`. Most texts are ASCII, and
-/// have none of those.
+/// Returns whether a character is numeric and none of the digits `0` to `9`.
 #[inline(never)]
 fn has_other_numeral(text: &str) -> bool
     ensures { result ≡ list_any is_other_numeral (chars text.now) }
 {
-    if is_ascii(text.as_bytes()) {
-        return false;
-    }
     text.chars().any(is_other_numeral)
 }
 
