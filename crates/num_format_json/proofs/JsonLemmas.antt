@@ -1,10 +1,10 @@
 -- What the JSON value of a buffer, of a format or of a locale holds.
 use Rattle.num_format_text.specs.declared.capacities.TheConstants.{MAX_DEC_LEN, MAX_INF_LEN, MAX_MIN_LEN, MAX_NAN_LEN, MAX_PLUS_LEN, MAX_SEP_LEN}
-use Rattle.std.proofs.Common.{◌≡◌, ℕ, suc, ◌+◌, ◌/◌, ◌<◌, ◌≤◌, nat_lt, nat_le, Bool, bytes_eq, true, false, List, [], ◌∷◌, ◌++◌, map, length, Option, Some, None, IfSome, Ok, IsUtf8, refl, ap, inl, inr, subst, arith}
+use Rattle.std.proofs.Common.{◌≡◌, ℕ, suc, ◌+◌, ◌/◌, ◌<◌, ◌≤◌, nat_lt, nat_le, Bool, bytes_eq, true, false, List, [], ◌∷◌, ◌++◌, map, length, codes, Option, Some, None, IfSome, Ok, IsUtf8, refl, ap, inl, inr, subst, arith}
 use Rattle.std.proofs.lemmas.Bool.{and_parts, both_ways, cases_lt, cond_both, false_from_ne_true, le-leb, le-ltb, lt-ltb, ltb-true}
 use Rattle.std.proofs.lemmas.Str.{IsUtf8-from_is_utf8, is_utf8-from_IsUtf8}
 use Rattle.std.proofs.Output.{has_written_styled_append, has_written_styled_of_eq}
-use Rattle.std.specs.Fmt.{HasWrittenStyled}
+use Rattle.std.specs.Fmt.{HasWrittenStyled, decimal, digits}
 use Rattle.std.specs.declared.fmt.Formatter.{Formatter}
 use Rattle.std.proofs.lemmas.List.Sums.{fails_before_first, passes_at_first}
 use Rattle.std.proofs.lemmas.Slice.Eq.{bytes_eq-Decides}
@@ -26,6 +26,11 @@ use Rattle.num_format_cldr.specs.Table.{table_names}
 use Rattle.num_format_locale.specs.Names.{variant_name, variant_name_of}
 use Rattle.num_format_locale.proofs.NameLemmas.{length-table_names}
 use Rattle.num_format_locale.proofs.VariantLemmas.{variants_differ}
+
+-- the message of an array that is too long has the constant in decimal
+pub most_items : decimal MAX_BUF_LEN ≡ codes "191"
+unfolding digits
+most_items = refl
 
 pub items_len-items_of : {X : Type 0} (f : X → Data) (xs : List X) → items_len (items_of (map f xs)) ≡ length xs
 items_len-items_of f [] = refl
