@@ -13,12 +13,11 @@ ghost use Rattle.regroup_lines.specs.Sending.{SendsLine};
 ghost use Rattle.regroup_lines.specs.declared.rules.Rules.{Rules};
 
 use crate::line_fault::LineFault;
-use crate::number::{Around, Number};
+use crate::number::{Around, Number, send_whole};
 use crate::rules::{Fields, Rules, trim};
 use crate::{pass_on, regroup_place};
 use memchr::memchr;
 use num_format::Format;
-use num_format::to_formatted_string::write_whole;
 use std::io::Write;
 use std::ops::Range;
 
@@ -243,8 +242,5 @@ pub(crate) fn send_bytes<W: Write>(bytes: &[u8], w: &mut W) -> Result<(), LineFa
     ensures { SendsIfOk (Ok bytes.now) (W.contents w.old) (W.contents w.new)
         (result_map_both (λ sent. sent) line_fault_of result) }
 {
-    match write_whole(bytes, w) {
-        Ok(_) => Ok(()),
-        Err(_) => Err(LineFault::Write),
-    }
+    send_whole(bytes, w).or(Err(LineFault::Write))
 }

@@ -205,7 +205,7 @@ fn send_in_array<const LEN: usize, W: Write>(
 ///
 /// Returns an error if a write fails, also where it was interrupted, or writes no bytes.
 #[inline(always)]
-fn send_whole<W: Write>(bytes: &[u8], w: &mut W) -> Result<(), Unsent>
+pub(crate) fn send_whole<W: Write>(bytes: &[u8], w: &mut W) -> Result<(), Unsent>
     ensures { Sends result (W.contents w.old) (W.contents w.new) bytes.now }
 {
     match write_whole(bytes, w) {
