@@ -2,6 +2,7 @@
 ghost use Rattle.std.specs.Prelude.{◌≡◌, ℕ, List, ◌+◌, ◌-◌, ◌^◌, ◌<◌, ◌≤◌, [], true, false, length, drop, slice_index, IsTrue, IfSome, MatchOption, MatchResult};
 ghost use Rattle.std.specs.Char.{is_ascii_digit};
 ghost use Rattle.std.specs.Int.Digits.{number_from_digits};
+ghost use Rattle.std.specs.List.{list_any};
 ghost use Rattle.num_format_text.specs.declared.grouping.Grouping.TheVariants.{Posix};
 ghost use Rattle.num_format_text.specs.Format.{FormatData};
 ghost use Rattle.num_format_parsing.specs.Parts.{GroupsBy, HasReadNumber, HasReading, HasReadDigits, HasReadGroup, HasReadGroups, IsReadWhole, LacksGroup, LacksGroups, WriteWhole};
@@ -57,6 +58,12 @@ const SHORTEST_GROUPS: usize = 5;
 
 /// The bytes of [`SAFE_FIGURES`] digits in groups of three with such a separator.
 pub(crate) const LONGEST_GROUPS: usize = SAFE_FIGURES + 6;
+
+/// What the first of so many digits counts for, where the last is added to it.
+const FIRST_WEIGHTS: [u16; 4] = [0, 0, 10, 100];
+
+/// What the digit between them counts for.
+const MIDDLE_WEIGHTS: [u16; 4] = [0, 0, 0, 10];
 
 /// Returns what one pass over a text finds. Its minus sign has the length `start`, and `most` is the number of
 /// digits that it may have.
@@ -134,43 +141,50 @@ pub(crate) fn read_in_groups<F: Format>(
     if !begins_with_digit(&text[start..]) {
         return None;
     }
-    let first = read_first_group(text, start, bytes[0])?;
-    let Ok(whole) = read_by(text, start, first, bytes, groups) else {
-        return None;
-    };
+    let whole = read_by_byte(text, start, bytes, groups)?;
     if whole.figures > most || whole.figures > SAFE_FIGURES {
         return None;
     }
     Some(whole.magnitude)
 }
 
-/// Returns the first group of a text, which is the one to three digits before a separator.
+/// Returns the first group of a text, of one to three digits, if a separator follows it. It may return `None` for any text.
 #[inline(always)]
-fn read_first_group(text: &[u8], start: usize, separator: u8) -> Option<Part<u64>>
-    requires { start + SHORTEST_GROUPS ≤ length text.now }
+fn read_first_group(text: &[u8], start: usize, figures: usize, separator: u8) -> Option<Part<u64>>
+    requires count { (1 ≤ figures) × (figures ≤ 3) }
+    requires inside { start + figures < length text.now }
     ensures { IfSome result (λ first. HasReadDigits (2 ^ 64) text.now start first.end 0 first.magnitude
-        × (first.figures + start ≡ first.end)
-        × (start < first.end)
-        × (first.end < length text.now)
+        × (first.figures ≡ figures)
+        × (first.end ≡ start + figures)
         × (slice_index text.now first.end ≡ separator)) }
 {
-    let figures = if text[start + 1] == separator {
-        1
-    } else if text[start + 2] == separator {
-        2
-    } else {
-        3
-    };
     let end = start + figures;
     if text[end] != separator {
         return None;
     }
-    let magnitude = push_few(text, start, figures, 0u64)?;
+    let magnitude = first_digits(text, start, figures)?;
     Some(Part {
         end,
         figures,
         magnitude,
     })
+}
+
+/// Returns the number of the one to three digits from a place on, or `None` if one is no digit.
+///
+/// Numbers of all lengths follow one another, and the processor mistakes a branch on the length of the first group. So
+/// each of the three digits is looked at, and where there are fewer, one of them twice.
+#[inline(always)]
+fn first_digits(text: &[u8], place: usize, count: usize) -> Option<u64>
+    requires count { (1 ≤ count) × (count ≤ 3) }
+    requires within { place + count ≤ length text.now }
+    ensures { IfSome result (λ n. HasReadDigits (2 ^ 64) text.now place (place + count) 0 n) }
+{
+    let first = digit_at(text, place)?;
+    let middle = digit_at(text, place + count / 2)?;
+    let last = digit_at(text, place + count - 1)?;
+    let number = first * FIRST_WEIGHTS[count] + middle * MIDDLE_WEIGHTS[count] + last;
+    Some(number as u64)
 }
 
 /// Returns the same of a text whose first digits, up to `end`, do not end it. They write `magnitude`, modulo the
@@ -387,28 +401,65 @@ fn push_few<A: Accumulator>(text: &[u8], place: usize, count: usize, magnitude: 
     None
 }
 
-/// Returns the part of a text with the digits that follow it, up to `end`, for groups that are no digits or
-/// longer than most. It stays out of the loop over groups.
-#[cold]
-#[inline(never)]
-fn read_slowly<A: Accumulator>(text: &[u8], from: Part<A>, end: usize) -> Part<A>
-    requires order { from.end ≤ end }
-    requires within { end ≤ length text.now }
-    requires figures { from.figures ≤ from.end }
-    ensures read { HasReadDigits A.bound text.now from.end result.end (A.number from.magnitude) (A.number result.magnitude) }
-    ensures within { result.end ≤ end }
-    ensures figures { result.figures + from.end ≡ from.figures + result.end }
-    ensures stop { result.end < end → is_ascii_digit (slice_index text.now result.end) ≡ false }
-{
-    read_digits(text, from, end)
-}
-
-/// Returns the part of a text with the separator and the `count` digits that follow it, or the place where
-/// they do not.
+/// Returns the part of a text with the separator and the `count` digits that follow it. It may return `None` for any
+/// text, and does so where they do not.
 ///
 /// It is inlined, so that a part stays in registers.
 #[inline(always)]
+fn push_group<A: Accumulator>(
+    text: &[u8],
+    from: Part<A>,
+    separator: &[u8],
+    count: usize,
+) -> Option<Part<A>>
+    requires room { from.end + length separator.now + count ≤ length text.now }
+    requires figures { from.figures ≤ from.end }
+    requires some { 0 < count }
+    ensures { IfSome result
+        (λ part. HasReadGroup A.bound separator.now text.now from.end part.end count
+        (A.number from.magnitude) (A.number part.magnitude)
+        × (part.figures ≡ from.figures + count)) }
+{
+    if !begins_with(&text[from.end..], separator) {
+        return None;
+    }
+    let place = from.end + separator.len();
+    let magnitude = push_few(text, place, count, from.magnitude)?;
+    Some(Part {
+        end: place + count,
+        figures: from.figures + count,
+        magnitude,
+    })
+}
+
+/// Returns the same, or the place where the separator and the digits do not follow.
+#[inline(always)]
 fn read_group<A: Accumulator>(
+    text: &[u8],
+    from: Part<A>,
+    separator: &[u8],
+    count: usize,
+) -> Result<Part<A>, usize>
+    requires room { from.end + length separator.now + count ≤ length text.now }
+    requires figures { from.figures ≤ from.end }
+    requires some { 0 < count }
+    ensures { MatchResult result
+        (λ part. HasReadGroup A.bound separator.now text.now from.end part.end count
+        (A.number from.magnitude) (A.number part.magnitude)
+        × (part.figures ≡ from.figures + count))
+        (λ place. LacksGroup separator.now text.now from.end count place) }
+{
+    match push_group(text, from, separator, count) {
+        Some(part) => Ok(part),
+        None => read_group_slowly(text, from, separator, count),
+    }
+}
+
+/// Returns the same of a longer group, or of one that does not follow, whose place is wanted. It stays out of the loop
+/// over groups.
+#[cold]
+#[inline(never)]
+fn read_group_slowly<A: Accumulator>(
     text: &[u8],
     from: Part<A>,
     separator: &[u8],
@@ -428,25 +479,70 @@ fn read_group<A: Accumulator>(
     }
     let place = from.end + separator.len();
     let end = place + count;
-    if let Some(magnitude) = push_few(text, place, count, from.magnitude) {
-        let figures = from.figures + count;
-        return Ok(Part {
-            end,
-            figures,
-            magnitude,
-        });
-    }
-    // A longer group, or one with a byte that is no digit, whose place is wanted.
     let behind = Part {
         end: place,
         figures: from.figures,
         magnitude: from.magnitude,
     };
-    let part = read_slowly(text, behind, end);
+    let part = read_digits(text, behind, end);
     if part.end != end {
         return Err(part.end);
     }
     Ok(part)
+}
+
+/// Returns the whole text, if it is in groups of digits with a separator of one byte. It may return `None` for any text.
+///
+/// The sizes of groups are numbers that the loop knows where it is compiled.
+#[inline(always)]
+fn read_by_byte(text: &[u8], start: usize, separator: &[u8], groups: Groups) -> Option<Part<u64>>
+    requires long { start + SHORTEST_GROUPS ≤ length text.now }
+    requires plain { list_any is_ascii_digit separator.now ≡ false }
+    requires separator { length separator.now ≡ 1 }
+    ensures { IfSome result
+        (λ whole. HasReadGroups (2 ^ 64) groups.last groups.size separator.now text.now start
+        whole.figures whole.magnitude) }
+{
+    match (groups.size, groups.last) {
+        (3, 3) => push_groups::<3, 3>(text, start, separator),
+        (2, 3) => push_groups::<2, 3>(text, start, separator),
+        (4, 4) => push_groups::<4, 4>(text, start, separator),
+        _ => None,
+    }
+}
+
+/// Returns the same of groups of these sizes.
+///
+/// How many digits the first group has follows from the length of the text, so that the processor knows how many groups
+/// there are before it has read one.
+#[inline(always)]
+fn push_groups<const SIZE: usize, const LAST: usize>(
+    text: &[u8],
+    start: usize,
+    separator: &[u8],
+) -> Option<Part<u64>>
+    requires long { start + SHORTEST_GROUPS ≤ length text.now }
+    requires plain { list_any is_ascii_digit separator.now ≡ false }
+    requires separator { length separator.now ≡ 1 }
+    requires size { (0 < SIZE) × (SIZE ≤ LAST) × (LAST < SHORTEST_GROUPS) }
+    ensures { IfSome result
+        (λ whole. HasReadGroups (2 ^ 64) LAST SIZE separator.now text.now start
+        whole.figures whole.magnitude) }
+{
+    let figures = (text.len() - start - (LAST + 1)) % (SIZE + 1);
+    if figures == 0 || figures > SIZE || figures > 3 {
+        return None;
+    }
+    let first = read_first_group(text, start, figures, separator[0])?;
+    let mut part = first;
+    while text.len() - part.end > LAST + 1 {
+        let next = push_group(text, part, separator, SIZE)?;
+        part = next;
+    }
+    if text.len() - part.end != LAST + 1 {
+        return None;
+    }
+    push_group(text, part, separator, LAST)
 }
 
 /// Returns the whole text, if groups of digits follow the first part, which may have fewer digits than a

@@ -284,12 +284,32 @@ struct Sign {
 }
 
 /// Returns the sign of a text, or `None` if a numeric character stands in its minus sign.
+///
+/// Most minus signs are one byte. The length is then computed from the comparison, since the processor mistakes a branch
+/// on the sign.
 #[inline(always)]
 fn sign_of<F: Format>(text: &[u8], format: &F) -> Option<Sign>
     ensures { IfSome result (λ sign.
         HasPlainSign (F.answers format.now) text.now sign.is_negative sign.len) }
 {
     let minus_sign = format.minus_sign().into_str();
+    let bytes = minus_sign.as_bytes();
+    if bytes.len() != 1 || has_digit_in_symbol(bytes) || has_numeral_in_symbol(minus_sign) {
+        return sign_by(text, minus_sign);
+    }
+    let is_negative = is_prefix(text, bytes);
+    let len = minus_len(minus_sign, is_negative);
+    Some(Sign { is_negative, len })
+}
+
+/// Returns the same of a text under a format with that minus sign.
+///
+/// It is a function of its own, so that the others are compiled without branches on the sign.
+#[inline(never)]
+fn sign_by(text: &[u8], minus_sign: &str) -> Option<Sign>
+    ensures { (f : FormatData) → minus_sign.now ≡ f.minus_sign → IfSome result (λ sign.
+        HasPlainSign f text.now sign.is_negative sign.len) }
+{
     let is_negative = is_prefix(text, minus_sign.as_bytes());
     let len = minus_len(minus_sign, is_negative);
     if has_digit_in_sign(minus_sign, is_negative) || has_numeral_in_sign(minus_sign, is_negative) {
@@ -331,7 +351,7 @@ fn has_digit_in_sign(minus_sign: &str, is_negative: bool) -> bool
     if minus_sign.len() != 1 && !is_negative {
         return false;
     }
-    has_digit_in_symbol(minus_sign.as_bytes()) && is_negative
+    has_digit_in_symbol(minus_sign.as_bytes()) & is_negative
 }
 
 /// Returns whether the minus sign of a negative text has a numeric character that is none of the digits `0` to
@@ -343,7 +363,7 @@ fn has_numeral_in_sign(minus_sign: &str, is_negative: bool) -> bool
     if minus_sign.len() != 1 && !is_negative {
         return false;
     }
-    has_numeral_in_symbol(minus_sign) && is_negative
+    has_numeral_in_symbol(minus_sign) & is_negative
 }
 
 /// Returns whether a text begins with a prefix. Most are one byte, whose comparison takes less time than a

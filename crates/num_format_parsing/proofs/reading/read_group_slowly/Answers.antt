@@ -3,7 +3,7 @@ use Rattle.std.proofs.lemmas.List.{take_rest}
 use Rattle.num_format_parsing.specs.Parts.{without_separator, without_digit}
 use Rattle.num_format_parsing.specs.Strict.{begins}
 use Rattle.num_format_parsing.proofs.UnreadLemmas.{ends-separator}
-use Rattle.num_format_parsing.proofs.reading.read_group.Goals as goal
+use Rattle.num_format_parsing.proofs.reading.read_group_slowly.Goals as goal
 
 pub returns-then-not-begins_with : goal.returns-then-not-begins_with
 returns-then-not-begins_with g c =
@@ -14,9 +14,9 @@ returns-then-part-end g c =
     let text = c.args.text.now in
     let start = c.args.from.end in
     let s = c.args.separator.now in
-    let read = c.read_slowly-part.ensures in
+    let read = c.read_digits-part.ensures in
     let begin : begins s (drop start text) ≡ true = ap (begins s) (sym (take_rest text start)) ∙ sym c.begins_with.ensures ∙ c.if-not-begins_with.false in
-    let early : c.read_slowly-part.result.end < start + length s + c.args.count = omega (arith, read.within, c.if-part-end.true) in
+    let early : c.read_digits-part.result.end < start + length s + c.args.count = omega (arith, read.within, c.if-part-end.true) in
     without_digit (start + length s) (ends-separator s text start begin) read.read.order early (omega (arith, early, c.requires.room)) read.read.digits (read.stop early)
 
 pub returns : goal.returns
@@ -24,7 +24,7 @@ returns g c =
     let text = c.args.text.now in
     let start = c.args.from.end in
     let s = c.args.separator.now in
-    let read = c.read_slowly-part.ensures in
+    let read = c.read_digits-part.ensures in
     let begin : begins s (drop start text) ≡ true = ap (begins s) (sym (take_rest text start)) ∙ sym c.begins_with.ensures ∙ c.if-not-begins_with.false in (
       record {
         behind = start + length s;
@@ -33,19 +33,4 @@ returns g c =
         read = read.read;
       },
       omega (arith, read.figures, c.if-part-end.false),
-    )
-
-pub returns-in-Some : goal.returns-in-Some
-returns-in-Some g c =
-    let text = c.args.text.now in
-    let start = c.args.from.end in
-    let s = c.args.separator.now in
-    let begin : begins s (drop start text) ≡ true = ap (begins s) (sym (take_rest text start)) ∙ sym c.begins_with.ensures ∙ c.if-not-begins_with.false in (
-      record {
-        behind = start + length s;
-        separator = ends-separator s text start begin;
-        long = refl;
-        read = c.in-Some.ensures;
-      },
-      refl,
     )
