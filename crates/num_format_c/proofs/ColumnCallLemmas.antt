@@ -1,9 +1,11 @@
 -- Columns under the format of a struct.
-use Rattle.std.proofs.Common.{◌≡◌, ℕ, ◌≤◌, ℤ, List, arith, subst}
+use Rattle.std.proofs.Common.{◌≡◌, ◌≢◌, ℕ, ◌+◌, ◌<◌, ◌≤◌, inl, inr, Bool, ℤ, pos, List, length, slice_index_or, slice_set, ap, arith, sym, subst}
+use Rattle.std.proofs.Math.Nat.{eq-or-lt_of_le}
+use Rattle.std.proofs.lemmas.List.{get_or-set_other, get_or-set_same}
 use Rattle.num_format.specs.Format.{FormatData}
 use Rattle.num_format_columns.specs.Columns.{Rows}
 use Rattle.num_format_decimal.specs.declared.decimal.TheConstants.{MAX_SCALE}
-use Rattle.num_format_c.specs.Columns.{Measures, MeasuresColumn, MeasuresDecimals, PrintsColumn, PrintsDecimals, PrintsRows, decimal_at}
+use Rattle.num_format_c.specs.Columns.{AreParsed, Measures, MeasuresColumn, MeasuresDecimals, ParsesRow, PrintsColumn, PrintsDecimals, PrintsRows, RowParser, decimal_at, row_text}
 use Rattle.num_format_c.specs.Held.{HasFormat, format_of}
 use Rattle.num_format_c.specs.declared.format.NumFormat.{NumFormat}
 use Rattle.num_format_c.specs.declared.wide.SignedWide.{SignedWide}
@@ -41,3 +43,19 @@ module _ (rows : Rows) (s : NumFormat) (f : FormatData) (given : f ≡ format_of
       bad_scale = λ large. absurd (omega (arith, large, small));
       column = λ _. measures_under (decimal_at scale) units (subst (λ m. Measures (decimal_at m f) rows units old new result) level p);
     }
+
+-- one row more is parsed
+pub parses_row_more : {A B : Type 0} (Parses : RowParser A) (rows : Rows) (place : B → ℕ) (s : NumFormat) (offsets : List B) (bytes : List ℕ) (old values : List A) (statuses : List ℤ) (n : ℕ) (value : A) (status : ℤ) →
+    n < length values → n < length statuses → AreParsed Parses rows place s offsets bytes old values statuses n →
+    {valid : Bool} {text : List ℕ} {prior : A} → ParsesRow Parses valid s text prior value status →
+    valid ≡ rows.is_valid n → ((e : B) → text ≡ row_text place offsets bytes n e) → ((d : A) → prior ≡ slice_index_or old n d) →
+    AreParsed Parses rows place s offsets bytes old (slice_set values n value) (slice_set statuses n status) (n + 1)
+parses_row_more Parses rows place s offsets bytes old values statuses n value status inside within before row is_valid is_text is_prior k d e below =
+    elim (eq-or-lt_of_le {m = n} (omega (arith, below))) [
+      | inl same ↦
+          subst (λ j. ParsesRow Parses (rows.is_valid j) s (row_text place offsets bytes j e) (slice_index_or old j d) (slice_index_or (slice_set values n value) j d) (slice_index_or (slice_set statuses n status) j (pos 0)))
+          (sym same) (rw (get_or-set_same values n value d inside, get_or-set_same statuses n status (pos 0) within, ← is_valid, ← is_text e, ← is_prior d) row)
+      | inr under ↦
+          let other : k ≢ n = λ same. absurd (omega (arith, same, under)) in
+          rw (get_or-set_other values n k value d other, get_or-set_other statuses n k status (pos 0) other) (before k d e under)
+    ]

@@ -57,6 +57,10 @@ pub record HasFormat (s : NumFormat) : Type 0 where
 abbrev pub format_of : NumFormat → FormatData
 format_of s = format_with (separator_of s) (unwrap_or (grouping_of s.grouping) Posix) (minus_sign_of s) (decimal_mark_of s)
 
+-- a format is the one that a struct has
+abbrev pub IsFormatOf : FormatData → NumFormat → Type 0
+IsFormatOf f s = HasFormat s × (f ≡ format_of s)
+
 -- two formats agree in the four data that the text of a number depends on
 pub record Agrees (f g : FormatData) : Type 0 where
   pub separator : f.separator ≡ g.separator

@@ -10,7 +10,7 @@ ghost use Rattle.num_format_decimal.specs.declared.buffer.TheConstants.{MAX_DECI
 ghost use Rattle.num_format_decimal.specs.declared.decimal.TheConstants.{MAX_SCALE};
 ghost use Rattle.num_format_c.specs.Calls.{ByTag, Fills, FillsCustom, FillsLocale, FindsLocale, ReturnsLength, ReturnsDecimalLength, Parses, ParsesAtScaleUnder, ParsesDecimalUnder, ParsesExactly, Prints, PrintsDecimal, Tells, Writes, WritesName, at_scale_status_of, decimal_place_of, decimal_status_of, place_of, returned, signed_kind, status_of, unsigned_kind};
 ghost use Rattle.num_format_c.specs.declared.status.Status.TheVariants.{BadBits};
-ghost use Rattle.num_format_c.specs.Held.{HasFormat, format_of};
+ghost use Rattle.num_format_c.specs.Held.{HasFormat, IsFormatOf, format_of};
 
 use crate::format::{Held, NumFormat, grouping_of};
 use crate::status::Status;
@@ -147,7 +147,16 @@ pub fn parse<N: FromFormattedStr>(format: &NumFormat, text: &[u8]) -> Result<N, 
     let Some(format) = Held::new(format) else {
         return Err(Status::BadFormat);
     };
-    match N::from_formatted_bytes(text, &format) {
+    parse_under(&format, text)
+}
+
+/// Parses the text as a number of the type under the format that a struct has.
+#[inline(always)]
+pub fn parse_under<F: Format, N: FromFormattedStr>(format: &F, text: &[u8]) -> Result<N, Status>
+    ensures { (s : NumFormat) → IsFormatOf (F.answers format.now) s
+        → Parses N.kind N.value s text.now result }
+{
+    match N::from_formatted_bytes(text, format) {
         Ok(number) => Ok(number),
         Err(ParseBytesError::NotUtf8) => Err(Status::NotUtf8),
         Err(ParseBytesError::NotANumber) => Err(Status::NotANumber),
@@ -222,7 +231,20 @@ pub fn parse_strict<N: FromFormattedStr>(
     let Some(format) = Held::new(format) else {
         return Err(Status::BadFormat);
     };
-    match N::from_strict_bytes(text, &format) {
+    parse_strict_under(&format, text, at)
+}
+
+/// Parses the text as [`parse_strict`] does under the format that a struct has.
+#[inline(always)]
+pub fn parse_strict_under<F: Format, N: FromFormattedStr>(
+    format: &F,
+    text: &[u8],
+    at: &mut usize,
+) -> Result<N, Status>
+    ensures { (s : NumFormat) → IsFormatOf (F.answers format.now) s
+        → ParsesExactly N.kind N.value s text.now at.old at.new result }
+{
+    match N::from_strict_bytes(text, format) {
         Ok(number) => Ok(number),
         Err(error) => Err(refused(error, at)),
     }
@@ -297,17 +319,15 @@ pub fn parse_decimal(format: &NumFormat, text: &[u8], at: &mut usize) -> Result<
     }
 }
 
-/// Parses the text strictly as a decimal of a scale.
-pub fn parse_at_scale(format: &NumFormat, text: &[u8], scale: u8) -> Result<Decimal, Status>
-    ensures { ParsesAtScaleUnder scale format.now text.now result }
+/// Parses the text strictly as a decimal of a scale under the format that a struct has.
+pub fn parse_at_scale<F: Format>(format: &F, text: &[u8], scale: u8) -> Result<Decimal, Status>
+    ensures { (s : NumFormat) → IsFormatOf (F.answers format.now) s
+        → ParsesAtScaleUnder scale s text.now result }
 {
-    let Some(format) = Held::new(format) else {
-        return Err(Status::BadFormat);
-    };
     let Ok(text) = str::from_utf8(text) else {
         return Err(Status::NotUtf8);
     };
-    match Decimal::parse_at_scale(text, scale, &format) {
+    match Decimal::parse_at_scale(text, scale, format) {
         Ok(number) => Ok(number),
         Err(error) => Err(refused_at_scale(error)),
     }

@@ -4,6 +4,7 @@ ghost use Rattle.num_format_columns.specs.Columns.{AreOffsets};
 ghost use Rattle.num_format_decimal.specs.FixedPoint.{fixed_point};
 ghost use Rattle.num_format_decimal.specs.declared.decimal.TheConstants.{MAX_SCALE};
 ghost use Rattle.num_format_c.specs.Calls.{ParsesInto, returned};
+ghost use Rattle.num_format_c.specs.Held.{IsFormatOf};
 ghost use Rattle.num_format_c.specs.Columns.{AreParsed, HasLengths, Measures, MeasuresColumn, MeasuresDecimals, ParsesAtScaleInto, ParsesColumn, ParsesDecimals, ParsesRow, ParsesRowExactly, PrintsColumn, PrintsDecimals, PrintsRows, RowParser, decimal_at, number_row, number_text, signed_value};
 
 use crate::calls;
@@ -196,9 +197,10 @@ fn measure_rows<T, P: Printer<T>, V: Validity>(
 pub trait Parsing<T> {
     ghost Parses: { Self → RowParser T };
 
-    /// Parses the text, writes the value, and returns the status.
-    fn parse_row(&self, format: &NumFormat, text: &[u8], value: &mut T) -> i32
-        ensures { Parses self.now format.now text.now value.old value.new result };
+    /// Parses the text under the format that a struct has, writes the value, and returns the status.
+    fn parse_row<F: Format>(&self, format: &F, text: &[u8], value: &mut T) -> i32
+        ensures { (s : NumFormat) → IsFormatOf (F.answers format.now) s
+            → Parses self.now s text.now value.old value.new result };
 }
 
 /// Parsing that ignores characters that are not numeric.
@@ -208,8 +210,8 @@ pub struct Lenient;
 impl<N: FromFormattedStr + Copy> Parsing<N> for Lenient {
     ghost Parses = { λ _. number_row ParsesInto N.kind N.value };
 
-    fn parse_row(&self, format: &NumFormat, text: &[u8], number: &mut N) -> i32 {
-        match calls::parse(format, text) {
+    fn parse_row<F: Format>(&self, format: &F, text: &[u8], number: &mut N) -> i32 {
+        match calls::parse_under(format, text) {
             Ok(parsed) => {
                 *number = parsed;
                 0
@@ -226,9 +228,9 @@ pub struct Strict;
 impl<N: FromFormattedStr + Copy> Parsing<N> for Strict {
     ghost Parses = { λ _. number_row ParsesRowExactly N.kind N.value };
 
-    fn parse_row(&self, format: &NumFormat, text: &[u8], number: &mut N) -> i32 {
+    fn parse_row<F: Format>(&self, format: &F, text: &[u8], number: &mut N) -> i32 {
         let mut at = 0;
-        match calls::parse_strict(format, text, &mut at) {
+        match calls::parse_strict_under(format, text, &mut at) {
             Ok(parsed) => {
                 *number = parsed;
                 0
@@ -247,7 +249,7 @@ struct AtScale {
 impl Parsing<SignedWide> for AtScale {
     ghost Parses = { λ p. ParsesAtScaleInto p.scale };
 
-    fn parse_row(&self, format: &NumFormat, text: &[u8], units: &mut SignedWide) -> i32 {
+    fn parse_row<F: Format>(&self, format: &F, text: &[u8], units: &mut SignedWide) -> i32 {
         match calls::parse_at_scale(format, text, self.scale) {
             Ok(parsed) => {
                 split(
@@ -300,9 +302,9 @@ pub fn parse<P: Parsing<T>, T: Copy, V: Validity, O: Offset>(
 ) -> Result<i32, Status>
     ensures { ParsesColumn (P.Parses parsing.now) (V.rows validity.now) O.position O.LIMIT format.now offsets.now bytes.now values.old values.new statuses.old statuses.new (returned result) }
 {
-    if Held::new(format).is_none() {
+    let Some(format) = Held::new(format) else {
         return Err(Status::BadFormat);
-    }
+    };
     if offsets.is_empty()
         || offsets.len() - 1 != values.len()
         || statuses.len() != values.len()
@@ -313,14 +315,14 @@ pub fn parse<P: Parsing<T>, T: Copy, V: Validity, O: Offset>(
     if !are_offsets(offsets, O::LIMIT.min(bytes.len())) {
         return Err(Status::BadOffsets);
     }
-    parse_rows(parsing, format, offsets, bytes, values, validity, statuses);
+    parse_rows(parsing, &format, offsets, bytes, values, validity, statuses);
     Ok(0)
 }
 
-/// Parses each row of a column.
-fn parse_rows<P: Parsing<T>, T: Copy, V: Validity, O: Offset>(
+/// Parses each row of a column under the format that a struct has.
+fn parse_rows<F: Format, P: Parsing<T>, T: Copy, V: Validity, O: Offset>(
     parsing: &P,
-    format: &NumFormat,
+    format: &F,
     offsets: &[O],
     bytes: &[u8],
     values: &mut [T],
@@ -329,7 +331,8 @@ fn parse_rows<P: Parsing<T>, T: Copy, V: Validity, O: Offset>(
 )
     requires lengths { HasLengths (V.rows validity.now) (length values.old) (length offsets.now) (length statuses.old) }
     requires offsets { AreOffsets O.position (min O.LIMIT (length bytes.now)) offsets.now }
-    ensures { AreParsed (P.Parses parsing.now) (V.rows validity.now) O.position format.now offsets.now bytes.now values.old values.new statuses.new (length values.old) }
+    ensures { (s : NumFormat) → IsFormatOf (F.answers format.now) s
+        → AreParsed (P.Parses parsing.now) (V.rows validity.now) O.position s offsets.now bytes.now values.old values.new statuses.new (length values.old) }
 {
     for k in 0..values.len() {
         let text = &bytes[offsets[k].get()..offsets[k + 1].get()];
@@ -339,14 +342,15 @@ fn parse_rows<P: Parsing<T>, T: Copy, V: Validity, O: Offset>(
 
 /// Parses a row of a column, if it has a value, and returns its status, which is 0 if it has none.
 #[inline(always)]
-fn parse_row<P: Parsing<T>, T>(
+fn parse_row<F: Format, P: Parsing<T>, T>(
     parsing: &P,
-    format: &NumFormat,
+    format: &F,
     text: &[u8],
     is_valid: bool,
     value: &mut T,
 ) -> i32
-    ensures { ParsesRow (P.Parses parsing.now) is_valid format.now text.now value.old value.new result }
+    ensures { (s : NumFormat) → IsFormatOf (F.answers format.now) s
+        → ParsesRow (P.Parses parsing.now) is_valid s text.now value.old value.new result }
 {
     if is_valid {
         parsing.parse_row(format, text, value)

@@ -1,7 +1,7 @@
 //! A format in a struct that a C program owns.
 ghost use Rattle.std.specs.Prelude.{◌≡◌, ◌≤◌, take, drop, length, ◌++◌, IsTrue, IsUtf8, MatchOption, Some, ◌↔◌};
 ghost use Rattle.bstr.specs.Utf8.{continues};
-ghost use Rattle.num_format_c.specs.Held.{Agrees, HasFormat, HasTexts, IsPadded, format_of, format_with, grouping_of, padded};
+ghost use Rattle.num_format_c.specs.Held.{Agrees, HasFormat, HasTexts, IsFormatOf, IsPadded, format_of, format_with, grouping_of, padded};
 
 use num_format::utils::{DecimalStr, InfinityStr, MinusSignStr, NanStr, PlusSignStr, SeparatorStr};
 use num_format::{Format, Grouping};
@@ -97,7 +97,7 @@ impl<'a> Held<'a> {
     #[inline(always)]
     pub fn new(format: &'a NumFormat) -> Option<Held<'a>>
         ensures { MatchOption result (¬ (HasFormat format.now))
-            (λ h. (HasFormat format.now) × (format_with h.separator h.grouping h.minus_sign h.decimal_mark ≡ format_of format.now)) }
+            (λ h. IsFormatOf (format_with h.separator h.grouping h.minus_sign h.decimal_mark) format.now) }
     {
         let grouping = grouping_of(format.grouping as u32)?;
         if !format.has_short_texts() && !format.has_texts() {

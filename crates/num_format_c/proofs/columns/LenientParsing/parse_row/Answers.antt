@@ -3,9 +3,9 @@ use Rattle.num_format_c.proofs.CallLemmas.{stored, kept}
 use Rattle.num_format_c.proofs.columns.LenientParsing.parse_row.Goals as goal
 
 pub returns-in-Ok : goal.returns-in-Ok
-returns-in-Ok g c =
-    stored g.N.Sealed.value c.args.format.now c.args.text.now (g.N.Sealed.value c.args.number.now) _ _ g.N.Sealed.kind c.in-Ok.parsed c.in-Ok.ensures refl refl
+returns-in-Ok g c = λ s given.
+    stored g.N.Sealed.value s c.args.text.now (g.N.Sealed.value c.args.number.now) _ _ g.N.Sealed.kind c.in-Ok.parsed (c.in-Ok.ensures s given) refl refl
 
 pub returns-in-Err : goal.returns-in-Err
-returns-in-Err g c =
-    kept g.N.Sealed.value c.args.format.now c.args.text.now (g.N.Sealed.value c.args.number.now) _ _ g.N.Sealed.kind c.in-Err.status c.in-Err.ensures refl (search rules)
+returns-in-Err g c = λ s given.
+    kept g.N.Sealed.value s c.args.text.now (g.N.Sealed.value c.args.number.now) _ _ g.N.Sealed.kind c.in-Err.status (c.in-Err.ensures s given) refl (search rules)

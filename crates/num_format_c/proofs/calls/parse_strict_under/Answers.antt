@@ -1,11 +1,11 @@
 use Rattle.std.proofs.Common.{rules}
 use Rattle.num_format_c.proofs.StrictLemmas.{spelled, failed}
-use Rattle.num_format_c.proofs.calls.parse_strict.Goals as goal
+use Rattle.num_format_c.proofs.calls.parse_strict_under.Goals as goal
 
 pub returns-in-Ok : goal.returns-in-Ok
-returns-in-Ok g c =
+returns-in-Ok g c = λ s given.
     let e = c.in-Ok.ensures in
-    spelled g.N.Sealed.kind g.N.Sealed.value c.args.format.now c.args.text.now c.args.at.now c.args.at.now _ c.in-Some.ensures.1 c.in-Ok.number c.in-Some.ensures.0
+    spelled g.N.Sealed.kind g.N.Sealed.value s c.args.text.now c.args.at.now c.args.at.now _ given.1 c.in-Ok.number given.0
     (record {
       number = e.number;
       accepted = e.accepted;
@@ -16,10 +16,10 @@ returns-in-Ok g c =
       out_of_range = e.out_of_range;
     }) (search rules)
 
-pub returns : goal.returns
-returns g c =
+pub returns-in-Err : goal.returns-in-Err
+returns-in-Err g c = λ s given.
     let e = c.in-Err.ensures in
-    failed g.N.Sealed.kind g.N.Sealed.value c.args.format.now c.args.text.now c.args.at.now c.refused.new.at _ c.in-Some.ensures.1 c.in-Err.error c.refused.result c.in-Some.ensures.0
+    failed g.N.Sealed.kind g.N.Sealed.value s c.args.text.now c.args.at.now c.refused.new.at _ given.1 c.in-Err.error c.refused.result given.0
     (record {
       number = e.number;
       accepted = e.accepted;
