@@ -10,6 +10,7 @@ mod columns;
 mod decimals;
 mod documents;
 mod floor;
+mod goals;
 mod groupings;
 mod line_tool;
 mod lines;

@@ -1,5 +1,6 @@
 //! What was measured: a line for each cell, and the table by operation, digits and format.
 
+use crate::goals;
 use crate::{
     C_PRINTING, C_READING, LOOK_UP_TAG, PRINT_COLUMN, PRINT_DECIMALS, READ_COLUMN, READ_DECIMALS,
     REFUSE_STRICTLY,
@@ -34,7 +35,7 @@ const BY_KIND: [&str; 6] = [
 ];
 
 /// A ratio of two times of a cell, if it has both.
-type Ratio = fn(&Times) -> Option<f64>;
+pub type Ratio = fn(&Times) -> Option<f64>;
 
 /// An operation, what its time is compared with, and the ratio.
 type Comparison = (&'static str, &'static str, Ratio);
@@ -118,17 +119,17 @@ pub struct Times {
 
 impl Times {
     /// The time of the port over that of the original.
-    fn ratio(&self) -> Option<f64> {
+    pub fn ratio(&self) -> Option<f64> {
         Some(self.port / self.original?)
     }
 
     /// The time of the port over that which it is compared with.
-    fn ratio_to_reference(&self) -> Option<f64> {
+    pub fn ratio_to_reference(&self) -> Option<f64> {
         Some(self.port / self.reference?)
     }
 
     /// The time of the port over that of plain digits.
-    fn ratio_to_floor(&self) -> Option<f64> {
+    pub fn ratio_to_floor(&self) -> Option<f64> {
         Some(self.port / self.floor?)
     }
 
@@ -224,7 +225,10 @@ impl Table {
             let (name, times) = fields
                 .split_at_checked(4)
                 .ok_or("a line has too few fields")?;
-            let place = *self.places.get(&name.join(" ")).ok_or("a file has a cell that was not measured")?;
+            let place = *self
+                .places
+                .get(&name.join(" "))
+                .ok_or("a file has a cell that was not measured")?;
             let [_, port, original, reference, floor] = times else {
                 return Err("a line does not have nine fields".into());
             };
@@ -272,9 +276,10 @@ impl Table {
     }
 
     /// The tables, by the names of their markers in the documents.
-    pub fn sections(&self) -> [(&'static str, String); 3] {
+    pub fn sections(&self) -> [(&'static str, String); 4] {
         [
             ("speed", self.summary_table()),
+            ("goals", goals::table(self)),
             ("operations", self.operations_table()),
             ("digits", self.digits_tables()),
         ]
@@ -409,12 +414,18 @@ impl Table {
         })
     }
 
-    /// The lowest, the median and the highest ratio of some cells.
-    fn summary(&self, is_here: impl Fn(&Cell) -> bool, ratio: Ratio) -> Option<Summary<'_>> {
+    /// The ratios of some cells, from the lowest to the highest.
+    pub fn ratios(&self, is_here: impl Fn(&Cell) -> bool, ratio: Ratio) -> Vec<(f64, &Cell)> {
         let here = self.rows.iter().filter(|(cell, _)| is_here(cell));
         let mut ratios =
             Vec::from_iter(here.filter_map(|(cell, layouts)| Some((layouts.median(ratio)?, cell))));
         ratios.sort_by(|a, b| a.0.total_cmp(&b.0));
+        ratios
+    }
+
+    /// The lowest, the median and the highest ratio of some cells.
+    fn summary(&self, is_here: impl Fn(&Cell) -> bool, ratio: Ratio) -> Option<Summary<'_>> {
+        let ratios = self.ratios(is_here, ratio);
         let (highest, cell) = *ratios.last()?;
         let is_above = |(ratio, _): &&(f64, &Cell)| *ratio >= 1.005;
         Some(Summary {
@@ -472,7 +483,7 @@ impl Summary<'_> {
 }
 
 /// A ratio with two places after the point, as `.98` or `1.02`.
-fn short(ratio: f64) -> String {
+pub fn short(ratio: f64) -> String {
     let text = format!("{ratio:.2}");
     match text.strip_prefix('0') {
         Some(rest) => rest.to_owned(),
