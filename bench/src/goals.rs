@@ -2,7 +2,7 @@
 //!
 //! Lengths are mixed, as those of numbers that people have are.
 
-use crate::table::{Cell, GROUPS, Ratio, Table, Times, short};
+use crate::table::{Cell, GROUPS, ORIGINAL, Ratio, Table, Times, short};
 use crate::{C_PRINTING, PRINT_COLUMN, READ_COLUMN};
 
 /// A goal of some cells.
@@ -17,161 +17,145 @@ struct Goal {
     most: f64,
 }
 
+impl Goal {
+    /// A goal beside the original.
+    const fn original(
+        operation: &'static str,
+        cells: &'static str,
+        has: fn(&Cell) -> bool,
+        most: f64,
+    ) -> Goal {
+        Goal {
+            operation,
+            cells,
+            has,
+            over: ORIGINAL,
+            ratio: Times::ratio,
+            most,
+        }
+    }
+
+    /// A goal beside other calls of the port.
+    const fn port(
+        operation: &'static str,
+        cells: &'static str,
+        has: fn(&Cell) -> bool,
+        over: &'static str,
+        most: f64,
+    ) -> Goal {
+        Goal {
+            operation,
+            cells,
+            has,
+            over,
+            ratio: Times::ratio_to_reference,
+            most,
+        }
+    }
+
+    /// A goal of a column beside plain digits.
+    const fn column(operation: &'static str, over: &'static str) -> Goal {
+        Goal {
+            operation,
+            cells: "all lengths",
+            has: |_| true,
+            over,
+            ratio: Times::ratio_to_floor,
+            most: 1.5,
+        }
+    }
+}
+
 /// The goals, in order.
 const GOALS: [Goal; 18] = [
-    Goal {
-        operation: "read",
-        cells: "1 to 3 digits",
-        has: |cell| is_mixed(cell) && GROUPS[..2].contains(&cell.group),
-        over: "num-format",
-        ratio: Times::ratio,
-        most: 0.7,
-    },
-    Goal {
-        operation: "read",
-        cells: "7 digits and more",
-        has: has_seven_digits,
-        over: "num-format",
-        ratio: Times::ratio,
-        most: 0.45,
-    },
-    Goal {
-        operation: "refuse",
-        cells: "no digit",
-        has: |cell| cell.group == "no digit",
-        over: "num-format",
-        ratio: Times::ratio,
-        most: 1.0,
-    },
-    Goal {
-        operation: "refuse",
-        cells: "another numeral, out of range",
-        has: |cell| cell.group != "no digit",
-        over: "num-format",
-        ratio: Times::ratio,
-        most: 1.0,
-    },
-    Goal {
-        operation: "read strictly",
-        cells: "7 digits and more",
-        has: has_seven_digits,
-        over: "read",
-        ratio: Times::ratio_to_reference,
-        most: 1.0,
-    },
-    Goal {
-        operation: "used Buffer",
-        cells: "every mixture",
-        has: is_mixed,
-        over: "num-format",
-        ratio: Times::ratio,
-        most: 1.0,
-    },
-    Goal {
-        operation: "used Buffer",
-        cells: "u8 of 3 digits",
-        has: |cell| cell.type_name == "u8" && cell.sizes == "3",
-        over: "num-format",
-        ratio: Times::ratio,
-        most: 1.0,
-    },
-    Goal {
-        operation: "used Buffer",
-        cells: "i128 of 1 to 3 digits, separators of several bytes",
-        has: |cell| {
-            cell.type_name == "i128"
-                && cell.group == GROUPS[1]
-                && ["constants", "built"].contains(&cell.format)
-        },
-        over: "num-format",
-        ratio: Times::ratio,
-        most: 1.0,
-    },
-    Goal {
-        operation: "to_formatted_string",
-        cells: "every mixture",
-        has: is_mixed,
-        over: "num-format",
-        ratio: Times::ratio,
-        most: 1.0,
-    },
-    Goal {
-        operation: "to_formatted_string",
-        cells: "7 digits and more",
-        has: has_seven_digits,
-        over: "num-format",
-        ratio: Times::ratio,
-        most: 0.6,
-    },
-    Goal {
-        operation: "append to String",
-        cells: "every mixture",
-        has: is_mixed,
-        over: "num-format",
-        ratio: Times::ratio,
-        most: 1.0,
-    },
-    Goal {
-        operation: "append to String",
-        cells: "7 digits and more",
-        has: has_seven_digits,
-        over: "num-format",
-        ratio: Times::ratio,
-        most: 0.6,
-    },
-    Goal {
-        operation: "look up",
-        cells: "refused: 64 letters",
-        has: |cell| cell.group == "refused: 64 letters",
-        over: "num-format",
-        ratio: Times::ratio,
-        most: 0.5,
-    },
-    Goal {
-        operation: "look up",
-        cells: "refused: NAME-ZZ in turn",
-        has: |cell| cell.group == "refused: NAME-ZZ in turn",
-        over: "num-format",
-        ratio: Times::ratio,
-        most: 0.3,
-    },
-    Goal {
-        operation: C_PRINTING[1].0,
-        cells: "all lengths",
-        has: |cell| cell.group == GROUPS[6],
-        over: "used Buffer",
-        ratio: Times::ratio_to_reference,
-        most: 1.0,
-    },
-    Goal {
-        operation: C_PRINTING[1].0,
-        cells: "1 to 3 digits",
-        has: |cell| is_mixed(cell) && cell.group == GROUPS[1],
-        over: "used Buffer",
-        ratio: Times::ratio_to_reference,
-        most: 1.4,
-    },
-    Goal {
-        operation: PRINT_COLUMN,
-        cells: "all lengths",
-        has: |_| true,
-        over: "`itoa`, plain digits",
-        ratio: Times::ratio_to_floor,
-        most: 1.5,
-    },
-    Goal {
-        operation: READ_COLUMN,
-        cells: "all lengths",
-        has: |_| true,
-        over: "std's `parse`, plain digits",
-        ratio: Times::ratio_to_floor,
-        most: 1.5,
-    },
+    Goal::original("read", "1 to 3 digits", is_short, 0.7),
+    Goal::original("read", "7 digits and more", has_seven_digits, 0.45),
+    Goal::original("refuse", "no digit", |cell| cell.group == "no digit", 1.0),
+    Goal::original(
+        "refuse",
+        "another numeral, out of range",
+        |cell| cell.group != "no digit",
+        1.0,
+    ),
+    Goal::port(
+        "read strictly",
+        "7 digits and more",
+        has_seven_digits,
+        "read",
+        1.0,
+    ),
+    Goal::original("used Buffer", "every mixture", is_mixed, 1.0),
+    Goal::original(
+        "used Buffer",
+        "u8 of 3 digits",
+        |cell| cell.type_name == "u8" && cell.sizes == "3",
+        1.0,
+    ),
+    Goal::original(
+        "used Buffer",
+        "i128 of 1 to 3 digits, separators of several bytes",
+        is_short_i128,
+        1.0,
+    ),
+    Goal::original("to_formatted_string", "every mixture", is_mixed, 1.0),
+    Goal::original(
+        "to_formatted_string",
+        "7 digits and more",
+        has_seven_digits,
+        0.6,
+    ),
+    Goal::original("append to String", "every mixture", is_mixed, 1.0),
+    Goal::original(
+        "append to String",
+        "7 digits and more",
+        has_seven_digits,
+        0.6,
+    ),
+    Goal::original(
+        "look up",
+        "refused: 64 letters",
+        |cell| cell.group == "refused: 64 letters",
+        0.5,
+    ),
+    Goal::original(
+        "look up",
+        "refused: NAME-ZZ in turn",
+        |cell| cell.group == "refused: NAME-ZZ in turn",
+        0.3,
+    ),
+    Goal::port(
+        C_PRINTING[1].0,
+        "all lengths",
+        |cell| cell.group == GROUPS[6],
+        "used Buffer",
+        1.0,
+    ),
+    Goal::port(
+        C_PRINTING[1].0,
+        "1 to 3 digits",
+        is_short,
+        "used Buffer",
+        1.4,
+    ),
+    Goal::column(PRINT_COLUMN, "`itoa`, plain digits"),
+    Goal::column(READ_COLUMN, "std's `parse`, plain digits"),
 ];
 
 /// Whether numbers of several lengths are in a cell.
 fn is_mixed(cell: &Cell) -> bool {
     cell.sizes.ends_with("mixed")
+}
+
+/// Whether all of them have up to three digits.
+fn is_short(cell: &Cell) -> bool {
+    is_mixed(cell) && GROUPS[..2].contains(&cell.group)
+}
+
+/// Whether a cell has numbers of `i128` of up to three digits, under a format whose separator has several bytes.
+fn is_short_i128(cell: &Cell) -> bool {
+    cell.type_name == "i128"
+        && cell.group == GROUPS[1]
+        && ["constants", "built"].contains(&cell.format)
 }
 
 /// Whether all of them have seven digits or more.

@@ -83,7 +83,7 @@ const COMPARISONS: [Comparison; 26] = [
 ];
 
 /// The name of the original in the tables.
-const ORIGINAL: &str = "num-format";
+pub const ORIGINAL: &str = "num-format";
 
 /// What is compared with the port and is not of it.
 const OTHERS: [&str; 4] = [
