@@ -152,8 +152,8 @@ pub fn parse<N: FromFormattedStr>(format: &NumFormat, text: &[u8]) -> Result<N, 
 
 /// Parses the text as a number of the type under the format that a struct has.
 #[inline(always)]
-pub fn parse_under<F: Format, N: FromFormattedStr>(format: &F, text: &[u8]) -> Result<N, Status>
-    ensures { (s : NumFormat) → IsFormatOf (F.answers format.now) s
+pub fn parse_under<'a, N: FromFormattedStr>(format: &Held<'a>, text: &[u8]) -> Result<N, Status>
+    ensures { (s : NumFormat) → IsFormatOf (⟦<Held<'a> as Format>⟧.answers format.now) s
         → Parses N.kind N.value s text.now result }
 {
     match N::from_formatted_bytes(text, format) {
@@ -236,12 +236,12 @@ pub fn parse_strict<N: FromFormattedStr>(
 
 /// Parses the text as [`parse_strict`] does under the format that a struct has.
 #[inline(always)]
-pub fn parse_strict_under<F: Format, N: FromFormattedStr>(
-    format: &F,
+pub fn parse_strict_under<'a, N: FromFormattedStr>(
+    format: &Held<'a>,
     text: &[u8],
     at: &mut usize,
 ) -> Result<N, Status>
-    ensures { (s : NumFormat) → IsFormatOf (F.answers format.now) s
+    ensures { (s : NumFormat) → IsFormatOf (⟦<Held<'a> as Format>⟧.answers format.now) s
         → ParsesExactly N.kind N.value s text.now at.old at.new result }
 {
     match N::from_strict_bytes(text, format) {
@@ -320,8 +320,8 @@ pub fn parse_decimal(format: &NumFormat, text: &[u8], at: &mut usize) -> Result<
 }
 
 /// Parses the text strictly as a decimal of a scale under the format that a struct has.
-pub fn parse_at_scale<F: Format>(format: &F, text: &[u8], scale: u8) -> Result<Decimal, Status>
-    ensures { (s : NumFormat) → IsFormatOf (F.answers format.now) s
+pub fn parse_at_scale<'a>(format: &Held<'a>, text: &[u8], scale: u8) -> Result<Decimal, Status>
+    ensures { (s : NumFormat) → IsFormatOf (⟦<Held<'a> as Format>⟧.answers format.now) s
         → ParsesAtScaleUnder scale s text.now result }
 {
     let Ok(text) = str::from_utf8(text) else {

@@ -198,8 +198,8 @@ pub trait Parsing<T> {
     ghost Parses: { Self → RowParser T };
 
     /// Parses the text under the format that a struct has, writes the value, and returns the status.
-    fn parse_row<F: Format>(&self, format: &F, text: &[u8], value: &mut T) -> i32
-        ensures { (s : NumFormat) → IsFormatOf (F.answers format.now) s
+    fn parse_row<'a>(&self, format: &Held<'a>, text: &[u8], value: &mut T) -> i32
+        ensures { (s : NumFormat) → IsFormatOf (⟦<Held<'a> as Format>⟧.answers format.now) s
             → Parses self.now s text.now value.old value.new result };
 }
 
@@ -210,7 +210,7 @@ pub struct Lenient;
 impl<N: FromFormattedStr + Copy> Parsing<N> for Lenient {
     ghost Parses = { λ _. number_row ParsesInto N.kind N.value };
 
-    fn parse_row<F: Format>(&self, format: &F, text: &[u8], number: &mut N) -> i32 {
+    fn parse_row<'a>(&self, format: &Held<'a>, text: &[u8], number: &mut N) -> i32 {
         match calls::parse_under(format, text) {
             Ok(parsed) => {
                 *number = parsed;
@@ -228,7 +228,7 @@ pub struct Strict;
 impl<N: FromFormattedStr + Copy> Parsing<N> for Strict {
     ghost Parses = { λ _. number_row ParsesRowExactly N.kind N.value };
 
-    fn parse_row<F: Format>(&self, format: &F, text: &[u8], number: &mut N) -> i32 {
+    fn parse_row<'a>(&self, format: &Held<'a>, text: &[u8], number: &mut N) -> i32 {
         let mut at = 0;
         match calls::parse_strict_under(format, text, &mut at) {
             Ok(parsed) => {
@@ -249,7 +249,7 @@ struct AtScale {
 impl Parsing<SignedWide> for AtScale {
     ghost Parses = { λ p. ParsesAtScaleInto p.scale };
 
-    fn parse_row<F: Format>(&self, format: &F, text: &[u8], units: &mut SignedWide) -> i32 {
+    fn parse_row<'a>(&self, format: &Held<'a>, text: &[u8], units: &mut SignedWide) -> i32 {
         match calls::parse_at_scale(format, text, self.scale) {
             Ok(parsed) => {
                 split(
@@ -320,9 +320,9 @@ pub fn parse<P: Parsing<T>, T: Copy, V: Validity, O: Offset>(
 }
 
 /// Parses each row of a column under the format that a struct has.
-fn parse_rows<F: Format, P: Parsing<T>, T: Copy, V: Validity, O: Offset>(
+fn parse_rows<'a, P: Parsing<T>, T: Copy, V: Validity, O: Offset>(
     parsing: &P,
-    format: &F,
+    format: &Held<'a>,
     offsets: &[O],
     bytes: &[u8],
     values: &mut [T],
@@ -331,7 +331,7 @@ fn parse_rows<F: Format, P: Parsing<T>, T: Copy, V: Validity, O: Offset>(
 )
     requires lengths { HasLengths (V.rows validity.now) (length values.old) (length offsets.now) (length statuses.old) }
     requires offsets { AreOffsets O.position (min O.LIMIT (length bytes.now)) offsets.now }
-    ensures { (s : NumFormat) → IsFormatOf (F.answers format.now) s
+    ensures { (s : NumFormat) → IsFormatOf (⟦<Held<'a> as Format>⟧.answers format.now) s
         → AreParsed (P.Parses parsing.now) (V.rows validity.now) O.position s offsets.now bytes.now values.old values.new statuses.new (length values.old) }
 {
     for k in 0..values.len() {
@@ -342,14 +342,14 @@ fn parse_rows<F: Format, P: Parsing<T>, T: Copy, V: Validity, O: Offset>(
 
 /// Parses a row of a column, if it has a value, and returns its status, which is 0 if it has none.
 #[inline(always)]
-fn parse_row<F: Format, P: Parsing<T>, T>(
+fn parse_row<'a, P: Parsing<T>, T>(
     parsing: &P,
-    format: &F,
+    format: &Held<'a>,
     text: &[u8],
     is_valid: bool,
     value: &mut T,
 ) -> i32
-    ensures { (s : NumFormat) → IsFormatOf (F.answers format.now) s
+    ensures { (s : NumFormat) → IsFormatOf (⟦<Held<'a> as Format>⟧.answers format.now) s
         → ParsesRow (P.Parses parsing.now) is_valid s text.now value.old value.new result }
 {
     if is_valid {
