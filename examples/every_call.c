@@ -83,6 +83,8 @@ int main(void) {
     show_number("parse strictly, i128 with a point", num_format_parse_strict_i128(&en, "-3.5", 4, &low, &high, &at), &low);
     printf("at: %zu\n", at);
     printf("reads back: %d, %d\n", num_format_reads_back(&en), num_format_reads_back(&format));
+    show("custom, separator 7", num_format_custom(&format, "7", 1, NUM_FORMAT_STANDARD, "-", 1));
+    show_number("parse strictly, separator 7", num_format_parse_strict_i64(&format, 64, "5", 1, &number, &at), &number);
     printf("prints alike: %d, %d\n", num_format_prints_alike(&en, &de), num_format_prints_alike(&en, &en));
     show("name 90", num_format_names(90, text, sizeof text));
     show("name for de_AT.UTF-8", num_format_lookup_name("de_AT.UTF-8", 11, text, sizeof text));

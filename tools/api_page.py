@@ -1,23 +1,30 @@
 #!/usr/bin/env python3
-"""Writes docs/api/index.html: the public items of the crates that users call, with their contracts and doc comments.
+"""Writes a page of HTML: the public items of the crates that users call, with their contracts and doc comments.
 
-    python3 tools/api_page.py            # writes the page
-    python3 tools/api_page.py --check    # status 1 where the page differs, or a link has no end
+    python3 tools/api_page.py FOLDER     # writes FOLDER/index.html and its style.css
+    python3 tools/api_page.py --check    # writes nothing
+
+The exit status is 1 where a link has no end.
 """
 import functools
+import os
 import re
+import shutil
 import sys
 from collections import namedtuple
 from html import escape
+from pathlib import Path
 from textwrap import dedent
 
 from tally import ROOT
 
-PAGE = ROOT / "docs" / "api" / "index.html"
+# What stands before the path of a file of this repository in a link, till the page has a folder.
+TOP = "../.."
+STYLE = ROOT / "tools" / "api_page.css"
 HEAD = """<!DOCTYPE html><html lang="en"><meta charset="utf-8"><meta name="viewport" content="width=device-width">
 <title>num_format: public calls</title><link rel="stylesheet" href="style.css"><nav><b>Public calls</b>{nav}</nav>
 <main><p>Below a call is its contract, which is proved. See the <a href="../../README.md">README</a>.{main}</main>"""
-CRATES = ["num_format", "num_format_decimal", "num_format_columns"]
+CRATES = ["num_format", "num_format_decimal"]
 # The files in the order in which a reader needs them; others follow.
 ORDER = """lib buffer to_formatted_str to_formatted_string formatted write_formatted decimal parsing strict locale
 custom_format custom_format_builder format grouping strings certificates json error error_kind printing""".split()
@@ -81,7 +88,7 @@ def sections(crate):
 def links(crate):
     """What a name in a doc comment or a contract of a crate links to: what the crate has, the others, or a source."""
     files = sorted((ROOT / "crates").glob("num_format_*/src/*.rt"))
-    found = {name: f"../../{file.relative_to(ROOT)}" for file in files for name in CONSTANT.findall(file.read_text())}
+    found = {name: f"{TOP}/{file.relative_to(ROOT)}" for file in files for name in CONSTANT.findall(file.read_text())}
     for other in sorted(CRATES, key=lambda name: name == crate):
         paths = [f"{other}::{module}".removesuffix("::lib") for module in sections(other)]
         paths += [path for _, pairs in sections(other).values() for _, path in pairs]
@@ -118,8 +125,8 @@ def section(crate, item, path):
     known = set(re.findall(r"\b[A-Z]\w*", " ".join(TYPES.findall(item.file.read_text())))) - {item.name}
     found = {name: href for name, href in links(crate).items() if name in known}
     for owner, module, names in SPEC.findall(item.file.read_text()):
-        spec = f"../../crates/{owner}/specs/{module.replace('.', '/')}.antt"
-        found |= {name: spec for name in names.split(", ") if (PAGE.parent / spec).is_file()}
+        spec = f"{TOP}/crates/{owner}/specs/{module.replace('.', '/')}.antt"
+        found |= {name: spec for name in names.split(", ") if (ROOT / spec.removeprefix(f"{TOP}/")).is_file()}
     lines = WORD.sub(lambda word: anchor(found.get(word[0]), word[0]), escape(dedent(item.lines), quote=False))
     out = f"<pre class=signature>{lines}</pre>{markdown(crate, item.docs)}\n"
     level, shown = (4, "::".join(path.split("::")[-2:])) if item.lines[0] == " " else (3, path)
@@ -133,18 +140,24 @@ def main():
         for module, (file, pairs) in sections(crate).items():
             path = f"{crate}::{module}".removesuffix("::lib")
             tag = "h2" if "::" in path else "h1"
-            page += f'<{tag} id="{path}">{anchor(f"../../{file.relative_to(ROOT)}", path.split("::")[-1])}</{tag}>'
+            page += f'<{tag} id="{path}">{anchor(f"{TOP}/{file.relative_to(ROOT)}", path.split("::")[-1])}</{tag}>'
             page += markdown(crate, "".join(re.findall(r"^//! ?(.*\n)", file.read_text(), re.M)))
             page += "".join(section(crate, *pair) for pair in pairs)
     for tag, path in re.findall(r'<(h[123]) id="([^"]*)"', page):
         nav += {"h1": "<h2>{}</h2>", "h2": "<p>{}", "h3": " {}"}[tag].format(anchor(f"#{path}", path.split("::")[-1]))
     page = HEAD.format(nav=nav, main=page)
-    if "--check" in sys.argv:
-        ends = re.findall('id="([^"]*)"', page)
-        wrong = [f"no #{name}" for name in re.findall('href="#([^"]*)"', page) if name not in ends]
-        sys.exit("\n".join(wrong) or (PAGE.read_text() != page and "docs/api/index.html: run tools/api_page.py") or 0)
-    PAGE.write_text(page)
+    ends = re.findall('id="([^"]*)"', page)
+    wrong = [f"no #{name}" for name in re.findall('href="#([^"]*)"', page) if name not in ends]
+    if sys.argv[1:] != ["--check"]:
+        folder = Path(sys.argv[1])
+        folder.mkdir(parents=True, exist_ok=True)
+        page = page.replace(f'href="{TOP}/', f'href="{os.path.relpath(ROOT, folder)}/')
+        (folder / "index.html").write_text(page, encoding="utf-8")
+        shutil.copy(STYLE, folder / "style.css")
+    sys.exit("\n".join(wrong) or 0)
 
 
 if __name__ == "__main__":
+    if len(sys.argv) != 2:
+        sys.exit(__doc__)
     main()

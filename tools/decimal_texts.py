@@ -3,11 +3,11 @@
 
     python3 tools/decimal_texts.py
 
-The lines go into crates/test_decimal/stdin: the rows of tools/decimals.py, and then the texts of this file, each with
-the name of its format and a scale. The expected output goes into crates/test_decimal/stdout. Python prints the
-number that the digits of a text write, as tools/decimals.py does, and compares: so it is found whether the text is
-spelled as the number is printed. The place of an unexpected byte is where a regular expression ends. The texts are
-the same in each run.
+The lines go into crates/test_decimal/stdin: the rows of tools/decimals.py, and then the texts of decimal_examples.tsv
+and more, each with the name of its format and a scale. The expected output goes into crates/test_decimal/stdout. Python
+prints the number that the digits of a text write, as tools/decimals.py does, and compares: so it is found whether the
+text is spelled as the number is printed. The place of an unexpected byte is where a regular expression ends. The texts
+are the same in each run.
 """
 import random
 import re
@@ -18,57 +18,19 @@ from decimals import FORMATS, HIGH, LOW, rescaled, some_units, text
 
 CRATE = Path(__file__).resolve().parent.parent / "crates" / "test_decimal"
 
-# Texts whose results say most: each cause, and what nearly is a number.
-EXAMPLES = [
-    ("english", "1,234.50", 2),
-    ("english", "1234.5", 2),
-    ("english", "-0.50", 1),
-    ("english", "-0.5", 38),
-    ("english", "0", 39),
-    ("english", "-0.00", 2),
-    ("english", "-0", 0),
-    ("english", ".5", 1),
-    ("english", "1.", 0),
-    ("english", "1,23.4", 1),
-    ("english", "1e3", 0),
-    ("english", "1.234.5", 1),
-    ("english", "1.234,5", 1),
-    ("english", "+1.5", 1),
-    ("english", "01.5", 1),
-    ("english", "1.255", 2),
-    ("english", "", 0),
-    ("english", "-", 0),
-    ("english", ".", 0),
-    ("english", "-.", 0),
-    ("english", ",", 0),
-    ("english", " 1.5", 1),
-    ("english", "1.5 ", 1),
-    ("english", "\u0661.\u0665", 1),
-    ("english", "1\u00b2", 0),
-    ("english", "0." + "0" * 38, 2),
-    ("english", "0." + "0" * 39, 2),
-    ("english", "1." + "7" * 39, 2),
-    ("english", "01." + "7" * 39, 2),
-    ("english", str(HIGH), 0),
-    ("english", str(HIGH + 1), 0),
-    ("english", str(LOW), 0),
-    ("english", str(LOW - 1), 0),
-    ("english", "0." + str(HIGH + 1)[1:], 38),
-    ("english", "9." + "9" * 38, 38),
-    ("english", "-1." + "9" * 38, 1),
-    ("german", "1.234,50", 2),
-    ("german", "1,234.50", 2),
-    ("german", "1234,5", 1),
-    ("french", "1\u202f234,5", 0),
-    ("french", "1 234,5", 0),
-    ("arabic", "\u22121\u066c234\u066b5", 3),
-    ("arabic", "-1\u066c234\u066b5", 3),
-    ("plain", "1234.50", 2),
-    ("plain", "1,234.50", 2),
-    ("longest", "--------1<<<<>>>>234[[[[]]]]5", 1),
-    ("longest", "1[[[[]]]5", 1),
-    ("longest", "1<<<<>>>>234<<<<>>>", 1),
+# Formats by which a text can be misread: with no minus sign or no mark, with a numeral, or with a mark that separates.
+AMBIGUOUS = [
+    "without a sign",
+    "without a mark",
+    "a mark that separates",
+    "a digit in the mark",
+    "a numeral in the mark",
+    "a digit in the sign",
+    "a digit in the separator",
 ]
+
+# Formats of the same texts as "plain", which has no separator, but for one that is never printed.
+PLAIN = ["a digit that is not printed", "a mark that is not printed"]
 
 
 def without_separators(name, units, scale):
@@ -85,6 +47,9 @@ def unexpected_at(shown, name):
 
 def parsed(shown, name):
     """The units and the scale that are to be returned, or the cause of the refusal."""
+    if name in AMBIGUOUS:
+        return "AmbiguousFormat"
+    name = "plain" if name in PLAIN else name
     mark, minus = FORMATS[name][1:]
     decimals = shown.partition(mark)[2]
     units = int("".join(re.findall("[0-9]", shown)) or "0") * (-1 if shown.startswith(minus) else 1)
@@ -146,7 +111,8 @@ def some_row(chance):
 def lines():
     """Each line of test_decimal with a text, and what is printed for it."""
     chance = random.Random(11)
-    rows = EXAMPLES + [some_row(chance) for _ in range(5000 - len(EXAMPLES))]
+    rows = list(decimals.examples("parse"))
+    rows += [some_row(chance) for _ in range(5000 - len(rows))]
     return [("\t".join(["parse", name, shown, str(to)]), expected((name, shown, to))) for name, shown, to in rows]
 
 

@@ -6,6 +6,9 @@ roundings by quantize, the order by comparison, and the sums by + and -. The row
 import decimal
 import random
 from decimal import Decimal
+from pathlib import Path
+
+from case_files import unescaped
 
 # More digits than any result has, so that each is exact.
 decimal.getcontext().prec = 200
@@ -34,27 +37,16 @@ SCALE_TOO_LARGE = "ScaleTooLarge: The scale is larger than 38."
 DIGITS_LOST = "DigitsLost: Digits would be lost at that scale."
 OUT_OF_RANGE = "OutOfRange: The units are out of range."
 
-# Rows whose results say most: the ends of i128 at each scale, signs of small numbers, halves, and equal values.
-EXAMPLES = [
-    ("english", -50, 2, -5, 1, 0),
-    ("english", 5, 2, 50, 3, 1),
-    ("english", -5, 38, 0, 38, 0),
-    ("english", 0, 0, 0, 38, 2),
-    ("english", 1234, 0, 123400, 2, 1),
-    ("german", 123450, 2, 12345, 1, 1),
-    ("english", 25, 1, 35, 1, 0),
-    ("english", 35, 1, 25, 1, 0),
-    ("english", -25, 1, -35, 1, 0),
-    ("english", 250001, 5, 25, 1, 0),
-    ("english", 999, 2, 1000, 2, 1),
-    ("longest", LOW, 1, HIGH, 1, 0),
-    ("longest", LOW, 0, LOW, 38, 38),
-    ("longest", HIGH, 0, 1, 0, 39),
-    ("plain", LOW, 38, HIGH, 37, 255),
-    ("french", HIGH // 10 + 1, 0, LOW, 1, 1),
-    ("french", -1, 0, LOW, 0, 1),
-    ("arabic", -(2**128 // 10) // 8, 3, LOW, 4, 4),
-]
+DATA = Path(__file__).with_name("decimal_examples.tsv")
+
+
+def examples(kind):
+    """The rows of that kind of the data, with numbers for all but the name of a format and a text to parse."""
+    lines = DATA.read_text(encoding="utf-8").splitlines()
+    rows = (line.split("\t") for line in lines if not line.startswith("#"))
+    for row_kind, name, first, *numbers in rows:
+        if row_kind == kind:
+            yield name, int(first) if kind == "print" else unescaped(first).decode(), *map(int, numbers)
 
 
 def value(units, scale):
@@ -140,5 +132,6 @@ def some_row(chance):
 def lines():
     """Each line of test_decimal with a row, and what is printed for it."""
     chance = random.Random(7)
-    rows = EXAMPLES + [some_row(chance) for _ in range(4500 - len(EXAMPLES))]
+    rows = list(examples("print"))
+    rows += [some_row(chance) for _ in range(4500 - len(rows))]
     return [("\t".join(["print", *map(str, row)]), expected(row)) for row in rows]

@@ -15,11 +15,9 @@ In a value the type before a variant or a constant may stand, as in `Locale::de`
 what the example names is imported. Examples share nothing. A block of `text` is a sketch, a layout or an output: it is
 listed, and not run. A block of another language, or one of `rust` in a crate that LIBRARIES lacks, fails.
 """
-import contextlib
 import re
 import subprocess
 import sys
-import tempfile
 
 from api_page import CRATES, USE, sections
 from proofs import copied, read_crates
@@ -27,24 +25,28 @@ from tally import ROOT, Tally, heading, run
 
 NAME = "doc_examples"
 
+
+def is_library(name):
+    """Whether other crates stand on a crate, which is none of tests."""
+    is_test = name.startswith("test_") or name == "num_format_vectors"
+    return not is_test and any(name in below for below in read_crates(ROOT).values())
+
+
+
 # The libraries whose doc comments are read. What users call comes first.
-LIBRARIES = [*CRATES, "num_format_text", "num_format_int", "num_format_parsing", "num_format_cldr",
-             "num_format_locale", "num_format_writers", "num_format_custom", "num_format_certificates",
-             "num_format_json", "regroup_shared", "regroup_commands", "regroup_options", "regroup_lines",
-             "regroup_stream", "uses_money", "uses_settings"]
+LIBRARIES = [*CRATES, *(name for name in read_crates(ROOT) if name not in CRATES and is_library(name))]
 
 # What is imported into each example, and by its name where an example has that.
 ALWAYS = ["num_format::ToFormattedStr", "num_format::ToFormattedString", "num_format::WriteFormatted",
           "num_format::parsing::FromFormattedStr", "num_format::parsing::ParseFormatted",
-          "num_format_decimal::ParseDecimal", "num_format_columns::Offset", "num_format_columns::Printer",
-          "num_format_columns::Validity", "anyhow::Result"]
+          "num_format_decimal::ParseDecimal", "anyhow::Result"]
 OTHERS = {"Value": "serde_json::Value", "str::from_utf8": "std::str", "Cursor": "std::io::Cursor",
           "BufWriter": "std::io::BufWriter", "io::ErrorKind": "std::io",
           "BoundedString": "num_format_text::bounded_string::BoundedString",
           "copy_bytes": "num_format_int::buffer::copy_bytes",
           "one_digit": "num_format_int::to_formatted_str::one_digit",
           "two_digits": "num_format_int::to_formatted_str::two_digits",
-          "grouped_number": "num_format_parsing::strict::grouped_number"}
+          "is_plain": "num_format_parsing::symbols::is_plain"}
 
 BLOCK = re.compile(r"^( *//[/!]) ?```(\w*)\n(.*?)^\1 ?```$", re.DOTALL | re.MULTILINE)
 SHOWN = re.compile(r"(.*?)\s*// (.*)", re.DOTALL)
@@ -183,16 +185,6 @@ def check_all(tally, show=False):
         tally.add(place, "this example is not run")
     for place in examples.sketches:
         print(f"not run, a block of `text`: {place}")
-
-
-@contextlib.contextmanager
-def started():
-    """Starts to run the examples on a processor that is idle. Gives what package_checks.check_all waits for."""
-    with tempfile.TemporaryFile("w+", errors="replace") as log:
-        words = ["nice", "-n", "19", sys.executable, __file__]
-        how = {"stdin": subprocess.DEVNULL, "stdout": log, "stderr": subprocess.STDOUT}
-        with subprocess.Popen(words, **how) as running:
-            yield "tools/doc_examples.py", running, log
 
 
 def main():

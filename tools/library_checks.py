@@ -1,10 +1,10 @@
 #!/usr/bin/env python3
-"""Runs the programs of examples/ in C, Python and Rust, and tools/header_checks.c, over the library for C.
+"""Runs the programs of examples/ in C, Python and Rust, and packages/c/tests/header.c, over the library for C.
 
     python3 tools/library_checks.py [LIBRARY]    # crates/num_format_c/out/libnum_format_c.a
 
-Each has to print what its file `.expected` has, and tools/header_checks.c nothing. C programs are built
-twice: as they are delivered, and to stop at an access outside an object. tools/header_checks.c makes each
+Each has to print what its file `.expected` has, and packages/c/tests/header.c nothing. C programs are built
+twice: as they are delivered, and to stop at an access outside an object. packages/c/tests/header.c makes each
 call, and no request for memory. A program whose compiler is missing is skipped. The last lines name it,
 and say how many passed and failed. The exit status is 1 where one failed.
 """
@@ -17,7 +17,7 @@ import memory_checks
 from tally import CC, ROOT, Tally, heading, run
 
 EXAMPLES = ROOT / "examples"
-HEADER_CHECKS = ROOT / "tools" / "header_checks.c"
+HEADER_CHECKS = ROOT / "packages" / "c" / "tests" / "header.c"
 CRATE = ROOT / "crates" / "num_format_c"
 LIBRARY = CRATE / "out" / "libnum_format_c.a"
 

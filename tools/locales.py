@@ -2,7 +2,7 @@
 """Writes the table of locales into the crates, from locales.txt beside this file.
 
     python3 tools/locales.py rows        rewrites the generated files of crates/num_format_cldr
-    python3 tools/locales.py constants   rewrites those of crates/num_format_locale and crates/test_constants
+    python3 tools/locales.py constants   rewrites those of crates/num_format_locale
 """
 import bisect
 import re
@@ -17,13 +17,19 @@ HERE = Path(__file__).resolve().parent
 CRATE = HERE.parent / "crates" / "num_format_cldr"
 CONSTANTS = HERE.parent / "crates" / "num_format_locale" / "src" / "locale" / "constants.rt"
 PLACES = HERE.parent / "crates" / "num_format_locale" / "src" / "search" / "pair_list.rt"
-NAMED = HERE.parent / "crates" / "test_constants"
 DATA = HERE / "locales.txt"
+WRITTEN = HERE / "locales_written.txt"
 MARK = "Written by tools/locales.py from tools/locales.txt; do not edit."
 PIECE = 64  # rows in one module at most
-NAMED_PIECE = 16  # constants in one function at most: the checker takes long over more
 GROUPINGS = {"Standard": 0, "Indian": 1, "Posix": 2}
 LINE_LENGTH = 100  # columns of a line with several names
+
+
+def text(name, **given):
+    """The file of that name, with what is given filled in."""
+    parts = re.split(r"^\[(\w+)\]\n", WRITTEN.read_text(encoding="utf-8"), flags=re.MULTILINE)
+    template = dict(zip(parts[1::2], parts[2::2]))[name]
+    return re.sub(r"%(\w+)", lambda match: str({**given, "mark": MARK}[match[1]]), template)
 
 
 def unescaped(text):
@@ -117,77 +123,16 @@ def module_name(piece):
 
 
 def piece_source(number, piece):
-    first, last = piece[0]["name"], piece[-1]["name"]
     start = number * PIECE
     lines = "".join(row_line(row) for row in piece)
-    return f"""//! The rows from `{first}` to `{last}`. {MARK}
-ghost use Rattle.num_format_cldr.specs.Entry.{{ShowsAll}};
-ghost use Rattle.num_format_cldr.specs.Table.{{piece}};
-
-use crate::record::Row;
-
-#[rattlefmt::skip]
-static ROWS: [Row; {len(piece)}] = [
-{lines}];
-
-/// Returns the rows from place {start} to place {start + len(piece) - 1}.
-pub fn rows() -> &'static [Row]
-    ensures {{ ShowsAll result.now (piece {number}) }}
-{{
-    &ROWS
-}}
-"""
-
-
-def piece_answers(module):
-    return f"""-- {MARK}
-use Rattle.std.proofs.Common.{{refl}}
-use lib.Utf8.{{encode}}
-use Rattle.num_format_cldr.specs.Families.{{families}}
-use Rattle.num_format_cldr.specs.Table.{{members, piece}}
-use Rattle.num_format_cldr.proofs.Shown.{{ShowsAll-from_equal}}
-use Rattle.num_format_cldr.proofs.rows.{module}.rows.Goals as goal
-
-pub returns : goal.returns
-unfolding encode families members piece
-returns c = ShowsAll-from_equal _ _ refl
-"""
+    ends = {"first": piece[0]["name"], "last": piece[-1]["name"], "start": start, "end": start + len(piece) - 1}
+    return text("piece", **ends, len=len(piece), lines=lines, number=number)
 
 
 def dispatch_source(modules):
     declarations = "".join(f"mod {module};\n" for module in modules)
     arms = "".join(f"        {number} => {module}::rows(),\n" for number, module in enumerate(modules[:-1]))
-    return f"""//! The rows, in modules of at most {PIECE} each. {MARK}
-ghost use Rattle.std.specs.Prelude.{{◌<◌}};
-ghost use Rattle.num_format_cldr.specs.Entry.{{ShowsAll}};
-ghost use Rattle.num_format_cldr.specs.Table.{{piece}};
-
-use crate::record::Row;
-
-{declarations}
-/// The most rows that one module has.
-pub const PIECE_LEN: usize = {PIECE};
-
-/// Returns the rows from place `PIECE_LEN * number` on, at most [`PIECE_LEN`] of them.
-pub fn rows_of_piece(number: usize) -> &'static [Row]
-    requires {{ number < {len(modules)} }}
-    ensures {{ ShowsAll result.now (piece number) }}
-{{
-    match number {{
-{arms}        _ => {modules[-1]}::rows(),
-    }}
-}}
-"""
-
-
-def names_source(names):
-    return f"""//! The names of all rows. {MARK}
-
-/// The names, in rising byte order.
-#[rattlefmt::skip]
-pub static NAMES: [&str; {len(names)}] = [
-{filled(map(literal, names), " " * 4)}];
-"""
+    return text("dispatch", piece=PIECE, declarations=declarations, count=len(modules), arms=arms, final=modules[-1])
 
 
 def generated_files():
@@ -197,11 +142,11 @@ def generated_files():
     modules = [module_name(piece) for piece in pieces]
     files = {
         "src/rows.rt": dispatch_source(modules),
-        "src/name_list.rt": names_source([row["name"] for row in table]),
+        "src/name_list.rt": text("names", len=len(table), lines=filled((literal(row["name"]) for row in table), " " * 4)),
     }
     for number, (module, piece) in enumerate(zip(modules, pieces)):
         files[f"src/rows/{module}.rt"] = piece_source(number, piece)
-        files[f"proofs/rows/{module}/rows/Answers.antt"] = piece_answers(module)
+        files[f"proofs/rows/{module}/rows/Answers.antt"] = text("answers", module=module)
     return files
 
 
@@ -226,21 +171,8 @@ def constants_source(names):
     lines = "".join(
         f"    pub const {constant_name(name)}: Locale = Locale {{ place: {place} }};\n" for place, name in enumerate(names)
     )
-    return f"""//! The locales as constants, and the names of the constants. {MARK}
-use crate::Locale;
-
-/// One constant a locale. It has the locale's name with `_` for `-`, and that of `as` is `as_`, since
-/// `as` is a keyword.
-#[allow(non_upper_case_globals)]
-#[rattlefmt::skip]
-impl Locale {{
-{lines}}}
-
-/// The names of the constants, in the order of their places.
-#[rattlefmt::skip]
-pub static VARIANT_NAMES: [&str; {len(names)}] = [
-{filled((literal(constant_name(name)) for name in names), " " * 4)}];
-"""
+    constants = filled((literal(constant_name(name)) for name in names), " " * 4)
+    return text("constants", lines=lines, len=len(names), names=constants)
 
 
 def places_source(names):
@@ -250,65 +182,7 @@ def places_source(names):
     lines = "".join(
         "    " + ", ".join(map(str, places[start:start + width])) + ",\n" for start in range(0, len(places), width)
     )
-    return f"""//! The places where pairs of letters begin. {MARK}
-
-/// For each pair of letters from `aa` to `zz` the first place whose name begins with that pair or a
-/// later one, and last the number of names.
-#[rattlefmt::skip]
-pub static FIRST_PLACES: [u16; {len(places)}] = [
-{lines}];
-"""
-
-
-def named_function(piece):
-    return "from_" + piece[0].lower()
-
-
-def named_source(pieces):
-    functions = "".join(
-        f"""
-/// Returns the constants from `{piece[0]}` to `{piece[-1]}`, each with its name.
-#[rattlefmt::skip]
-pub fn {named_function(piece)}() -> [(Locale, &'static str); {len(piece)}]
-    ensures {{ AreNamed result }}
-{{
-    [
-""" + filled((f'(Locale::{name}, "{name}")' for name in piece), " " * 8) + "    ]\n}\n"
-        for piece in pieces
-    )
-    return f"""//! The constants of `Locale`, each with its name. {MARK}
-ghost use Rattle.test_constants.specs.Named.{{AreNamed}};
-
-use num_format_locale::Locale;
-{functions}"""
-
-
-def named_answers(function):
-    return f"""-- {MARK}
-use Rattle.std.proofs.Common.{{refl}}
-use lib.Utf8.{{encode}}
-use Rattle.num_format_cldr.specs.Families.{{families}}
-use Rattle.num_format_cldr.specs.Table.{{members, table_names}}
-use Rattle.test_constants.proofs.named.{function}.Goals as goal
-
-pub returns : goal.returns
-unfolding encode families members table_names
-returns c = refl
-"""
-
-
-def write_named(names):
-    constants = [constant_name(name) for name in names]
-    pieces = [constants[start:start + NAMED_PIECE] for start in range(0, len(constants), NAMED_PIECE)]
-    files = {"src/named.rt": named_source(pieces)}
-    for function in map(named_function, pieces):
-        files[f"proofs/named/{function}/Answers.antt"] = named_answers(function)
-    for path in NAMED.glob("proofs/named/*/Answers.antt"):
-        path.unlink()
-    for name, text in files.items():
-        path = NAMED / name
-        path.parent.mkdir(parents=True, exist_ok=True)
-        path.write_text(text, encoding="utf-8")
+    return text("places", len=len(places), lines=lines)
 
 
 def write_constants():
@@ -316,7 +190,6 @@ def write_constants():
     for path, source in [(CONSTANTS, constants_source), (PLACES, places_source)]:
         path.parent.mkdir(parents=True, exist_ok=True)
         path.write_text(source(names), encoding="utf-8")
-    write_named(names)
 
 
 COMMANDS = {"rows": write_rows, "constants": write_constants}

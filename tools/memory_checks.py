@@ -1,20 +1,25 @@
+#!/usr/bin/env python3
 """Refuses each request for memory of the programs and of the tests of memory in turn, and counts those of
 calls that take none.
+
+    python3 tools/memory_checks.py TOP ENDING    # programs of that copy of the repository, whose names end so
 
 tools/refuse_memory.c refuses and counts them. A C compiler builds it: where there is none, the checks are
 skipped.
 """
 import os
 import re
+import sys
 import tempfile
 from pathlib import Path
 
 import filter_checks
-from regroup_checks import COMMANDS, FAILED
-from tally import CC, ROOT, heading, run, shown
+import generated_cases
+from case_files import Case, of_crate
+from tally import CC, ROOT, Tally, heading, run
 
 # The crate that has the tests of memory, and how its executable file lists them.
-CRATE = "test_memory"
+CRATE = "test_printing"
 TEST = re.compile(r"^(memory::\w+): test$", re.M)
 
 # How it lists those of calls that take no memory, and how many requests one makes before them.
@@ -29,17 +34,19 @@ PASSED_REFUSED = (0, b"refused\n\ntest result: ok\n", b"")
 REFUSE_MEMORY = ROOT / "tools" / "refuse_memory.c"
 MANY_REQUESTS = 100
 
+# How a program ends that gets no memory.
+FAILED = (3, b"", b"")
 
-# Words of `regroup-lines`, without input, the status, standard output and standard error.
-FILTER_COMMANDS = [
-    (["en", "de"], 0, "", ""),
-    (["en", "custom:,:Indian:-"], 0, "", ""),
-    (["en", "xx"], 2, "", filter_checks.unknown(b"'xx'").decode()),
+# Words of `regroup-lines`, without input.
+FILTER_CASES = [
+    Case("en de", [b"en", b"de"]),
+    Case("en custom", [b"en", b"custom:,:Indian:-"]),
+    Case("en xx", [b"en", b"xx"], status=2, err=filter_checks.UNKNOWN),
 ]
 
 
-def check_all(tally, programs, filters, tests):
-    """Refuses each request for memory of `regroup`, of `regroup-lines` and of the tests of that file in turn."""
+def check_all(tally, top, ending):
+    """Refuses each request for memory of `regroup`, of `regroup-lines` and of the tests of memory in turn."""
     heading("memory refused at each request in turn")
     if tally.lacks(CC, "memory refused"):
         return
@@ -47,11 +54,15 @@ def check_all(tally, programs, filters, tests):
         library = refusing_library(tally, Path(folder))
         if library is None:
             return
-        for program in programs:
-            refuse_to_program(tally, library, program, COMMANDS)
-        for program in filters:
-            refuse_to_program(tally, library, program, FILTER_COMMANDS)
-        refuse_to_tests(tally, library, tests)
+        names = next(generated_cases.of_regroup())
+        refuse_to_program(tally, library, built(top, "regroup", ending), [*of_crate("regroup")[0], names])
+        refuse_to_program(tally, library, built(top, "regroup_filter", ending), FILTER_CASES)
+        if not ending:
+            refuse_to_tests(tally, library, built(top, CRATE, "_tests"))
+
+
+def built(top, crate, ending):
+    return top / "crates" / crate / "out" / f"{crate}{ending}"
 
 
 def refusing_library(tally, folder):
@@ -63,12 +74,11 @@ def refusing_library(tally, folder):
     return library if library.is_file() else None
 
 
-def refuse_to_program(tally, library, program, commands):
+def refuse_to_program(tally, library, program, cases):
     """The program ends as with memory, or prints nothing and ends with status 3."""
-    for words, status, out, err in commands:
-        whole = (status, out.encode(), err.encode())
-        name = f"{program.name} {shown(words)}"
-        refuse_each(tally, library, name, [program, *words], whole, [whole, FAILED])
+    for case in cases:
+        whole = (case.status, case.out, case.err)
+        refuse_each(tally, library, f"{program.name}: {case.name}", [program, *case.words], whole, [whole, FAILED])
 
 
 def refuse_to_tests(tally, library, tests):
@@ -119,3 +129,13 @@ def run_refused(library, number, words):
         ended = run(words, capture_output=True, env=env)
         made = os.stat(requests.name).st_size
     return (ended.returncode, ended.stdout, ended.stderr), made
+
+
+def main():
+    tally = Tally()
+    check_all(tally, Path(sys.argv[1]), sys.argv[2] if len(sys.argv) > 2 else "")
+    tally.end()
+
+
+if __name__ == "__main__":
+    main()

@@ -2,18 +2,19 @@
 """Compares the code in README.md and docs/ with that of the crates and of examples/ that have it, and runs commands.
 
     python3 tools/readme_code.py
-    python3 tools/readme_code.py --run    # runs the commands that are shown, over programs that are built
+    python3 tools/readme_code.py --run [TOP]    # runs the commands that are shown, over programs that are built there
 
 Each block of the language `rust` has to stand in a file of test_readme, of a crate
 `uses_NAME`, of num_format_vectors or of test_printing, line after line, and each of `c` and `python` in a file of
-examples/. README.md has to have a text block that is the stdout of test_readme. The exit status is 1 where one differs.
+examples/. docs/CALLERS.md has to have a text block that is the stdout of test_readme. The exit status is 1 where one
+differs.
 
 Each command in a block of `sh` that runs `regroup` or `regroup-lines`, in README.md and in those of examples/ and
 packages/, has to end with status 0, and to print what is shown: after `prints` in its comment, or in the block of
-`text` after it, or in NAME.expected where it reads NAME.tsv. `rt run --` runs the program without its proof. So does
-`tools/install PREFIX`. Each other command that README.md or that of a package shows, in a block of `sh` or as code in
-its text, is one of ELSEWHERE: a test that runs it. Where a README of packages/ shows other code or what it prints, the
-test of that package has to name README.md.
+`text` after it, or in NAME.expected where it reads NAME.tsv. `rt run --` and `rt try --` run the program that is built. So does
+`tools/install PREFIX`. Each other command that README.md, docs/CALLERS.md or the README of a package shows in a block of
+`sh` is one of ELSEWHERE: a test that runs it. Each link to a file has an end. Where a README of packages/ shows other
+code or what it prints, the test of that package has to name README.md.
 """
 import os
 import re
@@ -25,12 +26,16 @@ from textwrap import dedent
 from tally import ROOT, Tally, heading, run
 
 EXAMPLES = ROOT / "crates" / "test_readme"
+CALLERS = ROOT / "docs" / "CALLERS.md"
 CRATES = [
     EXAMPLES,
     *sorted((ROOT / "crates").glob("uses_*")),
     ROOT / "crates" / "num_format_vectors",
     ROOT / "crates" / "test_printing",
 ]
+
+# The documents whose links have to have an end.
+DOCUMENTS = ["*.md", "docs/*.md", "bench/*.md", "crates/*.md", "examples/**/*.md", "packages/*/*.md", "tools/*.md"]
 
 # The files that a block of each language may stand in.
 FILES = {
@@ -53,33 +58,29 @@ def is_part(block, source):
     return any(dedent("\n".join(part)) == "\n".join(wanted) for part in parts)
 
 
-# How other commands begin, with the file that runs them and its words for that.
+# How other commands begin, with the test that runs them.
 ELSEWHERE = {
-    r"python3 tools/test\.py|\.ci/run": (".ci/run", "python3 tools/test.py --edits"),
-    r"python3 tools/own_project\.py": ("tools/own_project.py", "make(own, "),
-    r"cd \.\./shop/crates/example && rt check": ("tools/own_project.py", '["rt", "ci"], cwd=own'),
-    r"python3 tools/filter_checks\.py": ("tools/test.py", '"filter_checks.py"'),
-    r"(?:\(cd crates/num_format_c && )?rt lib": ("tools/test.py", '["rt", "lib"]'),
-    r"rt run$": ("tools/test.py", '["rt", "run", "--", *words]'),
-    r"tools/install PREFIX": ("tools/readme_code.py", 'top / "tools" / "install"'),
-    r"packages/c/install ": ("packages/c/test", 'HERE / "install"'),
-    r"cc program\.c ": ("packages/c/test", '"--cflags", "--libs", "num_format"'),
-    r"(?:python3 -m venv .* && \S+)?pip install ": ("packages/python/environment.py", '"pip", "install"'),
-    r"make -C packages/sqlite": ("packages/sqlite/test", 'for target, expected in [("install"'),
-    r"make -C packages/postgresql": ("packages/postgresql/test", 'for target, expected in [("install"'),
-    r"python3 examples/dask_column\.py": ("packages/python/tests/test_programs.py", '"dask_column.py"'),
-    r"packages/bench/run": ("packages/bench/test", 'HERE / "run"'),
-    r"packages/\w+/test$": ("tools/package_checks.py", 'glob("*/test")'),
+    "python3 tools/test.py": ".ci/run",
+    "python3 tools/own_project.py": "tools/own_project.py",
+    "cd ../shop/crates/example && rt check": "tools/own_project.py",
+    "(cd crates/num_format_c && rt lib)": "tools/test.py",
+    "tools/build": "packages/release/checks",
+    "cp -r bin lib": "packages/release/checks",
+    "export PKG_CONFIG_PATH": "packages/release/checks",
+    "packages/c/install": "packages/c/test",
+    "cc program.c": "packages/c/test",
+    "pip install": "packages/python/test",
+    "python3 -m venv": "packages/python/test",
+    "/usr/bin/python3 -m venv": "packages/python/test",
+    "make -C packages/sqlite": "packages/sqlite/test",
+    "make -C packages/postgresql": "packages/postgresql/test",
+    "packages/": "tools/test.py",
+    "python3 examples/dask_column.py": "packages/python/tests/test_programs.py",
 }
-
-# A command in a text, as code.
-SHOWN = re.compile(
-    r"`((?:python3|pip|make|rt|cc|cargo|\(cd) [^`]*|(?:tools|packages|examples)/[\w/]*(?:run|test|install)(?: [^`]*)?)`"
-)
 
 # A block of commands with the block of text after it, a command that is run, and what it is to print.
 COMMANDS = re.compile(r"^```sh\n(.*?)^```\n(?:(?!```)[^\n]*\n){0,4}(?:^```text\n(.*?)^```)?", re.DOTALL | re.MULTILINE)
-RUN = re.compile(r"(?:.*\| )?(?:regroup|regroup-lines) |\(cd crates/regroup\w* && rt run -- ")
+RUN = re.compile(r"(?:.*\| )?(?:regroup|regroup-lines) |\(cd crates/regroup\w* && rt (?:run|try) -- ")
 PRINTS = re.compile(r"#.*\bprints (.*)")
 TABLE = re.compile(r"< (\S+)\.tsv$")
 
@@ -105,29 +106,33 @@ def commands(path):
 
 def not_run(path):
     """The commands of README.md or of a package that no test runs."""
-    text = path.read_text(encoding="utf-8")
-    name = path.relative_to(ROOT)
-    shown = [line for block in blocks(path, "sh") for line in block.replace("\\\n", " ").splitlines()]
-    for line in [line.strip() for line in [*shown, *SHOWN.findall(text)] if not RUN.match(line)]:
-        file, words = next((found for start, found in ELSEWHERE.items() if re.match(start, line)), (None, None))
-        if not file:
-            yield f"{name}: no test runs: {line}"
-        elif words not in (ROOT / file).read_text(encoding="utf-8"):
-            yield f"{file}: it has no `{words}` any more, so it may not run: {line}"
-    if path.parent != ROOT and re.search(r"^```(?!sh|toml)\w", text, re.MULTILINE):
-        tests = [path.with_name("test"), *path.parent.glob("tests/*.py")]
-        if not any("README" in test.read_text(encoding="utf-8") for test in tests):
-            yield f"{name}: its test does not read it"
+    lines = [line for block in blocks(path, "sh") for line in block.replace("\\\n", " ").splitlines()]
+    for line in map(str.strip, lines):
+        if not RUN.match(line) and not any(line.startswith(start) for start in ELSEWHERE):
+            yield f"{path.relative_to(ROOT)}: no test runs: {line}"
+    is_shown = re.search(r"^```(?!sh|toml|cmake)\w", path.read_text(encoding="utf-8"), re.MULTILINE)
+    tests = [path.with_name("test"), path.with_name("checks"), *path.parent.glob("tests/*.py")]
+    reads = (test for test in tests if test.is_file() and "README" in test.read_text(encoding="utf-8"))
+    if path.parent.parent == ROOT / "packages" and is_shown and not any(reads):
+        yield f"{path.relative_to(ROOT)}: its test does not read it"
+
+
+def dead_links(path):
+    """The links of a document to files that are not there."""
+    for link in re.findall(r"\]\(([^)#:\s]+)[^):]*\)", path.read_text(encoding="utf-8")):
+        if not (path.parent / link).exists():
+            yield f"{path.relative_to(ROOT)}: there is no {link}"
 
 
 def check_install(tally, top):
-    """Installs the programs that were built in that copy of the repository."""
+    """Installs the programs that were built in that copy of the repository, and removes them."""
+    files = ["NOTICE", "regroup", "regroup-lines", "regroup-lines", "regroup-lines.1", "regroup.1"]
     with tempfile.TemporaryDirectory() as prefix:
         how = {"env": {**os.environ, "DESTDIR": prefix}, "capture_output": True, "text": True}
-        ended = run([top / "tools" / "install", "/usr"], **how)
-        found = sorted(path.name for path in Path(prefix).rglob("*") if path.is_file())
-    expected = ["regroup", "regroup-lines", "regroup-lines", "regroup-lines.1", "regroup.1"]
-    tally.compare("tools/install", (ended.returncode, ended.stderr, found), (0, "", expected))
+        for words, expected in [(["/usr"], files), (["--uninstall", "/usr"], [])]:
+            ended = run([top / "tools" / "install", *words], **how)
+            found = sorted(path.name for path in Path(prefix).rglob("*") if path.is_file())
+            tally.compare(f"tools/install {words[0]}", (ended.returncode, ended.stderr, found), (0, "", expected))
 
 
 def check_commands(tally, top):
@@ -147,7 +152,7 @@ def check_commands(tally, top):
 def main():
     if "--run" in sys.argv:
         tally = Tally()
-        check_commands(tally, ROOT)
+        check_commands(tally, Path(sys.argv[2]) if len(sys.argv) > 2 else ROOT)
         tally.end()
     readme = ROOT / "README.md"
     different = []
@@ -157,12 +162,16 @@ def main():
             for block in blocks(path, language):
                 if not any(is_part(block, source) for source in sources):
                     different.append(f"{path.relative_to(ROOT)}: no file has:\n{block}")
-    if (EXAMPLES / "stdout").read_text(encoding="utf-8") not in blocks(readme, "text"):
-        different.append("README.md: no block has the stdout of test_readme")
-    for path in [readme, *sorted(ROOT.glob("packages/*/README.md"))]:
+    if (EXAMPLES / "stdout").read_text(encoding="utf-8") not in blocks(CALLERS, "text"):
+        different.append("docs/CALLERS.md: no block has the stdout of test_readme")
+    for path in [readme, CALLERS, *sorted(ROOT.glob("packages/*/README.md"))]:
         different += not_run(path)
-    print("".join(f"{line}\n" for line in different), end="")
-    sys.exit(1 if different else 0)
+    for path in [path for pattern in DOCUMENTS for path in sorted(ROOT.glob(pattern))]:
+        different += dead_links(path)
+    different += [f"{file} is not there" for file in ELSEWHERE.values() if not (ROOT / file).is_file()]
+    tally = Tally()
+    tally.add("the code and commands of README.md, docs/ and packages/", "\n".join(different))
+    tally.end()
 
 
 if __name__ == "__main__":

@@ -2,9 +2,10 @@
 
 A text spells a number if it is the number's text under a format, or that without separators. Python
 prints the number, and compares. The place of an unexpected byte is where a regular expression ends that
-matches digits and separators.
+matches digits and separators. Which characters are numeric is what Python's tables of Unicode say.
 """
 import re
+import unicodedata
 from typing import NamedTuple
 
 # The places among digits where a separator stands, by what follows there.
@@ -32,8 +33,16 @@ def printed(number, form):
     return form.minus_sign + body if number < 0 else body
 
 
-def strict_result(text, form, is_accepted):
-    """The result in the words of the cases. `is_accepted` says whether parsing that is not strict returns a number."""
+def is_ambiguous(form):
+    """Whether a text can be misread: there is no minus sign, or it or a separator that is printed has a numeral."""
+    printed_texts = form.minus_sign + (b"" if form.grouping == "Posix" else form.separator)
+    return not form.minus_sign or any(unicodedata.category(each)[0] == "N" for each in printed_texts.decode())
+
+
+def strict_result(text, form, is_in_range):
+    """The result in the words of the cases. `is_in_range` says whether a number is a value of the type."""
+    if is_ambiguous(form):
+        return "err AmbiguousFormat"
     is_negative = text.startswith(form.minus_sign)
     separators = [] if form.grouping == "Posix" or not form.separator else [re.escape(form.separator)]
     expected = re.compile(b"(?:" + b"|".join([*separators, rb"\d"]) + b")*")
@@ -46,7 +55,7 @@ def strict_result(text, form, is_accepted):
     number = -int(digits) if is_negative else int(digits)
     if text not in [printed(number, form), printed(number, form._replace(grouping="Posix"))]:
         return "err Misspelled"
-    return f"ok {number}" if is_accepted else "err OutOfRange"
+    return f"ok {number}" if is_in_range(number) else "err OutOfRange"
 
 
 def is_value(type_name, number):

@@ -3,6 +3,7 @@ import os
 import shutil
 import subprocess
 import sys
+import threading
 import time
 from pathlib import Path
 
@@ -27,12 +28,17 @@ class Tally:
         self.passed = 0
         self.failed = 0
         self.skipped = []
+        self.counting = threading.Lock()
+
+    def count(self, passed, failed):
+        with self.counting:
+            self.passed += passed
+            self.failed += failed
 
     def add(self, name, problem=None):
         """Counts a check, which failed if it has a problem, and shows it."""
         print(f"FAILED {name}: {problem}" if problem else f"ok {name}", flush=True)
-        self.failed += bool(problem)
-        self.passed += not problem
+        self.count(not problem, bool(problem))
 
     def compare(self, name, found, expected):
         """Counts a check that failed if the values differ."""
@@ -88,13 +94,13 @@ def other(output):
     return "stderr" if output == "stdout" else "stdout"
 
 
-def compare_failed(tally, words, output, expected):
-    """Runs a program with an output that is full, then closed: its status, and the other output."""
+def compare_failed(tally, words, output, expected, **given):
+    """Runs a program with an output that is full, then closed: its status, and the other output. What is expected is a
+    pair of these, or one for each."""
+    pairs = expected if isinstance(expected, list) else 2 * [expected]
     with open("/dev/full", "wb") as full:
-        for state, how in [
-            ("full", {output: full}),
-            ("closed", {output: None, "preexec_fn": CLOSE[output]}),
-        ]:
-            ended = run(words, **{other(output): subprocess.PIPE, **how})
+        states = [("full", {output: full}), ("closed", {output: None, "preexec_fn": CLOSE[output]})]
+        for (state, how), wanted in zip(states, pairs):
+            ended = run(words, **{other(output): subprocess.PIPE, **how, **given})
             name = f"{shown(words[1:])}, {output} {state}"
-            tally.compare(name, (ended.returncode, getattr(ended, other(output))), expected)
+            tally.compare(name, (ended.returncode, getattr(ended, other(output))), wanted)

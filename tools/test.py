@@ -1,187 +1,145 @@
 #!/usr/bin/env python3
-"""Proves and tests everything.
+"""Tests everything, in minutes, or proves and tests everything.
 
-    python3 tools/test.py                  # proves what users need, and runs every test
-    python3 tools/test.py --edits          # proves the tests too, and tries the must-fail edits
-    python3 tools/test.py --skip-proofs    # all but `rt ci`
+    python3 tools/test.py                    # the tests, unproved: minutes
+    python3 tools/test.py --prove            # proves what users need, and runs every test: over half an hour
+    python3 tools/test.py --prove --edits    # proves the tests too, and tries the must-fail edits: over an hour
 
-In this order:
+The first needs the kit alone, and runs by `rt try`, side by side: the tests of each crate that has some, the stored run
+of each program, which for some is over recorded results, and the cases of programs (cases.py), the examples of the doc
+comments (doc_examples.py) and the code of README.md (readme_code.py). Nothing is proved by it.
 
-1. tools/readme_code.py compares the code in README.md and docs/ with the crate that has it, tools/api_page.py
-   the page docs/api/ with the doc comments, which tools/doc_comments.py finds complete, and tools/column_calls.py
-   the calls for columns of the library for C with what it writes. tools/counts.py finds where each number and each
-   claim of README.md and docs/ comes from.
-2. `rt ci` has every proof, but of crates that an earlier run here proved and that did not change since, the
-   tests, and each program as two compilers build it. It works on a copy of the repository. With --edits that
-   has all; else it has no must-fail edits, not the library that bench/ measures, and not the crates of tests
-   that tools/trials.py names: `rt try` runs those, with a check of each access in place of a proof. The log has
-   the time at which each crate was proved, and for each edit the function and the goal that refused it.
-3. tools/regroup_checks.py runs `regroup` with words of each status, and with outputs that are full or
-   closed.
-4. tools/program_checks.py runs test_streams with such outputs, test_oracle with cases of
-   each kind but one, and test_properties with each property negated.
-5. Beside them tools/filter_checks.py runs `regroup-lines` on good, bad and long input, tools/numfmt_rows.py on rows
-   that `numfmt` prints too, and tools/engine_checks.py on many processes.
-6. tools/ledger_checks.py runs uses_ledger on good, bad and long ledgers, and where a read or a write fails.
-7. tools/readme_code.py runs the commands in README.md.
-8. tools/memory_checks.py runs `regroup`, `regroup-lines` and each test of test_memory as often as it makes
-   requests for memory, each time with another one refused, and counts those of calls that take none.
-9. tools/package_checks.py has run the tests of each package in packages/ since the library for C was built,
-   beside `rt ci`, and meanwhile tools/library_checks.py has run the programs of examples/ over that library and
-   held it to its header, and tools/work_checks.py has counted the instructions of its calls, and compared them
-   with those of tools/work_checks.tsv. tools/doc_examples.py has run the examples of the doc comments, unproved,
-   and tools/own_project.py has proved a crate in a repository of its own.
+With --prove, side by side:
 
-The last lines name each check that was skipped and why, and say how many passed and failed in all.
-The exit status is 1 where one failed.
+- `rt ci` has every proof, the tests, and each program as two compilers build it. It works on a copy of the repository.
+  With --edits that has all; else it has no must-fail edits, not the library that bench/ measures nor that for C, and not
+  the crates of tests that trials.py names: those run unproved meanwhile, as do the examples of the doc comments.
+- Once a program is proved, the cases of cases.py run on it as each compiler built it, and what no case can say:
+  program_checks.py, filter_checks.py, memory_checks.py, which refuses memory, and the commands of the READMEs.
+- `rt lib` proves and builds the library for C in this repository. Over it run the tests of each package, the programs of
+  examples/ and packages/c/tests/header.c (library_checks.py), the counts of instructions (work_checks.py), with the
+  programs those of a release (packages/release/checks), and own_project.py, which proves a crate in a repository of its
+  own over what `rt lib` proved.
 
-With --skip-proofs, `rt run`, `rt test` and `rt lib` build the programs, the tests and the library, and
-prove what they need of what changed.
+The log has the time at which each crate was proved, and for each edit the error that refused it. The last lines name
+each check that was skipped and why, and say how many passed and failed. The exit status is 1 where one failed.
 """
 import argparse
-import contextlib
-import subprocess
-import sys
+import threading
 
-import doc_examples
-import filter_checks
-import ledger_checks
+import cases
 import library_checks
 import memory_checks
-import own_project
-import package_checks
-import program_checks
-import readme_code
-import regroup_checks
 import trials
+from jobs import Jobs
+from library_checks import LIBRARY
 from proofs import copied, prove
-from tally import ROOT, Tally, heading, run
-
-
-# The checks of each program, by its crate.
-CHECKS = {
-    "regroup": regroup_checks.check_all,
-    program_checks.STREAMS.name: program_checks.check_streams,
-    program_checks.ORACLE.name: program_checks.check_oracle,
-    program_checks.PROPERTIES.name: program_checks.check_properties,
-    ledger_checks.CRATE.name: ledger_checks.check_all,
-}
-
-# What checks `regroup-lines`, beside those of other programs, and the library for C, beside the tests of packages.
-FILTER_SCRIPTS = ["filter_checks.py", "numfmt_rows.py", "engine_checks.py"]
-LIBRARY_SCRIPTS = ["library_checks.py", "work_checks.py"]
+from tally import ROOT, Tally, heading
 
 # How the name of a program ends as each of the two compilers builds it.
 COMPILERS = ["", ".by-rattle"]
 
+# The programs that cases.py, program_checks.py and filter_checks.py run once they are proved, by their crates.
+BUILT = {
+    "regroup": ["cases.py", "program_checks.py"],
+    "regroup_filter": ["cases.py", "filter_checks.py"],
+    "uses_ledger": ["cases.py", "program_checks.py"],
+    "test_readme": ["cases.py", "program_checks.py"],
+    "test_oracle": ["program_checks.py"],
+    "test_properties": ["program_checks.py"],
+}
 
-def compare_code(tally):
-    heading("the code in README.md and docs/")
-    checked = ["api_page.py", "--check"], ["column_calls.py", "--check"], ["counts.py", "--check"]
-    for words in ["readme_code.py"], ["doc_comments.py"], *checked:
-        ended = run([sys.executable, ROOT / "tools" / words[0], *words[1:]])
-        tally.compare(f"tools/{' '.join(words)}", ended.returncode, 0)
-
-
-def build(tally):
-    """Builds what `rt ci` would build, but for the programs by the second compiler."""
-    for name in [*CHECKS, filter_checks.CRATE.name]:
-        crate = ROOT / "crates" / name
-        heading(f"rt run, in crates/{name}")
-        args = crate / "args"
-        words = args.read_text(encoding="utf-8").splitlines() if args.is_file() else []
-        given = (crate / "stdin").read_bytes() if (crate / "stdin").is_file() else b""
-        how = {"input": given, "stdout": subprocess.PIPE, "timeout": None}
-        ended = run(["rt", "run", "--", *words], cwd=crate, **how)
-        expected = (0, (crate / "stdout").read_bytes())
-        tally.compare("rt run", (ended.returncode, ended.stdout), expected)
-    for name, words in {
-        memory_checks.CRATE: ["rt", "test", "--", "memory::"],
-        library_checks.CRATE.name: ["rt", "lib"],
-    }.items():
-        heading(f"{words[0]} {words[1]}, in crates/{name}")
-        ended = run(words, cwd=ROOT / "crates" / name, timeout=None)
-        tally.compare(f"{words[0]} {words[1]}", ended.returncode, 0)
+# How nice what can wait is to `rt ci`.
+LATER = 19
 
 
-def scripts(names, word):
-    """Scripts of tools/ with that word, as commands by their names."""
-    return {f"tools/{name} {word.name}": [sys.executable, ROOT / "tools" / name, word] for name in names}
+def has_tests(crate):
+    return any("#[test]" in file.read_text(encoding="utf-8") for file in (crate / "src").rglob("*.rt"))
 
 
-def check_programs(tally, top, compilers):
-    """Runs the programs and tests that were built in that copy of the repository."""
-    crates = top / "crates"
-    built = {name: builds(tally, crates / name, compilers) for name in [*CHECKS, filter_checks.CRATE.name]}
-    filters = built[filter_checks.CRATE.name]
-    beside = {name: words for program in filters for name, words in scripts(FILTER_SCRIPTS, program).items()}
-    with package_checks.started(beside) as running:
-        for name, check in CHECKS.items():
-            for program in built[name]:
-                heading(program.name)
-                check(tally, program)
-        readme_code.check_commands(tally, top)
-        tests = crates / memory_checks.CRATE / "out" / f"{memory_checks.CRATE}_tests"
-        memory_checks.check_all(tally, built["regroup"], filters, tests)
-        package_checks.check_all(tally, running)
+def start_documents(jobs):
+    jobs.script("the code in README.md and docs/", "readme_code.py")
+    jobs.script("the calls for columns", "column_calls.py", "--check", is_counted=False)
+    jobs.script("the page of public calls", "api_page.py", "--check", is_counted=False)
 
 
-def library_tests(library):
-    """What tests the library for C, as commands by their names."""
-    return {**package_checks.tests(library), **scripts(LIBRARY_SCRIPTS, library)}
+def start_unproved(jobs):
+    """Starts what needs no proof: first what takes longest, the program with most cases, and tests."""
+    crates = sorted(path for path in (ROOT / "crates").iterdir() if (path / "src").is_dir())
+    programs = [path.name for path in crates if (path / "src" / "main.rt").is_file()]
+    first, *others = sorted(programs, key=lambda name: -len(cases.of_crate(name)[0]))
+    for part in "1/2", "2/2":
+        jobs.script(f"cases of {first}, {part}", "cases.py", "--try", "--part", part, first)
+    for crate in [path for path in crates if has_tests(path)]:
+        jobs.script(f"tests of {crate.name}", "trials.py", crate.name)
+    jobs.script("the examples of the doc comments", "doc_examples.py")
+    for name in others:
+        jobs.script(f"cases of {name}", "cases.py", "--try", name)
+    start_documents(jobs)
 
 
-def builds(tally, crate, compilers):
-    """The program of a crate as each of the compilers built it."""
-    found = []
-    for ending in compilers:
-        program = crate / "out" / f"{crate.name}{ending}"
-        if program.is_file():
-            found.append(program)
-        else:
-            tally.add(program.name, "it was not built")
-    return found
+def waiting(top):
+    """The commands that wait for crates of that copy of the repository, and for the library for C: these, a name, words."""
+    programs = {"regroup", "regroup_filter"}
+    for ending in COMPILERS:
+        built = {crate: top / "crates" / crate / "out" / f"{crate}{ending}" for crate in [*BUILT, *programs]}
+        for crate, scripts in BUILT.items():
+            for script in scripts:
+                words = ["--program", built[crate], crate] if script == "cases.py" else [built[crate]]
+                yield {crate}, f"{script} {built[crate].name}", script, *words
+        needed = {*programs, f"{memory_checks.CRATE}: tests"}
+        yield needed, f"memory_checks.py regroup{ending}", "memory_checks.py", top, ending
+    yield programs, "the commands of the READMEs", "readme_code.py", "--run", top
+    yield {"library"}, "a repository of one's own", "own_project.py", "--test"
+    for test in sorted((ROOT / "packages").glob("*/test")):
+        yield {"library"}, str(test.relative_to(ROOT)), test, LIBRARY
+    for script in "library_checks.py", "work_checks.py":
+        yield {"library"}, script, script, LIBRARY
+    files = [LIBRARY, *(top / "crates" / crate / "out" / crate for crate in sorted(programs))]
+    yield {"library", *programs}, "packages/release/checks", ROOT / "packages" / "release" / "checks", *files
 
 
 def test(tally, is_whole):
     """Proves all, or what users need, and runs every test and program."""
-    with contextlib.ExitStack() as stack:
-        tried = [] if is_whole else stack.enter_context(trials.started())
-        examples = stack.enter_context(doc_examples.started())
-        copy = stack.enter_context(copied(is_whole))
-        library = copy / library_checks.LIBRARY.relative_to(ROOT)
-        tests = []
+    with copied(is_whole) as copy, Jobs(tally, shows_all=True, beside=4) as jobs:
+        left, there, lock = list(waiting(copy)), set(), threading.Lock()
 
-        def start_tests():
-            tests.extend(stack.enter_context(package_checks.started(library_tests(library))))
-            tests.append(stack.enter_context(own_project.started()))
+        def start(*names):
+            """Starts what waits for these, and for nothing that is not there."""
+            with lock:
+                there.update(names)
+                for due in [one for one in left if one[0] <= there]:
+                    left.remove(due)
+                    jobs.script(*due[1:])
 
-        prove(tally, copy, start_tests)
-        check_programs(tally, copy, COMPILERS)
-        package_checks.check_all(tally, [*tests, examples])
-        trials.check_all(tally, tried)
+        start_documents(jobs)
+        jobs.script("numfmt", "numfmt_rows.py")
+        built = {"is_counted": False, "then": lambda: start("library"), "cwd": library_checks.CRATE}
+        jobs.start("rt lib", ["rt", "lib"], **built)
+        for name in [] if is_whole else trials.TRIED:
+            jobs.script(f"tests of {name}", "trials.py", name, nice=LATER)
+        jobs.script("the examples of the doc comments", "doc_examples.py", nice=LATER)
+        for name in prove(tally, copy):
+            start(name)
+        # What waits for a crate that is not proved says what is missing.
+        start(*(name for needed, *_ in left for name in needed - {"library"}))
 
 
 def main():
-    parser = argparse.ArgumentParser(description="Proves and tests everything.")
-    either = parser.add_mutually_exclusive_group()
-    either.add_argument("--edits", action="store_true", help="prove the tests too, and try the must-fail edits")
-    either.add_argument("--skip-proofs", action="store_true", help="leave out `rt ci`")
+    parser = argparse.ArgumentParser(description="Tests everything, in minutes, or proves and tests everything.")
+    parser.add_argument("--prove", action="store_true", help="prove what users need, and run every test")
+    parser.add_argument("--edits", action="store_true", help="prove the tests too, and try the must-fail edits")
     given = parser.parse_args()
+    if given.edits and not given.prove:
+        parser.error("--edits goes with --prove")
     tally = Tally()
-    compare_code(tally)
-    if given.skip_proofs:
-        build(tally)
-        # `rt run` has one compiler.
-        check_programs(tally, ROOT, COMPILERS[:1])
-        with doc_examples.started() as examples, package_checks.started(library_tests(library_checks.LIBRARY)) as tests:
-            package_checks.check_all(tally, [*tests, examples])
-        tally.skip("rt ci", "--skip-proofs leaves it out")
-        tally.skip("tools/own_project.py --test", "--skip-proofs leaves it out")
-    else:
+    if given.prove:
         test(tally, given.edits)
-    if not given.edits:
-        print("python3 tools/test.py --edits proves the tests too, and tries the must-fail edits")
+    else:
+        heading("the tests, unproved")
+        with Jobs(tally, shows_all=False) as jobs:
+            start_unproved(jobs)
+        print("nothing is proved by this: python3 tools/test.py --prove does that")
     tally.end()
 
 

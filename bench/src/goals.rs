@@ -67,7 +67,7 @@ impl Goal {
 }
 
 /// The goals, in order.
-const GOALS: [Goal; 18] = [
+const GOALS: [Goal; 19] = [
     Goal::original("read", "1 to 3 digits", is_short, 0.7),
     Goal::original("read", "7 digits and more", has_seven_digits, 0.45),
     Goal::original("refuse", "no digit", |cell| cell.group == "no digit", 1.0),
@@ -83,6 +83,13 @@ const GOALS: [Goal; 18] = [
         has_seven_digits,
         "read",
         1.0,
+    ),
+    Goal::port(
+        "read by a parser",
+        "every mixture",
+        is_mixed,
+        "read strictly",
+        0.9,
     ),
     Goal::original("used Buffer", "every mixture", is_mixed, 1.0),
     Goal::original(

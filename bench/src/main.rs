@@ -154,6 +154,9 @@ impl Run {
                 let texts = Texts::formatted(&numbers, format as u8);
                 measure_strict_reading(name, &numbers, &texts, format as u8)
             });
+            self.measure_sizes::<N>("read by a parser", &FORMATS, |name, sizes, format| {
+                measure_reading_by_parser(name, &sizes.batch::<N>(), format as u8)
+            });
             self.measure_sizes::<N>(
                 "read plain digits strictly",
                 &["en"],
@@ -612,6 +615,39 @@ fn measure_strict_reading<N: Number>(
     Times {
         port,
         original: Some(original),
+        reference: Some(reference),
+        floor: None,
+    }
+}
+
+/// Measures strict reading by one parser for all texts beside strict reading that receives the format with each.
+fn measure_reading_by_parser<N: Number>(name: &str, numbers: &[N], format: u8) -> Times {
+    let Texts { text, lengths } = Texts::formatted(numbers, format);
+    let mut by_parser = vec![N::default(); numbers.len()];
+    let mut strictly = by_parser.clone();
+    let [port, reference] = best(
+        numbers.len(),
+        [
+            &mut || {
+                let format = black_box(format);
+                let accepted =
+                    rattle::read_by_parser(black_box(&text), &lengths, format, &mut by_parser);
+                assert_eq!(accepted, BATCH as u64, "{name}");
+            },
+            &mut || {
+                let format = black_box(format);
+                let accepted =
+                    rattle::read_strictly(black_box(&text), &lengths, format, &mut strictly);
+                assert_eq!(accepted, BATCH as u64, "{name}");
+            },
+        ],
+    );
+    for read in [by_parser, strictly] {
+        assert!(read == numbers, "{name}");
+    }
+    Times {
+        port,
+        original: None,
         reference: Some(reference),
         floor: None,
     }

@@ -6,6 +6,9 @@ const LENIENT: u8 = 0;
 /// The code of strict parsing.
 const STRICT: u8 = 1;
 
+/// The code of strict parsing by one parser for all texts.
+const BY_PARSER: u8 = 2;
+
 /// The library's functions for an integer type.
 pub struct Functions<N> {
     print: unsafe extern "C" fn(*const N, usize, u8, u8) -> u64,
@@ -136,6 +139,16 @@ pub fn read_strictly<N: Exported>(
     numbers: &mut [N],
 ) -> u64 {
     read_in_way(texts, lengths, STRICT, format, numbers)
+}
+
+/// The same by one parser for all texts.
+pub fn read_by_parser<N: Exported>(
+    texts: &str,
+    lengths: &[usize],
+    format: u8,
+    numbers: &mut [N],
+) -> u64 {
+    read_in_way(texts, lengths, BY_PARSER, format, numbers)
 }
 
 fn read_in_way<N: Exported>(

@@ -41,7 +41,7 @@ pub type Ratio = fn(&Times) -> Option<f64>;
 type Comparison = (&'static str, &'static str, Ratio);
 
 /// The comparisons, in the order of the tables.
-const COMPARISONS: [Comparison; 26] = [
+const COMPARISONS: [Comparison; 27] = [
     ("used Buffer", ORIGINAL, Times::ratio),
     ("new Buffer", ORIGINAL, Times::ratio),
     ("to_formatted_string", ORIGINAL, Times::ratio),
@@ -54,6 +54,11 @@ const COMPARISONS: [Comparison; 26] = [
     ("used Buffer", "`itoa`, plain digits", Times::ratio_to_floor),
     ("read", "std's `parse`, plain digits", Times::ratio_to_floor),
     ("read strictly", "read", Times::ratio_to_reference),
+    (
+        "read by a parser",
+        "read strictly",
+        Times::ratio_to_reference,
+    ),
     (
         "read plain digits strictly",
         "read",

@@ -69,7 +69,9 @@ enum {
     NUM_FORMAT_BAD_LENGTH = -15,    /* there are not as many offsets, or bits of validity, as the numbers need */
     NUM_FORMAT_BAD_OFFSETS = -16,   /* an offset is below the one before it, or past the bytes */
     NUM_FORMAT_TOO_MANY_BYTES = -17, /* the texts have more bytes than the last offset can say */
-    NUM_FORMAT_DIGITS_LOST = -18    /* the text has digits other than 0 that the scale of a column has not */
+    NUM_FORMAT_DIGITS_LOST = -18,   /* the text has digits other than 0 that the scale of a column has not */
+    /* The format is refused by strict parsing, whatever the text is: see num_format_parse_strict_i64. */
+    NUM_FORMAT_AMBIGUOUS_FORMAT = -19 /* a text can be misread under it */
 };
 
 /* The groupings: where separators stand among the digits. */
@@ -213,6 +215,8 @@ int32_t num_format_parse_i128(const num_format *format, const char *text, size_t
  * Errors, in this order:
  * - NUM_FORMAT_BAD_BITS.
  * - NUM_FORMAT_BAD_FORMAT.
+ * - NUM_FORMAT_AMBIGUOUS_FORMAT: num_format_reads_back returns 0, as it does for no locale. The minus sign is
+ *   empty, or it or a separator that is printed has a numeric character, as "7".
  * - NUM_FORMAT_NOT_UTF8.
  * - NUM_FORMAT_UNEXPECTED: a byte is none of the minus sign, if the text begins with it, of a digit 0
  *   to 9, or of a whole separator. `at` is then the number of bytes before the first such byte: under
@@ -221,8 +225,7 @@ int32_t num_format_parse_i128(const num_format *format, const char *text, size_t
  * - NUM_FORMAT_NO_DIGIT: the text has no digit, as the empty one, "-" and ",".
  * - NUM_FORMAT_MISSPELLED: the text is not as the number that its digits and its minus sign denote is
  *   printed, grouped or not: under "en" as "01", "1,23", "1234,567" and "-0".
- * - NUM_FORMAT_OUT_OF_RANGE: the text is as that number is printed, however many digits it has, and
- *   num_format_parse_i64 refuses it. Where num_format_reads_back returns 1, as for each locale, the
+ * - NUM_FORMAT_OUT_OF_RANGE: the text is as that number is printed, however many digits it has, and the
  *   number has more bits, or a sign that the type has not. */
 int32_t num_format_parse_strict_i64(const num_format *format, uint32_t bits, const char *text,
                                     size_t length, int64_t *number, size_t *at);
@@ -231,8 +234,8 @@ int32_t num_format_parse_strict_u64(const num_format *format, uint32_t bits, con
 
 /* The same of a number of 128 bits, which is written by its halves.
  *
- * Errors, in this order: NUM_FORMAT_BAD_FORMAT, NUM_FORMAT_NOT_UTF8, NUM_FORMAT_UNEXPECTED, NUM_FORMAT_NO_DIGIT,
- * NUM_FORMAT_MISSPELLED, NUM_FORMAT_OUT_OF_RANGE. */
+ * Errors, in this order: NUM_FORMAT_BAD_FORMAT, NUM_FORMAT_AMBIGUOUS_FORMAT, NUM_FORMAT_NOT_UTF8,
+ * NUM_FORMAT_UNEXPECTED, NUM_FORMAT_NO_DIGIT, NUM_FORMAT_MISSPELLED, NUM_FORMAT_OUT_OF_RANGE. */
 int32_t num_format_parse_strict_u128(const num_format *format, const char *text, size_t length,
                                      uint64_t *low, uint64_t *high, size_t *at);
 int32_t num_format_parse_strict_i128(const num_format *format, const char *text, size_t length,
@@ -249,6 +252,8 @@ int32_t num_format_parse_strict_i128(const num_format *format, const char *text,
  *
  * Errors, in this order, but that a text which spells a decimal has no error but the last:
  * - NUM_FORMAT_BAD_FORMAT.
+ * - NUM_FORMAT_AMBIGUOUS_FORMAT: num_format_reads_back returns 0, or the decimal mark is empty, has a numeric
+ *   character, or is a separator that is printed. This holds for no locale either.
  * - NUM_FORMAT_NOT_UTF8.
  * - NUM_FORMAT_UNEXPECTED: a byte is none of those of num_format_parse_strict_i64, of one decimal mark, or
  *   of a digit after it. `at` is then the number of bytes before the first such byte: under "en" 5 for
@@ -256,8 +261,7 @@ int32_t num_format_parse_strict_i128(const num_format *format, const char *text,
  * - NUM_FORMAT_NO_DIGIT.
  * - NUM_FORMAT_TOO_MANY_DECIMALS.
  * - NUM_FORMAT_MISSPELLED.
- * - NUM_FORMAT_OUT_OF_RANGE: the units are no signed number of 128 bits. Where num_format_reads_back returns 0,
- *   or the decimal mark has a numeric character, it may also be a text that num_format_parse_i128 refuses. */
+ * - NUM_FORMAT_OUT_OF_RANGE: the units are no signed number of 128 bits. */
 int32_t num_format_parse_decimal(const num_format *format, const char *text, size_t length, uint64_t *low,
                                  uint64_t *high, uint32_t *scale, size_t *at);
 
@@ -470,7 +474,8 @@ static inline int32_t num_format_parse_u128_large_column(
  * Statuses: 0, NUM_FORMAT_NOT_UTF8, NUM_FORMAT_UNEXPECTED, NUM_FORMAT_NO_DIGIT, NUM_FORMAT_MISSPELLED,
  * NUM_FORMAT_OUT_OF_RANGE.
  *
- * Errors: NUM_FORMAT_BAD_FORMAT, else NUM_FORMAT_BAD_LENGTH, else NUM_FORMAT_BAD_OFFSETS, as above. */
+ * Errors: NUM_FORMAT_BAD_FORMAT, else NUM_FORMAT_AMBIGUOUS_FORMAT as num_format_parse_strict_i64 returns it, else
+ * NUM_FORMAT_BAD_LENGTH, else NUM_FORMAT_BAD_OFFSETS, as above. */
 static inline int32_t num_format_parse_strict_i8_column(
     const num_format *format, const int32_t *offsets, size_t offsets_length, const char *bytes,
     size_t bytes_length, int8_t *numbers, int32_t *statuses, size_t n);
@@ -558,8 +563,8 @@ int32_t num_format_print_decimal_column_len(const num_format *format, const num_
  * NUM_FORMAT_MISSPELLED, NUM_FORMAT_OUT_OF_RANGE: the units of the text or at the scale have more than 127 bits
  * besides the sign, NUM_FORMAT_DIGITS_LOST.
  *
- * Errors: NUM_FORMAT_BAD_SCALE, else NUM_FORMAT_BAD_FORMAT, else NUM_FORMAT_BAD_LENGTH, else
- * NUM_FORMAT_BAD_OFFSETS, as above. */
+ * Errors: NUM_FORMAT_BAD_SCALE, else NUM_FORMAT_BAD_FORMAT, else NUM_FORMAT_AMBIGUOUS_FORMAT as
+ * num_format_parse_decimal returns it, else NUM_FORMAT_BAD_LENGTH, else NUM_FORMAT_BAD_OFFSETS, as above. */
 static inline int32_t num_format_parse_decimal_column(
     const num_format *format, const int32_t *offsets, size_t offsets_length, const char *bytes,
     size_t bytes_length, num_format_wide *units, int32_t *statuses, size_t n, uint32_t scale);
@@ -572,8 +577,8 @@ static inline int32_t num_format_parse_decimal_large_column(
  *
  * The text of a null row is printed as empty. Its text is not parsed: its status is 0, and its value as it was.
  *
- * The errors are those above, and NUM_FORMAT_BAD_LENGTH, which comes after NUM_FORMAT_BAD_FORMAT, also where
- * validity_length is less than n / 8, rounded up. */
+ * The errors are those above, in their order. NUM_FORMAT_BAD_LENGTH comes also where validity_length is less than
+ * n / 8, rounded up. */
 int32_t num_format_print_nullable_i8_column(const num_format *format, const int8_t *numbers, size_t n,
                                             const uint8_t *validity, size_t validity_length,
                                             int32_t *offsets, size_t offsets_length, char *bytes,
@@ -890,6 +895,7 @@ static inline const char *num_format_strerror(int32_t status) {
     case NUM_FORMAT_BAD_OFFSETS: return "an offset is below the one before it, or past the bytes";
     case NUM_FORMAT_TOO_MANY_BYTES: return "the texts have more bytes than an offset can say";
     case NUM_FORMAT_DIGITS_LOST: return "the text has digits other than 0 that the scale has not";
+    case NUM_FORMAT_AMBIGUOUS_FORMAT: return "the format is ambiguous";
     default: return status < 0 ? "unknown status" : "ok";
     }
 }

@@ -28,7 +28,8 @@ struct error : std::runtime_error {
 #define NUMFMT_ERRORS(each) \
     each(not_utf8, NOT_UTF8) each(not_a_number, NOT_A_NUMBER) each(unknown_locale, UNKNOWN_LOCALE) \
     each(too_long, TOO_LONG) each(bad_grouping, BAD_GROUPING) each(unexpected, UNEXPECTED) each(no_digit, NO_DIGIT) \
-    each(misspelled, MISSPELLED) each(out_of_range, OUT_OF_RANGE) each(too_many_bytes, TOO_MANY_BYTES)
+    each(misspelled, MISSPELLED) each(out_of_range, OUT_OF_RANGE) each(too_many_bytes, TOO_MANY_BYTES) \
+    each(ambiguous_format, AMBIGUOUS_FORMAT)
 #define NUMFMT_STRUCT(name, code) struct name : error { using error::error; };
 #define NUMFMT_CASE(name, code) case NUM_FORMAT_##code: throw name(status, at);
 NUMFMT_ERRORS(NUMFMT_STRUCT)
@@ -100,8 +101,8 @@ public:
                                                      : num_format_print_u64_len(&held, std::uint64_t(number))));
     }
 
-    /// The number that a text spells, with its separators or without. Throws not_utf8, unexpected, no_digit,
-    /// misspelled or out_of_range.
+    /// The number that a text spells, with its separators or without. Throws ambiguous_format where reads_back is
+    /// false, and else not_utf8, unexpected, no_digit, misspelled or out_of_range.
     template <class T> T parse(std::string_view text) const {
         static_assert(is_number<T>, "an integer of at most 64 bits");
         std::conditional_t<std::is_signed_v<T>, std::int64_t, std::uint64_t> number = 0;
@@ -123,7 +124,7 @@ public:
         return made;
     }
 
-    /// The numbers of many texts. Throws the exception of the first text that is refused.
+    /// The numbers of many texts. Throws ambiguous_format, or the exception of the first text that is refused.
     std::vector<std::int64_t> parse(const column &texts) const {
         const std::size_t n = texts.offsets.size() - 1;
         std::vector<std::int64_t> numbers(n);

@@ -42,10 +42,16 @@ def find_python(needed, wanted):
     return best, [module for module in needed if module in lacking[best]] + tools
 
 
+def copy(to):
+    """Copies the package, with NOTICE, of which the repository has one."""
+    shutil.copytree(HERE, to, ignore=IGNORED)
+    shutil.copy(HERE.parents[1] / "NOTICE", to)
+
+
 def install(python, folder, library):
     """Installs a copy of the package in a new environment. Returns its Python, or None if that failed."""
     package = folder / "package"
-    shutil.copytree(HERE, package, ignore=IGNORED)
+    copy(package)
     environment = folder / "environment"
     made = environment / "bin" / "python"
     env = {**os.environ, "NUM_FORMAT_LIBRARY": str(library), "PIP_DISABLE_PIP_VERSION_CHECK": "1"}

@@ -1,5 +1,5 @@
 //! Links the proved static library: the file that NUM_FORMAT_LIBRARY names, else that of pkg-config's
-//! `num_format`, else the one that `rt lib` builds in the repository of this crate.
+//! `num_format`, else the one that `tools/build library` builds in the repository of this crate.
 
 use std::path::{Path, PathBuf};
 use std::process::Command;
@@ -51,7 +51,7 @@ fn library() -> Result<PathBuf, String> {
             format!(
                 "there is no proved library to link. Set {VARIABLE} to the path of libnum_format_c.a or \
                  libnum_format.a, install the C package so that `pkg-config num_format` knows it, or run \
-                 `rt lib` in crates/num_format_c of the repository."
+                 `tools/build library` in the repository."
             )
         })
 }

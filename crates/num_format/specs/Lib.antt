@@ -1,5 +1,6 @@
 -- The definitions that the contracts of this crate use. Those of the crates below are passed on.
 pub mod Constants
+pub mod Json
 pub mod Laws
 pub use Rattle.num_format_text.specs.Cut
 pub use Rattle.num_format_text.specs.English
@@ -15,6 +16,7 @@ pub use Rattle.num_format_int.specs.Grouped
 pub use Rattle.num_format_int.specs.Kind
 pub use Rattle.num_format_int.specs.Text
 pub use Rattle.num_format_parsing.specs.BytesError
+pub use Rattle.num_format_parsing.specs.Readable
 pub use Rattle.num_format_parsing.specs.Reading
 pub use Rattle.num_format_parsing.specs.Strict
 pub use Rattle.num_format_parsing.specs.declared.parsing.ParseBytesError
@@ -30,7 +32,6 @@ pub use Rattle.num_format_locale.specs.Search
 pub use Rattle.num_format_certificates.specs.Alike
 pub use Rattle.num_format_certificates.specs.RoundTrips
 pub use Rattle.num_format_custom.specs.Building
-pub use Rattle.num_format_json.specs.Json
 pub use Rattle.num_format_writers.specs.Columns
 pub use Rattle.num_format_writers.specs.Writers
 pub use Rattle.num_format_writers.specs.Writing

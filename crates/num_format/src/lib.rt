@@ -1,5 +1,8 @@
 //! Formats whole numbers with separators between groups of digits, and parses them again.
 //!
+//! [`json`] and [`laws`] live here. The rest lists what users name: a public item of a crate below is added
+//! here, and its definitions in `specs/Lib.antt`.
+//!
 //! A number is written under a [`Format`], which is a [`Locale`], a [`CustomFormat`] or a type of
 //! your own. It is written into a [`Buffer`], a string or a writer:
 //!
@@ -44,6 +47,7 @@
 //! Where the Rust crate `num-format` 0.4.4 has an item, its name is the same here.
 #![tactic(auto)]
 
+pub mod json;
 pub mod laws;
 
 pub use num_format_certificates::certificates;
@@ -53,7 +57,6 @@ pub use num_format_custom::custom_format_builder::CustomFormatBuilder;
 pub use num_format_custom::{custom_format, custom_format_builder};
 pub use num_format_int::buffer::Buffer;
 pub use num_format_int::to_formatted_str::ToFormattedStr;
-pub use num_format_json::json;
 pub use num_format_locale::locale::Locale;
 pub use num_format_parsing::parsing;
 pub use num_format_text::error;

@@ -3,7 +3,7 @@ use Rattle.std.proofs.Common.{◌≡◌, ◌≢◌, ℕ, ◌+◌, ◌<◌, ◌�
 use Rattle.std.proofs.Math.Nat.{eq-or-lt_of_le}
 use Rattle.std.proofs.lemmas.List.{get_or-set_other, get_or-set_same}
 use Rattle.num_format.specs.Format.{FormatData}
-use Rattle.num_format_columns.specs.Columns.{Rows}
+use Rattle.num_format_c.specs.Layout.{Rows}
 use Rattle.num_format_decimal.specs.declared.decimal.TheConstants.{MAX_SCALE}
 use Rattle.num_format_c.specs.Columns.{AreParsed, Measures, MeasuresColumn, MeasuresDecimals, ParsesRow, PrintsColumn, PrintsDecimals, PrintsRows, RowParser, decimal_at, row_text}
 use Rattle.num_format_c.specs.Held.{HasFormat, format_of}

@@ -4,11 +4,11 @@ use Rattle.std.specs.Int.{cast_signed, w128}
 use Rattle.num_format.specs.Constants.{LEN}
 use Rattle.num_format.specs.Data.{locale_data}
 use Rattle.num_format.specs.Format.{FormatData}
-use Rattle.num_format.specs.Kind.{Kind, kind_of, U8, U16, U32, U64, I8, I16, I32, I64}
+use Rattle.num_format.specs.Kind.{IsValueOf, Kind, kind_of, U8, U16, U32, U64, I8, I16, I32, I64}
 use Rattle.num_format.specs.Lookup.{LooksUpTag}
 use Rattle.num_format.specs.Names.{Spells, name_of}
 use Rattle.num_format.specs.Reading.{Refused, denoted}
-use Rattle.num_format.specs.Strict.{IsCause, ParsesStrictly}
+use Rattle.num_format.specs.Strict.{IsCause, IsUnambiguous, SpellsNumber}
 use Rattle.num_format.specs.StrictError.{StrictError}
 use Rattle.num_format.specs.StrictError.TheVariants as cause
 use Rattle.num_format.specs.Text.{text_of}
@@ -24,7 +24,7 @@ use Rattle.num_format_decimal.specs.declared.parsing.ParseDecimalError.TheVarian
 use Rattle.num_format_c.specs.Held.{Agrees, HasFormat, IsPadded, format_of, format_with, grouping_of}
 use Rattle.num_format_c.specs.declared.format.NumFormat.{NumFormat}
 use Rattle.num_format_c.specs.declared.status.Status.{Status}
-use Rattle.num_format_c.specs.declared.status.Status.TheVariants.{BadFormat, TooSmall, NotUtf8, NotANumber, UnknownLocale, TooLong, BadGrouping, BadBits, Unexpected, NoDigit, Misspelled, OutOfRange, BadScale, TooManyDecimals, BadLength, BadOffsets, TooManyBytes, DigitsLost}
+use Rattle.num_format_c.specs.declared.status.Status.TheVariants.{BadFormat, TooSmall, NotUtf8, NotANumber, UnknownLocale, TooLong, BadGrouping, BadBits, Unexpected, NoDigit, Misspelled, OutOfRange, BadScale, TooManyDecimals, BadLength, BadOffsets, TooManyBytes, DigitsLost, AmbiguousFormat}
 
 -- the number by which an error crosses to C; `negsuc n` is the number one below -n
 abbrev pub code : Status → ℤ
@@ -46,6 +46,7 @@ code BadLength = negsuc 14
 code BadOffsets = negsuc 15
 code TooManyBytes = negsuc 16
 code DigitsLost = negsuc 17
+code AmbiguousFormat = negsuc 18
 
 -- the number that a call returns
 abbrev pub returned : Result ℤ Status → ℤ
@@ -104,6 +105,7 @@ pub record ParsesInto (k : Kind) (s : NumFormat) (text : List ℕ) (old new resu
 
 -- the error for a cause of strict parsing
 abbrev pub status_of : StrictError → Status
+status_of cause.AmbiguousFormat = AmbiguousFormat
 status_of cause.NotUtf8 = NotUtf8
 status_of (cause.Unexpected at) = Unexpected
 status_of cause.NoDigit = NoDigit
@@ -112,26 +114,30 @@ status_of cause.OutOfRange = OutOfRange
 
 -- the place of the unexpected byte, or the old one for any other cause
 abbrev pub place_of : StrictError → ℕ → ℕ
-place_of cause.NotUtf8 old = old
 place_of (cause.Unexpected at) old = at
-place_of cause.NoDigit old = old
-place_of cause.Misspelled old = old
-place_of cause.OutOfRange old = old
+place_of _ old = old
+
+-- a text spells a number of the kind, under a format by which no text can be misread
+pub record SpellsValue (k : Kind) (f : FormatData) (text : List ℕ) (z : ℤ) : Type 0 where
+  pub unambiguous : IsUnambiguous f
+  pub spelled : SpellsNumber f text z
+  pub value : IsValueOf k z
 
 -- a text is parsed strictly under the format of a struct as a number of the kind, and the place of an unexpected byte is written
 pub record ParsesExactly {A : Type 0} (k : Kind) (value : A → ℤ) (s : NumFormat) (text : List ℕ) (old new : ℕ) (result : Result A Status) : Type 0 where
   pub bad_format : ¬ HasFormat s → (result ≡ Err BadFormat) × (new ≡ old)
   pub refused : HasFormat s → (e : StrictError) → IsCause k (format_of s) text e → (result ≡ Err (status_of e)) × (new ≡ place_of e old)
-  pub number : HasFormat s → (z : ℤ) → ParsesStrictly k (format_of s) text z → MatchResult result (λ n. value n ≡ z) (λ _. ⊥) × (new ≡ old)
+  pub number : HasFormat s → (z : ℤ) → SpellsValue k (format_of s) text z → MatchResult result (λ n. value n ≡ z) (λ _. ⊥) × (new ≡ old)
 
 -- a text is parsed strictly, and the number, or the place of an unexpected byte, is written over another one
 pub record ParsesExactlyInto (k : Kind) (s : NumFormat) (text : List ℕ) (old new : ℤ) (at_old at_new : ℕ) (result : ℤ) : Type 0 where
   pub bad_format : ¬ HasFormat s → Fails BadFormat old new result × (at_new ≡ at_old)
   pub refused : HasFormat s → (e : StrictError) → IsCause k (format_of s) text e → Fails (status_of e) old new result × (at_new ≡ place_of e at_old)
-  pub number : HasFormat s → (z : ℤ) → ParsesStrictly k (format_of s) text z → (result ≡ pos 0) × ((new ≡ z) × (at_new ≡ at_old))
+  pub number : HasFormat s → (z : ℤ) → SpellsValue k (format_of s) text z → (result ≡ pos 0) × ((new ≡ z) × (at_new ≡ at_old))
 
 -- the error for a cause for which a text is refused as a decimal
 abbrev pub decimal_status_of : ParseDecimalError → Status
+decimal_status_of decimal.AmbiguousFormat = AmbiguousFormat
 decimal_status_of decimal.NotUtf8 = NotUtf8
 decimal_status_of (decimal.Unexpected at) = Unexpected
 decimal_status_of decimal.NoDigit = NoDigit

@@ -3,8 +3,9 @@ use Rattle.std.specs.Prelude.{◌≡◌, ℕ, ◌+◌, ◌^◌, ◌<◌, ◌≤�
 use Rattle.num_format.specs.Format.{FormatData}
 use Rattle.num_format.specs.Kind.{Kind}
 use Rattle.num_format.specs.Text.{text_of}
-use Rattle.num_format_columns.specs.Columns.{AreOffsets, IsColumn, Rows, texts_of}
+use Rattle.num_format_c.specs.Layout.{AreOffsets, IsColumn, Rows, texts_of}
 use Rattle.num_format_decimal.specs.FixedPoint.{FixedPoint, fixed_point}
+use Rattle.num_format_decimal.specs.Marks.{MarksDecimals}
 use Rattle.num_format_decimal.specs.Parsing.{IsAtScaleCause, ParsesAtScale}
 use Rattle.num_format_decimal.specs.Text.{decimal_text}
 use Rattle.num_format_decimal.specs.declared.decimal.TheConstants.{MAX_SCALE}
@@ -14,7 +15,7 @@ use Rattle.num_format_c.specs.Held.{HasFormat, format_of}
 use Rattle.num_format_c.specs.declared.format.NumFormat.{NumFormat}
 use Rattle.num_format_c.specs.declared.wide.SignedWide.{SignedWide}
 use Rattle.num_format_c.specs.declared.wide.UnsignedWide.{UnsignedWide}
-use Rattle.num_format_c.specs.declared.status.Status.TheVariants.{BadFormat, TooSmall, BadLength, BadOffsets, BadScale, TooManyBytes}
+use Rattle.num_format_c.specs.declared.status.Status.TheVariants.{AmbiguousFormat, BadFormat, TooSmall, BadLength, BadOffsets, BadScale, TooManyBytes}
 
 -- an unsigned number of 128 bits in a column
 abbrev pub unsigned_value : UnsignedWide → ℤ
@@ -109,15 +110,24 @@ abbrev pub HasLengths : Rows → (n offsets statuses : ℕ) → Type 0
 HasLengths rows n offsets statuses = (offsets ≡ n + 1) × ((statuses ≡ n) × IsTrue (rows.covers n))
 
 -- the rows of a column are parsed, each as by the call for one text
-pub record ParsesColumn {A B : Type 0} (Parses : RowParser A) (rows : Rows) (place : B → ℕ) (limit : ℕ) (s : NumFormat) (offsets : List B) (bytes : List ℕ) (old new : List A) (statuses_old statuses_new : List ℤ) (result : ℤ) : Type 0 where
-  pub bad_format : ¬ HasFormat s → Fails BadFormat old new result × (statuses_new ≡ statuses_old)
-  pub bad_length : HasFormat s → ¬ HasLengths rows (length old) (length offsets) (length statuses_old) → Fails BadLength old new result × (statuses_new ≡ statuses_old)
-  pub bad_offsets : HasFormat s → HasLengths rows (length old) (length offsets) (length statuses_old) → ¬ AreOffsets place (min limit (length bytes)) offsets →
+pub record ParsesRows {A B : Type 0} (Parses : RowParser A) (rows : Rows) (place : B → ℕ) (limit : ℕ) (s : NumFormat) (offsets : List B) (bytes : List ℕ) (old new : List A) (statuses_old statuses_new : List ℤ) (result : ℤ) : Type 0 where
+  pub bad_length : ¬ HasLengths rows (length old) (length offsets) (length statuses_old) → Fails BadLength old new result × (statuses_new ≡ statuses_old)
+  pub bad_offsets : HasLengths rows (length old) (length offsets) (length statuses_old) → ¬ AreOffsets place (min limit (length bytes)) offsets →
       Fails BadOffsets old new result × (statuses_new ≡ statuses_old)
-  pub parsed : HasFormat s → HasLengths rows (length old) (length offsets) (length statuses_old) → AreOffsets place (min limit (length bytes)) offsets →
+  pub parsed : HasLengths rows (length old) (length offsets) (length statuses_old) → AreOffsets place (min limit (length bytes)) offsets →
       (result ≡ pos 0) × AreParsed Parses rows place s offsets bytes old new statuses_new (length old)
+
+-- lenient parsing takes any format
+abbrev pub IsAny : FormatData → Type 0
+IsAny _ = Unit {0}
+
+-- the same under the format of a struct, if it is one by which no text can be misread
+pub record ParsesColumn {A B : Type 0} (IsClear : FormatData → Type 0) (Parses : RowParser A) (rows : Rows) (place : B → ℕ) (limit : ℕ) (s : NumFormat) (offsets : List B) (bytes : List ℕ) (old new : List A) (statuses_old statuses_new : List ℤ) (result : ℤ) : Type 0 where
+  pub bad_format : ¬ HasFormat s → Fails BadFormat old new result × (statuses_new ≡ statuses_old)
+  pub ambiguous : HasFormat s → ¬ IsClear (format_of s) → Fails AmbiguousFormat old new result × (statuses_new ≡ statuses_old)
+  pub parsed : HasFormat s → IsClear (format_of s) → ParsesRows Parses rows place limit s offsets bytes old new statuses_old statuses_new result
 
 -- the same of decimals of one scale
 pub record ParsesDecimals {B : Type 0} (scale : ℕ) (rows : Rows) (place : B → ℕ) (limit : ℕ) (s : NumFormat) (offsets : List B) (bytes : List ℕ) (old new : List SignedWide) (statuses_old statuses_new : List ℤ) (result : ℤ) : Type 0 where
   pub bad_scale : MAX_SCALE < scale → Fails BadScale old new result × (statuses_new ≡ statuses_old)
-  pub column : scale ≤ MAX_SCALE → ParsesColumn (ParsesAtScaleInto scale) rows place limit s offsets bytes old new statuses_old statuses_new result
+  pub column : scale ≤ MAX_SCALE → ParsesColumn MarksDecimals (ParsesAtScaleInto scale) rows place limit s offsets bytes old new statuses_old statuses_new result

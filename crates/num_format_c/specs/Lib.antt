@@ -2,3 +2,4 @@
 pub mod Calls
 pub mod Columns
 pub mod Held
+pub mod Layout

@@ -14,11 +14,11 @@ ghost use Rattle.num_format_c.specs.Held.{HasFormat, IsFormatOf, format_of};
 
 use crate::format::{Held, NumFormat, grouping_of};
 use crate::status::Status;
-use num_format::parsing::{FromFormattedStr, ParseBytesError, StrictError};
+use num_format::parsing::{FromFormattedStr, ParseBytesError, StrictError, StrictParser};
 use num_format::utils::{DecimalStr, MinusSignStr, SeparatorStr};
 use num_format::{Buffer, Format, Locale, ToFormattedStr};
 use num_format_decimal::{
-    Decimal, DecimalBuffer, DecimalError, ParseAtScaleError, ParseDecimalError,
+    Decimal, DecimalBuffer, DecimalError, DecimalParser, ParseAtScaleError, ParseDecimalError,
 };
 use num_format_int::buffer::copy_bytes;
 
@@ -152,8 +152,8 @@ pub fn parse<N: FromFormattedStr>(format: &NumFormat, text: &[u8]) -> Result<N, 
 
 /// Parses the text as a number of the type under the format that a struct has.
 #[inline(always)]
-pub fn parse_under<'a, N: FromFormattedStr>(format: &Held<'a>, text: &[u8]) -> Result<N, Status>
-    ensures { (s : NumFormat) → IsFormatOf (⟦<Held<'a> as Format>⟧.answers format.now) s
+pub fn parse_under<F: Format, N: FromFormattedStr>(format: &F, text: &[u8]) -> Result<N, Status>
+    ensures { (s : NumFormat) → IsFormatOf (F.answers format.now) s
         → Parses N.kind N.value s text.now result }
 {
     match N::from_formatted_bytes(text, format) {
@@ -231,20 +231,23 @@ pub fn parse_strict<N: FromFormattedStr>(
     let Some(format) = Held::new(format) else {
         return Err(Status::BadFormat);
     };
-    parse_strict_under(&format, text, at)
+    let Ok(parser) = StrictParser::new(&format) else {
+        return Err(Status::AmbiguousFormat);
+    };
+    parse_strict_by(&parser, text, at)
 }
 
-/// Parses the text as [`parse_strict`] does under the format that a struct has.
+/// Parses the text as [`parse_strict`] does by a parser for the format that a struct has.
 #[inline(always)]
-pub fn parse_strict_under<'a, N: FromFormattedStr>(
-    format: &Held<'a>,
+pub fn parse_strict_by<'a, F: Format, N: FromFormattedStr>(
+    parser: &StrictParser<'a, F>,
     text: &[u8],
     at: &mut usize,
 ) -> Result<N, Status>
-    ensures { (s : NumFormat) → IsFormatOf (⟦<Held<'a> as Format>⟧.answers format.now) s
+    ensures { (s : NumFormat) → IsFormatOf parser.now s
         → ParsesExactly N.kind N.value s text.now at.old at.new result }
 {
-    match N::from_strict_bytes(text, format) {
+    match parser.parse_bytes(text) {
         Ok(number) => Ok(number),
         Err(error) => Err(refused(error, at)),
     }
@@ -256,6 +259,7 @@ fn refused(error: StrictError, at: &mut usize) -> Status
     ensures place { at.new ≡ place_of error at.old }
 {
     match error {
+        StrictError::AmbiguousFormat => Status::AmbiguousFormat,
         StrictError::NotUtf8 => Status::NotUtf8,
         StrictError::Unexpected { at: place } => {
             *at = place;
@@ -319,15 +323,16 @@ pub fn parse_decimal(format: &NumFormat, text: &[u8], at: &mut usize) -> Result<
     }
 }
 
-/// Parses the text strictly as a decimal of a scale under the format that a struct has.
-pub fn parse_at_scale<'a>(format: &Held<'a>, text: &[u8], scale: u8) -> Result<Decimal, Status>
-    ensures { (s : NumFormat) → IsFormatOf (⟦<Held<'a> as Format>⟧.answers format.now) s
+/// Parses the text strictly as a decimal of a scale by a parser for the format that a struct has.
+pub fn parse_at_scale<'a, F: Format>(
+    parser: &DecimalParser<'a, F>,
+    text: &[u8],
+    scale: u8,
+) -> Result<Decimal, Status>
+    ensures { (s : NumFormat) → IsFormatOf parser.now s
         → ParsesAtScaleUnder scale s text.now result }
 {
-    let Ok(text) = str::from_utf8(text) else {
-        return Err(Status::NotUtf8);
-    };
-    match Decimal::parse_at_scale(text, scale, format) {
+    match parser.parse_bytes_at_scale(text, scale) {
         Ok(number) => Ok(number),
         Err(error) => Err(refused_at_scale(error)),
     }
@@ -351,6 +356,7 @@ fn refused_decimal(error: ParseDecimalError, at: &mut usize) -> Status
     ensures place { at.new ≡ decimal_place_of error at.old }
 {
     match error {
+        ParseDecimalError::AmbiguousFormat => Status::AmbiguousFormat,
         ParseDecimalError::NotUtf8 => Status::NotUtf8,
         ParseDecimalError::Unexpected { at: position } => {
             *at = position;

@@ -1,22 +1,24 @@
 //! What the calls for columns do, with Rust's types.
 ghost use Rattle.std.specs.Prelude.{◌≡◌, ◌+◌, ◌<◌, ◌≤◌, min, length, MatchOption};
-ghost use Rattle.num_format_columns.specs.Columns.{AreOffsets};
+ghost use Rattle.num_format_c.specs.Layout.{AreOffsets};
 ghost use Rattle.num_format_decimal.specs.FixedPoint.{fixed_point};
 ghost use Rattle.num_format_decimal.specs.declared.decimal.TheConstants.{MAX_SCALE};
+ghost use Rattle.num_format.specs.Format.{FormatData};
+ghost use Rattle.num_format.specs.Strict.{IsUnambiguous};
 ghost use Rattle.num_format_c.specs.Calls.{ParsesInto, returned};
 ghost use Rattle.num_format_c.specs.Held.{IsFormatOf};
-ghost use Rattle.num_format_c.specs.Columns.{AreParsed, HasLengths, Measures, MeasuresColumn, MeasuresDecimals, ParsesAtScaleInto, ParsesColumn, ParsesDecimals, ParsesRow, ParsesRowExactly, PrintsColumn, PrintsDecimals, PrintsRows, RowParser, decimal_at, number_row, number_text, signed_value};
+ghost use Rattle.num_format_c.specs.Columns.{AreParsed, HasLengths, IsAny, Measures, MeasuresColumn, MeasuresDecimals, ParsesAtScaleInto, ParsesColumn, ParsesDecimals, ParsesRow, ParsesRowExactly, ParsesRows, PrintsColumn, PrintsDecimals, PrintsRows, RowParser, decimal_at, number_row, number_text, signed_value};
 
 use crate::calls;
 use crate::format::{Held, NumFormat};
-use crate::status::Status;
-use crate::wide::{SignedWide, joined, split};
-use num_format::parsing::FromFormattedStr;
-use num_format::{Format, ToFormattedStr};
-use num_format_columns::{
+use crate::layout::{
     NumberPrinter, Offset, Printer, Validity, append, are_offsets, print_texts, texts_len,
 };
-use num_format_decimal::{Decimal, DecimalBuffer, MAX_SCALE, text_len};
+use crate::status::Status;
+use crate::wide::{SignedWide, joined, split};
+use num_format::parsing::{FromFormattedStr, StrictParser};
+use num_format::{Format, ToFormattedStr};
+use num_format_decimal::{Decimal, DecimalBuffer, DecimalParser, MAX_SCALE, text_len};
 
 /// Prints the numbers into a column, and returns 0.
 pub fn print<N: ToFormattedStr, V: Validity, O: Offset>(
@@ -194,24 +196,30 @@ fn measure_rows<T, P: Printer<T>, V: Validity>(
 }
 
 /// How a row of a column is parsed.
-pub trait Parsing<T> {
+trait Parser<T> {
+    ghost format: { Self → FormatData };
+
     ghost Parses: { Self → RowParser T };
 
-    /// Parses the text under the format that a struct has, writes the value, and returns the status.
-    fn parse_row<'a>(&self, format: &Held<'a>, text: &[u8], value: &mut T) -> i32
-        ensures { (s : NumFormat) → IsFormatOf (⟦<Held<'a> as Format>⟧.answers format.now) s
+    /// Parses the text, writes the value, and returns the status.
+    fn parse_row(&self, text: &[u8], value: &mut T) -> i32
+        ensures { (s : NumFormat) → IsFormatOf (format self.now) s
             → Parses self.now s text.now value.old value.new result };
 }
 
 /// Parsing that ignores characters that are not numeric.
 #[derive(Drop)]
-pub struct Lenient;
+struct Lenient<'a, F: Format> {
+    format: &'a F,
+}
 
-impl<N: FromFormattedStr + Copy> Parsing<N> for Lenient {
+impl<'a, F: Format, N: FromFormattedStr + Copy> Parser<N> for Lenient<'a, F> {
+    ghost format = { λ p. F.answers p.format.now };
+
     ghost Parses = { λ _. number_row ParsesInto N.kind N.value };
 
-    fn parse_row<'a>(&self, format: &Held<'a>, text: &[u8], number: &mut N) -> i32 {
-        match calls::parse_under(format, text) {
+    fn parse_row(&self, text: &[u8], number: &mut N) -> i32 {
+        match calls::parse_under(self.format, text) {
             Ok(parsed) => {
                 *number = parsed;
                 0
@@ -221,16 +229,13 @@ impl<N: FromFormattedStr + Copy> Parsing<N> for Lenient {
     }
 }
 
-/// Parsing of texts that are exactly as numbers are printed.
-#[derive(Drop)]
-pub struct Strict;
+impl<'a, F: Format, N: FromFormattedStr + Copy> Parser<N> for StrictParser<'a, F> {
+    ghost format = { λ f. f };
 
-impl<N: FromFormattedStr + Copy> Parsing<N> for Strict {
     ghost Parses = { λ _. number_row ParsesRowExactly N.kind N.value };
 
-    fn parse_row<'a>(&self, format: &Held<'a>, text: &[u8], number: &mut N) -> i32 {
-        let mut at = 0;
-        match calls::parse_strict_under(format, text, &mut at) {
+    fn parse_row(&self, text: &[u8], number: &mut N) -> i32 {
+        match calls::parse_strict_by(self, text, &mut 0) {
             Ok(parsed) => {
                 *number = parsed;
                 0
@@ -242,15 +247,18 @@ impl<N: FromFormattedStr + Copy> Parsing<N> for Strict {
 
 /// Parsing of texts that are exactly as decimals are printed, as decimals of one scale.
 #[derive(Drop)]
-struct AtScale {
+struct AtScale<'a, F: Format> {
+    parser: DecimalParser<'a, F>,
     scale: u8,
 }
 
-impl Parsing<SignedWide> for AtScale {
+impl<'a, F: Format> Parser<SignedWide> for AtScale<'a, F> {
+    ghost format = { λ p. p.parser };
+
     ghost Parses = { λ p. ParsesAtScaleInto p.scale };
 
-    fn parse_row<'a>(&self, format: &Held<'a>, text: &[u8], units: &mut SignedWide) -> i32 {
-        match calls::parse_at_scale(format, text, self.scale) {
+    fn parse_row(&self, text: &[u8], units: &mut SignedWide) -> i32 {
+        match calls::parse_at_scale(&self.parser, text, self.scale) {
             Ok(parsed) => {
                 split(
                     parsed.units().cast_unsigned(),
@@ -262,6 +270,50 @@ impl Parsing<SignedWide> for AtScale {
             Err(status) => status.code(),
         }
     }
+}
+
+/// Parses the rows of a column leniently, and returns 0.
+pub fn parse<N: FromFormattedStr + Copy, V: Validity, O: Offset>(
+    format: &NumFormat,
+    offsets: &[O],
+    bytes: &[u8],
+    numbers: &mut [N],
+    validity: &V,
+    statuses: &mut [i32],
+) -> Result<i32, Status>
+    ensures { ParsesColumn IsAny (number_row ParsesInto N.kind N.value) (V.rows validity.now) O.position O.LIMIT format.now offsets.now bytes.now numbers.old numbers.new statuses.old statuses.new (returned result) }
+{
+    let Some(format) = Held::new(format) else {
+        return Err(Status::BadFormat);
+    };
+    parse_column(
+        &Lenient { format: &format },
+        offsets,
+        bytes,
+        numbers,
+        validity,
+        statuses,
+    )
+}
+
+/// Parses the rows of a column strictly, and returns 0.
+pub fn parse_strict<N: FromFormattedStr + Copy, V: Validity, O: Offset>(
+    format: &NumFormat,
+    offsets: &[O],
+    bytes: &[u8],
+    numbers: &mut [N],
+    validity: &V,
+    statuses: &mut [i32],
+) -> Result<i32, Status>
+    ensures { ParsesColumn IsUnambiguous (number_row ParsesRowExactly N.kind N.value) (V.rows validity.now) O.position O.LIMIT format.now offsets.now bytes.now numbers.old numbers.new statuses.old statuses.new (returned result) }
+{
+    let Some(format) = Held::new(format) else {
+        return Err(Status::BadFormat);
+    };
+    let Ok(parser) = StrictParser::new(&format) else {
+        return Err(Status::AmbiguousFormat);
+    };
+    parse_column(&parser, offsets, bytes, numbers, validity, statuses)
 }
 
 /// Parses the rows of a column of decimals, and returns 0.
@@ -279,32 +331,28 @@ pub fn parse_decimals<V: Validity, O: Offset>(
     let Some(scale) = scale_of(scale) else {
         return Err(Status::BadScale);
     };
-    parse(
-        &AtScale { scale },
-        format,
-        offsets,
-        bytes,
-        units,
-        validity,
-        statuses,
-    )
+    let Some(format) = Held::new(format) else {
+        return Err(Status::BadFormat);
+    };
+    let Ok(parser) = DecimalParser::new(&format) else {
+        return Err(Status::AmbiguousFormat);
+    };
+    let parser = AtScale { parser, scale };
+    parse_column(&parser, offsets, bytes, units, validity, statuses)
 }
 
 /// Parses the rows of a column, and returns 0.
-pub fn parse<P: Parsing<T>, T: Copy, V: Validity, O: Offset>(
-    parsing: &P,
-    format: &NumFormat,
+fn parse_column<P: Parser<T>, T: Copy, V: Validity, O: Offset>(
+    parser: &P,
     offsets: &[O],
     bytes: &[u8],
     values: &mut [T],
     validity: &V,
     statuses: &mut [i32],
 ) -> Result<i32, Status>
-    ensures { ParsesColumn (P.Parses parsing.now) (V.rows validity.now) O.position O.LIMIT format.now offsets.now bytes.now values.old values.new statuses.old statuses.new (returned result) }
+    ensures { (s : NumFormat) → IsFormatOf (P.format parser.now) s
+        → ParsesRows (P.Parses parser.now) (V.rows validity.now) O.position O.LIMIT s offsets.now bytes.now values.old values.new statuses.old statuses.new (returned result) }
 {
-    let Some(format) = Held::new(format) else {
-        return Err(Status::BadFormat);
-    };
     if offsets.is_empty()
         || offsets.len() - 1 != values.len()
         || statuses.len() != values.len()
@@ -315,14 +363,13 @@ pub fn parse<P: Parsing<T>, T: Copy, V: Validity, O: Offset>(
     if !are_offsets(offsets, O::LIMIT.min(bytes.len())) {
         return Err(Status::BadOffsets);
     }
-    parse_rows(parsing, &format, offsets, bytes, values, validity, statuses);
+    parse_rows(parser, offsets, bytes, values, validity, statuses);
     Ok(0)
 }
 
-/// Parses each row of a column under the format that a struct has.
-fn parse_rows<'a, P: Parsing<T>, T: Copy, V: Validity, O: Offset>(
-    parsing: &P,
-    format: &Held<'a>,
+/// Parses each row of a column.
+fn parse_rows<P: Parser<T>, T: Copy, V: Validity, O: Offset>(
+    parser: &P,
     offsets: &[O],
     bytes: &[u8],
     values: &mut [T],
@@ -331,29 +378,23 @@ fn parse_rows<'a, P: Parsing<T>, T: Copy, V: Validity, O: Offset>(
 )
     requires lengths { HasLengths (V.rows validity.now) (length values.old) (length offsets.now) (length statuses.old) }
     requires offsets { AreOffsets O.position (min O.LIMIT (length bytes.now)) offsets.now }
-    ensures { (s : NumFormat) → IsFormatOf (⟦<Held<'a> as Format>⟧.answers format.now) s
-        → AreParsed (P.Parses parsing.now) (V.rows validity.now) O.position s offsets.now bytes.now values.old values.new statuses.new (length values.old) }
+    ensures { (s : NumFormat) → IsFormatOf (P.format parser.now) s
+        → AreParsed (P.Parses parser.now) (V.rows validity.now) O.position s offsets.now bytes.now values.old values.new statuses.new (length values.old) }
 {
     for k in 0..values.len() {
         let text = &bytes[offsets[k].get()..offsets[k + 1].get()];
-        statuses[k] = parse_row(parsing, format, text, validity.is_valid(k), &mut values[k]);
+        statuses[k] = parse_row(parser, text, validity.is_valid(k), &mut values[k]);
     }
 }
 
 /// Parses a row of a column, if it has a value, and returns its status, which is 0 if it has none.
 #[inline(always)]
-fn parse_row<'a, P: Parsing<T>, T>(
-    parsing: &P,
-    format: &Held<'a>,
-    text: &[u8],
-    is_valid: bool,
-    value: &mut T,
-) -> i32
-    ensures { (s : NumFormat) → IsFormatOf (⟦<Held<'a> as Format>⟧.answers format.now) s
-        → ParsesRow (P.Parses parsing.now) is_valid s text.now value.old value.new result }
+fn parse_row<P: Parser<T>, T>(parser: &P, text: &[u8], is_valid: bool, value: &mut T) -> i32
+    ensures { (s : NumFormat) → IsFormatOf (P.format parser.now) s
+        → ParsesRow (P.Parses parser.now) is_valid s text.now value.old value.new result }
 {
     if is_valid {
-        parsing.parse_row(format, text, value)
+        parser.parse_row(text, value)
     } else {
         0
     }

@@ -1,5 +1,8 @@
 //! num-format for C: a static library over `num_format`, whose header is `num_format.h`.
 //!
+//! `tools/column_calls.py` writes `column_calls` and a part of the header. Any other file may be changed, and
+//! with an export its declaration.
+//!
 //! The header says what a C program has to know, and what it must ensure. The contracts here say
 //! what each call returns and writes, for any bytes of a struct and of a text.
 //!
@@ -24,6 +27,7 @@ mod calls;
 pub mod column_calls;
 mod columns;
 pub mod format;
+pub mod layout;
 pub mod status;
 pub mod wide;
 

@@ -27,7 +27,7 @@ pub enum Status {
     NoDigit,
     /// The text is not as its number is printed.
     Misspelled,
-    /// The text is as its number is printed, and is refused as a number of the kind.
+    /// The text is as its number is printed, which is no number of the kind.
     OutOfRange,
     /// A decimal has no such scale.
     BadScale,
@@ -41,6 +41,8 @@ pub enum Status {
     TooManyBytes,
     /// The text has digits other than zero that the scale has not.
     DigitsLost,
+    /// A text can be misread under the format, so that none is parsed strictly.
+    AmbiguousFormat,
 }
 
 impl Status {
@@ -67,6 +69,7 @@ impl Status {
             Status::BadOffsets => -16,
             Status::TooManyBytes => -17,
             Status::DigitsLost => -18,
+            Status::AmbiguousFormat => -19,
         }
     }
 }

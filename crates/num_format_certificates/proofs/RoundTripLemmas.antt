@@ -22,7 +22,9 @@ use Rattle.num_format_parsing.specs.Reading.{denoted, figures, is_negative_text,
 use Rattle.num_format_int.specs.Text.{body_of, text_of}
 use Rattle.num_format_int.proofs.DigitLemmas.{AreDigits, digits-below_ten, digits_given, length-digits-le, number_from_digits-digits}
 use Rattle.num_format_int.proofs.GroupedLemmas.{grouped-Posix, of_either}
+use Rattle.num_format_parsing.proofs.CauseLemmas.{above_low, below_high, sign-kind}
 use Rattle.num_format_parsing.proofs.ReadingLemmas.{digits_among, digits_among-append, digits_among-first, digits_among-separated}
+pub use Rattle.num_format_parsing.proofs.SpellingLemmas.{is_negative-pos, signed_number-unsigned_abs}
 use Rattle.num_format_certificates.specs.RoundTrips.{ReadsBack, RoundTrips, HasNoNumeral, IsUnambiguous, printed_separator}
 use Rattle.num_format_certificates.proofs.TextCharacterLemmas.{chars-ascii_byte, separator_chars, chars-text_of, digits_among-separated-ge, no_other-separated, lowest_separates, printed-chars, utf8-text_of}
 use Rattle.num_format_int.proofs.TextLemmas.{length-digits-i128-MIN}
@@ -65,26 +67,6 @@ within_limit NonZeroU64 = (20, nonzero-within 64 20 (lit< tt) (lit< tt))
 within_limit NonZeroU128 = (39, nonzero-within 128 39 (lit< tt) (lit< tt))
 within_limit NonZeroUsize = (20, nonzero-within 64 20 (lit< tt) (lit< tt))
 
-below_high : (n : ℕ) (high : ℤ) → pos n ≤ℤ high → n ≤ unsigned_abs high
-below_high n (pos m) h = omega (arith, ints)
-below_high n (negsuc m) h = absurd (omega (arith, ints))
-
-above_low : (n : ℕ) (low : ℤ) → low ≤ℤ negsuc n → suc n ≤ unsigned_abs low
-above_low n (pos m) h = absurd (omega (arith, ints))
-above_low n (negsuc m) h = omega (arith, ints)
-
-pub is_negative-pos : (n : ℕ) → is_negative (pos n) ≡ false
-is_negative-pos n = grind (arith, nat_tests)
-
--- only a kind that has negative values has one
-sign_given : (most : ℕ) (k : Kind) (z : ℤ) → IsWithinLimit most k → IsValueOf k z → is_negative z ≡ true → IsTrue k.has_negative
-sign_given most k (pos n) within value negative = absurd (both_ways _ (is_negative-pos n) negative)
-sign_given most k (negsuc n) within value negative =
-    elim (cases_Bool k.has_negative) [
-      | inl has ↦ has
-      | inr has_none ↦ let above = within.unsigned has_none in absurd (omega (arith, ints, above, value.above))
-    ]
-
 -- the digits of a value are within the limit, a minus sign counted as one
 few_figures : (most : ℕ) (k : Kind) (z : ℤ) → IsWithinLimit most k → IsValueOf k z → length (digits (unsigned_abs z)) + (if is_negative z then 1 else 0) ≤ k.limit
 few_figures most k (pos n) within value =
@@ -92,7 +74,7 @@ few_figures most k (pos n) within value =
     rw (is_negative-pos n) (omega (arith, few, within.limit))
 few_figures most k (negsuc n) within value =
     let few = length-digits-le most (suc n) within.some (omega (arith, above_low n k.low value.above, within.low)) in
-    let limit : most + 1 ≤ k.limit = rw (sign_given most k (negsuc n) within value refl) at within.limit in
+    let limit : most + 1 ≤ k.limit = rw (sign-kind k (negsuc n) within.unsigned value refl) at within.limit in
     omega (arith, few, limit)
 
 -- a text that tells z: its figures are the digits of z, no other numeral is among them, and it is negative exactly if z is
@@ -100,10 +82,6 @@ pub record Tells (f : FormatData) (z : ℤ) (text : List ℕ) : Type 0 where
   pub figures : figures text ≡ digits (unsigned_abs z)
   pub plain : list_any is_other_numeral (chars text) ≡ false
   pub sign : is_negative_text f text ≡ is_negative z
-
-pub signed_number-unsigned_abs : (z : ℤ) → signed_number (is_negative z) (unsigned_abs z) ≡ z
-signed_number-unsigned_abs (pos n) = rw (is_negative-pos n)
-signed_number-unsigned_abs (negsuc n) = refl
 
 -- it denotes z
 pub tells-same : (f : FormatData) (z : ℤ) (text : List ℕ) → Tells f z text → denoted f text ≡ z
@@ -123,7 +101,7 @@ tells-accepted most k f z text within value tells refused =
           let sign = ap {B = ℕ} (λ b. if b then 1 else 0) tells.sign in
           omega (arith, few_figures most k z within value, many, long, sign)
       | no_value wrong ↦ wrong (record {
-        sign = λ negative. sign_given most k z within value (sym tells.sign ∙ negative);
+        sign = λ negative. sign-kind k z within.unsigned value (sym tells.sign ∙ negative);
         value = subst (IsValueOf k) (sym (tells-same f z text tells)) value;
       })
     ]

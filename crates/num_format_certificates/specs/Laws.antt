@@ -5,7 +5,6 @@ use Rattle.num_format_text.specs.English.{english_with}
 use Rattle.num_format_text.specs.Format.{FormatData}
 use Rattle.num_format_int.specs.Kind.{kind_of, I128, IntegerType, IsValueOf}
 use Rattle.num_format_int.specs.Text.{text_of}
-use Rattle.num_format_parsing.specs.Strict.{SpellsNumber, ParsesStrictly, IsOutOfRange}
 use Rattle.num_format_certificates.specs.Alike.{Alike, PrintsAlike}
 use Rattle.num_format_certificates.specs.RoundTrips.{ReadsBack, RoundTrips, IsUnambiguous}
 
@@ -62,15 +61,3 @@ Utf8Law = (f : FormatData) (z : ℤ) → IsUtf8 f.minus_sign → IsUtf8 f.separa
 abbrev pub DistinctTextsLaw : Type 0
 DistinctTextsLaw = (f : FormatData) → RoundTrips f →
     (t : IntegerType) (y z : ℤ) → IsValueOf (kind_of t) y → IsValueOf (kind_of t) z → text_of f y ≡ text_of f z → y ≡ z
-
--- strict parsing returns a value exactly if the text spells it; a text spells one number at most; each printed text is parsed to its
--- number; and out of range is exactly what spells a number that is no value of the type
-pub record IsExact (f : FormatData) : Type 0 where
-  pub returned : (t : IntegerType) (text : List ℕ) (z : ℤ) → IsValueOf (kind_of t) z → ParsesStrictly (kind_of t) f text z ↔ SpellsNumber f text z
-  pub once : (text : List ℕ) (y z : ℤ) → SpellsNumber f text y → SpellsNumber f text z → y ≡ z
-  pub printed : (t : IntegerType) (z : ℤ) → IsValueOf (kind_of t) z → ParsesStrictly (kind_of t) f (text_of f z) z
-  pub out_of_range : (t : IntegerType) (text : List ℕ) → IsOutOfRange (kind_of t) f text ↔ ((z : ℤ) × SpellsNumber f text z × ¬ (IsValueOf (kind_of t) z))
-
--- strict parsing is exact under a format by which every number reads back, whose minus sign and separator are UTF-8
-abbrev pub StrictLaw : Type 0
-StrictLaw = (f : FormatData) → IsUtf8 f.minus_sign → IsUtf8 f.separator → RoundTrips f → IsExact f

@@ -1,10 +1,10 @@
 //! Laws of the checks of a format, for callers' proofs.
 //!
 //! The contract of each function is a law. There is nothing to compute, so the bodies are empty,
-//! but for those of [`format_data`], [`locale_round_trips`] and [`strict_under`], which call getters for
-//! what their contracts say. A caller that needs a law in a proof calls its function.
+//! but for those of [`format_data`] and [`locale_round_trips`], which call getters for what their contracts
+//! say. A caller that needs a law in a proof calls its function.
 ghost use Rattle.num_format_locale.specs.Data.{locale_data};
-ghost use Rattle.num_format_certificates.specs.Laws.{AlikeLaw, BothNeededLaw, DistinctTextsLaw, FourNeededLaw, IsExact, RoundTripLaw, StrictLaw, Utf8Law};
+ghost use Rattle.num_format_certificates.specs.Laws.{AlikeLaw, BothNeededLaw, DistinctTextsLaw, FourNeededLaw, RoundTripLaw, Utf8Law};
 ghost use Rattle.num_format_certificates.specs.RoundTrips.{RoundTrips};
 ghost use Rattle.num_format_text.specs.Format.{HasUtf8Texts, IsWithinCapacity};
 
@@ -80,24 +80,3 @@ pub fn locale_round_trips(locale: Locale)
 pub fn distinct_texts()
     ensures { DistinctTextsLaw }
 {}
-
-/// Under a format by which every number reads back:
-///
-/// - strict parsing returns a value of a type exactly if the text spells it;
-/// - a text spells one number at most;
-/// - each printed text is parsed to its number;
-/// - a text is out of range for a type exactly if it spells a number that is no value of the type.
-///
-/// The law is about data whose minus sign and separator are UTF-8, as those of every
-/// [`Format`](num_format_text::Format) are.
-pub fn strict()
-    ensures { StrictLaw }
-{}
-
-/// The law [`strict`] for one format: its minus sign and its separator are UTF-8.
-pub fn strict_under<F: Format>(format: &F)
-    ensures { RoundTrips (F.answers format.now) → IsExact (F.answers format.now) }
-{
-    format.minus_sign().into_str();
-    format.separator().into_str();
-}

@@ -1,5 +1,8 @@
 //! The table of the 542 locales of num-format.
 //!
+//! `tools/locales.py rows` writes `src/rows`, `src/name_list.rt` and `proofs/rows` from `tools/locales.txt`.
+//! Any other file may be changed.
+//!
 //! A row says how a locale writes numbers: its decimal mark, its separator and its signs, how it
 //! groups digits, and its texts for infinity and for a value that is not a number. The data are
 //! those of the Unicode CLDR, as the Rust crate `num-format` 0.4.4 has them.

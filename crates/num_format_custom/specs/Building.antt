@@ -5,6 +5,7 @@ use Rattle.std.specs.List.{filter_map, last_or}
 use Rattle.num_format_text.specs.declared.grouping.Grouping.{Grouping}
 use Rattle.num_format_text.specs.declared.error.Error.{Error}
 use Rattle.num_format_text.specs.declared.error_kind.ErrorKind.TheVariants as kind
+use Rattle.num_format_text.specs.English.{english}
 use Rattle.num_format_text.specs.Format.{FormatData}
 
 -- a text, or the length in bytes of a text that is too long
@@ -81,6 +82,14 @@ built c =
       plus_sign = plus_sign;
       separator = separator;
     })))))))
+
+-- en's format with these three fields, or the error of a field that is too long
+abbrev pub custom_format : List ℕ → Grouping → List ℕ → Result FormatData Error
+custom_format separator grouping minus_sign = built (record (choices_of english) {
+  separator = chosen MAX_SEP_LEN separator;
+  grouping = grouping;
+  minus_sign = chosen MAX_MIN_LEN minus_sign;
+})
 
 -- what a call gives to the decimal mark, if it sets that field; and so on for the other fields
 abbrev pub to_decimal : Call → Option Choice

@@ -1,6 +1,6 @@
 //! A format with seven fields of the caller's choice.
 ghost use Rattle.std.specs.Prelude.{◌≡◌, ◌≤◌, length};
-ghost use Rattle.num_format_custom.specs.Building.{choices_of};
+ghost use Rattle.num_format_custom.specs.Building.{choices_of, custom_format};
 ghost use Rattle.num_format_text.specs.English.{english};
 ghost use Rattle.num_format_locale.specs.Data.{locale_data};
 
@@ -12,7 +12,7 @@ use num_format_text::capacities::{
 use num_format_text::strings::{
     DecimalStr, InfinityStr, MinusSignStr, NanStr, PlusSignStr, SeparatorStr,
 };
-use num_format_text::{BoundedString, Format, Grouping};
+use num_format_text::{BoundedString, Error, Format, Grouping};
 use std::marker::Model;
 
 /// A format with seven fields of the caller's choice. A contract sees them as `FormatData`.
@@ -68,6 +68,29 @@ impl Model for CustomFormat {
 }
 
 impl CustomFormat {
+    /// Returns the format of the locale `en` with these three fields.
+    ///
+    /// The Rust crate has no such call.
+    ///
+    /// ```rust
+    /// let format = CustomFormat::new("'", Grouping::Standard, "-")?;
+    /// Buffer::of(&1000000, &format).as_str()    // "1'000'000"
+    /// ```
+    ///
+    /// # Errors
+    ///
+    /// Returns the error of a field that is too long: of the minus sign before that of the separator. It is an
+    /// [`ErrorKind::Capacity`](num_format_text::ErrorKind::Capacity), with both lengths in bytes.
+    pub fn new(separator: &str, grouping: Grouping, minus_sign: &str) -> Result<CustomFormat, Error>
+        ensures { result ≡ custom_format separator.now grouping minus_sign.now }
+    {
+        CustomFormat::builder()
+            .separator(separator)
+            .grouping(grouping)
+            .minus_sign(minus_sign)
+            .build()
+    }
+
     /// Returns a format with the data of any format. It needs no memory and cannot fail.
     ///
     /// The Rust crate has no such call.

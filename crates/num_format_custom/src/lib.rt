@@ -1,4 +1,6 @@
 //! Formats with seven fields of the caller's choice, and their builder.
+//!
+//! Any file may be changed. The builder and its order of errors are those of the Rust crate, and stay.
 #![tactic(auto)]
 
 mod choice;

@@ -1,5 +1,5 @@
 -- At most one cause holds of a text, and none of a text that is parsed.
-use Rattle.std.proofs.Common.{◌≡◌, ℕ, List, length, refl, ap, ◌∙◌, sym, arith, length-drop, subst, Ok, Err}
+use Rattle.std.proofs.Common.{◌≡◌, ℕ, List, length, refl, ap, ◌∙◌, sym, arith, length-drop, subst, Ok, Err, IsUtf8}
 use Rattle.std.specs.Prelude.{Result, MatchResult, ◌↔◌}
 use Rattle.num_format_text.specs.Format.{FormatData}
 use Rattle.num_format_decimal.specs.declared.error.DecimalError.{DecimalError}
@@ -7,11 +7,14 @@ use Rattle.num_format_decimal.specs.declared.error.DecimalError.TheVariants as s
 use Rattle.num_format_decimal.specs.declared.parsing.ParseAtScaleError.{ParseAtScaleError}
 use Rattle.num_format_decimal.specs.declared.parsing.ParseAtScaleError.TheVariants.{Parse, Rescale}
 use Rattle.num_format_decimal.specs.declared.parsing.ParseDecimalError.{ParseDecimalError}
-use Rattle.num_format_decimal.specs.declared.parsing.ParseDecimalError.TheVariants.{NotUtf8, Unexpected, NoDigit, TooManyDecimals, Misspelled, OutOfRange}
+use Rattle.num_format_decimal.specs.declared.parsing.ParseDecimalError.TheVariants.{AmbiguousFormat, NotUtf8, Unexpected, NoDigit, TooManyDecimals, Misspelled, OutOfRange}
 use Rattle.num_format_decimal.specs.declared.rounding.Rounding.TheVariants.{Exact}
 use Rattle.num_format_decimal.specs.FixedPoint.{FixedPoint, fixed_point}
-use Rattle.num_format_decimal.specs.Parsing.{DecimalStopsAt, IsAtScaleCause, IsDecimalCause, IsExpectedDecimal, ParsesAtScale, ParsesDecimal}
+use Rattle.num_format_decimal.specs.Marks.{IsPlainFormat, MarksDecimals}
+use Rattle.num_format_decimal.specs.Parsing.{AtScaleResult, DecimalResult, DecimalStopsAt, IsAtScaleCause, IsDecimalCause, IsDecimalOutOfRange, IsExpectedDecimal, ParsesAtScale, ParsesDecimal, SpellsDecimal}
+use Rattle.num_format_decimal.specs.Values.{HasUnits}
 use Rattle.num_format_decimal.specs.Rounded.{CanRescale, CannotRescale, rescaled}
+use Rattle.num_format_decimal.proofs.MarkLemmas.{spelled_once, tells-spelled_decimal}
 
 stops-not : (f : FormatData) (t : List ℕ) (a : ℕ) → DecimalStopsAt f t a → IsExpectedDecimal f t → ⊥
 stops-not f t a stops expected = omega (arith, ap length (sym stops.rest ∙ expected.rest), length-drop a t, stops.inside)
@@ -19,71 +22,108 @@ stops-not f t a stops expected = omega (arith, ap length (sym stops.rest ∙ exp
 stops-once : (f : FormatData) (t : List ℕ) (a b : ℕ) → DecimalStopsAt f t a → DecimalStopsAt f t b → a ≡ b
 stops-once f t a b p q = omega (arith, ap length (sym p.rest ∙ q.rest), length-drop a t, length-drop b t, p.inside, q.inside)
 
+-- a text that spells a decimal is UTF-8
+utf8-spelled : (f : FormatData) (t : List ℕ) (d : FixedPoint) → IsPlainFormat f → SpellsDecimal f t d → IsUtf8 t
+utf8-spelled f t d plain spells = (tells-spelled_decimal f t d.units d.scale plain spells).utf8
+
 -- two causes of one refusal are the same
-only_cause : (f : FormatData) (t : List ℕ) (d e : ParseDecimalError) → IsDecimalCause f t d → IsDecimalCause f t e → d ≡ e
-only_cause f t NotUtf8 NotUtf8 p q = refl
-only_cause f t NotUtf8 (Unexpected b) p q = absurd (p q.spells_none.utf8)
-only_cause f t NotUtf8 NoDigit p q = absurd (p q.expected.spells_none.utf8)
-only_cause f t NotUtf8 TooManyDecimals p q = absurd (p q.expected.spells_none.utf8)
-only_cause f t NotUtf8 Misspelled p q = absurd (p q.expected.spells_none.utf8)
-only_cause f t NotUtf8 OutOfRange p q = absurd (p q.utf8)
-only_cause f t (Unexpected a) NotUtf8 p q = absurd (q p.spells_none.utf8)
-only_cause f t (Unexpected a) (Unexpected b) p q = ap Unexpected (stops-once f t a b p q)
-only_cause f t (Unexpected a) NoDigit p q = absurd (stops-not f t a p q.expected)
-only_cause f t (Unexpected a) TooManyDecimals p q = absurd (stops-not f t a p q.expected)
-only_cause f t (Unexpected a) Misspelled p q = absurd (stops-not f t a p q.expected)
-only_cause f t (Unexpected a) OutOfRange p q = absurd (p.spells_none.none q.scale q.spelled)
-only_cause f t NoDigit NotUtf8 p q = absurd (q p.expected.spells_none.utf8)
-only_cause f t NoDigit (Unexpected b) p q = absurd (stops-not f t b q p.expected)
-only_cause f t NoDigit NoDigit p q = refl
-only_cause f t NoDigit TooManyDecimals p q = absurd (q.some p.none)
-only_cause f t NoDigit Misspelled p q = absurd (q.some p.none)
-only_cause f t NoDigit OutOfRange p q = absurd (p.expected.spells_none.none q.scale q.spelled)
-only_cause f t TooManyDecimals NotUtf8 p q = absurd (q p.expected.spells_none.utf8)
-only_cause f t TooManyDecimals (Unexpected b) p q = absurd (stops-not f t b q p.expected)
-only_cause f t TooManyDecimals NoDigit p q = absurd (p.some q.none)
-only_cause f t TooManyDecimals TooManyDecimals p q = refl
-only_cause f t TooManyDecimals Misspelled p q = absurd (omega (arith, p.many, q.few))
-only_cause f t TooManyDecimals OutOfRange p q = absurd (p.expected.spells_none.none q.scale q.spelled)
-only_cause f t Misspelled NotUtf8 p q = absurd (q p.expected.spells_none.utf8)
-only_cause f t Misspelled (Unexpected b) p q = absurd (stops-not f t b q p.expected)
-only_cause f t Misspelled NoDigit p q = absurd (p.some q.none)
-only_cause f t Misspelled TooManyDecimals p q = absurd (omega (arith, p.few, q.many))
-only_cause f t Misspelled Misspelled p q = refl
-only_cause f t Misspelled OutOfRange p q = absurd (p.expected.spells_none.none q.scale q.spelled)
-only_cause f t OutOfRange NotUtf8 p q = absurd (q p.utf8)
-only_cause f t OutOfRange (Unexpected b) p q = absurd (q.spells_none.none p.scale p.spelled)
-only_cause f t OutOfRange NoDigit p q = absurd (q.expected.spells_none.none p.scale p.spelled)
-only_cause f t OutOfRange TooManyDecimals p q = absurd (q.expected.spells_none.none p.scale p.spelled)
-only_cause f t OutOfRange Misspelled p q = absurd (q.expected.spells_none.none p.scale p.spelled)
-only_cause f t OutOfRange OutOfRange p q = refl
+only_cause : (f : FormatData) (t : List ℕ) → IsPlainFormat f → (d e : ParseDecimalError) → IsDecimalCause f t d → IsDecimalCause f t e → d ≡ e
+only_cause f t plain AmbiguousFormat AmbiguousFormat p q = refl
+only_cause f t plain AmbiguousFormat NotUtf8 p q = absurd (p q.0)
+only_cause f t plain AmbiguousFormat (Unexpected b) p q = absurd (p q.0)
+only_cause f t plain AmbiguousFormat NoDigit p q = absurd (p q.0)
+only_cause f t plain AmbiguousFormat TooManyDecimals p q = absurd (p q.0)
+only_cause f t plain AmbiguousFormat Misspelled p q = absurd (p q.0)
+only_cause f t plain AmbiguousFormat OutOfRange p q = absurd (p q.0)
+only_cause f t plain NotUtf8 AmbiguousFormat p q = absurd (q p.0)
+only_cause f t plain NotUtf8 NotUtf8 p q = refl
+only_cause f t plain NotUtf8 (Unexpected b) p q = absurd (p.1 q.1.spells_none.utf8)
+only_cause f t plain NotUtf8 NoDigit p q = absurd (p.1 q.1.expected.spells_none.utf8)
+only_cause f t plain NotUtf8 TooManyDecimals p q = absurd (p.1 q.1.expected.spells_none.utf8)
+only_cause f t plain NotUtf8 Misspelled p q = absurd (p.1 q.1.expected.spells_none.utf8)
+only_cause f t plain NotUtf8 OutOfRange p q = absurd (p.1 (utf8-spelled f t q.1.decimal plain q.1.spelled))
+only_cause f t plain (Unexpected a) AmbiguousFormat p q = absurd (q p.0)
+only_cause f t plain (Unexpected a) NotUtf8 p q = absurd (q.1 p.1.spells_none.utf8)
+only_cause f t plain (Unexpected a) (Unexpected b) p q = ap Unexpected (stops-once f t a b p.1 q.1)
+only_cause f t plain (Unexpected a) NoDigit p q = absurd (stops-not f t a p.1 q.1.expected)
+only_cause f t plain (Unexpected a) TooManyDecimals p q = absurd (stops-not f t a p.1 q.1.expected)
+only_cause f t plain (Unexpected a) Misspelled p q = absurd (stops-not f t a p.1 q.1.expected)
+only_cause f t plain (Unexpected a) OutOfRange p q = absurd (p.1.spells_none.none q.1.decimal q.1.bound q.1.spelled)
+only_cause f t plain NoDigit AmbiguousFormat p q = absurd (q p.0)
+only_cause f t plain NoDigit NotUtf8 p q = absurd (q.1 p.1.expected.spells_none.utf8)
+only_cause f t plain NoDigit (Unexpected b) p q = absurd (stops-not f t b q.1 p.1.expected)
+only_cause f t plain NoDigit NoDigit p q = refl
+only_cause f t plain NoDigit TooManyDecimals p q = absurd (q.1.some p.1.none)
+only_cause f t plain NoDigit Misspelled p q = absurd (q.1.some p.1.none)
+only_cause f t plain NoDigit OutOfRange p q = absurd (p.1.expected.spells_none.none q.1.decimal q.1.bound q.1.spelled)
+only_cause f t plain TooManyDecimals AmbiguousFormat p q = absurd (q p.0)
+only_cause f t plain TooManyDecimals NotUtf8 p q = absurd (q.1 p.1.expected.spells_none.utf8)
+only_cause f t plain TooManyDecimals (Unexpected b) p q = absurd (stops-not f t b q.1 p.1.expected)
+only_cause f t plain TooManyDecimals NoDigit p q = absurd (p.1.some q.1.none)
+only_cause f t plain TooManyDecimals TooManyDecimals p q = refl
+only_cause f t plain TooManyDecimals Misspelled p q = absurd (omega (arith, p.1.many, q.1.few))
+only_cause f t plain TooManyDecimals OutOfRange p q = absurd (p.1.expected.spells_none.none q.1.decimal q.1.bound q.1.spelled)
+only_cause f t plain Misspelled AmbiguousFormat p q = absurd (q p.0)
+only_cause f t plain Misspelled NotUtf8 p q = absurd (q.1 p.1.expected.spells_none.utf8)
+only_cause f t plain Misspelled (Unexpected b) p q = absurd (stops-not f t b q.1 p.1.expected)
+only_cause f t plain Misspelled NoDigit p q = absurd (p.1.some q.1.none)
+only_cause f t plain Misspelled TooManyDecimals p q = absurd (omega (arith, p.1.few, q.1.many))
+only_cause f t plain Misspelled Misspelled p q = refl
+only_cause f t plain Misspelled OutOfRange p q = absurd (p.1.expected.spells_none.none q.1.decimal q.1.bound q.1.spelled)
+only_cause f t plain OutOfRange AmbiguousFormat p q = absurd (q p.0)
+only_cause f t plain OutOfRange NotUtf8 p q = absurd (q.1 (utf8-spelled f t p.1.decimal plain p.1.spelled))
+only_cause f t plain OutOfRange (Unexpected b) p q = absurd (q.1.spells_none.none p.1.decimal p.1.bound p.1.spelled)
+only_cause f t plain OutOfRange NoDigit p q = absurd (q.1.expected.spells_none.none p.1.decimal p.1.bound p.1.spelled)
+only_cause f t plain OutOfRange TooManyDecimals p q = absurd (q.1.expected.spells_none.none p.1.decimal p.1.bound p.1.spelled)
+only_cause f t plain OutOfRange Misspelled p q = absurd (q.1.expected.spells_none.none p.1.decimal p.1.bound p.1.spelled)
+only_cause f t plain OutOfRange OutOfRange p q = refl
 
 -- what is parsed is refused for no cause
-no_cause : (f : FormatData) (t : List ℕ) (d : FixedPoint) (e : ParseDecimalError) → ParsesDecimal f t d → IsDecimalCause f t e → ⊥
-no_cause f t d NotUtf8 parses cause = cause parses.utf8
-no_cause f t d (Unexpected at) parses cause = cause.spells_none.none d.scale parses.scale
-no_cause f t d NoDigit parses cause = cause.expected.spells_none.none d.scale parses.scale
-no_cause f t d TooManyDecimals parses cause = cause.expected.spells_none.none d.scale parses.scale
-no_cause f t d Misspelled parses cause = cause.expected.spells_none.none d.scale parses.scale
-no_cause f t d OutOfRange parses cause = parses.accepted cause.refused
+no_cause : (f : FormatData) (t : List ℕ) (d : FixedPoint) → IsPlainFormat f → (e : ParseDecimalError) → ParsesDecimal f t d → IsDecimalCause f t e → ⊥
+no_cause f t d plain AmbiguousFormat parses cause = cause parses.unambiguous
+no_cause f t d plain NotUtf8 parses cause = cause.1 (utf8-spelled f t d plain parses.spelled)
+no_cause f t d plain (Unexpected at) parses cause = cause.1.spells_none.none d parses.bound parses.spelled
+no_cause f t d plain NoDigit parses cause = cause.1.expected.spells_none.none d parses.bound parses.spelled
+no_cause f t d plain TooManyDecimals parses cause = cause.1.expected.spells_none.none d parses.bound parses.spelled
+no_cause f t d plain Misspelled parses cause = cause.1.expected.spells_none.none d parses.bound parses.spelled
+no_cause f t d plain OutOfRange parses cause =
+    let one = spelled_once f t cause.1.decimal d plain parses.unambiguous.apart cause.1.spelled parses.spelled in
+    subst (λ x. ¬ (HasUnits x)) one cause.1.wrong parses.fits
 
 -- and one decimal is parsed at most
-pub one_parsed : (f : FormatData) (t : List ℕ) (a b : FixedPoint) → ParsesDecimal f t a → ParsesDecimal f t b → a ≡ b
-one_parsed f t a b p q =
-    ap (λ units. fixed_point units a.scale) (p.units ∙ sym q.units) ∙ ap (fixed_point b.units) (q.scale.only a.scale p.scale.bound p.scale.spelled)
+one_parsed : (f : FormatData) (t : List ℕ) (a b : FixedPoint) → IsPlainFormat f → ParsesDecimal f t a → ParsesDecimal f t b → a ≡ b
+one_parsed f t a b plain p q = spelled_once f t a b plain p.unambiguous.apart p.spelled q.spelled
 
 -- a text is judged: it is parsed, or refused for a cause
 abbrev pub JudgedDecimal : FormatData → List ℕ → Result FixedPoint ParseDecimalError → Type 0
 JudgedDecimal f t r = MatchResult r (λ d. ParsesDecimal f t d) (λ e. IsDecimalCause f t e)
 
 -- then the error is returned exactly if its cause holds, and a decimal exactly if it is parsed
-pub error-exactly : (f : FormatData) (t : List ℕ) (r : Result FixedPoint ParseDecimalError) (e : ParseDecimalError) → JudgedDecimal f t r → (r ≡ Err e) ↔ IsDecimalCause f t e
-error-exactly f t (Ok d) e judged = (λ wrong. cc, λ cause. absurd (no_cause f t d e judged cause))
-error-exactly f t (Err d) e judged = (λ same. let error : d ≡ e = cc in subst (IsDecimalCause f t) error judged, λ cause. ap Err (only_cause f t d e judged cause))
+pub result-judged : (f : FormatData) (t : List ℕ) (r : Result FixedPoint ParseDecimalError) → IsPlainFormat f → JudgedDecimal f t r → DecimalResult f t r
+result-judged f t (Ok a) plain judged = record {
+  decimal = λ d. ((λ same. let one : a ≡ d = cc in subst (ParsesDecimal f t) one judged), (λ parses. ap Ok (one_parsed f t a d plain judged parses)));
+  refused = λ e. ((λ wrong. absurd (cc)), (λ cause. absurd (no_cause f t a plain e judged cause)));
+}
+result-judged f t (Err d) plain judged = record {
+  decimal = λ a. ((λ wrong. absurd (cc)), (λ parses. absurd (no_cause f t a plain d parses judged)));
+  refused = λ e. ((λ same. let error : d ≡ e = cc in subst (IsDecimalCause f t) error judged), (λ cause. ap Err (only_cause f t plain d e judged cause)));
+}
 
-pub decimal-exactly : (f : FormatData) (t : List ℕ) (r : Result FixedPoint ParseDecimalError) (d : FixedPoint) → JudgedDecimal f t r → (r ≡ Ok d) ↔ ParsesDecimal f t d
-decimal-exactly f t (Ok a) d judged = (λ same. let one : a ≡ d = cc in subst (ParsesDecimal f t) one judged, λ parses. ap Ok (one_parsed f t a d judged parses))
-decimal-exactly f t (Err e) d judged = (λ wrong. cc, λ parses. absurd (no_cause f t d e parses judged))
+-- under an ambiguous format no text is parsed
+pub result-ambiguous : (f : FormatData) (t : List ℕ) (e : ParseDecimalError) → ¬ (MarksDecimals f) → e ≡ AmbiguousFormat → DecimalResult f t (Err e)
+result-ambiguous f t e none same = record {
+  decimal = λ d. ((λ wrong. absurd (cc)), (λ parses. absurd (none parses.unambiguous)));
+  refused = λ c. ((λ error. let first : AmbiguousFormat ≡ c = sym same ∙ (let both : e ≡ c = cc in both) in subst (IsDecimalCause f t) first none), (λ cause. ap Err (same ∙ only_ambiguous f t c none cause)));
+}
+  where
+    only_ambiguous : (f : FormatData) (t : List ℕ) (c : ParseDecimalError) → ¬ (MarksDecimals f) → IsDecimalCause f t c → AmbiguousFormat ≡ c
+    only_ambiguous f t AmbiguousFormat none cause = refl
+    only_ambiguous f t NotUtf8 none cause = absurd (none cause.0)
+    only_ambiguous f t (Unexpected at) none cause = absurd (none cause.0)
+    only_ambiguous f t NoDigit none cause = absurd (none cause.0)
+    only_ambiguous f t TooManyDecimals none cause = absurd (none cause.0)
+    only_ambiguous f t Misspelled none cause = absurd (none cause.0)
+    only_ambiguous f t OutOfRange none cause = absurd (none cause.0)
 
 -- a decimal cannot be rescaled for one cause at most
 one_refusal : (d : FixedPoint) (scale : ℕ) (a b : DecimalError) → CannotRescale Exact d scale a → CannotRescale Exact d scale b → a ≡ b
@@ -103,39 +143,49 @@ no_refusal d scale scale_error.ScaleTooLarge can cannot = omega (arith, can.boun
 no_refusal d scale scale_error.DigitsLost can cannot = can.kept cannot.1
 no_refusal d scale scale_error.OutOfRange can cannot = cannot.2 can.fits
 
--- a text is judged as a decimal of a scale
-abbrev pub JudgedAtScale : FormatData → List ℕ → (scale : ℕ) → Result FixedPoint ParseAtScaleError → Type 0
-JudgedAtScale f t scale r = MatchResult r (λ d. ParsesAtScale f t scale d) (λ e. IsAtScaleCause f t scale e)
+-- of a text that is parsed, the decimal is the one that is returned
+only_parsed : (f : FormatData) (t : List ℕ) (d e : FixedPoint) → DecimalResult f t (Ok d) → ParsesDecimal f t e → d ≡ e
+only_parsed f t d e parsed parses = let same = (parsed.decimal e).1 parses in cc
 
--- the decimal that a text spells is the one that it is said to spell
-same_spelled : (f : FormatData) (t : List ℕ) (a b : FixedPoint) (P : FixedPoint → Type 0) → ParsesDecimal f t a → ParsesDecimal f t b → P a → P b
-same_spelled f t a b P p q = subst P (one_parsed f t a b p q)
+-- what parsing at a scale returns, where the decimal has the scale
+pub scaled-ok : (f : FormatData) (t : List ℕ) (scale : ℕ) (d x : FixedPoint) → DecimalResult f t (Ok d) → CanRescale Exact d scale → x ≡ rescaled Exact d scale → AtScaleResult f t scale (Ok x)
+scaled-ok f t scale d x parsed can same = record {
+  decimal = λ y. (
+    (λ one. let both : x ≡ y = cc in record { spelled = d; parses = (parsed.decimal d).0 refl; can = can; same = sym both ∙ same }),
+    (λ p. ap Ok (same ∙ ap (λ z. rescaled Exact z scale) (only_parsed f t d p.spelled parsed p.parses) ∙ sym p.same)),
+  );
+  refused = λ e. ((λ wrong. absurd (cc)), (λ cause. absurd (refuses f t scale d e parsed can cause)));
+}
+  where
+    refuses : (f : FormatData) (t : List ℕ) (scale : ℕ) (d : FixedPoint) (e : ParseAtScaleError) → DecimalResult f t (Ok d) → CanRescale Exact d scale → IsAtScaleCause f t scale e → ⊥
+    refuses f t scale d (Parse e) parsed can cause = (let wrong = (parsed.refused e).1 cause in cc)
+    refuses f t scale d (Rescale e) parsed can cause = no_refusal d scale e can (subst (λ z. CannotRescale Exact z scale e) (sym (only_parsed f t d cause.spelled parsed cause.parses)) cause.cannot)
 
-one_at_scale : (f : FormatData) (t : List ℕ) (scale : ℕ) (a b : FixedPoint) → ParsesAtScale f t scale a → ParsesAtScale f t scale b → a ≡ b
-one_at_scale f t scale a b p q = p.same ∙ ap (λ d. rescaled Exact d scale) (one_parsed f t p.spelled q.spelled p.parses q.parses) ∙ sym q.same
+-- where it has not
+pub scaled-refused : (f : FormatData) (t : List ℕ) (scale : ℕ) (d : FixedPoint) (e : DecimalError) → DecimalResult f t (Ok d) → CannotRescale Exact d scale e → AtScaleResult f t scale (Err (Rescale e))
+scaled-refused f t scale d e parsed cannot = record {
+  decimal = λ y. ((λ wrong. absurd (cc)), (λ p. absurd (no_refusal d scale e (subst (λ z. CanRescale Exact z scale) (sym (only_parsed f t d p.spelled parsed p.parses)) p.can) cannot)));
+  refused = λ c. (
+    (λ same. let one : Rescale e ≡ c = cc in subst (IsAtScaleCause f t scale) one (record { spelled = d; parses = (parsed.decimal d).0 refl; cannot = cannot })),
+    (λ cause. ap Err (one_refused f t scale d e c parsed cannot cause)),
+  );
+}
+  where
+    one_refused : (f : FormatData) (t : List ℕ) (scale : ℕ) (d : FixedPoint) (e : DecimalError) (c : ParseAtScaleError) → DecimalResult f t (Ok d) → CannotRescale Exact d scale e → IsAtScaleCause f t scale c → Rescale e ≡ c
+    one_refused f t scale d e (Parse c) parsed cannot cause = absurd (let wrong = (parsed.refused c).1 cause in cc)
+    one_refused f t scale d e (Rescale c) parsed cannot cause =
+        ap Rescale (one_refusal d scale e c cannot (subst (λ z. CannotRescale Exact z scale c) (sym (only_parsed f t d cause.spelled parsed cause.parses)) cause.cannot))
 
-not_at_scale : (f : FormatData) (t : List ℕ) (scale : ℕ) (d : FixedPoint) (e : ParseAtScaleError) → ParsesAtScale f t scale d → IsAtScaleCause f t scale e → ⊥
-not_at_scale f t scale d (Parse e) p cause = no_cause f t p.spelled e p.parses cause
-not_at_scale f t scale d (Rescale e) p cause =
-    no_refusal p.spelled scale e p.can (same_spelled f t cause.spelled p.spelled (λ x. CannotRescale Exact x scale e) cause.parses p.parses cause.cannot)
-
-one_cause_at_scale : (f : FormatData) (t : List ℕ) (scale : ℕ) (d e : ParseAtScaleError) → IsAtScaleCause f t scale d → IsAtScaleCause f t scale e → d ≡ e
-one_cause_at_scale f t scale (Parse d) (Parse e) p q = ap Parse (only_cause f t d e p q)
-one_cause_at_scale f t scale (Parse d) (Rescale e) p q = absurd (no_cause f t q.spelled d q.parses p)
-one_cause_at_scale f t scale (Rescale d) (Parse e) p q = absurd (no_cause f t p.spelled e p.parses q)
-one_cause_at_scale f t scale (Rescale d) (Rescale e) p q =
-    ap Rescale (one_refusal q.spelled scale d e (same_spelled f t p.spelled q.spelled (λ x. CannotRescale Exact x scale d) p.parses q.parses p.cannot) q.cannot)
-
-pub error-exactly_at_scale : (f : FormatData) (t : List ℕ) (scale : ℕ) (r : Result FixedPoint ParseAtScaleError) (e : ParseAtScaleError) → JudgedAtScale f t scale r → (r ≡ Err e) ↔ IsAtScaleCause f t scale e
-error-exactly_at_scale f t scale (Ok d) e judged = (λ wrong. cc, λ cause. absurd (not_at_scale f t scale d e judged cause))
-error-exactly_at_scale f t scale (Err d) e judged = (
-  λ same. let error : d ≡ e = cc in subst (IsAtScaleCause f t scale) error judged,
-  λ cause. ap Err (one_cause_at_scale f t scale d e judged cause),
-)
-
-pub decimal-exactly_at_scale : (f : FormatData) (t : List ℕ) (scale : ℕ) (r : Result FixedPoint ParseAtScaleError) (d : FixedPoint) → JudgedAtScale f t scale r → (r ≡ Ok d) ↔ ParsesAtScale f t scale d
-decimal-exactly_at_scale f t scale (Ok a) d judged = (
-  λ same. let one : a ≡ d = cc in subst (ParsesAtScale f t scale) one judged,
-  λ parses. ap Ok (one_at_scale f t scale a d judged parses),
-)
-decimal-exactly_at_scale f t scale (Err e) d judged = (λ wrong. cc, λ parses. absurd (not_at_scale f t scale d e parses judged))
+-- and where the text is refused
+pub scaled-unparsed : (f : FormatData) (t : List ℕ) (scale : ℕ) (e : ParseDecimalError) → DecimalResult f t (Err e) → AtScaleResult f t scale (Err (Parse e))
+scaled-unparsed f t scale e parsed = record {
+  decimal = λ y. ((λ wrong. absurd (cc)), (λ p. absurd (let wrong = (parsed.decimal p.spelled).1 p.parses in cc)));
+  refused = λ c. (
+    (λ same. let one : Parse e ≡ c = cc in subst (IsAtScaleCause f t scale) one ((parsed.refused e).0 refl)),
+    (λ cause. ap Err (one_unparsed f t scale e c parsed cause)),
+  );
+}
+  where
+    one_unparsed : (f : FormatData) (t : List ℕ) (scale : ℕ) (e : ParseDecimalError) (c : ParseAtScaleError) → DecimalResult f t (Err e) → IsAtScaleCause f t scale c → Parse e ≡ c
+    one_unparsed f t scale e (Parse c) parsed cause = let same = (parsed.refused c).1 cause in (let one : e ≡ c = cc in ap Parse one)
+    one_unparsed f t scale e (Rescale c) parsed cause = absurd (let wrong = (parsed.decimal cause.spelled).1 cause.parses in cc)

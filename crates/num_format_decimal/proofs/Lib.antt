@@ -1,15 +1,13 @@
 pub mod CauseLemmas
-pub mod FewLemmas
 pub mod LawLemmas
 pub mod LengthLemmas
 pub mod LocaleMarkLemmas
 pub mod MarkLemmas
+pub mod ParserLemmas
 pub mod PartLemmas
-pub mod PlainLemmas
 pub mod PrintLemmas
 pub mod ReadLemmas
 pub mod ScaleLemmas
-pub mod ScaleSearchLemmas
 pub mod SpelledLemmas
 pub mod SumLemmas
 pub mod TextLemmas

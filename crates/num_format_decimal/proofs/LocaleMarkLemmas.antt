@@ -8,7 +8,7 @@ use Rattle.num_format_cldr.specs.Entry.{Entry}
 use Rattle.num_format_cldr.specs.Table.{entry}
 use Rattle.num_format_cldr.proofs.Places.{entry-member, member}
 use Rattle.num_format_parsing.proofs.ReadingLemmas.{ucd_category}
-use Rattle.num_format_certificates.specs.RoundTrips.{HasNoNumeral}
+use Rattle.num_format_parsing.specs.Strict.{HasNoNumeral}
 
 -- a decimal mark is not empty, has no numeral, and is not the separator
 pub record HasMark (mark separator : List ℕ) : Type 0 where

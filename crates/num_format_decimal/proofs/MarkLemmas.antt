@@ -18,35 +18,32 @@ use Rattle.std.proofs.lemmas.Slice.Eq.{starts_is}
 use Rattle.std.proofs.lemmas.Str.{IsUtf8-append, IsUtf8-from_ascii, IsUtf8-nil, chars-append, chars-nil}
 use Rattle.std.proofs.lemmas.Str.Ascii.{IsAscii-cons, IsAscii-nil}
 use Rattle.num_format_text.specs.declared.grouping.Grouping.{Grouping}
-use Rattle.num_format_text.specs.declared.grouping.Grouping.TheVariants.{Standard, Indian, Posix, Myriad, Sparse}
+use Rattle.num_format_text.specs.declared.grouping.Grouping.TheVariants.{Posix}
 use Rattle.num_format_text.specs.Format.{FormatData}
+use Rattle.num_format_text.proofs.SizesLemmas.{grouped_or_not}
 use Rattle.num_format_int.specs.Digits.{digits}
 use Rattle.num_format_int.specs.Grouped.{printed_separator, separated, stands}
 use Rattle.num_format_int.specs.Groups.{last_digits, plain}
 use Rattle.num_format_int.specs.Kind.{I128, IsValueOf, kind_of}
 use Rattle.num_format_int.specs.Text.{body_of, text_of}
 use Rattle.num_format_int.proofs.DigitLemmas.{AreDigits, digits-below_ten, digits_given, length-last_digits, number_from_digits-digits}
-use Rattle.num_format_int.proofs.GroupedLemmas.{grouped-printed, of_either}
+use Rattle.num_format_int.proofs.GroupedLemmas.{grouped-printed, of_either, stands-last}
 use Rattle.num_format_parsing.specs.Reading.{Refused, denoted, figures, is_negative_text, is_other_numeral, magnitude_of, no_digit, no_value, other_numeral, signed_number, too_many_figures}
 use Rattle.num_format_parsing.specs.Shapes.{byte_figures}
 use Rattle.num_format_parsing.specs.Strict.{ungrouped}
 use Rattle.num_format_parsing.proofs.FigureLemmas.{figures-bytes, figures-digit, figures-drop-digit, figures-other}
 use Rattle.num_format_parsing.proofs.ReadingLemmas.{digits_among-append, digits_among-first, is_ascii_digit-digit, is_other_numeral-digit}
-use Rattle.num_format_certificates.specs.RoundTrips.{HasNoNumeral}
+use Rattle.num_format_parsing.specs.Strict.{HasNoNumeral}
 use Rattle.num_format_certificates.proofs.RoundTripLemmas.{empty_plain, is_negative-pos, lowest_of_i128, no_prefix, one_of_i128, separated-begins, signed_number-unsigned_abs, tells-text_of, unambiguous-from_two}
 use Rattle.num_format_certificates.proofs.StrictLemmas.{text_of-utf8}
 use Rattle.num_format_certificates.proofs.TextCharacterLemmas.{chars-ascii_byte, of_printed}
 use Rattle.num_format_decimal.specs.FixedPoint.{FixedPoint, fixed_point}
-use Rattle.num_format_decimal.specs.Laws.{IsDecimalExact}
-use Rattle.num_format_decimal.specs.Marks.{IsPlainFormat, MarksDecimals, TellsDecimals}
-use Rattle.num_format_decimal.specs.Parsing.{ParsesDecimal, SpellsDecimal, with_separators, without_separators}
-use Rattle.num_format_decimal.specs.Shapes.{IsBody, IsSpelled, mark_at, sign_of, with_groups, without_groups}
+use Rattle.num_format_decimal.specs.Marks.{IsPlainFormat, MarksDecimals}
+use Rattle.num_format_decimal.specs.Parsing.{SpellsDecimal, with_separators, without_separators}
+use Rattle.num_format_decimal.specs.Shapes.{IsBody, mark_at, sign_of, with_groups, without_groups}
 use Rattle.num_format_decimal.specs.Text.{decimal_text}
-use Rattle.num_format_decimal.specs.Values.{HasUnits}
-use Rattle.num_format_decimal.proofs.CauseLemmas.{one_parsed}
-use Rattle.num_format_decimal.proofs.ScaleLemmas.{abs_le}
 use Rattle.num_format_decimal.proofs.SpelledLemmas.{HasParts, decimal_text-parts, digit-decimals, parts-spelled}
-use Rattle.num_format_decimal.proofs.TextLemmas.{length-plain, text_of_whole, whole_digits}
+use Rattle.num_format_decimal.proofs.TextLemmas.{length-plain, text_of_whole}
 
 -- a text in UTF-8 whose digits are these, and that has no other numeral
 record IsPlainText (t ds : List ℕ) : Type 0 where
@@ -194,30 +191,6 @@ denoted-decimal f t z k tells =
     ∙ ap (signed_number (is_negative z)) (ap (number_from_digits 10) tells.digits ∙ number-digits k (unsigned_abs z))
     ∙ signed_number-unsigned_abs z
 
-value-of_i128 : (z : ℤ) → FitsSigned w128 z → IsValueOf (kind_of I128) z
-value-of_i128 (pos n) fits = record { above = omega (arith, ints, fits.sfits); below = omega (arith, ints, fits.sfits); zero = λ h. refl }
-value-of_i128 (negsuc n) fits = record { above = omega (arith, ints, fits.sfits); below = omega (arith, ints, fits.sfits); zero = λ h. refl }
-
-one_at_most : (b : Bool) → (if b then 1 else 0) ≤ 1
-one_at_most true = omega arith
-one_at_most false = omega arith
-
--- and is accepted
-pub accepted-decimal : (f : FormatData) (t : List ℕ) (z : ℤ) (k : ℕ) → k ≤ 38 → FitsSigned w128 z → TellsDecimal f t z k → ¬ (Refused (kind_of I128) f t)
-accepted-decimal f t z k few fits tells refused =
-    let n = unsigned_abs z in
-    let long = ap length tells.digits ∙ length-append (digits (n / 10 ^ k)) (last_digits k n) in
-    elim refused [
-      | no_digit none ↦ omega (arith, digits_given (n / 10 ^ k), long, ap length none)
-      | other_numeral some ↦ both_ways _ tells.plain some
-      | too_many_figures many ↦
-          omega (arith, whole_digits n k (omega (arith, abs_le z fits)) few, length-last_digits k n, many, long, one_at_most (is_negative_text f t))
-      | no_value wrong ↦ wrong (record {
-        sign = λ negative. refl;
-        value = subst (IsValueOf (kind_of I128)) (sym (denoted-decimal f t z k tells)) (value-of_i128 z fits);
-      })
-    ]
-
 -- digits follow, or nothing
 begins_digit : List ℕ → Bool
 begins_digit [] = true
@@ -298,23 +271,15 @@ mark_run is_due other_due s mark (d ∷ ds) (e ∷ (c ∷ es)) rest last none_s 
     let next : separated is_due s ds ≡ right = append_cancel_left second _ _ (sym (ap (λ x. x ++ separated is_due s ds) one) ∙ tail) in
     mark_run is_due other_due s mark ds (c ∷ es) rest last none_s none_m given ds_below es_below digit (omega arith) next
 
--- no separator stands after the last digit
-last_stands : (g : Grouping) (d : ℕ) → stands g d 0 ≡ false
-last_stands Standard d = refl
-last_stands Indian d = refl
-last_stands Posix d = refl
-last_stands Myriad d = refl
-last_stands Sparse d = grind (arith, nat_tests)
-
 -- bytes without digits have no digit at any place
-other_at : (xs : List ℕ) (i : ℕ) → byte_figures xs ≡ [] → i < length xs → is_ascii_digit (get_or xs i 0) ≡ false
+pub other_at : (xs : List ℕ) (i : ℕ) → byte_figures xs ≡ [] → i < length xs → is_ascii_digit (get_or xs i 0) ≡ false
 other_at xs i none inside = false_from_ne_true _ (λ digit.
     let here = ap length (figures-drop-digit xs i inside digit) in
     let all = ap length (sym (digits_among-append (take i xs) (drop i xs)) ∙ ap byte_figures (take-append-drop i xs) ∙ none) in
     omega (arith, here, all, length-append (byte_figures (take i xs)) (byte_figures (drop i xs))))
 
 -- the byte before the decimals is the last of the mark
-before-decimals : (f : FormatData) (t : List ℕ) (z : ℤ) (k : ℕ) (body : List ℕ) → IsPlainFormat f → 0 < k → HasParts f t z k body → is_ascii_digit (get_or t (length t - k - 1) 0) ≡ false
+pub before-decimals : (f : FormatData) (t : List ℕ) (z : ℤ) (k : ℕ) (body : List ℕ) → IsPlainFormat f → 0 < k → HasParts f t z k body → is_ascii_digit (get_or t (length t - k - 1) 0) ≡ false
 before-decimals f t z k body p some parts =
     let n = unsigned_abs z in
     let rest = plain (last_digits k n) in
@@ -359,11 +324,11 @@ posix_never d r due = cc
 
 -- a mark that is printed as a separator is the separator
 due_separator : (g : Grouping) (s mark : List ℕ) (d r : ℕ) → mark ≡ printed_separator g s → stands g d r ≡ true → mark ≡ s
-due_separator Standard s mark d r same due = same
-due_separator Indian s mark d r same due = same
-due_separator Posix s mark d r same due = absurd (posix_never d r due)
-due_separator Myriad s mark d r same due = same
-due_separator Sparse s mark d r same due = same
+due_separator g s mark d r same due =
+    elim (grouped_or_not g) [
+      | inl none ↦ absurd (posix_never d r (ap (λ k. stands k d r) (sym none) ∙ due))
+      | inr (sizes, by) ↦ same ∙ by.printed s
+    ]
 
 -- a text with decimals is not one without
 none_at_zero : (f : FormatData) (t : List ℕ) (z : ℤ) (k : ℕ) (body other : List ℕ) → IsPlainFormat f → (f.grouping ≡ Posix) ⊎ (¬ (f.decimal ≡ f.separator)) → 0 < k → HasParts f t z 0 body → ¬ (HasParts f t z k other)
@@ -386,7 +351,7 @@ none_at_zero f t z k body other p apart some whole parts =
     let none_s : byte_figures s ≡ [] = sym (figures-bytes s printed) ∙ p.unambiguous.separator.no_digit in
     let none_m : byte_figures f.decimal ≡ [] = sym (figures-bytes f.decimal p.mark_utf8) ∙ p.mark.no_digit in
     let digit = begins-plain (last_digits k n) (last_digits-below k n) in
-    let found = mark_run is_due other_due s f.decimal ds es rest (last_stands second.grouping (length es)) none_s none_m p.given (digits-below_ten (n / 10 ^ 0)) (digits-below_ten (n / 10 ^ k)) digit (digits_given (n / 10 ^ k)) same in
+    let found = mark_run is_due other_due s f.decimal ds es rest (stands-last second.grouping (length es) (digits_given (n / 10 ^ k))) none_s none_m p.given (digits-below_ten (n / 10 ^ 0)) (digits-below_ten (n / 10 ^ k)) digit (digits_given (n / 10 ^ k)) same in
     elim first.which [
       | inr never ↦ posix_never (length ds) found.right (subst (λ g. stands g (length ds) found.right ≡ true) never found.due)
       | inl usual ↦ elim apart [
@@ -416,39 +381,8 @@ one_scale f t z j k p apart first second =
         let b = parts-spelled f t z k second in
         both_ways _ (before-decimals f t z (suc j) a.0 p (omega arith) a.1) (digit-decimals f t z k b.0 b.1 (suc j) less)
 
--- parsing is exact
-pub parses-spelled : (f : FormatData) (t : List ℕ) (d : FixedPoint) → IsPlainFormat f → (f.grouping ≡ Posix) ⊎ (¬ (f.decimal ≡ f.separator)) → d.scale ≤ 38 → HasUnits d → SpellsDecimal f t d → ParsesDecimal f t d
-parses-spelled f t d p apart few fits spells =
-    let tells = tells-spelled_decimal f t d.units d.scale p spells in
-    let number : denoted f t ≡ d.units = denoted-decimal f t d.units d.scale tells in
-    record {
-      utf8 = tells.utf8;
-      units = sym number;
-      scale = record {
-        bound = few;
-        spelled = subst (λ z. SpellsDecimal f t (fixed_point z d.scale)) (sym number) spells;
-        only = λ other within again. one_scale f t d.units other d.scale p apart (subst (λ z. SpellsDecimal f t (fixed_point z other)) number again) spells;
-      };
-      accepted = accepted-decimal f t d.units d.scale few fits tells;
-    }
-
--- a text that tells of which decimal it is, and spells one
-parses_read : (f : FormatData) (t : List ℕ) (d : FixedPoint) → TellsDecimals f → IsSpelled f t d → ParsesDecimal f t d
-parses_read f t d tells read = parses-spelled f t d tells.plain tells.apart read.bound read.fits read.spelled
-
-pub parses_if_read : (f : FormatData) (t : List ℕ) (read : Option FixedPoint) → TellsDecimals f → IfSome read (λ d. IsSpelled f t d) → IfSome read (λ d. ParsesDecimal f t d)
-parses_if_read f t None tells none = tt
-parses_if_read f t (Some d) tells spelled = parses_read f t d tells spelled
-
-pub decimal-exact : (f : FormatData) → IsUtf8 f.minus_sign → IsUtf8 f.separator → IsUtf8 f.decimal → MarksDecimals f → IsDecimalExact f
-decimal-exact f sign separator mark marks =
-    let p = plain-from_marks f sign separator mark marks in
-    record {
-      returned = λ t d few fits. (
-        λ parses. subst (λ z. SpellsDecimal f t (fixed_point z d.scale)) (sym parses.units) parses.scale.spelled,
-        parses-spelled f t d p marks.apart few fits,
-      );
-      once = λ t a b a_few a_fits b_few b_fits first second.
-          one_parsed f t a b (parses-spelled f t a p marks.apart a_few a_fits first) (parses-spelled f t b p marks.apart b_few b_fits second);
-      printed = λ d few fits. parses-spelled f (decimal_text f d) d p marks.apart few fits (with_separators refl);
-    }
+-- and spells one decimal at most
+pub spelled_once : (f : FormatData) (t : List ℕ) (a b : FixedPoint) → IsPlainFormat f → (f.grouping ≡ Posix) ⊎ (¬ (f.decimal ≡ f.separator)) → SpellsDecimal f t a → SpellsDecimal f t b → a ≡ b
+spelled_once f t a b p apart first second =
+    let units : a.units ≡ b.units = sym (denoted-decimal f t a.units a.scale (tells-spelled_decimal f t a.units a.scale p first)) ∙ denoted-decimal f t b.units b.scale (tells-spelled_decimal f t b.units b.scale p second) in
+    ap (λ z. fixed_point z a.scale) units ∙ ap (fixed_point b.units) (one_scale f t b.units a.scale b.scale p apart (subst (λ z. SpellsDecimal f t (fixed_point z a.scale)) units first) second)

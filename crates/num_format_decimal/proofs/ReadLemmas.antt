@@ -143,7 +143,7 @@ decimals_read t end k m n all digit sum =
     )
 
 -- a text that spells a whole number in two parts
-number_parts : (f : FormatData) (t : List ℕ) (z : ℤ) → SpellsNumber f t z → (body : List ℕ) × ((t ≡ sign_of f z ++ body) × IsBody f body (unsigned_abs z))
+pub number_parts : (f : FormatData) (t : List ℕ) (z : ℤ) → SpellsNumber f t z → (body : List ℕ) × ((t ≡ sign_of f z ++ body) × IsBody f body (unsigned_abs z))
 number_parts f t z (with_separators same) = (body_of f (unsigned_abs z), (same, with_groups refl))
 number_parts f t z (without_separators same) = (body_of (ungrouped f) (unsigned_abs z), (same, without_groups refl))
 
@@ -159,7 +159,7 @@ negative_read true zero some = absurd (omega (arith, some refl))
 negative_read true (suc n) some = refl
 negative_read false n some = is_negative-pos n
 
-begins_starts : (mark t : List ℕ) → begins mark t ≡ true → starts_with nat_eq t mark ≡ true
+pub begins_starts : (mark t : List ℕ) → begins mark t ≡ true → starts_with nat_eq t mark ≡ true
 begins_starts [] t wrong = cc
 begins_starts (b ∷ mark) t begin = begin
 
@@ -270,18 +270,8 @@ pub of_its_parts : (z : ℤ) → signed_number (is_negative z) (unsigned_abs z) 
 of_its_parts (pos m) = ap (λ b. signed_number b m) (is_negative-pos m)
 of_its_parts (negsuc m) = refl
 
-pub some_if_negative : (z : ℤ) → is_negative z ≡ true → 0 < unsigned_abs z
-some_if_negative (pos m) negative = absurd (both_ways (is_negative (pos m)) (is_negative-pos m) negative)
-some_if_negative (negsuc m) negative = omega arith
-
--- a number whose whole part has a sign is not zero
-some_read : (z : ℤ) (n k : ℕ) → is_negative z ≡ true → n / 10 ^ k ≡ unsigned_abs z → 0 < n
-some_read (pos m) n k negative whole = absurd (both_ways (is_negative (pos m)) (is_negative-pos m) negative)
-some_read (negsuc m) zero k negative whole = let none : 0 / 10 ^ k ≡ 0 = zero-div (10 ^ k) in omega (arith, none, whole)
-some_read (negsuc m) (suc n) k negative whole = omega arith
-
 -- what follows a place is the mark and the digits after it, or nothing
-rest_marked : (f : FormatData) (t : List ℕ) (place end k : ℕ) → IsMarkedAt f.decimal t place end → end + k ≡ length t → drop place t ≡ mark_at f k ++ drop end t
+pub rest_marked : (f : FormatData) (t : List ℕ) (place end k : ℕ) → IsMarkedAt f.decimal t place end → end + k ≡ length t → drop place t ≡ mark_at f k ++ drop end t
 rest_marked f t place end k marks all =
     elim marks [
       | marked more stands ↦
@@ -295,29 +285,6 @@ rest_marked f t place end k marks all =
           let test : nat_lt 0 k ≡ false = grind (arith, nat_tests) in
           ap (λ i. drop i t) (at_place ∙ sym at_end) ∙ ap (λ (c : Bool). (if c then f.decimal else []) ++ drop end t) (sym test)
     ]
-
--- a whole number with its sign, and the mark with digits if there are any
-pub amount_read : (f : FormatData) (t : List ℕ) (z : ℤ) (place end k n : ℕ) → IsMarkedAt f.decimal t place end → end + k ≡ length t → list_all is_ascii_digit (drop end t) ≡ true →
-    SpellsNumber f (take place t) z → n ≡ unsigned_abs z * 10 ^ k + number_from_digits 10 (byte_figures (drop end t)) → SpellsDecimal f t (fixed_point (signed_number (is_negative z) n) k)
-amount_read f t z place end k n marks all digit spells sum =
-    let b = is_negative z in
-    let y = signed_number b n in
-    let parts = number_parts f (take place t) z spells in
-    let body = parts.0 in
-    let read = decimals_read t end k (unsigned_abs z) n all digit sum in
-    let abs : n ≡ unsigned_abs y = sym (signed-abs b n) in
-    let signs : is_negative y ≡ b = negative_read b n (λ negative. some_read z n k negative read.1) in
-    let tail : drop place t ≡ mark_at f k ++ plain (last_digits k (unsigned_abs y)) =
-    rest_marked f t place end k marks all ∙ ap (λ xs. mark_at f k ++ xs) (read.0 ∙ ap (λ j. plain (last_digits k j)) abs) in
-    spelled-from_parts f t y k body (record {
-      split =
-          sym (take-append-drop place t)
-          ∙ ap (λ xs. xs ++ drop place t) parts.1.0
-          ∙ append_assoc (sign_of f z) body (drop place t)
-          ∙ ap (λ xs. sign_of f z ++ (body ++ xs)) tail
-          ∙ ap (λ (c : Bool). (if c then f.minus_sign else []) ++ (body ++ (mark_at f k ++ plain (last_digits k (unsigned_abs y))))) (sym signs);
-      whole = subst (IsBody f body) (sym read.1 ∙ ap (λ j. j / 10 ^ k) abs) parts.1.1;
-    })
 
 -- a whole number is a decimal without decimals
 pub whole_read : (f : FormatData) (t : List ℕ) (z : ℤ) → SpellsNumber f t z → SpellsDecimal f t (fixed_point z 0)

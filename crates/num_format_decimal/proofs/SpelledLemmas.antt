@@ -110,10 +110,6 @@ signed-abs true zero = refl
 signed-abs true (suc n) = refl
 signed-abs false n = refl
 
--- the number that a text denotes has the absolute value that its digits write
-pub abs-denoted : (f : FormatData) (t : List ℕ) → IsUtf8 t → unsigned_abs (denoted f t) ≡ number_from_digits 10 (byte_figures t)
-abs-denoted f t utf8 = signed-abs (is_negative_text f t) (magnitude_of t) ∙ ap (number_from_digits 10) (figures-bytes t utf8)
-
 -- the text of a decimal in four parts
 pub decimal_text-parts : (f : FormatData) (z : ℤ) (k : ℕ) →
     decimal_text f (fixed_point z k) ≡ sign_of f z ++ (body_of f (unsigned_abs z / 10 ^ k) ++ (mark_at f k ++ plain (last_digits k (unsigned_abs z))))
@@ -156,20 +152,6 @@ body-zero f t n none = rw none (
   ],
 )
 
--- and any other
-pub body-more : (f : FormatData) (t s ds : List ℕ) (g : Grouping) (n : ℕ) → s ≡ f.separator → g ≡ f.grouping → n ≡ number_from_digits 10 ds → Writes ds →
-    ((t ≡ grouped g s ds) ⊎ (t ≡ grouped Posix s ds)) ↔ IsBody f t n
-body-more f t s ds g n separator grouping number write = rw (separator, grouping, number) (
-  λ either. elim either [
-    | inl same ↦ with_groups (same ∙ ap (grouped f.grouping f.separator) (sym write.same))
-    | inr same ↦ without_groups (same ∙ ap (grouped Posix f.separator) (sym write.same))
-  ],
-  λ whole. elim whole [
-    | with_groups same ↦ inl (same ∙ ap (grouped f.grouping f.separator) write.same)
-    | without_groups same ↦ inr (same ∙ ap (grouped Posix f.separator) write.same)
-  ],
-)
-
 -- the length of a text with these parts
 pub length-parts : (f : FormatData) (t : List ℕ) (z : ℤ) (k : ℕ) (body : List ℕ) → HasParts f t z k body → length t ≡ length (sign_of f z) + (length body + (length (mark_at f k) + k))
 length-parts f t z k body parts =
@@ -189,33 +171,6 @@ pub record IsCutAt (f : FormatData) (t : List ℕ) (z : ℤ) (start end k : ℕ)
   pub all : end + k ≡ length t
   pub sign : take start t ≡ sign_of f z
   pub decimals : drop end t ≡ plain (last_digits k (unsigned_abs z))
-
-pub cut-at : (f : FormatData) (t : List ℕ) (start k : ℕ) → IsUtf8 t → start ≤ length t → take start t ≡ sign_of f (denoted f t) → k ≤ length t → list_all is_ascii_digit (drop (length t - k) t) ≡ true →
-    IsCutAt f t (denoted f t) start (length t - k) k
-cut-at f t start k utf8 within sign inside digit =
-    let all : length t - k + k ≡ length t = omega arith in
-    record { within = within; all = all; sign = sign; decimals = (decimals-found t (length t - k) k (unsigned_abs (denoted f t)) all digit (abs-denoted f t utf8)).text }
-
--- too short for a decimal mark between them
-pub spelled-not_short : (f : FormatData) (t : List ℕ) (z : ℤ) (start end k m : ℕ) → IsCutAt f t z start end k → m ≡ length (mark_at f k) → end < start + m → ¬ (SpellsDecimal f t (fixed_point z k))
-spelled-not_short f t z start end k m cut mark short spells =
-    let parts = parts-spelled f t z k spells in
-    omega (arith, length-parts f t z k parts.0 parts.1, ap length cut.sign, length-take-le start t cut.within, cut.all, mark, short)
-
--- with another text where the mark has to stand
-pub spelled-not_marked : (f : FormatData) (t mark : List ℕ) (z : ℤ) (start end k place : ℕ) → IsCutAt f t z start end k → mark ≡ mark_at f k → place + length mark ≡ end → starts_with nat_eq (drop place t) mark ≡ false →
-    ¬ (SpellsDecimal f t (fixed_point z k))
-spelled-not_marked f t mark z start end k place cut same at other spells =
-    let parts = parts-spelled f t z k spells in
-    let body = parts.0 in
-    let sign = sign_of f z in
-    let rest = plain (last_digits k (unsigned_abs z)) in
-    let split : t ≡ (sign ++ body) ++ (mark ++ rest) = parts.1.split ∙ sym (append_assoc sign body (mark_at f k ++ rest)) ∙ ap (λ m. (sign ++ body) ++ (m ++ rest)) (sym same) in
-    let long : length (sign ++ body) ≡ place = omega (arith, length-append sign body, length-parts f t z k body parts.1, cut.all, ap length same, at) in
-    let there : drop place t ≡ mark ++ rest = ap (drop place) split ∙ drop_at (sign ++ body) (mark ++ rest) place long in
-    let yes = (starts_is Decides-eqb (drop place t) mark (starts_with nat_eq (drop place t) mark) refl).1 rest there in
-    let wrong = sym yes ∙ other in
-    cc
 
 -- or with the mark there, and the whole number between it and the sign
 pub spelled-marked : (f : FormatData) (t mark body : List ℕ) (z : ℤ) (start end k place : ℕ) → IsCutAt f t z start end k → mark ≡ mark_at f k → place + length mark ≡ end → start ≤ place → starts_with nat_eq (drop place t) mark ≡ true →
@@ -268,42 +223,3 @@ spelled-few f t z k digits spells most =
           absurd (both_ways _ (most inside) (digit-decimals f t z k parts.0 parts.1 digits many))
       | inr few ↦ few
     ]
-
--- fewer bytes at the end of a text are digits too
-pub digits-fewer : (t : List ℕ) (k j : ℕ) → j ≤ k → k ≤ length t → list_all is_ascii_digit (drop (length t - k) t) ≡ true → list_all is_ascii_digit (drop (length t - j) t) ≡ true
-digits-fewer t k j fewer within digit =
-    let last = drop (length t - k) t in
-    let place : (length t - k) + (k - j) ≡ length t - j = omega arith in
-    let parts = and_parts (list_all is_ascii_digit (take (k - j) last)) (list_all is_ascii_digit (drop (k - j) last))
-    (sym (list_all-append is_ascii_digit (take (k - j) last) (drop (k - j) last)) ∙ ap (list_all is_ascii_digit) (take-append-drop (k - j) last) ∙ digit) in
-    ap (list_all is_ascii_digit) (sym (drop-drop (k - j) (length t - k) t ∙ ap (λ i. drop i t) place)) ∙ parts.1
-
--- zero has no sign
-pub sign-zero : (f : FormatData) (t : List ℕ) (i : ℕ) → IsUtf8 t → i ≡ length t → number_from_digits 10 (byte_figures (take i t)) ≡ 0 → [] ≡ sign_of f (denoted f t)
-sign-zero f t i utf8 all zeros =
-    let none : magnitude_of t ≡ 0 =
-    ap (number_from_digits 10) (figures-bytes t utf8)
-    ∙ ap (λ xs. number_from_digits 10 (byte_figures xs)) (sym (take_all i t (omega arith)))
-    ∙ zeros in
-    let number : denoted f t ≡ pos 0 = ap (signed_number (is_negative_text f t)) none ∙ signed-zero (is_negative_text f t) in
-    sym (ap (sign_of f) number)
-  where
-    signed-zero : (b : Bool) → signed_number b 0 ≡ pos 0
-    signed-zero true = refl
-    signed-zero false = refl
-
-signed-negative : (n : ℕ) → 0 < n → is_negative (signed_number true n) ≡ true
-signed-negative (suc n) some = refl
-signed-negative zero some = absurd (omega arith)
-
--- any other number has the sign of its text
-pub sign-given : (f : FormatData) (t m : List ℕ) (i : ℕ) → IsUtf8 t → m ≡ f.minus_sign → is_negative_text f t ≡ true → number_from_digits 10 (byte_figures (take i t)) ≡ 0 → BeginsWithDigit (drop i t) →
-    take (length m) t ≡ sign_of f (denoted f t)
-sign-given f t m i utf8 same negative zeros begin =
-    let some : 0 < magnitude_of t = omega (arith, ap (number_from_digits 10) (figures-bytes t utf8), number-after_zeros t i zeros, (writes (drop i t) begin).some) in
-    let sign : is_negative (denoted f t) ≡ true = ap (λ b. is_negative (signed_number b (magnitude_of t))) negative ∙ signed-negative (magnitude_of t) some in
-    let split = (starts_is Decides-eqb t f.minus_sign (is_negative_text f t) refl).0 negative in
-    ap (λ s. take (length s) t) same
-    ∙ ap (take (length f.minus_sign)) split
-    ∙ take_at f.minus_sign (drop (length f.minus_sign) t) (length f.minus_sign) refl
-    ∙ ap (λ (b : Bool). if b then f.minus_sign else []) (sym sign)

@@ -7,15 +7,12 @@ use Rattle.std.proofs.Math.Nat.{mul-le-mul, div-eq_of_lt}
 use Rattle.std.proofs.lemmas.List.{length-map, take_rest}
 use Rattle.std.proofs.lemmas.Bool.{cases_lt}
 use Rattle.std.proofs.lemmas.Bool.Decides.{nat_tests}
-use Rattle.num_format_text.specs.declared.grouping.Grouping.{Grouping}
-use Rattle.num_format_text.specs.declared.grouping.Grouping.TheVariants.{Standard, Indian, Posix, Myriad, Sparse}
 use Rattle.num_format_text.specs.Format.{FormatData}
 use Rattle.num_format_int.specs.Digits.{digits}
-use Rattle.num_format_int.specs.Grouped.{separators}
 use Rattle.num_format_int.specs.Groups.{last_digits, plain}
 use Rattle.num_format_int.specs.Text.{body_of, text_of}
 use Rattle.num_format_int.proofs.DigitLemmas.{decimal-digits, digits-leading_one, digits-small, length-digits-le, length-digits-le39, length-digits-split, length-last_digits, last_digits-mod}
-use Rattle.num_format_int.proofs.GroupedLemmas.{grouped-short, length-grouped}
+use Rattle.num_format_int.proofs.GroupedLemmas.{grouped-short, length-grouped, separators-le18}
 use Rattle.num_format_decimal.specs.FixedPoint.{FixedPoint}
 use Rattle.num_format_decimal.specs.Printing.{unsigned_text}
 use Rattle.num_format_decimal.specs.Text.{decimal_text}
@@ -35,14 +32,6 @@ whole_digits n k small few =
           omega (arith, ap (λ m. length (digits m)) none, ap length (digits-small 0 (omega arith)))
       | inr large ↦ omega (arith, length-digits-split k n large, length-digits-le39 n small)
     ]
-
--- among so many digits stand at most 18 separators
-separators-le18 : (g : Grouping) (d : ℕ) → d ≤ 39 → separators g d ≤ 18
-separators-le18 Standard d few = omega arith
-separators-le18 Indian d few = grind (arith, nat_tests)
-separators-le18 Posix d few = omega arith
-separators-le18 Myriad d few = omega arith
-separators-le18 Sparse d few = grind (arith, nat_tests)
 
 -- the digits before the decimals, with their separators
 pub length-body : (f : FormatData) (n k : ℕ) → length f.separator ≤ 8 → n < 2 ^ 128 → k ≤ 38 → length (body_of f (n / 10 ^ k)) + k ≤ 183

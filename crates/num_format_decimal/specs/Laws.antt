@@ -1,5 +1,5 @@
 -- Laws of the order, the text and the rounding of decimals.
-use Rattle.std.specs.Prelude.{◌≡◌, ◌↔◌, List, [], codes, IsUtf8, ℕ, ◌+◌, ◌-◌, ◌*◌, ◌/◌, ◌%◌, ◌^◌, ◌<◌, ◌≤◌, pos, negsuc, ◌*ℤ◌, length}
+use Rattle.std.specs.Prelude.{◌≡◌, List, [], codes, ℕ, ◌+◌, ◌-◌, ◌*◌, ◌/◌, ◌%◌, ◌^◌, ◌<◌, ◌≤◌, pos, negsuc, ◌*ℤ◌, length}
 use Rattle.std.specs.Ordering.{int_cmp}
 use Rattle.num_format_text.specs.declared.capacities.TheConstants.{MAX_DEC_LEN, MAX_MIN_LEN, MAX_SEP_LEN}
 use Rattle.num_format_text.specs.declared.grouping.Grouping.TheVariants.{Indian, Standard}
@@ -10,8 +10,6 @@ use Rattle.num_format_decimal.specs.declared.decimal.TheConstants.{MAX_SCALE}
 use Rattle.num_format_decimal.specs.declared.rounding.Rounding.{Rounding}
 use Rattle.num_format_decimal.specs.declared.rounding.Rounding.TheVariants.{HalfEven, HalfAwayFromZero}
 use Rattle.num_format_decimal.specs.FixedPoint.{FixedPoint, fixed_point}
-use Rattle.num_format_decimal.specs.Marks.{MarksDecimals}
-use Rattle.num_format_decimal.specs.Parsing.{ParsesDecimal, SpellsDecimal}
 use Rattle.num_format_decimal.specs.Rounded.{quotient}
 use Rattle.num_format_decimal.specs.Text.{decimal_text}
 use Rattle.num_format_decimal.specs.Values.{HasUnits, value_of}
@@ -38,17 +36,6 @@ pub record RoundingLaw : Type 0 where
   pub to_even : (m n : ℕ) → 2 * (m % n) ≡ n → quotient HalfEven m n % 2 ≡ 0
   pub half_away : IsNearest HalfAwayFromZero
   pub away : (m n : ℕ) → 2 * (m % n) ≡ n → quotient HalfAwayFromZero m n ≡ m / n + 1
-
--- parsing returns a decimal exactly if the text spells it; a text spells one decimal at most, so decimals of one text have the same
--- units and the same scale; and each printed text is parsed to its decimal
-pub record IsDecimalExact (f : FormatData) : Type 0 where
-  pub returned : (t : List ℕ) (d : FixedPoint) → d.scale ≤ MAX_SCALE → HasUnits d → ParsesDecimal f t d ↔ SpellsDecimal f t d
-  pub once : (t : List ℕ) (a b : FixedPoint) → a.scale ≤ MAX_SCALE → HasUnits a → b.scale ≤ MAX_SCALE → HasUnits b → SpellsDecimal f t a → SpellsDecimal f t b → a ≡ b
-  pub printed : (d : FixedPoint) → d.scale ≤ MAX_SCALE → HasUnits d → ParsesDecimal f (decimal_text f d) d
-
--- parsing is exact under a format that marks decimals, whose texts are UTF-8
-abbrev pub DecimalExactLaw : Type 0
-DecimalExactLaw = (f : FormatData) → IsUtf8 f.minus_sign → IsUtf8 f.separator → IsUtf8 f.decimal → MarksDecimals f → IsDecimalExact f
 
 -- the data of `en` with another decimal mark
 abbrev pub english_marked : List ℕ → FormatData

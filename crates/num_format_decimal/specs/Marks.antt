@@ -1,8 +1,9 @@
 -- Formats under which every decimal parses again from its text.
-use Rattle.std.specs.Prelude.{◌≡◌, ◌⊎◌, [], IsUtf8}
+use Rattle.std.specs.Prelude.{◌≡◌, ℕ, List, ◌⊎◌, [], IsUtf8}
 use Rattle.num_format_text.specs.declared.grouping.Grouping.TheVariants.{Posix}
 use Rattle.num_format_text.specs.Format.{FormatData}
-use Rattle.num_format_certificates.specs.RoundTrips.{HasNoNumeral, IsUnambiguous, RoundTrips}
+use Rattle.num_format_parsing.specs.Strict.{HasNoNumeral, IsUnambiguous}
+use Rattle.num_format_certificates.specs.RoundTrips.{RoundTrips}
 
 -- every whole number reads back; the decimal mark is not empty, and no character of it is numeric; and it is not the separator, if
 -- one is printed
@@ -21,7 +22,8 @@ pub record IsPlainFormat (f : FormatData) : Type 0 where
   pub given : ¬ (f.decimal ≡ [])
   pub mark : HasNoNumeral f.decimal
 
--- each text that spells a decimal tells of which one: numbers can be told, and the decimal mark is not the separator, if one is printed
-pub record TellsDecimals (f : FormatData) : Type 0 where
-  pub plain : IsPlainFormat f
-  pub apart : (f.grouping ≡ Posix) ⊎ (¬ (f.decimal ≡ f.separator))
+-- a mark is neither empty nor the separator that is printed, and no character of it is numeric
+pub record IsMark (mark separator : List ℕ) : Type 0 where
+  pub given : ¬ (mark ≡ [])
+  pub plain : HasNoNumeral mark
+  pub apart : ¬ (mark ≡ separator)

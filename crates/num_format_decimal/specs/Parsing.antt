@@ -1,43 +1,33 @@
 -- What strict parsing of decimals returns, and when it refuses a text for which cause.
-use Rattle.std.specs.Prelude.{◌≡◌, ℕ, ◌<◌, ◌≤◌, List, [], length, drop, if◌then◌else◌, IsUtf8, codes}
+use Rattle.std.specs.Prelude.{◌≡◌, ◌↔◌, ℕ, ◌<◌, ◌≤◌, List, [], length, drop, if◌then◌else◌, Result, Ok, Err, IsUtf8, codes}
 use Rattle.num_format_text.specs.Format.{FormatData}
-use Rattle.num_format_int.specs.Kind.{I128, kind_of}
-use Rattle.num_format_parsing.specs.Reading.{denoted, figures, Refused}
+use Rattle.num_format_parsing.specs.Reading.{figures}
 use Rattle.num_format_parsing.specs.Strict.{begins, unexpected, ungrouped, unread}
 use Rattle.num_format_decimal.specs.declared.decimal.TheConstants.{MAX_SCALE}
 use Rattle.num_format_decimal.specs.declared.error.DecimalError.{DecimalError}
 use Rattle.num_format_decimal.specs.declared.parsing.ParseAtScaleError.{ParseAtScaleError}
 use Rattle.num_format_decimal.specs.declared.parsing.ParseAtScaleError.TheVariants.{Parse, Rescale}
 use Rattle.num_format_decimal.specs.declared.parsing.ParseDecimalError.{ParseDecimalError}
-use Rattle.num_format_decimal.specs.declared.parsing.ParseDecimalError.TheVariants.{NotUtf8, Unexpected, NoDigit, TooManyDecimals, Misspelled, OutOfRange}
+use Rattle.num_format_decimal.specs.declared.parsing.ParseDecimalError.TheVariants.{AmbiguousFormat, NotUtf8, Unexpected, NoDigit, TooManyDecimals, Misspelled, OutOfRange}
 use Rattle.num_format_decimal.specs.declared.rounding.Rounding.TheVariants.{Exact}
-use Rattle.num_format_decimal.specs.FixedPoint.{FixedPoint, fixed_point}
+use Rattle.num_format_decimal.specs.FixedPoint.{FixedPoint}
+use Rattle.num_format_decimal.specs.Marks.{MarksDecimals}
 use Rattle.num_format_decimal.specs.Message.{message_of}
 use Rattle.num_format_decimal.specs.Rounded.{CanRescale, CannotRescale, rescaled}
 use Rattle.num_format_decimal.specs.Text.{decimal_text}
+use Rattle.num_format_decimal.specs.Values.{HasUnits}
 
 -- a text spells d: it is the text of d, or the text of d without grouping
 pub data SpellsDecimal (f : FormatData) (t : List ℕ) (d : FixedPoint) : Type 0 where
   with_separators : t ≡ decimal_text f d → SpellsDecimal f t d
   without_separators : t ≡ decimal_text (ungrouped f) d → SpellsDecimal f t d
 
--- the decimal of that scale whose units are the number that the digits of a text write, negated if the text is negative
-abbrev pub denoted_at : FormatData → List ℕ → (scale : ℕ) → FixedPoint
-denoted_at f t scale = fixed_point (denoted f t) scale
-
--- a text spells the number that its digits write at one scale, and at no other
-pub record HasScale (f : FormatData) (t : List ℕ) (scale : ℕ) : Type 0 where
-  pub bound : scale ≤ MAX_SCALE
-  pub spelled : SpellsDecimal f t (denoted_at f t scale)
-  pub only : (other : ℕ) → other ≤ MAX_SCALE → SpellsDecimal f t (denoted_at f t other) → other ≡ scale
-
--- parsing returns d: its units are what the digits of the text write, its scale is the only one at which the text spells them, and
--- lenient parsing accepts the text as an `i128`
+-- parsing returns d: the format is not ambiguous, and the text spells d, which is a decimal that there is
 pub record ParsesDecimal (f : FormatData) (t : List ℕ) (d : FixedPoint) : Type 0 where
-  pub utf8 : IsUtf8 t
-  pub units : d.units ≡ denoted f t
-  pub scale : HasScale f t d.scale
-  pub accepted : ¬ (Refused (kind_of I128) f t)
+  pub unambiguous : MarksDecimals f
+  pub spelled : SpellsDecimal f t d
+  pub bound : d.scale ≤ MAX_SCALE
+  pub fits : HasUnits d
 
 -- what follows the decimal mark, if one stands after the minus sign, digits and whole separators of a text
 abbrev pub after_mark : FormatData → List ℕ → List ℕ
@@ -48,18 +38,18 @@ abbrev pub unexpected_in_decimal : FormatData → List ℕ → List ℕ
 unexpected_in_decimal f t =
     if begins f.decimal (unexpected f t) then unread [] 0 (after_mark f t) else unexpected f t
 
--- a text is UTF-8, and there is no decimal that parsing could return for it
+-- a text is UTF-8, and spells no decimal of a scale that there is
 pub record SpellsNone (f : FormatData) (t : List ℕ) : Type 0 where
   pub utf8 : IsUtf8 t
-  pub none : (scale : ℕ) → ¬ (HasScale f t scale)
+  pub none : (d : FixedPoint) → d.scale ≤ MAX_SCALE → ¬ (SpellsDecimal f t d)
 
--- a text for which no decimal could be returned has its first unexpected byte at that place
+-- a text that spells no decimal has its first unexpected byte at that place
 pub record DecimalStopsAt (f : FormatData) (t : List ℕ) (at : ℕ) : Type 0 where
   pub spells_none : SpellsNone f t
   pub inside : at < length t
   pub rest : unexpected_in_decimal f t ≡ drop at t
 
--- a text for which no decimal could be returned has no unexpected byte
+-- a text that spells no decimal has no unexpected byte
 pub record IsExpectedDecimal (f : FormatData) (t : List ℕ) : Type 0 where
   pub spells_none : SpellsNone f t
   pub rest : unexpected_in_decimal f t ≡ []
@@ -81,21 +71,27 @@ pub record IsMisspelledDecimal (f : FormatData) (t : List ℕ) : Type 0 where
   pub some : ¬ (figures t ≡ [])
   pub few : length (after_mark f t) ≤ MAX_SCALE
 
--- a text spells the number that its digits write at one scale, and lenient parsing refuses it as an `i128`
+-- a text spells a decimal whose units are no `i128`
 pub record IsDecimalOutOfRange (f : FormatData) (t : List ℕ) : Type 0 where
-  pub utf8 : IsUtf8 t
-  pub scale : ℕ
-  pub spelled : HasScale f t scale
-  pub refused : Refused (kind_of I128) f t
+  pub decimal : FixedPoint
+  pub spelled : SpellsDecimal f t decimal
+  pub bound : decimal.scale ≤ MAX_SCALE
+  pub wrong : ¬ (HasUnits decimal)
 
 -- when a text is refused for a cause
 abbrev pub IsDecimalCause : FormatData → List ℕ → ParseDecimalError → Type 0
-IsDecimalCause f t NotUtf8 = ¬ (IsUtf8 t)
-IsDecimalCause f t (Unexpected at) = DecimalStopsAt f t at
-IsDecimalCause f t NoDigit = LacksDecimalDigit f t
-IsDecimalCause f t TooManyDecimals = HasManyDecimals f t
-IsDecimalCause f t Misspelled = IsMisspelledDecimal f t
-IsDecimalCause f t OutOfRange = IsDecimalOutOfRange f t
+IsDecimalCause f t AmbiguousFormat = ¬ (MarksDecimals f)
+IsDecimalCause f t NotUtf8 = MarksDecimals f × ¬ (IsUtf8 t)
+IsDecimalCause f t (Unexpected at) = MarksDecimals f × DecimalStopsAt f t at
+IsDecimalCause f t NoDigit = MarksDecimals f × LacksDecimalDigit f t
+IsDecimalCause f t TooManyDecimals = MarksDecimals f × HasManyDecimals f t
+IsDecimalCause f t Misspelled = MarksDecimals f × IsMisspelledDecimal f t
+IsDecimalCause f t OutOfRange = MarksDecimals f × IsDecimalOutOfRange f t
+
+-- what parsing returns of a text: the decimal that it spells, or an error exactly if it is the cause
+pub record DecimalResult (f : FormatData) (t : List ℕ) (result : Result FixedPoint ParseDecimalError) : Type 0 where
+  pub decimal : (d : FixedPoint) → (result ≡ Ok d) ↔ ParsesDecimal f t d
+  pub refused : (e : ParseDecimalError) → (result ≡ Err e) ↔ IsDecimalCause f t e
 
 -- the text spells a decimal, and d is the same number at the scale
 pub record ParsesAtScale (f : FormatData) (t : List ℕ) (scale : ℕ) (d : FixedPoint) : Type 0 where
@@ -115,8 +111,14 @@ abbrev pub IsAtScaleCause : FormatData → List ℕ → (scale : ℕ) → ParseA
 IsAtScaleCause f t scale (Parse e) = IsDecimalCause f t e
 IsAtScaleCause f t scale (Rescale e) = CannotBeAtScale f t scale e
 
+-- what parsing at a scale returns of a text
+pub record AtScaleResult (f : FormatData) (t : List ℕ) (scale : ℕ) (result : Result FixedPoint ParseAtScaleError) : Type 0 where
+  pub decimal : (d : FixedPoint) → (result ≡ Ok d) ↔ ParsesAtScale f t scale d
+  pub refused : (e : ParseAtScaleError) → (result ≡ Err e) ↔ IsAtScaleCause f t scale e
+
 -- the message of an error
 abbrev pub parse_message_of : ParseDecimalError → List ℕ
+parse_message_of AmbiguousFormat = codes "The format is ambiguous."
 parse_message_of NotUtf8 = codes "The bytes are not UTF-8."
 parse_message_of (Unexpected at) = codes "The text has an unexpected byte."
 parse_message_of NoDigit = codes "The text has no digit."

@@ -1,19 +1,16 @@
 //! The text of a decimal, kept in place.
 ghost use Rattle.std.specs.Prelude.{◌≡◌, ℕ, Bool, List, ◌+◌, ◌*◌, ◌/◌, ◌^◌, ◌<◌, ◌≤◌, [], ◌++◌, length, nat_lt, unsigned_abs, Some, if◌then◌else◌};
-ghost use Rattle.num_format_int.specs.Digits.{digits};
-ghost use Rattle.num_format_int.specs.Grouped.{separated};
-ghost use Rattle.num_format_int.specs.Groups.{last_digits, plain, BeginsWithSeparator, HasLastGroup, HasGroups};
-ghost use Rattle.num_format_int.specs.Text.{body_of};
-ghost use Rattle.num_format_decimal.specs.Printing.{unsigned_text, PrependsAnywhere};
+ghost use Rattle.num_format_int.specs.Groups.{last_digits, plain};
+ghost use Rattle.num_format_decimal.specs.Printing.{unsigned_text};
+ghost use Rattle.num_format_decimal.specs.declared.buffer.TheConstants.{MAX_DECIMAL_LEN};
 ghost use Rattle.num_format_decimal.specs.Text.{decimal_text};
 
 use crate::decimal::{Decimal, MAX_SCALE};
-use crate::powers::{narrow_power_of_ten, power_of_ten, split};
-use num_format_int::Buffer;
-use num_format_int::buffer::copy_bytes;
-use num_format_int::to_formatted_str::{one_digit, split_wide, two_digits};
+use crate::powers::{power_of_ten, split};
+use num_format_int::buffer::{PutFront, copy_bytes};
+use num_format_int::to_formatted_str::{one_digit, put_body, two_digits};
+use num_format_text::Format;
 use num_format_text::capacities::{MAX_DEC_LEN, MAX_MIN_LEN, MAX_SEP_LEN};
-use num_format_text::{Format, Grouping};
 use std::marker::Model;
 use std::{fmt, str};
 
@@ -23,16 +20,6 @@ pub const MAX_DECIMAL_LEN: usize = 199;
 
 /// The number of digits from which on a digit 1 before them makes a number of more than 64 bits.
 const NINETEEN_DIGITS: u8 = 19;
-
-/// The lowest number of nineteen digits. Below it are numbers of up to eighteen, which are whole groups of two and of
-/// three.
-const EIGHTEEN_ZEROS: u64 = 1_000_000_000_000_000_000;
-
-/// The lowest number of four digits, which is the lowest that can have a separator.
-const FOUR_DIGITS: u64 = 1000;
-
-/// The lowest number of five digits, which is the lowest with a separator under `Myriad` and `Sparse`.
-const FIVE_DIGITS: u64 = 10_000;
 
 /// The text of a decimal, kept in place. A contract sees its bytes.
 ///
@@ -150,7 +137,7 @@ impl DecimalBuffer {
         ensures { self.new ≡ unsigned_text (F.answers format.now) n scale }
     {
         let whole = self.put_decimals(n, scale, format);
-        self.put_narrow_whole(whole, format);
+        put_body(whole as u128, self, format);
     }
 
     /// Prepends the same text of any number.
@@ -164,7 +151,7 @@ impl DecimalBuffer {
     {
         let (whole, rest) = split(n, scale);
         self.put_wide_decimals(rest, scale, format);
-        self.put_whole(whole, format);
+        put_body(whole, self, format);
     }
 
     /// Prepends the decimal mark and the last `count` digits of `n` to the empty text, or nothing if they are none.
@@ -213,253 +200,6 @@ impl DecimalBuffer {
         self.put_mark(format);
     }
 
-    /// Prepends the digits of `n`, grouped as the format says.
-    fn put_whole<F: Format>(&mut self, n: u128, format: &F)
-        requires short { length self.old ≤ MAX_SCALE + MAX_DEC_LEN }
-        requires fits { length (body_of (F.answers format.now) n) + length self.old ≤ MAX_DECIMAL_LEN }
-        requires digits { length self.old + 5 * length (digits n) ≤ MAX_DECIMAL_LEN + 4 }
-        ensures { self.new ≡ body_of (F.answers format.now) n ++ self.old }
-    {
-        if n <= u64::MAX as u128 {
-            self.put_narrow_whole(n as u64, format);
-        } else {
-            self.put_wide_whole(n, format);
-        }
-    }
-
-    /// Prepends the digits of a number of more than 64 bits, grouped as the format says.
-    fn put_wide_whole<F: Format>(&mut self, n: u128, format: &F)
-        requires large { 2 ^ 64 ≤ n }
-        requires fits { length (body_of (F.answers format.now) n) + length self.old ≤ MAX_DECIMAL_LEN }
-        requires digits { length self.old + 5 * length (digits n) ≤ MAX_DECIMAL_LEN + 4 }
-        ensures { self.new ≡ body_of (F.answers format.now) n ++ self.old }
-    {
-        match format.grouping() {
-            Grouping::Standard => self.put_wide_grouped::<F, 3>(n, format),
-            Grouping::Indian => self.put_wide_grouped::<F, 2>(n, format),
-            Grouping::Sparse => self.put_wide_grouped::<F, 3>(n, format),
-            Grouping::Posix => self.put_printed(n, format),
-            Grouping::Myriad => self.put_printed(n, format),
-        }
-    }
-
-    /// Prepends the same text from a `Buffer`.
-    fn put_printed<F: Format>(&mut self, n: u128, format: &F)
-        requires { length (body_of (F.answers format.now) n) + length self.old ≤ MAX_DECIMAL_LEN }
-        ensures { self.new ≡ body_of (F.answers format.now) n ++ self.old }
-    {
-        // `Buffer::of` would copy the whole array once more.
-        let mut body = Buffer::new();
-        body.write_formatted(&n, format);
-        self.put_front(body.as_str());
-    }
-
-    /// Prepends the digits of a number of 64 bits, grouped as the format says.
-    #[inline(always)]
-    fn put_narrow_whole<F: Format>(&mut self, n: u64, format: &F)
-        requires { length self.old ≤ MAX_SCALE + MAX_DEC_LEN }
-        ensures { self.new ≡ body_of (F.answers format.now) n ++ self.old }
-    {
-        if n < FOUR_DIGITS {
-            // There is no separator, so the format is not read.
-            self.put_few_digits(n);
-        } else {
-            self.put_long_whole(n, format);
-        }
-    }
-
-    /// Prepends the digits of `n`, which has four or more, grouped as the format says.
-    ///
-    /// It is a function of its own, so that fewer digits are prepended without its space.
-    #[inline(never)]
-    fn put_long_whole<F: Format>(&mut self, n: u64, format: &F)
-        requires many { FOUR_DIGITS ≤ n }
-        requires short { length self.old ≤ MAX_SCALE + MAX_DEC_LEN }
-        ensures { self.new ≡ body_of (F.answers format.now) n ++ self.old }
-    {
-        match format.grouping() {
-            Grouping::Standard => self.put_grouped::<F, 3, 3>(n, format),
-            Grouping::Indian => self.put_grouped::<F, 3, 2>(n, format),
-            Grouping::Posix => self.put_digits(n),
-            Grouping::Myriad if n < FIVE_DIGITS => self.put_digits(n),
-            Grouping::Myriad => self.put_grouped::<F, 4, 4>(n, format),
-            Grouping::Sparse if n < FIVE_DIGITS => self.put_digits(n),
-            Grouping::Sparse => self.put_grouped::<F, 3, 3>(n, format),
-        }
-    }
-
-    /// Prepends the digits of `n` in groups: the last of `LAST` digits, those before it of `SIZE`, and the first of up
-    /// to as many.
-    #[inline(always)]
-    fn put_grouped<F: Format, const LAST: u8, const SIZE: u8>(&mut self, n: u64, format: &F)
-        requires some { 10 ^ LAST ≤ n }
-        requires sizes { (2 ≤ SIZE) × (SIZE ≤ LAST) × (LAST ≤ 4) }
-        requires short { length self.old ≤ MAX_SCALE + MAX_DEC_LEN }
-        ensures { (is_due : ℕ → Bool) → HasLastGroup is_due LAST → HasGroups is_due SIZE
-            → self.new ≡ separated is_due (F.answers format.now).separator (digits n) ++ self.old }
-    {
-        let separator = format.separator().into_str();
-        // Most have one byte. A test of that may take less time than a jump table over the lengths.
-        if separator.len() == 1 {
-            self.put_separated::<LAST, SIZE, 1>(n, separator);
-        } else {
-            self.put_by_length::<LAST, SIZE>(n, separator);
-        }
-    }
-
-    /// Prepends the digits of `n` in the same groups. The code is compiled for each length of a separator, so that a
-    /// copy of it is a move or two.
-    #[inline(never)]
-    fn put_by_length<const LAST: u8, const SIZE: u8>(&mut self, n: u64, separator: &str)
-        requires some { 10 ^ LAST ≤ n }
-        requires sizes { (2 ≤ SIZE) × (SIZE ≤ LAST) × (LAST ≤ 4) }
-        requires separator { length separator.now ≤ MAX_SEP_LEN }
-        requires short { length self.old ≤ MAX_SCALE + MAX_DEC_LEN }
-        ensures { (is_due : ℕ → Bool) → HasLastGroup is_due LAST → HasGroups is_due SIZE
-            → self.new ≡ separated is_due separator.now (digits n) ++ self.old }
-    {
-        match separator.len() {
-            1 => self.put_separated::<LAST, SIZE, 1>(n, separator),
-            2 => self.put_separated::<LAST, SIZE, 2>(n, separator),
-            3 => self.put_separated::<LAST, SIZE, 3>(n, separator),
-            4 => self.put_separated::<LAST, SIZE, 4>(n, separator),
-            5 => self.put_separated::<LAST, SIZE, 5>(n, separator),
-            6 => self.put_separated::<LAST, SIZE, 6>(n, separator),
-            7 => self.put_separated::<LAST, SIZE, 7>(n, separator),
-            8 => self.put_separated::<LAST, SIZE, 8>(n, separator),
-            _ => self.put_separated::<LAST, SIZE, 0>(n, separator),
-        }
-    }
-
-    /// Prepends the digits of `n` in the same groups, between which stands a separator of `LEN` bytes.
-    ///
-    /// It is a function of its own, so that short numbers are printed without its space.
-    #[inline(never)]
-    fn put_separated<const LAST: u8, const SIZE: u8, const LEN: usize>(
-        &mut self,
-        n: u64,
-        separator: &str,
-    )
-        requires some { 10 ^ LAST ≤ n }
-        requires sizes { (2 ≤ SIZE) × (SIZE ≤ LAST) × (LAST ≤ 4) }
-        requires separator { (length separator.now ≡ LEN) × (LEN ≤ MAX_SEP_LEN) }
-        requires short { length self.old ≤ MAX_SCALE + MAX_DEC_LEN }
-        ensures { (is_due : ℕ → Bool) → HasLastGroup is_due LAST → HasGroups is_due SIZE
-            → self.new ≡ separated is_due separator.now (digits n) ++ self.old }
-    {
-        let last = narrow_power_of_ten(LAST);
-        self.put_group::<LAST, LEN>(n % last, separator);
-        self.put_groups::<SIZE, LEN>(n / last, separator);
-    }
-
-    /// Prepends the digits of a number of more than 64 bits in groups, the last of three digits.
-    #[inline(always)]
-    fn put_wide_grouped<F: Format, const SIZE: u8>(&mut self, n: u128, format: &F)
-        requires large { 2 ^ 64 ≤ n }
-        requires size { (2 ≤ SIZE) × (SIZE ≤ 3) }
-        requires digits { length self.old + 5 * length (digits n) ≤ MAX_DECIMAL_LEN + 4 }
-        ensures { (is_due : ℕ → Bool) → HasLastGroup is_due 3 → HasGroups is_due SIZE
-            → self.new ≡ separated is_due (F.answers format.now).separator (digits n) ++ self.old }
-    {
-        let separator = format.separator().into_str();
-        if separator.len() == 1 {
-            self.put_wide_separated::<SIZE, 1>(n, separator);
-        } else {
-            self.put_wide_by_length::<SIZE>(n, separator);
-        }
-    }
-
-    /// Prepends the digits of such a number in the same groups. The code is compiled for each length of a separator
-    /// too.
-    #[inline(never)]
-    fn put_wide_by_length<const SIZE: u8>(&mut self, n: u128, separator: &str)
-        requires large { 2 ^ 64 ≤ n }
-        requires size { (2 ≤ SIZE) × (SIZE ≤ 3) }
-        requires separator { length separator.now ≤ MAX_SEP_LEN }
-        requires digits { length self.old + 5 * length (digits n) ≤ MAX_DECIMAL_LEN + 4 }
-        ensures { (is_due : ℕ → Bool) → HasLastGroup is_due 3 → HasGroups is_due SIZE
-            → self.new ≡ separated is_due separator.now (digits n) ++ self.old }
-    {
-        match separator.len() {
-            1 => self.put_wide_separated::<SIZE, 1>(n, separator),
-            2 => self.put_wide_separated::<SIZE, 2>(n, separator),
-            3 => self.put_wide_separated::<SIZE, 3>(n, separator),
-            4 => self.put_wide_separated::<SIZE, 4>(n, separator),
-            5 => self.put_wide_separated::<SIZE, 5>(n, separator),
-            6 => self.put_wide_separated::<SIZE, 6>(n, separator),
-            7 => self.put_wide_separated::<SIZE, 7>(n, separator),
-            8 => self.put_wide_separated::<SIZE, 8>(n, separator),
-            _ => self.put_wide_separated::<SIZE, 0>(n, separator),
-        }
-    }
-
-    /// Prepends the digits of `n` in the same groups, between which stands a separator of `LEN` bytes. They come from
-    /// three parts that fit 64 bits each.
-    fn put_wide_separated<const SIZE: u8, const LEN: usize>(&mut self, n: u128, separator: &str)
-        requires large { 2 ^ 64 ≤ n }
-        requires size { (2 ≤ SIZE) × (SIZE ≤ 3) }
-        requires separator { (length separator.now ≡ LEN) × (LEN ≤ MAX_SEP_LEN) }
-        requires digits { length self.old + 5 * length (digits n) ≤ MAX_DECIMAL_LEN + 4 }
-        ensures { (is_due : ℕ → Bool) → HasLastGroup is_due 3 → HasGroups is_due SIZE
-            → self.new ≡ separated is_due separator.now (digits n) ++ self.old }
-    {
-        let (first, middle, last) = split_wide(n);
-        self.put_group::<3, LEN>(last, separator);
-        if first == 0 {
-            self.put_groups::<SIZE, LEN>(middle, separator);
-        } else {
-            // A digit 1 before the middle part keeps its leading zeros. That digit is the first group, and left out.
-            self.put_full_groups::<SIZE, LEN>(EIGHTEEN_ZEROS + middle, separator);
-            self.put_groups::<SIZE, LEN>(first, separator);
-        }
-    }
-
-    /// Prepends the digits of `n` in groups, before others.
-    #[inline(always)]
-    fn put_groups<const SIZE: u8, const LEN: usize>(&mut self, n: u64, separator: &str)
-        requires size { (2 ≤ SIZE) × (SIZE ≤ 4) }
-        requires separator { (length separator.now ≡ LEN) × (LEN ≤ MAX_SEP_LEN) }
-        requires fits { length self.old + 5 * length (digits n) ≤ MAX_DECIMAL_LEN }
-        ensures { (is_due : ℕ → Bool) (right text after : List ℕ) → HasGroups is_due SIZE
-            → BeginsWithSeparator is_due separator.now right text → self.old ≡ text ++ after
-            → self.new ≡ separated is_due separator.now (digits n ++ right) ++ after }
-    {
-        let first = self.put_full_groups::<SIZE, LEN>(n, separator);
-        self.put_digits(first);
-    }
-
-    /// Prepends the digits of `n` in groups, but for the first group, which is returned.
-    #[inline(always)]
-    fn put_full_groups<const SIZE: u8, const LEN: usize>(&mut self, n: u64, separator: &str) -> u64
-        requires size { (2 ≤ SIZE) × (SIZE ≤ 4) }
-        requires separator { (length separator.now ≡ LEN) × (LEN ≤ MAX_SEP_LEN) }
-        requires fits { length self.old + 5 * length (digits n) ≤ MAX_DECIMAL_LEN }
-        ensures groups { PrependsAnywhere SIZE n result separator.now self.old self.new }
-        ensures first { result < 10 ^ SIZE }
-        ensures fits { length self.new + 5 * length (digits result) ≤ length self.old + 5 * length (digits n) }
-    {
-        let base = narrow_power_of_ten(SIZE);
-        let mut left = n;
-        while left >= base {
-            self.put_group::<SIZE, LEN>(left % base, separator);
-            left /= base;
-        }
-        left
-    }
-
-    /// Prepends a group of digits, and the separator before it.
-    #[inline(always)]
-    fn put_group<const SIZE: u8, const LEN: usize>(&mut self, group: u64, separator: &str)
-        requires size { SIZE ≤ 4 }
-        requires below { group < 10 ^ SIZE }
-        requires separator { (length separator.now ≡ LEN) × (LEN ≤ MAX_SEP_LEN) }
-        requires fits { length self.old + SIZE + MAX_SEP_LEN ≤ MAX_DECIMAL_LEN }
-        ensures { self.new ≡ separator.now ++ (plain (last_digits SIZE group) ++ self.old) }
-    {
-        self.put_last_digits(group, SIZE);
-        self.put_front(&separator[..LEN]);
-    }
-
     /// Prepends the digits of `n`, which has no more than `count`, leading zeros included, to the empty text. A digit 1
     /// before them keeps the zeros, and is left out.
     fn put_wide_digits(&mut self, n: u128, count: u8)
@@ -499,32 +239,6 @@ impl DecimalBuffer {
         left / 10
     }
 
-    /// Prepends the digits of a number below a thousand.
-    #[inline(always)]
-    fn put_few_digits(&mut self, n: u64)
-        requires few { n < FOUR_DIGITS }
-        requires fits { length (digits n) + length self.old ≤ MAX_DECIMAL_LEN }
-        ensures { self.new ≡ plain (digits n) ++ self.old }
-    {
-        if n < 10 {
-            self.put_front(one_digit(n));
-            return;
-        }
-        self.put_front(two_digits(n % 100));
-        if n >= 100 {
-            self.put_front(one_digit(n / 100));
-        }
-    }
-
-    /// Prepends the digits of `n`, with nothing between them.
-    #[inline(always)]
-    fn put_digits(&mut self, n: u64)
-        requires { length (digits n) + length self.old ≤ MAX_DECIMAL_LEN }
-        ensures { self.new ≡ plain (digits n) ++ self.old }
-    {
-        self.start = itoa::write_digits(n, &mut self.inner, self.start);
-    }
-
     /// Prepends a minus sign or a decimal mark. Most have one byte, whose copy is a move.
     #[inline(always)]
     fn put_symbol(&mut self, symbol: &str)
@@ -548,13 +262,15 @@ impl DecimalBuffer {
     {
         self.put_front(symbol);
     }
+}
 
-    /// Prepends a text.
+impl PutFront for DecimalBuffer {
+    ghost held = { λ b. b };
+
+    ghost CAPACITY = { MAX_DECIMAL_LEN };
+
     #[inline(always)]
-    fn put_front(&mut self, text: &str)
-        requires { length text.now + length self.old ≤ MAX_DECIMAL_LEN }
-        ensures { self.new ≡ text.now ++ self.old }
-    {
+    fn put_front(&mut self, text: &str) {
         let start = self.start - text.len();
         copy_bytes(text.as_bytes(), &mut self.inner[start..self.start]);
         self.start = start;

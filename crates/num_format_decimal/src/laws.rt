@@ -3,12 +3,11 @@
 //! The contract of each function is a law. There is nothing to compute, so the bodies are empty, or call getters for
 //! what their contracts say. A caller that needs a law in a proof calls its function.
 ghost use Rattle.num_format_locale.specs.Data.{locale_data};
-ghost use Rattle.num_format_decimal.specs.Laws.{DecimalExactLaw, IsDecimalExact, MarkNeededLaw, OrderLaw, RoundingLaw, TextBoundLaw};
+ghost use Rattle.num_format_decimal.specs.Laws.{MarkNeededLaw, OrderLaw, RoundingLaw, TextBoundLaw};
 ghost use Rattle.num_format_decimal.specs.Marks.{MarksDecimals};
 
 use num_format_certificates::laws::locale_round_trips;
 use num_format_locale::Locale;
-use num_format_text::Format;
 
 /// Decimals are in the order of their units, each times 10 to the power of the other's scale. So 1.50 equals 1.5.
 pub fn order()
@@ -27,28 +26,7 @@ pub fn rounding()
     ensures { RoundingLaw }
 {}
 
-/// Under a format for which [`marks_decimals`](crate::marks_decimals) is true:
-///
-/// - parsing returns a decimal exactly if the text spells it;
-/// - a text spells one decimal at most: two decimals of one text have the same units and the same scale;
-/// - each printed text is parsed to its decimal.
-///
-/// The law is about data whose minus sign, separator and decimal mark are UTF-8, as those of every
-/// [`Format`](num_format_text::Format) are.
-pub fn exact()
-    ensures { DecimalExactLaw }
-{}
-
-/// The law [`exact`] for one format: its minus sign, its separator and its decimal mark are UTF-8.
-pub fn exact_under<F: Format>(format: &F)
-    ensures { MarksDecimals (F.answers format.now) → IsDecimalExact (F.answers format.now) }
-{
-    format.minus_sign().into_str();
-    format.separator().into_str();
-    format.decimal().into_str();
-}
-
-/// Each locale marks decimals, so the law [`exact`] holds of it.
+/// Each locale marks decimals.
 pub fn locale_marks(locale: Locale)
     ensures { MarksDecimals (locale_data locale) }
 {

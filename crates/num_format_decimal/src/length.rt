@@ -1,29 +1,43 @@
 //! How long the text of a decimal is.
 ghost use Rattle.std.specs.Int.{is_negative};
-ghost use Rattle.std.specs.Prelude.{◌≡◌, ◌+◌, ◌≤◌, length, nat_lt, if◌then◌else◌};
+ghost use Rattle.std.specs.Prelude.{◌≡◌, ◌+◌, ◌/◌, ◌^◌, ◌≤◌, length, nat_lt, if◌then◌else◌};
+ghost use Rattle.num_format_int.specs.Digits.{digits};
 ghost use Rattle.num_format_decimal.specs.Text.{decimal_text};
 
 use crate::buffer::{MAX_DECIMAL_LEN, texts_fit};
 use crate::decimal::{Decimal, MAX_SCALE};
-use crate::powers::split;
 use num_format_text::Format;
 use num_format_text::capacities::{MAX_DEC_LEN, MAX_MIN_LEN};
+use num_format_writers::formatted::{digit_count, digits_size};
 
 /// Returns the length in bytes of the text of a number, without printing it.
 ///
 /// ```rust
 /// text_len(&Decimal::new(-123450, 2)?, &Locale::de)    // 9, of -1.234,50
 /// ```
-#[tactic(auto, using(crate::proofs::LengthLemmas::decimal_length))]
 pub fn text_len<F: Format>(number: &Decimal, format: &F) -> usize
     ensures length { result ≡ length (decimal_text (F.answers format.now) number.now) }
     ensures fits { result ≤ MAX_DECIMAL_LEN }
 {
     texts_fit(format);
-    let (whole, _) = split(number.magnitude(), number.scale());
-    let unsigned = num_format_writers::text_len(&whole, format)
-        + decimals_len(number.scale(), format);
-    sign_len(number, format) + unsigned
+    let separator = format.separator().into_str().len();
+    let whole = digits_size(
+        whole_digits(number.magnitude(), number.scale()),
+        format.grouping(),
+        separator,
+    );
+    sign_len(number, format) + whole + decimals_len(number.scale(), format)
+}
+
+/// Returns how many digits a number has before its last `scale` digits, of which there is always one.
+#[tactic(auto, using(crate::proofs::LengthLemmas::digits_before, crate::proofs::LengthLemmas::digit_before))]
+fn whole_digits(n: u128, scale: u8) -> usize
+    ensures value { result ≡ length (digits (n / 10 ^ scale)) }
+    ensures bound { result ≤ 39 }
+{
+    let digits = digit_count(n);
+    let scale = scale as usize;
+    if digits > scale { digits - scale } else { 1 }
 }
 
 /// Returns the length of the minus sign of a number, if it is negative.

@@ -1,6 +1,8 @@
 //! Numbers of a fixed number of decimals, as amounts of money are written: exact, and printed under any format
 //! of `num_format`.
 //!
+//! Any file may be changed. Whole numbers are printed and parsed by the crates below.
+//!
 //! A [`Decimal`] is a whole number of units and a scale: 150 at scale 2 is 1.50.
 //!
 //! ```rust
@@ -22,18 +24,19 @@ pub mod error;
 pub mod laws;
 pub mod length;
 pub mod marks;
+pub mod parser;
 pub mod parsing;
 mod powers;
 pub mod printing;
 mod reading;
 pub mod rounding;
-mod spelling;
 
 pub use buffer::{DecimalBuffer, MAX_DECIMAL_LEN};
 pub use decimal::{Decimal, MAX_SCALE};
 pub use error::DecimalError;
 pub use length::text_len;
 pub use marks::marks_decimals;
+pub use parser::DecimalParser;
 pub use parsing::{ParseAtScaleError, ParseDecimal, ParseDecimalError};
 pub use printing::FormattedDecimal;
 pub use rounding::Rounding;

@@ -1,13 +1,14 @@
 -- Groups of digits and what is prepended to them, wherever separators are due.
-use Rattle.std.proofs.Common.{◌≡◌, ℕ, ◌+◌, ◌*◌, ◌/◌, ◌%◌, ◌^◌, ◌<◌, ◌≤◌, ◌⊎◌, inl, inr, Bool, true, false, List, [], ◌∷◌, ◌++◌, length, refl, ap, ◌∙◌, sym, arith, append-nil, append_assoc, length-append}
+use Rattle.std.proofs.Common.{◌≡◌, ℕ, ◌+◌, ◌-◌, ◌*◌, ◌/◌, ◌%◌, ◌^◌, ◌<◌, ◌≤◌, ◌⊎◌, inl, inr, Bool, true, false, List, [], ◌∷◌, ◌++◌, length, refl, ap, ◌∙◌, sym, arith, append-nil, append_assoc, length-append}
 use Rattle.std.proofs.lemmas.Bool.Decides.{nat_tests}
 use Rattle.std.proofs.lemmas.List.{length-map}
-use Rattle.num_format_text.specs.declared.grouping.Grouping.TheVariants.{Standard, Indian, Myriad, Sparse}
+use Rattle.num_format_text.specs.declared.grouping.Sizes.{Sizes}
+use Rattle.num_format_text.specs.Separators.{HaveShape, separates}
 use Rattle.num_format_int.specs.Digits.{digits}
-use Rattle.num_format_int.specs.Grouped.{stands, separated}
-use Rattle.num_format_int.specs.Groups.{last_digits, plain, HasLastGroup, HasGroups, BeginsWithSeparator, PrependsGroups}
-use Rattle.num_format_int.proofs.GroupedLemmas.{separated-plain, stands-Sparse-many}
-use Rattle.num_format_int.proofs.DigitLemmas.{digits-split, digits-leading_one, digits_given, length-digits-le, length-last_digits, last_digits-mod}
+use Rattle.num_format_int.specs.Grouped.{separated}
+use Rattle.num_format_int.specs.Groups.{last_digits, plain, HasLastGroup, HasGroups, HasOnlyGroups, BeginsWithSeparator, PrependsGroups, PrependsAnywhere}
+use Rattle.num_format_int.proofs.GroupedLemmas.{separated-plain}
+use Rattle.num_format_int.proofs.DigitLemmas.{digits-split, digits-leading_one, digits_given, length-digits-le, length-digits-split, length-last_digits, last_digits-mod}
 
 -- digits with nothing between them leave room for a minus sign
 pub length-plain-fits : (text ds : List ℕ) → text ≡ plain ds → length ds ≤ 39 → length text + 8 ≤ 191
@@ -21,51 +22,39 @@ plain-alone text old ds e empty = e ∙ ap (λ right. plain ds ++ right) empty �
 pub size_bounds : (size : ℕ) → (size ≡ 2) ⊎ ((size ≡ 3) ⊎ (size ≡ 4)) → (2 ≤ size) × (size ≤ 4)
 size_bounds size sizes = elim sizes [ inl two ↦ (omega arith, omega arith) | inr (inl three) ↦ (omega arith, omega arith) | inr (inr four) ↦ (omega arith, omega arith) ]
 
--- the last group of each grouping that has some, and the groups before it
-pub last_group-Standard : (d : ℕ) → HasLastGroup (stands Standard d) 3
-last_group-Standard d = record { before = refl; within = λ k below. grind (arith, nat_tests) }
+pub groups-by : (sizes : Sizes) → HaveShape sizes → (d : ℕ) → HasGroups (separates sizes d) sizes.size
+groups-by sizes shape d =
+    elim shape [
+      | inl (last, size) ↦ record { before = λ right due. grind (arith, nat_tests, last, size, due); within = λ right k due some below. grind (arith, nat_tests, last, size, due, some, below) }
+      | inr (inl (last, size)) ↦ record { before = λ right due. grind (arith, nat_tests, last, size, due); within = λ right k due some below. grind (arith, nat_tests, last, size, due, some, below) }
+      | inr (inr (last, size)) ↦ record { before = λ right due. grind (arith, nat_tests, last, size, due); within = λ right k due some below. grind (arith, nat_tests, last, size, due, some, below) }
+    ]
 
-pub groups-Standard : (d : ℕ) → HasGroups (stands Standard d) 3
-groups-Standard d = record {
-  before = λ right due. grind (arith, nat_tests, due);
-  within = λ right k due some below. grind (arith, nat_tests, due);
+step-by : (sizes : Sizes) (d right : ℕ) → separates sizes d right ≡ true → (right ≡ sizes.last) ⊎ ((sizes.last + sizes.size ≤ right) × (separates sizes d (right - sizes.size) ≡ true)) →
+    (right ≡ sizes.last) ⊎ ((fewer : ℕ) × (right ≡ sizes.size + fewer) × (separates sizes d fewer ≡ true))
+step-by sizes d right due either =
+    elim either [ inl last ↦ inl last | inr (more, before) ↦ inr (right - sizes.size, omega (arith, more), before) ]
+
+-- where sizes put separators: before a last group and before groups of that size to its left, and nowhere else
+pub only-by : (sizes : Sizes) → HaveShape sizes → (d : ℕ) → HasOnlyGroups (separates sizes d) sizes.last sizes.size
+only-by sizes shape d = record {
+  groups = groups-by sizes shape d;
+  none = λ right few. grind (arith, nat_tests, few);
+  step = λ right due.
+      let last : sizes.last ≤ right = grind (arith, nat_tests, due) in
+      elim shape [
+        | inl (three, size) ↦ step-by sizes d right due (grind (arith, nat_tests, three, size, due))
+        | inr (inl (three, size)) ↦ step-by sizes d right due (grind (arith, nat_tests, three, size, due))
+        | inr (inr (four, size)) ↦ step-by sizes d right due (grind (arith, nat_tests, four, size, due))
+      ];
 }
 
-pub last_group-Indian : (d : ℕ) → HasLastGroup (stands Indian d) 3
-last_group-Indian d = record { before = refl; within = λ k below. grind (arith, nat_tests) }
-
-pub groups-Indian : (d : ℕ) → HasGroups (stands Indian d) 2
-groups-Indian d = record {
-  before = λ right due. grind (arith, nat_tests, due);
-  within = λ right k due some below. grind (arith, nat_tests, due);
+-- in a number of enough digits one stands before the last group
+pub last_group-by : (sizes : Sizes) (d : ℕ) → sizes.least ≤ d → HasLastGroup (separates sizes d) sizes.last
+last_group-by sizes d many = record {
+  before = grind (arith, nat_tests, many);
+  within = λ k below. grind (arith, nat_tests, below);
 }
-
-pub last_group-Myriad : (d : ℕ) → HasLastGroup (stands Myriad d) 4
-last_group-Myriad d = record { before = refl; within = λ k below. grind (arith, nat_tests) }
-
-pub groups-Myriad : (d : ℕ) → HasGroups (stands Myriad d) 4
-groups-Myriad d = record {
-  before = λ right due. grind (arith, nat_tests, due);
-  within = λ right k due some below. grind (arith, nat_tests, due);
-}
-
-last_group-same : (p q : ℕ → Bool) (last : ℕ) → ((r : ℕ) → p r ≡ q r) → HasLastGroup p last → HasLastGroup q last
-last_group-same p q last same groups = record {
-  before = sym (same last) ∙ groups.before;
-  within = λ k below. sym (same k) ∙ groups.within k below;
-}
-
-groups-same : (p q : ℕ → Bool) (size : ℕ) → ((r : ℕ) → p r ≡ q r) → HasGroups p size → HasGroups q size
-groups-same p q size same groups = record {
-  before = λ right due. sym (same (size + right)) ∙ groups.before right (same right ∙ due);
-  within = λ right k due some below. sym (same (k + right)) ∙ groups.within right k (same right ∙ due) some below;
-}
-
-pub last_group-Sparse : (d : ℕ) → 5 ≤ d → HasLastGroup (stands Sparse d) 3
-last_group-Sparse d many = last_group-same (stands Standard d) (stands Sparse d) 3 (λ r. stands-Sparse-many d r many) (last_group-Standard d)
-
-pub groups-Sparse : (d : ℕ) → 5 ≤ d → HasGroups (stands Sparse d) 3
-groups-Sparse d many = groups-same (stands Standard d) (stands Sparse d) 3 (λ r. stands-Sparse-many d r many) (groups-Standard d)
 
 -- a group before digits that have a separator to their left
 separated-group : (is_due : ℕ → Bool) (s ds right : List ℕ) → 0 < length ds → is_due (length right) ≡ true →
@@ -161,3 +150,55 @@ pub digits-parts : (j k n middle first last : ℕ) → middle ≡ n / 10 ^ k →
     digits first ++ (last_digits j last ++ last_digits k n) ≡ digits n
 digits-parts j k n middle first last is_middle is_first is_last some more =
     rw (is_first, is_last, last_digits-mod, digits-split k n some, ← is_middle, digits-split j middle more, append_assoc)
+
+-- a group and its separator fit, if five bytes a digit did
+pub group_fits : (held separator size base left most : ℕ) → 2 ≤ size → base ≡ 10 ^ size → base ≤ left → separator ≤ 8 → held + 5 * length (digits left) ≤ most →
+    held + separator + size + 5 * length (digits (left / base)) ≤ most
+group_fits held separator size base left most some power large short within =
+    let split = length-digits-split size left (rw (← power) large) in
+    let same : length (digits (left / base)) ≡ length (digits (left / 10 ^ size)) = rw power in
+    omega arith
+
+joined : (a b c d : List ℕ) → (a ++ (b ++ c)) ++ d ≡ a ++ (b ++ (c ++ d))
+joined a b c d = append_assoc a (b ++ c) d ∙ ap (λ t. a ++ t) (append_assoc b c d)
+
+-- the last group, and the separator before it, before any text
+pub last_group_begins : (is_due : ℕ → Bool) (s : List ℕ) (last n part : ℕ) → HasLastGroup is_due last → part ≡ n % 10 ^ last →
+    BeginsWithSeparator is_due s (last_digits last n) (s ++ (plain (last_digits last part) ++ []))
+last_group_begins is_due s last n part groups is_part = put-last_group is_due s [] (s ++ (plain (last_digits last part) ++ [])) last n part groups refl is_part refl
+
+pub last_group_before : (s group old new : List ℕ) → new ≡ s ++ (group ++ old) → new ≡ (s ++ (group ++ [])) ++ old
+last_group_before s group old new e = e ∙ sym (joined s group [] old)
+
+-- no group yet
+pub anywhere_none : (size n : ℕ) (s old : List ℕ) → PrependsAnywhere size n n s old old
+anywhere_none size n s old = record { groups = []; prepends = λ text. prepends-none size n s text; same = refl }
+
+-- one group more
+one_more : (size n left : ℕ) (s old text new : List ℕ) → 2 ≤ size → 10 ^ size ≤ left → PrependsAnywhere size n left s old text →
+    new ≡ s ++ (plain (last_digits size (left % 10 ^ size)) ++ text) → PrependsAnywhere size n (left / 10 ^ size) s old new
+one_more size n left s old text new some large before e =
+    let group = plain (last_digits size (left % 10 ^ size)) in
+    record {
+      groups = s ++ (group ++ before.groups);
+      prepends = λ right. prepends-more size n left s right (before.groups ++ right) ((s ++ (group ++ before.groups)) ++ right) (omega arith) (before.prepends right) large (joined s group before.groups right);
+      same = e ∙ ap (λ t. s ++ (group ++ t)) before.same ∙ sym (joined s group before.groups old);
+    }
+
+pub anywhere_more : (size n left base : ℕ) (s old text new : List ℕ) → base ≡ 10 ^ size → 2 ≤ size → base ≤ left → PrependsAnywhere size n left s old text →
+    new ≡ s ++ (plain (last_digits size (left % base)) ++ text) → PrependsAnywhere size n (left / base) s old new
+anywhere_more size n left base s old text new power some large before e = rw power (one_more size n left s old text new some (rw power at large) before (rw power at e))
+
+-- all groups, and then the first
+pub anywhere_all : (is_due : ℕ → Bool) (size n first : ℕ) (s old grouped new right text after : List ℕ) → 2 ≤ size → first < 10 ^ size → PrependsAnywhere size n first s old grouped →
+    new ≡ plain (digits first) ++ grouped → HasGroups is_due size → BeginsWithSeparator is_due s right text → old ≡ text ++ after → new ≡ separated is_due s (digits n ++ right) ++ after
+anywhere_all is_due size n first s old grouped new right text after some below before e groups begins same =
+    e
+    ∙ ap (λ t. plain (digits first) ++ t) (before.same ∙ ap (λ t. before.groups ++ t) same ∙ sym (append_assoc before.groups text after))
+    ∙ sym (append_assoc (plain (digits first)) (before.groups ++ text) after)
+    ∙ ap (λ t. t ++ after) (
+    prepends-all size n first s text (before.groups ++ text) (before.prepends text) (length-digits-le size first (omega arith) below) is_due right groups begins)
+
+-- a last group has three digits or four
+pub last_bounds : (size middle : ℕ) → ((size ≡ 3) × (middle ≡ 18)) ⊎ ((size ≡ 4) × (middle ≡ 16)) → (3 ≤ size) × (size ≤ 4)
+last_bounds size middle parts = elim parts [ inl (three, _) ↦ (omega arith, omega arith) | inr (four, _) ↦ (omega arith, omega arith) ]

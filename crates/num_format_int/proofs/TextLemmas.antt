@@ -2,17 +2,15 @@
 use Rattle.std.proofs.Common.{◌≡◌, ℕ, ◌+◌, ◌-◌, ◌*◌, ◌^◌, ◌<◌, ◌≤◌, Bool, true, false, List, [], ◌∷◌, ◌++◌, length, refl, ap, arith, length-append, ℤ, pos, negsuc, unsigned_abs, append_assoc}
 use Rattle.std.specs.Prelude.{if◌then◌else◌, ◌≤ℤ◌}
 use Rattle.std.specs.Int.{is_negative}
-use Rattle.std.proofs.lemmas.Bool.Decides.{nat_tests}
 use Rattle.std.proofs.lemmas.Int.{ints}
-use Rattle.num_format_text.specs.declared.grouping.Grouping.{Grouping}
-use Rattle.num_format_text.specs.declared.grouping.Grouping.TheVariants.{Standard, Indian, Posix, Myriad, Sparse}
+use Rattle.num_format_text.specs.declared.grouping.Grouping.TheVariants.{Indian}
 use Rattle.num_format_text.specs.Format.{FormatData, IsWithinCapacity}
 use Rattle.num_format_int.specs.declared.buffer.TheConstants.{MAX_BUF_LEN}
 use Rattle.num_format_int.specs.Digits.{digits}
 use Rattle.num_format_int.specs.Grouped.{grouped, separated, separators, stands}
 use Rattle.num_format_int.specs.Text.{body_of, text_of}
 use Rattle.num_format_int.proofs.DigitLemmas.{digits_given, length-digits-le39}
-use Rattle.num_format_int.proofs.GroupedLemmas.{length-grouped, length-grouped-le183}
+use Rattle.num_format_int.proofs.GroupedLemmas.{length-grouped, length-grouped-le183, stands-last}
 
 -- the length of a text: the minus sign, the digits, and the separators times their length
 pub length-text_of : (f : FormatData) (z : ℤ) →
@@ -55,14 +53,6 @@ length-text_of-i128-MIN f indian separator minus_sign =
 pub body_of-begins : (f : FormatData) (n first : ℕ) (others : List ℕ) → digits n ≡ first ∷ others → (rest : List ℕ) × (body_of f n ≡ (48 + first) ∷ rest)
 body_of-begins f n first others e = (_, ap (grouped f.grouping f.separator) e)
 
--- no separator comes after the last digit
-stands-zero : (g : Grouping) (d : ℕ) → stands g d 0 ≡ false
-stands-zero Standard d = refl
-stands-zero Indian d = refl
-stands-zero Posix d = refl
-stands-zero Myriad d = refl
-stands-zero Sparse d = grind (arith, nat_tests)
-
 -- separated digits end with the last digit
 separated-ends : (is_due : ℕ → Bool) → is_due 0 ≡ false → (s others : List ℕ) (last : ℕ) → (before : List ℕ) × (separated is_due s (others ++ (last ∷ [])) ≡ before ++ ((48 + last) ∷ []))
 separated-ends is_due none s [] last = ([], rw none)
@@ -74,5 +64,6 @@ separated-ends is_due none s (d ∷ others) last =
 pub body_of-ends : (f : FormatData) (n last : ℕ) (others : List ℕ) → digits n ≡ others ++ (last ∷ []) → (before : List ℕ) × (body_of f n ≡ before ++ ((48 + last) ∷ []))
 body_of-ends f n last others e =
     let d = length (others ++ (last ∷ [])) in
-    let rest = separated-ends (stands f.grouping d) (stands-zero f.grouping d) f.separator others last in
+    let some : 0 < d = omega (arith, length-append others (last ∷ [])) in
+    let rest = separated-ends (stands f.grouping d) (stands-last f.grouping d some) f.separator others last in
     (rest.0, rw e (rest.1))

@@ -1,5 +1,5 @@
 -- Groups of digits, as they are prepended to the digits to their right.
-use Rattle.std.specs.Prelude.{◌≡◌, ℕ, zero, suc, ◌+◌, ◌*◌, ◌/◌, ◌%◌, ◌<◌, Bool, true, false, List, [], ◌∷◌, ◌++◌, length, map}
+use Rattle.std.specs.Prelude.{◌≡◌, ℕ, zero, suc, ◌+◌, ◌*◌, ◌/◌, ◌%◌, ◌<◌, ◌⊎◌, Bool, true, false, List, [], ◌∷◌, ◌++◌, length, map}
 use Rattle.num_format_int.specs.Digits.{digits}
 use Rattle.num_format_int.specs.Grouped.{separated}
 
@@ -22,6 +22,12 @@ pub record HasGroups (is_due : ℕ → Bool) (size : ℕ) : Type 0 where
   pub before : (right : ℕ) → is_due right ≡ true → is_due (size + right) ≡ true
   pub within : (right k : ℕ) → is_due right ≡ true → 0 < k → k < size → is_due (k + right) ≡ false
 
+-- a separator is due only before a last group and before groups of that size to its left
+pub record HasOnlyGroups (is_due : ℕ → Bool) (last size : ℕ) : Type 0 where
+  pub groups : HasGroups is_due size
+  pub none : (right : ℕ) → right < last → is_due right ≡ false
+  pub step : (right : ℕ) → is_due right ≡ true → (right ≡ last) ⊎ ((fewer : ℕ) × (right ≡ size + fewer) × (is_due fewer ≡ true))
+
 -- the text is the separator that is due to the left of the digits `right`, and these with their separators
 pub record BeginsWithSeparator (is_due : ℕ → Bool) (separator right text : List ℕ) : Type 0 where
   pub due : is_due (length right) ≡ true
@@ -38,3 +44,20 @@ pub record PrependsGroups (size n first : ℕ) (separator old new : List ℕ) : 
 -- the text is the digits with separators before a last group and before groups of that size, wherever that is where they are due
 abbrev pub IsGrouped : (last size : ℕ) → List ℕ → List ℕ → List ℕ → Type 0
 IsGrouped last size separator ds text = (is_due : ℕ → Bool) → HasLastGroup is_due last → HasGroups is_due size → text ≡ separated is_due separator ds
+
+-- the digits of n but for those of `first` were prepended in whole groups, as they are before any text
+pub record PrependsAnywhere (size n first : ℕ) (separator old new : List ℕ) : Type 0 where
+  pub groups : List ℕ
+  pub prepends : (text : List ℕ) → PrependsGroups size n first separator text (groups ++ text)
+  pub same : new ≡ groups ++ old
+
+-- digits that are whole groups were prepended, with their separators, as they are before any text
+pub record PrependsMiddle (size : ℕ) (ds separator old new : List ℕ) : Type 0 where
+  pub groups : List ℕ
+  pub begins : (is_due : ℕ → Bool) (right text : List ℕ) → HasGroups is_due size → BeginsWithSeparator is_due separator right text → BeginsWithSeparator is_due separator (ds ++ right) (groups ++ text)
+  pub same : new ≡ groups ++ old
+
+-- before the old text stand the digits with separators before a last group and before groups of that size, wherever that is where they are due
+abbrev pub IsGroupedBefore : (last size : ℕ) → (separator ds old new : List ℕ) → Type 0
+IsGroupedBefore last size separator ds old new =
+    (is_due : ℕ → Bool) → HasLastGroup is_due last → HasGroups is_due size → new ≡ separated is_due separator ds ++ old

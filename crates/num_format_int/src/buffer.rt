@@ -3,7 +3,8 @@
 //! A [`Buffer`] is an array of [`MAX_BUF_LEN`] bytes, which no number outgrows under any format. Its
 //! text ends where the array ends and grows to the left, since the digits of a number are found from
 //! the last to the first.
-ghost use Rattle.std.specs.Prelude.{◌≡◌, ◌+◌, ◌*◌, ◌<◌, ◌≤◌, ◌==◌, [], ◌∷◌, ◌++◌, length, Some};
+ghost use Rattle.std.specs.Prelude.{◌≡◌, ℕ, List, ◌+◌, ◌*◌, ◌<◌, ◌≤◌, ◌==◌, [], ◌∷◌, ◌++◌, length, Some};
+ghost use Rattle.num_format_int.specs.declared.buffer.TheConstants.{MAX_BUF_LEN};
 ghost use Rattle.std.specs.Fmt.{WritesOnOk, WritesStyledOnOk};
 
 use std::marker::Model;
@@ -166,6 +167,29 @@ impl Buffer {
         } else {
             *self = Buffer::new();
         }
+    }
+}
+
+/// A text that more is prepended to.
+pub trait PutFront {
+    ghost held: { Self → List ℕ };
+
+    ghost CAPACITY: { ℕ };
+
+    /// Prepends a text to the one that is held. Both together have at most `CAPACITY` bytes.
+    fn put_front(&mut self, text: &str)
+        requires { length text.now + length (held self.old) ≤ CAPACITY }
+        ensures { held self.new ≡ text.now ++ held self.old };
+}
+
+impl PutFront for Buffer {
+    ghost held = { λ b. b };
+
+    ghost CAPACITY = { MAX_BUF_LEN };
+
+    #[inline(always)]
+    fn put_front(&mut self, text: &str) {
+        Buffer::put_front(self, text);
     }
 }
 

@@ -1,5 +1,7 @@
 //! The locales of num-format, by name.
 //!
+//! `tools/locales.py constants` writes `constants.rt` and `pair_list.rt`. Any other file may be changed.
+//!
 //! A [`Locale`] is a [`Format`](num_format_text::Format): it says how digits are grouped, and which
 //! texts stand for the decimal mark, the separator, the signs, infinity and NaN. Its data are a row
 //! of the table of `num_format_cldr`, which has them from the Unicode CLDR by the Rust crate

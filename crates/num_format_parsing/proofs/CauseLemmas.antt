@@ -1,14 +1,19 @@
--- At most one cause holds of a text, and none of a text that is read.
-use Rattle.std.proofs.Common.{◌≡◌, ℕ, List, length, refl, ap, ◌∙◌, sym, arith, length-drop, subst, ℤ, Ok, Err}
-use Rattle.std.specs.Prelude.{Result, MatchResult, IfOk, IsOk, ◌↔◌}
+-- At most one cause holds of a text, and none of a text that spells a value.
+use Rattle.std.proofs.Common.{◌≡◌, ℕ, zero, suc, ◌≤◌, List, length, refl, ap, ◌∙◌, sym, arith, length-drop, subst, ℤ, pos, negsuc, unsigned_abs, Bool, true, false, inl, inr, Ok, Err}
+use Rattle.std.specs.Prelude.{Result, IsTrue, ◌≤ℤ◌}
+use Rattle.std.specs.Int.{is_negative}
+use Rattle.std.proofs.lemmas.Bool.{both_ways, cases_Bool}
+use Rattle.std.proofs.lemmas.Int.{ints}
 use Rattle.num_format_text.specs.Format.{FormatData}
-use Rattle.num_format_int.specs.Kind.{Kind}
-use Rattle.num_format_parsing.specs.Reading.{denoted, no_digit}
-use Rattle.num_format_parsing.specs.Strict.{SpellsNumber, StopsAt, IsExpected, IsOutOfRange, ParsesStrictly, IsCause}
+use Rattle.num_format_int.specs.Kind.{Kind, IsValueOf, IsWithin, signed_number}
+use Rattle.num_format_parsing.specs.Parts.{HasReading, IsJudged}
+use Rattle.num_format_parsing.specs.Shapes.{HasPlainSymbols}
+use Rattle.num_format_parsing.specs.Strict.{SpellsNumber, StopsAt, IsExpected, IsCause, ParsesStrictly}
+use Rattle.num_format_parsing.specs.declared.strict.Reading.{Reading}
+use Rattle.num_format_parsing.specs.declared.strict.Reading.TheVariants.{Number, TooLarge, Unspelled}
 use Rattle.num_format_parsing.specs.declared.strict.StrictError.{StrictError}
-use Rattle.num_format_parsing.specs.declared.strict.StrictError.TheVariants.{NotUtf8, Unexpected, NoDigit, Misspelled, OutOfRange}
-use Rattle.num_format_parsing.proofs.SpellingLemmas.{figures-spelled}
-use Rattle.num_format_parsing.proofs.UnreadLemmas.{unexpected-none}
+use Rattle.num_format_parsing.specs.declared.strict.StrictError.TheVariants.{AmbiguousFormat, NotUtf8, Unexpected, NoDigit, Misspelled, OutOfRange}
+use Rattle.num_format_parsing.proofs.SpellingLemmas.{figures-spelled, is_negative-pos, spelled-once, unexpected-none, utf8-spelled}
 
 stops-not : (f : FormatData) (t : List ℕ) (a : ℕ) → StopsAt f t a → IsExpected f t → ⊥
 stops-not f t a stops expected = omega (arith, ap length (sym stops.rest ∙ expected.rest), length-drop a t, stops.inside)
@@ -16,61 +21,86 @@ stops-not f t a stops expected = omega (arith, ap length (sym stops.rest ∙ exp
 stops-once : (f : FormatData) (t : List ℕ) (a b : ℕ) → StopsAt f t a → StopsAt f t b → a ≡ b
 stops-once f t a b p q = omega (arith, ap length (sym p.rest ∙ q.rest), length-drop a t, length-drop b t, p.inside, q.inside)
 
--- what is out of range has no unexpected byte
-expected_in : (k : Kind) (f : FormatData) (t : List ℕ) → IsOutOfRange k f t → IsExpected f t
-expected_in k f t out = record { utf8 = out.utf8; rest = unexpected-none f t out.utf8 out.spelled }
+-- a text that spells a number has no unexpected byte
+expected_in : (f : FormatData) (t : List ℕ) (z : ℤ) → HasPlainSymbols f → SpellsNumber f t z → IsExpected f t
+expected_in f t z s spells = record { utf8 = utf8-spelled f t z s spells; rest = unexpected-none f t z s spells }
+
+-- and no cause but that it is out of range
+spelled_cause : (k : Kind) (f : FormatData) (t : List ℕ) (z : ℤ) (e : StrictError) → HasPlainSymbols f → SpellsNumber f t z → IsCause k f t e → (e ≡ OutOfRange) × ¬ (IsValueOf k z)
+spelled_cause k f t z AmbiguousFormat s spells p = absurd (p s.unambiguous)
+spelled_cause k f t z NotUtf8 s spells p = absurd (p.1 (utf8-spelled f t z s spells))
+spelled_cause k f t z (Unexpected a) s spells p = absurd (stops-not f t a p.1 (expected_in f t z s spells))
+spelled_cause k f t z NoDigit s spells p = absurd (figures-spelled f t z s spells p.1.none)
+spelled_cause k f t z Misspelled s spells p = absurd (p.1.wrong z spells)
+spelled_cause k f t z OutOfRange s spells p = (refl, λ value. p.1.wrong (subst (IsValueOf k) (spelled-once f t z p.1.number s spells p.1.spelled) value))
 
 -- two causes of one refusal are the same
-pub only_cause : (k : Kind) (f : FormatData) (t : List ℕ) (d e : StrictError) → IsCause k f t d → IsCause k f t e → d ≡ e
-only_cause k f t NotUtf8 NotUtf8 p q = refl
-only_cause k f t NotUtf8 (Unexpected b) p q = absurd (p q.utf8)
-only_cause k f t NotUtf8 NoDigit p q = absurd (p q.expected.utf8)
-only_cause k f t NotUtf8 Misspelled p q = absurd (p q.expected.utf8)
-only_cause k f t NotUtf8 OutOfRange p q = absurd (p q.utf8)
-only_cause k f t (Unexpected a) NotUtf8 p q = absurd (q p.utf8)
-only_cause k f t (Unexpected a) (Unexpected b) p q = ap Unexpected (stops-once f t a b p q)
-only_cause k f t (Unexpected a) NoDigit p q = absurd (stops-not f t a p q.expected)
-only_cause k f t (Unexpected a) Misspelled p q = absurd (stops-not f t a p q.expected)
-only_cause k f t (Unexpected a) OutOfRange p q = absurd (stops-not f t a p (expected_in k f t q))
-only_cause k f t NoDigit NotUtf8 p q = absurd (q p.expected.utf8)
-only_cause k f t NoDigit (Unexpected b) p q = absurd (stops-not f t b q p.expected)
-only_cause k f t NoDigit NoDigit p q = refl
-only_cause k f t NoDigit Misspelled p q = absurd (q.some p.none)
-only_cause k f t NoDigit OutOfRange p q = absurd (figures-spelled f t q.utf8 q.spelled p.none)
-only_cause k f t Misspelled NotUtf8 p q = absurd (q p.expected.utf8)
-only_cause k f t Misspelled (Unexpected b) p q = absurd (stops-not f t b q p.expected)
-only_cause k f t Misspelled NoDigit p q = absurd (p.some q.none)
-only_cause k f t Misspelled Misspelled p q = refl
-only_cause k f t Misspelled OutOfRange p q = absurd (p.wrong q.spelled)
-only_cause k f t OutOfRange NotUtf8 p q = absurd (q p.utf8)
-only_cause k f t OutOfRange (Unexpected b) p q = absurd (stops-not f t b q (expected_in k f t p))
-only_cause k f t OutOfRange NoDigit p q = absurd (figures-spelled f t p.utf8 p.spelled q.none)
-only_cause k f t OutOfRange Misspelled p q = absurd (q.wrong p.spelled)
-only_cause k f t OutOfRange OutOfRange p q = refl
+pub only_cause : (k : Kind) (f : FormatData) (t : List ℕ) (d e : StrictError) → HasPlainSymbols f → IsCause k f t d → IsCause k f t e → d ≡ e
+only_cause k f t AmbiguousFormat e s p q = absurd (p s.unambiguous)
+only_cause k f t OutOfRange e s p q = sym (spelled_cause k f t p.1.number e s p.1.spelled q).0
+only_cause k f t NotUtf8 AmbiguousFormat s p q = absurd (q s.unambiguous)
+only_cause k f t NotUtf8 NotUtf8 s p q = refl
+only_cause k f t NotUtf8 (Unexpected b) s p q = absurd (p.1 q.1.utf8)
+only_cause k f t NotUtf8 NoDigit s p q = absurd (p.1 q.1.expected.utf8)
+only_cause k f t NotUtf8 Misspelled s p q = absurd (p.1 q.1.expected.utf8)
+only_cause k f t NotUtf8 OutOfRange s p q = (spelled_cause k f t q.1.number NotUtf8 s q.1.spelled p).0
+only_cause k f t (Unexpected a) AmbiguousFormat s p q = absurd (q s.unambiguous)
+only_cause k f t (Unexpected a) NotUtf8 s p q = absurd (q.1 p.1.utf8)
+only_cause k f t (Unexpected a) (Unexpected b) s p q = ap Unexpected (stops-once f t a b p.1 q.1)
+only_cause k f t (Unexpected a) NoDigit s p q = absurd (stops-not f t a p.1 q.1.expected)
+only_cause k f t (Unexpected a) Misspelled s p q = absurd (stops-not f t a p.1 q.1.expected)
+only_cause k f t (Unexpected a) OutOfRange s p q = (spelled_cause k f t q.1.number (Unexpected a) s q.1.spelled p).0
+only_cause k f t NoDigit AmbiguousFormat s p q = absurd (q s.unambiguous)
+only_cause k f t NoDigit NotUtf8 s p q = absurd (q.1 p.1.expected.utf8)
+only_cause k f t NoDigit (Unexpected b) s p q = absurd (stops-not f t b q.1 p.1.expected)
+only_cause k f t NoDigit NoDigit s p q = refl
+only_cause k f t NoDigit Misspelled s p q = absurd (q.1.some p.1.none)
+only_cause k f t NoDigit OutOfRange s p q = (spelled_cause k f t q.1.number NoDigit s q.1.spelled p).0
+only_cause k f t Misspelled AmbiguousFormat s p q = absurd (q s.unambiguous)
+only_cause k f t Misspelled NotUtf8 s p q = absurd (q.1 p.1.expected.utf8)
+only_cause k f t Misspelled (Unexpected b) s p q = absurd (stops-not f t b q.1 p.1.expected)
+only_cause k f t Misspelled NoDigit s p q = absurd (p.1.some q.1.none)
+only_cause k f t Misspelled Misspelled s p q = refl
+only_cause k f t Misspelled OutOfRange s p q = (spelled_cause k f t q.1.number Misspelled s q.1.spelled p).0
 
--- what is read is refused for no cause
-pub no_cause : (k : Kind) (f : FormatData) (t : List ℕ) (z : ℤ) (e : StrictError) → ParsesStrictly k f t z → IsCause k f t e → ⊥
-no_cause k f t z NotUtf8 read p = p read.utf8
-no_cause k f t z (Unexpected a) read p = stops-not f t a p (record { utf8 = read.utf8; rest = unexpected-none f t read.utf8 (subst (SpellsNumber f t) read.number read.spelled) })
-no_cause k f t z NoDigit read p = read.accepted (no_digit p.none)
-no_cause k f t z Misspelled read p = p.wrong (subst (SpellsNumber f t) read.number read.spelled)
-no_cause k f t z OutOfRange read p = read.accepted p.refused
+-- what is judged is what strict parsing returns
+pub parses-judged : {X : Type 0} (k : Kind) (value : X → ℤ) (f : FormatData) (t : List ℕ) (r : Result X StrictError) → HasPlainSymbols f → IsJudged k value f t r → ParsesStrictly k value f t r
+parses-judged k value f t (Ok n) s judged = record {
+  number = λ z. (λ spells. spelled-once f t z (value n) s spells judged.0, λ same. subst (SpellsNumber f t) (sym same) judged.0);
+  accepted = (λ ok. (s.unambiguous, (value n, judged.0, judged.1)), λ given. refl);
+  refused = λ e. (λ wrong. cc, λ cause. absurd ((spelled_cause k f t (value n) e s judged.0 cause).1 judged.1));
+}
+parses-judged k value f t (Err d) s judged = record {
+  number = tt;
+  accepted = (λ wrong. cc, λ given. absurd ((spelled_cause k f t given.1.0 d s given.1.1 judged).1 given.1.2));
+  refused = λ e. (λ same. let error : d ≡ e = cc in subst (IsCause k f t) error judged, λ cause. ap Err (only_cause k f t d e s judged cause));
+}
 
--- a result that is judged
-abbrev pub Judged : {X : Type 0} → (X → ℤ) → Kind → FormatData → List ℕ → Result X StrictError → Type 0
-Judged value k f t r = MatchResult r (λ n. ParsesStrictly k f t (value n)) (λ e. IsCause k f t e)
+-- only a kind that has negative values has one
+pub sign-kind : (k : Kind) (z : ℤ) → (k.has_negative ≡ false → pos 0 ≤ℤ k.low) → IsValueOf k z → is_negative z ≡ true → IsTrue k.has_negative
+sign-kind k (pos n) given value negative = absurd (both_ways _ (is_negative-pos n) negative)
+sign-kind k (negsuc n) given value negative =
+    elim (cases_Bool k.has_negative) [
+      | inl has ↦ has
+      | inr none ↦ let above = given none in let least = value.above in absurd (omega (arith, ints, above, least))
+    ]
 
--- it is an error exactly if that is the cause
-pub exactly : {X : Type 0} (value : X → ℤ) (k : Kind) (f : FormatData) (t : List ℕ) (r : Result X StrictError) (e : StrictError) → Judged value k f t r → (r ≡ Err e) ↔ IsCause k f t e
-exactly value k f t (Ok n) e judged = (λ wrong. cc, λ cause. absurd (no_cause k f t (value n) e judged cause))
-exactly value k f t (Err d) e judged = (λ same. let error : d ≡ e = cc in subst (IsCause k f t) error judged, λ cause. ap Err (only_cause k f t d e judged cause))
+-- what is too large by one test is too large by a weaker one
+pub reading-weaker : (strong weak : ℕ → Type 0) (f : FormatData) (t : List ℕ) (negative : Bool) (r : Reading) → ((n : ℕ) → strong n → weak n) → HasReading strong f t negative r → HasReading weak f t negative r
+reading-weaker strong weak f t negative (Number n) of read = read
+reading-weaker strong weak f t negative TooLarge of read = (read.0, of read.0 read.1, read.2)
+reading-weaker strong weak f t negative Unspelled of read = read
 
--- and a number exactly if the text is read
-pub is_ok-exactly : {X : Type 0} (value : X → ℤ) (k : Kind) (f : FormatData) (t : List ℕ) (r : Result X StrictError) → Judged value k f t r → IsOk r ↔ ParsesStrictly k f t (denoted f t)
-is_ok-exactly value k f t (Ok n) judged = (λ ok. subst (ParsesStrictly k f t) judged.number judged, λ read. refl)
-is_ok-exactly value k f t (Err e) judged = (λ wrong. cc, λ read. absurd (no_cause k f t (denoted f t) e read judged))
+pub below_high : (n : ℕ) (high : ℤ) → pos n ≤ℤ high → n ≤ unsigned_abs high
+below_high n (pos m) h = omega (arith, ints)
+below_high n (negsuc m) h = absurd (omega (arith, ints))
 
--- and that number is what is read
-pub ok-judged : {X : Type 0} (value : X → ℤ) (k : Kind) (f : FormatData) (t : List ℕ) (r : Result X StrictError) → Judged value k f t r → IfOk r (λ n. ParsesStrictly k f t (value n))
-ok-judged value k f t (Ok n) judged = judged
-ok-judged value k f t (Err e) judged = tt
+pub above_low : (n : ℕ) (low : ℤ) → low ≤ℤ negsuc n → suc n ≤ unsigned_abs low
+above_low n (pos m) h = absurd (omega (arith, ints))
+above_low n (negsuc m) h = omega (arith, ints)
+
+-- a number past the bound of a kind is no value
+pub past-bound : (bound : ℕ) (k : Kind) (negative : Bool) (n : ℕ) → IsWithin bound k → bound ≤ n → ¬ (IsValueOf k (signed_number negative n))
+past-bound bound k false n within past value = omega (arith, below_high n k.high value.below, within.high, past)
+past-bound bound k true zero within past value = omega (arith, within.high, past)
+past-bound bound k true (suc n) within past value = omega (arith, above_low n k.low value.above, within.low, past)

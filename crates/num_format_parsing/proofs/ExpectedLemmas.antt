@@ -1,6 +1,6 @@
 -- What has to follow in bytes that are digits in groups.
-use Rattle.std.proofs.Common.{◌≡◌, ℕ, zero, suc, ◌+◌, ◌-◌, ◌<◌, ◌≤◌, ◌⊎◌, inl, inr, Bool, true, false, List, [], ◌∷◌, ◌++◌, length, refl, ap, ◌∙◌, sym, arith, take, drop, get_or, length-append, length-drop, length-take-le, take-append-drop, append_assoc, append-nil, subst, Ok, Err}
-use Rattle.std.specs.Prelude.{if◌then◌else◌, nat_eq, Result, MatchResult}
+use Rattle.std.proofs.Common.{◌≡◌, ℕ, zero, suc, ◌+◌, ◌-◌, ◌<◌, ◌≤◌, ◌⊎◌, inl, inr, Bool, true, false, List, [], ◌∷◌, ◌++◌, length, refl, ap, ◌∙◌, sym, arith, take, drop, get_or, length-append, length-drop, length-take-le, take-append-drop, append_assoc, append-nil, subst, Option, Some, None, MatchOption, IfSome}
+use Rattle.std.specs.Prelude.{if◌then◌else◌, nat_eq}
 use Rattle.std.specs.Char.{is_ascii_digit}
 use Rattle.std.specs.List.{list_all, starts_with}
 use Rattle.std.proofs.lemmas.Bool.{cases_Bool, both_ways, and_parts}
@@ -9,17 +9,17 @@ use Rattle.std.proofs.lemmas.List.{append_cancel_left, drop_all, drop_at, drop_m
 use Rattle.std.proofs.lemmas.List.Elements.{All-append, All-drop, All-take, All-head, All-tail}
 use Rattle.std.proofs.lemmas.Slice.Eq.{starts_is}
 use Rattle.num_format_int.specs.Grouped.{separated}
-use Rattle.num_format_int.specs.Groups.{plain, HasGroups, BeginsWithSeparator}
+use Rattle.num_format_int.specs.Groups.{plain, HasGroups, HasOnlyGroups, BeginsWithSeparator}
 use Rattle.num_format_int.proofs.DigitLemmas.{AreDigits}
 use Rattle.num_format_int.proofs.GroupLemmas.{put-group, put-first_group}
 use Rattle.num_format_int.proofs.GroupedLemmas.{separated-plain}
-use Rattle.num_format_parsing.specs.Parts.{are_digits_between, figures_between, WriteModulo, HasReadDigits, HasReadGroup, LacksGroup, without_separator, without_digit, HasReadGroups, HasOnlyGroups, LacksGroups}
+use Rattle.num_format_parsing.specs.Parts.{are_digits_between, figures_between, WriteModulo, HasReadDigits, HasReadGroup, LacksGroup, without_separator, without_digit, HasReadGroups, LacksGroups}
 use Rattle.num_format_parsing.specs.Shapes.{byte_figures}
-use Rattle.num_format_parsing.specs.Strict.{begins, unread}
+use Rattle.num_format_parsing.specs.Strict.{begins}
 use Rattle.num_format_parsing.proofs.GroupsLemmas.{slice-split}
-use Rattle.num_format_parsing.proofs.PartLemmas.{digits-split, plain-first, unread-between, unread-separator, write-none}
+use Rattle.num_format_parsing.proofs.PartLemmas.{digits-split, write-none}
 use Rattle.num_format_parsing.proofs.ReadingLemmas.{is_ascii_digit-digit}
-use Rattle.num_format_parsing.proofs.UnreadLemmas.{begins-given}
+use Rattle.num_format_parsing.proofs.UnreadLemmas.{begins-given, plain-first}
 
 same_tail : (a b : ℕ) (xs ys : List ℕ) → a ∷ xs ≡ b ∷ ys → xs ≡ ys
 same_tail a b xs ys e = cc
@@ -137,25 +137,16 @@ plain-digit (d ∷ group) more zero below inside = is_ascii_digit-digit d (All-h
 plain-digit (d ∷ group) more (suc i) below inside = plain-digit group more i (All-tail (λ x. x < 10) d group below) (omega arith)
 
 -- a group that stands there is not lacking
-pub lacks-not : (s text group more : List ℕ) (start count place : ℕ) → 0 < length s → AreDigits group → length group ≡ count → drop start text ≡ s ++ (plain group ++ more) →
-    LacksGroup s text start count place → ⊥
-lacks-not s text group more start count place some below long here (without_separator at off) =
+pub lacks-not : (s text group more : List ℕ) (start count : ℕ) → 0 < length s → AreDigits group → length group ≡ count → drop start text ≡ s ++ (plain group ++ more) →
+    LacksGroup s text start count → ⊥
+lacks-not s text group more start count some below long here (without_separator off) =
     let begin : begins s (drop start text) ≡ true = begins-given s (drop start text) some
     ∙ (starts_is Decides-eqb (drop start text) s (starts_with nat_eq (drop start text) s) refl).1 (plain group ++ more) here in
     both_ways _ off begin
-lacks-not s text group more start count place some below long here (without_digit behind found order few inside all other) =
-    let i = place - behind in
+lacks-not s text group more start count some below long here (without_digit behind found (i, inside, other)) =
     let there : drop behind text ≡ plain group ++ more = append_cancel_left s _ _ (sym found.text ∙ here) in
-    let byte : get_or (plain group ++ more) i 0 ≡ get_or text place 0 =
-    ap (λ xs. get_or xs i 0) (sym there) ∙ get_or-drop behind text i 0 ∙ ap (λ k. get_or text k 0) (let e : behind + i ≡ place = omega arith in e) in
+    let byte : get_or (plain group ++ more) i 0 ≡ get_or text (behind + i) 0 = ap (λ xs. get_or xs i 0) (sym there) ∙ get_or-drop behind text i 0 in
     both_ways _ other (ap is_ascii_digit (sym byte) ∙ plain-digit group more i below (omega arith))
-
--- up to where it lacks, digits and a separator are read
-pub lacks-read : (s text : List ℕ) (start count place : ℕ) → 0 < length s → byte_figures s ≡ [] → start ≤ length text → LacksGroup s text start count place →
-    (place ≤ length text) × (unread s 0 (drop start text) ≡ unread s 0 (drop place text))
-lacks-read s text start count place some plain_separator within (without_separator at off) = (omega arith, ap (λ k. unread s 0 (drop k text)) (sym at))
-lacks-read s text start count place some plain_separator within (without_digit behind found order few inside all other) =
-    (omega arith, unread-separator s text start behind some found ∙ unread-between s text behind place plain_separator order all)
 
 -- groups were read up to a place: these digits, and what has to follow
 pub record HasReadSome (bound last size : ℕ) (s text : List ℕ) (start end count n : ℕ) : Type 0 where
@@ -165,7 +156,6 @@ pub record HasReadSome (bound last size : ℕ) (s text : List ℕ) (start end co
   pub figures : count ≡ length left
   pub number : WriteModulo bound left n
   pub spelled : (is_due : ℕ → Bool) → HasGroups is_due size → (right : List ℕ) → BeginsWithSeparator is_due s right (drop end text) → drop start text ≡ separated is_due s (left ++ right)
-  pub rest : unread s 0 (drop start text) ≡ unread s 0 (drop end text)
   pub next : (is_due : ℕ → Bool) → HasOnlyGroups is_due last size → (ds : List ℕ) → AreDigits ds → drop start text ≡ separated is_due s ds → HasNext is_due last size s (drop end text)
 
 -- after the first digits a separator is due, if the bytes from a place on are separated digits
@@ -193,7 +183,6 @@ some-first last size s text start end count n some plain_separator given read or
       figures = omega (arith, here.count, counted);
       number = read.number [] (write-none _ 0 refl);
       spelled = λ is_due groups right begin. here.split ∙ put-first_group is_due s figures right (drop end text) size groups (omega (arith, here.count)) (omega (arith, here.count)) begin;
-      rest = unread-between s text start end plain_separator (omega arith) read.digits;
       next = λ is_due only ds below same.
           let due = due-first is_due s ds text start end some plain_separator below order inside read.digits other same in
           next-group is_due last size s due.right (drop end text) only given due.below due.begin;
@@ -201,15 +190,11 @@ some-first last size s text start end count n some plain_separator given read or
 
 -- more of them than a group has
 pub lacks-first : (last size : ℕ) (s text : List ℕ) (start end : ℕ) → 0 < length s → byte_figures s ≡ [] → 0 < size → start < end → end < length text → are_digits_between text start end ≡ true →
-    size < end - start → is_ascii_digit (get_or text end 0) ≡ false → LacksGroups last size s text start end
-lacks-first last size s text start end some plain_separator given order inside all many other = record {
-  within = omega arith;
-  rest = unread-between s text start end plain_separator (omega arith) all;
-  wrong = λ is_due only ds below same.
-      let due = due-first is_due s ds text start end some plain_separator below order inside all other same in
-      let long : length (take (end - start) (drop start text)) ≡ end - start = length-take-le (end - start) (drop start text) (omega (arith, length-drop start text)) in
-      both_ways _ (due.none size given (omega (arith, long, many))) (only.groups.before (length due.right) due.begin.due);
-}
+    size < end - start → is_ascii_digit (get_or text end 0) ≡ false → LacksGroups last size s text start
+lacks-first last size s text start end some plain_separator given order inside all many other is_due only ds below same =
+    let due = due-first is_due s ds text start end some plain_separator below order inside all other same in
+    let long : length (take (end - start) (drop start text)) ≡ end - start = length-take-le (end - start) (drop start text) (omega (arith, length-drop start text)) in
+    both_ways _ (due.none size given (omega (arith, long, many))) (only.groups.before (length due.right) due.begin.due)
 
 -- a separator and digits after it
 group-split : {bound : ℕ} (s text : List ℕ) (start end count n more : ℕ) → (read : HasReadGroup bound s text start end count n more) → drop start text ≡ s ++ (plain (figures_between text read.behind end) ++ drop end text)
@@ -235,7 +220,6 @@ some-more last size s text start end count n new more some plain_separator given
           before.spelled is_due groups (figures ++ right)
           (subst (BeginsWithSeparator is_due s (figures ++ right)) (sym split) (put-group is_due s figures right (drop new text) size groups given width begin))
           ∙ ap (separated is_due s) (sym (append_assoc before.left figures right));
-      rest = before.rest ∙ unread-separator s text end read.behind some read.separator ∙ unread-between s text read.behind new plain_separator read.read.order read.read.digits;
       next = λ is_due only ds below same.
           elim (before.next is_due only ds below same) [
             | at_last group group_below is_last whole ↦
@@ -249,51 +233,35 @@ some-more last size s text start end count n new more some plain_separator given
     }
 
 -- a group that lacks where one has to follow
-pub lacks-more : {bound : ℕ} (last size : ℕ) (s text : List ℕ) (start end count n place : ℕ) → 0 < length s → byte_figures s ≡ [] → HasReadSome bound last size s text start end count n →
-    LacksGroup s text end size place → last + length s < length text - end → LacksGroups last size s text start place
-lacks-more last size s text start end count n place some plain_separator before lacks long =
-    let read = lacks-read s text end size place some plain_separator before.within lacks in
-    record {
-      within = read.0;
-      rest = before.rest ∙ read.1;
-      wrong = λ is_due only ds below same.
-          elim (before.next is_due only ds below same) [
-            | at_last group group_below is_last whole ↦
-                omega (arith, long, length-drop end text, ap length whole, length-append s (plain group ++ []), length-append (plain group) [], length-plain group, is_last)
-            | at_more group fewer rest group_below fewer_below is_group whole there enough ↦ lacks-not s text group rest end size place some group_below is_group whole lacks
-          ];
-    }
+pub lacks-more : {bound : ℕ} (last size : ℕ) (s text : List ℕ) (start end count n : ℕ) → 0 < length s → HasReadSome bound last size s text start end count n →
+    LacksGroup s text end size → last + length s < length text - end → LacksGroups last size s text start
+lacks-more last size s text start end count n some before lacks long is_due only ds below same =
+    elim (before.next is_due only ds below same) [
+      | at_last group group_below is_last whole ↦
+          omega (arith, long, length-drop end text, ap length whole, length-append s (plain group ++ []), length-append (plain group) [], length-plain group, is_last)
+      | at_more group fewer rest group_below fewer_below is_group whole there enough ↦ lacks-not s text group rest end size some group_below is_group whole lacks
+    ]
 
 -- fewer bytes than a last group, or more, but no other group
 pub lacks-length : {bound : ℕ} (last size : ℕ) (s text : List ℕ) (start end count n : ℕ) → 0 < size → HasReadSome bound last size s text start end count n →
-    length text - end ≤ last + length s → ¬ (length text - end ≡ last + length s) → LacksGroups last size s text start end
-lacks-length last size s text start end count n given before few other = record {
-  within = before.within;
-  rest = before.rest;
-  wrong = λ is_due only ds below same.
-      elim (before.next is_due only ds below same) [
-        | at_last group group_below is_last whole ↦
-            other (omega (arith, length-drop end text, ap length whole, length-append s (plain group ++ []), length-append (plain group) [], length-plain group, is_last))
-        | at_more group fewer rest group_below fewer_below is_group whole there enough ↦
-            omega (arith, few, length-drop end text, ap length whole, length-append s (plain group ++ rest), length-append (plain group) rest, length-plain group, is_group, enough, given)
-      ];
-}
+    length text - end ≤ last + length s → ¬ (length text - end ≡ last + length s) → LacksGroups last size s text start
+lacks-length last size s text start end count n given before few other is_due only ds below same =
+    elim (before.next is_due only ds below same) [
+      | at_last group group_below is_last whole ↦
+          other (omega (arith, length-drop end text, ap length whole, length-append s (plain group ++ []), length-append (plain group) [], length-plain group, is_last))
+      | at_more group fewer rest group_below fewer_below is_group whole there enough ↦
+          omega (arith, few, length-drop end text, ap length whole, length-append s (plain group ++ rest), length-append (plain group) rest, length-plain group, is_group, enough, given)
+    ]
 
 -- a last group that lacks
-pub lacks-last : {bound : ℕ} (last size : ℕ) (s text : List ℕ) (start end count n place : ℕ) → 0 < length s → byte_figures s ≡ [] → 0 < size → HasReadSome bound last size s text start end count n →
-    LacksGroup s text end last place → length text - end ≡ last + length s → LacksGroups last size s text start place
-lacks-last last size s text start end count n place some plain_separator given before lacks long =
-    let read = lacks-read s text end last place some plain_separator before.within lacks in
-    record {
-      within = read.0;
-      rest = before.rest ∙ read.1;
-      wrong = λ is_due only ds below same.
-          elim (before.next is_due only ds below same) [
-            | at_last group group_below is_last whole ↦ lacks-not s text group [] end last place some group_below is_last whole lacks
-            | at_more group fewer rest group_below fewer_below is_group whole there enough ↦
-                omega (arith, long, length-drop end text, ap length whole, length-append s (plain group ++ rest), length-append (plain group) rest, length-plain group, is_group, enough, given)
-          ];
-    }
+pub lacks-last : {bound : ℕ} (last size : ℕ) (s text : List ℕ) (start end count n : ℕ) → 0 < length s → 0 < size → HasReadSome bound last size s text start end count n →
+    LacksGroup s text end last → length text - end ≡ last + length s → LacksGroups last size s text start
+lacks-last last size s text start end count n some given before lacks long is_due only ds below same =
+    elim (before.next is_due only ds below same) [
+      | at_last group group_below is_last whole ↦ lacks-not s text group [] end last some group_below is_last whole lacks
+      | at_more group fewer rest group_below fewer_below is_group whole there enough ↦
+          omega (arith, long, length-drop end text, ap length whole, length-append s (plain group ++ rest), length-append (plain group) rest, length-plain group, is_group, enough, given)
+    ]
 
 -- the last group
 pub groups-read : {bound : ℕ} (last size : ℕ) (s text : List ℕ) (start end count n new more : ℕ) → HasReadSome bound last size s text start end count n →
@@ -320,7 +288,12 @@ groups-read last size s text start end count n new more before read long =
       number = read.read.number before.left before.number;
     }
 
--- what follows of a value, and of an error
-pub map_result : {X E : Type 0} {A B : X → Type 0} {C D : E → Type 0} (r : Result X E) → ((x : X) → A x → B x) → ((e : E) → C e → D e) → MatchResult r A C → MatchResult r B D
-map_result (Ok x) of_value of_error both = of_value x both
-map_result (Err e) of_value of_error both = of_error e both
+-- what follows of nothing, and of a value
+pub map_option : {X : Type 0} {A C : Type 0} {B D : X → Type 0} (r : Option X) → (A → C) → ((x : X) → B x → D x) → MatchOption r A B → MatchOption r C D
+map_option None of_none of_value both = of_none both
+map_option (Some x) of_none of_value both = of_value x both
+
+-- what follows of a value alone
+pub some_option : {X : Type 0} (A : Type 0) {B D : X → Type 0} (r : Option X) → MatchOption r A B → ((x : X) → B x → D x) → IfSome r D
+some_option A None both of_value = tt
+some_option A (Some x) both of_value = of_value x both

@@ -7,14 +7,14 @@ use Rattle.std.specs.List.{list_any}
 use Rattle.std.specs.Str.{chars, encode_utf8_all}
 use Rattle.std.proofs.lemmas.Bool.{cases_Bool}
 use Rattle.std.proofs.lemmas.Bool.Decides.{nat_tests}
-use Rattle.std.proofs.lemmas.Int.Digits.{number_push, number_after_append, number_after_ge}
-use Rattle.std.proofs.lemmas.List.{drop_more, take_more}
+use Rattle.std.proofs.lemmas.Int.Digits.{number_after_append, number_after_ge}
+use Rattle.std.proofs.lemmas.List.{drop_more}
 use Rattle.std.proofs.lemmas.List.Elements.{All-nil, All-cons, All-head, All-tail, filter-append}
 use Rattle.std.proofs.lemmas.Str.{chars-encodes, encode_ascii, inside_one}
 use Rattle.num_format_int.specs.Digits.{digits}
 use Rattle.num_format_parsing.specs.Reading.{figures}
 use Rattle.num_format_int.proofs.DigitLemmas.{digits-more, digits-small}
-use Rattle.num_format_parsing.proofs.ReadingLemmas.{digits_among-append, digits_among-digit, digits_among-other}
+use Rattle.num_format_parsing.proofs.ReadingLemmas.{digits_among-append}
 use Rattle.num_format_parsing.specs.Shapes.{byte_figures, BeginsWithDigit}
 
 -- a digit as a character, and back
@@ -146,23 +146,6 @@ begins-at t i inside digit other =
       small = grind (arith, nat_tests);
       same = drop_more t i 0 inside ∙ ap (λ c. c ∷ drop (i + 1) t) (sym same);
     }
-
--- a zero more
-pub zeros-digit : (t : List ℕ) (i : ℕ) → i < length t → number_from_digits 10 (byte_figures (take i t)) ≡ 0 → is_ascii_digit (get_or t i 0) ≡ true → get_or t i 0 ≡ 48 →
-    number_from_digits 10 (byte_figures (take (i + 1) t)) ≡ 0
-zeros-digit t i inside zeros digit zero_here =
-    ap (λ xs. number_from_digits 10 (byte_figures xs)) (take_more t i 0 inside)
-    ∙ ap (number_from_digits 10) (digits_among-digit (take i t) [] (get_or t i 0) digit)
-    ∙ number_push 10 (byte_figures (take i t)) (get_or t i 0 - 48)
-    ∙ omega (arith, zeros, zero_here)
-
--- a byte more that is no digit
-pub zeros-other : (t : List ℕ) (i : ℕ) → i < length t → number_from_digits 10 (byte_figures (take i t)) ≡ 0 → is_ascii_digit (get_or t i 0) ≡ false →
-    number_from_digits 10 (byte_figures (take (i + 1) t)) ≡ 0
-zeros-other t i inside zeros other =
-    ap (λ xs. number_from_digits 10 (byte_figures xs)) (take_more t i 0 inside)
-    ∙ ap (number_from_digits 10) (digits_among-other (take i t) (get_or t i 0) other)
-    ∙ zeros
 
 -- bytes that begin with a digit other than zero have a first byte, which is that digit
 pub begin-some : (t : List ℕ) → BeginsWithDigit t → 0 < length t

@@ -1,118 +1,32 @@
--- What groupings have in common, and which texts spell no number under them.
-use Rattle.std.proofs.Common.{◌≡◌, ℕ, ◌+◌, ◌-◌, ◌%◌, ◌<◌, ◌⊎◌, inl, inr, true, false, List, [], ◌∷◌, ◌++◌, length, refl, ap, ◌∙◌, sym, arith, take, drop, get_or, length-append, length-drop, length-take-le, subst, lit<, IsUtf8}
+-- Which texts spell no number.
+use Rattle.std.proofs.Common.{◌≡◌, ℕ, ◌%◌, ◌<◌, ◌≤◌, ◌⊎◌, inl, inr, Bool, true, false, List, [], ◌∷◌, ◌++◌, All, length, refl, ap, ◌∙◌, sym, arith, drop, get_or, subst, lit<, ℤ, pos, negsuc, unsigned_abs}
 use Rattle.std.specs.Prelude.{if◌then◌else◌}
 use Rattle.std.specs.Char.{is_ascii_digit}
-use Rattle.std.specs.Int.Digits.{number_from_digits}
 use Rattle.std.proofs.lemmas.Bool.{both_ways}
-use Rattle.std.proofs.lemmas.Bool.Decides.{nat_tests}
-use Rattle.std.proofs.lemmas.List.{get_or-drop, nil_from_length}
 use Rattle.num_format_text.specs.declared.grouping.Grouping.{Grouping}
-use Rattle.num_format_text.specs.declared.grouping.Grouping.TheVariants.{Standard, Indian, Posix, Myriad, Sparse}
+use Rattle.num_format_text.specs.declared.grouping.Grouping.TheVariants.{Posix}
+use Rattle.num_format_text.specs.declared.grouping.Sizes.{Sizes}
+use Rattle.num_format_text.specs.Separators.{GroupsBy, HaveShape}
 use Rattle.num_format_text.specs.Format.{FormatData}
 use Rattle.num_format_int.specs.Digits.{digits}
 use Rattle.num_format_int.specs.Grouped.{stands, separated, grouped, printed_separator}
-use Rattle.num_format_int.proofs.DigitLemmas.{by_digits, digits-small, digits-more}
-use Rattle.num_format_int.proofs.GroupLemmas.{last_group-Standard, groups-Standard, last_group-Indian, groups-Indian, last_group-Myriad, groups-Myriad, last_group-Sparse, groups-Sparse}
-use Rattle.num_format_int.proofs.GroupedLemmas.{grouped-Posix}
-use Rattle.num_format_parsing.specs.Parts.{are_digits_between, HasReadDigits, HasOnlyGroups, LacksGroups, GroupsBy, IsUnexpected, IsUnspelled}
-use Rattle.num_format_parsing.specs.Reading.{denoted, magnitude_of}
-use Rattle.num_format_parsing.specs.Shapes.{byte_figures, BeginsWithDigit, IsPlainStart}
-use Rattle.num_format_parsing.specs.Strict.{SpellsNumber, with_separators, without_separators, ungrouped, begins, sign_len, unread}
-use Rattle.num_format_parsing.proofs.ExpectedLemmas.{due-first, length-separated}
-use Rattle.num_format_parsing.proofs.FigureLemmas.{begin-digit, figures-below, figures-bytes, writes}
-use Rattle.num_format_parsing.proofs.GroupsLemmas.{figures-behind, many-digits}
-use Rattle.num_format_parsing.proofs.PartLemmas.{unread-between}
-use Rattle.num_format_parsing.proofs.SpellingLemmas.{spells-more, spells-zero}
-use Rattle.num_format_parsing.proofs.UnreadLemmas.{behind-sign, unread-stop}
+use Rattle.num_format_int.specs.Text.{text_of}
+use Rattle.num_format_int.proofs.DigitLemmas.{by_digits, digits-below_ten, digits-small, digits-more}
+use Rattle.num_format_int.proofs.GroupedLemmas.{grouped-empty, grouped-few, grouped-Posix, grouped-printed}
+use Rattle.num_format_parsing.specs.Parts.{are_digits_between, HasReadDigits, SpellsNone}
+use Rattle.num_format_parsing.specs.Shapes.{byte_figures, BeginsWithDigit, HasSign}
+use Rattle.num_format_parsing.specs.Strict.{SpellsNumber, with_separators, without_separators, ungrouped}
+use Rattle.num_format_parsing.proofs.ExpectedLemmas.{due-first}
+use Rattle.num_format_parsing.proofs.FigureLemmas.{begin-digit}
+use Rattle.num_format_parsing.proofs.GroupsLemmas.{byte-at}
+use Rattle.num_format_parsing.proofs.ReadingLemmas.{digits_among-separated}
+use Rattle.num_format_parsing.proofs.SpellingLemmas.{body-told, text-zero}
 
-only-Standard : (d : ℕ) → HasOnlyGroups (stands Standard d) 3 3
-only-Standard d = record {
-  groups = groups-Standard d;
-  none = (last_group-Standard d).within;
-  step = λ right due.
-      let either : (right ≡ 3) ⊎ (3 < right) = grind (arith, nat_tests, due) in
-      elim either [ inl last ↦ inl last | inr more ↦ inr (right - 3, omega arith, grind (arith, nat_tests, due, more)) ];
-}
-
-only-Indian : (d : ℕ) → HasOnlyGroups (stands Indian d) 3 2
-only-Indian d = record {
-  groups = groups-Indian d;
-  none = (last_group-Indian d).within;
-  step = λ right due.
-      let either : (right ≡ 3) ⊎ (4 < right) = grind (arith, nat_tests, due) in
-      elim either [ inl last ↦ inl last | inr more ↦ inr (right - 2, omega arith, grind (arith, nat_tests, due, more)) ];
-}
-
-only-Myriad : (d : ℕ) → HasOnlyGroups (stands Myriad d) 4 4
-only-Myriad d = record {
-  groups = groups-Myriad d;
-  none = (last_group-Myriad d).within;
-  step = λ right due.
-      let either : (right ≡ 4) ⊎ (4 < right) = grind (arith, nat_tests, due) in
-      elim either [ inl last ↦ inl last | inr more ↦ inr (right - 4, omega arith, grind (arith, nat_tests, due, more)) ];
-}
-
-only-Sparse : (d : ℕ) → HasOnlyGroups (stands Sparse d) 3 3
-only-Sparse d = record {
-  groups = record {
-    before = λ right due. grind (arith, nat_tests, due);
-    within = λ right k due some below. grind (arith, nat_tests, due);
-  };
-  none = λ right few. grind (arith, nat_tests);
-  step = λ right due.
-      let either : (right ≡ 3) ⊎ (3 < right) = grind (arith, nat_tests, due) in
-      elim either [ inl last ↦ inl last | inr more ↦ inr (right - 3, omega arith, grind (arith, nat_tests, due, more)) ];
-}
-
-pub by-Standard : GroupsBy Standard 3 3 4
-by-Standard = record {
-  some = lit< tt;
-  order = omega arith;
-  few = lit< tt;
-  long = lit< tt;
-  prints = λ s. refl;
-  only = only-Standard;
-  many = λ d right inside due. grind (arith, nat_tests, due);
-  found = λ s body found long. (last_group-Standard (length found.ds), groups-Standard (length found.ds));
-}
-
-pub by-Indian : GroupsBy Indian 3 2 4
-by-Indian = record {
-  some = lit< tt;
-  order = omega arith;
-  few = lit< tt;
-  long = lit< tt;
-  prints = λ s. refl;
-  only = only-Indian;
-  many = λ d right inside due. grind (arith, nat_tests, due);
-  found = λ s body found long. (last_group-Indian (length found.ds), groups-Indian (length found.ds));
-}
-
-pub by-Myriad : GroupsBy Myriad 4 4 5
-by-Myriad = record {
-  some = lit< tt;
-  order = omega arith;
-  few = lit< tt;
-  long = lit< tt;
-  prints = λ s. refl;
-  only = only-Myriad;
-  many = λ d right inside due. grind (arith, nat_tests, due);
-  found = λ s body found long. (last_group-Myriad (length found.ds), groups-Myriad (length found.ds));
-}
-
-pub by-Sparse : GroupsBy Sparse 3 3 5
-by-Sparse = record {
-  some = lit< tt;
-  order = omega arith;
-  few = lit< tt;
-  long = lit< tt;
-  prints = λ s. refl;
-  only = only-Sparse;
-  many = λ d right inside due. grind (arith, nat_tests, due);
-  found = λ s body found long.
-      let many = many-digits s body found (omega (arith, long)) in
-      (last_group-Sparse (length found.ds) many, groups-Sparse (length found.ds) many);
-}
+-- a group has few digits, and the last one not fewer
+pub shape-bounds : (sizes : Sizes) → HaveShape sizes → (0 < sizes.size) × (sizes.size ≤ sizes.last) × (sizes.last ≤ 4)
+shape-bounds sizes (inl (last, size)) = (omega (arith, size), omega (arith, last, size), omega (arith, last))
+shape-bounds sizes (inr (inl (last, size))) = (omega (arith, size), omega (arith, last, size), omega (arith, last))
+shape-bounds sizes (inr (inr (last, size))) = (omega (arith, size), omega (arith, last, size), omega (arith, last))
 
 -- the first digit of a number that is not zero
 record HasFirst (ds : List ℕ) : Type 0 where
@@ -141,47 +55,36 @@ begins-digits g s n some =
     }
 
 -- a text that does not begin with a digit other than zero spells no number, unless it is one zero
-pub unspelled-zero : (f : FormatData) (t : List ℕ) (start : ℕ) → IsPlainStart f t start → ¬ (BeginsWithDigit (drop start t)) → ¬ (t ≡ 48 ∷ []) → IsUnspelled f t start
-unspelled-zero f t start sign other more = record {
-  within = sign.within;
-  rest = ap (λ k. unread (printed_separator f.grouping f.separator) 0 (drop k t)) (sym sign.sign);
-  wrong = λ utf8 spells.
-      let m = magnitude_of t in
-      let either : (m ≡ 0) ⊎ (0 < m) = grind arith in
-      elim either [
-        | inl none ↦ more ((spells-zero f t utf8 (ap (number_from_digits 10) (sym (figures-bytes t utf8)) ∙ none)).1 spells)
-        | inr some ↦
-            elim spells [
-              | with_separators same ↦
-                  other (subst BeginsWithDigit (sym (behind-sign f f t refl same some) ∙ ap (λ k. drop k t) (sym sign.sign)) (begins-digits f.grouping f.separator m some))
-              | without_separators same ↦
-                  other (subst BeginsWithDigit (sym (behind-sign f (ungrouped f) t refl same some) ∙ ap (λ k. drop k t) (sym sign.sign)) (begins-digits Posix f.separator m some))
-            ]
-      ];
-}
+pub unspelled-zero : (f : FormatData) (t : List ℕ) (negative : Bool) (start : ℕ) → HasSign f t negative start → ¬ (BeginsWithDigit (drop start t)) → ¬ (t ≡ 48 ∷ []) → SpellsNone f t
+unspelled-zero f t negative start sign other more z spells =
+    let told = body-told f t negative start z sign spells in
+    let either : (unsigned_abs z ≡ 0) ⊎ (0 < unsigned_abs z) = grind arith in
+    elim either [
+      | inl none ↦ more (zero_text z none spells)
+      | inr some ↦ other (subst BeginsWithDigit (sym told.body) (begins-digits told.grouping f.separator (unsigned_abs z) some))
+    ]
+  where
+    zero_text : (z : ℤ) → unsigned_abs z ≡ 0 → SpellsNumber f t z → t ≡ 48 ∷ []
+    zero_text (pos n) none (with_separators same) = same ∙ ap (λ m. text_of f (pos m)) none ∙ text-zero f
+    zero_text (pos n) none (without_separators same) = same ∙ ap (λ m. text_of (ungrouped f) (pos m)) none ∙ text-zero (ungrouped f)
+    zero_text (negsuc n) none spells = absurd (omega (arith, none))
 
 -- first digits, and then another byte
-pub record HasFirstDigits (f : FormatData) (t : List ℕ) (start end : ℕ) : Type 0 where
-  pub sign : IsPlainStart f t start
-  pub begin : BeginsWithDigit (drop start t)
+pub record HasFirstDigits (t : List ℕ) (start end : ℕ) : Type 0 where
   pub order : start < end
   pub inside : end < length t
   pub digits : are_digits_between t start end ≡ true
   pub other : is_ascii_digit (get_or t end 0) ≡ false
 
-pub first-digits : {bound : ℕ} (f : FormatData) (t : List ℕ) (start end n more : ℕ) → IsPlainStart f t start → BeginsWithDigit (drop start t) → HasReadDigits bound t start end n more →
-    (end < length t → is_ascii_digit (get_or t end 0) ≡ false) → ¬ (end ≡ length t) → HasFirstDigits f t start end
-first-digits f t start end n more sign begin read stop early =
-    let inside : end < length t = omega (arith, read.within, early) in
-    let other = stop inside in
+pub first-digits : {bound : ℕ} (t : List ℕ) (start end n more : ℕ) → BeginsWithDigit (drop start t) → HasReadDigits bound t start end n more →
+    end < length t → is_ascii_digit (get_or t end 0) ≡ false → HasFirstDigits t start end
+first-digits t start end n more begin read inside other =
     let either : (start < end) ⊎ (end ≡ start) = let order = read.order in grind (arith, order) in
     record {
-      sign = sign;
-      begin = begin;
       order = elim either [
         | inl order ↦ order
         | inr none ↦ absurd (both_ways _ (ap (λ i. is_ascii_digit (get_or t i 0)) (sym none) ∙ other)
-            (ap is_ascii_digit (sym (get_or-drop start t 0 0 ∙ ap (λ i. get_or t i 0) (let e : start + 0 ≡ start = omega arith in e))) ∙ begin-digit (drop start t) begin))
+            (ap is_ascii_digit (byte-at t start) ∙ begin-digit (drop start t) begin))
       ];
       inside = inside;
       digits = read.digits;
@@ -189,90 +92,35 @@ first-digits f t start end n more sign begin read stop early =
     }
 
 -- such a text is not all digits
-not_plain : (f : FormatData) (t : List ℕ) (start end : ℕ) (s : List ℕ) → HasFirstDigits f t start end → ¬ (drop start t ≡ grouped Posix s (byte_figures (drop start t)))
-not_plain f t start end s first same =
-    let ds = byte_figures (drop start t) in
-    let due = due-first (stands Posix (length ds)) (0 ∷ []) ds t start end (lit< tt) refl (figures-below (drop start t)) first.order first.inside first.digits first.other
+not_plain : (t : List ℕ) (start end : ℕ) (s ds : List ℕ) → HasFirstDigits t start end → All (λ d. d < 10) ds → ¬ (drop start t ≡ grouped Posix s ds)
+not_plain t start end s ds first below same =
+    let due = due-first (stands Posix (length ds)) (0 ∷ []) ds t start end (lit< tt) refl below first.order first.inside first.digits first.other
     (same ∙ grouped-Posix s ds ∙ sym (grouped-Posix (0 ∷ []) ds)) in
     (let wrong : false ≡ true = due.begin.due in cc)
 
--- and spells no number, if it is not in the groups of the format
-unspelled-groups : (f : FormatData) (t : List ℕ) (start end : ℕ) → HasFirstDigits f t start end → ¬ (drop start t ≡ grouped f.grouping f.separator (byte_figures (drop start t))) →
-    IsUtf8 t → ¬ (SpellsNumber f t (denoted f t))
-unspelled-groups f t start end first lacks utf8 spells =
-    let body = drop start t in
-    let ds = byte_figures body in
-    let same : drop start t ≡ drop (sign_len f t) t = ap (λ k. drop k t) first.sign.sign in
-    elim ((spells-more f t ds utf8 (figures-behind f t start first.sign.plain) (writes body first.begin)).1 spells) [
-      | inl with ↦ lacks (same ∙ with)
-      | inr without ↦ not_plain f t start end f.separator first (same ∙ without)
+-- and spells no number, if no digits in the groups of the format are what stands there
+pub unspelled-groups : (f : FormatData) (t : List ℕ) (negative : Bool) (start end : ℕ) → HasSign f t negative start → HasFirstDigits t start end →
+    ((ds : List ℕ) → All (λ d. d < 10) ds → ¬ (drop start t ≡ grouped f.grouping f.separator ds)) → SpellsNone f t
+unspelled-groups f t negative start end sign first lacks z spells =
+    let told = body-told f t negative start z sign spells in
+    let ds = digits (unsigned_abs z) in
+    elim told.either [
+      | inl same ↦ lacks ds (digits-below_ten (unsigned_abs z)) (rw same at told.body)
+      | inr none ↦ not_plain t start end f.separator ds first (digits-below_ten (unsigned_abs z)) (rw none at told.body)
     ]
 
-printed-plain : (g : Grouping) (s : List ℕ) → byte_figures s ≡ [] → byte_figures (printed_separator g s) ≡ []
-printed-plain Standard s none = none
-printed-plain Indian s none = none
-printed-plain Posix s none = refl
-printed-plain Myriad s none = none
-printed-plain Sparse s none = none
+-- as under Posix
+pub lacks-Posix : (t : List ℕ) (start end : ℕ) (g : Grouping) (s ds : List ℕ) → g ≡ Posix → HasFirstDigits t start end → All (λ d. d < 10) ds → ¬ (drop start t ≡ grouped g s ds)
+lacks-Posix t start end g s ds none first below same = not_plain t start end s ds first below (rw none at same)
 
--- the byte after the first digits is unexpected, if no separator begins there
-unexpected-digits : (f : FormatData) (t : List ℕ) (start end : ℕ) → byte_figures (printed_separator f.grouping f.separator) ≡ [] → begins (printed_separator f.grouping f.separator) (drop end t) ≡ false →
-    HasFirstDigits f t start end → IsUnexpected f t end
-unexpected-digits f t start end none off first =
-    let s = printed_separator f.grouping f.separator in
-    record {
-      inside = first.inside;
-      rest = ap (λ k. unread s 0 (drop k t)) (sym first.sign.sign) ∙ unread-between s t start end none (omega (arith, first.order)) first.digits ∙ unread-stop s t end first.inside off first.other;
-    }
+-- with an empty separator
+pub lacks-empty : (t : List ℕ) (start end : ℕ) (g : Grouping) (s ds : List ℕ) → length (printed_separator g s) ≡ 0 → HasFirstDigits t start end → All (λ d. d < 10) ds → ¬ (drop start t ≡ grouped g s ds)
+lacks-empty t start end g s ds none first below same =
+    not_plain t start end s ds first below (same ∙ grouped-printed g s ds ∙ grouped-empty g (printed_separator g s) ds none ∙ sym (grouped-Posix s ds))
 
-unexpected-nil : (f : FormatData) (t : List ℕ) (start end : ℕ) → printed_separator f.grouping f.separator ≡ [] → HasFirstDigits f t start end → IsUnexpected f t end
-unexpected-nil f t start end none first = unexpected-digits f t start end (ap byte_figures none) (ap (λ s. begins s (drop end t)) none) first
-
--- under Posix there is none
-pub unexpected-Posix : (f : FormatData) (t : List ℕ) (start end : ℕ) → f.grouping ≡ Posix → HasFirstDigits f t start end → IsUnexpected f t end
-unexpected-Posix f t start end none first = unexpected-nil f t start end (rw none refl) first
-
-printed-nil : (g : Grouping) → printed_separator g [] ≡ []
-printed-nil Standard = refl
-printed-nil Indian = refl
-printed-nil Posix = refl
-printed-nil Myriad = refl
-printed-nil Sparse = refl
-
--- nor does an empty one begin anywhere
-pub unexpected-empty : (f : FormatData) (t : List ℕ) (start end : ℕ) → length f.separator ≡ 0 → HasFirstDigits f t start end → IsUnexpected f t end
-unexpected-empty f t start end none first = unexpected-nil f t start end (ap (printed_separator f.grouping) (nil_from_length f.separator none) ∙ printed-nil f.grouping) first
-
--- another begins there or not
-pub unexpected-other : (f : FormatData) (t : List ℕ) (start end last size least : ℕ) → GroupsBy f.grouping last size least → byte_figures f.separator ≡ [] → begins f.separator (drop end t) ≡ false →
-    HasFirstDigits f t start end → IsUnexpected f t end
-unexpected-other f t start end last size least by none off first =
-    let prints = by.prints f.separator in
-    unexpected-digits f t start end (ap byte_figures prints ∙ none) (ap (λ s. begins s (drop end t)) prints ∙ off) first
-
--- a text that is shorter than any number with a separator
-pub unspelled-short : (f : FormatData) (t : List ℕ) (start end last size least : ℕ) → GroupsBy f.grouping last size least → 0 < length f.separator → byte_figures f.separator ≡ [] →
-    HasFirstDigits f t start end → length t - start < least + length f.separator → IsUnspelled f t end
-unspelled-short f t start end last size least by some none first few = record {
-  within = omega (arith, first.inside);
-  rest =
-      ap (λ k. unread (printed_separator f.grouping f.separator) 0 (drop k t)) (sym first.sign.sign)
-      ∙ unread-between (printed_separator f.grouping f.separator) t start end (printed-plain f.grouping f.separator none) (omega (arith, first.order)) first.digits;
-  wrong = unspelled-groups f t start end first (λ same.
-      let s = f.separator in
-      let body = drop start t in
-      let ds = byte_figures body in
-      let due = due-first (stands f.grouping (length ds)) s ds t start end some none (figures-below body) first.order first.inside first.digits first.other same in
-      let long : length (take (end - start) body) ≡ end - start = length-take-le (end - start) body (omega (arith, first.inside, first.order, length-drop start t)) in
-      let enough = by.many (length ds) (length due.right) (omega (arith, due.count, long, first.order)) due.begin.due in
-      omega (arith, few, enough, due.count, long, first.order, first.inside, length-drop end t, ap length due.begin.same, length-append s (separated (stands f.grouping (length ds)) s due.right), length-separated (stands f.grouping (length ds)) s due.right));
-}
-
--- a text whose groups are not those of the format
-pub unspelled-lacks : (f : FormatData) (t : List ℕ) (start end last size least place : ℕ) → GroupsBy f.grouping last size least → HasFirstDigits f t start end →
-    LacksGroups last size f.separator t start place → IsUnspelled f t place
-unspelled-lacks f t start end last size least place by first lacks = record {
-  within = lacks.within;
-  rest = rw (by.prints f.separator) (ap (λ k. unread f.separator 0 (drop k t)) (sym first.sign.sign) ∙ lacks.rest);
-  wrong = unspelled-groups f t start end first (lacks.wrong (stands f.grouping (length (byte_figures (drop start t)))) (by.only (length (byte_figures (drop start t)))) (byte_figures (drop start t)) (figures-below (drop start t)));
-}
+-- where there are digits in groups, but too few for a separator
+pub lacks-few : (t s : List ℕ) (start end : ℕ) (g : Grouping) (sizes : Sizes) → GroupsBy g sizes → byte_figures s ≡ [] →
+    HasFirstDigits t start end → length (byte_figures (drop start t)) < sizes.least → (ds : List ℕ) → All (λ d. d < 10) ds → ¬ (drop start t ≡ grouped g s ds)
+lacks-few t s start end g sizes by none first few ds below same =
+    let figures : byte_figures (drop start t) ≡ ds = ap byte_figures same ∙ digits_among-separated (stands g (length ds)) s ds none below in
+    not_plain t start end s ds first below (same ∙ grouped-few g sizes by s ds (omega (arith, few, ap length figures)) ∙ sym (grouped-Posix s ds))

@@ -1,26 +1,20 @@
 -- Digits and groups that are read from the left.
-use Rattle.std.proofs.Common.{◌≡◌, ℕ, ◌+◌, ◌-◌, ◌*◌, ◌%◌, ◌<◌, ◌≤◌, inl, inr, true, false, List, [], ◌∷◌, ◌++◌, length, refl, ap, ◌∙◌, sym, arith, take, drop, get_or, length-drop, length-take-le, append_assoc, append-nil, subst}
-use Rattle.std.specs.Prelude.{nat_eq}
+use Rattle.std.proofs.Common.{◌≡◌, ℕ, ◌+◌, ◌-◌, ◌*◌, ◌%◌, ◌<◌, ◌≤◌, true, List, [], ◌∷◌, ◌++◌, length, refl, ap, ◌∙◌, sym, arith, take, drop, get_or, length-drop, length-take-le, append_assoc, append-nil, subst}
 use Rattle.std.specs.Char.{is_ascii_digit}
 use Rattle.std.specs.Int.Digits.{number_from_digits}
-use Rattle.std.specs.List.{list_all, starts_with}
+use Rattle.std.specs.List.{list_all}
 use Rattle.std.proofs.Math.Nat.{mod-add-mod, zero-mod}
-use Rattle.std.proofs.lemmas.Bool.{cases_Bool, both_ways, and_parts}
-use Rattle.std.proofs.lemmas.Bool.Decides.{Decides-eqb}
 use Rattle.std.proofs.lemmas.Int.Digits.{number_push}
-use Rattle.std.proofs.lemmas.List.{drop_at, get_or-drop, take_more}
+use Rattle.std.proofs.lemmas.List.{get_or-drop, take_more}
 use Rattle.std.proofs.lemmas.List.Folds.{list_all-append}
 use Rattle.std.proofs.lemmas.Nat.{mul-mod_first}
-use Rattle.std.proofs.lemmas.Slice.Eq.{starts_is}
 use Rattle.num_format_int.specs.Groups.{plain}
 use Rattle.num_format_int.proofs.DigitLemmas.{AreDigits}
 use Rattle.num_format_parsing.specs.Parts.{are_digits_between, figures_between, WriteModulo, HasReadDigits}
-use Rattle.num_format_parsing.specs.Shapes.{byte_figures, EndsSeparator}
-use Rattle.num_format_parsing.specs.Strict.{begins, unread}
-use Rattle.num_format_parsing.proofs.FigureLemmas.{figures-below, figures-digit}
+use Rattle.num_format_parsing.specs.Shapes.{byte_figures}
+use Rattle.num_format_parsing.proofs.FigureLemmas.{figures-below}
 use Rattle.num_format_parsing.proofs.GroupsLemmas.{plain-all, slice-split, long-plain}
 use Rattle.num_format_parsing.proofs.ReadingLemmas.{digits_among-digit}
-use Rattle.num_format_parsing.proofs.UnreadLemmas.{begins-given, begins-off, unread-begins, unread-digit}
 
 -- the bytes between two places, and one more
 between-more : (text : List ℕ) (start end : ℕ) → start ≤ end → end < length text →
@@ -96,37 +90,6 @@ digits-split text start end order within all =
       count = sym (long-plain part digits) ∙ length-take-le (end - start) (drop start text) (omega (arith, length-drop start text));
       split = slice-split text start end order ∙ ap (λ xs. xs ++ drop end text) digits;
     }
-
--- the first byte of a separator without digits
-pub plain-first : (c : ℕ) (s : List ℕ) → byte_figures (c ∷ s) ≡ [] → is_ascii_digit c ≡ false
-plain-first c s none =
-    elim (cases_Bool (is_ascii_digit c)) [
-      | inl digit ↦ (let wrong = sym (figures-digit c s digit) ∙ none in cc)
-      | inr other ↦ other
-    ]
-
--- no such separator begins at a digit
-begins-at_digit : (s t : List ℕ) (b : ℕ) → byte_figures s ≡ [] → is_ascii_digit b ≡ true → begins s (b ∷ t) ≡ false
-begins-at_digit [] t b none digit = refl
-begins-at_digit (c ∷ s) t b none digit = begins-off (c ∷ s) (b ∷ t) (λ same. both_ways _ (plain-first c s none) (ap is_ascii_digit (sym same) ∙ digit))
-
--- digits are read
-pub unread-digits : (s xs t : List ℕ) → byte_figures s ≡ [] → list_all is_ascii_digit xs ≡ true → unread s 0 (xs ++ t) ≡ unread s 0 t
-unread-digits s [] t none all = refl
-unread-digits s (b ∷ xs) t none all =
-    let both = and_parts (is_ascii_digit b) (list_all is_ascii_digit xs) all in
-    unread-digit s (xs ++ t) b (begins-at_digit s (xs ++ t) b none both.0) both.0 ∙ unread-digits s xs t none both.1
-
-pub unread-between : (s text : List ℕ) (start end : ℕ) → byte_figures s ≡ [] → start ≤ end → are_digits_between text start end ≡ true →
-    unread s 0 (drop start text) ≡ unread s 0 (drop end text)
-unread-between s text start end none order all =
-    ap (unread s 0) (slice-split text start end order) ∙ unread-digits s (take (end - start) (drop start text)) (drop end text) none all
-
--- and a separator
-pub unread-separator : (s text : List ℕ) (start behind : ℕ) → 0 < length s → EndsSeparator s text start behind → unread s 0 (drop start text) ≡ unread s 0 (drop behind text)
-unread-separator s text start behind some found =
-    let begin : begins s (drop start text) ≡ true = begins-given s (drop start text) some ∙ (starts_is Decides-eqb (drop start text) s (starts_with nat_eq (drop start text) s) refl).1 (drop behind text) found.text in
-    unread-begins s (drop start text) begin ∙ ap (unread s 0) (ap (drop (length s)) found.text ∙ drop_at s (drop behind text) (length s) refl)
 
 -- one digit more
 pub read-one : (bound : ℕ) (text : List ℕ) (place n first more : ℕ) → place + 1 ≤ length text →

@@ -1,9 +1,10 @@
 -- Laws of parsing and of its errors.
-use Rattle.std.specs.Prelude.{◌≡◌, ◌↔◌, ℕ, ◌^◌, ◌<◌, List}
+use Rattle.std.specs.Prelude.{◌≡◌, ◌↔◌, IsTrue, ℕ, ◌^◌, ◌<◌, List}
 use Rattle.std.specs.Hash.{HashWrites}
 use Rattle.num_format_text.specs.Equality.{HashLaw}
 use Rattle.num_format_text.specs.Format.{FormatData}
-use Rattle.num_format_int.specs.Kind.{Kind}
+use Rattle.num_format_int.specs.Kind.{I128, Kind, kind_of}
+use Rattle.num_format_parsing.specs.Readable.{is_readable}
 use Rattle.num_format_parsing.specs.Reading.{denoted, Refused}
 use Rattle.num_format_parsing.specs.declared.strict.StrictError.{StrictError}
 use Rattle.num_format_parsing.specs.declared.strict.StrictError.TheVariants.{Unexpected}
@@ -12,6 +13,10 @@ use Rattle.num_format_parsing.specs.declared.strict.StrictError.TheVariants.{Une
 pub record MinusSignLaw : Type 0 where
   pub number : (f g : FormatData) (text : List ℕ) → f.minus_sign ≡ g.minus_sign → denoted f text ≡ denoted g text
   pub refused : (k : Kind) (f g : FormatData) (text : List ℕ) → f.minus_sign ≡ g.minus_sign → Refused k f text ↔ Refused k g text
+
+-- a text is readable exactly if it is not refused as an i128
+abbrev pub ReadableLaw : Type 0
+ReadableLaw = (format : FormatData) (text : List ℕ) → IsTrue (is_readable format text) ↔ ¬ (Refused (kind_of I128) format text)
 
 -- the place in an error is a `usize`
 abbrev pub HasUsize : StrictError → Type 0

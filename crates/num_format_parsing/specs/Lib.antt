@@ -2,6 +2,7 @@ pub mod BytesError
 pub mod Figures
 pub mod Laws
 pub mod Parts
+pub mod Readable
 pub mod Reading
 pub mod Shapes
 pub mod Strict

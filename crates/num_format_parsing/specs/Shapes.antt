@@ -1,9 +1,11 @@
 -- What the steps of strict parsing find in the bytes of a text.
-use Rattle.std.specs.Prelude.{◌≡◌, ℕ, ◌+◌, ◌-◌, ◌<◌, ◌≤◌, List, [], ◌∷◌, ◌++◌, All, length, take, drop, map, filter, IsUtf8}
+use Rattle.std.specs.Prelude.{◌≡◌, ℕ, ◌+◌, ◌-◌, ◌<◌, ◌≤◌, Bool, List, [], ◌∷◌, ◌++◌, All, length, drop, map, filter, IsUtf8}
 use Rattle.std.specs.Char.{is_ascii_digit}
 use Rattle.num_format_text.specs.Format.{FormatData}
 use Rattle.num_format_int.specs.Groups.{IsGrouped}
-use Rattle.num_format_parsing.specs.Strict.{sign_len}
+use Rattle.num_format_int.specs.Grouped.{printed_separator}
+use Rattle.num_format_parsing.specs.Reading.{is_negative_text}
+use Rattle.num_format_parsing.specs.Strict.{IsUnambiguous, sign_len}
 
 -- the digits among bytes: the figures of a text in UTF-8, without its characters; 48 is the character 0
 abbrev pub byte_figures : List ℕ → List ℕ
@@ -28,9 +30,18 @@ pub record IsInGroups (last size : ℕ) (s body : List ℕ) : Type 0 where
   pub below : All (λ d. d < 10) ds
   pub text : IsGrouped last size s ds body
 
--- the minus sign at the start of a text has that length, and no digit
-pub record IsPlainStart (f : FormatData) (t : List ℕ) (start : ℕ) : Type 0 where
-  pub utf8 : IsUtf8 (take start t)
+-- the symbols of a format that is not ambiguous, as bytes
+pub record HasPlainSymbols (f : FormatData) : Type 0 where
+  pub unambiguous : IsUnambiguous f
+  pub sign_utf8 : IsUtf8 f.minus_sign
+  pub sign_some : 0 < length f.minus_sign
+  pub sign : byte_figures f.minus_sign ≡ []
+  pub separator_utf8 : IsUtf8 (printed_separator f.grouping f.separator)
+  pub separator : byte_figures (printed_separator f.grouping f.separator) ≡ []
+
+-- under such a format a text is negative or not, and the minus sign at its start has that length
+pub record HasSign (f : FormatData) (t : List ℕ) (negative : Bool) (start : ℕ) : Type 0 where
+  pub symbols : HasPlainSymbols f
+  pub tested : negative ≡ is_negative_text f t
+  pub long : start ≡ sign_len f t
   pub within : start ≤ length t
-  pub sign : start ≡ sign_len f t
-  pub plain : byte_figures (take start t) ≡ []

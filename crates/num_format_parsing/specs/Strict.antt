@@ -1,15 +1,27 @@
 -- What strict parsing returns, and when it refuses a text for which cause.
-use Rattle.std.specs.Prelude.{◌≡◌, ℕ, zero, suc, ◌-◌, ◌<◌, ℤ, nat_eq, Bool, false, List, [], ◌∷◌, length, drop, if◌then◌else◌, IsUtf8, codes}
+use Rattle.std.specs.Prelude.{◌≡◌, ◌↔◌, ℕ, zero, suc, ◌-◌, ◌<◌, ℤ, nat_eq, Bool, false, List, [], ◌∷◌, length, drop, if◌then◌else◌, Result, Err, IsOk, IfOk, IsUtf8, codes}
 use Rattle.std.specs.Char.{is_ascii_digit}
-use Rattle.std.specs.List.{starts_with}
+use Rattle.std.specs.List.{list_any, starts_with}
+use Rattle.std.specs.Str.{chars}
 use Rattle.num_format_text.specs.declared.grouping.Grouping.TheVariants.{Posix}
 use Rattle.num_format_text.specs.Format.{FormatData}
 use Rattle.num_format_int.specs.Grouped.{printed_separator}
-use Rattle.num_format_int.specs.Kind.{Kind}
+use Rattle.num_format_int.specs.Kind.{Kind, IsValueOf}
 use Rattle.num_format_int.specs.Text.{text_of}
-use Rattle.num_format_parsing.specs.Reading.{denoted, figures, is_negative_text, Refused}
+use Rattle.num_format_parsing.specs.Reading.{figures, is_negative_text, is_other_numeral}
 use Rattle.num_format_parsing.specs.declared.strict.StrictError.{StrictError}
-use Rattle.num_format_parsing.specs.declared.strict.StrictError.TheVariants.{NotUtf8, Unexpected, NoDigit, Misspelled, OutOfRange}
+use Rattle.num_format_parsing.specs.declared.strict.StrictError.TheVariants.{AmbiguousFormat, NotUtf8, Unexpected, NoDigit, Misspelled, OutOfRange}
+
+-- a text without digits and other numeric characters
+pub record HasNoNumeral (text : List ℕ) : Type 0 where
+  pub no_digit : figures text ≡ []
+  pub no_other : list_any is_other_numeral (chars text) ≡ false
+
+-- the minus sign is not empty, and neither it nor a printed separator has a digit or another numeric character
+pub record IsUnambiguous (f : FormatData) : Type 0 where
+  pub sign_given : ¬ (f.minus_sign ≡ [])
+  pub sign : HasNoNumeral f.minus_sign
+  pub separator : HasNoNumeral (printed_separator f.grouping f.separator)
 
 -- the format without grouping
 abbrev pub ungrouped : FormatData → FormatData
@@ -58,35 +70,37 @@ pub record LacksDigit (f : FormatData) (t : List ℕ) : Type 0 where
   pub expected : IsExpected f t
   pub none : figures t ≡ []
 
--- no byte is unexpected, there is a digit, and the text does not spell the number that it denotes
+-- no byte is unexpected, there is a digit, and the text spells no number
 pub record IsMisspelled (f : FormatData) (t : List ℕ) : Type 0 where
   pub expected : IsExpected f t
   pub some : ¬ (figures t ≡ [])
-  pub wrong : ¬ (SpellsNumber f t (denoted f t))
+  pub wrong : (z : ℤ) → ¬ (SpellsNumber f t z)
 
--- the text spells the number that it denotes, and lenient parsing refuses it
+-- the text spells a number that is no value of the kind
 pub record IsOutOfRange (k : Kind) (f : FormatData) (t : List ℕ) : Type 0 where
-  pub utf8 : IsUtf8 t
-  pub spelled : SpellsNumber f t (denoted f t)
-  pub refused : Refused k f t
-
--- a text spells z, and lenient parsing returns z
-pub record ParsesStrictly (k : Kind) (f : FormatData) (t : List ℕ) (z : ℤ) : Type 0 where
-  pub utf8 : IsUtf8 t
-  pub spelled : SpellsNumber f t z
-  pub number : z ≡ denoted f t
-  pub accepted : ¬ (Refused k f t)
+  pub number : ℤ
+  pub spelled : SpellsNumber f t number
+  pub wrong : ¬ (IsValueOf k number)
 
 -- when a text is refused for a cause
 abbrev pub IsCause : Kind → FormatData → List ℕ → StrictError → Type 0
-IsCause k f t NotUtf8 = ¬ (IsUtf8 t)
-IsCause k f t (Unexpected at) = StopsAt f t at
-IsCause k f t NoDigit = LacksDigit f t
-IsCause k f t Misspelled = IsMisspelled f t
-IsCause k f t OutOfRange = IsOutOfRange k f t
+IsCause k f t AmbiguousFormat = ¬ (IsUnambiguous f)
+IsCause k f t NotUtf8 = IsUnambiguous f × ¬ (IsUtf8 t)
+IsCause k f t (Unexpected at) = IsUnambiguous f × StopsAt f t at
+IsCause k f t NoDigit = IsUnambiguous f × LacksDigit f t
+IsCause k f t Misspelled = IsUnambiguous f × IsMisspelled f t
+IsCause k f t OutOfRange = IsUnambiguous f × IsOutOfRange k f t
+
+-- what strict parsing returns of a text as a number of a kind: the one number that the text spells, if the format is not ambiguous and the number is
+-- a value of the kind, and else an error exactly if it is the cause
+pub record ParsesStrictly {X : Type 0} (k : Kind) (value : X → ℤ) (f : FormatData) (t : List ℕ) (result : Result X StrictError) : Type 0 where
+  pub number : IfOk result (λ n. (z : ℤ) → SpellsNumber f t z ↔ (z ≡ value n))
+  pub accepted : IsOk result ↔ (IsUnambiguous f × ((z : ℤ) × SpellsNumber f t z × IsValueOf k z))
+  pub refused : (e : StrictError) → (result ≡ Err e) ↔ IsCause k f t e
 
 -- the message of an error
 abbrev pub strict_message_of : StrictError → List ℕ
+strict_message_of AmbiguousFormat = codes "The format is ambiguous."
 strict_message_of NotUtf8 = codes "The bytes are not UTF-8."
 strict_message_of (Unexpected at) = codes "The text has an unexpected byte."
 strict_message_of NoDigit = codes "The text has no digit."

@@ -2,7 +2,7 @@
 //!
 //! The contract of each function is a law. There is nothing to compute, so the bodies are empty.
 //! A caller that needs a law in a proof calls its function.
-ghost use Rattle.num_format_parsing.specs.Laws.{MinusSignLaw, StrictErrorHashLaw};
+ghost use Rattle.num_format_parsing.specs.Laws.{MinusSignLaw, ReadableLaw, StrictErrorHashLaw};
 ghost use Rattle.num_format_text.specs.Equality.{EqualityLaw, HashLaw};
 
 use crate::parsing::ParseBytesError;
@@ -13,6 +13,11 @@ use std::hash::Hash;
 /// on nothing else of it.
 pub fn minus_sign_decides()
     ensures { MinusSignLaw }
+{}
+
+/// A text is readable under a format, as a test decides that computes, exactly if it is not refused as an `i128`.
+pub fn readable()
+    ensures { ReadableLaw }
 {}
 
 /// Two errors of parsing bytes are equal by `==` exactly if they are the same variant, a clone is the same

@@ -1,12 +1,15 @@
 //! Texts as whole numbers.
+//!
+//! Any file may be changed: `parsing` has what is promised, and the other modules how it is done.
 #![tactic(auto)]
 
+pub mod causes;
+mod groups;
 pub mod laws;
-pub mod numeral;
 pub mod parsing;
-mod reading;
 pub mod strict;
+pub mod symbols;
 mod utf8;
 
 pub use parsing::{FromFormattedStr, ParseFormatted};
-pub use strict::StrictError;
+pub use strict::{StrictError, StrictParser};

@@ -1,3 +1,4 @@
 mod CutLemmas
 mod Examples
 pub mod HashLemmas
+pub mod SizesLemmas

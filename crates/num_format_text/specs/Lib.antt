@@ -4,3 +4,4 @@ pub mod Equality
 pub mod Format
 pub mod GroupingNames
 pub mod Refusal
+pub mod Separators

@@ -1,6 +1,8 @@
 //! The ways to group the digits of a whole number.
-ghost use Rattle.std.specs.Prelude.{◌≡◌};
+ghost use Rattle.std.specs.Prelude.{◌≡◌, MatchOption};
 ghost use Rattle.num_format_text.specs.GroupingNames.{grouping_name, grouping_named};
+ghost use Rattle.num_format_text.specs.declared.grouping.Grouping.TheVariants.{Posix};
+ghost use Rattle.num_format_text.specs.Separators.{GroupsBy};
 
 use serde::{Deserialize, Serialize};
 
@@ -24,7 +26,38 @@ pub enum Grouping {
     Sparse,
 }
 
+/// How many digits the groups of a grouping have.
+#[derive(Clone, Copy, Debug, PartialEq, Eq)]
+pub struct Sizes {
+    /// The digits of the last group.
+    pub last: usize,
+    /// The digits of each group before the last. The first group may have fewer.
+    pub size: usize,
+    /// The digits of the shortest number that has a separator.
+    pub least: usize,
+}
+
 impl Grouping {
+    /// Returns the sizes of the groups in digits, or `None` for `Posix`, which has no groups.
+    ///
+    /// ```rust
+    /// Grouping::Indian.sizes()    // Some(Sizes { last: 3, size: 2, least: 4 })
+    /// Grouping::Posix.sizes()     // None
+    /// ```
+    #[inline(always)]
+    pub fn sizes(self) -> Option<Sizes>
+        ensures { MatchOption result (self ≡ Posix) (GroupsBy self) }
+    {
+        let (last, size, least) = match self {
+            Grouping::Standard => (3, 3, 4),
+            Grouping::Indian => (3, 2, 4),
+            Grouping::Posix => return None,
+            Grouping::Myriad => (4, 4, 5),
+            Grouping::Sparse => (3, 3, 5),
+        };
+        Some(Sizes { last, size, least })
+    }
+
     /// Returns the name of the variant, as `Standard`.
     ///
     /// ```rust

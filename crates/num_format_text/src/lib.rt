@@ -1,5 +1,7 @@
 //! The parts of a number format: its texts, its grouping, and the errors of num-format.
 //!
+//! Any file may be changed. The capacities and the messages of errors are those of the Rust crate, and stay.
+//!
 //! A [`Format`] has seven methods. One says how digits are grouped, and six return the texts for
 //! the decimal mark, infinity, the minus sign, NaN, the plus sign and the separator. Each text is a
 //! [`strings::BoundedStr`], which has at most its capacity in bytes. So the text of a number has a

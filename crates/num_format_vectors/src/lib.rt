@@ -1,5 +1,7 @@
 //! Tests of all but printing, which `test_printing` has, against expected values from outside.
 //!
+//! The project in `recorded/` writes `constants`. Any other file may be changed.
+//!
 //! The proofs are over definitions. These tests show that the definitions mean what the Rust crate
 //! `num-format` 0.4.4 does, and that calls succeed. No expected value comes from the code under
 //! test: the names of `constants` are those of that crate's table, and all else was worked out by hand.

@@ -20,3 +20,9 @@ pub record Writes {E : Type 0} (result : Result ℕ E) (old new : Option (List �
   pub whole : OnOk result (Appends old new text)
   pub count : IfOk result (λ count. count ≡ length text)
   pub prefix : OnErr result (StopsWithin old new text)
+
+-- what a call that sends a text does, as `Writes` says it of a call that counts the bytes: on `Ok` the writer received all of the
+-- text; on `Err` it received a prefix of the text, and not all of it
+pub record Sends {T E : Type 0} (result : Result T E) (old new : Option (List ℕ)) (text : List ℕ) : Type 0 where
+  pub whole : OnOk result (Appends old new text)
+  pub prefix : OnErr result (StopsWithin old new text)

@@ -3,7 +3,7 @@
 //! A [`Formatted`] is a number together with a format. It displays the number's text, and fills it up
 //! to the width that is asked for. [`text_len`] and [`text_width`] return how long the text is, without
 //! printing it.
-ghost use Rattle.std.specs.Prelude.{◌≡◌, ◌≤◌, length, Some};
+ghost use Rattle.std.specs.Prelude.{◌≡◌, ◌+◌, ◌*◌, ◌≤◌, length, Some};
 ghost use Rattle.std.specs.Fmt.{char_count, is_char_start, WritesOnOk, WritesStyledOnOk, formatter_spec, spec_width, spec_align, spec_fill};
 ghost use Rattle.num_format_int.specs.Digits.{digits};
 ghost use Rattle.num_format_int.specs.Grouped.{separators};
@@ -188,8 +188,7 @@ fn text_size<N: ToFormattedStr>(
     ensures size { result ≡ text_size grouping (N.value n.now) minus_sign separator }
     ensures bound { result ≤ MAX_BUF_LEN }
 {
-    let digits = digit_count(n.magnitude());
-    let unsigned = digits + separator_count(grouping, digits) * separator;
+    let unsigned = digits_size(digit_count(n.magnitude()), grouping, separator);
     if n.is_below_zero() {
         minus_sign + unsigned
     } else {
@@ -197,9 +196,29 @@ fn text_size<N: ToFormattedStr>(
     }
 }
 
-/// Returns how many digits a number has.
+/// Returns the size of so many digits with the separators of a grouping, where a separator has this
+/// size and a digit has 1.
+///
+/// ```rust
+/// digits_size(6, Grouping::Indian, 1)    // 8, as of 1,00,000
+/// ```
+#[tactic(auto, using(crate::proofs::ColumnLemmas::separators_small))]
+pub fn digits_size(digits: usize, grouping: Grouping, separator: usize) -> usize
+    requires digits { digits ≤ 39 }
+    requires separator { separator ≤ MAX_SEP_LEN }
+    ensures size { result ≡ digits + separators grouping digits * separator }
+    ensures bound { result ≤ 39 + 18 * MAX_SEP_LEN }
+{
+    digits + separator_count(grouping, digits) * separator
+}
+
+/// Returns how many decimal digits a number has. Zero has one.
+///
+/// ```rust
+/// digit_count(1000000)    // 7
+/// ```
 #[tactic(auto, using(crate::proofs::ColumnLemmas::length_digits_power, crate::proofs::ColumnLemmas::length_digits_zero))]
-fn digit_count(n: u128) -> usize
+pub fn digit_count(n: u128) -> usize
     ensures value { result ≡ length (digits n) }
     ensures bound { result ≤ 39 }
 {
@@ -215,12 +234,11 @@ fn separator_count(grouping: Grouping, digits: usize) -> usize
     ensures value { result ≡ separators grouping digits }
     ensures bound { result ≤ 18 }
 {
-    match grouping {
-        Grouping::Standard => digits.saturating_sub(1) / 3,
-        Grouping::Indian if digits > 3 => (digits - 2) / 2,
-        Grouping::Indian | Grouping::Posix => 0,
-        Grouping::Myriad => digits.saturating_sub(1) / 4,
-        Grouping::Sparse if digits >= 5 => (digits - 1) / 3,
-        Grouping::Sparse => 0,
+    let Some(sizes) = grouping.sizes() else {
+        return 0;
+    };
+    if digits < sizes.least {
+        return 0;
     }
+    (digits - sizes.last - 1) / sizes.size + 1
 }

@@ -1,5 +1,7 @@
 //! The program `regroup`: formats and parses numbers with separators between groups of digits.
 //!
+//! It has `main` alone. Change a command in `regroup_commands`.
+//!
 //! The crate `regroup_commands` has its commands, and states what is proved of them.
 #![tactic(auto)]
 

@@ -11,8 +11,8 @@ use Rattle.num_format.specs.Reading.{denoted}
 use Rattle.num_format.specs.RoundTrips.{ReadsBack, RoundTrips}
 use Rattle.num_format.specs.Text.{text_of}
 use Rattle.num_format.specs.Laws.{AlikeLaw, RoundTripLaw}
-use Rattle.regroup_shared.specs.Reading.{is_readable}
-use Rattle.regroup_shared.proofs.ReadingLemmas.{readable-from_accepted, unreadable-from_refused, value-from_fits}
+use Rattle.num_format.specs.Readable.{is_readable}
+use Rattle.num_format.proofs.ReadableLemmas.{readable-from_accepted, unreadable-from_refused, value-from_fits}
 use Rattle.regroup_commands.specs.Output.{is_alike, is_read_back}
 
 -- the test of a number decides whether it reads back

@@ -9,7 +9,7 @@ use Rattle.std.proofs.lemmas.List.Folds.{list_all-map}
 use Rattle.std.proofs.lemmas.List.Sums.{AllPass-from_list_all}
 use Rattle.num_format.specs.Families.{families}
 use Rattle.num_format.specs.Table.{members, table_names}
-use Rattle.regroup_shared.specs.declared.sending.TheConstants.{MAX_SENT_LINE_LEN}
+use Rattle.regroup_commands.specs.declared.sending.TheConstants.{MAX_SENT_LINE_LEN}
 
 -- each name is short enough for a line
 short_names : list_all (λ name. nat_lt (length name) MAX_SENT_LINE_LEN) table_names ≡ true

@@ -7,7 +7,7 @@ use Rattle.std.specs.List.{list_all}
 use Rattle.std.specs.Result.{result_ok}
 use Rattle.std.specs.Str.Parse.{AllDigits, ParsesSigned, signed_digits_value, without_leading_sign}
 use Rattle.std.proofs.lemmas.Bool.Decides.{Decides-and, Decides-like, Decides-ltb}
-use Rattle.regroup_shared.specs.Reading.{fits_i128}
+use Rattle.num_format.specs.Readable.{fits_i128}
 use Rattle.regroup_commands.specs.Request.{number_in}
 
 -- the tests decide what std says of `parse`

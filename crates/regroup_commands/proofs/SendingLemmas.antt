@@ -6,10 +6,9 @@ use Rattle.std.specs.Result.{result_and}
 use Rattle.std.proofs.KnownBytes.{Appends-nil, Appends-trans}
 use Rattle.std.specs.Io.KnownBytes.{Appends}
 use Rattle.num_format.specs.Refusal.{Refusal, message_of}
-use Rattle.num_format.specs.Writing.{HasReceivedUpTo, StopsWithin}
-use Rattle.regroup_shared.specs.Sending.{Sends, line}
+use Rattle.num_format.specs.Writing.{HasReceivedUpTo, Sends, StopsWithin}
 use Rattle.num_format.proofs.WritingLemmas.{HasReceivedUpTo-none, StopsWithin_prefix, StopsWithin_suffix}
-use Rattle.regroup_commands.specs.Output.{lines, output_of_result, output_or_usage, usage_output}
+use Rattle.regroup_commands.specs.Output.{line, lines, output_of_result, output_or_usage, usage_output}
 use Rattle.regroup_commands.specs.Request.{Request}
 use Rattle.regroup_commands.specs.Sending.{SendsLines, SendsOutput}
 

@@ -1,17 +1,18 @@
 -- The output of the program: its exit status, and the bytes for standard output and standard error.
-use Rattle.std.specs.Prelude.{ℕ, ◌-◌, ◌^◌, ℤ, pos, negsuc, Bool, ◌&&◌, if◌then◌else◌, List, [], ◌∷◌, codes, Option, Some, None, Result, Ok, Err}
+use Rattle.std.specs.Prelude.{ℕ, ◌-◌, ◌^◌, ℤ, pos, negsuc, Bool, ◌&&◌, if◌then◌else◌, List, [], ◌∷◌, ◌++◌, codes, Option, Some, None, Result, Ok, Err}
 use Rattle.std.specs.Fmt.{signed_decimal}
 use Rattle.std.specs.List.{flat_map, list_all}
 use Rattle.std.specs.Ordering.{int_eq}
+use Rattle.std.specs.Result.{result_map_both}
 use Rattle.std.specs.Str.{bytes_eq}
+use Rattle.num_format.specs.Building.{custom_format}
 use Rattle.num_format.specs.Format.{FormatData}
 use Rattle.num_format.specs.Reading.{denoted}
-use Rattle.num_format.specs.Refusal.{Refusal, message_of}
+use Rattle.num_format.specs.Refusal.{Refusal, message_of, refusal_of}
 use Rattle.num_format.specs.Table.{table_names}
 use Rattle.num_format.specs.Text.{text_of}
-use Rattle.regroup_shared.specs.Formats.{custom_format, locale_named}
-use Rattle.regroup_shared.specs.Reading.{is_readable, number_read}
-use Rattle.regroup_shared.specs.Sending.{line}
+use Rattle.num_format.specs.Readable.{is_readable, number_read}
+use Rattle.regroup_commands.specs.Locales.{locale_named}
 use Rattle.regroup_commands.specs.Request.{Request, request_in}
 use Rattle.regroup_commands.specs.Request.Request.{Alike, Check, Custom, Names, Print, Read}
 
@@ -25,6 +26,10 @@ is_read_back format =
 -- decide it for every number from -2 ^ 127 to 2 ^ 128 - 1
 abbrev pub is_alike : FormatData → FormatData → Bool
 is_alike f g = list_all (λ z. bytes_eq (text_of f z) (text_of g z)) (pos 1000 ∷ pos 100000 ∷ pos 1000000 ∷ negsuc 0 ∷ [])
+
+-- a text and a newline
+abbrev pub line : List ℕ → List ℕ
+line text = text ++ 10 ∷ []
 
 -- each text and a newline after it
 abbrev pub lines : List (List ℕ) → List ℕ
@@ -62,7 +67,7 @@ alike_line (Err error) _ = Err error
 
 -- the lines that a request prints, or its error
 abbrev pub result_of : Request → Result (List ℕ) Refusal
-result_of (Custom separator grouping minus_sign number) = number_line (custom_format separator grouping minus_sign) number
+result_of (Custom separator grouping minus_sign number) = number_line (result_map_both (λ format. format) refusal_of (custom_format separator grouping minus_sign)) number
 result_of (Print locale number) = number_line (locale_named locale) number
 result_of Names = Ok (lines table_names)
 result_of (Read locale text) = decimal_line (number_read_under (locale_named locale) text)

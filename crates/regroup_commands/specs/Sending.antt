@@ -2,8 +2,7 @@
 use Rattle.std.specs.Prelude.{◌≡◌, ℕ, ◌<◌, List, ◌++◌, length, Option, Result, Ok, IfOk, OnOk, OnErr}
 use Rattle.std.specs.Io.KnownBytes.{Appends}
 use Rattle.num_format.specs.Refusal.{Refusal}
-use Rattle.num_format.specs.Writing.{HasReceivedUpTo}
-use Rattle.regroup_shared.specs.Sending.{Sends}
+use Rattle.num_format.specs.Writing.{HasReceivedUpTo, Sends}
 use Rattle.regroup_commands.specs.Output.{Output}
 
 -- a call sent the lines of a request that has no error

@@ -4,16 +4,16 @@ ghost use Rattle.std.specs.Option.{option_map};
 ghost use Rattle.std.specs.Result.{result_map_both};
 ghost use Rattle.num_format.specs.Data.{locale_data};
 ghost use Rattle.num_format.specs.Refusal.{refusal_of};
-ghost use Rattle.regroup_shared.specs.Reading.{number_read};
+ghost use Rattle.num_format.specs.Readable.{number_read};
+ghost use Rattle.regroup_commands.specs.Locales.{locale_named};
 ghost use Rattle.regroup_commands.specs.Output.{is_alike, is_read_back, output_of_request, result_of};
 ghost use Rattle.regroup_commands.specs.Request.{alike_with, check_with, custom_with, names_with, number_in, print_with, read_with, request_in};
 ghost use Rattle.regroup_commands.specs.Sending.{SendsLines, SendsOutput};
 
-use crate::sending::{send_bool, send_decimal, send_error, send_lines};
+use crate::sending::{send_bool, send_decimal, send_error, send_lines, send_number};
 use crate::{ANSWERED, REFUSED};
 use num_format::parsing::ParseFormatted;
-use num_format::{Error, Format, Grouping, Locale, laws, prints_alike, reads_back};
-use regroup_shared::{custom_format, locale_named, send_number};
+use num_format::{CustomFormat, Error, Format, Grouping, Locale, laws, prints_alike, reads_back};
 use std::io;
 use std::io::Write;
 
@@ -54,7 +54,7 @@ pub(crate) enum Command<'a> {
 }
 
 impl<'a> Command<'a> {
-    ghost use Rattle.regroup_shared.specs.Words.{texts};
+    ghost use Rattle.regroup_commands.specs.Request.{texts};
     ghost use Rattle.regroup_commands.specs.Command.{request_of};
 
     /// Returns the command of these words. Returns `None` for an unknown command, a wrong number of
@@ -173,7 +173,7 @@ impl<'a> Command<'a> {
                 minus_sign,
                 number,
             } => {
-                let format = custom_format(separator, grouping, minus_sign)?;
+                let format = CustomFormat::new(separator, grouping, minus_sign)?;
                 Ok(send_number(number, &format, out))
             }
             Command::Print { locale, number } => {
@@ -201,12 +201,24 @@ fn number_in(text: &str) -> Option<i128>
     text.parse().ok()
 }
 
+/// Returns the locale of that name.
+///
+/// # Errors
+///
+/// Returns an error if no locale has the name.
+#[tactic(auto, using(crate::proofs::LocaleLemmas::locale_named_from_LooksUp))]
+fn locale_named(name: &str) -> Result<Locale, Error>
+    ensures { result_map_both locale_data refusal_of result ≡ locale_named name.now }
+{
+    Locale::from_name(name)
+}
+
 /// Returns the number that the text denotes under the format.
 ///
 /// # Errors
 ///
 /// Returns an error if the text does not parse as an `i128`.
-#[tactic(auto, using(regroup_shared::proofs::ReadingLemmas::number_read_from_parse))]
+#[tactic(auto, using(num_format::proofs::ReadableLemmas::number_read_from_parse))]
 fn number_read<F: Format>(text: &str, format: &F) -> Result<i128, Error>
     ensures { result_map_both (λ number. number) refusal_of result
         ≡ number_read (F.answers format.now) text.now }

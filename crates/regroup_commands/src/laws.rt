@@ -1,5 +1,5 @@
 //! Laws: what the tests of the definitions decide, in the words of the library.
-ghost use Rattle.regroup_commands.specs.Laws.{AlikeTestLaw, ReadBackTestLaw};
+ghost use Rattle.regroup_commands.specs.Laws.{AlikeTestLaw, ReadBackTestLaw, SpellingLaw};
 
 use num_format::laws;
 
@@ -17,3 +17,8 @@ pub fn alike()
 {
     laws::alike();
 }
+
+/// A text is a spelling of a name exactly if it spells the name.
+pub fn spelling()
+    ensures { SpellingLaw }
+{}

@@ -1,5 +1,8 @@
 //! The commands of the program `regroup`, over any two writers.
 //!
+//! Any file may be changed. It calls only what `num_format` passes on, and names the crates that have it,
+//! so that proving `regroup` needs no JSON.
+//!
 //! [`run`] takes the words after the program's name. It sends the output of the command to two
 //! writers, standard output and standard error in the program, and returns the exit status:
 //!
@@ -37,12 +40,12 @@ pub mod laws;
 mod sending;
 
 ghost use Rattle.std.specs.Prelude.{◌≡◌, ◌≢◌};
-ghost use Rattle.regroup_shared.specs.Words.{texts};
+ghost use Rattle.regroup_commands.specs.Request.{texts};
 ghost use Rattle.regroup_commands.specs.Output.{output_of};
 ghost use Rattle.regroup_commands.specs.Sending.{IsSent, SendsOutput, StopsShort};
 
 use crate::command::Command;
-use regroup_shared::send_line;
+use crate::sending::send_line;
 use std::io;
 use std::io::Write;
 

@@ -1,17 +1,21 @@
 //! The program `regroup-lines`: the numbers in lines of files or of standard input, from one format to another.
 //!
+//! `main`, the command line and its messages live here. Any file may be changed; what is done with lines is in
+//! `regroup_stream` and `regroup_lines`.
+//!
 //! The crate `regroup_stream` states what is proved of it.
 #![tactic(auto)]
 
+mod command_line;
 mod misuse;
 mod options;
 mod words;
 
+use crate::command_line::matches;
 use crate::misuse::{refuse_arguments, refuse_words};
 use crate::options::{capacity_of, files_of, is_quote_between, list_of, rules_of, words_of};
 use crate::words::Word;
 use clap::error::ErrorKind;
-use regroup_options::matches;
 use regroup_stream::{
     FAILED, FAULTY, Formats, Invalid, MISUSED, REGROUPED, Rules, formats_named, refuse, run,
 };

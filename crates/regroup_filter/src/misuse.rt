@@ -1,7 +1,7 @@
 //! What is said of arguments that are refused, in the words of the GNU programs.
 
 use clap::error::ErrorKind;
-use regroup_shared::quoted;
+use regroup_lines::quoted;
 use regroup_stream::TRY_HELP;
 use std::alloc::{AllocError, Global};
 use std::io;

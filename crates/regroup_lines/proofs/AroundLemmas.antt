@@ -3,7 +3,7 @@ use Rattle.std.proofs.Common.{ℕ, List, [], ◌∷◌, ◌++◌, Option}
 use Rattle.std.specs.Io.KnownBytes.{Appends}
 use Rattle.std.proofs.KnownBytes.{Appends-trans}
 use Rattle.num_format.specs.Writing.{StopsWithin}
-use Rattle.regroup_shared.specs.Sending.{ended_by}
+use Rattle.regroup_lines.specs.Ended.{ended_by}
 use Rattle.num_format.proofs.WritingLemmas.{StopsWithin_prefix, StopsWithin_suffix}
 
 -- a text, and the byte that ends it

@@ -1,229 +1,195 @@
 -- The definition of the decimal that a text spells is what strict parsing returns.
-use Rattle.std.proofs.Common.{◌≡◌, ◌≢◌, ℕ, ◌+◌, ◌-◌, ◌<◌, Bool, true, false, List, [], ◌∷◌, Option, Some, None, Result, Ok, Err, if◌then◌else◌, refl, sym, ap, subst, ◌∙◌, arith, drop, inl, inr, length}
-use Rattle.std.specs.Prelude.{zero, suc, ◌↔◌, ◌&&◌}
+use Rattle.std.proofs.Common.{◌≡◌, ◌≢◌, ℕ, ◌+◌, ◌-◌, ◌^◌, ◌<◌, ◌≤◌, Bool, true, false, List, [], ◌∷◌, Option, Some, None, Result, Ok, Err, Decides, IsUtf8, if◌then◌else◌, refl, sym, ap, subst, ◌∙◌, arith, drop, inl, inr, length}
+use Rattle.std.specs.Prelude.{zero, suc, ◌↔◌, ◌&&◌, ℤ, pos, negsuc, FitsSigned, MatchOption}
+use Rattle.std.specs.Int.{w128}
 use Rattle.std.specs.Option.{option_map}
-use Rattle.std.specs.Str.{is_utf8}
-use Rattle.std.proofs.lemmas.Bool.{both_ways, false_from_ne_true}
-use Rattle.std.proofs.lemmas.Bool.Decides.{Decides-or}
+use Rattle.std.proofs.lemmas.Bool.{both_ways, cases_Bool, false_from_ne_true, not-true, not_from_false}
+use Rattle.std.proofs.lemmas.Bool.Decides.{Decides-and, Decides-like, Decides-ltb, Decides-not, Decides-or}
 use Rattle.std.proofs.lemmas.List.{length-drop}
 use Rattle.std.proofs.lemmas.Slice.Eq.{bytes_eq-Decides}
-use Rattle.std.proofs.lemmas.Str.{IsUtf8-from_is_utf8, is_utf8-from_IsUtf8}
-use Rattle.num_format.specs.Format.{FormatData}
+use Rattle.num_format.specs.Format.{FormatData, HasUtf8Texts}
+use Rattle.num_format.specs.Grouped.{printed_separator}
+use Rattle.num_format.specs.Readable.{fits_i128}
+use Rattle.num_format.specs.Reading.{denoted, figures}
+use Rattle.num_format.specs.Strict.{HasNoNumeral}
 use Rattle.num_format_decimal.specs.FixedPoint.{FixedPoint, fixed_point}
-use Rattle.num_format_decimal.specs.Parsing.{HasScale, IsDecimalCause, IsExpectedDecimal, ParsesDecimal, SpellsDecimal, denoted_at, unexpected_in_decimal}
+use Rattle.num_format_decimal.specs.Marks.{IsPlainFormat, MarksDecimals}
+use Rattle.num_format_decimal.specs.Parsing.{IsDecimalCause, IsExpectedDecimal, ParsesDecimal, SpellsDecimal, SpellsNone, unexpected_in_decimal, with_separators, without_separators}
 use Rattle.num_format_decimal.specs.declared.decimal.TheConstants.{MAX_SCALE}
 use Rattle.num_format_decimal.specs.declared.parsing.ParseDecimalError.{ParseDecimalError}
-use Rattle.num_format_decimal.specs.declared.parsing.ParseDecimalError.TheVariants.{Misspelled, NoDigit, NotUtf8, OutOfRange, TooManyDecimals, Unexpected}
-use Rattle.regroup_shared.specs.Reading.{is_readable}
-use Rattle.regroup_shared.proofs.ReadingLemmas.{readable-from_accepted, unreadable-from_refused}
-use Rattle.regroup_lines.specs.Decimals.{decimal_read, is_spelled_at, only, scales_below}
-use Rattle.regroup_lines.specs.Messages.{before_in, before_rest, before_unexpected, unless_spelled}
+use Rattle.num_format_decimal.specs.declared.parsing.ParseDecimalError.TheVariants.{AmbiguousFormat, Misspelled, NoDigit, NotUtf8, OutOfRange, TooManyDecimals, Unexpected}
+use Rattle.num_format_decimal.proofs.MarkLemmas.{denoted-decimal, one_scale, plain-from_marks, tells-spelled_decimal}
+use Rattle.num_format_decimal.proofs.ParserLemmas.{mark_from, marks_from}
+use Rattle.regroup_lines.specs.Decimals.{decimal_read, denoted_at, has_no_numeral, is_sign, is_spelled_at, marks_decimals, scale_below}
+use Rattle.regroup_lines.specs.Messages.{before_in, before_rest, before_unexpected}
 
 -- constructors differ
-cc_list : (n : ℕ) (l : List ℕ) → n ∷ l ≡ [] → ⊥
-cc_list n l is = cc
-
-cc_nil : (s : ℕ) → [] ≡ s ∷ [] → ⊥
-cc_nil s is = cc
-
 cc_result : (r : Result FixedPoint ParseDecimalError) (e : ParseDecimalError) (d : FixedPoint) → r ≡ Err e → r ≡ Ok d → ⊥
 cc_result r e d failed parsed = cc
-
-abbrev first_or : List ℕ → ℕ → ℕ
-first_or [] d = d
-first_or (a ∷ l) d = a
 
 abbrev some_or : {A : Type 0} → Option A → A → A
 some_or None d = d
 some_or (Some a) d = a
 
--- a number below n + 1 is n, or below it
-first_case : (o n s : ℕ) → n ≡ s → o < suc n → (o < n → ⊥) → o ≡ s
-first_case o n s here low above = omega (arith, here, above)
+-- the tests of symbols and units
+no_numeral-Decides : (t : List ℕ) → Decides (has_no_numeral t) (HasNoNumeral t)
+no_numeral-Decides t =
+    Decides-like _ (λ none. record { no_digit = none.0; no_other = none.1 }) (λ none. (none.no_digit, none.no_other))
+    (Decides-and _ _ (bytes_eq-Decides (figures t) []) (not-true _, not_from_false _))
 
-module _ (f : FormatData) (t : List ℕ) where
-  -- the test of one scale
-  spelled-true : (s : ℕ) → SpellsDecimal f t (denoted_at f t s) → is_spelled_at f t s ≡ true
-  unfolding is_spelled_at
-  spelled-true s (SpellsDecimal.with_separators same) = (Decides-or _ _ (bytes_eq-Decides t _) (bytes_eq-Decides t _)).1 (inl same)
-  spelled-true s (SpellsDecimal.without_separators same) = (Decides-or _ _ (bytes_eq-Decides t _) (bytes_eq-Decides t _)).1 (inr same)
+sign-Decides : (t : List ℕ) → Decides (is_sign t) (¬ (t ≡ []) × HasNoNumeral t)
+sign-Decides t = Decides-and _ _ (Decides-not _ (bytes_eq-Decides t [])) (no_numeral-Decides t)
 
-  true-spelled : (s : ℕ) → is_spelled_at f t s ≡ true → SpellsDecimal f t (denoted_at f t s)
-  unfolding is_spelled_at
-  true-spelled s hit =
-      elim ((Decides-or _ _ (bytes_eq-Decides t _) (bytes_eq-Decides t _)).0 hit) [
-        | inl same ↦ SpellsDecimal.with_separators same
-        | inr same ↦ SpellsDecimal.without_separators same
-      ]
+fits-Decides : (z : ℤ) → Decides (fits_i128 z) (FitsSigned w128 z)
+fits-Decides (pos n) = Decides-like _ (λ h. record { sfits = h }) (λ h. h.sfits) (Decides-ltb n (2 ^ 127))
+fits-Decides (negsuc n) = Decides-like _ (λ h. record { sfits = h }) (λ h. h.sfits) (Decides-ltb n (2 ^ 127))
 
-  -- one step of the search
-  below-step : (n : ℕ) (is : Bool) → is_spelled_at f t n ≡ is → scales_below f t (suc n) ≡ (if is then n ∷ scales_below f t n else scales_below f t n)
-  unfolding scales_below
-  below-step n is same = ap (λ b. if b then n ∷ scales_below f t n else scales_below f t n) same
+module _ (f : FormatData) (utf8 : HasUtf8Texts f) where
+  plain-marks : MarksDecimals f → IsPlainFormat f
+  plain-marks marks = plain-from_marks f utf8.minus_sign utf8.separator utf8.decimal marks
 
-  -- no scale below a bound passes
-  below-none : (n : ℕ) → ((o : ℕ) → o < n → is_spelled_at f t o ≢ true) → scales_below f t n ≡ []
-  unfolding scales_below
-  below-none zero none = refl
-  below-none (suc n) none =
-      below-step n false (false_from_ne_true _ (none n (omega arith))) ∙ below-none n (λ o below. none o (omega arith))
+  -- the test of a format
+  marks-Decides : Decides (marks_decimals f) (MarksDecimals f)
+  unfolding marks_decimals
+  marks-Decides =
+      let separator = printed_separator f.grouping f.separator in
+      Decides-like _
+      (λ h. marks_from f utf8.minus_sign utf8.separator (record { sign_given = h.0.0; sign = h.0.1; separator = h.1.0 }) (record { given = h.1.1.0.0; plain = h.1.1.0.1; apart = h.1.1.1 }))
+      (λ marks.
+      let plain = (plain-marks marks).unambiguous in
+      let mark = mark_from f marks in
+      ((plain.sign_given, plain.sign), (plain.separator, ((mark.given, mark.plain), mark.apart))))
+      (Decides-and _ _ (sign-Decides f.minus_sign) (Decides-and _ _ (no_numeral-Decides separator) (Decides-and _ _ (sign-Decides f.decimal) (Decides-not _ (bytes_eq-Decides f.decimal separator)))))
 
-  -- one alone does
-  below-one_next : (n s : ℕ) (is : Bool) → is_spelled_at f t n ≡ is → s < suc n → is_spelled_at f t s ≡ true →
-      ((o : ℕ) → o < suc n → is_spelled_at f t o ≡ true → o ≡ s) → (s < n → scales_below f t n ≡ s ∷ []) → scales_below f t (suc n) ≡ s ∷ []
-  below-one_next n s true is low hit same before =
-      let here : n ≡ s = same n (omega arith) is in
-      below-step n true is
-      ∙ ap (λ l. n ∷ l) (below-none n (λ o below passes. let there = same o (omega arith) passes in absurd (omega (arith, here, there))))
-      ∙ ap (λ k. k ∷ []) here
-  below-one_next n s false is low hit same before =
-      let other : s ≢ n = λ here. both_ways _ is (ap (is_spelled_at f t) (sym here) ∙ hit) in
-      below-step n false is ∙ before (omega (arith, other))
+  module _ (t : List ℕ) where
+    -- the test of one scale
+    spelled-Decides : (s : ℕ) → Decides (is_spelled_at f t s) (SpellsDecimal f t (denoted_at f t s))
+    unfolding is_spelled_at
+    spelled-Decides s =
+        Decides-like _ (λ either. elim either [ inl same ↦ with_separators same | inr same ↦ without_separators same ])
+        (λ spells. elim spells [ with_separators same ↦ inl same | without_separators same ↦ inr same ])
+        (Decides-or _ _ (bytes_eq-Decides t _) (bytes_eq-Decides t _))
 
-  below-one : (n s : ℕ) → s < n → is_spelled_at f t s ≡ true → ((o : ℕ) → o < n → is_spelled_at f t o ≡ true → o ≡ s) → scales_below f t n ≡ s ∷ []
-  below-one zero s low hit same = absurd (omega arith)
-  below-one (suc n) s low hit same =
-      below-one_next n s (is_spelled_at f t n) refl low hit same (λ low. below-one n s low hit (λ o below passes. same o (omega arith) passes))
+    -- a scale below a bound, or there is none
+    abbrev Found : ℕ → Option ℕ → Type 0
+    Found n o = MatchOption o ((s : ℕ) → s < n → ¬ (SpellsDecimal f t (denoted_at f t s))) (λ s. (s < n) × SpellsDecimal f t (denoted_at f t s))
 
-  -- and back
-  none-below_next : (n o : ℕ) (is : Bool) → is_spelled_at f t n ≡ is → scales_below f t (suc n) ≡ [] → o < suc n → is_spelled_at f t o ≡ true →
-      (scales_below f t n ≡ [] → o < n → ⊥) → ⊥
-  none-below_next n o true is empty low hit before = absurd (cc_list n (scales_below f t n) (sym (below-step n true is) ∙ empty))
-  none-below_next n o false is empty low hit before =
-      let other : o ≢ n = λ here. both_ways _ is (ap (is_spelled_at f t) (sym here) ∙ hit) in
-      before (sym (below-step n false is) ∙ empty) (omega (arith, other))
+    below-step : (n : ℕ) (is : Bool) → is_spelled_at f t n ≡ is → scale_below f t (suc n) ≡ (if is then Some n else scale_below f t n)
+    unfolding scale_below
+    below-step n is same = ap (λ b. if b then Some n else scale_below f t n) same
 
-  none-below : (n o : ℕ) → scales_below f t n ≡ [] → o < n → is_spelled_at f t o ≡ true → ⊥
-  none-below zero o empty low hit = absurd (omega arith)
-  none-below (suc n) o empty low hit =
-      none-below_next n o (is_spelled_at f t n) refl empty low hit (λ empty low. none-below n o empty low hit)
+    found-next : (n : ℕ) → is_spelled_at f t n ≡ false → (o : Option ℕ) → Found n o → Found (suc n) o
+    found-next n unspelled None none = λ s low spells.
+        let other : s ≢ n = λ here. both_ways _ unspelled ((spelled-Decides n).1 (subst (λ k. SpellsDecimal f t (denoted_at f t k)) here spells)) in
+        none s (omega (arith, other)) spells
+    found-next n unspelled (Some s) hit = (let low = hit.0 in omega arith, hit.1)
 
-  pub record OnlyBelow (n s : ℕ) : Type 0 where
-    pub low : s < n
-    pub hit : is_spelled_at f t s ≡ true
-    pub same : (o : ℕ) → o < n → is_spelled_at f t o ≡ true → o ≡ s
+    found : (n : ℕ) → Found n (scale_below f t n)
+    unfolding scale_below
+    found zero = λ s low spells. absurd (omega arith)
+    found (suc n) =
+        elim (cases_Bool (is_spelled_at f t n)) [
+          | inl spelled ↦ subst (Found (suc n)) (sym (below-step n true spelled)) (omega arith, (spelled-Decides n).0 spelled)
+          | inr unspelled ↦ subst (Found (suc n)) (sym (below-step n false unspelled)) (found-next n unspelled _ (found n))
+        ]
 
-  one-below_next : (n s : ℕ) (is : Bool) → is_spelled_at f t n ≡ is → scales_below f t (suc n) ≡ s ∷ [] → (scales_below f t n ≡ s ∷ [] → OnlyBelow n s) →
-      OnlyBelow (suc n) s
-  one-below_next n s true is one before =
-      let found : n ∷ scales_below f t n ≡ s ∷ [] = sym (below-step n true is) ∙ one in
-      let here : n ≡ s = ap (λ l. first_or l 0) found in
-      let empty : scales_below f t n ≡ [] = ap (drop 1) found in
-      record {
-        low = omega (arith, here);
-        hit = ap (is_spelled_at f t) (sym here) ∙ is;
-        same = λ o low passes. first_case o n s here low (λ below. none-below n o empty below passes);
-      }
-  one-below_next n s false is one before =
-      let rest = before (sym (below-step n false is) ∙ one) in
-      record {
-        low = omega (arith, rest.low);
-        hit = rest.hit;
-        same = λ o low passes.
-            let other : o ≢ n = λ here. both_ways _ is (ap (is_spelled_at f t) (sym here) ∙ passes) in
-            rest.same o (omega (arith, other)) passes;
-      }
+    -- a text that spells no decimal has no scale
+    scale-none : SpellsNone f t → scale_below f t (MAX_SCALE + 1) ≡ None
+    scale-none none = pick (scale_below f t (MAX_SCALE + 1)) (found (MAX_SCALE + 1))
+      where
+        pick : (o : Option ℕ) → Found (MAX_SCALE + 1) o → o ≡ None
+        pick None missed = refl
+        pick (Some s) hit = absurd (none.none (denoted_at f t s) (let low = hit.0 in omega arith) hit.1)
 
-  one-below : (n s : ℕ) → scales_below f t n ≡ s ∷ [] → OnlyBelow n s
-  unfolding scales_below
-  one-below zero s one = absurd (cc_nil s one)
-  one-below (suc n) s one = one-below_next n s (is_spelled_at f t n) refl one (one-below n s)
+    -- one that spells a decimal has its digits and its scale
+    module _ (marks : MarksDecimals f) (d : FixedPoint) (spells : SpellsDecimal f t d) where
+      units : denoted f t ≡ d.units
+      units = denoted-decimal f t d.units d.scale (tells-spelled_decimal f t d.units d.scale (plain-marks marks) spells)
 
-  only-one : (l : List ℕ) (s : ℕ) → only l ≡ Some s → l ≡ s ∷ []
-  only-one [] s is = absurd (cc)
-  only-one (a ∷ []) s is = ap (λ k. k ∷ []) (ap (λ (o : Option ℕ). some_or o 0) is)
-  only-one (a ∷ b ∷ l) s is = absurd (cc)
+      scale-some : d.scale ≤ MAX_SCALE → scale_below f t (MAX_SCALE + 1) ≡ Some d.scale
+      scale-some bound = pick (scale_below f t (MAX_SCALE + 1)) (found (MAX_SCALE + 1))
+        where
+          here : SpellsDecimal f t (denoted_at f t d.scale)
+          here = subst (λ z. SpellsDecimal f t (fixed_point z d.scale)) (sym units) spells
 
-  -- a scale as strict parsing has it
-  scale-from_only : (s : ℕ) → scales_below f t (MAX_SCALE + 1) ≡ s ∷ [] → HasScale f t s
-  scale-from_only s one =
-      let found = one-below (MAX_SCALE + 1) s one in
-      record {
-        bound = omega (arith, found.low);
-        spelled = true-spelled s found.hit;
-        only = λ other bound spelled. found.same other (omega arith) (spelled-true other spelled);
-      }
+          pick : (o : Option ℕ) → Found (MAX_SCALE + 1) o → o ≡ Some d.scale
+          pick None missed = absurd (missed d.scale (omega (arith, bound)) here)
+          pick (Some s) hit = ap Some (one_scale f t (denoted f t) s d.scale (plain-marks marks) marks.apart hit.1 here)
 
-  only-from_scale : (s : ℕ) → HasScale f t s → scales_below f t (MAX_SCALE + 1) ≡ s ∷ []
-  only-from_scale s has =
-      below-one (MAX_SCALE + 1) s (let bound = has.bound in omega arith) (spelled-true s has.spelled)
-      (λ o below passes. has.only o (omega arith) (true-spelled o passes))
+    -- what strict parsing returns is the definition's decimal, and the text is UTF-8
+    pub parsed-utf8 : (d : FixedPoint) → ParsesDecimal f t d → IsUtf8 t
+    parsed-utf8 d parsed = (tells-spelled_decimal f t d.units d.scale (plain-marks parsed.unambiguous) parsed.spelled).utf8
 
-  -- what strict parsing returns is the definition's decimal
-  pub decimal_read-parsed : (d : FixedPoint) → ParsesDecimal f t d → decimal_read f t ≡ Some d
-  unfolding decimal_read
-  decimal_read-parsed d parsed =
-      rw (is_utf8-from_IsUtf8 t parsed.utf8, readable-from_accepted f t parsed.accepted, only-from_scale d.scale parsed.scale)
-      (ap (λ z. Some (fixed_point z d.scale)) (sym parsed.units))
+    pub decimal_read-parsed : (d : FixedPoint) → ParsesDecimal f t d → decimal_read f t ≡ Some d
+    unfolding decimal_read
+    decimal_read-parsed d parsed =
+        let same = units parsed.unambiguous d parsed.spelled in
+        rw (marks-Decides.1 parsed.unambiguous, ap fits_i128 same ∙ (fits-Decides d.units).1 parsed.fits, scale-some parsed.unambiguous d parsed.spelled parsed.bound)
+        (ap (λ z. Some (fixed_point z d.scale)) same)
 
-  -- and the definition's decimal is what it returns
-  parsed-from : (utf8 readable : Bool) (l : List ℕ) (d : FixedPoint) → is_utf8 t ≡ utf8 → is_readable f t ≡ readable → scales_below f t (MAX_SCALE + 1) ≡ l →
-      (if utf8 && readable then option_map (denoted_at f t) (only l) else None) ≡ Some d → ParsesDecimal f t d
-  parsed-from true true [] d utf8 readable scales is = absurd (cc)
-  parsed-from true true (s ∷ []) d utf8 readable scales is =
-      let same : denoted_at f t s ≡ d = ap (λ (o : Option FixedPoint). some_or o d) is in
-      subst (ParsesDecimal f t) same (record {
-        utf8 = IsUtf8-from_is_utf8 t utf8;
-        units = refl;
-        scale = scale-from_only s scales;
-        accepted = λ cause. unreadable-from_refused f t cause readable;
-      })
-  parsed-from true true (a ∷ b ∷ l) d utf8 readable scales is = absurd (cc)
-  parsed-from true false l d utf8 readable scales is = absurd (cc)
-  parsed-from false readable l d utf8 is_readable scales is = absurd (cc)
+    -- and the definition's decimal is what it returns
+    parsed-from : (marks fits : Bool) (o : Option ℕ) (d : FixedPoint) → marks_decimals f ≡ marks → fits_i128 (denoted f t) ≡ fits → Found (MAX_SCALE + 1) o →
+        (if marks && fits then option_map (denoted_at f t) o else None) ≡ Some d → ParsesDecimal f t d
+    parsed-from true true None d marks fits missed is = absurd (cc)
+    parsed-from true true (Some s) d marks fits hit is =
+        let same : denoted_at f t s ≡ d = ap (λ (o : Option FixedPoint). some_or o d) is in
+        subst (ParsesDecimal f t) same (record {
+          unambiguous = marks-Decides.0 marks;
+          spelled = hit.1;
+          bound = let low = hit.0 in omega arith;
+          fits = (fits-Decides (denoted f t)).0 fits;
+        })
+    parsed-from true false o d marks fits found is = absurd (cc)
+    parsed-from false fits o d marks is_fit found is = absurd (cc)
 
-  pub parsed-decimal_read : (d : FixedPoint) → decimal_read f t ≡ Some d → ParsesDecimal f t d
-  unfolding decimal_read
-  parsed-decimal_read d is = parsed-from (is_utf8 t) (is_readable f t) (scales_below f t (MAX_SCALE + 1)) d refl refl refl is
+    parsed-decimal_read : (d : FixedPoint) → decimal_read f t ≡ Some d → ParsesDecimal f t d
+    unfolding decimal_read
+    parsed-decimal_read d is = parsed-from (marks_decimals f) (fits_i128 (denoted f t)) (scale_below f t (MAX_SCALE + 1)) d refl refl (found (MAX_SCALE + 1)) is
 
-  -- a text that strict parsing refuses has none
-  refused-from : (o : Option FixedPoint) (r : Result FixedPoint ParseDecimalError) (e : ParseDecimalError) → decimal_read f t ≡ o → r ≡ Err e →
-      ((d : FixedPoint) → (r ≡ Ok d) ↔ ParsesDecimal f t d) → o ≡ None
-  refused-from None r e is failed exactly = refl
-  refused-from (Some d) r e is failed exactly = absurd (cc_result r e d failed ((exactly d).1 (parsed-decimal_read d is)))
+    -- a text that strict parsing refuses has none
+    refused-from : (o : Option FixedPoint) (r : Result FixedPoint ParseDecimalError) (e : ParseDecimalError) → decimal_read f t ≡ o → r ≡ Err e →
+        ((d : FixedPoint) → (r ≡ Ok d) ↔ ParsesDecimal f t d) → o ≡ None
+    refused-from None r e is failed exactly = refl
+    refused-from (Some d) r e is failed exactly = absurd (cc_result r e d failed ((exactly d).1 (parsed-decimal_read d is)))
 
-  pub decimal_read-refused : (r : Result FixedPoint ParseDecimalError) (e : ParseDecimalError) → r ≡ Err e →
-      ((d : FixedPoint) → (r ≡ Ok d) ↔ ParsesDecimal f t d) → decimal_read f t ≡ None
-  decimal_read-refused r e failed exactly = refused-from (decimal_read f t) r e refl failed exactly
+    pub decimal_read-refused : (r : Result FixedPoint ParseDecimalError) (e : ParseDecimalError) → r ≡ Err e →
+        ((d : FixedPoint) → (r ≡ Ok d) ↔ ParsesDecimal f t d) → decimal_read f t ≡ None
+    decimal_read-refused r e failed exactly = refused-from (decimal_read f t) r e refl failed exactly
 
-  -- a text that no decimal is spelled by
-  only-none : (l : List ℕ) → ((s : ℕ) → l ≡ s ∷ [] → ⊥) → only l ≡ None
-  only-none [] never = refl
-  only-none (a ∷ []) never = absurd (never a refl)
-  only-none (a ∷ b ∷ l) never = refl
+    -- the byte that strict parsing does not expect is that of the definition
+    before-some : (rest : List ℕ) → 0 < length rest → before_rest t rest ≡ Some (length t - length rest)
+    before-some [] some = absurd (omega arith)
+    before-some (b ∷ rest) some = refl
 
-  spelled-none : ((scale : ℕ) → ¬ HasScale f t scale) → only (scales_below f t (MAX_SCALE + 1)) ≡ None
-  spelled-none none = only-none _ (λ s one. none s (scale-from_only s one))
+    before-at : (at : ℕ) → at < length t → before_rest t (drop at t) ≡ Some at
+    before-at at inside =
+        let len = length-drop at t in
+        let same : length t - length (drop at t) ≡ at = omega (arith, len) in
+        before-some (drop at t) (omega (arith, len)) ∙ ap Some same
 
-  -- the byte that strict parsing does not expect is that of the definition
-  before-some : (rest : List ℕ) → 0 < length rest → before_rest t rest ≡ Some (length t - length rest)
-  before-some [] some = absurd (omega arith)
-  before-some (b ∷ rest) some = refl
+    before-unspelled : MarksDecimals f → SpellsNone f t → before_unexpected f t ≡ before_rest t (unexpected_in_decimal f t)
+    unfolding before_unexpected
+    before-unspelled marks none = rw (marks-Decides.1 marks, scale-none none) refl
 
-  before-at : (at : ℕ) → at < length t → before_rest t (drop at t) ≡ Some at
-  before-at at inside =
-      let len = length-drop at t in
-      let same : length t - length (drop at t) ≡ at = omega (arith, len) in
-      before-some (drop at t) (omega (arith, len)) ∙ ap Some same
+    before-spelled : MarksDecimals f → (d : FixedPoint) → SpellsDecimal f t d → d.scale ≤ MAX_SCALE → before_unexpected f t ≡ None
+    unfolding before_unexpected
+    before-spelled marks d spells bound = rw (marks-Decides.1 marks, scale-some marks d spells bound) refl
 
-  before-unspelled : ((scale : ℕ) → ¬ HasScale f t scale) → before_unexpected f t ≡ before_rest t (unexpected_in_decimal f t)
-  unfolding before_unexpected
-  before-unspelled none = ap (λ o. unless_spelled o (before_rest t (unexpected_in_decimal f t))) (spelled-none none)
+    before-ambiguous : ¬ (MarksDecimals f) → before_unexpected f t ≡ None
+    unfolding before_unexpected
+    before-ambiguous ambiguous = rw (false_from_ne_true _ (λ yes. ambiguous (marks-Decides.0 yes))) refl
 
-  before-spelled : (s : ℕ) → HasScale f t s → before_unexpected f t ≡ None
-  unfolding before_unexpected
-  before-spelled s has = ap (λ l. unless_spelled (only l) (before_rest t (unexpected_in_decimal f t))) (only-from_scale s has)
+    before-expected : MarksDecimals f → IsExpectedDecimal f t → before_unexpected f t ≡ None
+    before-expected marks expected = before-unspelled marks expected.spells_none ∙ ap (before_rest t) expected.rest
 
-  before-expected : IsExpectedDecimal f t → before_unexpected f t ≡ None
-  before-expected expected = before-unspelled expected.spells_none.none ∙ ap (before_rest t) expected.rest
+    pub before-parsed : (d : FixedPoint) → ParsesDecimal f t d → before_unexpected f t ≡ None
+    before-parsed d parsed = before-spelled parsed.unambiguous d parsed.spelled parsed.bound
 
-  pub before-parsed : (d : FixedPoint) → ParsesDecimal f t d → before_unexpected f t ≡ None
-  before-parsed d parsed = before-spelled d.scale parsed.scale
-
-  pub before-refused : (r : Result FixedPoint ParseDecimalError) (e : ParseDecimalError) → r ≡ Err e → ¬ (r ≡ Err NotUtf8) → IsDecimalCause f t e → before_unexpected f t ≡ before_in e
-  before-refused r NotUtf8 is utf8 cause = absurd (utf8 is)
-  before-refused r (Unexpected at) is utf8 cause = before-unspelled cause.spells_none.none ∙ ap (before_rest t) cause.rest ∙ before-at at cause.inside
-  before-refused r NoDigit is utf8 cause = before-expected cause.expected
-  before-refused r TooManyDecimals is utf8 cause = before-expected cause.expected
-  before-refused r Misspelled is utf8 cause = before-expected cause.expected
-  before-refused r OutOfRange is utf8 cause = before-spelled cause.scale cause.spelled
+    pub before-refused : (e : ParseDecimalError) → IsUtf8 t → IsDecimalCause f t e → before_unexpected f t ≡ before_in e
+    before-refused AmbiguousFormat text cause = before-ambiguous cause
+    before-refused NotUtf8 text cause = absurd (cause.1 text)
+    before-refused (Unexpected at) text cause = before-unspelled cause.0 cause.1.spells_none ∙ ap (before_rest t) cause.1.rest ∙ before-at at cause.1.inside
+    before-refused NoDigit text cause = before-expected cause.0 cause.1.expected
+    before-refused TooManyDecimals text cause = before-expected cause.0 cause.1.expected
+    before-refused Misspelled text cause = before-expected cause.0 cause.1.expected
+    before-refused OutOfRange text cause = before-spelled cause.0 cause.1.decimal cause.1.spelled cause.1.bound

@@ -9,8 +9,8 @@ use Rattle.std.proofs.lemmas.Bool.{le-leb, leb-false, lt-leb, ltb-false, or_from
 use Rattle.std.proofs.lemmas.Bool.Decides.{Decides-ltb}
 use Rattle.std.proofs.lemmas.List.Splits.{join_with_byte-slice_split}
 use Rattle.num_format.specs.Format.{FormatData}
-use Rattle.num_format.specs.Writing.{StopsWithin}
-use Rattle.regroup_shared.specs.Sending.{Sends, ended_by}
+use Rattle.num_format.specs.Writing.{Sends, StopsWithin}
+use Rattle.regroup_lines.specs.Ended.{ended_by}
 use Rattle.num_format.proofs.WritingLemmas.{StopsWithin_prefix, StopsWithin_suffix}
 use Rattle.regroup_lines.specs.Fault.{Fault}
 use Rattle.regroup_lines.specs.Fault.Fault.{FewFields, Write}

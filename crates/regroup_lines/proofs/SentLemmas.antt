@@ -9,7 +9,7 @@ use Rattle.num_format.specs.Format.{FormatData}
 use Rattle.num_format.specs.Cut.{cut_text}
 use Rattle.num_format.specs.Refusal.{ParseNumber, Refusal}
 use Rattle.num_format.specs.Text.{text_of}
-use Rattle.regroup_shared.specs.Reading.{number_read}
+use Rattle.num_format.specs.Readable.{number_read}
 use Rattle.regroup_lines.specs.Fault.{Fault, in_field, is_unsent}
 use Rattle.regroup_lines.specs.Fault.Fault.{TooMany, TooLong, FewFields, Read, NotText, FieldNotText, Line, Field, Unclosed, Write, Report, Flush}
 use Rattle.regroup_lines.specs.Csv.{csv_place, csv_split, field_with, is_inside_after, is_quote, next_number}

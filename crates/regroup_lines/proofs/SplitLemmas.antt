@@ -14,8 +14,8 @@ use Rattle.num_format.specs.Format.{FormatData}
 use Rattle.num_format.specs.Refusal.{ParseNumber, Refusal}
 use Rattle.num_format.specs.Text.{text_of}
 use Rattle.num_format_decimal.specs.Text.{decimal_text}
-use Rattle.regroup_shared.specs.Reading.{number_read}
-use Rattle.regroup_shared.specs.Sending.{ended_by}
+use Rattle.num_format.specs.Readable.{number_read}
+use Rattle.regroup_lines.specs.Ended.{ended_by}
 use Rattle.regroup_lines.specs.Csv.{csv_place, csv_split, field_with, is_inside_after, is_quote, next_number}
 use Rattle.regroup_lines.specs.Decimals.{decimal_read}
 use Rattle.regroup_lines.specs.Fault.{Fault, are_any, in_field}

@@ -5,7 +5,7 @@ use Rattle.std.specs.Result.{result_map_both, result_or}
 use Rattle.std.specs.Str.{is_utf8}
 use Rattle.std.proofs.lemmas.Bool.{false_from_ne_true}
 use Rattle.std.proofs.lemmas.Str.{IsUtf8-from_is_utf8, is_utf8-from_IsUtf8}
-use Rattle.num_format.specs.Format.{FormatData}
+use Rattle.num_format.specs.Format.{FormatData, HasUtf8Texts}
 use Rattle.num_format.specs.Kind.{signed}
 use Rattle.num_format.specs.ParseBytesError.{ParseBytesError}
 use Rattle.num_format.specs.ParseBytesError.TheVariants.{NotANumber, NotUtf8}
@@ -15,8 +15,9 @@ use Rattle.num_format_decimal.specs.FixedPoint.{FixedPoint}
 use Rattle.num_format_decimal.specs.Parsing.{ParsesDecimal}
 use Rattle.num_format_decimal.specs.Text.{decimal_text}
 use Rattle.num_format_decimal.specs.declared.parsing.ParseDecimalError.{ParseDecimalError}
-use Rattle.regroup_shared.specs.Sending.{Sends, ended_by}
-use Rattle.regroup_shared.proofs.ReadingLemmas.{readable-from_accepted, unreadable-from_refused}
+use Rattle.num_format.specs.Writing.{Sends}
+use Rattle.regroup_lines.specs.Ended.{ended_by}
+use Rattle.num_format.proofs.ReadableLemmas.{readable-from_accepted, unreadable-from_refused}
 use Rattle.regroup_lines.specs.Decimals.{decimal_read}
 use Rattle.regroup_lines.specs.Fault.{Fault}
 use Rattle.regroup_lines.specs.Fault.Fault.{Write}
@@ -26,7 +27,7 @@ use Rattle.regroup_lines.specs.Sending.{SendsLine}
 use Rattle.regroup_lines.specs.declared.line_fault.LineFault.{LineFault}
 use Rattle.regroup_lines.specs.declared.line_fault.LineFault.TheVariants as fault
 use Rattle.regroup_lines.specs.declared.rules.Reading.TheVariants.{Lenient, Strict}
-use Rattle.regroup_lines.proofs.DecimalLemmas.{decimal_read-parsed, decimal_read-refused}
+use Rattle.regroup_lines.proofs.DecimalLemmas.{decimal_read-parsed, decimal_read-refused, parsed-utf8}
 
 module _ (from : FormatData) (number : ℕ) (text : List ℕ) where
   -- the number of a text that is accepted
@@ -68,16 +69,16 @@ sends-line line_end a b = sends-line_by line_fault_of fault.Write refl line_end 
 
 -- the text of a number that is read strictly
 module _ (from to : FormatData) (number : ℕ) (text : List ℕ) where
-  pub strict-accepted : (d : FixedPoint) → ParsesDecimal from text d → number_written Strict from to number text ≡ Ok (decimal_text to d)
-  strict-accepted d parsed = rw (is_utf8-from_IsUtf8 text parsed.utf8, decimal_read-parsed from text d parsed) refl
+  pub strict-accepted : HasUtf8Texts from → (d : FixedPoint) → ParsesDecimal from text d → number_written Strict from to number text ≡ Ok (decimal_text to d)
+  strict-accepted utf8 d parsed = rw (is_utf8-from_IsUtf8 text (parsed-utf8 from utf8 text d parsed), decimal_read-parsed from utf8 text d parsed) refl
 
   strict-none : (utf8 : Bool) → is_utf8 text ≡ utf8 → decimal_read from text ≡ None → number_written Strict from to number text ≡ Err (text_fault number text)
   strict-none true utf8 none = rw (utf8, none) refl
   strict-none false utf8 none = rw utf8 refl
 
-  pub strict-refused : (r : Result FixedPoint ParseDecimalError) (e : ParseDecimalError) → r ≡ Err e →
+  pub strict-refused : HasUtf8Texts from → (r : Result FixedPoint ParseDecimalError) (e : ParseDecimalError) → r ≡ Err e →
       ((d : FixedPoint) → (r ≡ Ok d) ↔ ParsesDecimal from text d) → number_written Strict from to number text ≡ Err (text_fault number text)
-  strict-refused r e failed exactly = strict-none (is_utf8 text) refl (decimal_read-refused from text r e failed exactly)
+  strict-refused utf8 r e failed exactly = strict-none (is_utf8 text) refl (decimal_read-refused from utf8 text r e failed exactly)
 
   -- and leniently
   pub lenient-read : (n : ℤ) → number_in_text from number text ≡ Ok n → number_written Lenient from to number text ≡ Ok (text_of to n)

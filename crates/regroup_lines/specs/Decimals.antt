@@ -1,31 +1,47 @@
 -- The decimal that a text spells, as a value.
-use Rattle.std.specs.Prelude.{ℕ, ◌+◌, zero, suc, Bool, ◌&&◌, ◌||◌, if◌then◌else◌, List, [], ◌∷◌, Option, None, Some}
+use Rattle.std.specs.Prelude.{ℕ, ◌+◌, zero, suc, Bool, not, ◌&&◌, ◌||◌, if◌then◌else◌, List, [], Option, None, Some}
+use Rattle.std.specs.List.{list_any}
 use Rattle.std.specs.Option.{option_map}
-use Rattle.std.specs.Str.{bytes_eq, is_utf8}
+use Rattle.std.specs.Str.{bytes_eq, chars}
 use Rattle.num_format.specs.Format.{FormatData}
+use Rattle.num_format.specs.Grouped.{printed_separator}
+use Rattle.num_format.specs.Readable.{fits_i128}
+use Rattle.num_format.specs.Reading.{denoted, figures, is_other_numeral}
 use Rattle.num_format.specs.Strict.{ungrouped}
-use Rattle.num_format_decimal.specs.FixedPoint.{FixedPoint}
-use Rattle.num_format_decimal.specs.Parsing.{denoted_at}
+use Rattle.num_format_decimal.specs.FixedPoint.{FixedPoint, fixed_point}
 use Rattle.num_format_decimal.specs.Text.{decimal_text}
 use Rattle.num_format_decimal.specs.declared.decimal.TheConstants.{MAX_SCALE}
-use Rattle.regroup_shared.specs.Reading.{is_readable}
 
--- whether the text is that of the number which its digits write, with so many decimals, grouped or not
-unfoldable pub is_spelled_at : FormatData → List ℕ → ℕ → Bool
+-- whether no character of a text is numeric
+abbrev pub has_no_numeral : List ℕ → Bool
+has_no_numeral text = bytes_eq (figures text) [] && not (list_any is_other_numeral (chars text))
+
+-- whether this is so, and the text is not empty
+abbrev pub is_sign : List ℕ → Bool
+is_sign text = not (bytes_eq text []) && has_no_numeral text
+
+-- whether decimals can be told under the format: the minus sign and the decimal mark are not empty, no character of them or of a
+-- separator that is printed is numeric, and that is not the mark
+unfoldable pub marks_decimals : FormatData → Bool
+marks_decimals format =
+    let separator = printed_separator format.grouping format.separator in
+    is_sign format.minus_sign && (has_no_numeral separator && (is_sign format.decimal && not (bytes_eq format.decimal separator)))
+
+-- the number that the digits of the text write, with so many of them as decimals
+abbrev pub denoted_at : FormatData → List ℕ → (scale : ℕ) → FixedPoint
+denoted_at format text scale = fixed_point (denoted format text) scale
+
+-- whether the text is that of this decimal, grouped or not
+unfoldable pub is_spelled_at : FormatData → List ℕ → (scale : ℕ) → Bool
 is_spelled_at format text scale =
     bytes_eq text (decimal_text format (denoted_at format text scale)) || bytes_eq text (decimal_text (ungrouped format) (denoted_at format text scale))
 
--- the numbers of decimals below a bound for which it is
-unfoldable pub scales_below : FormatData → List ℕ → ℕ → List ℕ
-scales_below format text zero = []
-scales_below format text (suc n) = if is_spelled_at format text n then n ∷ scales_below format text n else scales_below format text n
+-- the largest number of decimals below a bound for which it is
+unfoldable pub scale_below : FormatData → List ℕ → (bound : ℕ) → Option ℕ
+scale_below format text zero = None
+scale_below format text (suc n) = if is_spelled_at format text n then Some n else scale_below format text n
 
--- the element of a list that has one
-abbrev pub only : List ℕ → Option ℕ
-only (n ∷ []) = Some n
-only _ = None
-
--- the decimal that the text spells under the format, if it is UTF-8, its digits are those of an i128, and it spells one decimal alone
+-- the decimal that the text spells, if decimals can be told under the format, and the digits are those of an i128
 unfoldable pub decimal_read : FormatData → List ℕ → Option FixedPoint
 decimal_read format text =
-    if is_utf8 text && is_readable format text then option_map (denoted_at format text) (only (scales_below format text (MAX_SCALE + 1))) else None
+    if marks_decimals format && fits_i128 (denoted format text) then option_map (denoted_at format text) (scale_below format text (MAX_SCALE + 1)) else None

@@ -3,7 +3,7 @@ use Rattle.std.specs.Prelude.{◌≡◌, ℕ, ◌+◌, ◌<◌, ◌≤◌, ◌==
 use Rattle.std.specs.Io.KnownBytes.{Appends, Consumes, IsAtEnd}
 use Rattle.std.specs.declared.ops.Range.{Range}
 use Rattle.num_format.specs.Writing.{StopsWithin}
-use Rattle.regroup_shared.specs.Sending.{ended_by}
+use Rattle.regroup_lines.specs.Ended.{ended_by}
 use Rattle.regroup_lines.specs.Fault.{Fault}
 use Rattle.regroup_lines.specs.Fault.Fault.{Flush, Read, TooMany, Write}
 use Rattle.regroup_lines.specs.Lines.{span_after}

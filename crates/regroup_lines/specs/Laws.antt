@@ -1,7 +1,7 @@
 -- A law of inputs that are split.
 use Rattle.std.specs.Prelude.{◌≡◌, ℕ, ◌+◌, false, ◌||◌, List, ◌++◌, Some, Ok}
 use Rattle.num_format.specs.Format.{FormatData}
-use Rattle.regroup_shared.specs.Sending.{ended_by}
+use Rattle.regroup_lines.specs.Ended.{ended_by}
 use Rattle.regroup_lines.specs.Fault.{are_any}
 use Rattle.regroup_lines.specs.Lines.{Regrouped, begins_with_mark, is_inside, regrouped, span_after}
 use Rattle.regroup_lines.specs.Lines.Stop.{Ended}

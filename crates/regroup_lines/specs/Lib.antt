@@ -1,6 +1,7 @@
 -- The definitions that the contracts of this crate use.
 pub mod Csv
 pub mod Decimals
+pub mod Ended
 pub mod Fault
 pub mod Fields
 pub mod Halt
@@ -12,4 +13,5 @@ pub mod Lists
 pub mod Messages
 pub mod Numbers
 pub mod Places
+pub mod Quoting
 pub mod Sending

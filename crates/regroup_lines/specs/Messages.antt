@@ -8,12 +8,12 @@ use Rattle.num_format_decimal.specs.Parsing.{unexpected_in_decimal}
 use Rattle.num_format_decimal.specs.declared.decimal.TheConstants.{MAX_SCALE}
 use Rattle.num_format_decimal.specs.declared.parsing.ParseDecimalError.{ParseDecimalError}
 use Rattle.num_format_decimal.specs.declared.parsing.ParseDecimalError.TheVariants.{Unexpected}
-use Rattle.regroup_shared.specs.Quoting.{quoted, shown}
-use Rattle.regroup_shared.specs.Reading.{number_read}
-use Rattle.regroup_shared.specs.Sending.{line}
-use Rattle.regroup_shared.specs.declared.quoting.TheConstants.{MAX_SHOWN_LEN}
+use Rattle.regroup_lines.specs.Quoting.{quoted, shown}
+use Rattle.num_format.specs.Readable.{number_read}
+use Rattle.regroup_lines.specs.Ended.{line}
+use Rattle.regroup_lines.specs.declared.quoting.TheConstants.{MAX_SHOWN_LEN}
 use Rattle.regroup_lines.specs.Csv.{is_quote}
-use Rattle.regroup_lines.specs.Decimals.{only, scales_below}
+use Rattle.regroup_lines.specs.Decimals.{marks_decimals, scale_below}
 use Rattle.regroup_lines.specs.Fault.{Fault}
 use Rattle.regroup_lines.specs.Fault.Fault.{TooMany, TooLong, FewFields, Read, NotText, FieldNotText, Line, Field, Unclosed, Write, Report, Flush}
 use Rattle.regroup_lines.specs.declared.rules.Reading.{Reading}
@@ -41,9 +41,11 @@ abbrev pub unless_spelled : (scale before : Option ℕ) → Option ℕ
 unless_spelled None before = before
 unless_spelled (Some scale) before = None
 
--- how many bytes of a text that spells no decimal are before the first one that strict parsing does not expect, if there is one
+-- how many bytes of a text that spells no decimal are before the first one that strict parsing does not expect, if there is one, and
+-- decimals can be told under the format
 unfoldable pub before_unexpected : FormatData → List ℕ → Option ℕ
-before_unexpected from text = unless_spelled (only (scales_below from text (MAX_SCALE + 1))) (before_rest text (unexpected_in_decimal from text))
+before_unexpected from text =
+    if marks_decimals from then unless_spelled (scale_below from text (MAX_SCALE + 1)) (before_rest text (unexpected_in_decimal from text)) else None
 
 -- the same by how the text is read: lenient reading names no byte
 abbrev pub before_fault : Reading → FormatData → List ℕ → Option ℕ

@@ -4,7 +4,8 @@ ghost use Rattle.std.specs.List.{flat_map, list_any};
 ghost use Rattle.std.specs.Option.{option_map};
 ghost use Rattle.std.specs.Result.{result_map_both};
 ghost use Rattle.num_format.specs.Format.{FormatData};
-ghost use Rattle.regroup_shared.specs.Sending.{Sends, ended_by};
+ghost use Rattle.num_format.specs.Writing.{Sends};
+ghost use Rattle.regroup_lines.specs.Ended.{ended_by};
 ghost use Rattle.regroup_lines.specs.Csv.{after_byte, after_text, blank_len, csv_place, csv_split, doubled, enclosed, is_inside_after, is_quote, is_quoted, needs_quotes, next_number, toggled};
 ghost use Rattle.regroup_lines.specs.Fields.{SendsIfOk, checked};
 ghost use Rattle.regroup_lines.specs.LineFaults.{line_fault_of};
@@ -14,6 +15,7 @@ ghost use Rattle.regroup_lines.specs.Places.{is_chosen, trimmed};
 ghost use Rattle.regroup_lines.specs.Sending.{SendsLine};
 ghost use Rattle.regroup_lines.specs.declared.rules.Rules.{Rules};
 
+use crate::capacities::MAX_SENT_LINE_LEN;
 use crate::fields::send_bytes;
 use crate::line_fault::LineFault;
 use crate::number::Number;
@@ -24,7 +26,6 @@ use memchr::memchr;
 use num_format::to_formatted_string::write_whole;
 use num_format::{Buffer, Format};
 use num_format_decimal::DecimalBuffer;
-use regroup_shared::MAX_SENT_LINE_LEN;
 use std::io;
 use std::io::Write;
 

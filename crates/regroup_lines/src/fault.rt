@@ -2,9 +2,9 @@
 ghost use Rattle.std.specs.Prelude.{◌≡◌, ◌≤◌, ◌++◌, Some, length};
 ghost use Rattle.regroup_lines.specs.Fault.{fault_of, line_prefix, long_text, message_of_fault};
 
+use crate::capacities::MAX_SENT_LEN;
 use arrayvec::ArrayString;
 use num_format::{Error, MAX_MESSAGE_LEN};
-use regroup_shared::MAX_SENT_LEN;
 use std::fmt;
 
 /// Why [`regroup_lines`](crate::regroup_lines) or [`regroup_at_most`](crate::regroup_at_most) stopped.

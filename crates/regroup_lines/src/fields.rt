@@ -4,7 +4,7 @@ ghost use Rattle.std.specs.List.{slice_split};
 ghost use Rattle.std.specs.Option.{option_map};
 ghost use Rattle.std.specs.Result.{result_map_both};
 ghost use Rattle.num_format.specs.Format.{FormatData};
-ghost use Rattle.regroup_shared.specs.Sending.{ended_by};
+ghost use Rattle.regroup_lines.specs.Ended.{ended_by};
 ghost use Rattle.regroup_lines.specs.Fields.{SendsIfOk, checked};
 ghost use Rattle.regroup_lines.specs.LineFaults.{line_fault_of};
 ghost use Rattle.regroup_lines.specs.Lines.{field_written, fields_replaced, fields_written};

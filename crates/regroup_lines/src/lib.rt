@@ -1,5 +1,7 @@
 //! Lines of numbers from one format to another, from any reader to any writer.
 //!
+//! Any file may be changed. `specs/Lines.antt` says what is written, and `regroup_stream` stands on it.
+//!
 //! [`regroup_lines`] parses each line of its input under one format, and prints the number under
 //! another. A line ends before a newline, the byte 10. Bytes after the last newline are a line, unless
 //! there are none.
@@ -14,6 +16,7 @@
 //! The input is read into an array, and parsed there. Only [`field_list`] allocates.
 #![tactic(auto)]
 
+mod capacities;
 mod csv;
 mod fault;
 mod fields;
@@ -24,11 +27,13 @@ mod line_fault;
 mod list;
 mod message;
 mod number;
+mod quoting;
 pub mod rules;
 
 ghost use Rattle.std.specs.Prelude.{◌≡◌, ◌+◌, [], ◌<◌, ◌≤◌, length, true};
 ghost use Rattle.std.specs.Result.{result_map_both};
-ghost use Rattle.regroup_shared.specs.Sending.{Sends, ended_by};
+ghost use Rattle.num_format.specs.Writing.{Sends};
+ghost use Rattle.regroup_lines.specs.Ended.{ended_by};
 ghost use Rattle.regroup_lines.specs.Fault.{are_any, fault_of};
 ghost use Rattle.regroup_lines.specs.Fields.{SendsIfOk};
 ghost use Rattle.regroup_lines.specs.Input.{IsLong, PassesLong, array_len, held};
@@ -47,6 +52,7 @@ use crate::line_fault::LineFault;
 pub use crate::list::field_list;
 pub use crate::message::{MAX_FAULT_MESSAGE_LEN, MAX_NAME_LEN, fault_message};
 use crate::number::{Around, Number};
+pub use crate::quoting::{MAX_QUOTED_LEN, quoted, shown};
 use crate::rules::{MARK, trim};
 pub use crate::rules::{FieldRange, Fields, Invalid, Reading, Records, Rules, Span, Within};
 use num_format::Format;

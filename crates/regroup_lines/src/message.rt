@@ -2,18 +2,19 @@
 ghost use Rattle.std.specs.Prelude.{◌≡◌, ◌≤◌, length};
 ghost use Rattle.std.specs.Result.{result_map_both};
 ghost use Rattle.num_format.specs.Refusal.{refusal_of};
-ghost use Rattle.regroup_shared.specs.Reading.{number_read};
+ghost use Rattle.num_format.specs.Readable.{number_read};
 ghost use Rattle.regroup_lines.specs.Fault.{fault_of};
 ghost use Rattle.regroup_lines.specs.Messages.{before_fault, before_in, byte_text, fault_message, field_message, kept_in, lenient_field_text, lenient_text, line_message, long_cause, read_text, refused_text};
 
 use crate::csv::has_quote;
 use crate::fault::RegroupFault;
+use crate::quoting::{MAX_QUOTED_LEN, MAX_SHOWN_LEN, quoted, shown};
 use crate::rules::Reading;
 use arrayvec::ArrayString;
+use num_format::laws::format_data;
 use num_format::parsing::ParseFormatted;
 use num_format::{Error, ErrorKind, Format};
 use num_format_decimal::{Decimal, ParseDecimalError};
-use regroup_shared::{MAX_QUOTED_LEN, MAX_SHOWN_LEN, quoted, shown};
 
 /// The most bytes of what is shown of a name: four for each of its bytes.
 pub const MAX_NAME_LEN: usize = 1024;
@@ -204,7 +205,7 @@ fn read_text(read: Result<i128, Error>) -> ArrayString<MAX_LENIENT_TEXT_LEN>
 /// # Errors
 ///
 /// Returns an error if the text does not parse as an `i128`.
-#[tactic(auto, using(regroup_shared::proofs::ReadingLemmas::number_read_from_parse))]
+#[tactic(auto, using(num_format::proofs::ReadableLemmas::number_read_from_parse))]
 fn number_read<F: Format>(text: &str, from: &F) -> Result<i128, Error>
     ensures { result_map_both (λ number. number) refusal_of result ≡ number_read (F.answers from.now) text.now }
 {
@@ -243,10 +244,13 @@ fn before_fault<F: Format>(reading: Reading, text: &str, from: &F) -> Option<usi
 {
     match reading {
         Reading::Lenient => None,
-        Reading::Strict => match Decimal::from_strict_str(text, from) {
-            Ok(_) => None,
-            Err(error) => before_in(error),
-        },
+        Reading::Strict => {
+            format_data(from);
+            match Decimal::from_strict_str(text, from) {
+                Ok(_) => None,
+                Err(error) => before_in(error),
+            }
+        }
     }
 }
 
@@ -256,7 +260,8 @@ fn before_in(error: ParseDecimalError) -> Option<usize>
 {
     match error {
         ParseDecimalError::Unexpected { at } => Some(at),
-        ParseDecimalError::NotUtf8
+        ParseDecimalError::AmbiguousFormat
+        | ParseDecimalError::NotUtf8
         | ParseDecimalError::NoDigit
         | ParseDecimalError::TooManyDecimals
         | ParseDecimalError::Misspelled

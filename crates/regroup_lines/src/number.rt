@@ -2,19 +2,21 @@
 ghost use Rattle.std.specs.Prelude.{◌≡◌, ◌<◌, [], ◌++◌, length};
 ghost use Rattle.std.specs.Result.{result_map_both};
 ghost use Rattle.num_format.specs.Format.{FormatData};
-ghost use Rattle.regroup_shared.specs.Sending.{Sends, ended_by};
+ghost use Rattle.num_format.specs.Writing.{Sends};
+ghost use Rattle.regroup_lines.specs.Ended.{ended_by};
 ghost use Rattle.regroup_lines.specs.LineFaults.{line_fault_of};
 ghost use Rattle.regroup_lines.specs.Lines.{number_written};
 ghost use Rattle.regroup_lines.specs.Numbers.{number_text};
 
+use crate::capacities::MAX_SENT_LINE_LEN;
 use crate::line_fault::LineFault;
 use crate::rules::Reading;
 use arrayvec::ArrayVec;
+use num_format::laws::format_data;
 use num_format::parsing::FromFormattedStr;
 use num_format::to_formatted_string::write_whole;
 use num_format::{Buffer, Format};
 use num_format_decimal::{Decimal, DecimalBuffer};
-use regroup_shared::MAX_SENT_LINE_LEN;
 use std::io::Write;
 
 /// The most bytes of a short line, with the byte that ends it.
@@ -59,10 +61,13 @@ impl Number {
             ≡ result_map_both (number_text to) line_fault_of result }
     {
         match reading {
-            Reading::Strict => match Decimal::from_strict_bytes(text, from) {
-                Ok(value) => Ok(Number::Decimal(value)),
-                Err(_) => Err(LineFault::NotANumber(number, text)),
-            },
+            Reading::Strict => {
+                format_data(from);
+                match Decimal::from_strict_bytes(text, from) {
+                    Ok(value) => Ok(Number::Decimal(value)),
+                    Err(_) => Err(LineFault::NotANumber(number, text)),
+                }
+            }
             Reading::Lenient => match i128::from_formatted_bytes(text, from) {
                 Ok(value) => Ok(Number::Whole(value)),
                 Err(_) => Err(LineFault::NotANumber(number, text)),

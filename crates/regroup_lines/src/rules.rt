@@ -1,6 +1,6 @@
 //! How the lines of an input are regrouped, and where the numbers of a line are.
 ghost use Rattle.std.specs.Prelude.{◌≡◌, ◌<◌, ◌≤◌, [], ◌∷◌, length, IfSome};
-ghost use Rattle.regroup_shared.specs.Sending.{ended_by};
+ghost use Rattle.regroup_lines.specs.Ended.{ended_by};
 ghost use Rattle.regroup_lines.specs.Lines.{is_inside, passes, passes_mark, span_after};
 ghost use Rattle.regroup_lines.specs.Lists.{one_field};
 ghost use Rattle.regroup_lines.specs.Places.{are_enough, is_at_most, is_chosen, is_chosen_from, is_enough, is_in_range, place_of, trimmed};

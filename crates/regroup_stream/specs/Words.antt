@@ -15,9 +15,9 @@ use Rattle.num_format.specs.Writing.{StopsWithin}
 use Rattle.num_format_decimal.specs.Marks.{MarksDecimals}
 use Rattle.regroup_lines.specs.declared.rules.Reading.{Reading}
 use Rattle.regroup_lines.specs.declared.rules.Reading.TheVariants.{Lenient, Strict}
-use Rattle.regroup_shared.specs.Formats.{custom_format}
-use Rattle.regroup_shared.specs.Quoting.{quoted}
-use Rattle.regroup_shared.specs.Sending.{line}
+use Rattle.num_format.specs.Building.{custom_format}
+use Rattle.regroup_lines.specs.Quoting.{quoted}
+use Rattle.regroup_lines.specs.Ended.{line}
 use Rattle.regroup_stream.specs.Files.{HoldsFormat, Unfit, unfit_message, unfit_of}
 use Rattle.regroup_stream.specs.Files.Unfit.{Unread}
 use Rattle.regroup_stream.specs.declared.words.Misuse.{Misuse}

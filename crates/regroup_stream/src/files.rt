@@ -2,15 +2,14 @@
 ghost use Rattle.std.specs.Prelude.{◌≡◌, ◌≤◌, ◌++◌, length};
 ghost use Rattle.std.specs.Result.{result_map_both};
 ghost use Rattle.num_format.specs.Json.{fault_of};
-ghost use Rattle.regroup_shared.specs.Quoting.{quoted};
+ghost use Rattle.regroup_lines.specs.Quoting.{quoted};
 ghost use Rattle.regroup_stream.specs.Files.{HoldsFormat, json_cause, unfit_message, unfit_of};
 
 use crate::ending::failure_message;
 use arrayvec::ArrayString;
 use num_format::CustomFormat;
 use num_format::json::{JsonFault, format_from_value};
-use regroup_lines::MAX_FAULT_MESSAGE_LEN;
-use regroup_shared::{MAX_QUOTED_LEN, quoted};
+use regroup_lines::{MAX_FAULT_MESSAGE_LEN, MAX_QUOTED_LEN, quoted};
 use serde_json::Value;
 use std::alloc::Global;
 use std::io::ErrorKind;

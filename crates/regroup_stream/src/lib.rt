@@ -1,6 +1,8 @@
 //! Lines of numbers from one format to another, as many as a `u64` counts: the program `regroup-lines`
 //! over any reader and any two writers.
 //!
+//! Any file may be changed. A status or a message that changes also changes in `man/regroup-lines.1`.
+//!
 //! | Status | Standard output | Standard error |
 //! |---|---|---|
 //! | 0 | each line, or one at fault as it is | nothing, or with [`Invalid::Warn`] the message of each line at fault |

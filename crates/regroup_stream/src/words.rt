@@ -11,8 +11,7 @@ use arrayvec::ArrayString;
 use num_format::to_formatted_string::write_whole;
 use num_format::{CustomFormat, Grouping, Locale};
 use num_format_decimal::marks_decimals;
-use regroup_lines::{MAX_FAULT_MESSAGE_LEN, Reading};
-use regroup_shared::{custom_format, quoted};
+use regroup_lines::{MAX_FAULT_MESSAGE_LEN, Reading, quoted};
 use std::alloc::Global;
 use std::io::{ErrorKind, Write};
 
@@ -169,7 +168,7 @@ fn format_named(word: &str) -> Option<CustomFormat>
     ensures { NamesFormat word.now result }
 {
     match word {
-        "plain" => custom_format("", Grouping::Posix, "-").ok(),
+        "plain" => CustomFormat::new("", Grouping::Posix, "-").ok(),
         _ => custom_or_locale_named(word),
     }
 }
@@ -198,7 +197,7 @@ fn custom_format_named(fields: &str) -> Option<CustomFormat>
 {
     let (fields, minus_sign) = split_last(fields)?;
     let (separator, grouping) = split_last(fields)?;
-    custom_format(separator, Grouping::from_name(grouping)?, minus_sign).ok()
+    CustomFormat::new(separator, Grouping::from_name(grouping)?, minus_sign).ok()
 }
 
 /// Returns what stands before the last colon, and what stands after it.

@@ -42,6 +42,7 @@ impl Checksum {
             StrictError::NoDigit => (3, 0),
             StrictError::Misspelled => (4, 0),
             StrictError::OutOfRange => (5, 0),
+            StrictError::AmbiguousFormat => (6, 0),
         };
         self.sum = self
             .sum

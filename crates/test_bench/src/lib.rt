@@ -1,6 +1,8 @@
 //! Printing, reading and looking names up, for the benchmark in `bench/`, which measures them beside
 //! the original.
 //!
+//! Any file may be changed, and `bench/` with it, which names each function.
+//!
 //! Each function takes a batch, and makes one call of `num_format` for each number, text or name of
 //! it. That call stands in a function that is not inlined, so that each pays for a call, and the
 //! result of each is used. All of them are proved safe, and what they read and print is what

@@ -4,20 +4,21 @@ ghost use Rattle.std.specs.Prelude.{IsUtf8};
 use crate::checksum::Checksum;
 use crate::constants::Constants;
 use crate::formats::{CONSTANTS, built, locale};
-use num_format::parsing::FromFormattedStr;
+use num_format::parsing::{FromFormattedStr, StrictParser};
 use num_format::{Format, Locale};
 use std::str::from_utf8_unchecked;
 
-/// The code of parsing that ignores what is no digit. Any other code is that of strict parsing.
+/// The code of parsing that ignores what is no digit.
 const LENIENT: u8 = 0;
+
+/// The code of strict parsing by one parser for all texts. Any other code is that of strict parsing which receives the
+/// format with each text.
+const BY_PARSER: u8 = 2;
 
 /// A way of reading a text, which keeps a sum over the errors.
 trait Reader {
     /// Reads one text, and adds the error if it is refused.
-    fn read<N, F>(&mut self, text: &str, format: &F) -> Option<N>
-    where
-        N: FromFormattedStr + Drop,
-        F: Format;
+    fn read<N: FromFormattedStr + Drop>(&mut self, text: &str) -> Option<N>;
 
     /// The sum over the errors.
     fn errors(&self) -> u64;
@@ -25,18 +26,15 @@ trait Reader {
 
 /// Parsing that ignores what is no digit. An error is added by the text that it keeps.
 #[derive(Drop)]
-struct Lenient {
+struct Lenient<'a, F> {
+    format: &'a F,
     errors: Checksum,
 }
 
-impl Reader for Lenient {
+impl<F: Format> Reader for Lenient<'_, F> {
     #[inline(never)]
-    fn read<N, F>(&mut self, text: &str, format: &F) -> Option<N>
-    where
-        N: FromFormattedStr + Drop,
-        F: Format,
-    {
-        match N::from_formatted_str(text, format) {
+    fn read<N: FromFormattedStr + Drop>(&mut self, text: &str) -> Option<N> {
+        match N::from_formatted_str(text, self.format) {
             Ok(number) => Some(number),
             Err(error) => {
                 self.errors.add_error(&error);
@@ -52,18 +50,39 @@ impl Reader for Lenient {
 
 /// Strict parsing. An error is added by its cause.
 #[derive(Drop)]
-struct Strict {
+struct Strict<'a, F> {
+    format: &'a F,
     errors: Checksum,
 }
 
-impl Reader for Strict {
+impl<F: Format> Reader for Strict<'_, F> {
     #[inline(never)]
-    fn read<N, F>(&mut self, text: &str, format: &F) -> Option<N>
-    where
-        N: FromFormattedStr + Drop,
-        F: Format,
-    {
-        match N::from_strict_str(text, format) {
+    fn read<N: FromFormattedStr + Drop>(&mut self, text: &str) -> Option<N> {
+        match N::from_strict_str(text, self.format) {
+            Ok(number) => Some(number),
+            Err(error) => {
+                self.errors.add_cause(error);
+                None
+            }
+        }
+    }
+
+    fn errors(&self) -> u64 {
+        self.errors.sum()
+    }
+}
+
+/// The same by a parser.
+#[derive(Drop)]
+struct ByParser<'a, F: Format> {
+    parser: StrictParser<'a, F>,
+    errors: Checksum,
+}
+
+impl<F: Format> Reader for ByParser<'_, F> {
+    #[inline(never)]
+    fn read<N: FromFormattedStr + Drop>(&mut self, text: &str) -> Option<N> {
+        match self.parser.parse(text) {
             Ok(number) => Some(number),
             Err(error) => {
                 self.errors.add_cause(error);
@@ -79,17 +98,10 @@ impl Reader for Strict {
 
 /// Reads texts of the lengths, which stand one after another, into `numbers`, and returns how many
 /// were accepted, plus a sum over the errors.
-fn read_each<N, S, F, R>(
-    texts: &[u8],
-    lengths: &[usize],
-    format: &F,
-    numbers: &mut [S],
-    reader: &mut R,
-) -> u64
+fn read_each<N, S, R>(texts: &[u8], lengths: &[usize], numbers: &mut [S], reader: &mut R) -> u64
 where
     N: FromFormattedStr + Drop,
     S: From<N> + Drop,
-    F: Format,
     R: Reader,
     requires { IsUtf8 texts.now }
 {
@@ -99,7 +111,7 @@ where
         let Some((text, rest)) = left.split_at_checked(*length) else {
             break;
         };
-        if let Some(read) = reader.read::<N, F>(text, format) {
+        if let Some(read) = reader.read::<N>(text) {
             *number = S::from(read);
             accepted = accepted.wrapping_add(1);
         }
@@ -108,29 +120,30 @@ where
     accepted.wrapping_add(reader.errors())
 }
 
-/// Reads texts under the format of a code.
-fn read_under<N, S, R>(
+/// Reads texts in the way of a code.
+fn read_in_way<N, S, F>(
     texts: &[u8],
     lengths: &[usize],
-    format: u8,
+    way: u8,
+    format: &F,
     numbers: &mut [S],
-    reader: &mut R,
 ) -> u64
 where
     N: FromFormattedStr + Drop,
     S: From<N> + Drop,
-    R: Reader,
+    F: Format,
     requires { IsUtf8 texts.now }
 {
-    if let Some(locale) = locale(format) {
-        return read_each::<N, _, _, _>(texts, lengths, &locale, numbers, reader);
-    }
-    if format == CONSTANTS {
-        return read_each::<N, _, _, _>(texts, lengths, &Constants, numbers, reader);
-    }
-    match built(format) {
-        Ok(format) => read_each::<N, _, _, _>(texts, lengths, &format, numbers, reader),
-        Err(_) => 0,
+    let errors = Checksum::new();
+    match way {
+        LENIENT => read_each::<N, _, _>(texts, lengths, numbers, &mut Lenient { format, errors }),
+        BY_PARSER => match StrictParser::new(format) {
+            Ok(parser) => {
+                read_each::<N, _, _>(texts, lengths, numbers, &mut ByParser { parser, errors })
+            }
+            Err(_) => 0,
+        },
+        _ => read_each::<N, _, _>(texts, lengths, numbers, &mut Strict { format, errors }),
     }
 }
 
@@ -142,11 +155,15 @@ where
     S: From<N> + Drop,
     requires { IsUtf8 texts.now }
 {
-    let errors = Checksum::new();
-    if way == LENIENT {
-        read_under::<N, _, _>(texts, lengths, format, numbers, &mut Lenient { errors })
-    } else {
-        read_under::<N, _, _>(texts, lengths, format, numbers, &mut Strict { errors })
+    if let Some(locale) = locale(format) {
+        return read_in_way::<N, _, _>(texts, lengths, way, &locale, numbers);
+    }
+    if format == CONSTANTS {
+        return read_in_way::<N, _, _>(texts, lengths, way, &Constants, numbers);
+    }
+    match built(format) {
+        Ok(format) => read_in_way::<N, _, _>(texts, lengths, way, &format, numbers),
+        Err(_) => 0,
     }
 }
 

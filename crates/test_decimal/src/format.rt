@@ -19,6 +19,15 @@ pub fn format_named(name: &str) -> Option<CustomFormat> {
             .separator("<<<<>>>>")
             .decimal("[[[[]]]]")
             .minus_sign("--------"),
+        "without a sign" => builder.minus_sign(""),
+        "without a mark" => builder.decimal(""),
+        "a mark that separates" => builder.decimal(","),
+        "a digit in the mark" => builder.decimal("0"),
+        "a numeral in the mark" => builder.decimal("\u{663}"),
+        "a digit in the sign" => builder.minus_sign("-0"),
+        "a digit in the separator" => builder.separator("7"),
+        "a digit that is not printed" => builder.grouping(Grouping::Posix).separator("7"),
+        "a mark that is not printed" => builder.grouping(Grouping::Posix).separator("."),
         _ => return None,
     };
     builder.build().ok()

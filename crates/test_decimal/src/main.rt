@@ -1,5 +1,7 @@
 //! Prints what num_format_decimal makes of rows of decimals and of texts.
 //!
+//! `tools/decimal_texts.py` writes `stdin` and `stdout`. Any other file may be changed.
+//!
 //! Standard input has one a line: after `print` and a tab a [`Row`], after `parse` and a tab a [`Text`]. The
 //! modules describe the fields, and what is printed for each.
 //!

@@ -2,7 +2,7 @@
 
 use crate::format::format_named;
 use num_format_custom::CustomFormat;
-use num_format_decimal::Decimal;
+use num_format_decimal::{Decimal, DecimalParser, ParseAtScaleError};
 use std::alloc::{AllocError, Global};
 use std::{fmt, io};
 
@@ -28,12 +28,26 @@ impl<'a> Text<'a> {
     }
 
     /// Prints a line with what strict parsing returns of the text, and what parsing at the scale does: the units
-    /// and the scale of a decimal, or the error.
+    /// and the scale of a decimal, or the error. Where a parser returns something else, that follows.
     pub fn print(&self, rt: &impl Print, alloc: Global) -> io::Result<()> {
         let parsed = written(alloc, Decimal::from_strict_str(self.text, &self.format))?;
         let at_scale = Decimal::parse_at_scale(self.text, self.scale, &self.format);
         let at_scale = written(alloc, at_scale)?;
-        println!(rt; "{parsed}\t{at_scale}")
+        let (by_parser, by_parser_at_scale) = match DecimalParser::new(&self.format) {
+            Ok(parser) => (
+                written(alloc, parser.parse(self.text))?,
+                written(alloc, parser.parse_at_scale(self.text, self.scale))?,
+            ),
+            Err(error) => (
+                written(alloc, Err(error))?,
+                written(alloc, Err(ParseAtScaleError::Parse(error)))?,
+            ),
+        };
+        if (&by_parser, &by_parser_at_scale) == (&parsed, &at_scale) {
+            println!(rt; "{parsed}\t{at_scale}")
+        } else {
+            println!(rt; "{parsed}\t{at_scale}\t{by_parser}\t{by_parser_at_scale}")
+        }
     }
 }
 

@@ -7,7 +7,7 @@ use std::alloc::Global;
 use std::io::{BufWriter, ErrorKind, LineWriter};
 use std::process::Abort;
 use std::{io, test};
-use test_memory::longest::{LONGEST, longest_format};
+use test_printing::longest::{LONGEST, longest_format};
 
 /// The space of each writer in bytes, enough for the longest text.
 pub const SPACE: usize = 191;

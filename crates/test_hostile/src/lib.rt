@@ -1,5 +1,7 @@
 //! Writers and readers that fail: what holds after an error.
 //!
+//! Any file may be changed. A script of steps says what fails, and when.
+//!
 //! [`Scripted`] is a writer that does what a list of steps says. Its contract states the bytes that it
 //! received, the space that is left, and which step each call takes, so which writes fail or write
 //! nothing. [`ScriptedReader`] is such a reader: its contract states the bytes that are left, and how

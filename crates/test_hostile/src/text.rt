@@ -8,7 +8,7 @@ use std::alloc::Global;
 use std::fmt::Formatter;
 use std::process::Abort;
 use std::test;
-use test_memory::longest::{LONGEST, longest_format};
+use test_printing::longest::{LONGEST, longest_format};
 
 /// The steps of a writer, the count that is returned where it does not fail, and the text that the
 /// writer received.

@@ -28,8 +28,8 @@
 //! text with `=TEXT`, as `minus_sign=2d`.
 //!
 //! Most cases stand for several calls: [`printing`](crate::printing) has the ways of printing, a
-//! text is parsed as a `&str` and as a `String`, strictly also as bytes, a name is looked up by `from_name`, `parse` and
-//! `from_name_traced`, and the data of a locale are read by its getters, as a format, and from the
+//! text is parsed as a `&str` and as a `String`, strictly also as bytes and by a parser, a name is looked up by
+//! `from_name`, `parse` and `from_name_traced`, and the data of a locale are read by its getters, as a format, and from the
 //! [`CustomFormat`] made of it. Where these differ, the result says so, and is not the expected one.
 
 use num_format::{CustomFormat, Grouping, Locale};

@@ -1,5 +1,7 @@
 //! Compares `num_format` with recorded results of the Rust crate `num-format` 0.4.4.
 //!
+//! The results in `stdin` were recorded and stay. Any other file may be changed.
+//!
 //! Standard input has one case a line: a call, and the result that is expected of it. The module
 //! [`case`] describes the fields. A line that begins with `#` is a comment. The expected results,
 //! by the kind of the case:
@@ -26,7 +28,7 @@
 //! An error keeps the text truncated at a character within 256 bytes, as the port promises; that
 //! crate keeps the whole text. The cases below the comment on examples were not recorded: they were
 //! worked out by hand from the rules of grouping, of parsing, of names, of builders and of JSON, and
-//! `tools/examples.py` has them.
+//! `tools/examples.tsv` has them.
 //!
 //! The program prints the first results that differ from the expected ones, the first lines that
 //! could not be read, and then, for each kind, how many cases there were and how many differ. The

@@ -3,7 +3,7 @@
 use crate::building::{built, from_json};
 use crate::case::{Call, NamedFormat};
 use crate::printing::printed;
-use num_format::parsing::{FromFormattedStr, ParseFormatted, StrictError};
+use num_format::parsing::{FromFormattedStr, ParseFormatted, StrictError, StrictParser};
 use num_format::{CustomFormat, Error, ErrorKind, Format, Grouping, Locale, ToFormattedString};
 use std::alloc::Global;
 use std::fmt::Display;
@@ -144,7 +144,7 @@ where
     )
 }
 
-/// Returns the result of parsing a text strictly, as bytes, as a `&str` and as a `String`.
+/// Returns the result of parsing a text strictly, as bytes, as a `&str` and as a `String`, and by a parser.
 fn strictly<N, F>(alloc: Global, text: &str, format: &F) -> Option<String>
 where
     N: FromFormattedStr + Display + Drop,
@@ -155,10 +155,18 @@ where
         parsed_strictly::<N>(alloc, N::from_strict_bytes(text.as_bytes(), format))?,
         parsed_strictly::<N>(alloc, text.parse_strict(format))?,
     )?;
-    agreed(
+    let of_string = agreed(
         of_str,
         parsed_strictly::<N>(alloc, string.parse_strict(format))?,
-    )
+    )?;
+    let by_parser = match StrictParser::new(format) {
+        Ok(parser) => agreed(
+            parsed_strictly::<N>(alloc, parser.parse(text))?,
+            parsed_strictly::<N>(alloc, parser.parse_bytes(text.as_bytes()))?,
+        )?,
+        Err(error) => parsed_strictly::<N>(alloc, Err(error))?,
+    };
+    agreed(of_string, by_parser)
 }
 
 /// Returns the number that a text was parsed to, or the error.

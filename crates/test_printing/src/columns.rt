@@ -1,9 +1,9 @@
 //! Numbers displayed in columns, and the lengths of their texts.
 
 use crate::asserting::assert_equal;
+use crate::longest::longest_format;
 use num_format::{Locale, ToFormattedString, text_len, text_width};
 use std::test::Fail;
-use test_memory::longest::longest_format;
 
 /// Twelve columns, to the right where no side is asked for.
 #[test]

@@ -1,5 +1,7 @@
 //! Tests of printing: one text by every way, into each writer, under each grouping.
 //!
+//! Any file may be changed. Expected values are worked out by hand.
+//!
 //! No expected value comes from the code under test: `left_to_right` has a plain function, and all else was
 //! worked out by hand from the rules of grouping. A number to print under a locale or a built format needs
 //! no test of its own: it is a test case of `test_oracle`.
@@ -15,9 +17,12 @@
 //! | `slices` | slices of bytes, too short and long enough |
 //! | `files` | a file, written and read back |
 //! | `callers` | two numbers into one writer, and a number through a reference to a string |
+//! | `memory` | calls that take memory, where it is refused |
+//! | `without_memory` | calls that take none |
 //!
-//! `asserting`, `every_way` and `numbers` serve these tests. Writers that fail, and memory that is refused,
-//! are tested in `test_hostile`.
+//! `tools/memory_checks.py` runs each test of the last two, counts its requests for memory, and refuses them in
+//! turn. `asserting`, `every_way` and `numbers` serve these tests, and [`longest`], the longest text of a number,
+//! those of `test_hostile` too, which has writers that fail.
 #![tactic(auto)]
 
 #[cfg(test)]
@@ -33,6 +38,9 @@ mod every_way;
 mod files;
 #[cfg(test)]
 mod left_to_right;
+pub mod longest;
+#[cfg(test)]
+mod memory;
 #[cfg(test)]
 mod numbers;
 pub mod own_format;
@@ -42,5 +50,7 @@ mod slices;
 mod strings;
 #[cfg(test)]
 mod under_own_format;
+#[cfg(test)]
+mod without_memory;
 #[cfg(test)]
 mod writers;

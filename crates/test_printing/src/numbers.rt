@@ -1,11 +1,11 @@
 //! Numbers written to any writer.
 
 use crate::asserting::assert_equal;
+use crate::longest::longest_format;
 use num_format::{CustomFormat, WriteFormatted};
 use std::io;
 use std::process::Abort;
 use std::test::Fail;
-use test_memory::longest::longest_format;
 
 /// What [`append_numbers`] writes: 1000 twice, and the longest of all texts, which is that of `i128::MIN`
 /// in Indian groups with a separator and a minus sign of eight bytes.

@@ -3,7 +3,7 @@
 use crate::asserting::assert_equal;
 use crate::every_way;
 use crate::own_format::{Sevens, WithoutMinus};
-use num_format::parsing::{FromFormattedStr, ParseFormatted};
+use num_format::parsing::{FromFormattedStr, ParseFormatted, StrictError};
 use num_format::{CustomFormat, Format, Grouping, ToFormattedString, prints_alike, reads_back};
 use std::alloc::Global;
 use std::fmt::Debug;
@@ -93,6 +93,7 @@ fn an_empty_minus_sign(rt: HostRuntime) -> Result<(), Fail> {
 /// Both certificates take a format of one's own.
 #[test]
 fn certificates(rt: HostRuntime) {
+    let refused = Err::<i32, _>(StrictError::AmbiguousFormat);
     for grouping in [
         Grouping::Standard,
         Grouping::Indian,
@@ -102,10 +103,12 @@ fn certificates(rt: HostRuntime) {
     ] {
         let format = Sevens { grouping };
         assert_equal(&rt, reads_back(&format), false);
+        assert_equal(&rt, "5".parse_strict(&format), refused);
         assert_equal(&rt, prints_alike(&format, &format), true);
         assert_equal(&rt, prints_alike(&format, &WithoutMinus), false);
     }
     assert_equal(&rt, reads_back(&WithoutMinus), false);
+    assert_equal(&rt, "5".parse_strict(&WithoutMinus), refused);
 }
 
 #[test]

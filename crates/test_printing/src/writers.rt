@@ -1,12 +1,12 @@
 //! Numbers into std's writers of bytes.
 
 use crate::asserting::assert_equal;
+use crate::longest::longest_format;
 use crate::numbers::{LEN, append_numbers, append_thousand, assert_numbers, write_thousand};
 use num_format::WriteFormatted;
 use std::io;
 use std::io::{BufWriter, Cursor, LineWriter, Lock, Write};
 use std::test::Fail;
-use test_memory::longest::longest_format;
 
 #[test]
 fn vectors(rt: HostRuntime) -> Result<(), Fail> {

@@ -10,8 +10,10 @@
 //! | appended | all | with a character appended that is not numeric, the text is parsed as the same number, or refused as before, unless it begins with the minus sign only now |
 //! | strict | whose bytes are parsed strictly as a number | the bytes are parsed as the same number |
 //! | spelled | the same | printed, grouped or not, this number has the bytes |
+//! | ambiguous | all | the bytes are refused for the format alone exactly if `reads_back` is false of it |
 //! | strict again | with a format of which `reads_back` is true | the printed number, grouped or not, is parsed strictly as the same number |
 //! | decimal spelled | whose bytes are parsed as a decimal | printed, grouped or not, this decimal has the bytes |
+//! | decimal ambiguous | all | the bytes are refused as a decimal for the format alone exactly if `marks_decimals` is false of it |
 //! | decimal again | with a format of which `marks_decimals` is true | the printed decimal, grouped or not, is parsed as one of the same units and scale |
 //! | builds | all | the custom format has the texts and the grouping that the builder received |
 //! | finds | all | the text is a locale's name, with hyphens or with underscores, or is refused with such an error |
@@ -23,9 +25,10 @@ ghost use Rattle.std.specs.Prelude.{◌≤◌};
 
 use crate::input::Input;
 use crate::properties::{
-    are_ways_alike, finds_or_refuses, has_length, ignores_appended, is_buffer_alike_in_json,
-    is_decimal_parsed, is_decimal_spelled, is_format_alike_in_json, is_found_by_its_name,
-    is_locale_alike_in_json, is_parsed_strictly, is_parsed_too, is_spelled, parses_or_refuses,
+    are_ways_alike, finds_or_refuses, has_length, ignores_appended, is_ambiguous,
+    is_buffer_alike_in_json, is_decimal_ambiguous, is_decimal_parsed, is_decimal_spelled,
+    is_format_alike_in_json, is_found_by_its_name, is_locale_alike_in_json, is_parsed_strictly,
+    is_parsed_too, is_spelled, parses_or_refuses,
 };
 use crate::report::Report;
 use num_format::parsing::FromFormattedStr;
@@ -59,6 +62,7 @@ pub struct Printing {
     pub appended: bool,
     pub strict: Option<bool>,
     pub spelled: Option<bool>,
+    pub ambiguous: bool,
     pub strict_again: Option<bool>,
     pub json_buffer: bool,
 }
@@ -67,6 +71,7 @@ pub struct Printing {
 #[derive(Drop)]
 pub struct Decimals {
     pub spelled: Option<bool>,
+    pub ambiguous: bool,
     pub again: Option<bool>,
 }
 
@@ -76,6 +81,7 @@ impl Decimals {
         let marks = marks_decimals(format);
         Decimals {
             spelled: is_decimal_spelled(&input.bytes, format),
+            ambiguous: is_decimal_ambiguous(&input.bytes, format) != marks,
             again: marks.then_some(is_decimal_parsed(input.decimal, format)),
         }
     }
@@ -180,6 +186,7 @@ impl<F: Format> Check<'_, F> {
             appended: ignores_appended::<N, F>(alloc, text, format)?,
             strict: is_parsed_too::<N, F>(bytes, format),
             spelled: is_spelled::<N, F>(bytes, format),
+            ambiguous: is_ambiguous::<N, F>(bytes, format) != reads_back,
             strict_again: reads_back.then_some(is_parsed_strictly(number, format)),
             json_buffer: is_buffer_alike_in_json(alloc, &buffer)?,
         })

@@ -1,5 +1,7 @@
 //! Checks properties of `num_format` on arbitrary bytes.
 //!
+//! Any file may be changed. Each property has a line in `stdout`.
+//!
 //! Standard input is cut into records, each of which is an input: an integer type, a number, a format
 //! and a text. The module [`input`] has the rule, by which any bytes are an input. No expected result
 //! is needed, since each property is about what the calls return, as that a printed number parses as

@@ -4,12 +4,12 @@ use num_format::json::{
     buffer_from_value, buffer_to_value, format_from_value, format_to_value, locale_from_value,
     locale_to_value,
 };
-use num_format::parsing::FromFormattedStr;
+use num_format::parsing::{FromFormattedStr, StrictError};
 use num_format::{
     Buffer, CustomFormat, Error, ErrorKind, Format, Grouping, Locale, ToFormattedStr,
     ToFormattedString, WriteFormatted,
 };
-use num_format_decimal::{Decimal, DecimalBuffer, ParseDecimal};
+use num_format_decimal::{Decimal, DecimalBuffer, ParseDecimal, ParseDecimalError};
 use std::alloc::Global;
 use std::fmt::Display;
 use std::io;
@@ -142,6 +142,15 @@ where
     Some(grouped.as_bytes() == bytes || ungrouped.as_bytes() == bytes)
 }
 
+/// Returns whether the bytes are refused for the format alone.
+pub fn is_ambiguous<N, F>(bytes: &[u8], format: &F) -> bool
+where
+    N: FromFormattedStr + PartialEq + Copy,
+    F: Format,
+{
+    N::from_strict_bytes(bytes, format) == Err(StrictError::AmbiguousFormat)
+}
+
 /// Returns whether the printed number, grouped or not, is parsed strictly as this number.
 pub fn is_parsed_strictly<N, F>(number: N, format: &F) -> bool
 where
@@ -167,6 +176,11 @@ pub fn is_decimal_spelled<F: Format>(bytes: &[u8], format: &F) -> Option<bool> {
     let decimal = Decimal::from_strict_bytes(bytes, format).ok()?;
     let [grouped, ungrouped] = decimal_spellings(&decimal, format);
     Some(grouped.as_bytes() == bytes || ungrouped.as_bytes() == bytes)
+}
+
+/// Returns whether the bytes are refused as a decimal for the format alone.
+pub fn is_decimal_ambiguous<F: Format>(bytes: &[u8], format: &F) -> bool {
+    Decimal::from_strict_bytes(bytes, format) == Err(ParseDecimalError::AmbiguousFormat)
 }
 
 /// Returns whether the printed decimal, grouped or not, is parsed as one of the same units and scale.

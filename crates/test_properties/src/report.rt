@@ -63,8 +63,10 @@ pub struct Report {
     appended: Tally,
     strict: Tally,
     spelled: Tally,
+    ambiguous: Tally,
     strict_again: Tally,
     decimal_spelled: Tally,
+    decimal_ambiguous: Tally,
     decimal_again: Tally,
     builds: Tally,
     finds: Tally,
@@ -86,8 +88,10 @@ impl Report {
             appended: Tally::new("appended", negated),
             strict: Tally::new("strict", negated),
             spelled: Tally::new("spelled", negated),
+            ambiguous: Tally::new("ambiguous", negated),
             strict_again: Tally::new("strict again", negated),
             decimal_spelled: Tally::new("decimal spelled", negated),
+            decimal_ambiguous: Tally::new("decimal ambiguous", negated),
             decimal_again: Tally::new("decimal again", negated),
             builds: Tally::new("builds", negated),
             finds: Tally::new("finds", negated),
@@ -117,12 +121,15 @@ impl Report {
         if let Some(holds) = printing.spelled {
             self.spelled.add(index, holds);
         }
+        self.ambiguous.add(index, printing.ambiguous);
         if let Some(holds) = printing.strict_again {
             self.strict_again.add(index, holds);
         }
         if let Some(holds) = outcomes.decimals.spelled {
             self.decimal_spelled.add(index, holds);
         }
+        self.decimal_ambiguous
+            .add(index, outcomes.decimals.ambiguous);
         if let Some(holds) = outcomes.decimals.again {
             self.decimal_again.add(index, holds);
         }
@@ -148,7 +155,7 @@ impl Report {
         Ok(lines)
     }
 
-    fn tallies(&self) -> [&Tally; 17] {
+    fn tallies(&self) -> [&Tally; 19] {
         [
             &self.ways,
             &self.length,
@@ -158,8 +165,10 @@ impl Report {
             &self.appended,
             &self.strict,
             &self.spelled,
+            &self.ambiguous,
             &self.strict_again,
             &self.decimal_spelled,
+            &self.decimal_ambiguous,
             &self.decimal_again,
             &self.builds,
             &self.finds,

@@ -1,4 +1,3 @@
-pub mod AmountLemmas
 pub mod EntryLemmas
 pub mod ReportLemmas
 pub mod SumLemmas

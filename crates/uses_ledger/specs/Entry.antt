@@ -1,13 +1,8 @@
 -- The entry of a line, and why a line is refused.
-use Rattle.std.specs.Prelude.{◌≡◌, ◌<◌, ◌≤◌, ℕ, ◌==◌, List, length}
+use Rattle.std.specs.Prelude.{◌≡◌, ◌<◌, ℕ, ◌==◌, List, length}
 use Rattle.std.specs.List.{All, after_first, before_first, position_or_len}
 use Rattle.num_format.specs.Format.{FormatData}
-use Rattle.num_format_decimal.specs.FixedPoint.{FixedPoint}
-use Rattle.num_format_decimal.specs.Parsing.{IsAtScaleCause, SpellsDecimal}
-use Rattle.num_format_decimal.specs.Rounded.{CanRescale, rescaled}
-use Rattle.num_format_decimal.specs.Values.{HasUnits}
-use Rattle.num_format_decimal.specs.declared.decimal.TheConstants.{MAX_SCALE}
-use Rattle.num_format_decimal.specs.declared.rounding.Rounding.TheVariants.{Exact}
+use Rattle.num_format_decimal.specs.Parsing.{IsAtScaleCause, ParsesAtScale}
 use Rattle.uses_ledger.specs.declared.entry.TheConstants.{SCALE}
 use Rattle.uses_ledger.specs.declared.entry.Entry.{Entry}
 use Rattle.uses_ledger.specs.declared.entry.LedgerError.{LedgerError}
@@ -21,20 +16,11 @@ name_in line = before_first (λ b. b == 9) line
 abbrev pub amount_in : List ℕ → List ℕ
 amount_in line = after_first (λ b. b == 9) line
 
--- the text is that of a decimal, grouped or not, and the amount is the same number at the scale of the ledger
-pub record SpellsAmount (f : FormatData) (t : List ℕ) (amount : FixedPoint) : Type 0 where
-  pub spelled : FixedPoint
-  pub bound : spelled.scale ≤ MAX_SCALE
-  pub units : HasUnits spelled
-  pub text : SpellsDecimal f t spelled
-  pub can : CanRescale Exact spelled SCALE
-  pub same : amount ≡ rescaled Exact spelled SCALE
-
 -- a line has a tab, and is that of an entry: its name stands before the tab, and the text of its amount after it
 pub record IsLineOf (f : FormatData) (line : List ℕ) (e : Entry) : Type 0 where
   pub tab : position_or_len (λ b. b == 9) line < length line
   pub name : e.name.now ≡ name_in line
-  pub amount : SpellsAmount f (amount_in line) e.amount
+  pub amount : ParsesAtScale f (amount_in line) SCALE e.amount
 
 -- each amount has the scale of the ledger
 abbrev pub IsOfOneScale : List Entry → Type 0

@@ -4,13 +4,13 @@ ghost use Rattle.std.specs.List.{AllZip};
 ghost use Rattle.std.specs.Str.Lines.{lines};
 ghost use Rattle.num_format_decimal.specs.FixedPoint.{FixedPoint};
 ghost use Rattle.num_format_decimal.specs.Marks.{MarksDecimals};
-ghost use Rattle.num_format_decimal.specs.Parsing.{IsAtScaleCause};
+ghost use Rattle.num_format_decimal.specs.Parsing.{IsAtScaleCause, ParsesAtScale};
 ghost use Rattle.num_format_decimal.specs.declared.parsing.ParseAtScaleError.{ParseAtScaleError};
-ghost use Rattle.uses_ledger.specs.Entry.{IsLineOf, IsOfOneScale, Refuses, SpellsAmount};
+ghost use Rattle.uses_ledger.specs.Entry.{IsLineOf, IsOfOneScale, Refuses};
 ghost use Rattle.uses_ledger.specs.declared.entry.LedgerError.TheVariants.{AmbiguousFormat, NoMemory};
 
 use num_format::Format;
-use num_format_decimal::{Decimal, ParseAtScaleError, laws, marks_decimals};
+use num_format_decimal::{Decimal, DecimalParser, ParseAtScaleError};
 use std::alloc::Global;
 use std::io;
 
@@ -42,17 +42,18 @@ pub enum LedgerError {
 }
 
 /// Returns the amount that a text spells: the text is that of a decimal, grouped or not, and the amount is the
-/// same number at the scale of the ledger. Every decimal reads back under the format, so a text spells one
-/// amount at most. Under `en` the text `1,234.5` spells 1234.50, and `1.255` is refused with `Rescale(DigitsLost)`.
-pub fn parse_amount<F: Format>(text: &str, format: &F) -> Result<Decimal, ParseAtScaleError>
-    requires { MarksDecimals (F.answers format.now) }
+/// same number at the scale of the ledger. Under `en` the text `1,234.5` spells 1234.50, and `1.255` is refused with
+/// `Rescale(DigitsLost)`.
+pub fn parse_amount<'a, F: Format>(
+    text: &str,
+    parser: &DecimalParser<'a, F>,
+) -> Result<Decimal, ParseAtScaleError>
     ensures exact { (amount : FixedPoint) → (result ≡ Ok amount)
-        ↔ SpellsAmount (F.answers format.now) text.now amount }
+        ↔ ParsesAtScale parser.now text.now SCALE amount }
     ensures refused { (e : ParseAtScaleError) → (result ≡ Err e)
-        ↔ IsAtScaleCause (F.answers format.now) text.now SCALE e }
+        ↔ IsAtScaleCause parser.now text.now SCALE e }
 {
-    laws::exact_under(format);
-    Decimal::parse_at_scale(text, SCALE, format)
+    parser.parse_at_scale(text, SCALE)
 }
 
 /// Returns the entry of a line: the name stands before the first tab, and the amount after it.
@@ -60,14 +61,18 @@ pub fn parse_amount<F: Format>(text: &str, format: &F) -> Result<Decimal, ParseA
 /// # Errors
 ///
 /// Returns [`LedgerError::NoTab`], or the cause for which the amount is refused.
-pub fn parse_entry<'a, F: Format>(line: &'a str, format: &F) -> Result<Entry<'a>, LedgerError>
-    requires { MarksDecimals (F.answers format.now) }
-    ensures entry { IfOk result (IsLineOf (F.answers format.now) line.now) }
-    ensures refused { IfErr result (Refuses (F.answers format.now) line.now) }
+pub fn parse_entry<'a, 'b, F: Format>(
+    line: &'a str,
+    parser: &DecimalParser<'b, F>,
+) -> Result<Entry<'a>, LedgerError>
+    ensures entry { IfOk result (IsLineOf parser.now line.now) }
+    ensures refused { IfErr result (Refuses parser.now line.now) }
 {
     let (name, amount) = line.split_once('\t').ok_or(LedgerError::NoTab)?;
-    let amount = parse_amount(amount, format).map_err(LedgerError::Amount)?;
-    Ok(Entry { name, amount })
+    match parse_amount(amount, parser) {
+        Ok(amount) => Ok(Entry { name, amount }),
+        Err(error) => Err(LedgerError::Amount(error)),
+    }
 }
 
 /// Returns the entries of all lines, in their order. Their amounts are of one scale.
@@ -89,13 +94,13 @@ pub fn read_entries<'a, F: Format>(
         ⊎ (((e ≡ AmbiguousFormat) × ¬ (MarksDecimals (F.answers format.now)))
         ⊎ Any (λ line. Refuses (F.answers format.now) line e) (lines text.now))) }
 {
-    if !marks_decimals(format) {
+    let Ok(parser) = DecimalParser::new(format) else {
         return Err(LedgerError::AmbiguousFormat);
-    }
+    };
     let mut entries = Vec::new(alloc);
     for line in text.lines() {
         // A `?` on a value that holds both a `&str` and a `Decimal` gets no proof.
-        let entry = match parse_entry(line, format) {
+        let entry = match parse_entry(line, &parser) {
             Ok(entry) => entry,
             Err(error) => return Err(error),
         };

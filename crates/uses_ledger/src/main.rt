@@ -1,5 +1,7 @@
 //! Prints a ledger: lines of a name, a tab and an amount, and their total. The amounts are read under
 //! one locale and printed under another.
+//!
+//! Any file may be changed, as in a project of a user's own.
 #![tactic(auto)]
 
 mod entry;

@@ -41,6 +41,10 @@ int main() {
     check("misspelled", throws<numfmt::misspelled>([&] { de.parse<int>("1.23"); }, -11));
     check("out_of_range", throws<numfmt::out_of_range>([&] { de.parse<std::uint8_t>("256"); }, -12));
     check("not_utf8", throws<numfmt::not_utf8>([&] { de.parse<int>("\xff"); }, -3));
+    const auto sevens = numfmt::format::custom("7", NUM_FORMAT_STANDARD);
+    check("ambiguous_format", throws<numfmt::ambiguous_format>([&] { sevens.parse<int>("1"); }, -19));
+    check("ambiguous_format, column", throws<numfmt::ambiguous_format>([&] { sevens.parse(sevens.print({1, 2})); }, -19));
+    check("a numeral that is not printed", numfmt::format::custom("7", NUM_FORMAT_POSIX).parse<int>("17") == 17);
     check("unknown_locale", throws<numfmt::unknown_locale>([] { numfmt::format::locale("xx"); }, -5));
     check("unknown_locale, empty", throws<numfmt::unknown_locale>([] { numfmt::format::locale({}); }, -5));
     check("unknown_locale, tag", throws<numfmt::unknown_locale>([] { numfmt::format::lookup({}); }, -5));

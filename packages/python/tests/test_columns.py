@@ -275,9 +275,14 @@ def test_recorded_strict_results(recorded):
     assert sum(map(len, rows.values())) > 2000
     for (type_name, words), lines in rows.items():
         form = cases.recorded_format(words)
-        if not form.reads_back():
-            continue
         dtype = np.dtype(f"{type_name[0]}{int(type_name[1:]) // 8}")
+        if not form.reads_back():
+            assert {result for _, result in lines} == {"err AmbiguousFormat"}
+            with pytest.raises(FormatError) as caught:
+                columns.try_parse_column([text for text, _ in lines], form, dtype)
+            assert (caught.value.cause, caught.value.text) == (Cause.AMBIGUOUS_FORMAT, repr(form))
+            columns.try_parse_column([text for text, _ in lines], form, dtype, lenient=True)
+            continue
         values, causes = columns.try_parse_column([text for text, _ in lines], form, dtype)
         for (text, result), value, cause in zip(lines, values.tolist(), causes.tolist()):
             name = "ok" if cause == 0 else Cause(cause).name.title().replace("_", "")

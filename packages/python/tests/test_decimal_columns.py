@@ -84,7 +84,8 @@ def parsed_alone(text, form, scale):
 
 def test_changed_texts_as_single_decimals():
     chance = random.Random(35)
-    made = [num_format.Format(separator=", "), num_format.Format(separator="."), num_format.Format(decimal_mark="")]
+    plain = num_format.Format(separator=".", grouping="Posix")
+    made = [num_format.Format(separator=", "), num_format.Format(decimal_mark=",."), plain]
     for form in [num_format.Format.locale("en"), num_format.Format.locale("sv"), *made]:
         characters = [*"0123456789,.- x", "", form.separator, form.minus_sign, form.decimal_mark]
         texts = []
@@ -99,6 +100,15 @@ def test_changed_texts_as_single_decimals():
         assert 500 < np.count_nonzero(causes) < 2500
         found = list(zip(causes.tolist(), whole(units)))
         assert found == [parsed_alone(changed, form, 2) for changed in texts]
+
+
+@pytest.mark.parametrize("mark", ["", ",", "0", "\u0663"])
+def test_marks_that_can_be_misread(mark):
+    form = num_format.Format(decimal_mark=mark)
+    with pytest.raises(FormatError) as caught:
+        columns.try_parse_decimal_column(["5", "x"], 2, form)
+    assert (caught.value.cause, caught.value.text) == (Cause.AMBIGUOUS_FORMAT, repr(form))
+    assert columns.parse_column(["5"], form).tolist() == [5]
 
 
 def test_fewer_and_more_decimals():

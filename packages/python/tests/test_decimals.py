@@ -5,7 +5,7 @@ from decimal import Decimal
 import pytest
 
 import num_format
-from num_format import Cause, Format, ParseError
+from num_format import Cause, Format, FormatError, ParseError
 
 DECIMALS = [
     "0", "0.0", "0.00", "1", "1.0", "-1.50", "0.05", "-0.05", "999.999", "1000.000", "1234567.89",
@@ -97,6 +97,16 @@ def test_refused_texts(text, cause, at):
     with pytest.raises(ParseError) as caught:
         num_format.parse_decimal(text, "en")
     assert (caught.value.text, caught.value.cause, caught.value.at) == (text, cause, at)
+
+
+@pytest.mark.parametrize("mark", ["", ",", "0", "\u0663"])
+def test_marks_that_can_be_misread(mark):
+    form = Format(decimal_mark=mark)
+    for text in ["5", "", "x", "1\ud800"]:
+        with pytest.raises(FormatError) as caught:
+            num_format.parse_decimal(text, form)
+        assert (caught.value.cause, caught.value.text) == (Cause.AMBIGUOUS_FORMAT, repr(form))
+    assert num_format.parse("5", form) == 5
 
 
 def test_own_marks():

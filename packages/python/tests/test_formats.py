@@ -162,6 +162,7 @@ def test_errors_are_pickled():
         num_format.ParseError("1x", Cause.UNEXPECTED, 1),
         num_format.ParseError("1,2", Cause.MISSPELLED, None, 7),
         FormatError("locale", "xx", Cause.UNKNOWN_LOCALE),
+        FormatError("format", repr(Format(minus_sign="")), Cause.AMBIGUOUS_FORMAT),
     ]
     for error in errors:
         again = pickle.loads(pickle.dumps(error))

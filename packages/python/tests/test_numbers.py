@@ -2,14 +2,13 @@
 import enum
 import fractions
 import random
-import re
 
 import cases
 import pytest
 import spelling
 
 import num_format
-from num_format import Cause, Format, ParseError
+from num_format import Cause, Format, FormatError, ParseError
 
 
 def test_python_prints_the_same():
@@ -78,6 +77,9 @@ def check_strict(type_name, form, text, result):
     kind, _, rest = result.partition(" ")
     try:
         number = num_format.parse(text, form)
+    except FormatError as error:
+        assert (error.argument, error.text, error.cause) == ("format", repr(form), Cause.AMBIGUOUS_FORMAT)
+        assert result == "err AmbiguousFormat"
     except ParseError as error:
         assert kind == "err"
         assert (error.text, error.row) == (text, None)
@@ -87,11 +89,7 @@ def check_strict(type_name, form, text, result):
         assert rest == expected
     else:
         least, largest = cases.type_limits(type_name)
-        # With a digit in its minus sign, a number may have more digits than its type allows.
-        if least <= number <= largest and (form.reads_back() or kind == "ok"):
-            assert result == f"ok {number}"
-        else:
-            assert result == "err OutOfRange"
+        assert result == (f"ok {number}" if least <= number <= largest else "err OutOfRange")
 
 
 def test_texts_by_the_definition():
@@ -99,7 +97,8 @@ def test_texts_by_the_definition():
     rng = random.Random(35)
     characters = "0123456789,.'-\u2212 \u00a0x"
     for _ in range(20000):
-        separator, minus_sign = rng.choice([",", ".", "'", "", "\u00a0", ", "]), rng.choice(["-", "\u2212", "minus "])
+        separator = rng.choice([",", ".", "'", "", "\u00a0", ", ", "7", "\u0663", "-"])
+        minus_sign = rng.choice(["-", "\u2212", "minus ", "-", "\u2212", "minus ", "", "-0"])
         grouping = rng.choice(list(num_format.Grouping)).value
         form = spelling.Format(separator.encode(), grouping, minus_sign.encode())
         number = rng.randrange(-(2**128), 2**129) >> rng.randrange(128)
@@ -107,9 +106,7 @@ def test_texts_by_the_definition():
         for _ in range(rng.randrange(3)):
             at = rng.randrange(len(text) + 1)
             text = text[:at] + rng.choice([*characters, separator, minus_sign, ""]) + text[at + rng.randrange(2) :]
-        digits = int("0" + re.sub("[^0-9]", "", text))
-        value = -digits if text.startswith(minus_sign) else digits
-        expected = spelling.strict_result(text.encode(), form, -(2**127) <= value < 2**128)
+        expected = spelling.strict_result(text.encode(), form, lambda value: -(2**127) <= value < 2**128)
         named = Format(separator=separator, grouping=grouping, minus_sign=minus_sign)
         check_strict("i136", named, text, expected)
 
@@ -153,6 +150,18 @@ def test_refused_texts(text, cause, at):
     error = caught.value
     assert isinstance(error, ValueError)
     assert (error.text, error.cause, error.at, error.row) == (text, cause, at, None)
+
+
+def test_formats_that_can_be_misread():
+    """They are refused whatever the text is, and not where parsing is lenient."""
+    for form in [Format(minus_sign=""), Format(minus_sign="-0"), Format(separator="7"), Format(separator="\u0663")]:
+        for text in ["5", "", "x", "1\ud800"]:
+            with pytest.raises(FormatError) as caught:
+                num_format.parse(text, form)
+            assert (caught.value.cause, caught.value.text) == (Cause.AMBIGUOUS_FORMAT, repr(form))
+            assert str(caught.value) == f"{form} is ambiguous"
+        assert abs(num_format.parse("5", form, lenient=True)) == 5
+    assert num_format.parse("17", Format(separator="7", grouping="Posix")) == 17
 
 
 def test_places_are_indices_of_characters():

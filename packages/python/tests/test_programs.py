@@ -55,7 +55,7 @@ def test_no_library(tmp_path):
     """The copy of the package that is tested is in no repository."""
     status, _, errors = run("-c", HOW, PKG_CONFIG_LIBDIR=str(tmp_path))
     assert status == 1
-    assert "Build it by `rt lib` in crates/num_format_c, or set NUM_FORMAT_LIBRARY to its path." in errors
+    assert "Build it by `tools/build library`, or set NUM_FORMAT_LIBRARY to its path." in errors
     missing = str(tmp_path / "missing.a")
     status, _, errors = run("-c", HOW, NUM_FORMAT_LIBRARY=missing)
     assert status == 1 and f"NUM_FORMAT_LIBRARY is {missing}, which is no file" in errors

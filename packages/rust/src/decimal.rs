@@ -187,6 +187,9 @@ impl<S: AsRef<str>> ParseDecimal for S {
 /// Why a text was refused as a decimal.
 #[derive(Clone, Copy, Debug, PartialEq, Eq, Hash)]
 pub enum ParseDecimalError {
+    /// A text can be misread under the format, whatever this one is. [`reads_back`](crate::reads_back) is false, or
+    /// the decimal mark is empty, has a numeric character, or is a separator that is printed.
+    AmbiguousFormat,
     /// A byte is none of the minus sign, if the text begins with it, of a digit, of a whole separator before
     /// the decimal mark, or of one decimal mark.
     Unexpected {
@@ -207,6 +210,7 @@ pub enum ParseDecimalError {
 impl From<Refusal> for ParseDecimalError {
     fn from(refusal: Refusal) -> ParseDecimalError {
         match refusal {
+            Refusal::AmbiguousFormat => ParseDecimalError::AmbiguousFormat,
             Refusal::Unexpected { at } => ParseDecimalError::Unexpected { at },
             Refusal::NoDigit => ParseDecimalError::NoDigit,
             Refusal::TooManyDecimals => ParseDecimalError::TooManyDecimals,
@@ -219,6 +223,7 @@ impl From<Refusal> for ParseDecimalError {
 impl fmt::Display for ParseDecimalError {
     fn fmt(&self, f: &mut fmt::Formatter<'_>) -> fmt::Result {
         match self {
+            ParseDecimalError::AmbiguousFormat => f.write_str("The format is ambiguous."),
             ParseDecimalError::Unexpected { at } => {
                 write!(f, "The text has an unexpected byte at {at}.")
             }

@@ -28,6 +28,7 @@ mod status {
     pub(super) const MISSPELLED: i32 = -11;
     pub(super) const OUT_OF_RANGE: i32 = -12;
     pub(super) const TOO_MANY_DECIMALS: i32 = -14;
+    pub(super) const AMBIGUOUS_FORMAT: i32 = -19;
 }
 
 /// A status that the proved library does not return.
@@ -358,6 +359,7 @@ impl<const N: usize> Text<N> {
 /// Why strict parsing refuses a text.
 #[derive(Clone, Copy, Debug, PartialEq, Eq)]
 pub(crate) enum Refusal {
+    AmbiguousFormat,
     Unexpected { at: usize },
     NoDigit,
     TooManyDecimals,
@@ -381,6 +383,7 @@ fn is_parsed(status: i32) -> bool {
 fn checked(status: i32, at: usize) -> Result<(), Refusal> {
     match status {
         status::OK => Ok(()),
+        status::AMBIGUOUS_FORMAT => Err(Refusal::AmbiguousFormat),
         status::UNEXPECTED => Err(Refusal::Unexpected { at }),
         status::NO_DIGIT => Err(Refusal::NoDigit),
         status::TOO_MANY_DECIMALS => Err(Refusal::TooManyDecimals),

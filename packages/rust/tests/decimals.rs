@@ -4,7 +4,7 @@ use std::cmp::Ordering;
 use std::collections::HashSet;
 
 use num_format::parsing::{ParseDecimal, ParseDecimalError};
-use num_format::{CustomFormat, Decimal, DecimalError, Locale, MAX_SCALE};
+use num_format::{CustomFormat, Decimal, DecimalError, Grouping, Locale, MAX_SCALE};
 
 fn decimal(units: i128, scale: u8) -> Decimal {
     Decimal::new(units, scale).unwrap()
@@ -105,6 +105,29 @@ fn refused_texts() {
         Decimal::new(1, MAX_SCALE + 1),
         Err(DecimalError::ScaleTooLarge)
     );
+}
+
+#[test]
+fn formats_that_can_be_misread() {
+    let builder = CustomFormat::builder;
+    for (format, is_misread) in [
+        (builder().minus_sign(""), true),
+        (builder().minus_sign("-0"), true),
+        (builder().separator("7"), true),
+        (builder().decimal(""), true),
+        (builder().decimal("0"), true),
+        (builder().decimal(","), true),
+        (builder().decimal(",").grouping(Grouping::Posix), false),
+    ] {
+        let format = format.build().unwrap();
+        for text in ["1234", "5", "", "x"] {
+            let parsed = text.parse_decimal(&format);
+            assert_eq!(
+                parsed == Err(ParseDecimalError::AmbiguousFormat),
+                is_misread
+            );
+        }
+    }
 }
 
 #[test]

@@ -1,13 +1,13 @@
 //! The calls for columns of decimals, which tools/column_calls.py writes.
 ghost use Rattle.std.specs.Prelude.{◌-◌, ◌^◌};
-ghost use Rattle.num_format_columns.specs.Columns.{all_valid, by_bits};
+ghost use Rattle.num_format_c.specs.Layout.{all_valid, by_bits};
 ghost use Rattle.num_format_c.specs.Columns.{MeasuresDecimals, ParsesDecimals, PrintsDecimals};
 
 use crate::columns;
 use crate::format::NumFormat;
+use crate::layout::{AllValid, Bitmap};
 use crate::status::returned;
 use crate::wide::SignedWide;
-use num_format_columns::{AllValid, Bitmap};
 
 /// Prints the decimals with these units and this scale as `num_format_print_i8_column` does numbers. Its first
 /// error is a scale above 38.
@@ -53,7 +53,8 @@ pub extern "C" fn num_format_print_decimal_column_len(
 }
 
 /// Parses the texts strictly as decimals, writes their units at this scale, and else does as
-/// `num_format_call_parse_i8_column`. Its first error is a scale above 38.
+/// `num_format_call_parse_i8_column`. Its first error is a scale above 38, and its third a format under which a
+/// decimal can be misread.
 #[unsafe(no_mangle)]
 pub extern "C" fn num_format_call_parse_decimal_column(
     format: &NumFormat,

@@ -1,15 +1,15 @@
 //! The calls that parse columns of numbers, which tools/column_calls.py writes.
 ghost use Rattle.std.specs.Prelude.{◌-◌, ◌^◌, pos};
 ghost use Rattle.num_format.specs.Kind.{kind_of, I8, I16, I32, I64, I128, U8, U16, U32, U64, U128};
-ghost use Rattle.num_format_columns.specs.Columns.{all_valid};
+ghost use Rattle.num_format_c.specs.Layout.{all_valid};
 ghost use Rattle.num_format_c.specs.Calls.{ParsesInto};
-ghost use Rattle.num_format_c.specs.Columns.{ParsesColumn, number_row, signed_value, unsigned_value};
+ghost use Rattle.num_format_c.specs.Columns.{IsAny, ParsesColumn, number_row, signed_value, unsigned_value};
 
-use crate::columns::{self, Lenient};
+use crate::columns;
 use crate::format::NumFormat;
+use crate::layout::AllValid;
 use crate::status::returned;
 use crate::wide::{SignedWide, UnsignedWide};
-use num_format_columns::AllValid;
 
 /// Parses each text of a column, writes the number of each that is not refused, writes the status of each,
 /// and returns 0. There is one offset more than numbers, and there are as many statuses.
@@ -24,11 +24,9 @@ pub extern "C" fn num_format_call_parse_i8_column(
     numbers: &mut [i8],
     statuses: &mut [i32],
 ) -> i32
-    ensures { ParsesColumn (number_row ParsesInto (kind_of I8) (λ n. n)) all_valid (λ o. o) (2 ^ 31 - 1) format.now offsets.now bytes.now numbers.old numbers.new statuses.old statuses.new result }
+    ensures { ParsesColumn IsAny (number_row ParsesInto (kind_of I8) (λ n. n)) all_valid (λ o. o) (2 ^ 31 - 1) format.now offsets.now bytes.now numbers.old numbers.new statuses.old statuses.new result }
 {
-    returned(columns::parse(
-        &Lenient, format, offsets, bytes, numbers, &AllValid, statuses,
-    ))
+    returned(columns::parse(format, offsets, bytes, numbers, &AllValid, statuses))
 }
 
 /// Parses a column as `num_format_call_parse_i8_column` does.
@@ -40,11 +38,9 @@ pub extern "C" fn num_format_call_parse_i8_large_column(
     numbers: &mut [i8],
     statuses: &mut [i32],
 ) -> i32
-    ensures { ParsesColumn (number_row ParsesInto (kind_of I8) (λ n. n)) all_valid (λ o. o) (2 ^ 63 - 1) format.now offsets.now bytes.now numbers.old numbers.new statuses.old statuses.new result }
+    ensures { ParsesColumn IsAny (number_row ParsesInto (kind_of I8) (λ n. n)) all_valid (λ o. o) (2 ^ 63 - 1) format.now offsets.now bytes.now numbers.old numbers.new statuses.old statuses.new result }
 {
-    returned(columns::parse(
-        &Lenient, format, offsets, bytes, numbers, &AllValid, statuses,
-    ))
+    returned(columns::parse(format, offsets, bytes, numbers, &AllValid, statuses))
 }
 
 /// Parses a column as `num_format_call_parse_i8_column` does.
@@ -56,11 +52,9 @@ pub extern "C" fn num_format_call_parse_i16_column(
     numbers: &mut [i16],
     statuses: &mut [i32],
 ) -> i32
-    ensures { ParsesColumn (number_row ParsesInto (kind_of I16) (λ n. n)) all_valid (λ o. o) (2 ^ 31 - 1) format.now offsets.now bytes.now numbers.old numbers.new statuses.old statuses.new result }
+    ensures { ParsesColumn IsAny (number_row ParsesInto (kind_of I16) (λ n. n)) all_valid (λ o. o) (2 ^ 31 - 1) format.now offsets.now bytes.now numbers.old numbers.new statuses.old statuses.new result }
 {
-    returned(columns::parse(
-        &Lenient, format, offsets, bytes, numbers, &AllValid, statuses,
-    ))
+    returned(columns::parse(format, offsets, bytes, numbers, &AllValid, statuses))
 }
 
 /// Parses a column as `num_format_call_parse_i8_column` does.
@@ -72,11 +66,9 @@ pub extern "C" fn num_format_call_parse_i16_large_column(
     numbers: &mut [i16],
     statuses: &mut [i32],
 ) -> i32
-    ensures { ParsesColumn (number_row ParsesInto (kind_of I16) (λ n. n)) all_valid (λ o. o) (2 ^ 63 - 1) format.now offsets.now bytes.now numbers.old numbers.new statuses.old statuses.new result }
+    ensures { ParsesColumn IsAny (number_row ParsesInto (kind_of I16) (λ n. n)) all_valid (λ o. o) (2 ^ 63 - 1) format.now offsets.now bytes.now numbers.old numbers.new statuses.old statuses.new result }
 {
-    returned(columns::parse(
-        &Lenient, format, offsets, bytes, numbers, &AllValid, statuses,
-    ))
+    returned(columns::parse(format, offsets, bytes, numbers, &AllValid, statuses))
 }
 
 /// Parses a column as `num_format_call_parse_i8_column` does.
@@ -88,11 +80,9 @@ pub extern "C" fn num_format_call_parse_i32_column(
     numbers: &mut [i32],
     statuses: &mut [i32],
 ) -> i32
-    ensures { ParsesColumn (number_row ParsesInto (kind_of I32) (λ n. n)) all_valid (λ o. o) (2 ^ 31 - 1) format.now offsets.now bytes.now numbers.old numbers.new statuses.old statuses.new result }
+    ensures { ParsesColumn IsAny (number_row ParsesInto (kind_of I32) (λ n. n)) all_valid (λ o. o) (2 ^ 31 - 1) format.now offsets.now bytes.now numbers.old numbers.new statuses.old statuses.new result }
 {
-    returned(columns::parse(
-        &Lenient, format, offsets, bytes, numbers, &AllValid, statuses,
-    ))
+    returned(columns::parse(format, offsets, bytes, numbers, &AllValid, statuses))
 }
 
 /// Parses a column as `num_format_call_parse_i8_column` does.
@@ -104,11 +94,9 @@ pub extern "C" fn num_format_call_parse_i32_large_column(
     numbers: &mut [i32],
     statuses: &mut [i32],
 ) -> i32
-    ensures { ParsesColumn (number_row ParsesInto (kind_of I32) (λ n. n)) all_valid (λ o. o) (2 ^ 63 - 1) format.now offsets.now bytes.now numbers.old numbers.new statuses.old statuses.new result }
+    ensures { ParsesColumn IsAny (number_row ParsesInto (kind_of I32) (λ n. n)) all_valid (λ o. o) (2 ^ 63 - 1) format.now offsets.now bytes.now numbers.old numbers.new statuses.old statuses.new result }
 {
-    returned(columns::parse(
-        &Lenient, format, offsets, bytes, numbers, &AllValid, statuses,
-    ))
+    returned(columns::parse(format, offsets, bytes, numbers, &AllValid, statuses))
 }
 
 /// Parses a column as `num_format_call_parse_i8_column` does.
@@ -120,11 +108,9 @@ pub extern "C" fn num_format_call_parse_i64_column(
     numbers: &mut [i64],
     statuses: &mut [i32],
 ) -> i32
-    ensures { ParsesColumn (number_row ParsesInto (kind_of I64) (λ n. n)) all_valid (λ o. o) (2 ^ 31 - 1) format.now offsets.now bytes.now numbers.old numbers.new statuses.old statuses.new result }
+    ensures { ParsesColumn IsAny (number_row ParsesInto (kind_of I64) (λ n. n)) all_valid (λ o. o) (2 ^ 31 - 1) format.now offsets.now bytes.now numbers.old numbers.new statuses.old statuses.new result }
 {
-    returned(columns::parse(
-        &Lenient, format, offsets, bytes, numbers, &AllValid, statuses,
-    ))
+    returned(columns::parse(format, offsets, bytes, numbers, &AllValid, statuses))
 }
 
 /// Parses a column as `num_format_call_parse_i8_column` does.
@@ -136,11 +122,9 @@ pub extern "C" fn num_format_call_parse_i64_large_column(
     numbers: &mut [i64],
     statuses: &mut [i32],
 ) -> i32
-    ensures { ParsesColumn (number_row ParsesInto (kind_of I64) (λ n. n)) all_valid (λ o. o) (2 ^ 63 - 1) format.now offsets.now bytes.now numbers.old numbers.new statuses.old statuses.new result }
+    ensures { ParsesColumn IsAny (number_row ParsesInto (kind_of I64) (λ n. n)) all_valid (λ o. o) (2 ^ 63 - 1) format.now offsets.now bytes.now numbers.old numbers.new statuses.old statuses.new result }
 {
-    returned(columns::parse(
-        &Lenient, format, offsets, bytes, numbers, &AllValid, statuses,
-    ))
+    returned(columns::parse(format, offsets, bytes, numbers, &AllValid, statuses))
 }
 
 /// Parses a column as `num_format_call_parse_i8_column` does.
@@ -152,11 +136,9 @@ pub extern "C" fn num_format_call_parse_i128_column(
     numbers: &mut [SignedWide],
     statuses: &mut [i32],
 ) -> i32
-    ensures { ParsesColumn (number_row ParsesInto (kind_of I128) signed_value) all_valid (λ o. o) (2 ^ 31 - 1) format.now offsets.now bytes.now numbers.old numbers.new statuses.old statuses.new result }
+    ensures { ParsesColumn IsAny (number_row ParsesInto (kind_of I128) signed_value) all_valid (λ o. o) (2 ^ 31 - 1) format.now offsets.now bytes.now numbers.old numbers.new statuses.old statuses.new result }
 {
-    returned(columns::parse(
-        &Lenient, format, offsets, bytes, numbers, &AllValid, statuses,
-    ))
+    returned(columns::parse(format, offsets, bytes, numbers, &AllValid, statuses))
 }
 
 /// Parses a column as `num_format_call_parse_i8_column` does.
@@ -168,11 +150,9 @@ pub extern "C" fn num_format_call_parse_i128_large_column(
     numbers: &mut [SignedWide],
     statuses: &mut [i32],
 ) -> i32
-    ensures { ParsesColumn (number_row ParsesInto (kind_of I128) signed_value) all_valid (λ o. o) (2 ^ 63 - 1) format.now offsets.now bytes.now numbers.old numbers.new statuses.old statuses.new result }
+    ensures { ParsesColumn IsAny (number_row ParsesInto (kind_of I128) signed_value) all_valid (λ o. o) (2 ^ 63 - 1) format.now offsets.now bytes.now numbers.old numbers.new statuses.old statuses.new result }
 {
-    returned(columns::parse(
-        &Lenient, format, offsets, bytes, numbers, &AllValid, statuses,
-    ))
+    returned(columns::parse(format, offsets, bytes, numbers, &AllValid, statuses))
 }
 
 /// Parses a column as `num_format_call_parse_i8_column` does.
@@ -184,11 +164,9 @@ pub extern "C" fn num_format_call_parse_u8_column(
     numbers: &mut [u8],
     statuses: &mut [i32],
 ) -> i32
-    ensures { ParsesColumn (number_row ParsesInto (kind_of U8) (λ n. pos n)) all_valid (λ o. o) (2 ^ 31 - 1) format.now offsets.now bytes.now numbers.old numbers.new statuses.old statuses.new result }
+    ensures { ParsesColumn IsAny (number_row ParsesInto (kind_of U8) (λ n. pos n)) all_valid (λ o. o) (2 ^ 31 - 1) format.now offsets.now bytes.now numbers.old numbers.new statuses.old statuses.new result }
 {
-    returned(columns::parse(
-        &Lenient, format, offsets, bytes, numbers, &AllValid, statuses,
-    ))
+    returned(columns::parse(format, offsets, bytes, numbers, &AllValid, statuses))
 }
 
 /// Parses a column as `num_format_call_parse_i8_column` does.
@@ -200,11 +178,9 @@ pub extern "C" fn num_format_call_parse_u8_large_column(
     numbers: &mut [u8],
     statuses: &mut [i32],
 ) -> i32
-    ensures { ParsesColumn (number_row ParsesInto (kind_of U8) (λ n. pos n)) all_valid (λ o. o) (2 ^ 63 - 1) format.now offsets.now bytes.now numbers.old numbers.new statuses.old statuses.new result }
+    ensures { ParsesColumn IsAny (number_row ParsesInto (kind_of U8) (λ n. pos n)) all_valid (λ o. o) (2 ^ 63 - 1) format.now offsets.now bytes.now numbers.old numbers.new statuses.old statuses.new result }
 {
-    returned(columns::parse(
-        &Lenient, format, offsets, bytes, numbers, &AllValid, statuses,
-    ))
+    returned(columns::parse(format, offsets, bytes, numbers, &AllValid, statuses))
 }
 
 /// Parses a column as `num_format_call_parse_i8_column` does.
@@ -216,11 +192,9 @@ pub extern "C" fn num_format_call_parse_u16_column(
     numbers: &mut [u16],
     statuses: &mut [i32],
 ) -> i32
-    ensures { ParsesColumn (number_row ParsesInto (kind_of U16) (λ n. pos n)) all_valid (λ o. o) (2 ^ 31 - 1) format.now offsets.now bytes.now numbers.old numbers.new statuses.old statuses.new result }
+    ensures { ParsesColumn IsAny (number_row ParsesInto (kind_of U16) (λ n. pos n)) all_valid (λ o. o) (2 ^ 31 - 1) format.now offsets.now bytes.now numbers.old numbers.new statuses.old statuses.new result }
 {
-    returned(columns::parse(
-        &Lenient, format, offsets, bytes, numbers, &AllValid, statuses,
-    ))
+    returned(columns::parse(format, offsets, bytes, numbers, &AllValid, statuses))
 }
 
 /// Parses a column as `num_format_call_parse_i8_column` does.
@@ -232,11 +206,9 @@ pub extern "C" fn num_format_call_parse_u16_large_column(
     numbers: &mut [u16],
     statuses: &mut [i32],
 ) -> i32
-    ensures { ParsesColumn (number_row ParsesInto (kind_of U16) (λ n. pos n)) all_valid (λ o. o) (2 ^ 63 - 1) format.now offsets.now bytes.now numbers.old numbers.new statuses.old statuses.new result }
+    ensures { ParsesColumn IsAny (number_row ParsesInto (kind_of U16) (λ n. pos n)) all_valid (λ o. o) (2 ^ 63 - 1) format.now offsets.now bytes.now numbers.old numbers.new statuses.old statuses.new result }
 {
-    returned(columns::parse(
-        &Lenient, format, offsets, bytes, numbers, &AllValid, statuses,
-    ))
+    returned(columns::parse(format, offsets, bytes, numbers, &AllValid, statuses))
 }
 
 /// Parses a column as `num_format_call_parse_i8_column` does.
@@ -248,11 +220,9 @@ pub extern "C" fn num_format_call_parse_u32_column(
     numbers: &mut [u32],
     statuses: &mut [i32],
 ) -> i32
-    ensures { ParsesColumn (number_row ParsesInto (kind_of U32) (λ n. pos n)) all_valid (λ o. o) (2 ^ 31 - 1) format.now offsets.now bytes.now numbers.old numbers.new statuses.old statuses.new result }
+    ensures { ParsesColumn IsAny (number_row ParsesInto (kind_of U32) (λ n. pos n)) all_valid (λ o. o) (2 ^ 31 - 1) format.now offsets.now bytes.now numbers.old numbers.new statuses.old statuses.new result }
 {
-    returned(columns::parse(
-        &Lenient, format, offsets, bytes, numbers, &AllValid, statuses,
-    ))
+    returned(columns::parse(format, offsets, bytes, numbers, &AllValid, statuses))
 }
 
 /// Parses a column as `num_format_call_parse_i8_column` does.
@@ -264,11 +234,9 @@ pub extern "C" fn num_format_call_parse_u32_large_column(
     numbers: &mut [u32],
     statuses: &mut [i32],
 ) -> i32
-    ensures { ParsesColumn (number_row ParsesInto (kind_of U32) (λ n. pos n)) all_valid (λ o. o) (2 ^ 63 - 1) format.now offsets.now bytes.now numbers.old numbers.new statuses.old statuses.new result }
+    ensures { ParsesColumn IsAny (number_row ParsesInto (kind_of U32) (λ n. pos n)) all_valid (λ o. o) (2 ^ 63 - 1) format.now offsets.now bytes.now numbers.old numbers.new statuses.old statuses.new result }
 {
-    returned(columns::parse(
-        &Lenient, format, offsets, bytes, numbers, &AllValid, statuses,
-    ))
+    returned(columns::parse(format, offsets, bytes, numbers, &AllValid, statuses))
 }
 
 /// Parses a column as `num_format_call_parse_i8_column` does.
@@ -280,11 +248,9 @@ pub extern "C" fn num_format_call_parse_u64_column(
     numbers: &mut [u64],
     statuses: &mut [i32],
 ) -> i32
-    ensures { ParsesColumn (number_row ParsesInto (kind_of U64) (λ n. pos n)) all_valid (λ o. o) (2 ^ 31 - 1) format.now offsets.now bytes.now numbers.old numbers.new statuses.old statuses.new result }
+    ensures { ParsesColumn IsAny (number_row ParsesInto (kind_of U64) (λ n. pos n)) all_valid (λ o. o) (2 ^ 31 - 1) format.now offsets.now bytes.now numbers.old numbers.new statuses.old statuses.new result }
 {
-    returned(columns::parse(
-        &Lenient, format, offsets, bytes, numbers, &AllValid, statuses,
-    ))
+    returned(columns::parse(format, offsets, bytes, numbers, &AllValid, statuses))
 }
 
 /// Parses a column as `num_format_call_parse_i8_column` does.
@@ -296,11 +262,9 @@ pub extern "C" fn num_format_call_parse_u64_large_column(
     numbers: &mut [u64],
     statuses: &mut [i32],
 ) -> i32
-    ensures { ParsesColumn (number_row ParsesInto (kind_of U64) (λ n. pos n)) all_valid (λ o. o) (2 ^ 63 - 1) format.now offsets.now bytes.now numbers.old numbers.new statuses.old statuses.new result }
+    ensures { ParsesColumn IsAny (number_row ParsesInto (kind_of U64) (λ n. pos n)) all_valid (λ o. o) (2 ^ 63 - 1) format.now offsets.now bytes.now numbers.old numbers.new statuses.old statuses.new result }
 {
-    returned(columns::parse(
-        &Lenient, format, offsets, bytes, numbers, &AllValid, statuses,
-    ))
+    returned(columns::parse(format, offsets, bytes, numbers, &AllValid, statuses))
 }
 
 /// Parses a column as `num_format_call_parse_i8_column` does.
@@ -312,11 +276,9 @@ pub extern "C" fn num_format_call_parse_u128_column(
     numbers: &mut [UnsignedWide],
     statuses: &mut [i32],
 ) -> i32
-    ensures { ParsesColumn (number_row ParsesInto (kind_of U128) unsigned_value) all_valid (λ o. o) (2 ^ 31 - 1) format.now offsets.now bytes.now numbers.old numbers.new statuses.old statuses.new result }
+    ensures { ParsesColumn IsAny (number_row ParsesInto (kind_of U128) unsigned_value) all_valid (λ o. o) (2 ^ 31 - 1) format.now offsets.now bytes.now numbers.old numbers.new statuses.old statuses.new result }
 {
-    returned(columns::parse(
-        &Lenient, format, offsets, bytes, numbers, &AllValid, statuses,
-    ))
+    returned(columns::parse(format, offsets, bytes, numbers, &AllValid, statuses))
 }
 
 /// Parses a column as `num_format_call_parse_i8_column` does.
@@ -328,9 +290,7 @@ pub extern "C" fn num_format_call_parse_u128_large_column(
     numbers: &mut [UnsignedWide],
     statuses: &mut [i32],
 ) -> i32
-    ensures { ParsesColumn (number_row ParsesInto (kind_of U128) unsigned_value) all_valid (λ o. o) (2 ^ 63 - 1) format.now offsets.now bytes.now numbers.old numbers.new statuses.old statuses.new result }
+    ensures { ParsesColumn IsAny (number_row ParsesInto (kind_of U128) unsigned_value) all_valid (λ o. o) (2 ^ 63 - 1) format.now offsets.now bytes.now numbers.old numbers.new statuses.old statuses.new result }
 {
-    returned(columns::parse(
-        &Lenient, format, offsets, bytes, numbers, &AllValid, statuses,
-    ))
+    returned(columns::parse(format, offsets, bytes, numbers, &AllValid, statuses))
 }

@@ -1,15 +1,15 @@
 //! The calls that parse columns of numbers with a validity bitmap, which tools/column_calls.py writes.
 ghost use Rattle.std.specs.Prelude.{◌-◌, ◌^◌, pos};
 ghost use Rattle.num_format.specs.Kind.{kind_of, I8, I16, I32, I64, I128, U8, U16, U32, U64, U128};
-ghost use Rattle.num_format_columns.specs.Columns.{by_bits};
+ghost use Rattle.num_format_c.specs.Layout.{by_bits};
 ghost use Rattle.num_format_c.specs.Calls.{ParsesInto};
-ghost use Rattle.num_format_c.specs.Columns.{ParsesColumn, number_row, signed_value, unsigned_value};
+ghost use Rattle.num_format_c.specs.Columns.{IsAny, ParsesColumn, number_row, signed_value, unsigned_value};
 
-use crate::columns::{self, Lenient};
+use crate::columns;
 use crate::format::NumFormat;
+use crate::layout::Bitmap;
 use crate::status::returned;
 use crate::wide::{SignedWide, UnsignedWide};
-use num_format_columns::Bitmap;
 
 /// Parses the texts as `num_format_call_parse_i8_column` does, but for null rows: their status is 0, and their number
 /// as it was. There is a bit for each row, and fewer are the same error as another number of offsets.
@@ -22,10 +22,9 @@ pub extern "C" fn num_format_call_parse_nullable_i8_column(
     validity: &[u8],
     statuses: &mut [i32],
 ) -> i32
-    ensures { ParsesColumn (number_row ParsesInto (kind_of I8) (λ n. n)) (by_bits validity.now) (λ o. o) (2 ^ 31 - 1) format.now offsets.now bytes.now numbers.old numbers.new statuses.old statuses.new result }
+    ensures { ParsesColumn IsAny (number_row ParsesInto (kind_of I8) (λ n. n)) (by_bits validity.now) (λ o. o) (2 ^ 31 - 1) format.now offsets.now bytes.now numbers.old numbers.new statuses.old statuses.new result }
 {
     returned(columns::parse(
-        &Lenient,
         format,
         offsets,
         bytes,
@@ -45,10 +44,9 @@ pub extern "C" fn num_format_call_parse_nullable_i8_large_column(
     validity: &[u8],
     statuses: &mut [i32],
 ) -> i32
-    ensures { ParsesColumn (number_row ParsesInto (kind_of I8) (λ n. n)) (by_bits validity.now) (λ o. o) (2 ^ 63 - 1) format.now offsets.now bytes.now numbers.old numbers.new statuses.old statuses.new result }
+    ensures { ParsesColumn IsAny (number_row ParsesInto (kind_of I8) (λ n. n)) (by_bits validity.now) (λ o. o) (2 ^ 63 - 1) format.now offsets.now bytes.now numbers.old numbers.new statuses.old statuses.new result }
 {
     returned(columns::parse(
-        &Lenient,
         format,
         offsets,
         bytes,
@@ -68,10 +66,9 @@ pub extern "C" fn num_format_call_parse_nullable_i16_column(
     validity: &[u8],
     statuses: &mut [i32],
 ) -> i32
-    ensures { ParsesColumn (number_row ParsesInto (kind_of I16) (λ n. n)) (by_bits validity.now) (λ o. o) (2 ^ 31 - 1) format.now offsets.now bytes.now numbers.old numbers.new statuses.old statuses.new result }
+    ensures { ParsesColumn IsAny (number_row ParsesInto (kind_of I16) (λ n. n)) (by_bits validity.now) (λ o. o) (2 ^ 31 - 1) format.now offsets.now bytes.now numbers.old numbers.new statuses.old statuses.new result }
 {
     returned(columns::parse(
-        &Lenient,
         format,
         offsets,
         bytes,
@@ -91,10 +88,9 @@ pub extern "C" fn num_format_call_parse_nullable_i16_large_column(
     validity: &[u8],
     statuses: &mut [i32],
 ) -> i32
-    ensures { ParsesColumn (number_row ParsesInto (kind_of I16) (λ n. n)) (by_bits validity.now) (λ o. o) (2 ^ 63 - 1) format.now offsets.now bytes.now numbers.old numbers.new statuses.old statuses.new result }
+    ensures { ParsesColumn IsAny (number_row ParsesInto (kind_of I16) (λ n. n)) (by_bits validity.now) (λ o. o) (2 ^ 63 - 1) format.now offsets.now bytes.now numbers.old numbers.new statuses.old statuses.new result }
 {
     returned(columns::parse(
-        &Lenient,
         format,
         offsets,
         bytes,
@@ -114,10 +110,9 @@ pub extern "C" fn num_format_call_parse_nullable_i32_column(
     validity: &[u8],
     statuses: &mut [i32],
 ) -> i32
-    ensures { ParsesColumn (number_row ParsesInto (kind_of I32) (λ n. n)) (by_bits validity.now) (λ o. o) (2 ^ 31 - 1) format.now offsets.now bytes.now numbers.old numbers.new statuses.old statuses.new result }
+    ensures { ParsesColumn IsAny (number_row ParsesInto (kind_of I32) (λ n. n)) (by_bits validity.now) (λ o. o) (2 ^ 31 - 1) format.now offsets.now bytes.now numbers.old numbers.new statuses.old statuses.new result }
 {
     returned(columns::parse(
-        &Lenient,
         format,
         offsets,
         bytes,
@@ -137,10 +132,9 @@ pub extern "C" fn num_format_call_parse_nullable_i32_large_column(
     validity: &[u8],
     statuses: &mut [i32],
 ) -> i32
-    ensures { ParsesColumn (number_row ParsesInto (kind_of I32) (λ n. n)) (by_bits validity.now) (λ o. o) (2 ^ 63 - 1) format.now offsets.now bytes.now numbers.old numbers.new statuses.old statuses.new result }
+    ensures { ParsesColumn IsAny (number_row ParsesInto (kind_of I32) (λ n. n)) (by_bits validity.now) (λ o. o) (2 ^ 63 - 1) format.now offsets.now bytes.now numbers.old numbers.new statuses.old statuses.new result }
 {
     returned(columns::parse(
-        &Lenient,
         format,
         offsets,
         bytes,
@@ -160,10 +154,9 @@ pub extern "C" fn num_format_call_parse_nullable_i64_column(
     validity: &[u8],
     statuses: &mut [i32],
 ) -> i32
-    ensures { ParsesColumn (number_row ParsesInto (kind_of I64) (λ n. n)) (by_bits validity.now) (λ o. o) (2 ^ 31 - 1) format.now offsets.now bytes.now numbers.old numbers.new statuses.old statuses.new result }
+    ensures { ParsesColumn IsAny (number_row ParsesInto (kind_of I64) (λ n. n)) (by_bits validity.now) (λ o. o) (2 ^ 31 - 1) format.now offsets.now bytes.now numbers.old numbers.new statuses.old statuses.new result }
 {
     returned(columns::parse(
-        &Lenient,
         format,
         offsets,
         bytes,
@@ -183,10 +176,9 @@ pub extern "C" fn num_format_call_parse_nullable_i64_large_column(
     validity: &[u8],
     statuses: &mut [i32],
 ) -> i32
-    ensures { ParsesColumn (number_row ParsesInto (kind_of I64) (λ n. n)) (by_bits validity.now) (λ o. o) (2 ^ 63 - 1) format.now offsets.now bytes.now numbers.old numbers.new statuses.old statuses.new result }
+    ensures { ParsesColumn IsAny (number_row ParsesInto (kind_of I64) (λ n. n)) (by_bits validity.now) (λ o. o) (2 ^ 63 - 1) format.now offsets.now bytes.now numbers.old numbers.new statuses.old statuses.new result }
 {
     returned(columns::parse(
-        &Lenient,
         format,
         offsets,
         bytes,
@@ -206,10 +198,9 @@ pub extern "C" fn num_format_call_parse_nullable_i128_column(
     validity: &[u8],
     statuses: &mut [i32],
 ) -> i32
-    ensures { ParsesColumn (number_row ParsesInto (kind_of I128) signed_value) (by_bits validity.now) (λ o. o) (2 ^ 31 - 1) format.now offsets.now bytes.now numbers.old numbers.new statuses.old statuses.new result }
+    ensures { ParsesColumn IsAny (number_row ParsesInto (kind_of I128) signed_value) (by_bits validity.now) (λ o. o) (2 ^ 31 - 1) format.now offsets.now bytes.now numbers.old numbers.new statuses.old statuses.new result }
 {
     returned(columns::parse(
-        &Lenient,
         format,
         offsets,
         bytes,
@@ -229,10 +220,9 @@ pub extern "C" fn num_format_call_parse_nullable_i128_large_column(
     validity: &[u8],
     statuses: &mut [i32],
 ) -> i32
-    ensures { ParsesColumn (number_row ParsesInto (kind_of I128) signed_value) (by_bits validity.now) (λ o. o) (2 ^ 63 - 1) format.now offsets.now bytes.now numbers.old numbers.new statuses.old statuses.new result }
+    ensures { ParsesColumn IsAny (number_row ParsesInto (kind_of I128) signed_value) (by_bits validity.now) (λ o. o) (2 ^ 63 - 1) format.now offsets.now bytes.now numbers.old numbers.new statuses.old statuses.new result }
 {
     returned(columns::parse(
-        &Lenient,
         format,
         offsets,
         bytes,
@@ -252,10 +242,9 @@ pub extern "C" fn num_format_call_parse_nullable_u8_column(
     validity: &[u8],
     statuses: &mut [i32],
 ) -> i32
-    ensures { ParsesColumn (number_row ParsesInto (kind_of U8) (λ n. pos n)) (by_bits validity.now) (λ o. o) (2 ^ 31 - 1) format.now offsets.now bytes.now numbers.old numbers.new statuses.old statuses.new result }
+    ensures { ParsesColumn IsAny (number_row ParsesInto (kind_of U8) (λ n. pos n)) (by_bits validity.now) (λ o. o) (2 ^ 31 - 1) format.now offsets.now bytes.now numbers.old numbers.new statuses.old statuses.new result }
 {
     returned(columns::parse(
-        &Lenient,
         format,
         offsets,
         bytes,
@@ -275,10 +264,9 @@ pub extern "C" fn num_format_call_parse_nullable_u8_large_column(
     validity: &[u8],
     statuses: &mut [i32],
 ) -> i32
-    ensures { ParsesColumn (number_row ParsesInto (kind_of U8) (λ n. pos n)) (by_bits validity.now) (λ o. o) (2 ^ 63 - 1) format.now offsets.now bytes.now numbers.old numbers.new statuses.old statuses.new result }
+    ensures { ParsesColumn IsAny (number_row ParsesInto (kind_of U8) (λ n. pos n)) (by_bits validity.now) (λ o. o) (2 ^ 63 - 1) format.now offsets.now bytes.now numbers.old numbers.new statuses.old statuses.new result }
 {
     returned(columns::parse(
-        &Lenient,
         format,
         offsets,
         bytes,
@@ -298,10 +286,9 @@ pub extern "C" fn num_format_call_parse_nullable_u16_column(
     validity: &[u8],
     statuses: &mut [i32],
 ) -> i32
-    ensures { ParsesColumn (number_row ParsesInto (kind_of U16) (λ n. pos n)) (by_bits validity.now) (λ o. o) (2 ^ 31 - 1) format.now offsets.now bytes.now numbers.old numbers.new statuses.old statuses.new result }
+    ensures { ParsesColumn IsAny (number_row ParsesInto (kind_of U16) (λ n. pos n)) (by_bits validity.now) (λ o. o) (2 ^ 31 - 1) format.now offsets.now bytes.now numbers.old numbers.new statuses.old statuses.new result }
 {
     returned(columns::parse(
-        &Lenient,
         format,
         offsets,
         bytes,
@@ -321,10 +308,9 @@ pub extern "C" fn num_format_call_parse_nullable_u16_large_column(
     validity: &[u8],
     statuses: &mut [i32],
 ) -> i32
-    ensures { ParsesColumn (number_row ParsesInto (kind_of U16) (λ n. pos n)) (by_bits validity.now) (λ o. o) (2 ^ 63 - 1) format.now offsets.now bytes.now numbers.old numbers.new statuses.old statuses.new result }
+    ensures { ParsesColumn IsAny (number_row ParsesInto (kind_of U16) (λ n. pos n)) (by_bits validity.now) (λ o. o) (2 ^ 63 - 1) format.now offsets.now bytes.now numbers.old numbers.new statuses.old statuses.new result }
 {
     returned(columns::parse(
-        &Lenient,
         format,
         offsets,
         bytes,
@@ -344,10 +330,9 @@ pub extern "C" fn num_format_call_parse_nullable_u32_column(
     validity: &[u8],
     statuses: &mut [i32],
 ) -> i32
-    ensures { ParsesColumn (number_row ParsesInto (kind_of U32) (λ n. pos n)) (by_bits validity.now) (λ o. o) (2 ^ 31 - 1) format.now offsets.now bytes.now numbers.old numbers.new statuses.old statuses.new result }
+    ensures { ParsesColumn IsAny (number_row ParsesInto (kind_of U32) (λ n. pos n)) (by_bits validity.now) (λ o. o) (2 ^ 31 - 1) format.now offsets.now bytes.now numbers.old numbers.new statuses.old statuses.new result }
 {
     returned(columns::parse(
-        &Lenient,
         format,
         offsets,
         bytes,
@@ -367,10 +352,9 @@ pub extern "C" fn num_format_call_parse_nullable_u32_large_column(
     validity: &[u8],
     statuses: &mut [i32],
 ) -> i32
-    ensures { ParsesColumn (number_row ParsesInto (kind_of U32) (λ n. pos n)) (by_bits validity.now) (λ o. o) (2 ^ 63 - 1) format.now offsets.now bytes.now numbers.old numbers.new statuses.old statuses.new result }
+    ensures { ParsesColumn IsAny (number_row ParsesInto (kind_of U32) (λ n. pos n)) (by_bits validity.now) (λ o. o) (2 ^ 63 - 1) format.now offsets.now bytes.now numbers.old numbers.new statuses.old statuses.new result }
 {
     returned(columns::parse(
-        &Lenient,
         format,
         offsets,
         bytes,
@@ -390,10 +374,9 @@ pub extern "C" fn num_format_call_parse_nullable_u64_column(
     validity: &[u8],
     statuses: &mut [i32],
 ) -> i32
-    ensures { ParsesColumn (number_row ParsesInto (kind_of U64) (λ n. pos n)) (by_bits validity.now) (λ o. o) (2 ^ 31 - 1) format.now offsets.now bytes.now numbers.old numbers.new statuses.old statuses.new result }
+    ensures { ParsesColumn IsAny (number_row ParsesInto (kind_of U64) (λ n. pos n)) (by_bits validity.now) (λ o. o) (2 ^ 31 - 1) format.now offsets.now bytes.now numbers.old numbers.new statuses.old statuses.new result }
 {
     returned(columns::parse(
-        &Lenient,
         format,
         offsets,
         bytes,
@@ -413,10 +396,9 @@ pub extern "C" fn num_format_call_parse_nullable_u64_large_column(
     validity: &[u8],
     statuses: &mut [i32],
 ) -> i32
-    ensures { ParsesColumn (number_row ParsesInto (kind_of U64) (λ n. pos n)) (by_bits validity.now) (λ o. o) (2 ^ 63 - 1) format.now offsets.now bytes.now numbers.old numbers.new statuses.old statuses.new result }
+    ensures { ParsesColumn IsAny (number_row ParsesInto (kind_of U64) (λ n. pos n)) (by_bits validity.now) (λ o. o) (2 ^ 63 - 1) format.now offsets.now bytes.now numbers.old numbers.new statuses.old statuses.new result }
 {
     returned(columns::parse(
-        &Lenient,
         format,
         offsets,
         bytes,
@@ -436,10 +418,9 @@ pub extern "C" fn num_format_call_parse_nullable_u128_column(
     validity: &[u8],
     statuses: &mut [i32],
 ) -> i32
-    ensures { ParsesColumn (number_row ParsesInto (kind_of U128) unsigned_value) (by_bits validity.now) (λ o. o) (2 ^ 31 - 1) format.now offsets.now bytes.now numbers.old numbers.new statuses.old statuses.new result }
+    ensures { ParsesColumn IsAny (number_row ParsesInto (kind_of U128) unsigned_value) (by_bits validity.now) (λ o. o) (2 ^ 31 - 1) format.now offsets.now bytes.now numbers.old numbers.new statuses.old statuses.new result }
 {
     returned(columns::parse(
-        &Lenient,
         format,
         offsets,
         bytes,
@@ -459,10 +440,9 @@ pub extern "C" fn num_format_call_parse_nullable_u128_large_column(
     validity: &[u8],
     statuses: &mut [i32],
 ) -> i32
-    ensures { ParsesColumn (number_row ParsesInto (kind_of U128) unsigned_value) (by_bits validity.now) (λ o. o) (2 ^ 63 - 1) format.now offsets.now bytes.now numbers.old numbers.new statuses.old statuses.new result }
+    ensures { ParsesColumn IsAny (number_row ParsesInto (kind_of U128) unsigned_value) (by_bits validity.now) (λ o. o) (2 ^ 63 - 1) format.now offsets.now bytes.now numbers.old numbers.new statuses.old statuses.new result }
 {
     returned(columns::parse(
-        &Lenient,
         format,
         offsets,
         bytes,

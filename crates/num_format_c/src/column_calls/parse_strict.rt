@@ -1,16 +1,18 @@
 //! The calls that parse columns of numbers strictly, which tools/column_calls.py writes.
 ghost use Rattle.std.specs.Prelude.{◌-◌, ◌^◌, pos};
 ghost use Rattle.num_format.specs.Kind.{kind_of, I8, I16, I32, I64, I128, U8, U16, U32, U64, U128};
-ghost use Rattle.num_format_columns.specs.Columns.{all_valid};
+ghost use Rattle.num_format.specs.Strict.{IsUnambiguous};
+ghost use Rattle.num_format_c.specs.Layout.{all_valid};
 ghost use Rattle.num_format_c.specs.Columns.{ParsesColumn, ParsesRowExactly, number_row, signed_value, unsigned_value};
 
-use crate::columns::{self, Strict};
+use crate::columns;
 use crate::format::NumFormat;
+use crate::layout::AllValid;
 use crate::status::returned;
 use crate::wide::{SignedWide, UnsignedWide};
-use num_format_columns::AllValid;
 
-/// Parses the texts strictly, and else as `num_format_call_parse_i8_column` does.
+/// Parses the texts strictly, and else as `num_format_call_parse_i8_column` does. Its second error is a format under
+/// which a text can be misread.
 #[unsafe(no_mangle)]
 pub extern "C" fn num_format_call_parse_strict_i8_column(
     format: &NumFormat,
@@ -19,11 +21,9 @@ pub extern "C" fn num_format_call_parse_strict_i8_column(
     numbers: &mut [i8],
     statuses: &mut [i32],
 ) -> i32
-    ensures { ParsesColumn (number_row ParsesRowExactly (kind_of I8) (λ n. n)) all_valid (λ o. o) (2 ^ 31 - 1) format.now offsets.now bytes.now numbers.old numbers.new statuses.old statuses.new result }
+    ensures { ParsesColumn IsUnambiguous (number_row ParsesRowExactly (kind_of I8) (λ n. n)) all_valid (λ o. o) (2 ^ 31 - 1) format.now offsets.now bytes.now numbers.old numbers.new statuses.old statuses.new result }
 {
-    returned(columns::parse(
-        &Strict, format, offsets, bytes, numbers, &AllValid, statuses,
-    ))
+    returned(columns::parse_strict(format, offsets, bytes, numbers, &AllValid, statuses))
 }
 
 /// Parses a column as `num_format_call_parse_strict_i8_column` does.
@@ -35,11 +35,9 @@ pub extern "C" fn num_format_call_parse_strict_i8_large_column(
     numbers: &mut [i8],
     statuses: &mut [i32],
 ) -> i32
-    ensures { ParsesColumn (number_row ParsesRowExactly (kind_of I8) (λ n. n)) all_valid (λ o. o) (2 ^ 63 - 1) format.now offsets.now bytes.now numbers.old numbers.new statuses.old statuses.new result }
+    ensures { ParsesColumn IsUnambiguous (number_row ParsesRowExactly (kind_of I8) (λ n. n)) all_valid (λ o. o) (2 ^ 63 - 1) format.now offsets.now bytes.now numbers.old numbers.new statuses.old statuses.new result }
 {
-    returned(columns::parse(
-        &Strict, format, offsets, bytes, numbers, &AllValid, statuses,
-    ))
+    returned(columns::parse_strict(format, offsets, bytes, numbers, &AllValid, statuses))
 }
 
 /// Parses a column as `num_format_call_parse_strict_i8_column` does.
@@ -51,11 +49,9 @@ pub extern "C" fn num_format_call_parse_strict_i16_column(
     numbers: &mut [i16],
     statuses: &mut [i32],
 ) -> i32
-    ensures { ParsesColumn (number_row ParsesRowExactly (kind_of I16) (λ n. n)) all_valid (λ o. o) (2 ^ 31 - 1) format.now offsets.now bytes.now numbers.old numbers.new statuses.old statuses.new result }
+    ensures { ParsesColumn IsUnambiguous (number_row ParsesRowExactly (kind_of I16) (λ n. n)) all_valid (λ o. o) (2 ^ 31 - 1) format.now offsets.now bytes.now numbers.old numbers.new statuses.old statuses.new result }
 {
-    returned(columns::parse(
-        &Strict, format, offsets, bytes, numbers, &AllValid, statuses,
-    ))
+    returned(columns::parse_strict(format, offsets, bytes, numbers, &AllValid, statuses))
 }
 
 /// Parses a column as `num_format_call_parse_strict_i8_column` does.
@@ -67,11 +63,9 @@ pub extern "C" fn num_format_call_parse_strict_i16_large_column(
     numbers: &mut [i16],
     statuses: &mut [i32],
 ) -> i32
-    ensures { ParsesColumn (number_row ParsesRowExactly (kind_of I16) (λ n. n)) all_valid (λ o. o) (2 ^ 63 - 1) format.now offsets.now bytes.now numbers.old numbers.new statuses.old statuses.new result }
+    ensures { ParsesColumn IsUnambiguous (number_row ParsesRowExactly (kind_of I16) (λ n. n)) all_valid (λ o. o) (2 ^ 63 - 1) format.now offsets.now bytes.now numbers.old numbers.new statuses.old statuses.new result }
 {
-    returned(columns::parse(
-        &Strict, format, offsets, bytes, numbers, &AllValid, statuses,
-    ))
+    returned(columns::parse_strict(format, offsets, bytes, numbers, &AllValid, statuses))
 }
 
 /// Parses a column as `num_format_call_parse_strict_i8_column` does.
@@ -83,11 +77,9 @@ pub extern "C" fn num_format_call_parse_strict_i32_column(
     numbers: &mut [i32],
     statuses: &mut [i32],
 ) -> i32
-    ensures { ParsesColumn (number_row ParsesRowExactly (kind_of I32) (λ n. n)) all_valid (λ o. o) (2 ^ 31 - 1) format.now offsets.now bytes.now numbers.old numbers.new statuses.old statuses.new result }
+    ensures { ParsesColumn IsUnambiguous (number_row ParsesRowExactly (kind_of I32) (λ n. n)) all_valid (λ o. o) (2 ^ 31 - 1) format.now offsets.now bytes.now numbers.old numbers.new statuses.old statuses.new result }
 {
-    returned(columns::parse(
-        &Strict, format, offsets, bytes, numbers, &AllValid, statuses,
-    ))
+    returned(columns::parse_strict(format, offsets, bytes, numbers, &AllValid, statuses))
 }
 
 /// Parses a column as `num_format_call_parse_strict_i8_column` does.
@@ -99,11 +91,9 @@ pub extern "C" fn num_format_call_parse_strict_i32_large_column(
     numbers: &mut [i32],
     statuses: &mut [i32],
 ) -> i32
-    ensures { ParsesColumn (number_row ParsesRowExactly (kind_of I32) (λ n. n)) all_valid (λ o. o) (2 ^ 63 - 1) format.now offsets.now bytes.now numbers.old numbers.new statuses.old statuses.new result }
+    ensures { ParsesColumn IsUnambiguous (number_row ParsesRowExactly (kind_of I32) (λ n. n)) all_valid (λ o. o) (2 ^ 63 - 1) format.now offsets.now bytes.now numbers.old numbers.new statuses.old statuses.new result }
 {
-    returned(columns::parse(
-        &Strict, format, offsets, bytes, numbers, &AllValid, statuses,
-    ))
+    returned(columns::parse_strict(format, offsets, bytes, numbers, &AllValid, statuses))
 }
 
 /// Parses a column as `num_format_call_parse_strict_i8_column` does.
@@ -115,11 +105,9 @@ pub extern "C" fn num_format_call_parse_strict_i64_column(
     numbers: &mut [i64],
     statuses: &mut [i32],
 ) -> i32
-    ensures { ParsesColumn (number_row ParsesRowExactly (kind_of I64) (λ n. n)) all_valid (λ o. o) (2 ^ 31 - 1) format.now offsets.now bytes.now numbers.old numbers.new statuses.old statuses.new result }
+    ensures { ParsesColumn IsUnambiguous (number_row ParsesRowExactly (kind_of I64) (λ n. n)) all_valid (λ o. o) (2 ^ 31 - 1) format.now offsets.now bytes.now numbers.old numbers.new statuses.old statuses.new result }
 {
-    returned(columns::parse(
-        &Strict, format, offsets, bytes, numbers, &AllValid, statuses,
-    ))
+    returned(columns::parse_strict(format, offsets, bytes, numbers, &AllValid, statuses))
 }
 
 /// Parses a column as `num_format_call_parse_strict_i8_column` does.
@@ -131,11 +119,9 @@ pub extern "C" fn num_format_call_parse_strict_i64_large_column(
     numbers: &mut [i64],
     statuses: &mut [i32],
 ) -> i32
-    ensures { ParsesColumn (number_row ParsesRowExactly (kind_of I64) (λ n. n)) all_valid (λ o. o) (2 ^ 63 - 1) format.now offsets.now bytes.now numbers.old numbers.new statuses.old statuses.new result }
+    ensures { ParsesColumn IsUnambiguous (number_row ParsesRowExactly (kind_of I64) (λ n. n)) all_valid (λ o. o) (2 ^ 63 - 1) format.now offsets.now bytes.now numbers.old numbers.new statuses.old statuses.new result }
 {
-    returned(columns::parse(
-        &Strict, format, offsets, bytes, numbers, &AllValid, statuses,
-    ))
+    returned(columns::parse_strict(format, offsets, bytes, numbers, &AllValid, statuses))
 }
 
 /// Parses a column as `num_format_call_parse_strict_i8_column` does.
@@ -147,11 +133,9 @@ pub extern "C" fn num_format_call_parse_strict_i128_column(
     numbers: &mut [SignedWide],
     statuses: &mut [i32],
 ) -> i32
-    ensures { ParsesColumn (number_row ParsesRowExactly (kind_of I128) signed_value) all_valid (λ o. o) (2 ^ 31 - 1) format.now offsets.now bytes.now numbers.old numbers.new statuses.old statuses.new result }
+    ensures { ParsesColumn IsUnambiguous (number_row ParsesRowExactly (kind_of I128) signed_value) all_valid (λ o. o) (2 ^ 31 - 1) format.now offsets.now bytes.now numbers.old numbers.new statuses.old statuses.new result }
 {
-    returned(columns::parse(
-        &Strict, format, offsets, bytes, numbers, &AllValid, statuses,
-    ))
+    returned(columns::parse_strict(format, offsets, bytes, numbers, &AllValid, statuses))
 }
 
 /// Parses a column as `num_format_call_parse_strict_i8_column` does.
@@ -163,11 +147,9 @@ pub extern "C" fn num_format_call_parse_strict_i128_large_column(
     numbers: &mut [SignedWide],
     statuses: &mut [i32],
 ) -> i32
-    ensures { ParsesColumn (number_row ParsesRowExactly (kind_of I128) signed_value) all_valid (λ o. o) (2 ^ 63 - 1) format.now offsets.now bytes.now numbers.old numbers.new statuses.old statuses.new result }
+    ensures { ParsesColumn IsUnambiguous (number_row ParsesRowExactly (kind_of I128) signed_value) all_valid (λ o. o) (2 ^ 63 - 1) format.now offsets.now bytes.now numbers.old numbers.new statuses.old statuses.new result }
 {
-    returned(columns::parse(
-        &Strict, format, offsets, bytes, numbers, &AllValid, statuses,
-    ))
+    returned(columns::parse_strict(format, offsets, bytes, numbers, &AllValid, statuses))
 }
 
 /// Parses a column as `num_format_call_parse_strict_i8_column` does.
@@ -179,11 +161,9 @@ pub extern "C" fn num_format_call_parse_strict_u8_column(
     numbers: &mut [u8],
     statuses: &mut [i32],
 ) -> i32
-    ensures { ParsesColumn (number_row ParsesRowExactly (kind_of U8) (λ n. pos n)) all_valid (λ o. o) (2 ^ 31 - 1) format.now offsets.now bytes.now numbers.old numbers.new statuses.old statuses.new result }
+    ensures { ParsesColumn IsUnambiguous (number_row ParsesRowExactly (kind_of U8) (λ n. pos n)) all_valid (λ o. o) (2 ^ 31 - 1) format.now offsets.now bytes.now numbers.old numbers.new statuses.old statuses.new result }
 {
-    returned(columns::parse(
-        &Strict, format, offsets, bytes, numbers, &AllValid, statuses,
-    ))
+    returned(columns::parse_strict(format, offsets, bytes, numbers, &AllValid, statuses))
 }
 
 /// Parses a column as `num_format_call_parse_strict_i8_column` does.
@@ -195,11 +175,9 @@ pub extern "C" fn num_format_call_parse_strict_u8_large_column(
     numbers: &mut [u8],
     statuses: &mut [i32],
 ) -> i32
-    ensures { ParsesColumn (number_row ParsesRowExactly (kind_of U8) (λ n. pos n)) all_valid (λ o. o) (2 ^ 63 - 1) format.now offsets.now bytes.now numbers.old numbers.new statuses.old statuses.new result }
+    ensures { ParsesColumn IsUnambiguous (number_row ParsesRowExactly (kind_of U8) (λ n. pos n)) all_valid (λ o. o) (2 ^ 63 - 1) format.now offsets.now bytes.now numbers.old numbers.new statuses.old statuses.new result }
 {
-    returned(columns::parse(
-        &Strict, format, offsets, bytes, numbers, &AllValid, statuses,
-    ))
+    returned(columns::parse_strict(format, offsets, bytes, numbers, &AllValid, statuses))
 }
 
 /// Parses a column as `num_format_call_parse_strict_i8_column` does.
@@ -211,11 +189,9 @@ pub extern "C" fn num_format_call_parse_strict_u16_column(
     numbers: &mut [u16],
     statuses: &mut [i32],
 ) -> i32
-    ensures { ParsesColumn (number_row ParsesRowExactly (kind_of U16) (λ n. pos n)) all_valid (λ o. o) (2 ^ 31 - 1) format.now offsets.now bytes.now numbers.old numbers.new statuses.old statuses.new result }
+    ensures { ParsesColumn IsUnambiguous (number_row ParsesRowExactly (kind_of U16) (λ n. pos n)) all_valid (λ o. o) (2 ^ 31 - 1) format.now offsets.now bytes.now numbers.old numbers.new statuses.old statuses.new result }
 {
-    returned(columns::parse(
-        &Strict, format, offsets, bytes, numbers, &AllValid, statuses,
-    ))
+    returned(columns::parse_strict(format, offsets, bytes, numbers, &AllValid, statuses))
 }
 
 /// Parses a column as `num_format_call_parse_strict_i8_column` does.
@@ -227,11 +203,9 @@ pub extern "C" fn num_format_call_parse_strict_u16_large_column(
     numbers: &mut [u16],
     statuses: &mut [i32],
 ) -> i32
-    ensures { ParsesColumn (number_row ParsesRowExactly (kind_of U16) (λ n. pos n)) all_valid (λ o. o) (2 ^ 63 - 1) format.now offsets.now bytes.now numbers.old numbers.new statuses.old statuses.new result }
+    ensures { ParsesColumn IsUnambiguous (number_row ParsesRowExactly (kind_of U16) (λ n. pos n)) all_valid (λ o. o) (2 ^ 63 - 1) format.now offsets.now bytes.now numbers.old numbers.new statuses.old statuses.new result }
 {
-    returned(columns::parse(
-        &Strict, format, offsets, bytes, numbers, &AllValid, statuses,
-    ))
+    returned(columns::parse_strict(format, offsets, bytes, numbers, &AllValid, statuses))
 }
 
 /// Parses a column as `num_format_call_parse_strict_i8_column` does.
@@ -243,11 +217,9 @@ pub extern "C" fn num_format_call_parse_strict_u32_column(
     numbers: &mut [u32],
     statuses: &mut [i32],
 ) -> i32
-    ensures { ParsesColumn (number_row ParsesRowExactly (kind_of U32) (λ n. pos n)) all_valid (λ o. o) (2 ^ 31 - 1) format.now offsets.now bytes.now numbers.old numbers.new statuses.old statuses.new result }
+    ensures { ParsesColumn IsUnambiguous (number_row ParsesRowExactly (kind_of U32) (λ n. pos n)) all_valid (λ o. o) (2 ^ 31 - 1) format.now offsets.now bytes.now numbers.old numbers.new statuses.old statuses.new result }
 {
-    returned(columns::parse(
-        &Strict, format, offsets, bytes, numbers, &AllValid, statuses,
-    ))
+    returned(columns::parse_strict(format, offsets, bytes, numbers, &AllValid, statuses))
 }
 
 /// Parses a column as `num_format_call_parse_strict_i8_column` does.
@@ -259,11 +231,9 @@ pub extern "C" fn num_format_call_parse_strict_u32_large_column(
     numbers: &mut [u32],
     statuses: &mut [i32],
 ) -> i32
-    ensures { ParsesColumn (number_row ParsesRowExactly (kind_of U32) (λ n. pos n)) all_valid (λ o. o) (2 ^ 63 - 1) format.now offsets.now bytes.now numbers.old numbers.new statuses.old statuses.new result }
+    ensures { ParsesColumn IsUnambiguous (number_row ParsesRowExactly (kind_of U32) (λ n. pos n)) all_valid (λ o. o) (2 ^ 63 - 1) format.now offsets.now bytes.now numbers.old numbers.new statuses.old statuses.new result }
 {
-    returned(columns::parse(
-        &Strict, format, offsets, bytes, numbers, &AllValid, statuses,
-    ))
+    returned(columns::parse_strict(format, offsets, bytes, numbers, &AllValid, statuses))
 }
 
 /// Parses a column as `num_format_call_parse_strict_i8_column` does.
@@ -275,11 +245,9 @@ pub extern "C" fn num_format_call_parse_strict_u64_column(
     numbers: &mut [u64],
     statuses: &mut [i32],
 ) -> i32
-    ensures { ParsesColumn (number_row ParsesRowExactly (kind_of U64) (λ n. pos n)) all_valid (λ o. o) (2 ^ 31 - 1) format.now offsets.now bytes.now numbers.old numbers.new statuses.old statuses.new result }
+    ensures { ParsesColumn IsUnambiguous (number_row ParsesRowExactly (kind_of U64) (λ n. pos n)) all_valid (λ o. o) (2 ^ 31 - 1) format.now offsets.now bytes.now numbers.old numbers.new statuses.old statuses.new result }
 {
-    returned(columns::parse(
-        &Strict, format, offsets, bytes, numbers, &AllValid, statuses,
-    ))
+    returned(columns::parse_strict(format, offsets, bytes, numbers, &AllValid, statuses))
 }
 
 /// Parses a column as `num_format_call_parse_strict_i8_column` does.
@@ -291,11 +259,9 @@ pub extern "C" fn num_format_call_parse_strict_u64_large_column(
     numbers: &mut [u64],
     statuses: &mut [i32],
 ) -> i32
-    ensures { ParsesColumn (number_row ParsesRowExactly (kind_of U64) (λ n. pos n)) all_valid (λ o. o) (2 ^ 63 - 1) format.now offsets.now bytes.now numbers.old numbers.new statuses.old statuses.new result }
+    ensures { ParsesColumn IsUnambiguous (number_row ParsesRowExactly (kind_of U64) (λ n. pos n)) all_valid (λ o. o) (2 ^ 63 - 1) format.now offsets.now bytes.now numbers.old numbers.new statuses.old statuses.new result }
 {
-    returned(columns::parse(
-        &Strict, format, offsets, bytes, numbers, &AllValid, statuses,
-    ))
+    returned(columns::parse_strict(format, offsets, bytes, numbers, &AllValid, statuses))
 }
 
 /// Parses a column as `num_format_call_parse_strict_i8_column` does.
@@ -307,11 +273,9 @@ pub extern "C" fn num_format_call_parse_strict_u128_column(
     numbers: &mut [UnsignedWide],
     statuses: &mut [i32],
 ) -> i32
-    ensures { ParsesColumn (number_row ParsesRowExactly (kind_of U128) unsigned_value) all_valid (λ o. o) (2 ^ 31 - 1) format.now offsets.now bytes.now numbers.old numbers.new statuses.old statuses.new result }
+    ensures { ParsesColumn IsUnambiguous (number_row ParsesRowExactly (kind_of U128) unsigned_value) all_valid (λ o. o) (2 ^ 31 - 1) format.now offsets.now bytes.now numbers.old numbers.new statuses.old statuses.new result }
 {
-    returned(columns::parse(
-        &Strict, format, offsets, bytes, numbers, &AllValid, statuses,
-    ))
+    returned(columns::parse_strict(format, offsets, bytes, numbers, &AllValid, statuses))
 }
 
 /// Parses a column as `num_format_call_parse_strict_i8_column` does.
@@ -323,9 +287,7 @@ pub extern "C" fn num_format_call_parse_strict_u128_large_column(
     numbers: &mut [UnsignedWide],
     statuses: &mut [i32],
 ) -> i32
-    ensures { ParsesColumn (number_row ParsesRowExactly (kind_of U128) unsigned_value) all_valid (λ o. o) (2 ^ 63 - 1) format.now offsets.now bytes.now numbers.old numbers.new statuses.old statuses.new result }
+    ensures { ParsesColumn IsUnambiguous (number_row ParsesRowExactly (kind_of U128) unsigned_value) all_valid (λ o. o) (2 ^ 63 - 1) format.now offsets.now bytes.now numbers.old numbers.new statuses.old statuses.new result }
 {
-    returned(columns::parse(
-        &Strict, format, offsets, bytes, numbers, &AllValid, statuses,
-    ))
+    returned(columns::parse_strict(format, offsets, bytes, numbers, &AllValid, statuses))
 }

@@ -1,16 +1,18 @@
 //! The calls that parse columns of numbers strictly with a validity bitmap, which tools/column_calls.py writes.
 ghost use Rattle.std.specs.Prelude.{◌-◌, ◌^◌, pos};
 ghost use Rattle.num_format.specs.Kind.{kind_of, I8, I16, I32, I64, I128, U8, U16, U32, U64, U128};
-ghost use Rattle.num_format_columns.specs.Columns.{by_bits};
+ghost use Rattle.num_format.specs.Strict.{IsUnambiguous};
+ghost use Rattle.num_format_c.specs.Layout.{by_bits};
 ghost use Rattle.num_format_c.specs.Columns.{ParsesColumn, ParsesRowExactly, number_row, signed_value, unsigned_value};
 
-use crate::columns::{self, Strict};
+use crate::columns;
 use crate::format::NumFormat;
+use crate::layout::Bitmap;
 use crate::status::returned;
 use crate::wide::{SignedWide, UnsignedWide};
-use num_format_columns::Bitmap;
 
-/// Parses the texts strictly, and else as `num_format_call_parse_nullable_i8_column` does.
+/// Parses the texts strictly, and else as `num_format_call_parse_nullable_i8_column` does. Its second error is a
+/// format under which a text can be misread.
 #[unsafe(no_mangle)]
 pub extern "C" fn num_format_call_parse_strict_nullable_i8_column(
     format: &NumFormat,
@@ -20,10 +22,9 @@ pub extern "C" fn num_format_call_parse_strict_nullable_i8_column(
     validity: &[u8],
     statuses: &mut [i32],
 ) -> i32
-    ensures { ParsesColumn (number_row ParsesRowExactly (kind_of I8) (λ n. n)) (by_bits validity.now) (λ o. o) (2 ^ 31 - 1) format.now offsets.now bytes.now numbers.old numbers.new statuses.old statuses.new result }
+    ensures { ParsesColumn IsUnambiguous (number_row ParsesRowExactly (kind_of I8) (λ n. n)) (by_bits validity.now) (λ o. o) (2 ^ 31 - 1) format.now offsets.now bytes.now numbers.old numbers.new statuses.old statuses.new result }
 {
-    returned(columns::parse(
-        &Strict,
+    returned(columns::parse_strict(
         format,
         offsets,
         bytes,
@@ -43,10 +44,9 @@ pub extern "C" fn num_format_call_parse_strict_nullable_i8_large_column(
     validity: &[u8],
     statuses: &mut [i32],
 ) -> i32
-    ensures { ParsesColumn (number_row ParsesRowExactly (kind_of I8) (λ n. n)) (by_bits validity.now) (λ o. o) (2 ^ 63 - 1) format.now offsets.now bytes.now numbers.old numbers.new statuses.old statuses.new result }
+    ensures { ParsesColumn IsUnambiguous (number_row ParsesRowExactly (kind_of I8) (λ n. n)) (by_bits validity.now) (λ o. o) (2 ^ 63 - 1) format.now offsets.now bytes.now numbers.old numbers.new statuses.old statuses.new result }
 {
-    returned(columns::parse(
-        &Strict,
+    returned(columns::parse_strict(
         format,
         offsets,
         bytes,
@@ -66,10 +66,9 @@ pub extern "C" fn num_format_call_parse_strict_nullable_i16_column(
     validity: &[u8],
     statuses: &mut [i32],
 ) -> i32
-    ensures { ParsesColumn (number_row ParsesRowExactly (kind_of I16) (λ n. n)) (by_bits validity.now) (λ o. o) (2 ^ 31 - 1) format.now offsets.now bytes.now numbers.old numbers.new statuses.old statuses.new result }
+    ensures { ParsesColumn IsUnambiguous (number_row ParsesRowExactly (kind_of I16) (λ n. n)) (by_bits validity.now) (λ o. o) (2 ^ 31 - 1) format.now offsets.now bytes.now numbers.old numbers.new statuses.old statuses.new result }
 {
-    returned(columns::parse(
-        &Strict,
+    returned(columns::parse_strict(
         format,
         offsets,
         bytes,
@@ -89,10 +88,9 @@ pub extern "C" fn num_format_call_parse_strict_nullable_i16_large_column(
     validity: &[u8],
     statuses: &mut [i32],
 ) -> i32
-    ensures { ParsesColumn (number_row ParsesRowExactly (kind_of I16) (λ n. n)) (by_bits validity.now) (λ o. o) (2 ^ 63 - 1) format.now offsets.now bytes.now numbers.old numbers.new statuses.old statuses.new result }
+    ensures { ParsesColumn IsUnambiguous (number_row ParsesRowExactly (kind_of I16) (λ n. n)) (by_bits validity.now) (λ o. o) (2 ^ 63 - 1) format.now offsets.now bytes.now numbers.old numbers.new statuses.old statuses.new result }
 {
-    returned(columns::parse(
-        &Strict,
+    returned(columns::parse_strict(
         format,
         offsets,
         bytes,
@@ -112,10 +110,9 @@ pub extern "C" fn num_format_call_parse_strict_nullable_i32_column(
     validity: &[u8],
     statuses: &mut [i32],
 ) -> i32
-    ensures { ParsesColumn (number_row ParsesRowExactly (kind_of I32) (λ n. n)) (by_bits validity.now) (λ o. o) (2 ^ 31 - 1) format.now offsets.now bytes.now numbers.old numbers.new statuses.old statuses.new result }
+    ensures { ParsesColumn IsUnambiguous (number_row ParsesRowExactly (kind_of I32) (λ n. n)) (by_bits validity.now) (λ o. o) (2 ^ 31 - 1) format.now offsets.now bytes.now numbers.old numbers.new statuses.old statuses.new result }
 {
-    returned(columns::parse(
-        &Strict,
+    returned(columns::parse_strict(
         format,
         offsets,
         bytes,
@@ -135,10 +132,9 @@ pub extern "C" fn num_format_call_parse_strict_nullable_i32_large_column(
     validity: &[u8],
     statuses: &mut [i32],
 ) -> i32
-    ensures { ParsesColumn (number_row ParsesRowExactly (kind_of I32) (λ n. n)) (by_bits validity.now) (λ o. o) (2 ^ 63 - 1) format.now offsets.now bytes.now numbers.old numbers.new statuses.old statuses.new result }
+    ensures { ParsesColumn IsUnambiguous (number_row ParsesRowExactly (kind_of I32) (λ n. n)) (by_bits validity.now) (λ o. o) (2 ^ 63 - 1) format.now offsets.now bytes.now numbers.old numbers.new statuses.old statuses.new result }
 {
-    returned(columns::parse(
-        &Strict,
+    returned(columns::parse_strict(
         format,
         offsets,
         bytes,
@@ -158,10 +154,9 @@ pub extern "C" fn num_format_call_parse_strict_nullable_i64_column(
     validity: &[u8],
     statuses: &mut [i32],
 ) -> i32
-    ensures { ParsesColumn (number_row ParsesRowExactly (kind_of I64) (λ n. n)) (by_bits validity.now) (λ o. o) (2 ^ 31 - 1) format.now offsets.now bytes.now numbers.old numbers.new statuses.old statuses.new result }
+    ensures { ParsesColumn IsUnambiguous (number_row ParsesRowExactly (kind_of I64) (λ n. n)) (by_bits validity.now) (λ o. o) (2 ^ 31 - 1) format.now offsets.now bytes.now numbers.old numbers.new statuses.old statuses.new result }
 {
-    returned(columns::parse(
-        &Strict,
+    returned(columns::parse_strict(
         format,
         offsets,
         bytes,
@@ -181,10 +176,9 @@ pub extern "C" fn num_format_call_parse_strict_nullable_i64_large_column(
     validity: &[u8],
     statuses: &mut [i32],
 ) -> i32
-    ensures { ParsesColumn (number_row ParsesRowExactly (kind_of I64) (λ n. n)) (by_bits validity.now) (λ o. o) (2 ^ 63 - 1) format.now offsets.now bytes.now numbers.old numbers.new statuses.old statuses.new result }
+    ensures { ParsesColumn IsUnambiguous (number_row ParsesRowExactly (kind_of I64) (λ n. n)) (by_bits validity.now) (λ o. o) (2 ^ 63 - 1) format.now offsets.now bytes.now numbers.old numbers.new statuses.old statuses.new result }
 {
-    returned(columns::parse(
-        &Strict,
+    returned(columns::parse_strict(
         format,
         offsets,
         bytes,
@@ -204,10 +198,9 @@ pub extern "C" fn num_format_call_parse_strict_nullable_i128_column(
     validity: &[u8],
     statuses: &mut [i32],
 ) -> i32
-    ensures { ParsesColumn (number_row ParsesRowExactly (kind_of I128) signed_value) (by_bits validity.now) (λ o. o) (2 ^ 31 - 1) format.now offsets.now bytes.now numbers.old numbers.new statuses.old statuses.new result }
+    ensures { ParsesColumn IsUnambiguous (number_row ParsesRowExactly (kind_of I128) signed_value) (by_bits validity.now) (λ o. o) (2 ^ 31 - 1) format.now offsets.now bytes.now numbers.old numbers.new statuses.old statuses.new result }
 {
-    returned(columns::parse(
-        &Strict,
+    returned(columns::parse_strict(
         format,
         offsets,
         bytes,
@@ -227,10 +220,9 @@ pub extern "C" fn num_format_call_parse_strict_nullable_i128_large_column(
     validity: &[u8],
     statuses: &mut [i32],
 ) -> i32
-    ensures { ParsesColumn (number_row ParsesRowExactly (kind_of I128) signed_value) (by_bits validity.now) (λ o. o) (2 ^ 63 - 1) format.now offsets.now bytes.now numbers.old numbers.new statuses.old statuses.new result }
+    ensures { ParsesColumn IsUnambiguous (number_row ParsesRowExactly (kind_of I128) signed_value) (by_bits validity.now) (λ o. o) (2 ^ 63 - 1) format.now offsets.now bytes.now numbers.old numbers.new statuses.old statuses.new result }
 {
-    returned(columns::parse(
-        &Strict,
+    returned(columns::parse_strict(
         format,
         offsets,
         bytes,
@@ -250,10 +242,9 @@ pub extern "C" fn num_format_call_parse_strict_nullable_u8_column(
     validity: &[u8],
     statuses: &mut [i32],
 ) -> i32
-    ensures { ParsesColumn (number_row ParsesRowExactly (kind_of U8) (λ n. pos n)) (by_bits validity.now) (λ o. o) (2 ^ 31 - 1) format.now offsets.now bytes.now numbers.old numbers.new statuses.old statuses.new result }
+    ensures { ParsesColumn IsUnambiguous (number_row ParsesRowExactly (kind_of U8) (λ n. pos n)) (by_bits validity.now) (λ o. o) (2 ^ 31 - 1) format.now offsets.now bytes.now numbers.old numbers.new statuses.old statuses.new result }
 {
-    returned(columns::parse(
-        &Strict,
+    returned(columns::parse_strict(
         format,
         offsets,
         bytes,
@@ -273,10 +264,9 @@ pub extern "C" fn num_format_call_parse_strict_nullable_u8_large_column(
     validity: &[u8],
     statuses: &mut [i32],
 ) -> i32
-    ensures { ParsesColumn (number_row ParsesRowExactly (kind_of U8) (λ n. pos n)) (by_bits validity.now) (λ o. o) (2 ^ 63 - 1) format.now offsets.now bytes.now numbers.old numbers.new statuses.old statuses.new result }
+    ensures { ParsesColumn IsUnambiguous (number_row ParsesRowExactly (kind_of U8) (λ n. pos n)) (by_bits validity.now) (λ o. o) (2 ^ 63 - 1) format.now offsets.now bytes.now numbers.old numbers.new statuses.old statuses.new result }
 {
-    returned(columns::parse(
-        &Strict,
+    returned(columns::parse_strict(
         format,
         offsets,
         bytes,
@@ -296,10 +286,9 @@ pub extern "C" fn num_format_call_parse_strict_nullable_u16_column(
     validity: &[u8],
     statuses: &mut [i32],
 ) -> i32
-    ensures { ParsesColumn (number_row ParsesRowExactly (kind_of U16) (λ n. pos n)) (by_bits validity.now) (λ o. o) (2 ^ 31 - 1) format.now offsets.now bytes.now numbers.old numbers.new statuses.old statuses.new result }
+    ensures { ParsesColumn IsUnambiguous (number_row ParsesRowExactly (kind_of U16) (λ n. pos n)) (by_bits validity.now) (λ o. o) (2 ^ 31 - 1) format.now offsets.now bytes.now numbers.old numbers.new statuses.old statuses.new result }
 {
-    returned(columns::parse(
-        &Strict,
+    returned(columns::parse_strict(
         format,
         offsets,
         bytes,
@@ -319,10 +308,9 @@ pub extern "C" fn num_format_call_parse_strict_nullable_u16_large_column(
     validity: &[u8],
     statuses: &mut [i32],
 ) -> i32
-    ensures { ParsesColumn (number_row ParsesRowExactly (kind_of U16) (λ n. pos n)) (by_bits validity.now) (λ o. o) (2 ^ 63 - 1) format.now offsets.now bytes.now numbers.old numbers.new statuses.old statuses.new result }
+    ensures { ParsesColumn IsUnambiguous (number_row ParsesRowExactly (kind_of U16) (λ n. pos n)) (by_bits validity.now) (λ o. o) (2 ^ 63 - 1) format.now offsets.now bytes.now numbers.old numbers.new statuses.old statuses.new result }
 {
-    returned(columns::parse(
-        &Strict,
+    returned(columns::parse_strict(
         format,
         offsets,
         bytes,
@@ -342,10 +330,9 @@ pub extern "C" fn num_format_call_parse_strict_nullable_u32_column(
     validity: &[u8],
     statuses: &mut [i32],
 ) -> i32
-    ensures { ParsesColumn (number_row ParsesRowExactly (kind_of U32) (λ n. pos n)) (by_bits validity.now) (λ o. o) (2 ^ 31 - 1) format.now offsets.now bytes.now numbers.old numbers.new statuses.old statuses.new result }
+    ensures { ParsesColumn IsUnambiguous (number_row ParsesRowExactly (kind_of U32) (λ n. pos n)) (by_bits validity.now) (λ o. o) (2 ^ 31 - 1) format.now offsets.now bytes.now numbers.old numbers.new statuses.old statuses.new result }
 {
-    returned(columns::parse(
-        &Strict,
+    returned(columns::parse_strict(
         format,
         offsets,
         bytes,
@@ -365,10 +352,9 @@ pub extern "C" fn num_format_call_parse_strict_nullable_u32_large_column(
     validity: &[u8],
     statuses: &mut [i32],
 ) -> i32
-    ensures { ParsesColumn (number_row ParsesRowExactly (kind_of U32) (λ n. pos n)) (by_bits validity.now) (λ o. o) (2 ^ 63 - 1) format.now offsets.now bytes.now numbers.old numbers.new statuses.old statuses.new result }
+    ensures { ParsesColumn IsUnambiguous (number_row ParsesRowExactly (kind_of U32) (λ n. pos n)) (by_bits validity.now) (λ o. o) (2 ^ 63 - 1) format.now offsets.now bytes.now numbers.old numbers.new statuses.old statuses.new result }
 {
-    returned(columns::parse(
-        &Strict,
+    returned(columns::parse_strict(
         format,
         offsets,
         bytes,
@@ -388,10 +374,9 @@ pub extern "C" fn num_format_call_parse_strict_nullable_u64_column(
     validity: &[u8],
     statuses: &mut [i32],
 ) -> i32
-    ensures { ParsesColumn (number_row ParsesRowExactly (kind_of U64) (λ n. pos n)) (by_bits validity.now) (λ o. o) (2 ^ 31 - 1) format.now offsets.now bytes.now numbers.old numbers.new statuses.old statuses.new result }
+    ensures { ParsesColumn IsUnambiguous (number_row ParsesRowExactly (kind_of U64) (λ n. pos n)) (by_bits validity.now) (λ o. o) (2 ^ 31 - 1) format.now offsets.now bytes.now numbers.old numbers.new statuses.old statuses.new result }
 {
-    returned(columns::parse(
-        &Strict,
+    returned(columns::parse_strict(
         format,
         offsets,
         bytes,
@@ -411,10 +396,9 @@ pub extern "C" fn num_format_call_parse_strict_nullable_u64_large_column(
     validity: &[u8],
     statuses: &mut [i32],
 ) -> i32
-    ensures { ParsesColumn (number_row ParsesRowExactly (kind_of U64) (λ n. pos n)) (by_bits validity.now) (λ o. o) (2 ^ 63 - 1) format.now offsets.now bytes.now numbers.old numbers.new statuses.old statuses.new result }
+    ensures { ParsesColumn IsUnambiguous (number_row ParsesRowExactly (kind_of U64) (λ n. pos n)) (by_bits validity.now) (λ o. o) (2 ^ 63 - 1) format.now offsets.now bytes.now numbers.old numbers.new statuses.old statuses.new result }
 {
-    returned(columns::parse(
-        &Strict,
+    returned(columns::parse_strict(
         format,
         offsets,
         bytes,
@@ -434,10 +418,9 @@ pub extern "C" fn num_format_call_parse_strict_nullable_u128_column(
     validity: &[u8],
     statuses: &mut [i32],
 ) -> i32
-    ensures { ParsesColumn (number_row ParsesRowExactly (kind_of U128) unsigned_value) (by_bits validity.now) (λ o. o) (2 ^ 31 - 1) format.now offsets.now bytes.now numbers.old numbers.new statuses.old statuses.new result }
+    ensures { ParsesColumn IsUnambiguous (number_row ParsesRowExactly (kind_of U128) unsigned_value) (by_bits validity.now) (λ o. o) (2 ^ 31 - 1) format.now offsets.now bytes.now numbers.old numbers.new statuses.old statuses.new result }
 {
-    returned(columns::parse(
-        &Strict,
+    returned(columns::parse_strict(
         format,
         offsets,
         bytes,
@@ -457,10 +440,9 @@ pub extern "C" fn num_format_call_parse_strict_nullable_u128_large_column(
     validity: &[u8],
     statuses: &mut [i32],
 ) -> i32
-    ensures { ParsesColumn (number_row ParsesRowExactly (kind_of U128) unsigned_value) (by_bits validity.now) (λ o. o) (2 ^ 63 - 1) format.now offsets.now bytes.now numbers.old numbers.new statuses.old statuses.new result }
+    ensures { ParsesColumn IsUnambiguous (number_row ParsesRowExactly (kind_of U128) unsigned_value) (by_bits validity.now) (λ o. o) (2 ^ 63 - 1) format.now offsets.now bytes.now numbers.old numbers.new statuses.old statuses.new result }
 {
-    returned(columns::parse(
-        &Strict,
+    returned(columns::parse_strict(
         format,
         offsets,
         bytes,

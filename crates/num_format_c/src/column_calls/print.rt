@@ -1,13 +1,13 @@
 //! The calls that print and measure columns of numbers, which tools/column_calls.py writes.
 ghost use Rattle.std.specs.Prelude.{◌-◌, ◌^◌, pos};
-ghost use Rattle.num_format_columns.specs.Columns.{all_valid};
+ghost use Rattle.num_format_c.specs.Layout.{all_valid};
 ghost use Rattle.num_format_c.specs.Columns.{MeasuresColumn, PrintsColumn, number_text, signed_value, unsigned_value};
 
 use crate::columns;
 use crate::format::NumFormat;
+use crate::layout::AllValid;
 use crate::status::returned;
 use crate::wide::{SignedWide, UnsignedWide};
-use num_format_columns::AllValid;
 
 /// Prints the numbers one after another at the start of the bytes, writes the offsets of their texts, and
 /// returns 0. There is one offset more than numbers.

@@ -1,13 +1,13 @@
 //! The calls that print and measure columns of numbers with a validity bitmap, which tools/column_calls.py writes.
 ghost use Rattle.std.specs.Prelude.{◌-◌, ◌^◌, pos};
-ghost use Rattle.num_format_columns.specs.Columns.{by_bits};
+ghost use Rattle.num_format_c.specs.Layout.{by_bits};
 ghost use Rattle.num_format_c.specs.Columns.{MeasuresColumn, PrintsColumn, number_text, signed_value, unsigned_value};
 
 use crate::columns;
 use crate::format::NumFormat;
+use crate::layout::Bitmap;
 use crate::status::returned;
 use crate::wide::{SignedWide, UnsignedWide};
-use num_format_columns::Bitmap;
 
 /// Prints the numbers as `num_format_print_i8_column` does, but an empty text for each null row. There is a bit
 /// for each row, and fewer are the same error as another number of offsets.

@@ -1,6 +1,5 @@
 use Rattle.std.proofs.Common.{rules}
-use Rattle.regroup_shared.specs.Words.{texts}
-use Rattle.regroup_commands.specs.Request.{request_in}
+use Rattle.regroup_commands.specs.Request.{request_in, texts}
 use Rattle.regroup_commands.proofs.SendingLemmas.{SendsOutput_usage}
 use Rattle.regroup_commands.proofs.try_run.Goals as goal
 

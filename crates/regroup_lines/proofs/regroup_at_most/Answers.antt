@@ -1,6 +1,6 @@
 use Rattle.std.proofs.Common.{rules, Bool, true, false, ◌==◌, ap, ◌∙◌, ℕ, ◌+◌, ◌<◌, ◌≤◌, ◌≡◌, List, length, subst, sym, arith, Err, Ok}
 use Rattle.std.proofs.lemmas.Result.{err_from_is_err_and}
-use Rattle.regroup_shared.specs.Sending.{ended_by}
+use Rattle.regroup_lines.specs.Ended.{ended_by}
 use Rattle.regroup_lines.specs.Fault.{fault_of}
 use Rattle.regroup_lines.specs.LineFaults.{line_fault_of}
 use Rattle.regroup_lines.specs.Input.{EndsOrGoesOn, FindsPiece, IsInArray, IsLong, PassesLong, array_len, held}

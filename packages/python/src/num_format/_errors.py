@@ -35,6 +35,9 @@ class Cause(enum.IntEnum):
     TOO_MANY_DECIMALS = lib.NUM_FORMAT_TOO_MANY_DECIMALS
     #: In a column, a digit past the scale is not 0.
     DIGITS_LOST = lib.NUM_FORMAT_DIGITS_LOST
+    #: A text can be misread under the format: the minus sign is empty, or it or a separator that is printed has a
+    #: numeric character. For decimals, also where the decimal mark is empty, has one, or is such a separator.
+    AMBIGUOUS_FORMAT = lib.NUM_FORMAT_AMBIGUOUS_FORMAT
 
     def __repr__(self) -> str:
         return f"Cause.{self.name}"
@@ -53,6 +56,7 @@ _REASONS = {
     Cause.OUT_OF_RANGE: "the number is too large",
     Cause.TOO_MANY_DECIMALS: "it has too many decimals",
     Cause.DIGITS_LOST: "a digit past the scale is not 0",
+    Cause.AMBIGUOUS_FORMAT: "a text can be misread under the format",
 }
 
 # The most characters of a refused text that a message shows.
@@ -100,7 +104,7 @@ class ParseError(NumFormatError):
 
 
 class FormatError(NumFormatError):
-    """A text can be no part of a format, or no locale has the name.
+    """A text can be no part of a format, no locale has the name, or nothing is parsed under the format.
 
     >>> import num_format
     >>> num_format.Format.locale("xx")
@@ -109,10 +113,13 @@ class FormatError(NumFormatError):
     >>> num_format.Format(separator="123456789")
     Traceback (most recent call last):
     num_format.FormatError: separator '123456789' is refused: it has more than 8 bytes
+    >>> num_format.parse("5", num_format.Format(grouping="Posix", minus_sign=""))
+    Traceback (most recent call last):
+    num_format.FormatError: Format(separator=',', grouping=Grouping.POSIX, minus_sign='', decimal_mark='.') is ambiguous
 
     Attributes:
-        argument: ``"locale"``, ``"tag"``, or the name of the argument of :class:`Format`.
-        text: The text.
+        argument: ``"locale"``, ``"tag"``, the name of the argument of :class:`Format`, or ``"format"``.
+        text: The text, or the `repr` of the format.
         cause: Why it is refused.
     """
 
@@ -123,6 +130,8 @@ class FormatError(NumFormatError):
         self.cause = cause
 
     def __str__(self) -> str:
+        if self.cause is Cause.AMBIGUOUS_FORMAT:
+            return f"{self.text} is ambiguous"
         return f"{self.argument} {_shown(self.text)} is refused: {_REASONS[self.cause]}"
 
 

@@ -45,11 +45,11 @@ _NUMBERS = {grouping: getattr(lib, f"NUM_FORMAT_{grouping.name}") for grouping i
 _GROUPINGS = {number: grouping for grouping, number in _NUMBERS.items()}
 
 
-def encoded(text: str) -> bytes:
-    """Returns the text in UTF-8."""
+def encoded(text: str, errors: str = "strict") -> bytes:
+    """Returns the text in UTF-8, with lone surrogates as `str.encode` encodes them for these `errors`."""
     if not isinstance(text, str):
         raise TypeError(f"the text must be a str, not {type(text).__name__}")
-    return text.encode()
+    return text.encode(errors=errors)
 
 
 @final
@@ -146,7 +146,8 @@ class Format:
     def reads_back(self) -> bool:
         """Returns whether every ``int`` that is printed under the format parses as the same number again.
 
-        It is true for each locale, and false, for one, without a minus sign.
+        It is true for each locale, and false, for one, without a minus sign. Where it is false, no text is parsed
+        strictly under the format, which is refused as `AMBIGUOUS_FORMAT`.
 
         >>> from num_format import Format
         >>> Format.locale("sv").reads_back(), Format(minus_sign="").reads_back()

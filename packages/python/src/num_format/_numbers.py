@@ -5,7 +5,7 @@ import operator
 from decimal import Decimal
 from typing import Any, SupportsIndex
 
-from ._errors import Cause, ParseError
+from ._errors import Cause, FormatError, NumFormatError, ParseError
 from ._format import Format, encoded, to_format
 from ._native import ffi, lib
 
@@ -141,11 +141,11 @@ def parse(text: str, format: Format | str, *, lenient: bool = False) -> int:
 
     Raises:
         ParseError: The text is refused. The error has the cause and, for an unexpected character, its index.
-        FormatError: No locale has the name.
+        FormatError: No locale has the name, or the format is ambiguous (`AMBIGUOUS_FORMAT`), but not with `lenient`.
         TypeError: The text is no ``str``.
     """
     struct = to_format(format)._struct
-    given = _encoded(text)
+    given = encoded(text, "surrogatepass")
     i64, i128, u128 = _LENIENT if lenient else _STRICT
     number = _new(_I64)
     at = () if lenient else (_new(_SIZE),)
@@ -159,7 +159,7 @@ def parse(text: str, format: Format | str, *, lenient: bool = False) -> int:
         status = u128(struct, given, len(given), low, high, *at)
         if status == 0:
             return high[0] << 64 | low[0]
-    raise _refusal(text, status, *at)
+    raise _refusal(text, format, status, *at)
 
 
 def parse_decimal(text: str, format: Format | str) -> Decimal:
@@ -182,25 +182,17 @@ def parse_decimal(text: str, format: Format | str) -> Decimal:
 
     Raises:
         ParseError: The text is refused. The error has the cause and, for an unexpected character, its index.
-        FormatError: No locale has the name.
+        FormatError: No locale has the name, or the format is ambiguous (`AMBIGUOUS_FORMAT`).
         TypeError: The text is no ``str``.
     """
     struct = to_format(format)._struct
     low, high, scale, at = _new(_U64), _new(_U64), _new(_U32), _new(_SIZE)
-    given = _encoded(text)
+    given = encoded(text, "surrogatepass")
     status = lib.num_format_parse_decimal(struct, given, len(given), low, high, scale, at)
     if status < 0:
-        raise _refusal(text, status, at)
+        raise _refusal(text, format, status, at)
     # A string is converted exactly, which arithmetic in a context is not.
     return Decimal(f"{_signed(low[0], high[0])}E-{scale[0]}")
-
-
-def _encoded(text: str) -> bytes:
-    """Returns a text to parse in UTF-8."""
-    try:
-        return encoded(text)
-    except UnicodeEncodeError as error:
-        raise ParseError(text, Cause.NOT_UTF8, error.start) from None
 
 
 def _signed(low: int, high: int) -> int:
@@ -209,9 +201,13 @@ def _signed(low: int, high: int) -> int:
     return number if number <= _I128_MAX else number - 2**128
 
 
-def _refusal(text: str, status: int, at: Any = None) -> ParseError:
+def _refusal(text: str, format: Format | str, status: int, at: Any = None) -> NumFormatError:
     """Returns the error of a text that was refused with the status: at the byte, if one was unexpected."""
     cause = Cause(status)
+    if cause is Cause.AMBIGUOUS_FORMAT:
+        return FormatError("format", repr(format), cause)
+    if cause is Cause.NOT_UTF8:
+        return ParseError(text, cause, next(k for k, each in enumerate(text) if "\ud800" <= each <= "\udfff"))
     if cause is not Cause.UNEXPECTED:
         return ParseError(text, cause)
     return ParseError(text, cause, len(text.encode()[: at[0]].decode()))

@@ -30,7 +30,7 @@ from typing import Any, NamedTuple
 import numpy as np
 import numpy.typing as npt
 
-from ._errors import Cause, ParseError
+from ._errors import Cause, FormatError, ParseError
 from ._format import Format, to_format
 from ._native import ffi, lib
 from ._numbers import parse, parse_decimal
@@ -314,7 +314,7 @@ def parse_column(
 
     Raises:
         ParseError: A text is refused. The error is that of the first such row.
-        FormatError: No locale has the name.
+        FormatError: No locale has the name, or the format is ambiguous (`AMBIGUOUS_FORMAT`), but not with `lenient`.
         TypeError: The dtype is of no integer.
         ValueError: The offsets of the column were changed, and are not as they have to be.
     """
@@ -345,12 +345,12 @@ def try_parse_column(
     >>> [Cause(cause) for cause in causes[causes != 0]]
     [Cause.MISSPELLED, Cause.UNEXPECTED]
     """
-    struct = to_format(format)._struct
+    form = to_format(format)
     native, name = _number(np.dtype(dtype))
     texts = _to_column(column)
     values = np.zeros(len(texts), dtype=native)
     way = "" if lenient else "strict_"
-    causes = _parse_into(ffi.from_buffer(f"{native}_t[]", values), f"{way}{name}", struct, texts)
+    causes = _parse_into(ffi.from_buffer(f"{native}_t[]", values), f"{way}{name}", form, texts)
     return _parsed(values, causes, texts)
 
 
@@ -412,7 +412,7 @@ def parse_decimal_column(
 
     Raises:
         ParseError: A text is refused. The error is that of the first such row.
-        FormatError: No locale has the name.
+        FormatError: No locale has the name, or the format is ambiguous (`AMBIGUOUS_FORMAT`).
         TypeError: The dtype is another one.
         ValueError: The scale is another one.
     """
@@ -439,11 +439,11 @@ def try_parse_decimal_column(
     >>> units, causes != 0
     (array([150,   0,   0]), array([False,  True,  True]))
     """
-    struct, scale = to_format(format)._struct, _to_scale(scale)
+    form, scale = to_format(format), _to_scale(scale)
     native = np.dtype(dtype) if np.dtype(dtype) == WIDE else _number(np.dtype(dtype))[0]
     texts = _to_column(column)
     units = np.zeros(len(texts), dtype=WIDE)
-    causes = _parse_into(ffi.from_buffer("num_format_wide[]", units), "decimal", struct, texts, scale)
+    causes = _parse_into(ffi.from_buffer("num_format_wide[]", units), "decimal", form, texts, scale)
     return _parsed(_narrowed(units, causes, native), causes, texts)
 
 
@@ -461,13 +461,16 @@ def _printed(name: str, large: bool, struct: Any, numbers: Any, count: int, *sca
     return _unchecked(offsets, data)
 
 
-def _parse_into(numbers: Any, name: str, struct: Any, texts: StringColumn, *scale: int) -> npt.NDArray[np.int32]:
+def _parse_into(numbers: Any, name: str, form: Format, texts: StringColumn, *scale: int) -> npt.NDArray[np.int32]:
     """Parses texts by the call of the library of that name, and returns the status of each row."""
     offsets, data, causes = texts.offsets, texts.data, np.zeros(len(texts), dtype=np.int32)
     call = getattr(lib, f"num_format_parse_{name}{_OFFSETS[offsets.dtype]}_column")
     inputs = ffi.from_buffer(f"{offsets.dtype}_t[]", offsets), len(offsets), ffi.from_buffer("char[]", data), len(data)
     statuses = ffi.from_buffer("int32_t[]", causes)
-    _check(call(struct, *inputs, numbers, statuses, len(texts), *scale))
+    status = call(form._struct, *inputs, numbers, statuses, len(texts), *scale)
+    if status == lib.NUM_FORMAT_AMBIGUOUS_FORMAT:
+        raise FormatError("format", repr(form), Cause(status))
+    _check(status)
     return causes
 
 

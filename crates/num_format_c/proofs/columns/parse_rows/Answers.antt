@@ -17,7 +17,7 @@ loop-k-preserved g c =
       length = search rules;
       parsed = λ s given.
           rw is_status
-          (parses_row_more (g.P.Parsing.Parses c.args.parsing.now) (g.V.Validity.rows c.args.validity.now) place s offsets c.args.bytes.now
+          (parses_row_more (g.P.Parser.Parses c.args.parser.now) (g.V.Validity.rows c.args.validity.now) place s offsets c.args.bytes.now
           c.args.values.now c.loop-k.values c.loop-k.statuses k _ _ (search rules) (search rules) (c.loop-k.invariant.parsed s given)
           (c.parse_row.ensures s given) c.is_valid.ensures (λ e. rw (start e, end e) refl)
           (λ d. get_or_default c.loop-k.values k c.index-values-k.result d (search rules) ∙ c.loop-k.invariant.left k d (omega arith)));

@@ -33,8 +33,3 @@ returns-clause-spelled c = λ f mark sign.
       | inl nought ↦ absurd (both_ways c.args.is_negative nought.1 negative)
       | inr some ↦ omega (arith, some)
     ])
-
-pub returns-clause-small : goal.returns-clause-small
-returns-clause-small c =
-    let all = c.digits_end-all in
-    later_small all.result.1 all.result.0 19 all.ensures.small (omega (arith, all.ensures.within, c.requires.few))

@@ -1,21 +1,37 @@
-use Rattle.std.proofs.Common.{◌∙◌, length, ap, sym, arith}
+use Rattle.std.proofs.Common.{◌+◌, ◌++◌, ◌∙◌, length, ap, sym, arith, length-append}
+use Rattle.std.proofs.lemmas.List.{length-map}
 use Rattle.num_format_int.specs.Digits.{digits}
-use Rattle.num_format_int.proofs.DigitLemmas.{length-digits-le, length-digits-le39}
-use Rattle.num_format_int.proofs.GroupedLemmas.{grouped-short}
-use Rattle.num_format_int.proofs.GroupLemmas.{length-plain-fits, plain-alone}
+use Rattle.num_format_int.specs.Groups.{plain}
+use Rattle.num_format_int.specs.Text.{body_of}
+use Rattle.num_format_int.proofs.DigitLemmas.{digits_given, length-digits-le, length-digits-le39}
+use Rattle.num_format_int.proofs.GroupedLemmas.{grouped-short, length-grouped-le183}
 use Rattle.num_format_int.proofs.to_formatted_str.put_body.Goals as goal
 
 pub put_first_group-requires-clause-fits : goal.put_first_group-requires-clause-fits
-put_first_group-requires-clause-fits g c = omega (arith, ap length c.requires, length-digits-le 3 c.args.n (omega arith) (omega arith))
+put_first_group-requires-clause-fits g c = omega (arith, c.requires, digits_given c.args.n)
 
 pub returns-then-n-lt-FOUR_DIGITS-clause-text : goal.returns-then-n-lt-FOUR_DIGITS-clause-text
 returns-then-n-lt-FOUR_DIGITS-clause-text g c =
-    let format = g.F.Format.answers c.args.format.now in
-    plain-alone c.put_first_group.new.buffer c.args.buffer.now (digits c.args.n) c.put_first_group.ensures c.requires
-    ∙ sym (grouped-short format.grouping format.separator (digits c.args.n) (length-digits-le 3 c.args.n (omega arith) (omega arith)))
+    let f = g.F.Format.answers c.args.format.now in
+    c.put_first_group.ensures
+    ∙ ap (λ t. t ++ g.B.PutFront.held c.args.buffer.now) (sym (grouped-short f.grouping f.separator (digits c.args.n) (length-digits-le 3 c.args.n (omega arith) (omega arith))))
 
-pub returns-then-n-lt-FOUR_DIGITS-clause-fits : goal.returns-then-n-lt-FOUR_DIGITS-clause-fits
-returns-then-n-lt-FOUR_DIGITS-clause-fits g c =
-    length-plain-fits c.put_first_group.new.buffer (digits c.args.n)
-    (plain-alone c.put_first_group.new.buffer c.args.buffer.now (digits c.args.n) c.put_first_group.ensures c.requires)
-    (length-digits-le39 c.args.n (omega arith))
+pub returns-then-n-lt-FOUR_DIGITS-clause-room : goal.returns-then-n-lt-FOUR_DIGITS-clause-room
+returns-then-n-lt-FOUR_DIGITS-clause-room g c =
+    omega (
+      arith,
+      ap length c.put_first_group.ensures,
+      length-append (plain (digits c.args.n)) (g.B.PutFront.held c.args.buffer.now),
+      length-map (digits c.args.n) (λ d. 48 + d),
+      length-digits-le 3 c.args.n (omega arith) (omega arith),
+    )
+
+pub returns-clause-room : goal.returns-clause-room
+returns-clause-room g c =
+    let f = g.F.Format.answers c.args.format.now in
+    omega (
+      arith,
+      ap length c.put_long_body.ensures.text,
+      length-append (body_of f c.args.n) (g.B.PutFront.held c.args.buffer.now),
+      length-grouped-le183 f.grouping f.separator (digits c.args.n) c.put_long_body.ensures.separator (length-digits-le39 c.args.n (omega arith)),
+    )

@@ -1,6 +1,5 @@
-use Rattle.std.proofs.Common.{◌≡◌, ℕ, ◌^◌, ◌<◌, ◌⊎◌, ◌∙◌, inl, inr, arith}
-use Rattle.num_format_int.proofs.DigitLemmas.{length-digits-le}
-use Rattle.num_format_int.proofs.GroupLemmas.{prepends-all, size_bounds}
+use Rattle.std.proofs.Common.{◌≡◌, ℕ, ◌^◌, ◌<◌, ◌⊎◌, inl, inr, arith}
+use Rattle.num_format_int.proofs.GroupLemmas.{anywhere_all, size_bounds}
 use Rattle.num_format_int.proofs.to_formatted_str.put_groups.Goals as goal
 
 at_most_four : (size base first : ℕ) → (size ≡ 2) ⊎ ((size ≡ 3) ⊎ (size ≡ 4)) → base ≡ 10 ^ size → first < base → first < 10000
@@ -17,9 +16,8 @@ put_first_group-requires-clause-group g c =
     at_most_four g.G.Groups.SIZE g.G.Groups.BASE c.put_full_groups-first.result g.met.G.Groups.size g.met.G.Groups.base c.put_full_groups-first.ensures.first
 
 pub returns : goal.returns
-returns g c = λ is_due right groups begins.
+returns g c = λ is_due right text after groups begins same.
     let some = size_bounds g.G.Groups.SIZE g.met.G.Groups.size in
-    c.put_first_group.ensures
-    ∙ prepends-all g.G.Groups.SIZE c.args.n c.put_full_groups-first.result c.args.separator.now c.args.buffer.now c.put_full_groups-first.new.buffer c.put_full_groups-first.ensures.text
-    (length-digits-le g.G.Groups.SIZE c.put_full_groups-first.result (omega (arith, some.0)) (rw g.met.G.Groups.base at c.put_full_groups-first.ensures.first))
-    is_due right groups begins
+    let p = c.put_full_groups-first in
+    anywhere_all is_due g.G.Groups.SIZE c.args.n p.result c.args.separator.now (g.B.PutFront.held c.args.buffer.now) (g.B.PutFront.held p.new.buffer) (g.B.PutFront.held c.put_first_group.new.buffer) right text after
+    some.0 (rw g.met.G.Groups.base at p.ensures.first) p.ensures.text c.put_first_group.ensures groups begins same

@@ -1,20 +1,20 @@
-use Rattle.std.proofs.Common.{[], ◌∙◌, length, ap, arith, refl}
-use Rattle.num_format_text.specs.declared.grouping.Grouping.TheVariants.{Myriad}
+use Rattle.std.proofs.Common.{◌++◌, ◌∙◌, length, ap, arith, inr, refl}
+use Rattle.num_format_text.specs.declared.grouping.Sizes.{Sizes}
+use Rattle.num_format_text.specs.Separators.{separates}
 use Rattle.num_format_int.specs.Digits.{digits}
-use Rattle.num_format_int.specs.Grouped.{stands}
-use Rattle.num_format_int.proofs.DigitLemmas.{length-digits-le}
-use Rattle.num_format_int.proofs.GroupLemmas.{plain-alone, last_group-Myriad, groups-Myriad}
-use Rattle.num_format_int.proofs.GroupedLemmas.{grouped-empty}
+use Rattle.num_format_int.proofs.DigitLemmas.{digits_given}
+use Rattle.num_format_int.proofs.GroupLemmas.{last_group-by, groups-by}
+use Rattle.num_format_int.proofs.GroupedLemmas.{separated-none}
 use Rattle.num_format_int.proofs.to_formatted_str.put_plain.Goals as goal
 
 pub put_first_group-requires-clause-fits : goal.put_first_group-requires-clause-fits
-put_first_group-requires-clause-fits c = omega (arith, ap length c.requires, length-digits-le 4 c.args.n (omega arith) c.if-n-lt-FIVE_DIGITS.true)
+put_first_group-requires-clause-fits g c = omega (arith, c.requires, digits_given c.args.n)
 
-pub returns-then-n-lt-FIVE_DIGITS : goal.returns-then-n-lt-FIVE_DIGITS
-returns-then-n-lt-FIVE_DIGITS c = plain-alone c.put_first_group.new.buffer c.args.buffer.now (digits c.args.n) c.put_first_group.ensures c.requires
+abbrev fours : Sizes
+fours = record { last = 4; size = 4; least = 0 }
 
 pub returns-else-n-lt-FIVE_DIGITS : goal.returns-else-n-lt-FIVE_DIGITS
-returns-else-n-lt-FIVE_DIGITS c =
-    let d = length (digits c.args.n) in
-    c.put_separated.ensures (stands Myriad d) (last_group-Myriad d) (groups-Myriad d)
-    ∙ grouped-empty Myriad [] (digits c.args.n) refl
+returns-else-n-lt-FIVE_DIGITS g c =
+    let ds = digits c.args.n in
+    c.put_separated.ensures (separates fours (length ds)) (last_group-by fours (length ds) (omega arith)) (groups-by fours (inr (inr (refl, refl))) (length ds))
+    ∙ ap (λ t. t ++ (g.B.PutFront.held c.args.buffer.now)) (separated-none (separates fours (length ds)) ds)

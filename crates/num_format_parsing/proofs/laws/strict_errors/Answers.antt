@@ -5,7 +5,7 @@ use Rattle.std.proofs.lemmas.Nat.{from_le_bytes-to_le_bytes_8}
 use Rattle.num_format_text.proofs.HashLemmas.{first_byte, hashed_apart}
 use Rattle.num_format_parsing.specs.Laws.{HasUsize, StrictErrorHashLaw}
 use Rattle.num_format_parsing.specs.declared.strict.StrictError.{StrictError}
-use Rattle.num_format_parsing.specs.declared.strict.StrictError.TheVariants.{NotUtf8, Unexpected, NoDigit, Misspelled, OutOfRange}
+use Rattle.num_format_parsing.specs.declared.strict.StrictError.TheVariants.{AmbiguousFormat, NotUtf8, Unexpected, NoDigit, Misspelled, OutOfRange}
 use Rattle.num_format_parsing.proofs.laws.strict_errors.Goals as goal
 
 -- the bytes that a hasher is given next
@@ -15,29 +15,30 @@ second_write _ = []
 
 -- the variant of a number, with the place that the bytes write
 abbrev variant : ℕ → List ℕ → StrictError
-variant zero place = NotUtf8
-variant (suc zero) place = Unexpected (from_le_bytes w64 place)
-variant (suc (suc zero)) place = NoDigit
-variant (suc (suc (suc zero))) place = Misspelled
-variant (suc (suc (suc (suc n)))) place = OutOfRange
+variant zero place = AmbiguousFormat
+variant (suc zero) place = NotUtf8
+variant (suc (suc zero)) place = Unexpected (from_le_bytes w64 place)
+variant (suc (suc (suc zero))) place = NoDigit
+variant (suc (suc (suc (suc zero)))) place = Misspelled
+variant (suc (suc (suc (suc (suc n))))) place = OutOfRange
 
 abbrev told_by : HashWrites → StrictError
 told_by writes = variant (first_byte writes) (second_write writes)
 
--- a fact of each of the five is one of all errors
-each : (P : StrictError → Type 0) → P NotUtf8 → ((at : ℕ) → at < 2 ^ 64 → P (Unexpected at)) → P NoDigit → P Misspelled → P OutOfRange → (e : StrictError) → HasUsize e → P e
-each P not_utf8 unexpected no_digit misspelled out_of_range NotUtf8 place = not_utf8
-each P not_utf8 unexpected no_digit misspelled out_of_range (Unexpected at) place = unexpected at place
-each P not_utf8 unexpected no_digit misspelled out_of_range NoDigit place = no_digit
-each P not_utf8 unexpected no_digit misspelled out_of_range Misspelled place = misspelled
-each P not_utf8 unexpected no_digit misspelled out_of_range OutOfRange place = out_of_range
-
--- what a hasher is given for an error tells it, if it tells each of these
-hashed : (input : StrictError → HashWrites) → told_by (input NotUtf8) ≡ NotUtf8 → ((at : ℕ) → at < 2 ^ 64 → told_by (input (Unexpected at)) ≡ Unexpected at) →
+-- what a hasher is given for an error tells it, if it tells the error at each place
+hashed : (input : StrictError → HashWrites) → told_by (input AmbiguousFormat) ≡ AmbiguousFormat → told_by (input NotUtf8) ≡ NotUtf8 → ((at : ℕ) → at < 2 ^ 64 → told_by (input (Unexpected at)) ≡ Unexpected at) →
     told_by (input NoDigit) ≡ NoDigit → told_by (input Misspelled) ≡ Misspelled → told_by (input OutOfRange) ≡ OutOfRange → StrictErrorHashLaw input
-hashed input not_utf8 unexpected no_digit misspelled out_of_range =
-    hashed_apart (λ error. error.0) input told_by (λ error. each (λ e. told_by (input e) ≡ e) not_utf8 unexpected no_digit misspelled out_of_range error.0 error.1)
+hashed input ambiguous not_utf8 unexpected no_digit misspelled out_of_range =
+    hashed_apart (λ error. error.0) input told_by (λ error. each error.0 error.1)
+  where
+    each : (e : StrictError) → HasUsize e → told_by (input e) ≡ e
+    each AmbiguousFormat place = ambiguous
+    each NotUtf8 place = not_utf8
+    each (Unexpected at) place = unexpected at place
+    each NoDigit place = no_digit
+    each Misspelled place = misspelled
+    each OutOfRange place = out_of_range
 
 pub returns-clause-hash : goal.returns-clause-hash
 unfolding le_bytes
-returns-clause-hash c = hashed _ refl (λ at within. ap Unexpected (from_le_bytes-to_le_bytes_8 at within)) refl refl refl
+returns-clause-hash c = hashed _ refl refl (λ at within. ap Unexpected (from_le_bytes-to_le_bytes_8 at within)) refl refl refl

@@ -1,21 +1,24 @@
-use Rattle.std.proofs.Common.{◌≤◌, ◌-◌, ◌∙◌, ap, refl, sym, subst}
-use Rattle.std.specs.Prelude.{if◌then◌else◌}
-use Rattle.num_format_int.specs.Kind.{IsSignedValueOf, signed_number}
-use Rattle.num_format_parsing.specs.Reading.{is_negative_text}
-use Rattle.num_format_parsing.proofs.NumberLemmas.{parses-read, out_of_range-read}
+use Rattle.std.proofs.Common.{◌∙◌, subst, sym}
+use Rattle.num_format_int.specs.Kind.{IsValueOf, signed_number}
+use Rattle.num_format_parsing.specs.Strict.{SpellsNumber}
+use Rattle.num_format_parsing.proofs.CauseLemmas.{sign-kind}
+use Rattle.num_format_parsing.proofs.SpellingLemmas.{body-told}
 use Rattle.num_format_parsing.proofs.strict.number_of.Goals as goal
 
 pub returns-in-Some : goal.returns-in-Some
-returns-in-Some g c = λ f t most sign few read.
-    let k = g.N.Sealed.kind in
-    let m = c.args.magnitude in
-    let limit : most ≤ k.limit - (if is_negative_text f t then 1 else 0) = rw (← sign.tested) few in
-    let value : IsSignedValueOf k (is_negative_text f t) m = subst (λ b. IsSignedValueOf k b m) sign.tested c.in-Some.ensures.0 in
-    parses-read k f t _ most m _ read sign.numeral limit value (c.in-Some.ensures.1 ∙ ap (λ b. signed_number b m) sign.tested)
+returns-in-Some g c = λ f t sign spells.
+    let same = sym c.in-Some.ensures.value.1 in
+    (subst (SpellsNumber f t) same spells, subst (IsValueOf g.N.Sealed.kind) same c.in-Some.ensures.value.0.value)
 
 pub returns-in-None : goal.returns-in-None
-returns-in-None g c = λ f t most sign few read. (
-  refl,
-  out_of_range-read g.N.Sealed.kind f t _ most c.args.magnitude read sign.numeral
-      (λ value. c.in-None.ensures (subst (λ b. IsSignedValueOf g.N.Sealed.kind b c.args.magnitude) (sym sign.tested) value)),
-)
+returns-in-None g c = λ f t sign spells.
+    let k = g.N.Sealed.kind in
+    let z = signed_number c.args.sign.is_negative c.args.magnitude in
+    let told = body-told f t c.args.sign.is_negative c.args.sign.len z sign spells in (
+      sign.symbols.unambiguous,
+      record {
+        number = z;
+        spelled = spells;
+        wrong = λ value. c.in-None.ensures.value (record { sign = λ negative. sign-kind k z c.in-None.ensures.unsigned value (sym told.sign ∙ negative); value = value });
+      },
+    )

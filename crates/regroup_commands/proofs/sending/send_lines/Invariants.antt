@@ -1,6 +1,6 @@
 use Rattle.std.proofs.Common.{drop}
 use Rattle.num_format.specs.Writing.{HasReceivedUpTo}
-use Rattle.regroup_shared.specs.Words.{texts}
+use Rattle.regroup_commands.specs.Request.{texts}
 use Rattle.regroup_commands.specs.Output.{lines}
 use Rattle.regroup_commands.proofs.sending.send_lines.Given as goal
 

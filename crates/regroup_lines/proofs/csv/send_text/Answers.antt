@@ -1,6 +1,6 @@
 use Rattle.std.proofs.Common.{◌∙◌, ap, subst, sym}
 use Rattle.std.specs.List.{list_any}
-use Rattle.regroup_shared.specs.Sending.{Sends}
+use Rattle.num_format.specs.Writing.{Sends}
 use Rattle.regroup_lines.specs.Csv.{doubled, needs_quotes}
 use Rattle.regroup_lines.proofs.CsvLemmas.{enclosed-plain, enclosed-quoted}
 use Rattle.regroup_lines.proofs.csv.send_text.Goals as goal

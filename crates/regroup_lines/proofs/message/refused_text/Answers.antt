@@ -1,5 +1,5 @@
 use Rattle.std.proofs.Common.{List, ℕ, ◌++◌, ◌∙◌, ap, codes}
-use Rattle.regroup_shared.specs.Quoting.{quoted}
+use Rattle.regroup_lines.specs.Quoting.{quoted}
 use Rattle.regroup_lines.specs.Messages.{before_fault, byte_text}
 use Rattle.regroup_lines.proofs.MessageLemmas.{four-parts}
 use Rattle.regroup_lines.proofs.message.refused_text.Goals as goal

@@ -8,14 +8,8 @@ use Rattle.num_format_decimal.proofs.buffer.DecimalBuffer.put_wide.Goals as goal
 pub put_wide_decimals-requires-clause-below : goal.put_wide_decimals-requires-clause-below
 put_wide_decimals-requires-clause-below g c = omega (arith, c.split-whole.ensures.rest, mod-lt c.args.n (power_positive c.args.scale))
 
-pub put_whole-requires-clause-fits : goal.put_whole-requires-clause-fits
-put_whole-requires-clause-fits g c =
-    let f = g.F.Format.answers c.args.format.now in
-    let fits = whole_fits f c.args.n c.args.scale c.args.scale c.split-whole.result.0 refl c.requires.scale c.requires.below c.requires.separator c.split-whole.ensures.whole in
-    omega (arith, fits, c.put_wide_decimals.ensures.room)
-
-pub put_whole-requires-clause-digits : goal.put_whole-requires-clause-digits
-put_whole-requires-clause-digits g c =
+pub put_body-requires : goal.put_body-requires
+put_body-requires g c =
     omega (
       arith,
       whole_digits c.args.n c.args.scale (omega (arith, c.requires.below)) c.requires.scale,
@@ -25,5 +19,5 @@ put_whole-requires-clause-digits g c =
 
 pub returns : goal.returns
 returns g c =
-    unsigned_text_from (g.F.Format.answers c.args.format.now) c.put_wide_decimals.new.self c.put_whole.new.self c.args.n c.args.scale c.split-whole.result.0 c.split-whole.result.1
-    c.split-whole.ensures.whole c.split-whole.ensures.rest c.put_wide_decimals.ensures.text c.put_whole.ensures
+    unsigned_text_from (g.F.Format.answers c.args.format.now) c.put_wide_decimals.new.self c.put_body.new.buffer c.args.n c.args.scale c.split-whole.result.0 c.split-whole.result.1
+    c.split-whole.ensures.whole c.split-whole.ensures.rest c.put_wide_decimals.ensures.text c.put_body.ensures.text

@@ -14,14 +14,14 @@ returns-in-Ok g c to =
     let text = c.args.text.now in
     let value = c.in-Ok.value in
     subst (λ reading. number_written reading from to c.args.number text ≡ Ok (decimal_text to value)) (sym c.in-Strict.is)
-    (strict-accepted from to c.args.number text value ((c.from_strict_bytes.ensures.decimal value).0 c.in-Ok.is))
+    (strict-accepted from to c.args.number text c.format_data.ensures.utf8 value ((c.from_strict_bytes.ensures.decimal value).0 c.in-Ok.is))
 
 pub returns-in-Err : goal.returns-in-Err
 returns-in-Err g c to =
     let from = g.F.Format.answers c.args.from.now in
     let text = c.args.text.now in
     subst (λ reading. number_written reading from to c.args.number text ≡ Err (text_fault c.args.number text)) (sym c.in-Strict.is)
-    (strict-refused from to c.args.number text c.from_strict_bytes.result c.in-Err.field-0 c.in-Err.is c.from_strict_bytes.ensures.decimal)
+    (strict-refused from to c.args.number text c.format_data.ensures.utf8 c.from_strict_bytes.result c.in-Err.field-0 c.in-Err.is c.from_strict_bytes.ensures.decimal)
 
 pub returns-in-Ok-from_formatted_bytes : goal.returns-in-Ok-from_formatted_bytes
 returns-in-Ok-from_formatted_bytes g c to =

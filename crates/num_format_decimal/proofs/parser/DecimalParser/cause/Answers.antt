@@ -1,0 +1,63 @@
+use Rattle.std.proofs.Common.{◌≡◌, ◌∙◌, drop, length, ap, sym, subst, arith}
+use Rattle.std.proofs.lemmas.List.{drop_all}
+use Rattle.num_format_int.specs.Grouped.{printed_separator}
+use Rattle.num_format_parsing.specs.Shapes.{HasSign}
+use Rattle.num_format_parsing.specs.Strict.{unexpected, unread}
+use Rattle.num_format_parsing.proofs.FigureLemmas.{figures-bytes, figures-none, figures-some}
+use Rattle.num_format_decimal.specs.Parsing.{IsExpectedDecimal}
+use Rattle.num_format_decimal.proofs.parser.DecimalParser.cause.Goals as goal
+
+pub decimals_end-at-requires-clause-whole : goal.decimals_end-at-requires-clause-whole
+decimals_end-at-requires-clause-whole g c =
+    let f = c.args.self.now in
+    let t = c.args.text.now in
+    let sign = subst (λ d. HasSign d t c.sign-sign.result.is_negative c.sign-sign.result.len) c.self.view_is c.sign-sign.ensures in
+    let printed = c.as_bytes.ensures.value ∙ c.separator.ensures.same ∙ ap (λ d. printed_separator d.grouping d.separator) c.self.view_is in
+    ap (λ k. unread (printed_separator f.grouping f.separator) 0 (drop k t)) (sym sign.long)
+    ∙ ap (λ s. unread s 0 (drop c.sign-sign.result.len t)) (sym printed)
+    ∙ c.expected_end-whole.ensures.rest
+
+pub returns-then-at-text : goal.returns-then-at-text
+returns-then-at-text g c = (
+  c.mark.ensures.marks,
+  record {
+    spells_none = record { utf8 = c.is_utf8.ensures.0 c.if-not-is_utf8.false; none = c.requires.unspelled };
+    inside = c.if-at-text.true;
+    rest = c.decimals_end-at.ensures.rest;
+  },
+)
+
+pub returns-then-not-has_digit : goal.returns-then-not-has_digit
+returns-then-not-has_digit g c =
+    let t = c.args.text.now in
+    let utf8 = c.is_utf8.ensures.0 c.if-not-is_utf8.false in (
+      c.mark.ensures.marks,
+      record {
+        expected = record { spells_none = record { utf8 = utf8; none = c.requires.unspelled }; rest = c.decimals_end-at.ensures.rest ∙ drop_all c.decimals_end-at.result.0 t c.if-at-text.false };
+        none = figures-bytes t utf8 ∙ figures-none t (sym c.has_digit.ensures ∙ c.if-not-has_digit.true);
+      },
+    )
+
+pub returns-then-decimals : goal.returns-then-decimals
+returns-then-decimals g c =
+    let t = c.args.text.now in
+    let utf8 = c.is_utf8.ensures.0 c.if-not-is_utf8.false in (
+      c.mark.ensures.marks,
+      record {
+        expected = record { spells_none = record { utf8 = utf8; none = c.requires.unspelled }; rest = c.decimals_end-at.ensures.rest ∙ drop_all c.decimals_end-at.result.0 t c.if-at-text.false };
+        some = λ none. figures-some t (sym c.has_digit.ensures ∙ c.if-not-has_digit.false) (sym (figures-bytes t utf8) ∙ none);
+        many = omega (arith, c.if-decimals.true, c.decimals_end-at.ensures.decimals);
+      },
+    )
+
+pub returns : goal.returns
+returns g c =
+    let t = c.args.text.now in
+    let utf8 = c.is_utf8.ensures.0 c.if-not-is_utf8.false in (
+      c.mark.ensures.marks,
+      record {
+        expected = record { spells_none = record { utf8 = utf8; none = c.requires.unspelled }; rest = c.decimals_end-at.ensures.rest ∙ drop_all c.decimals_end-at.result.0 t c.if-at-text.false };
+        some = λ none. figures-some t (sym c.has_digit.ensures ∙ c.if-not-has_digit.false) (sym (figures-bytes t utf8) ∙ none);
+        few = omega (arith, c.if-decimals.false, c.decimals_end-at.ensures.decimals);
+      },
+    )

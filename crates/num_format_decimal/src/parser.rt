@@ -1,0 +1,378 @@
+//! A parser of decimals under one format.
+ghost use Rattle.std.specs.Prelude.{◌≡◌, ◌↔◌, ℕ, [], ◌∷◌, ◌+◌, ◌-◌, ◌<◌, ◌≤◌, IsTrue, IsUtf8, IfSome, MatchOption, MatchResult, drop, get_or, length};
+ghost use Rattle.std.specs.Char.{is_ascii_digit};
+ghost use Rattle.std.specs.List.{list_all};
+ghost use Rattle.num_format_parsing.specs.Strict.{unexpected};
+ghost use Rattle.num_format_decimal.specs.FixedPoint.{FixedPoint};
+ghost use Rattle.num_format_decimal.specs.Marks.{IsPlainFormat, MarksDecimals};
+ghost use Rattle.num_format_decimal.specs.Parsing.{AtScaleResult, DecimalResult, IsDecimalCause, SpellsDecimal, after_mark, unexpected_in_decimal};
+ghost use Rattle.num_format_decimal.specs.Shapes.{HasAmount, HasReading, IsCut, IsSpelled, fault_of};
+ghost use Rattle.num_format_decimal.specs.declared.decimal.TheConstants.{MAX_SCALE};
+ghost use Rattle.num_format_decimal.specs.declared.parsing.ParseDecimalError.TheVariants as cause;
+
+use crate::decimal::{Decimal, MAX_SCALE};
+use crate::marks::is_mark;
+use crate::parsing::{ParseAtScaleError, ParseDecimalError};
+use crate::reading::{SAFE_DIGITS, joined, read_digits_and_mark, trailing_digits};
+use crate::rounding::Rounding;
+use num_format_parsing::FromFormattedStr;
+use num_format_parsing::causes::{begins_with, expected_end, has_digit, is_utf8};
+use num_format_parsing::strict::{StrictError, StrictParser};
+use num_format_text::Format;
+use std::marker::Model;
+
+/// A parser of decimals under one format, which is not ambiguous. It asks the format for its symbols once.
+///
+/// A contract sees it as the data of its format.
+///
+/// ```rust
+/// let parser = DecimalParser::new(&Locale::de)?;
+/// parser.parse("1.234,50")    // Ok(1234.50)
+/// ```
+#[derive(Drop)]
+pub struct DecimalParser<'a, F: Format> {
+    numbers: StrictParser<'a, F>,
+    mark: &'a str,
+}
+
+impl<'a, F: Format> Model for DecimalParser<'a, F> {
+    ghost use Rattle.std.specs.Prelude.{◌≡◌};
+    ghost use Rattle.num_format_text.specs.Format.{FormatData};
+    ghost use Rattle.num_format_decimal.specs.Marks.{IsPlainFormat, MarksDecimals};
+
+    ghost Value = { FormatData };
+
+    ghost view = { λ p. p.numbers };
+
+    ghost invariant = { λ p. (p.mark.now ≡ p.numbers.decimal) × (MarksDecimals p.numbers × IsPlainFormat p.numbers) };
+}
+
+/// Why no decimal was read.
+#[derive(Clone, Copy)]
+enum Fault {
+    /// The text spells a decimal whose units are no `i128`.
+    TooLarge,
+    /// The text spells no decimal.
+    Unspelled,
+}
+
+impl<'a, F: Format> DecimalParser<'a, F> {
+    /// Returns a parser of texts under the format.
+    ///
+    /// # Errors
+    ///
+    /// [`ParseDecimalError::AmbiguousFormat`] exactly if [`marks_decimals`](crate::marks_decimals) is false. No locale
+    /// is ambiguous.
+    ///
+    /// ```rust
+    /// let format = CustomFormat::builder().decimal(",").build()?;
+    /// DecimalParser::new(&format).err()    // Some(AmbiguousFormat): the separator is a comma too
+    /// ```
+    #[inline(always)]
+    pub fn new(format: &'a F) -> Result<DecimalParser<'a, F>, ParseDecimalError>
+        ensures { MatchResult result
+            (λ parser. (parser ≡ F.answers format.now) × MarksDecimals (F.answers format.now))
+            (λ e. (e ≡ cause.AmbiguousFormat) × ¬ (MarksDecimals (F.answers format.now))) }
+    {
+        // Only what the getters promise is needed of the first two: that they are UTF-8.
+        format.minus_sign().into_str();
+        format.separator().into_str();
+        let mark = format.decimal().into_str();
+        let Ok(numbers) = StrictParser::new(format) else {
+            return Err(ParseDecimalError::AmbiguousFormat);
+        };
+        if !is_mark(mark, numbers.separator()) {
+            return Err(ParseDecimalError::AmbiguousFormat);
+        }
+        Ok(DecimalParser { numbers, mark })
+    }
+
+    /// Returns the decimal that the text spells: its scale is the number of digits after the mark.
+    ///
+    /// ```rust
+    /// let parser = DecimalParser::new(&Locale::en)?;
+    /// parser.parse("1,234.50")    // Ok(1234.50)
+    /// parser.parse(".5")          // Err(Misspelled)
+    /// ```
+    ///
+    /// # Errors
+    ///
+    /// As [`from_strict_str`](Decimal::from_strict_str), but for `AmbiguousFormat`.
+    #[inline(always)]
+    pub fn parse(&self, text: &str) -> Result<Decimal, ParseDecimalError>
+        ensures { DecimalResult self.now text.now result }
+    {
+        self.parse_any(text.as_bytes(), true)
+    }
+
+    /// Returns the decimal that the text of these bytes spells.
+    ///
+    /// ```rust
+    /// let parser = DecimalParser::new(&Locale::en)?;
+    /// parser.parse_bytes(b"1\xFF")    // Err(NotUtf8)
+    /// ```
+    ///
+    /// # Errors
+    ///
+    /// As [`from_strict_bytes`](Decimal::from_strict_bytes), but for `AmbiguousFormat`.
+    #[inline(always)]
+    pub fn parse_bytes(&self, bytes: &[u8]) -> Result<Decimal, ParseDecimalError>
+        ensures { DecimalResult self.now bytes.now result }
+    {
+        self.parse_any(bytes, false)
+    }
+
+    /// Returns the decimal that the text spells at another scale: the same number, or an error.
+    ///
+    /// ```rust
+    /// let parser = DecimalParser::new(&Locale::en)?;
+    /// parser.parse_at_scale("1,234.5", 2)    // Ok(1234.50)
+    /// ```
+    ///
+    /// # Errors
+    ///
+    /// As [`Decimal::parse_at_scale`], but for `AmbiguousFormat`.
+    pub fn parse_at_scale(&self, text: &str, scale: u8) -> Result<Decimal, ParseAtScaleError>
+        ensures { AtScaleResult self.now text.now scale result }
+    {
+        self.parse_bytes_at_scale(text.as_bytes(), scale)
+    }
+
+    /// Returns the decimal that the text of these bytes spells at another scale.
+    ///
+    /// ```rust
+    /// let parser = DecimalParser::new(&Locale::en)?;
+    /// parser.parse_bytes_at_scale(b"1\xFF", 2)    // Err(Parse(NotUtf8))
+    /// ```
+    ///
+    /// # Errors
+    ///
+    /// As [`parse_at_scale`](DecimalParser::parse_at_scale), and `NotUtf8`.
+    pub fn parse_bytes_at_scale(
+        &self,
+        bytes: &[u8],
+        scale: u8,
+    ) -> Result<Decimal, ParseAtScaleError>
+        ensures { AtScaleResult self.now bytes.now scale result }
+    {
+        match self.parse_bytes(bytes) {
+            Ok(decimal) => match decimal.rescale(scale, Rounding::Exact) {
+                Ok(rescaled) => Ok(rescaled),
+                Err(error) => Err(ParseAtScaleError::Rescale(error)),
+            },
+            Err(error) => Err(ParseAtScaleError::Parse(error)),
+        }
+    }
+
+    /// Returns the decimal that the text of the bytes spells, or the first cause for which it is refused.
+    ///
+    /// Where the caller knows that the bytes are UTF-8, that is not tested again.
+    #[inline(always)]
+    fn parse_any(&self, text: &[u8], is_text: bool) -> Result<Decimal, ParseDecimalError>
+        requires { IsTrue is_text → IsUtf8 text.now }
+        ensures { DecimalResult self.now text.now result }
+    {
+        self.mark();
+        if let Some(decimal) = self.read_directly(text) {
+            return Ok(decimal);
+        }
+        match self.read(text) {
+            Ok(decimal) => Ok(decimal),
+            Err(fault) => match fault {
+                Fault::TooLarge => Err(ParseDecimalError::OutOfRange),
+                Fault::Unspelled => Err(self.cause(text, is_text)),
+            },
+        }
+    }
+
+    /// Returns the decimal mark. The contract says what is known of the format.
+    #[inline(always)]
+    fn mark(&self) -> &'a str
+        ensures same { result.now ≡ self.now.decimal }
+        ensures marks { MarksDecimals self.now }
+        ensures plain { IsPlainFormat self.now }
+    {
+        self.mark
+    }
+
+    /// Returns the decimal that a text spells. It may return `None` for any text, and does not for most that are
+    /// short, or whole numbers in groups.
+    #[inline(always)]
+    fn read_directly(&self, text: &[u8]) -> Option<Decimal>
+        ensures { IfSome result (λ d. IsSpelled self.now text.now d) }
+    {
+        if let Some((is_negative, magnitude)) = self.numbers.grouped_number(text) {
+            return Decimal::with_magnitude(is_negative, magnitude as u128, 0);
+        }
+        if text.is_empty() || text.len() > SAFE_DIGITS {
+            return None;
+        }
+        let sign = self.numbers.sign(text);
+        let (magnitude, scale) = read_digits_and_mark(
+            text,
+            sign.is_negative,
+            sign.len,
+            self.mark(),
+        )?;
+        Decimal::with_magnitude(sign.is_negative, magnitude as u128, scale)
+    }
+
+    /// Returns the decimal that a text spells.
+    ///
+    /// The digits at the end are its decimals if the mark stands before them. Where that spells no decimal, the mark may
+    /// be a part of the separator.
+    fn read(&self, text: &[u8]) -> Result<Decimal, Fault>
+        ensures { HasReading self.now text.now (λ scale. scale ≤ MAX_SCALE) result }
+    {
+        let Some(place) = self.mark_place(text) else {
+            return self.read_whole(text);
+        };
+        match self.read_at(text, place) {
+            Ok(decimal) => Ok(decimal),
+            Err(fault) => match fault {
+                Fault::TooLarge => Err(Fault::TooLarge),
+                Fault::Unspelled => self.read_whole(text),
+            },
+        }
+    }
+
+    /// Returns where the mark stands before the digits at the end of a text, if it does and they are no more than the
+    /// largest scale.
+    #[inline(always)]
+    fn mark_place(&self, text: &[u8]) -> Option<usize>
+        ensures { MatchOption result
+            ((d : FixedPoint) → 0 < d.scale → d.scale ≤ MAX_SCALE → ¬ (SpellsDecimal self.now text.now d))
+            (λ place. IsCut self.now.decimal text.now place) }
+    {
+        let mark = self.mark();
+        let count = trailing_digits(text);
+        if count == 0 || count > MAX_SCALE as usize {
+            return None;
+        }
+        let end = text.len() - count;
+        let Some(place) = end.checked_sub(mark.len()) else {
+            return None;
+        };
+        if !begins_with(&text[place..], mark.as_bytes()) {
+            return None;
+        }
+        Some(place)
+    }
+
+    /// Returns the decimal that a text spells with decimals after the mark at this place.
+    #[inline(always)]
+    fn read_at(&self, text: &[u8], place: usize) -> Result<Decimal, Fault>
+        requires { IsCut self.now.decimal text.now place }
+        ensures { HasReading self.now text.now (λ scale. (0 < scale) × (scale ≤ MAX_SCALE)) result }
+    {
+        let end = place + self.mark().len();
+        let amount = match self.amount(&text[..place]) {
+            Ok(amount) => amount,
+            Err(fault) => return Err(fault),
+        };
+        let (is_negative, whole) = amount;
+        let decimals = &text[end..];
+        let Some(magnitude) = joined(whole, decimals) else {
+            return Err(Fault::TooLarge);
+        };
+        if magnitude == 0 && is_negative {
+            return Err(Fault::Unspelled);
+        }
+        match Decimal::with_magnitude(is_negative, magnitude, decimals.len() as u8) {
+            Some(decimal) => Ok(decimal),
+            None => Err(Fault::TooLarge),
+        }
+    }
+
+    /// Returns whether the whole number before a mark has a minus sign, and its absolute value. Only here can a zero
+    /// have one.
+    #[inline(always)]
+    fn amount(&self, text: &[u8]) -> Result<(bool, u128), Fault>
+        ensures { HasAmount self.now text.now result }
+    {
+        // Most are in groups, and are read without a call.
+        if let Some((is_negative, magnitude)) = self.numbers.grouped_number(text) {
+            return Ok((is_negative, magnitude as u128));
+        }
+        let sign = self.numbers.sign(text);
+        if is_zero(&text[sign.len..]) {
+            return Ok((sign.is_negative, 0));
+        }
+        match self.numbers.parse_bytes::<i128>(text) {
+            Ok(whole) => Ok((whole.is_negative(), whole.unsigned_abs())),
+            Err(error) => Err(fault_of(error)),
+        }
+    }
+
+    /// Returns the whole number that a text spells.
+    fn read_whole(&self, text: &[u8]) -> Result<Decimal, Fault>
+        ensures { HasReading self.now text.now (λ scale. scale ≡ 0) result }
+    {
+        self.mark();
+        match self.numbers.parse_bytes::<i128>(text) {
+            Ok(units) => Ok(Decimal::of(units, 0)),
+            Err(error) => Err(fault_of(error)),
+        }
+    }
+
+    /// Returns why a text is refused that spells no decimal.
+    #[cold]
+    #[inline(never)]
+    fn cause(&self, text: &[u8], is_text: bool) -> ParseDecimalError
+        requires utf8 { IsTrue is_text → IsUtf8 text.now }
+        requires unspelled { (d : FixedPoint) → d.scale ≤ MAX_SCALE → ¬ (SpellsDecimal self.now text.now d) }
+        ensures { IsDecimalCause self.now text.now result }
+    {
+        self.mark();
+        if !is_utf8(text, is_text) {
+            return ParseDecimalError::NotUtf8;
+        }
+        let sign = self.numbers.sign(text);
+        let whole = expected_end(text, sign.len, self.numbers.separator().as_bytes());
+        let (at, decimals) = self.decimals_end(text, whole);
+        if at < text.len() {
+            return ParseDecimalError::Unexpected { at };
+        }
+        if !has_digit(text) {
+            return ParseDecimalError::NoDigit;
+        }
+        if decimals > MAX_SCALE as usize {
+            return ParseDecimalError::TooManyDecimals;
+        }
+        ParseDecimalError::Misspelled
+    }
+
+    /// Returns the place after one decimal mark and digits, if the mark stands at the place `whole`, and how many bytes
+    /// follow the mark.
+    fn decimals_end(&self, text: &[u8], whole: usize) -> (usize, usize)
+        requires within { whole ≤ length text.now }
+        requires whole { unexpected self.now text.now ≡ drop whole text.now }
+        ensures within { result.0 ≤ length text.now }
+        ensures rest { unexpected_in_decimal self.now text.now ≡ drop result.0 text.now }
+        ensures decimals { result.1 ≡ length (after_mark self.now text.now) }
+    {
+        let mark = self.mark().as_bytes();
+        if whole == text.len() || !begins_with(&text[whole..], mark) {
+            return (whole, 0);
+        }
+        let start = whole + mark.len();
+        (expected_end(text, start, &[]), text.len() - start)
+    }
+}
+
+/// Returns whether a text is the digit zero.
+fn is_zero(text: &[u8]) -> bool
+    ensures { IsTrue result ↔ (text.now ≡ 48 ∷ []) }
+{
+    matches!(text, [b'0'])
+}
+
+/// Returns why a text is no amount that strict parsing refuses as an `i128`.
+fn fault_of(error: StrictError) -> Fault
+    ensures { result ≡ fault_of error }
+{
+    match error {
+        StrictError::OutOfRange => Fault::TooLarge,
+        _ => Fault::Unspelled,
+    }
+}

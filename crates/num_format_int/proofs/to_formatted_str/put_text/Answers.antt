@@ -1,0 +1,6 @@
+use Rattle.std.proofs.Common.{length, ap, arith}
+use Rattle.num_format_int.proofs.DigitLemmas.{length-digits-le39}
+use Rattle.num_format_int.proofs.to_formatted_str.put_text.Goals as goal
+
+pub put_body-requires : goal.put_body-requires
+put_body-requires g c = omega (arith, ap length c.requires, length-digits-le39 c.magnitude.result (omega arith))

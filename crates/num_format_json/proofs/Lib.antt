@@ -1,2 +1,0 @@
-mod JsonExamples
-pub mod JsonLemmas

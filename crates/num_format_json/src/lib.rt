@@ -1,5 +1,0 @@
-//! Buffers, formats and locales as JSON values.
-#![tactic(auto)]
-
-pub mod json;
-pub mod laws;

@@ -1,0 +1,73 @@
+-- The symbols of a format that is not ambiguous.
+use Rattle.std.proofs.Common.{◌≡◌, ℕ, ◌<◌, inl, inr, Bool, true, false, not, ◌||◌, get_or, List, [], ◌∷◌, length, refl, ap, ◌∙◌, sym, arith, IsUtf8}
+use Rattle.std.specs.Prelude.{◌↔◌, IsTrue}
+use Rattle.std.specs.Char.{is_ascii, is_ascii_digit}
+use Rattle.std.specs.List.{list_all, list_any}
+use Rattle.std.proofs.lemmas.Bool.{both_ways, cases_Bool}
+use Rattle.std.specs.Str.{chars}
+use Rattle.num_format_text.specs.Format.{FormatData}
+use Rattle.num_format_int.specs.Grouped.{printed_separator}
+use Rattle.num_format_parsing.specs.Reading.{is_other_numeral}
+use Rattle.num_format_parsing.specs.Shapes.{HasPlainSymbols}
+use Rattle.num_format_parsing.specs.Strict.{HasNoNumeral, IsUnambiguous}
+use Rattle.num_format_parsing.proofs.FigureLemmas.{figures-bytes, figures-none, figures-some}
+use Rattle.num_format_parsing.proofs.NumberLemmas.{no_other-bytes, one-byte}
+use Rattle.num_format_parsing.proofs.ReadingLemmas.{ucd_category}
+
+-- a text of bytes that are no digits, and of characters that are no other numerals, has no numeral
+pub no_numeral : (t : List ℕ) → IsUtf8 t → list_any is_ascii_digit t ≡ false → list_any is_other_numeral (chars t) ≡ false → HasNoNumeral t
+no_numeral t utf8 none other = record { no_digit = figures-bytes t utf8 ∙ figures-none t none; no_other = other }
+
+-- and one with a digit has one
+pub some_digit : (t : List ℕ) → IsUtf8 t → list_any is_ascii_digit t ≡ true → ¬ (HasNoNumeral t)
+some_digit t utf8 some plain = figures-some t some (sym (figures-bytes t utf8) ∙ plain.no_digit)
+
+-- so the tests tell whether a text has a numeral
+pub decided : (t : List ℕ) (b : Bool) → IsUtf8 t → list_any is_ascii_digit t ≡ false → b ≡ list_any is_other_numeral (chars t) → IsTrue (not b) ↔ HasNoNumeral t
+decided t true utf8 none same = (λ wrong. absurd (both_ways false refl wrong), λ plain. absurd (both_ways _ plain.no_other (sym same)))
+decided t false utf8 none same = (λ yes. no_numeral t utf8 none (sym same), λ plain. refl)
+
+-- a text of one byte of ASCII has one exactly if the byte is a digit
+pub decided-byte : (t : List ℕ) (b : Bool) → IsUtf8 t → length t ≡ 1 → list_all is_ascii t ≡ true → b ≡ is_ascii_digit (get_or t 0 0) → IsTrue (not b) ↔ HasNoNumeral t
+decided-byte t b utf8 one ascii same =
+    let digits : list_any is_ascii_digit t ≡ b = ap (list_any is_ascii_digit) (one-byte t one) ∙ or_false (is_ascii_digit (get_or t 0 0)) ∙ sym same in
+    elim (cases_Bool b) [
+      | inl digit ↦ (λ yes. absurd (both_ways _ (ap not digit) yes), λ plain. absurd (some_digit t utf8 (digits ∙ digit) plain))
+      | inr none ↦ (λ yes. no_numeral t utf8 (digits ∙ none) (no_other-bytes t ascii), λ plain. ap not none)
+    ]
+  where
+    or_false : (b : Bool) → (b || false) ≡ b
+    or_false true = refl
+    or_false false = refl
+
+-- symbols that many locales have, in UTF-8: narrow no-break space, no-break space, right single quotation mark, and minus sign
+pub narrow_space : HasNoNumeral (226 ∷ 128 ∷ 175 ∷ [])
+unfolding chars ucd_category
+narrow_space = record { no_digit = refl; no_other = refl }
+
+pub no_break_space : HasNoNumeral (194 ∷ 160 ∷ [])
+unfolding chars ucd_category
+no_break_space = record { no_digit = refl; no_other = refl }
+
+pub apostrophe : HasNoNumeral (226 ∷ 128 ∷ 153 ∷ [])
+unfolding chars ucd_category
+apostrophe = record { no_digit = refl; no_other = refl }
+
+pub minus_sign : HasNoNumeral (226 ∷ 136 ∷ 146 ∷ [])
+unfolding chars ucd_category
+minus_sign = record { no_digit = refl; no_other = refl }
+
+some_first : (t : List ℕ) → ¬ (t ≡ []) → 0 < length t
+some_first [] other = absurd (other refl)
+some_first (b ∷ t) other = omega arith
+
+-- the symbols as bytes
+pub plain-symbols : (f : FormatData) → IsUnambiguous f → IsUtf8 f.minus_sign → IsUtf8 (printed_separator f.grouping f.separator) → HasPlainSymbols f
+plain-symbols f plain sign printed = record {
+  unambiguous = plain;
+  sign_utf8 = sign;
+  sign_some = some_first f.minus_sign plain.sign_given;
+  sign = sym (figures-bytes f.minus_sign sign) ∙ plain.sign.no_digit;
+  separator_utf8 = printed;
+  separator = sym (figures-bytes (printed_separator f.grouping f.separator) printed) ∙ plain.separator.no_digit;
+}

@@ -1,0 +1,41 @@
+use Rattle.std.proofs.Common.{◌≡◌, ◌∙◌, ap, sym, drop, IsUtf8}
+use Rattle.std.proofs.lemmas.Bool.{both_ways}
+use Rattle.std.proofs.lemmas.List.{drop_all}
+use Rattle.num_format_int.specs.Grouped.{printed_separator}
+use Rattle.num_format_parsing.specs.Strict.{unexpected, unread}
+use Rattle.num_format_parsing.proofs.FigureLemmas.{figures-bytes, figures-none, figures-some}
+use Rattle.num_format_parsing.proofs.causes.cause.Goals as goal
+
+pub returns-then-not-is_utf8 : goal.returns-then-not-is_utf8
+returns-then-not-is_utf8 c = λ f symbols separator start none k. (symbols.unambiguous, λ utf8. both_ways _ c.if-not-is_utf8.true (c.is_utf8.ensures.1 utf8))
+
+pub returns-then-at-bytes : goal.returns-then-at-bytes
+returns-then-at-bytes c = λ f symbols separator start none k.
+    let t = c.args.bytes.now in
+    let stops : unexpected f t ≡ drop c.expected_end-at.result t = ap (λ k. unread (printed_separator f.grouping f.separator) 0 (drop k t)) (sym start) ∙ ap (λ s. unread s 0 (drop c.args.start t)) (sym separator) ∙ c.expected_end-at.ensures.rest in
+    (symbols.unambiguous, record { utf8 = c.is_utf8.ensures.0 c.if-not-is_utf8.false; inside = c.if-at-bytes.true; rest = stops })
+
+pub returns-then-not-has_digit : goal.returns-then-not-has_digit
+returns-then-not-has_digit c = λ f symbols separator start none k.
+    let t = c.args.bytes.now in
+    let utf8 : IsUtf8 t = c.is_utf8.ensures.0 c.if-not-is_utf8.false in
+    let stops : unexpected f t ≡ drop c.expected_end-at.result t = ap (λ k. unread (printed_separator f.grouping f.separator) 0 (drop k t)) (sym start) ∙ ap (λ s. unread s 0 (drop c.args.start t)) (sym separator) ∙ c.expected_end-at.ensures.rest in (
+      symbols.unambiguous,
+      record {
+        expected = record { utf8 = utf8; rest = stops ∙ drop_all c.expected_end-at.result t c.if-at-bytes.false };
+        none = figures-bytes t utf8 ∙ figures-none t (sym c.has_digit.ensures ∙ c.if-not-has_digit.true);
+      },
+    )
+
+pub returns : goal.returns
+returns c = λ f symbols separator start none k.
+    let t = c.args.bytes.now in
+    let utf8 : IsUtf8 t = c.is_utf8.ensures.0 c.if-not-is_utf8.false in
+    let stops : unexpected f t ≡ drop c.expected_end-at.result t = ap (λ k. unread (printed_separator f.grouping f.separator) 0 (drop k t)) (sym start) ∙ ap (λ s. unread s 0 (drop c.args.start t)) (sym separator) ∙ c.expected_end-at.ensures.rest in (
+      symbols.unambiguous,
+      record {
+        expected = record { utf8 = utf8; rest = stops ∙ drop_all c.expected_end-at.result t c.if-at-bytes.false };
+        some = λ empty. figures-some t (sym c.has_digit.ensures ∙ c.if-not-has_digit.false) (sym (figures-bytes t utf8) ∙ empty);
+        wrong = none;
+      },
+    )

@@ -1,0 +1,147 @@
+//! The symbols of a format: whether they have numerals, and which sign a text has.
+ghost use Rattle.std.specs.Prelude.{◌≡◌, ◌↔◌, true, false, IsTrue};
+ghost use Rattle.std.specs.Char.{is_ascii, is_ascii_digit};
+ghost use Rattle.std.specs.List.{list_all, list_any, starts_with};
+ghost use Rattle.std.specs.Prelude.{nat_eq};
+ghost use Rattle.std.specs.Str.{chars};
+ghost use Rattle.num_format_text.specs.Format.{FormatData};
+ghost use Rattle.num_format_parsing.specs.Reading.{is_other_numeral};
+ghost use Rattle.num_format_parsing.specs.Strict.{HasNoNumeral};
+ghost use Rattle.num_format_parsing.specs.Shapes.{HasPlainSymbols, HasSign};
+
+use crate::causes::has_digit;
+use unicode::properties::GeneralCategory;
+
+/// Returns whether a character is numeric and none of the digits `0` to `9`. In ASCII there is none,
+/// so the tables are asked about other characters alone.
+pub(crate) fn is_other_numeral(character: char) -> bool
+    ensures { result ≡ is_other_numeral character }
+{
+    !character.is_ascii()
+        && matches!(
+            GeneralCategory::for_char(character),
+            GeneralCategory::DecimalNumber
+                | GeneralCategory::LetterNumber
+                | GeneralCategory::OtherNumber
+        )
+}
+
+/// Returns whether no character of a symbol is a digit or otherwise numeric. Most symbols are one byte, or one of those
+/// that locales have, and need no look at characters.
+///
+/// ```rust
+/// is_plain("-")    // true
+/// is_plain("²")    // false
+/// ```
+#[inline(always)]
+pub fn is_plain(symbol: &str) -> bool
+    ensures { IsTrue result ↔ HasNoNumeral symbol.now }
+{
+    let bytes = symbol.as_bytes();
+    if bytes.len() == 1 && is_ascii(bytes) {
+        return !bytes[0].is_ascii_digit();
+    }
+    if is_common(symbol) {
+        return true;
+    }
+    if has_digit(bytes) {
+        return false;
+    }
+    if is_ascii(bytes) {
+        return true;
+    }
+    !has_other_numeral(symbol)
+}
+
+/// Returns whether a symbol is one of those that many locales have: a no-break space, narrow or not, an apostrophe, or the
+/// minus sign.
+#[inline(always)]
+fn is_common(symbol: &str) -> bool
+    ensures { IsTrue result → HasNoNumeral symbol.now }
+{
+    if symbol == "\u{202f}" {
+        return true;
+    }
+    if symbol == "\u{a0}" {
+        return true;
+    }
+    if symbol == "\u{2019}" {
+        return true;
+    }
+    if symbol == "\u{2212}" {
+        return true;
+    }
+    false
+}
+
+/// Returns whether a character of a text is numeric and none of the digits `0` to `9`.
+#[inline(never)]
+fn has_other_numeral(text: &str) -> bool
+    ensures { result ≡ list_any is_other_numeral (chars text.now) }
+{
+    text.chars().any(is_other_numeral)
+}
+
+/// Returns whether all bytes are ASCII.
+#[inline(always)]
+fn is_ascii(bytes: &[u8]) -> bool
+    ensures { result ≡ list_all is_ascii bytes.now }
+{
+    bytes.iter().all(|byte| byte.is_ascii())
+}
+
+/// Whether a text is negative, and the length of its minus sign in bytes, which is else 0.
+#[derive(Clone, Copy, Debug)]
+pub struct Sign {
+    /// Whether the text begins with the minus sign.
+    pub is_negative: bool,
+    /// The number of bytes of that minus sign, or 0.
+    pub len: usize,
+}
+
+/// Returns the sign of a text.
+///
+/// Most minus signs are one byte. The length is then computed from the comparison, since the processor mistakes a branch
+/// on the sign.
+#[inline(always)]
+pub(crate) fn sign_of(text: &[u8], minus_sign: &str) -> Sign
+    ensures { (f : FormatData) → minus_sign.now ≡ f.minus_sign → HasPlainSymbols f
+        → HasSign f text.now result.is_negative result.len }
+{
+    if minus_sign.len() != 1 {
+        return long_sign_of(text, minus_sign);
+    }
+    compared_sign(text, minus_sign)
+}
+
+/// It is a function of its own, so that others are compiled without branches on the sign.
+#[inline(never)]
+fn long_sign_of(text: &[u8], minus_sign: &str) -> Sign
+    ensures { (f : FormatData) → minus_sign.now ≡ f.minus_sign → HasPlainSymbols f
+        → HasSign f text.now result.is_negative result.len }
+{
+    compared_sign(text, minus_sign)
+}
+
+/// Returns the sign of a text under a minus sign of any length.
+#[inline(always)]
+fn compared_sign(text: &[u8], minus_sign: &str) -> Sign
+    ensures { (f : FormatData) → minus_sign.now ≡ f.minus_sign → HasPlainSymbols f
+        → HasSign f text.now result.is_negative result.len }
+{
+    let is_negative = is_prefix(text, minus_sign.as_bytes());
+    let len = if is_negative { minus_sign.len() } else { 0 };
+    Sign { is_negative, len }
+}
+
+/// Returns whether a text begins with a prefix. Most are one byte, whose comparison takes less time than a
+/// call.
+#[inline]
+pub(crate) fn is_prefix(text: &[u8], prefix: &[u8]) -> bool
+    ensures { result ≡ starts_with nat_eq text.now prefix.now }
+{
+    if prefix.len() == 1 && !text.is_empty() {
+        return text[0] == prefix[0];
+    }
+    text.starts_with(prefix)
+}

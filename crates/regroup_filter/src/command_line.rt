@@ -1,0 +1,157 @@
+//! The command line: its words and options, and the help.
+
+use clap::{Arg, ArgAction, ArgMatches, Command, Error, value_parser};
+use std::alloc::{AllocError, Global};
+
+/// The version of the project, which the file VERSION has too.
+const VERSION: &str = "0.1.0";
+
+/// What `--help` says after the options.
+const AFTER_HELP: &str = "\
+FROM and TO are each plain, as in -1234.5, a locale, as en-US, de_DE.UTF-8 or C, custom:SEP:GROUPING:MINUS:
+the format of en with these three fields, or @FILE: that of a JSON object with the texts dec, grp, inf, min, nan,
+plus and sep. GROUPING, or grp, is Standard, Indian, Posix, Myriad or Sparse.
+
+LIST has parts N, N-M, N- or -M, with commas between them, as 1,3-5: fields are counted from 1. A line needs each
+field that LIST names, and of N- the field N.
+
+With --csv a field may be in quotes, and have delimiters, newlines and doubled quotes there. It is written in quotes
+if it was in quotes or has to be. A quote that no other one closes is at fault.
+
+A number is read exactly as it is printed under FROM, grouped or not, and is written with as many decimals
+as it has. Spaces, tabs and carriage returns around it are passed on, and so is a byte order mark at the start
+of a file. A last line without a newline is written with one. Without --lenient, each decimal under FROM has to
+parse back from its text: FROM needs a minus sign, and a decimal mark that is not a separator that it prints.
+
+A line is at fault if its number is none, or if it has too few fields or more than 1,048,576 bytes. With MODE
+abort no line after it is written. With fail, warn and ignore it is passed on as it is. With fail and warn a
+message names it, and with fail the status is 1.
+
+Lines are written before more of a file is read, so that they come out as they go in.
+
+Lines are numbered in each file, and each has its header. A file that cannot be opened is left out. The status
+is 0 if all lines were written; 1 if a file was left out, or with abort or fail a line is at fault; 2 for other
+arguments, also such that are not UTF-8 or whose FILE has no format; 3 if a read or a write failed; and 141 if standard output was closed.";
+
+/// Returns what the arguments say.
+///
+/// # Errors
+///
+/// Returns an error if they are misused, if they ask for help or for the version, or if there is no memory.
+pub(crate) fn matches<'a>(alloc: Global, args: &'a [String]) -> Result<ArgMatches<'a>, Error> {
+    command(alloc)?.try_get_matches_from(args)
+}
+
+/// Returns the command line of the program.
+///
+/// # Errors
+///
+/// Returns an error if there is no memory for it.
+fn command<'a>(alloc: Global) -> Result<Command<'a>, AllocError> {
+    let command = Command::new(alloc, "regroup-lines")
+        .no_binary_name(true)
+        .version(VERSION)
+        .about("Writes the number in each line of the files under another format.")
+        .after_help(AFTER_HELP)
+        .arg(
+            Arg::new(alloc, "FROM")
+                .required(true)
+                .help("The format of the numbers that are read"),
+        )?
+        .arg(
+            Arg::new(alloc, "TO")
+                .required(true)
+                .help("The format of the numbers that are written"),
+        )?
+        .arg(
+            Arg::new(alloc, "FILE")
+                .num_args(0..)
+                .default_value("-")
+                .help("The files to read, and - for standard input"),
+        )?
+        .arg(
+            Arg::new(alloc, "line-buffered")
+                .long("line-buffered")
+                .action(ArgAction::SetTrue)
+                .help("Write each line at once, and not when a block is full or more is read"),
+        )?
+        .arg(
+            Arg::new(alloc, "zero-terminated")
+                .short('z')
+                .long("zero-terminated")
+                .action(ArgAction::SetTrue)
+                .help("End lines with NUL, not with a newline"),
+        )?;
+    with_options(alloc, command)
+}
+
+/// Returns the command line with its options.
+fn with_options<'a>(alloc: Global, command: Command<'a>) -> Result<Command<'a>, AllocError> {
+    let command = command
+        .arg(
+            Arg::new(alloc, "field")
+                .long("field")
+                .value_name("LIST")
+                .allow_hyphen_values(true)
+                .help("Read the number in each of these fields of a line, and pass on the others"),
+        )?
+        .arg(
+            Arg::new(alloc, "delimiter")
+                .short('d')
+                .long("delimiter")
+                .value_name("CHAR")
+                .requires_arg("field")?
+                .help(
+                    "The ASCII character between two fields [default: a tab, or a comma with --csv]",
+                ),
+        )?
+        .arg(
+            Arg::new(alloc, "csv")
+                .long("csv")
+                .action(ArgAction::SetTrue)
+                .requires_arg("field")?
+                .help("Read records of RFC 4180: fields may be in quotes"),
+        )?
+        .arg(
+            Arg::new(alloc, "header")
+                .long("header")
+                .action(ArgAction::SetTrue)
+                .conflicts_with("header-lines")?
+                .help("Pass on the first line"),
+        )?
+        .arg(
+            Arg::new(alloc, "header-lines")
+                .long("header-lines")
+                .value_name("N")
+                .value_parser(value_parser!(u64))
+                .help("Pass on the first N lines"),
+        )?;
+    with_fault_options(alloc, command)
+}
+
+/// Returns the command line with its options about lines that are no numbers.
+fn with_fault_options<'a>(alloc: Global, command: Command<'a>) -> Result<Command<'a>, AllocError> {
+    command
+        .arg(
+            Arg::new(alloc, "invalid")
+                .long("invalid")
+                .value_name("MODE")
+                .value_parser(["abort", "fail", "warn", "ignore"].as_slice())
+                .default_value("abort")
+                .help("What to do at a line at fault"),
+        )?
+        .arg(
+            Arg::new(alloc, "empty")
+                .long("empty")
+                .action(ArgAction::SetTrue)
+                .help("Pass on a line where nothing is in place of the number"),
+        )?
+        .arg(
+            Arg::new(alloc, "lenient")
+                .long("lenient")
+                .action(ArgAction::SetTrue)
+                .help(
+                    "Read whole numbers, and ignore each character that is not numeric, but for a minus sign at the start",
+                ),
+        )
+}

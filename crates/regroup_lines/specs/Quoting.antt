@@ -1,0 +1,30 @@
+-- A text as messages show it.
+use Rattle.std.specs.Prelude.{ℕ, ◌+◌, ◌/◌, ◌%◌, ◌==◌, nat_lt, Bool, not, ◌&&◌, ◌||◌, if◌then◌else◌, List, [], ◌∷◌, ◌++◌, take}
+use Rattle.std.specs.Char.{is_ascii_graphic}
+use Rattle.std.specs.List.{flat_map}
+use Rattle.std.specs.Str.{byte}
+use Rattle.regroup_lines.specs.declared.quoting.TheConstants.{MAX_SHOWN_LEN}
+
+-- the backslash
+abbrev pub BACKSLASH : ℕ
+BACKSLASH = 92
+
+-- a byte that is shown as it is: printable ASCII, but neither the quote nor the backslash
+abbrev pub is_shown : ℕ → Bool
+is_shown b = (is_ascii_graphic b || (b == byte " ")) && (not (b == byte "'") && not (b == BACKSLASH))
+
+-- a digit of base 16, as `0` to `9` or `A` to `F`
+abbrev pub hex_digit : ℕ → ℕ
+hex_digit n = if nat_lt n 10 then n + 48 else n + 55
+
+-- a byte, or `\x` and its two digits of base 16
+abbrev pub shown_byte : ℕ → List ℕ
+shown_byte b = if is_shown b then b ∷ [] else BACKSLASH ∷ byte "x" ∷ hex_digit (b / 16) ∷ hex_digit (b % 16) ∷ []
+
+-- so many bytes of a text at most, each shown
+abbrev pub shown : ℕ → List ℕ → List ℕ
+shown most text = flat_map shown_byte (take most text)
+
+-- the first bytes of an input, shown, in quotes
+abbrev pub quoted : List ℕ → List ℕ
+quoted text = byte "'" ∷ (shown MAX_SHOWN_LEN text ++ byte "'" ∷ [])

@@ -1,2 +1,0 @@
-pub mod LocaleLemmas
-pub mod ReadingLemmas

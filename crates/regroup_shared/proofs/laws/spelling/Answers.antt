@@ -1,5 +1,0 @@
-use Rattle.regroup_shared.proofs.LocaleLemmas.{is_spelling-Decides}
-use Rattle.regroup_shared.proofs.laws.spelling.Goals as goal
-
-pub returns : goal.returns
-returns c = is_spelling-Decides

@@ -1,0 +1,677 @@
+/* Holds the library for C to its header: constants, types, layout and calls, against values written
+ * by hand.
+ *
+ *     cc -I crates/num_format_c packages/c/tests/header.c crates/num_format_c/out/libnum_format_c.a
+ *
+ * The program prints each check that fails. The exit status is 1 where one failed.
+ */
+#include "num_format.h"
+
+#include <stdio.h>
+#include <string.h>
+
+/* Each call once more: this file does not compile with a header where one has another type. */
+int32_t num_format_locale(num_format *, const char *, size_t);
+int32_t num_format_lookup(num_format *, const char *, size_t);
+int32_t num_format_custom(num_format *, const char *, size_t, uint32_t, const char *, size_t);
+int32_t num_format_custom_decimal(num_format *, const char *, size_t, uint32_t, const char *, size_t, const char *, size_t);
+int32_t num_format_print_i64(const num_format *, int64_t, char *, size_t);
+int32_t num_format_print_u64(const num_format *, uint64_t, char *, size_t);
+int32_t num_format_print_u128(const num_format *, uint64_t, uint64_t, char *, size_t);
+int32_t num_format_print_i128(const num_format *, uint64_t, uint64_t, char *, size_t);
+int32_t num_format_print_decimal(const num_format *, uint64_t, uint64_t, uint32_t, char *, size_t);
+int32_t num_format_print_i64_len(const num_format *, int64_t);
+int32_t num_format_print_u64_len(const num_format *, uint64_t);
+int32_t num_format_print_u128_len(const num_format *, uint64_t, uint64_t);
+int32_t num_format_print_i128_len(const num_format *, uint64_t, uint64_t);
+int32_t num_format_print_decimal_len(const num_format *, uint64_t, uint64_t, uint32_t);
+int32_t num_format_parse_i64(const num_format *, uint32_t, const char *, size_t, int64_t *);
+int32_t num_format_parse_u64(const num_format *, uint32_t, const char *, size_t, uint64_t *);
+int32_t num_format_parse_u128(const num_format *, const char *, size_t, uint64_t *, uint64_t *);
+int32_t num_format_parse_i128(const num_format *, const char *, size_t, uint64_t *, uint64_t *);
+int32_t num_format_parse_strict_i64(const num_format *, uint32_t, const char *, size_t, int64_t *, size_t *);
+int32_t num_format_parse_strict_u64(const num_format *, uint32_t, const char *, size_t, uint64_t *, size_t *);
+int32_t num_format_parse_strict_u128(const num_format *, const char *, size_t, uint64_t *, uint64_t *, size_t *);
+int32_t num_format_parse_strict_i128(const num_format *, const char *, size_t, uint64_t *, uint64_t *, size_t *);
+int32_t num_format_parse_decimal(const num_format *, const char *, size_t, uint64_t *, uint64_t *, uint32_t *, size_t *);
+int32_t num_format_reads_back(const num_format *);
+int32_t num_format_prints_alike(const num_format *, const num_format *);
+int32_t num_format_names(size_t, char *, size_t);
+int32_t num_format_lookup_name(const char *, size_t, char *, size_t);
+uint32_t num_format_version(void);
+
+/* The calls for columns of a type: how they are named, the type of a value, and the parameters after the values. */
+#define COLUMN_CALLS(name, type, ...) \
+    int32_t num_format_print_##name##_column(const num_format *, const type *, size_t __VA_ARGS__, int32_t *, size_t, char *, size_t); \
+    int32_t num_format_print_##name##_large_column(const num_format *, const type *, size_t __VA_ARGS__, int64_t *, size_t, char *, size_t); \
+    int32_t num_format_print_##name##_column_len(const num_format *, const type *, size_t __VA_ARGS__, size_t *); \
+    PARSE_CALLS(name, type, __VA_ARGS__)
+#define PARSE_CALLS(name, type, ...) \
+    static inline int32_t num_format_parse_##name##_column(const num_format *, const int32_t *, size_t, const char *, size_t, type *, int32_t *, size_t __VA_ARGS__); \
+    static inline int32_t num_format_parse_##name##_large_column(const num_format *, const int64_t *, size_t, const char *, size_t, type *, int32_t *, size_t __VA_ARGS__)
+#define NULLABLE , const uint8_t *, size_t
+#define NUMBER_CALLS(name, type) \
+    COLUMN_CALLS(name, type, ); \
+    PARSE_CALLS(strict_##name, type, ); \
+    COLUMN_CALLS(nullable_##name, type, NULLABLE); \
+    PARSE_CALLS(strict_nullable_##name, type, NULLABLE)
+NUMBER_CALLS(i8, int8_t);
+NUMBER_CALLS(i16, int16_t);
+NUMBER_CALLS(i32, int32_t);
+NUMBER_CALLS(i64, int64_t);
+NUMBER_CALLS(u8, uint8_t);
+NUMBER_CALLS(u16, uint16_t);
+NUMBER_CALLS(u32, uint32_t);
+NUMBER_CALLS(u64, uint64_t);
+NUMBER_CALLS(i128, num_format_wide);
+NUMBER_CALLS(u128, num_format_wide);
+COLUMN_CALLS(decimal, num_format_wide, , uint32_t);
+COLUMN_CALLS(nullable_decimal, num_format_wide, , uint32_t NULLABLE);
+
+/* The longest text: -2^127 under Indian, with a separator and a minus sign of 8 bytes. */
+static const char longest[] =
+    "abcdefgh17" "1234567801" "1234567841" "1234567818" "1234567834" "1234567860" "1234567846"
+    "1234567892" "1234567831" "1234567873" "1234567816" "1234567887" "1234567830" "1234567837"
+    "1234567815" "1234567888" "1234567841" "1234567805" "12345678728";
+
+/* The longest decimal: -2^127 at scale 1 under the same, with a decimal mark of 8 bytes. */
+static const char longest_decimal[] =
+    "abcdefgh11" "2345678701" "2345678141" "2345678111" "2345678831" "2345678461" "2345678041"
+    "2345678691" "2345678231" "2345678171" "2345678311" "2345678681" "2345678731" "2345678031"
+    "2345678711" "2345678581" "2345678841" "2345678101" "2345678572" "ABCDEFGH8";
+
+static int status;
+
+/* Shows a value that is not the one written by hand. */
+static void compare(const char *name, long long found, long long expected) {
+    if (found != expected) {
+        printf("%s: %lld in place of %lld\n", name, found, expected);
+        status = 1;
+    }
+}
+
+#define CHECK(value, expected) compare(#value, (long long)(value), expected)
+
+/* Shows bytes that are not those written by hand. */
+static void check_bytes(const char *name, const void *found, const char *expected) {
+    compare(name, memcmp(found, expected, strlen(expected)), 0);
+}
+
+/* Prints a number, and compares its text. */
+static void check_text(const num_format *format, int64_t number, const char *expected) {
+    char text[NUM_FORMAT_MAX];
+    compare(expected, num_format_print_i64(format, number, text, sizeof text), (int)strlen(expected));
+    compare(expected, num_format_print_i64_len(format, number), (int)strlen(expected));
+    check_bytes(expected, text, expected);
+}
+
+static void check_constants(void) {
+    CHECK(NUM_FORMAT_MAX, 191);
+    CHECK(NUM_FORMAT_DECIMAL_MAX, 199);
+    CHECK(NUM_FORMAT_LOCALES, 542);
+    CHECK(NUM_FORMAT_BAD_FORMAT, -1);
+    CHECK(NUM_FORMAT_TOO_SMALL, -2);
+    CHECK(NUM_FORMAT_NOT_UTF8, -3);
+    CHECK(NUM_FORMAT_NOT_A_NUMBER, -4);
+    CHECK(NUM_FORMAT_UNKNOWN_LOCALE, -5);
+    CHECK(NUM_FORMAT_TOO_LONG, -6);
+    CHECK(NUM_FORMAT_BAD_GROUPING, -7);
+    CHECK(NUM_FORMAT_BAD_BITS, -8);
+    CHECK(NUM_FORMAT_UNEXPECTED, -9);
+    CHECK(NUM_FORMAT_NO_DIGIT, -10);
+    CHECK(NUM_FORMAT_MISSPELLED, -11);
+    CHECK(NUM_FORMAT_OUT_OF_RANGE, -12);
+    CHECK(NUM_FORMAT_BAD_SCALE, -13);
+    CHECK(NUM_FORMAT_TOO_MANY_DECIMALS, -14);
+    CHECK(NUM_FORMAT_BAD_LENGTH, -15);
+    CHECK(NUM_FORMAT_BAD_OFFSETS, -16);
+    CHECK(NUM_FORMAT_TOO_MANY_BYTES, -17);
+    CHECK(NUM_FORMAT_DIGITS_LOST, -18);
+    CHECK(NUM_FORMAT_AMBIGUOUS_FORMAT, -19);
+    CHECK(num_format_version(), NUM_FORMAT_VERSION);
+    check_bytes("strerror", num_format_strerror(-1), "the struct has no format");
+    check_bytes("strerror of no error", num_format_strerror(0), "ok");
+    for (int32_t code = -19; code < 0; code++) {
+        CHECK(strcmp(num_format_strerror(code), "unknown status") != 0, 1);
+    }
+    check_bytes("strerror of another", num_format_strerror(-20), "unknown status");
+    CHECK(NUM_FORMAT_STANDARD, 1);
+    CHECK(NUM_FORMAT_INDIAN, 2);
+    CHECK(NUM_FORMAT_POSIX, 3);
+    CHECK(NUM_FORMAT_MYRIAD, 4);
+    CHECK(NUM_FORMAT_SPARSE, 5);
+}
+
+static void check_layout(void) {
+    CHECK(sizeof(num_format), 28);
+    CHECK(_Alignof(num_format), 1);
+    CHECK(offsetof(num_format, separator), 0);
+    CHECK(offsetof(num_format, minus_sign), 8);
+    CHECK(offsetof(num_format, decimal_mark), 16);
+    CHECK(offsetof(num_format, separator_length), 24);
+    CHECK(offsetof(num_format, minus_sign_length), 25);
+    CHECK(offsetof(num_format, decimal_mark_length), 26);
+    CHECK(offsetof(num_format, grouping), 27);
+}
+
+/* What a call writes into a struct, and nothing past it. */
+static void check_filled(void) {
+    struct {
+        uint8_t before[8];
+        num_format format;
+        uint8_t after[8];
+    } held;
+    memset(&held, 'x', sizeof held);
+    CHECK(num_format_custom(&held.format, "'", 1, 4, "\xe2\x88\x92", 3), 0);
+    check_bytes("separator", held.format.separator, "'");
+    check_bytes("minus_sign", held.format.minus_sign, "\xe2\x88\x92");
+    check_bytes("decimal_mark", held.format.decimal_mark, ".");
+    CHECK(held.format.separator_length, 1);
+    CHECK(held.format.minus_sign_length, 3);
+    CHECK(held.format.decimal_mark_length, 1);
+    CHECK(held.format.grouping, 4);
+    check_text(&held.format, -12345678, "\xe2\x88\x92" "1234'5678");
+    CHECK(num_format_locale(&held.format, "en-IN", 5), 0);
+    check_bytes("separator of en-IN", held.format.separator, ",");
+    check_bytes("minus_sign of en-IN", held.format.minus_sign, "-");
+    CHECK(held.format.separator_length, 1);
+    CHECK(held.format.minus_sign_length, 1);
+    CHECK(held.format.grouping, 2);
+    check_text(&held.format, -1234567, "-12,34,567");
+    CHECK(num_format_locale(&held.format, "ar-EG", 5), 0);
+    check_bytes("decimal_mark of ar-EG", held.format.decimal_mark, "\xd9\xab");
+    CHECK(held.format.decimal_mark_length, 2);
+    CHECK(num_format_custom_decimal(&held.format, ",", 1, 1, "-", 1, "::", 2), 0);
+    check_bytes("decimal_mark of its own", held.format.decimal_mark, "::");
+    CHECK(held.format.decimal_mark_length, 2);
+    check_bytes("before the struct", held.before, "xxxxxxxx");
+    check_bytes("after the struct", held.after, "xxxxxxxx");
+}
+
+/* How a call reads a struct whose fields were written here. */
+static void check_read(void) {
+    num_format format = {"::", "~~~", "..", 2, 3, 2, 1};
+    static const struct {
+        const char *four_digits, *seven_digits;
+    } texts[] = {
+        {"~~~1::234", "1::234::567"}, {"~~~1::234", "12::34::567"}, {"~~~1234", "1234567"},
+        {"~~~1234", "123::4567"},     {"~~~1234", "1::234::567"},
+    };
+    for (int grouping = 1; grouping <= 5; grouping++) {
+        format.grouping = (uint8_t)grouping;
+        check_text(&format, -1234, texts[grouping - 1].four_digits);
+        check_text(&format, 1234567, texts[grouping - 1].seven_digits);
+    }
+    CHECK(num_format_reads_back(&format), 1);
+    CHECK(num_format_prints_alike(&format, &format), 1);
+    format.separator_length = 9;
+    CHECK(num_format_reads_back(&format), -1);
+    format.separator_length = 8;
+    format.minus_sign_length = 9;
+    CHECK(num_format_reads_back(&format), -1);
+    format.minus_sign_length = 8;
+    format.decimal_mark_length = 9;
+    CHECK(num_format_reads_back(&format), -1);
+    format.decimal_mark_length = 8;
+    CHECK(num_format_reads_back(&format), 1);
+}
+
+/* Numbers whose low byte alone would be taken. */
+static void check_groupings(void) {
+    static const uint32_t refused[] = {0, 6, 255, 256, 257, 258, 261, 65537, 0x80000001, UINT32_MAX};
+    num_format format;
+    CHECK(num_format_custom(&format, ",", 1, 1, "-", 1), 0);
+    for (size_t i = 0; i < sizeof refused / sizeof *refused; i++) {
+        char name[32];
+        snprintf(name, sizeof name, "grouping %lu", (unsigned long)refused[i]);
+        compare(name, num_format_custom(&format, ".", 1, refused[i], "-", 1), -7);
+        check_text(&format, 1000, "1,000");
+        format.grouping = (uint8_t)refused[i];
+        int is_read = 1 <= format.grouping && format.grouping <= 5;
+        CHECK(num_format_reads_back(&format), is_read ? 1 : -1);
+        format.grouping = 1;
+    }
+}
+
+/* Each error, by its number. */
+static void check_errors(void) {
+    const num_format zeros = {{0}, {0}, {0}, 0, 0, 0, 0};
+    num_format en;
+    char text[NUM_FORMAT_MAX];
+    int64_t number;
+    CHECK(num_format_locale(&en, "en", 2), 0);
+    CHECK(num_format_print_i64(&zeros, 1, text, sizeof text), -1);
+    CHECK(num_format_prints_alike(&en, &zeros), -1);
+    CHECK(num_format_print_i64(&en, 1000, text, 4), -2);
+    CHECK(num_format_locale(&en, "\xff", 1), -3);
+    CHECK(num_format_parse_i64(&en, 64, "\xff", 1, &number), -3);
+    CHECK(num_format_parse_i64(&en, 64, "x", 1, &number), -4);
+    CHECK(num_format_locale(&en, "xx", 2), -5);
+    CHECK(num_format_custom(&en, "123456789", 9, 1, "-", 1), -6);
+    CHECK(num_format_custom(&en, ",", 1, 1, "123456789", 9), -6);
+    CHECK(num_format_custom_decimal(&en, ",", 1, 1, "-", 1, "123456789", 9), -6);
+    CHECK(num_format_custom_decimal(&en, ",", 1, 1, "-", 1, "\xff", 1), -3);
+    CHECK(num_format_custom(&en, ",", 1, 6, "-", 1), -7);
+    CHECK(num_format_parse_i64(&en, 7, "1", 1, &number), -8);
+    CHECK(num_format_parse_i64(&en, 256 + 64, "1", 1, &number), -8);
+    CHECK(num_format_parse_i64(&en, 65536 + 8, "1", 1, &number), -8);
+    CHECK(num_format_print_decimal(&en, 1, 0, 39, text, sizeof text), -13);
+    CHECK(num_format_print_decimal(&zeros, 1, 0, 256 + 2, text, sizeof text), -13);
+    CHECK(num_format_print_decimal(&zeros, 1, 0, 38, text, sizeof text), -1);
+    CHECK(num_format_print_decimal(&en, 1, 0, 2, text, 3), -2);
+    CHECK(num_format_print_i64_len(&zeros, 1), -1);
+    CHECK(num_format_print_decimal_len(&zeros, 1, 0, 39), -13);
+    CHECK(num_format_print_decimal_len(&zeros, 1, 0, 38), -1);
+}
+
+/* Prints a decimal of units of 64 bits, and compares its text. */
+static void check_decimal(const num_format *format, int64_t units, uint32_t scale, const char *expected) {
+    char text[NUM_FORMAT_DECIMAL_MAX];
+    uint64_t high = units < 0 ? UINT64_MAX : 0;
+    memset(text, 'x', sizeof text);
+    compare(expected, num_format_print_decimal(format, (uint64_t)units, high, scale, text, sizeof text),
+            (int)strlen(expected));
+    compare(expected, num_format_print_decimal_len(format, (uint64_t)units, high, scale), (int)strlen(expected));
+    check_bytes(expected, text, expected);
+    CHECK(text[strlen(expected)], 'x');
+}
+
+static void check_decimals(void) {
+    num_format format;
+    CHECK(num_format_locale(&format, "en", 2), 0);
+    check_decimal(&format, 123450, 2, "1,234.50");
+    check_decimal(&format, -5, 2, "-0.05");
+    check_decimal(&format, -50, 2, "-0.50");
+    check_decimal(&format, 1234, 0, "1,234");
+    check_decimal(&format, 0, 1, "0.0");
+    check_decimal(&format, 1, 38, "0.00000000000000000000000000000000000001");
+    CHECK(num_format_locale(&format, "de", 2), 0);
+    check_decimal(&format, -123456789, 3, "-123.456,789");
+    CHECK(num_format_custom_decimal(&format, " ", 1, 2, "~", 1, "::", 2), 0);
+    check_decimal(&format, -123456789, 2, "~12 34 567::89");
+}
+
+/* Texts as decimals: what is returned, and what the units, the scale and `at`, 7, 8 and 9 before, then are. */
+static void check_parsed_decimals(void) {
+    static const struct {
+        const char *text;
+        int returned;
+        int64_t units;
+        uint32_t scale;
+        size_t at;
+    } cases[] = {
+        {"1,234.50", 0, 123450, 2, 9}, {"-1234.5", 0, -12345, 1, 9}, {"7", 0, 7, 0, 9},  {"-0.05", 0, -5, 2, 9},
+        {"0.00", 0, 0, 2, 9},          {"1\xff", -3, 7, 8, 9},       {"1e3", -9, 7, 8, 1}, {"1.234.5", -9, 7, 8, 5},
+        {"1.2,3", -9, 7, 8, 3},        {"", -10, 7, 8, 9},           {".", -10, 7, 8, 9}, {".5", -11, 7, 8, 9},
+        {"1.", -11, 7, 8, 9},          {"1,23.4", -11, 7, 8, 9},     {"-0.00", -11, 7, 8, 9},
+        {"0.000000000000000000000000000000000000001", -14, 7, 8, 9},
+        {"17014118346046923173168730371588410572.8", -12, 7, 8, 9},
+    };
+    num_format format = {0};
+    uint64_t low = 7, high = 0;
+    uint32_t scale = 8;
+    size_t at = 9;
+    CHECK(num_format_parse_decimal(&format, "1", 1, &low, &high, &scale, &at), -1);
+    CHECK(low == 7 && high == 0 && scale == 8 && at == 9, 1);
+    CHECK(num_format_locale(&format, "en", 2), 0);
+    for (size_t i = 0; i < sizeof cases / sizeof *cases; i++) {
+        const char *text = cases[i].text;
+        low = 7, high = 0, scale = 8, at = 9;
+        compare(text, num_format_parse_decimal(&format, text, strlen(text), &low, &high, &scale, &at),
+                cases[i].returned);
+        compare(text, (int64_t)low, cases[i].units);
+        compare(text, high == (cases[i].units < 0 ? UINT64_MAX : 0), 1);
+        compare(text, scale, cases[i].scale);
+        compare(text, (long long)at, (long long)cases[i].at);
+    }
+    static const char lowest[] = "-17,014,118,346,046,923,173,168,730,371,588,410,572.8";
+    CHECK(num_format_parse_decimal(&format, lowest, strlen(lowest), &low, &high, &scale, &at), 0);
+    CHECK(low == 0 && high == (uint64_t)1 << 63 && scale == 1, 1);
+}
+
+/* Texts as numbers of 16 bits, strictly: what is returned, and what the number and `at`, 7 and 9 before,
+ * then are. */
+static void check_strict(void) {
+    static const struct {
+        const char *text;
+        int returned;
+        int64_t number;
+        size_t at;
+    } cases[] = {
+        {"0", 0, 0, 9},         {"-1,234", 0, -1234, 9},  {"-1234", 0, -1234, 9},  {"32,767", 0, 32767, 9},
+        {"1\xff", -3, 7, 9},    {"12.50", -9, 7, 2},      {" 1", -9, 7, 0},        {"1,234 2", -9, 7, 5},
+        {"+1", -9, 7, 0},       {"5-", -9, 7, 1},         {"1\xc2\xa0", -9, 7, 1}, {"", -10, 7, 9},
+        {"-", -10, 7, 9},       {",", -10, 7, 9},         {"1,23", -11, 7, 9},     {"01", -11, 7, 9},
+        {"-0", -11, 7, 9},      {"1234,567", -11, 7, 9},  {"32,768", -12, 7, 9},   {"-32769", -12, 7, 9},
+    };
+    num_format format = {0};
+    int64_t number = 7;
+    uint64_t low = 7, high = 8;
+    size_t at = 9;
+    CHECK(num_format_parse_strict_i64(&format, 64, "1", 1, &number, &at), -1);
+    CHECK(num_format_locale(&format, "en", 2), 0);
+    CHECK(num_format_parse_strict_i64(&format, 256 + 64, "1", 1, &number, &at), -8);
+    CHECK(num_format_parse_strict_u64(&format, 7, "1", 1, &low, &at), -8);
+    CHECK(number == 7 && low == 7 && at == 9, 1);
+    for (size_t i = 0; i < sizeof cases / sizeof *cases; i++) {
+        const char *text = cases[i].text;
+        number = 7;
+        at = 9;
+        compare(text, num_format_parse_strict_i64(&format, 16, text, strlen(text), &number, &at),
+                cases[i].returned);
+        compare(text, number, cases[i].number);
+        compare(text, (long long)at, (long long)cases[i].at);
+    }
+    CHECK(num_format_parse_strict_u64(&format, 8, "255", 3, &low, &at), 0);
+    CHECK(low, 255);
+    CHECK(num_format_parse_strict_u64(&format, 8, "256", 3, &low, &at), -12);
+    CHECK(num_format_parse_strict_u64(&format, 64, "-1", 2, &low, &at), -12);
+    CHECK(num_format_parse_strict_u64(&format, 64, "1.5", 3, &low, &at), -9);
+    CHECK(low == 255 && at == 1, 1);
+    CHECK(num_format_parse_strict_u128(&format, "18,446,744,073,709,551,619", 26, &low, &high, &at), 0);
+    CHECK(low == 3 && high == 1, 1);
+    CHECK(num_format_parse_strict_u128(&format, "1,2", 3, &low, &high, &at), -11);
+    CHECK(num_format_parse_strict_i128(&format, "-2", 2, &low, &high, &at), 0);
+    CHECK(low == UINT64_MAX - 1 && high == UINT64_MAX, 1);
+    CHECK(num_format_parse_strict_i128(&format, "--2", 3, &low, &high, &at), -9);
+    CHECK(low == UINT64_MAX - 1 && high == UINT64_MAX && at == 1, 1);
+    format.grouping = NUM_FORMAT_POSIX;
+    CHECK(num_format_parse_strict_i64(&format, 64, "1,234", 5, &number, &at), -9);
+    CHECK(at, 1);
+}
+
+/* Formats by their texts: whether whole numbers can be misread, and decimals. */
+static void check_ambiguous(void) {
+    static const struct {
+        const char *separator, *minus_sign, *decimal_mark;
+        uint32_t grouping;
+        int number, decimal;
+    } cases[] = {
+        {",", "-", ".", 1, 0, 0},      {"", "-", ".", 1, 0, 0},       {"7", "-", "7", 3, 0, -19},  {",", "-", ",", 3, 0, 0},
+        {",", "", ".", 1, -19, -19},   {",", "", ".", 3, -19, -19},   {",", "-0", ".", 3, -19, -19}, {"7", "-", ".", 1, -19, -19},
+        {"\xd9\xa3", "-", ".", 2, -19, -19}, {",", "\xc2\xb2", ".", 5, -19, -19}, {"x7", "-", ".", 4, -19, -19},
+        {",", "-", ",", 1, 0, -19},    {",", "-", "", 1, 0, -19},     {",", "-", "7", 1, 0, -19},
+    };
+    static const int32_t offsets[] = {0, 1, 2};
+    for (size_t i = 0; i < sizeof cases / sizeof *cases; i++) {
+        const char *separator = cases[i].separator, *minus_sign = cases[i].minus_sign, *mark = cases[i].decimal_mark;
+        num_format format = {0};
+        num_format_wide units[2] = {{7, 0}, {7, 0}};
+        int64_t number = 7, numbers[2] = {7, 7};
+        uint64_t low = 7, high = 7;
+        uint32_t scale = 7;
+        int32_t statuses[2] = {7, 7};
+        size_t at = 7;
+        CHECK(num_format_custom_decimal(&format, separator, strlen(separator), cases[i].grouping, minus_sign,
+                                        strlen(minus_sign), mark, strlen(mark)), 0);
+        CHECK(num_format_parse_strict_i64(&format, 64, "5", 1, &number, &at), cases[i].number);
+        CHECK(number, cases[i].number ? 7 : 5);
+        CHECK(num_format_parse_strict_u64(&format, 8, "\xff", 1, &low, &at), cases[i].number ? -19 : -3);
+        CHECK(num_format_parse_strict_i64(&format, 7, "5", 1, &number, &at), -8);
+        CHECK(num_format_parse_strict_i128(&format, "5", 1, &low, &high, &at), cases[i].number);
+        CHECK(num_format_parse_strict_u128(&format, "5", 1, &low, &high, &at), cases[i].number);
+        CHECK(low == (cases[i].number ? 7 : 5) && at == 7, 1);
+        CHECK(num_format_parse_strict_i64_column(&format, offsets, 3, "56", 2, numbers, statuses, 2), cases[i].number);
+        CHECK(numbers[1] == (cases[i].number ? 7 : 6) && statuses[1] == (cases[i].number ? 7 : 0), 1);
+        CHECK(num_format_parse_strict_i64_column(&format, offsets, 2, "56", 2, numbers, statuses, 2),
+              cases[i].number ? -19 : -15);
+        statuses[1] = 7;
+        CHECK(num_format_parse_decimal(&format, "5", 1, &low, &high, &scale, &at), cases[i].decimal);
+        CHECK(scale, cases[i].decimal ? 7 : 0);
+        CHECK(num_format_parse_decimal_column(&format, offsets, 3, "56", 2, units, statuses, 2, 0), cases[i].decimal);
+        CHECK(units[1].low == (cases[i].decimal ? 7 : 6) && statuses[1] == (cases[i].decimal ? 7 : 0), 1);
+        CHECK(num_format_parse_decimal_column(&format, offsets, 3, "56", 2, units, statuses, 2, 39), -13);
+        CHECK(num_format_parse_i64_column(&format, offsets, 3, "56", 2, numbers, statuses, 2), 0);
+    }
+}
+
+/* The numbers at the ends of each type. */
+static void check_ends(void) {
+    num_format en;
+    char text[NUM_FORMAT_MAX];
+    int64_t number = 0;
+    uint64_t low = 0, high = 0;
+    CHECK(num_format_locale(&en, "en", 2), 0);
+    check_text(&en, INT64_MIN, "-9,223,372,036,854,775,808");
+    CHECK(num_format_parse_i64(&en, 64, "-9,223,372,036,854,775,808", 26, &number), 0);
+    CHECK(number == INT64_MIN, 1);
+    CHECK(num_format_print_u64(&en, UINT64_MAX, text, sizeof text), 26);
+    CHECK(num_format_print_u64_len(&en, UINT64_MAX), 26);
+    check_bytes("UINT64_MAX", text, "18,446,744,073,709,551,615");
+    CHECK(num_format_parse_u64(&en, 64, text, 26, &low), 0);
+    CHECK(low == UINT64_MAX, 1);
+    CHECK(num_format_print_u128(&en, 3, 1, text, sizeof text), 26);
+    CHECK(num_format_print_u128_len(&en, 3, 1), 26);
+    check_bytes("2^64 + 3", text, "18,446,744,073,709,551,619");
+    CHECK(num_format_parse_u128(&en, text, 26, &low, &high), 0);
+    CHECK(low, 3);
+    CHECK(high, 1);
+    CHECK(num_format_print_i128(&en, UINT64_MAX - 1, UINT64_MAX, text, sizeof text), 2);
+    CHECK(num_format_print_i128_len(&en, UINT64_MAX - 1, UINT64_MAX), 2);
+    check_bytes("-2", text, "-2");
+    CHECK(num_format_parse_i128(&en, text, 2, &low, &high), 0);
+    CHECK(low == UINT64_MAX - 1 && high == UINT64_MAX, 1);
+}
+
+/* An array of exactly as many bytes as the longest text, and of one less. */
+static void check_longest(void) {
+    num_format format;
+    char text[NUM_FORMAT_MAX];
+    memset(text, '.', sizeof text);
+    CHECK(num_format_custom(&format, "12345678", 8, 2, "abcdefgh", 8), 0);
+    CHECK(num_format_print_i128(&format, 0, (uint64_t)1 << 63, text, NUM_FORMAT_MAX - 1), -2);
+    for (int i = 0; i < NUM_FORMAT_MAX; i++)
+        CHECK(text[i], '.');
+    CHECK(num_format_print_i128_len(&format, 0, (uint64_t)1 << 63), NUM_FORMAT_MAX);
+    CHECK(strlen(longest), NUM_FORMAT_MAX);
+    CHECK(num_format_print_i128(&format, 0, (uint64_t)1 << 63, text, NUM_FORMAT_MAX), NUM_FORMAT_MAX);
+    check_bytes("the longest text", text, longest);
+    char decimal[NUM_FORMAT_DECIMAL_MAX];
+    CHECK(num_format_custom_decimal(&format, "12345678", 8, 2, "abcdefgh", 8, "ABCDEFGH", 8), 0);
+    CHECK(num_format_print_decimal(&format, 0, (uint64_t)1 << 63, 1, decimal, NUM_FORMAT_DECIMAL_MAX - 1), -2);
+    CHECK(num_format_print_decimal_len(&format, 0, (uint64_t)1 << 63, 1), NUM_FORMAT_DECIMAL_MAX);
+    CHECK(strlen(longest_decimal), NUM_FORMAT_DECIMAL_MAX);
+    CHECK(num_format_print_decimal(&format, 0, (uint64_t)1 << 63, 1, decimal, NUM_FORMAT_DECIMAL_MAX),
+          NUM_FORMAT_DECIMAL_MAX);
+    check_bytes("the longest decimal", decimal, longest_decimal);
+}
+
+/* Three values of which the second is null, with offsets of either size. */
+#define CHECK_NULLABLE(name, parse, type, numbers, texts) do { \
+        static const uint8_t first_and_last = 0xfd; \
+        const int32_t wanted[] = {0, 1, 1, sizeof texts - 1}; \
+        type found[3]; \
+        int32_t ends[4], row_statuses[3] = {9, 9, 9}; \
+        int64_t large_ends[4]; \
+        char room[sizeof texts]; \
+        size_t needed = 0; \
+        memset(room, 'x', sizeof room); \
+        CHECK(num_format_print_nullable_##name##_column_len(&de, numbers, 3, &first_and_last, 1, &needed), 0); \
+        compare("length with a null for " #name, (long long)needed, sizeof texts - 1); \
+        CHECK(num_format_print_nullable_##name##_column(&de, numbers, 3, &first_and_last, 1, ends, 4, room, needed), 0); \
+        check_bytes("texts with a null of " #name, room, texts "x"); \
+        compare("offsets with a null for " #name, memcmp(ends, wanted, sizeof ends), 0); \
+        CHECK(num_format_print_nullable_##name##_large_column(&de, numbers, 3, &first_and_last, 1, large_ends, 4, room, needed), 0); \
+        compare("large offsets with a null for " #name, large_ends[1] == 1 && large_ends[2] == 1 && large_ends[3] == wanted[3], 1); \
+        memset(found, 0x55, sizeof found); \
+        const type before = found[1]; \
+        CHECK(num_format_parse_nullable_##name##_column(&de, ends, 4, room, needed, found, row_statuses, 3, &first_and_last, 1), 0); \
+        compare("parsed with a null for " #name, memcmp(found, numbers, sizeof *found) == 0 && memcmp(found + 2, numbers + 2, sizeof *found) == 0, 1); \
+        compare("a null as it was for " #name, memcmp(found + 1, &before, sizeof before) == 0 && row_statuses[1] == 0, 1); \
+        CHECK(num_format_parse_##parse##_large_column(&de, large_ends, 4, room, needed, found, row_statuses, 3, &first_and_last, 1), 0); \
+        compare("statuses with a null for " #name, row_statuses[0] == 0 && row_statuses[1] == 0 && row_statuses[2] == 0, 1); \
+        CHECK(num_format_print_nullable_##name##_column(&de, numbers, 3, &first_and_last, 0, ends, 4, room, needed), NUM_FORMAT_BAD_LENGTH); \
+        CHECK(num_format_print_nullable_##name##_column_len(&de, numbers, 3, &first_and_last, 0, &needed), NUM_FORMAT_BAD_LENGTH); \
+        CHECK(num_format_parse_nullable_##name##_column(&de, ends, 4, room, needed, found, row_statuses, 3, &first_and_last, 0), NUM_FORMAT_BAD_LENGTH); \
+    } while (0)
+
+/* Columns of 7, a number at an end of the type and 100, printed and parsed with offsets of either size. */
+#define CHECK_COLUMNS(name, type, seven, end, hundred, end_text) do { \
+        static const type numbers[] = {seven, end, hundred}; \
+        static const char texts[] = "7" end_text "100"; \
+        const size_t size = sizeof texts - 1; \
+        type parsed[3]; \
+        int32_t offsets[4], statuses[3]; \
+        int64_t large[4]; \
+        char bytes[64]; \
+        size_t length = 0; \
+        CHECK(num_format_print_##name##_column_len(&de, numbers, 3, &length), 0); \
+        compare("length for " #name, (long long)length, (long long)size); \
+        CHECK(num_format_print_##name##_column(&de, numbers, 3, offsets, 4, bytes, size), 0); \
+        check_bytes("texts of " #name, bytes, texts); \
+        compare("offsets for " #name, offsets[0] == 0 && offsets[1] == 1 && offsets[2] == (int32_t)size - 3 && offsets[3] == (int32_t)size, 1); \
+        CHECK(num_format_print_##name##_large_column(&de, numbers, 3, large, 4, bytes, size), 0); \
+        compare("large offsets for " #name, large[0] == 0 && large[1] == 1 && large[2] == (int64_t)size - 3 && large[3] == (int64_t)size, 1); \
+        CHECK(num_format_parse_##name##_column(&de, offsets, 4, bytes, size, parsed, statuses, 3), 0); \
+        compare("parsed for " #name, memcmp(parsed, numbers, sizeof numbers) == 0 && statuses[0] == 0 && statuses[1] == 0 && statuses[2] == 0, 1); \
+        memset(parsed, 0, sizeof parsed); \
+        CHECK(num_format_parse_##name##_large_column(&de, large, 4, bytes, size, parsed, statuses, 3), 0); \
+        compare("parsed, large, for " #name, memcmp(parsed, numbers, sizeof numbers), 0); \
+        bytes[0] = 'x'; \
+        memset(parsed, 0x55, sizeof parsed); \
+        const type kept = parsed[0]; \
+        CHECK(num_format_parse_strict_##name##_column(&de, offsets, 4, bytes, size, parsed, statuses, 3), 0); \
+        compare("refused for " #name, statuses[0] == NUM_FORMAT_UNEXPECTED && memcmp(&kept, parsed, sizeof kept) == 0 && statuses[1] == 0, 1); \
+        CHECK(num_format_parse_strict_##name##_large_column(&de, large, 4, bytes, size, parsed, statuses, 3), 0); \
+        CHECK(num_format_print_##name##_column(&de, numbers, 3, offsets, 3, bytes, size), NUM_FORMAT_BAD_LENGTH); \
+        CHECK_NULLABLE(name, strict_nullable_##name, type, numbers, "7100"); \
+        CHECK(num_format_print_##name##_column(&de, numbers, 3, offsets, 4, bytes, size - 1), NUM_FORMAT_TOO_SMALL); \
+        CHECK(num_format_parse_##name##_column(&de, offsets, 4, bytes, size - 1, parsed, statuses, 3), NUM_FORMAT_BAD_OFFSETS); \
+    } while (0)
+
+/* A number of 128 bits in a column. */
+#define WIDE(low, high) {low, high}
+
+static void check_columns(void) {
+    num_format de;
+    CHECK(num_format_locale(&de, "de", 2), 0);
+    CHECK_COLUMNS(i8, int8_t, 7, INT8_MIN, 100, "-128");
+    CHECK_COLUMNS(i16, int16_t, 7, INT16_MIN, 100, "-32.768");
+    CHECK_COLUMNS(i32, int32_t, 7, INT32_MIN, 100, "-2.147.483.648");
+    CHECK_COLUMNS(i64, int64_t, 7, INT64_MIN, 100, "-9.223.372.036.854.775.808");
+    CHECK_COLUMNS(u8, uint8_t, 7, UINT8_MAX, 100, "255");
+    CHECK_COLUMNS(u16, uint16_t, 7, UINT16_MAX, 100, "65.535");
+    CHECK_COLUMNS(u32, uint32_t, 7, UINT32_MAX, 100, "4.294.967.295");
+    CHECK_COLUMNS(u64, uint64_t, 7, UINT64_MAX, 100, "18.446.744.073.709.551.615");
+    CHECK_COLUMNS(i128, num_format_wide, WIDE(7, 0), WIDE(0, (uint64_t)1 << 63), WIDE(100, 0),
+                  "-170.141.183.460.469.231.731.687.303.715.884.105.728");
+    CHECK_COLUMNS(u128, num_format_wide, WIDE(7, 0), WIDE(0, 1), WIDE(100, 0), "18.446.744.073.709.551.616");
+}
+
+/* Columns of decimals at scale 2: 7.05, -0.50, 1234.00. */
+static void check_decimal_columns(void) {
+    static const num_format_wide units[] = {{705, 0}, {(uint64_t)-50, UINT64_MAX}, {123400, 0}};
+    static const char texts[] = "7,05-0,501.234,00", others[] = "7,051,234,5";
+    static const int32_t other_offsets[] = {0, 1, 3, 5, 11};
+    static const uint8_t first_and_last = 5;
+    const size_t size = sizeof texts - 1;
+    num_format de;
+    num_format_wide parsed[4];
+    int32_t offsets[4], statuses[4];
+    int64_t large[4];
+    char bytes[sizeof texts];
+    size_t length = 0;
+    CHECK(num_format_locale(&de, "de", 2), 0);
+    CHECK(num_format_print_decimal_column_len(&de, units, 3, 2, &length), 0);
+    CHECK(length, (long long)size);
+    CHECK(num_format_print_decimal_column(&de, units, 3, 2, offsets, 4, bytes, size), 0);
+    check_bytes("decimals", bytes, texts);
+    CHECK(offsets[0] == 0 && offsets[1] == 4 && offsets[2] == 9 && offsets[3] == 17, 1);
+    CHECK(num_format_print_decimal_large_column(&de, units, 3, 2, large, 4, bytes, size), 0);
+    CHECK(large[0] == 0 && large[1] == 4 && large[2] == 9 && large[3] == 17, 1);
+    memset(parsed, 0x55, sizeof parsed);
+    CHECK(num_format_parse_decimal_column(&de, offsets, 4, bytes, size, parsed, statuses, 3, 2), 0);
+    CHECK(memcmp(parsed, units, sizeof units) == 0 && statuses[0] == 0 && statuses[1] == 0 && statuses[2] == 0, 1);
+    CHECK(num_format_parse_decimal_large_column(&de, large, 4, bytes, size, parsed, statuses, 3, 3), 0);
+    CHECK(parsed[0].low == 7050 && parsed[1].low == (uint64_t)-500 && parsed[2].low == 1234000, 1);
+    /* "7", ",0", "51" and ",234,5" at scale 0, and at a scale that the last does not have. */
+    memset(parsed, 0x55, sizeof parsed);
+    CHECK(num_format_parse_decimal_column(&de, other_offsets, 5, others, sizeof others - 1, parsed, statuses, 4, 0), 0);
+    CHECK(statuses[0] == 0 && statuses[1] == NUM_FORMAT_MISSPELLED && statuses[2] == 0 && statuses[3] == NUM_FORMAT_UNEXPECTED, 1);
+    CHECK(parsed[0].low == 7 && parsed[0].high == 0 && parsed[1].low == 0x5555555555555555 && parsed[2].low == 51, 1);
+    CHECK(num_format_parse_decimal_column(&de, offsets, 4, bytes, size, parsed, statuses, 3, 1), 0);
+    CHECK(statuses[0] == NUM_FORMAT_DIGITS_LOST && statuses[1] == 0 && statuses[2] == 0 && parsed[1].low == (uint64_t)-5, 1);
+    CHECK(num_format_parse_decimal_column(&de, offsets, 4, bytes, size, parsed, statuses, 3, 38), 0);
+    CHECK(statuses[0] == NUM_FORMAT_OUT_OF_RANGE && statuses[1] == 0 && statuses[2] == NUM_FORMAT_OUT_OF_RANGE, 1);
+    CHECK(num_format_print_decimal_column(&de, units, 3, 39, offsets, 4, bytes, size), NUM_FORMAT_BAD_SCALE);
+    CHECK(num_format_print_decimal_column_len(&de, units, 3, 39, &length), NUM_FORMAT_BAD_SCALE);
+    CHECK(num_format_parse_decimal_column(&de, offsets, 4, bytes, size, parsed, statuses, 3, 39), NUM_FORMAT_BAD_SCALE);
+    CHECK(num_format_print_decimal_column(&de, units, 3, 2, offsets, 4, bytes, size - 1), NUM_FORMAT_TOO_SMALL);
+    memset(bytes, 'x', sizeof bytes);
+    memset(parsed, 0x55, sizeof parsed);
+    CHECK(num_format_print_nullable_decimal_column_len(&de, units, 3, 2, &first_and_last, 1, &length), 0);
+    CHECK(length, 12);
+    CHECK(num_format_print_nullable_decimal_column(&de, units, 3, 2, &first_and_last, 1, offsets, 4, bytes, 12), 0);
+    check_bytes("decimals and a null", bytes, "7,051.234,00x");
+    CHECK(offsets[1] == 4 && offsets[2] == 4 && offsets[3] == 12, 1);
+    CHECK(num_format_print_nullable_decimal_large_column(&de, units, 3, 2, &first_and_last, 1, large, 4, bytes, 12), 0);
+    CHECK(large[1] == 4 && large[2] == 4 && large[3] == 12, 1);
+    CHECK(num_format_parse_nullable_decimal_column(&de, offsets, 4, bytes, 12, parsed, statuses, 3, 2, &first_and_last, 1), 0);
+    CHECK(parsed[0].low == 705 && parsed[1].low == 0x5555555555555555 && parsed[2].low == 123400 && statuses[1] == 0, 1);
+    CHECK(num_format_parse_nullable_decimal_large_column(&de, large, 4, bytes, 12, parsed, statuses, 3, 2, &first_and_last, 0), NUM_FORMAT_BAD_LENGTH);
+}
+
+static void check_names(void) {
+    char name[NUM_FORMAT_MAX];
+    CHECK(num_format_names(0, name, sizeof name), 2);
+    check_bytes("the first name", name, "af");
+    CHECK(num_format_names(NUM_FORMAT_LOCALES - 1, name, sizeof name), 2);
+    check_bytes("the last name", name, "zu");
+    CHECK(num_format_names(NUM_FORMAT_LOCALES, name, sizeof name), -5);
+    CHECK(num_format_names((size_t)1 << 32, name, sizeof name), -5);
+    CHECK(num_format_names(0, name, 1), -2);
+}
+
+/* Language tags: the name of the locale for each, or none. */
+static void check_lookup(void) {
+    static const struct {
+        const char *tag, *name;
+    } cases[] = {
+        {"de_DE.UTF-8", "de"}, {"en-us", "en"},      {"EN", "en"},         {"zh-hant-TW", "zh-Hant"},
+        {"zh-TW", "zh"},       {"sr_RS@latin", "sr"}, {"C", "en-US-POSIX"}, {"c.UTF-8", "en-US-POSIX"},
+        {"posix", "en-US-POSIX"}, {"de-AT-1901", "de-AT"}, {"ca_es_valencia", "ca-ES-VALENCIA"},
+        {"english", NULL},     {"no", NULL},         {"", NULL},           {".UTF-8", NULL},
+    };
+    for (size_t i = 0; i < sizeof cases / sizeof *cases; i++) {
+        const char *tag = cases[i].tag, *expected = cases[i].name;
+        num_format found, named;
+        char name[NUM_FORMAT_MAX];
+        memset(&found, 'x', sizeof found);
+        memset(name, 'x', sizeof name);
+        named = found;
+        int length = expected ? (int)strlen(expected) : -5;
+        compare(tag, num_format_lookup(&found, tag, strlen(tag)), expected ? 0 : -5);
+        compare(tag, num_format_lookup_name(tag, strlen(tag), name, sizeof name), length);
+        if (expected) {
+            compare(tag, num_format_locale(&named, expected, strlen(expected)), 0);
+            check_bytes(tag, name, expected);
+            compare(tag, num_format_lookup_name(tag, strlen(tag), name, strlen(expected) - 1), -2);
+        }
+        compare(tag, memcmp(&found, &named, sizeof found), 0);
+        compare(tag, name[expected ? strlen(expected) : 0], 'x');
+    }
+    num_format format;
+    char name[2];
+    CHECK(num_format_lookup(&format, "de\xff", 3), -3);
+    CHECK(num_format_lookup_name("de\xff", 3, name, sizeof name), -3);
+}
+
+int main(void) {
+    check_constants();
+    check_layout();
+    check_filled();
+    check_read();
+    check_groupings();
+    check_errors();
+    check_strict();
+    check_ambiguous();
+    check_decimals();
+    check_parsed_decimals();
+    check_ends();
+    check_longest();
+    check_names();
+    check_lookup();
+    check_columns();
+    check_decimal_columns();
+    return status;
+}
