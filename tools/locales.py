@@ -1,12 +1,7 @@
 #!/usr/bin/env python3
-"""Writes the table of locales into the crates, from locales.txt beside this file.
-
-    python3 tools/locales.py rows        rewrites the generated files of crates/num_format_cldr
-    python3 tools/locales.py constants   rewrites those of crates/num_format_locale
-"""
+"""Writes the generated files of crates/num_format_locale, from locales.txt beside this file."""
 import bisect
 import re
-import sys
 import textwrap
 import unicodedata
 from itertools import product
@@ -14,9 +9,7 @@ from pathlib import Path
 from string import ascii_lowercase
 
 HERE = Path(__file__).resolve().parent
-CRATE = HERE.parent / "crates" / "num_format_cldr"
-CONSTANTS = HERE.parent / "crates" / "num_format_locale" / "src" / "locale" / "constants.rt"
-PLACES = HERE.parent / "crates" / "num_format_locale" / "src" / "search" / "pair_list.rt"
+CRATE = HERE.parent / "crates" / "num_format_locale"
 DATA = HERE / "locales.txt"
 WRITTEN = HERE / "locales_written.txt"
 MARK = "Written by tools/locales.py from tools/locales.txt; do not edit."
@@ -135,33 +128,6 @@ def dispatch_source(modules):
     return text("dispatch", piece=PIECE, declarations=declarations, count=len(modules), arms=arms, final=modules[-1])
 
 
-def generated_files():
-    """Each file that this script writes in the crate, with its text."""
-    table = list(rows())
-    pieces = [table[start:start + PIECE] for start in range(0, len(table), PIECE)]
-    modules = [module_name(piece) for piece in pieces]
-    files = {
-        "src/rows.rt": dispatch_source(modules),
-        "src/name_list.rt": text("names", len=len(table), lines=filled((literal(row["name"]) for row in table), " " * 4)),
-    }
-    for number, (module, piece) in enumerate(zip(modules, pieces)):
-        files[f"src/rows/{module}.rt"] = piece_source(number, piece)
-        files[f"proofs/rows/{module}/rows/Answers.antt"] = text("answers", module=module)
-    return files
-
-
-def write_rows():
-    files = generated_files()
-    old = [*CRATE.glob("src/rows/*.rt"), *CRATE.glob("proofs/rows/*/rows/Answers.antt")]
-    for path in old:
-        if path.relative_to(CRATE).as_posix() not in files:
-            path.unlink()
-    for name, text in files.items():
-        path = CRATE / name
-        path.parent.mkdir(parents=True, exist_ok=True)
-        path.write_text(text, encoding="utf-8")
-
-
 def constant_name(name):
     """The name with underscores for hyphens; `as` is a keyword."""
     return "as_" if name == "as" else name.replace("-", "_")
@@ -185,16 +151,34 @@ def places_source(names):
     return text("places", len=len(places), lines=lines)
 
 
-def write_constants():
-    names = [row["name"] for row in rows()]
-    for path, source in [(CONSTANTS, constants_source), (PLACES, places_source)]:
+def generated_files():
+    """Each file that this script writes in the crate, with its text."""
+    table = list(rows())
+    names = [row["name"] for row in table]
+    pieces = [table[start:start + PIECE] for start in range(0, len(table), PIECE)]
+    modules = [module_name(piece) for piece in pieces]
+    files = {
+        "src/cldr/rows.rt": dispatch_source(modules),
+        "src/cldr/name_list.rt": text("names", len=len(names), lines=filled(map(literal, names), " " * 4)),
+        "src/locale/constants.rt": constants_source(names),
+        "src/search/pair_list.rt": places_source(names),
+    }
+    for number, (module, piece) in enumerate(zip(modules, pieces)):
+        files[f"src/cldr/rows/{module}.rt"] = piece_source(number, piece)
+        files[f"proofs/cldr/rows/{module}/rows/Answers.antt"] = text("answers", module=module)
+    return files
+
+
+def main():
+    files = generated_files()
+    for path in [*CRATE.glob("src/cldr/rows/*.rt"), *CRATE.glob("proofs/cldr/rows/*/rows/Answers.antt")]:
+        if path.relative_to(CRATE).as_posix() not in files:
+            path.unlink()
+    for name, text in files.items():
+        path = CRATE / name
         path.parent.mkdir(parents=True, exist_ok=True)
-        path.write_text(source(names), encoding="utf-8")
+        path.write_text(text, encoding="utf-8")
 
-
-COMMANDS = {"rows": write_rows, "constants": write_constants}
 
 if __name__ == "__main__":
-    if len(sys.argv) != 2 or sys.argv[1] not in COMMANDS:
-        sys.exit(__doc__.strip())
-    COMMANDS[sys.argv[1]]()
+    main()

@@ -7,8 +7,8 @@ use Rattle.std.specs.Str.{chars}
 use Rattle.std.proofs.lemmas.Bool.{or_parts}
 use Rattle.std.proofs.lemmas.List.Elements.{All-weaker}
 use Rattle.std.proofs.lemmas.List.Folds.{list_any_at, list_any_none}
-use Rattle.num_format_cldr.specs.Characters.{HasOnly, minus_sign_characters, separator_characters}
-use Rattle.num_format_cldr.specs.Entry.{Entry, IsWellFormed}
+use Rattle.num_format_locale.specs.Characters.{HasOnly, minus_sign_characters, separator_characters}
+use Rattle.num_format_locale.specs.Entry.{Entry, IsWellFormed}
 use Rattle.num_format_parsing.specs.Reading.{is_other_numeral}
 use Rattle.num_format_parsing.proofs.ReadingLemmas.{ucd_category}
 use Rattle.num_format_certificates.specs.RoundTrips.{HasNoNumeral}

@@ -1,3 +1,7 @@
+pub mod Shown
+pub mod Places
+pub mod Facts
+pub mod Rising
 pub mod LookupLemmas
 pub mod NameLemmas
 pub mod PairLemmas

@@ -4,12 +4,13 @@
 ghost use Rattle.std.specs.Prelude.{◌≡◌, ℕ, ◌<◌, ◌≤◌, ◌↔◌, IfNone, IfSome, IsTrue};
 ghost use Rattle.std.specs.Ordering.{nat_cmp};
 ghost use Rattle.std.specs.Cmp.Lexicographic.{slice_cmp};
-ghost use Rattle.num_format_cldr.specs.declared.TheConstants.{LEN};
+ghost use Rattle.num_format_locale.specs.declared.cldr.TheConstants.{LEN};
 ghost use Rattle.num_format_locale.specs.Lookup.{IsSameIgnoringCase};
 ghost use Rattle.num_format_locale.specs.Names.{Spells, name_of};
 ghost use Rattle.num_format_locale.specs.Pairs.{ListsPairs};
 ghost use Rattle.num_format_locale.specs.Search.{Finds, Halves, IsBetween, IsLast, IsMixed, RulesOut, hyphen_for_underscore, hyphened};
 
+use crate::cldr;
 use arrayvec::ArrayVec;
 use std::cmp::Ordering;
 
@@ -35,7 +36,7 @@ pub(crate) fn find_hyphened(text: &[u8]) -> Option<usize>
     ensures within { IfSome result (λ place. place < LEN) }
     ensures missing { IfNone result ((place : ℕ) → place < LEN → ¬ (hyphened text.now ≡ name_of place)) }
 {
-    let names = num_format_cldr::names();
+    let names = cldr::names();
     let (mut low, mut high) = narrowed(text);
     // The first name with these letters is mostly a language alone, which is looked up most.
     let mut middle = low;
@@ -100,7 +101,7 @@ fn halve(text: &[u8]) -> (Option<usize>, ArrayVec<usize, 10>)
     ensures missing { IfNone result.0 ((k : ℕ) × IsBetween text.now result.1.items k) }
     ensures halved { Halves text.now result.1.items 0 LEN }
 {
-    let names = num_format_cldr::names();
+    let names = cldr::names();
     let mut places = ArrayVec::new();
     let mut low = 0;
     let mut high = names.len();

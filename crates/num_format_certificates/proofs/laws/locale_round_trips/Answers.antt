@@ -1,7 +1,7 @@
 use Rattle.std.proofs.Common.{subst, IsUtf8}
 use Rattle.std.proofs.lemmas.Str.{IsUtf8-nil}
-use Rattle.num_format_cldr.specs.Table.{entry}
-use Rattle.num_format_cldr.proofs.Facts.{entry_is_well_formed}
+use Rattle.num_format_locale.specs.Table.{entry}
+use Rattle.num_format_locale.proofs.Facts.{entry_is_well_formed}
 use Rattle.num_format_locale.specs.Data.{locale_data}
 use Rattle.num_format_certificates.specs.RoundTrips.{HasNoNumeral}
 use Rattle.num_format_certificates.proofs.LocaleCharacterLemmas.{minus_sign_plain, separator_plain}

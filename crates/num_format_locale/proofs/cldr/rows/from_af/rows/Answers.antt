@@ -1,0 +1,11 @@
+-- Written by tools/locales.py from tools/locales.txt; do not edit.
+use Rattle.std.proofs.Common.{refl}
+use lib.Utf8.{encode}
+use Rattle.num_format_locale.specs.Families.{families}
+use Rattle.num_format_locale.specs.Table.{members, piece}
+use Rattle.num_format_locale.proofs.Shown.{ShowsAll-from_equal}
+use Rattle.num_format_locale.proofs.cldr.rows.from_af.rows.Goals as goal
+
+pub returns : goal.returns
+unfolding encode families members piece
+returns c = ShowsAll-from_equal _ _ refl
