@@ -22,12 +22,13 @@ from tally import ROOT
 TOP = "../.."
 STYLE = ROOT / "tools" / "api_page.css"
 HEAD = """<!DOCTYPE html><html lang="en"><meta charset="utf-8"><meta name="viewport" content="width=device-width">
-<title>num_format: public calls</title><link rel="stylesheet" href="style.css"><nav><b>Public calls</b>{nav}</nav>
+<title>num_format for Rattle: public calls</title><link rel="stylesheet" href="style.css"><nav><b>Public calls in Rattle</b>{nav}</nav>
 <main><p>Below a call is its contract, which is proved. See the <a href="../../README.md">README</a>.{main}</main>"""
 CRATES = ["num_format", "num_format_decimal"]
 # The files in the order in which a reader needs them; others follow.
 ORDER = """lib buffer to_formatted_str to_formatted_string formatted write_formatted decimal parsing strict locale
-custom_format custom_format_builder format grouping strings certificates json error error_kind printing""".split()
+custom_format custom_format_builder format grouping strings certificates json error error_kind printing parser rounding
+arithmetic comparing length marks""".split()
 
 Item = namedtuple("Item", "file kind name trait docs lines inner")
 ITEM = r"((?:^{0}///.*\n)*)(?:^{0}#.*\n)*^({0}(?:{1}) (?s:.+?)(?:;|(?=\s*\{{)))(?:\s*\{{(?:\n((?:.*\n)*?){0})?\}})?$"

@@ -6,15 +6,16 @@
 
 Each block of the language `rust` has to stand in a file of test_readme, of a crate
 `uses_NAME`, of num_format_vectors or of test_printing, line after line, and each of `c` and `python` in a file of
-examples/. docs/CALLERS.md has to have a text block that is the stdout of test_readme. The exit status is 1 where one
-differs.
+examples/; or its lines stand in this order in the README of a package, whose test runs it. docs/CALLERS.md has to have a
+text block that is the stdout of test_readme. The exit status is 1 where one differs.
 
 Each command in a block of `sh` that runs `regroup` or `regroup-lines`, in README.md and in those of examples/ and
 packages/, has to end with status 0, and to print what is shown: after `prints` in its comment, or in the block of
 `text` after it, or in NAME.expected where it reads NAME.tsv. `rt run --` and `rt try --` run the program that is built. So does
-`tools/install PREFIX`. Each other command that README.md, docs/CALLERS.md or the README of a package shows in a block of
-`sh` is one of ELSEWHERE: a test that runs it. Each link to a file has an end. Where a README of packages/ shows other
-code or what it prints, the test of that package has to name README.md.
+`tools/install PREFIX`. A block of `sh` in docs/GUIDE.md is one script, and runs in a folder that has examples/. Each other
+command that README.md, docs/CALLERS.md or the README of a package shows in a block of `sh` is one of ELSEWHERE: a test
+that runs it. Each link to a file has an end. Where a README of packages/ shows other code or what it prints, the test of
+that package has to name README.md.
 """
 import os
 import re
@@ -27,6 +28,7 @@ from tally import ROOT, Tally, heading, run
 
 EXAMPLES = ROOT / "crates" / "test_readme"
 CALLERS = ROOT / "docs" / "CALLERS.md"
+GUIDE = ROOT / "docs" / "GUIDE.md"
 CRATES = [
     EXAMPLES,
     *sorted((ROOT / "crates").glob("uses_*")),
@@ -42,7 +44,11 @@ FILES = {
     "rust": [path for crate in CRATES for path in sorted((crate / "src").glob("*.rt"))],
     "c": sorted((ROOT / "examples").glob("*.c")),
     "python": sorted((ROOT / "examples").glob("*.py")),
+    "sql": [],
 }
+
+# The packages whose README may have the lines of a block of each language.
+PACKAGES = {"rust": "rust", "c": "c", "python": "python", "sql": "sqlite"}
 
 
 def blocks(path, language):
@@ -56,6 +62,12 @@ def is_part(block, source):
     lines, wanted = source.splitlines(), block.splitlines()
     parts = (lines[start : start + len(wanted)] for start in range(len(lines)))
     return any(dedent("\n".join(part)) == "\n".join(wanted) for part in parts)
+
+
+def is_excerpt(block, source):
+    """Whether the lines of the block stand in the source, in this order."""
+    lines = map(str.strip, source.splitlines())
+    return all(wanted.strip() in lines for wanted in block.splitlines())
 
 
 # How other commands begin, with the test that runs them.
@@ -149,18 +161,39 @@ def check_commands(tally, top):
     check_install(tally, top)
 
 
+def check_guide(tally, top):
+    """Runs each block of commands of docs/GUIDE.md over the programs that were built in that copy of the repository."""
+    heading("the commands in docs/GUIDE.md")
+    programs = {"regroup": "regroup", "regroup-lines": "regroup_filter"}
+    with tempfile.TemporaryDirectory() as folder:
+        for name, crate in programs.items():
+            os.symlink(Path(top, "crates", crate, "out", crate).resolve(), Path(folder, name))
+        os.symlink(ROOT / "examples", Path(folder, "examples"))
+        environment = {**os.environ, "PATH": f"{folder}:{os.environ['PATH']}", "LC_ALL": "C"}
+        how = {"cwd": folder, "env": environment, "capture_output": True, "text": True}
+        for block, text in COMMANDS.findall(GUIDE.read_text(encoding="utf-8")):
+            name = block.splitlines()[0]
+            if "parallel" in block and tally.lacks("parallel", name):
+                continue
+            ended = run(["bash", "-c", f"set -euo pipefail\n{block}"], **how)
+            tally.compare(name, (ended.returncode, ended.stdout, ended.stderr), (0, text, ""))
+
+
 def main():
     if "--run" in sys.argv:
         tally = Tally()
-        check_commands(tally, Path(sys.argv[2]) if len(sys.argv) > 2 else ROOT)
+        top = Path(sys.argv[2]) if len(sys.argv) > 2 else ROOT
+        check_commands(tally, top)
+        check_guide(tally, top)
         tally.end()
     readme = ROOT / "README.md"
     different = []
     for language, files in FILES.items():
         sources = [path.read_text(encoding="utf-8") for path in files]
+        package = (ROOT / "packages" / PACKAGES[language] / "README.md").read_text(encoding="utf-8")
         for path in [readme, *sorted((ROOT / "docs").glob("*.md"))]:
             for block in blocks(path, language):
-                if not any(is_part(block, source) for source in sources):
+                if not any(is_part(block, source) for source in sources) and not is_excerpt(block, package):
                     different.append(f"{path.relative_to(ROOT)}: no file has:\n{block}")
     if (EXAMPLES / "stdout").read_text(encoding="utf-8") not in blocks(CALLERS, "text"):
         different.append("docs/CALLERS.md: no block has the stdout of test_readme")

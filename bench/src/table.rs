@@ -90,12 +90,12 @@ const COMPARISONS: [Comparison; 27] = [
 /// The name of the original in the tables.
 pub const ORIGINAL: &str = "num-format";
 
-/// What is compared with the port and is not of it.
-const OTHERS: [&str; 4] = [
-    ORIGINAL,
-    "`itoa`, plain digits",
-    "std's `parse`, plain digits",
-    "`rust_decimal`",
+/// The comparisons of the table in the README of the repository.
+const SUMMARY: [(&str, &str); 4] = [
+    ("used Buffer", ORIGINAL),
+    ("read strictly", ORIGINAL),
+    (PRINT_DECIMALS, "`rust_decimal`"),
+    (READ_DECIMALS, "`rust_decimal`"),
 ];
 
 /// The rows that are by digits, in order.
@@ -290,11 +290,11 @@ impl Table {
         ]
     }
 
-    /// The median and the highest ratio of each comparison with what is not of the port.
+    /// The median and the highest ratio of four comparisons.
     fn summary_table(&self) -> String {
         let mut table = String::from("|Time of|Over that of|Median|Highest|\n|---|---|---|---|\n");
         for (operation, over, ratio) in COMPARISONS {
-            if !OTHERS.contains(&over) {
+            if !SUMMARY.contains(&(operation, over)) {
                 continue;
             }
             if let Some(found) = self.summary(|cell| cell.operation == operation, ratio) {
