@@ -65,11 +65,11 @@ def lack():
     return None
 
 
-def make(build, target, library, *settings):
+def make(build, target, library, *settings, **how):
     """Runs make in the folder `build`, and returns its status and what it printed."""
     words = ["make", "-s", "-f", HERE / "Makefile", target, f"PG_CONFIG={PG_CONFIG}", f"LIBRARY={library}"]
     build.mkdir(exist_ok=True)
-    return run([*words, *settings], cwd=build)
+    return run([*words, *settings], cwd=build, **how)
 
 
 class Server:

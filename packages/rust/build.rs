@@ -14,6 +14,7 @@ const IN_REPOSITORY: &str = "../../crates/num_format_c/out/libnum_format_c.a";
 fn main() {
     println!("cargo:rerun-if-changed=build.rs");
     println!("cargo:rerun-if-env-changed={VARIABLE}");
+    println!("cargo:rerun-if-env-changed=PKG_CONFIG");
     println!("cargo:rerun-if-env-changed=PKG_CONFIG_PATH");
     if let Err(error) = link() {
         eprintln!("error: {error}");
@@ -23,6 +24,10 @@ fn main() {
 
 /// Has the library linked under a name of its own, from a copy of its file.
 fn link() -> Result<(), String> {
+    let target = env::var("TARGET").map_err(|error| error.to_string())?;
+    if !(target.starts_with("x86_64") && target.contains("linux")) {
+        return Err(format!("the library is not for the target {target}"));
+    }
     let library = library()?;
     println!("cargo:rerun-if-changed={}", library.display());
     let folder = PathBuf::from(env::var_os("OUT_DIR").ok_or("cargo sets no OUT_DIR")?);
@@ -56,9 +61,14 @@ fn library() -> Result<PathBuf, String> {
         })
 }
 
-/// Returns where pkg-config says that the static library is, if it knows one.
+/// Returns where pkg-config says that the static library is, if it knows one. What is installed here is for no other
+/// target, unless a program is named.
 fn installed() -> Option<PathBuf> {
-    let output = Command::new("pkg-config")
+    let named = env::var_os("PKG_CONFIG");
+    if named.is_none() && env::var_os("HOST") != env::var_os("TARGET") {
+        return None;
+    }
+    let output = Command::new(named.unwrap_or_else(|| "pkg-config".into()))
         .args(["--variable=libdir", "num_format"])
         .output()
         .ok()

@@ -5,6 +5,7 @@
  *     SELECT num_format('1234.50', 'de');               1.234,50
  *     SELECT num_parse('1.234.567', 'de');              1234567
  *     SELECT num_parse_decimal('1.234,50', 'de');       1234.50
+ *     SELECT num_try_parse('1.5', 'de');                NULL
  *     SELECT num_locale('de_DE.UTF-8');                 de
  *
  * The calls of num_format.h print and parse. This file converts values, keeps the format of a constant
@@ -26,6 +27,14 @@ static const num_format plain = {
     .grouping = NUM_FORMAT_POSIX,
 };
 
+/* A function of SQL, and whether it returns NULL for a text that is refused. */
+typedef struct function {
+    const char *name;
+    int arguments;
+    void (*call)(sqlite3_context *, int, sqlite3_value **);
+    int is_try;
+} function;
+
 /* A value of type TEXT, in UTF-8. */
 typedef struct text {
     const char *bytes;
@@ -40,12 +49,12 @@ typedef struct decimal {
 
 /* Makes the result an error: the name of the function that was called, and what printf makes of the rest. */
 static void fail(sqlite3_context *context, const char *message, ...) {
-    const char *function = sqlite3_user_data(context);
+    const function *called = sqlite3_user_data(context);
     va_list arguments;
     va_start(arguments, message);
     char *cause = sqlite3_vmprintf(message, arguments);
     va_end(arguments);
-    char *error = cause ? sqlite3_mprintf("%s: %s", function, cause) : NULL;
+    char *error = cause ? sqlite3_mprintf("%s: %s", called->name, cause) : NULL;
     if (error)
         sqlite3_result_error(context, error, -1);
     else
@@ -71,7 +80,7 @@ static int read_text(sqlite3_context *context, sqlite3_value *value, const char 
     return 1;
 }
 
-/* Finds the format of the locale that argument 1 names, and returns whether there is one. */
+/* Finds the format of the locale for the name or tag in argument 1, and returns whether there is one. */
 static int find_format(sqlite3_context *context, sqlite3_value *value, num_format *format) {
     /* SQLite keeps this with an argument that is constant in the statement, and drops it with any other. */
     const num_format *kept = sqlite3_get_auxdata(context, 1);
@@ -82,12 +91,12 @@ static int find_format(sqlite3_context *context, sqlite3_value *value, num_forma
     text name;
     if (!read_text(context, value, "locale", &name))
         return 0;
-    int32_t status = num_format_locale(format, name.bytes, name.length);
+    int32_t status = num_format_lookup(format, name.bytes, name.length);
     if (status != 0) {
         if (status == NUM_FORMAT_NOT_UTF8)
             fail(context, "the locale is not UTF-8");
         else
-            fail(context, "no locale has the name '%!.64q'", name.bytes);
+            fail(context, "no locale has the name or language tag '%!.64q'", name.bytes);
         return 0;
     }
     num_format *copy = sqlite3_malloc(sizeof *copy);
@@ -118,10 +127,12 @@ static unsigned code_point(const char *bytes) {
     return (byte[0] & 0x07u) << 18 | (byte[1] & 0x3fu) << 12 | (byte[2] & 0x3fu) << 6 | (byte[3] & 0x3fu);
 }
 
-/* Makes the result the error for which a text was refused as a number of so many bits, written as the
- * locale, or SQL, writes it. */
+/* Makes the result the error for which a text was refused as a number of so many bits and a sign, written as the
+ * locale, or SQL, writes it; or leaves it NULL. */
 static void refuse(sqlite3_context *context, text given, const char *locale, int bits, int32_t status, size_t at) {
     const char *cause;
+    if (((const function *)sqlite3_user_data(context))->is_try)
+        return;
     switch (status) {
     case NUM_FORMAT_NOT_UTF8:
         fail(context, "the text is not UTF-8");
@@ -131,7 +142,7 @@ static void refuse(sqlite3_context *context, text given, const char *locale, int
              place_of(given.bytes, at), code_point(given.bytes + at));
         return;
     case NUM_FORMAT_OUT_OF_RANGE:
-        fail(context, "'%!.64q' is out of range: its digits take more than %d bits", given.bytes, bits);
+        fail(context, "'%!.64q' is out of range: it needs more than %d bits", given.bytes, bits);
         return;
     case NUM_FORMAT_TOO_MANY_DECIMALS:
         fail(context, "'%!.64q' is out of range: it has more than 38 decimals", given.bytes);
@@ -152,7 +163,7 @@ static int parse_decimal(sqlite3_context *context, text given, const num_format 
     int32_t status = num_format_parse_decimal(format, given.bytes, given.length, &parsed->low, &parsed->high,
                                               &parsed->scale, &at);
     if (status != 0)
-        refuse(context, given, locale, 128, status, at);
+        refuse(context, given, locale, 127, status, at);
     return status == 0;
 }
 
@@ -183,6 +194,10 @@ static void call_format(sqlite3_context *context, int count, sqlite3_value **val
         fail(context, "a REAL is not exact: pass an INTEGER, or a decimal as TEXT");
         return;
     }
+    if (sqlite3_value_type(values[0]) == SQLITE_BLOB) {
+        fail(context, "the value is of type BLOB, not INTEGER or TEXT");
+        return;
+    }
     text given;
     decimal number;
     if (read_text(context, values[0], "value", &given) && parse_decimal(context, given, &plain, "SQL", &number))
@@ -203,7 +218,7 @@ static void call_parse(sqlite3_context *context, int count, sqlite3_value **valu
     if (status == 0)
         sqlite3_result_int64(context, number);
     else
-        refuse(context, given, (const char *)sqlite3_value_text(values[1]), 64, status, at);
+        refuse(context, given, (const char *)sqlite3_value_text(values[1]), 63, status, at);
 }
 
 /* num_parse_decimal(text, locale): the number that the text spells exactly, as a TEXT that SQL can read. */
@@ -234,22 +249,30 @@ static void call_locale(sqlite3_context *context, int count, sqlite3_value **val
         sqlite3_result_text(context, name, length, SQLITE_TRANSIENT);
 }
 
-static const struct {
-    const char *name;
-    int arguments;
-    void (*call)(sqlite3_context *, int, sqlite3_value **);
-} functions[] = {
-    {"num_format", 2, call_format},
-    {"num_parse", 2, call_parse},
-    {"num_parse_decimal", 2, call_parse_decimal},
-    {"num_locale", 1, call_locale},
+/* num_format_version(): the version of the library, as 0.1.0. */
+static void call_version(sqlite3_context *context, int count, sqlite3_value **values) {
+    (void)count, (void)values;
+    uint32_t version = num_format_version();
+    char shown[40];
+    sqlite3_snprintf(sizeof shown, shown, "%u.%u.%u", version / 10000, version / 100 % 100, version % 100);
+    sqlite3_result_text(context, shown, -1, SQLITE_TRANSIENT);
+}
+
+static const function functions[] = {
+    {"num_format", 2, call_format, 0},
+    {"num_parse", 2, call_parse, 0},
+    {"num_parse_decimal", 2, call_parse_decimal, 0},
+    {"num_try_parse", 2, call_parse, 1},
+    {"num_try_parse_decimal", 2, call_parse_decimal, 1},
+    {"num_locale", 1, call_locale, 0},
+    {"num_format_version", 0, call_version, 0},
 };
 
 /* Adds or removes a function. */
 static int register_function(sqlite3 *database, size_t i, void (*call)(sqlite3_context *, int, sqlite3_value **)) {
     const int flags = SQLITE_UTF8 | SQLITE_DETERMINISTIC | SQLITE_INNOCUOUS;
-    void *name = (void *)functions[i].name;
-    return sqlite3_create_function(database, functions[i].name, functions[i].arguments, flags, name, call, NULL, NULL);
+    const function *added = &functions[i];
+    return sqlite3_create_function(database, added->name, added->arguments, flags, (void *)added, call, NULL, NULL);
 }
 
 /* Where SQLite begins: it makes this name of the letters of the file's name. */

@@ -1,6 +1,8 @@
 use core::cmp::Ordering;
 use core::fmt;
 use core::hash::{Hash, Hasher};
+use core::ops::{Add, Sub};
+use core::str::FromStr;
 
 use crate::ffi::{self, RawFormat, Refusal, Text, MAX_DECIMAL_LEN};
 use crate::format::Format;
@@ -14,7 +16,8 @@ pub const MAX_SCALE: u8 = 38;
 /// [`MAX_SCALE`]. num-format has no such type.
 ///
 /// The scale is a part of a decimal: 1.50 is printed with two decimals, and 1.5 with one. They compare as
-/// equal, since the order, `==` and `Hash` go by the value.
+/// equal, since the order, `==` and `Hash` go by the value. `Display` writes a plain text as `-1234.50`, by a width, a fill
+/// and `+` as std's integers have them, `FromStr` parses it, and serde has it as a string.
 ///
 /// ```
 /// use num_format::parsing::ParseDecimal;
@@ -25,6 +28,8 @@ pub const MAX_SCALE: u8 = 38;
 /// assert_eq!(price, Decimal::new(12345, 1)?);
 /// # #[cfg(feature = "std")]
 /// assert_eq!(price.formatted(&Locale::en).to_string(), "1,234.50");
+/// let sum = price + "0.005".parse().unwrap();
+/// assert_eq!((sum.units(), sum.scale()), (1234505, 3));
 /// # Ok::<(), num_format::DecimalError>(())
 /// ```
 #[derive(Clone, Copy, Debug)]
@@ -79,21 +84,27 @@ impl Decimal {
     ///
     /// # Errors
     ///
-    /// The first of the causes of [`ParseDecimalError`] that holds, but that a text which spells a decimal has
-    /// no error but the last.
+    /// The first of the causes of [`ParseDecimalError`] that holds. A text that spells a decimal is refused by the first and
+    /// the last alone.
     pub fn from_strict_str<F: Format>(s: &str, format: &F) -> Result<Decimal, ParseDecimalError> {
         let (units, scale) = ffi::parse_decimal(s, &RawFormat::with_decimal_mark(format))?;
         Ok(Decimal { units, scale })
     }
 
+    /// Returns the units at a scale that is no smaller.
+    fn units_at(&self, scale: u8) -> Option<i128> {
+        self.units
+            .checked_mul(10_i128.pow(u32::from(scale - self.scale)))
+    }
+
     /// Returns the text of the number.
     pub(crate) fn text<F: Format>(&self, format: &F) -> Text<MAX_DECIMAL_LEN> {
+        self.raw_text(&RawFormat::with_decimal_mark(format))
+    }
+
+    fn raw_text(&self, format: &RawFormat) -> Text<MAX_DECIMAL_LEN> {
         let mut text = Text::new();
-        text.print_decimal(
-            self.units,
-            self.scale,
-            &RawFormat::with_decimal_mark(format),
-        );
+        text.print_decimal(self.units, self.scale, format);
         text
     }
 
@@ -110,6 +121,49 @@ impl Decimal {
 }
 
 impl Sealed for Decimal {}
+
+macro_rules! impl_operators {
+    ($($operator:ident $method:ident $checked:ident $result:literal),*) => {$(
+        impl Decimal {
+            #[doc = concat!("Returns the ", $result, " at the larger of both scales, or `None` if the units of a number or")]
+            /// of the result are no `i128` there.
+            pub fn $checked(self, other: Decimal) -> Option<Decimal> {
+                let scale = self.scale.max(other.scale);
+                let units = self.units_at(scale)?.$checked(other.units_at(scale)?)?;
+                Some(Decimal { units, scale })
+            }
+        }
+
+        impl $operator for Decimal {
+            type Output = Decimal;
+
+            /// Panics where the checked method returns `None`.
+            fn $method(self, other: Decimal) -> Decimal {
+                self.$checked(other).expect(concat!("the ", $result, " is too large"))
+            }
+        }
+    )*};
+}
+
+impl_operators!(Add add checked_add "sum", Sub sub checked_sub "difference");
+
+impl fmt::Display for Decimal {
+    fn fmt(&self, f: &mut fmt::Formatter<'_>) -> fmt::Result {
+        let text = self.raw_text(&RawFormat::PLAIN);
+        let text = text.as_str();
+        f.pad_integral(self.units >= 0, "", text.strip_prefix('-').unwrap_or(text))
+    }
+}
+
+impl FromStr for Decimal {
+    type Err = ParseDecimalError;
+
+    /// Parses a text that is exactly as `Display` writes a decimal.
+    fn from_str(s: &str) -> Result<Decimal, ParseDecimalError> {
+        let (units, scale) = ffi::parse_decimal(s, &RawFormat::PLAIN)?;
+        Ok(Decimal { units, scale })
+    }
+}
 
 impl PartialEq for Decimal {
     fn eq(&self, other: &Decimal) -> bool {
@@ -186,6 +240,7 @@ impl<S: AsRef<str>> ParseDecimal for S {
 
 /// Why a text was refused as a decimal.
 #[derive(Clone, Copy, Debug, PartialEq, Eq, Hash)]
+#[non_exhaustive]
 pub enum ParseDecimalError {
     /// A text can be misread under the format, whatever this one is. [`reads_back`](crate::reads_back) is false, or
     /// the decimal mark is empty, has a numeric character, or is a separator that is printed.
@@ -241,3 +296,25 @@ impl fmt::Display for ParseDecimalError {
 
 #[cfg(feature = "std")]
 impl std::error::Error for ParseDecimalError {}
+
+#[cfg(feature = "with-serde")]
+mod serialization {
+    use serde::de::{self, Deserialize, Deserializer};
+    use serde::ser::{Serialize, Serializer};
+
+    use super::{Decimal, MAX_DECIMAL_LEN};
+    use crate::strings::Inline;
+
+    impl Serialize for Decimal {
+        fn serialize<S: Serializer>(&self, serializer: S) -> Result<S::Ok, S::Error> {
+            serializer.collect_str(self)
+        }
+    }
+
+    impl<'de> Deserialize<'de> for Decimal {
+        fn deserialize<D: Deserializer<'de>>(deserializer: D) -> Result<Decimal, D::Error> {
+            let text = Inline::<MAX_DECIMAL_LEN>::deserialize(deserializer)?;
+            text.parse().map_err(de::Error::custom)
+        }
+    }
+}

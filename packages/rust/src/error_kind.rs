@@ -21,7 +21,8 @@ pub enum ErrorKind {
     },
     /// None of the others. The message says why.
     Other(Kept),
-    /// The text is the name of no locale.
+    /// The text is the name of no locale. [`Locale::lookup`](crate::Locale::lookup) finds one for a language tag, such as
+    /// `de_DE.UTF-8` or `EN`.
     ParseLocale(Kept),
     /// The text is no number of the type that was asked for.
     ParseNumber(Kept),

@@ -181,6 +181,17 @@ extern "C" {
 }
 
 impl RawFormat {
+    /// The format of plain texts, such as `-1234.50`.
+    pub(crate) const PLAIN: RawFormat = RawFormat {
+        separator: [0; 8],
+        minus_sign: *b"-\0\0\0\0\0\0\0",
+        decimal_mark: *b".\0\0\0\0\0\0\0",
+        separator_length: 0,
+        minus_sign_length: 1,
+        decimal_mark_length: 1,
+        grouping: 3,
+    };
+
     /// Returns what whole numbers need of a format. Its decimal mark is not asked for.
     #[inline]
     pub(crate) fn of<F: Format>(format: &F) -> RawFormat {

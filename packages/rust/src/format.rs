@@ -76,7 +76,7 @@ pub trait Format {
 /// Returns whether every number, printed under the format, parses as the same number again, as any type that
 /// has it.
 ///
-/// That is so for each locale, and not for an empty minus sign, or for a separator or a minus sign that has
+/// That is so for each locale. It is not so where the minus sign is empty, or where it or a separator that is printed has
 /// digits of its own. num-format has no such function.
 ///
 /// ```

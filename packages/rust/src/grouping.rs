@@ -1,6 +1,7 @@
 /// Where separators are put between the digits of a number.
 ///
-/// With the feature `with-more-groupings` there are also `Myriad` and `Sparse`, which num-format does not have.
+/// With the feature `with-more-groupings` there are also `Myriad` and `Sparse`, which num-format does not have. A `match`
+/// needs an arm for them where any crate in the build asks for that feature.
 #[derive(Clone, Copy, Debug, PartialEq, Eq, Hash)]
 #[cfg_attr(feature = "with-serde", derive(serde::Serialize, serde::Deserialize))]
 pub enum Grouping {

@@ -52,6 +52,7 @@ pub use self::format::{prints_alike, reads_back, Format};
 pub use self::formatted::Formatted;
 pub use self::grouping::Grouping;
 pub use self::locale::Locale;
+pub use self::parsing::{ParseDecimal, ParseDecimalError, StrictError};
 pub use self::to_formatted_str::ToFormattedStr;
 #[cfg(feature = "std")]
 pub use self::to_formatted_string::ToFormattedString;

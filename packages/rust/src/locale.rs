@@ -56,8 +56,8 @@ impl Locale {
     ///
     /// # Errors
     ///
-    /// Of kind [`ParseLocale`](crate::ErrorKind::ParseLocale) for any other text. Letters have to be of the
-    /// right case.
+    /// Of kind [`ParseLocale`](crate::ErrorKind::ParseLocale) for any other text. Letters have to be of the right case, and
+    /// `de_DE` is no name: [`lookup`](Locale::lookup) finds the locale for a language tag.
     ///
     /// ```
     /// use num_format::Locale;
@@ -85,9 +85,9 @@ impl Locale {
     /// Returns the locale for a language tag, as an environment or a browser gives one. num-format has no such
     /// function.
     ///
-    /// It is that of the longest name with which the tag begins, at the end of the tag or before a hyphen. What follows
-    /// the first `.` or `@` does not count, nor does the case of ASCII letters, and an underscore counts as a hyphen.
-    /// `C` and `POSIX` are the locale en-US-POSIX.
+    /// What follows the first `.` or `@` does not count, nor does the case of ASCII letters, and an underscore counts as a
+    /// hyphen. From what is left, subtags are taken away at the end until it is a name: `de-DE` becomes `de`. `C` and
+    /// `POSIX` are the locale en-US-POSIX.
     ///
     /// ```
     /// use num_format::Locale;

@@ -124,7 +124,7 @@ define_text!(
 
 /// A text of at most `N` bytes, in place. It is compared, hashed and shown as its `str`.
 #[derive(Clone)]
-struct Inline<const N: usize>(Text<N>);
+pub(crate) struct Inline<const N: usize>(Text<N>);
 
 impl<const N: usize> Inline<N> {
     fn new(s: &str) -> Result<Self, Error> {

@@ -9,7 +9,8 @@ use std::process::ChildStdin;
 use crate::format::Format;
 use crate::to_formatted_string::ToFormattedString;
 
-/// A writer of std, to which numbers can be printed: each that implements `io::Write` or `fmt::Write`.
+/// A writer to which numbers can be printed: those of std for which num-format has it, such as files, sockets, standard
+/// output, `Vec<u8>`, `String` and buffered writers. [`formatted`](crate::ToFormattedStr::formatted) serves each other one.
 ///
 /// ```
 /// use num_format::{Locale, WriteFormatted};

@@ -3,8 +3,10 @@
 use std::cmp::Ordering;
 use std::collections::HashSet;
 
-use num_format::parsing::{ParseDecimal, ParseDecimalError};
-use num_format::{CustomFormat, Decimal, DecimalError, Grouping, Locale, MAX_SCALE};
+use num_format::{
+    CustomFormat, Decimal, DecimalError, Grouping, Locale, ParseDecimal, ParseDecimalError,
+    MAX_SCALE,
+};
 
 fn decimal(units: i128, scale: u8) -> Decimal {
     Decimal::new(units, scale).unwrap()
@@ -173,4 +175,45 @@ fn comparing_goes_by_the_value() {
     ]);
     assert_eq!(set.len(), 2);
     assert_eq!(Decimal::from(3u64), decimal(3_000, 3));
+}
+
+#[test]
+fn plain_texts() {
+    for (units, scale, text) in [
+        (123_450, 2, "1234.50"),
+        (-5, 2, "-0.05"),
+        (0, 0, "0"),
+        (i128::MIN, 38, "-1.70141183460469231731687303715884105728"),
+    ] {
+        assert_eq!(decimal(units, scale).to_string(), text);
+        let parsed: Decimal = text.parse().unwrap();
+        assert_eq!((parsed.units(), parsed.scale()), (units, scale));
+    }
+    let price = decimal(-123_450, 2);
+    assert_eq!(
+        format!("[{price:10}|{price:<10}|{price:010}|{:+}]", decimal(5, 1)),
+        "[  -1234.50|-1234.50  |-001234.50|+0.5]"
+    );
+    assert_eq!(
+        "1,234.50".parse::<Decimal>(),
+        Err(ParseDecimalError::Unexpected { at: 1 })
+    );
+    assert_eq!("01".parse::<Decimal>(), Err(ParseDecimalError::Misspelled));
+}
+
+#[test]
+fn sums_and_differences() {
+    let parts = |d: Decimal| (d.units(), d.scale());
+    assert_eq!(parts(decimal(150, 2) + decimal(2, 0)), (350, 2));
+    assert_eq!(parts(decimal(2, 0) - decimal(2_005, 3)), (-5, 3));
+    assert_eq!(parts(decimal(i128::MAX, 0) - decimal(i128::MAX, 0)), (0, 0));
+    for (a, b) in [
+        (decimal(i128::MAX, 1), decimal(1, 1)),
+        (decimal(i128::MAX, 0), decimal(1, 1)),
+        (decimal(1, 0), decimal(i128::MAX, 38)),
+    ] {
+        assert_eq!((a.checked_add(b), b.checked_add(a)), (None, None));
+    }
+    assert_eq!(decimal(i128::MIN, 1).checked_sub(decimal(1, 1)), None);
+    assert!(std::panic::catch_unwind(|| decimal(i128::MAX, 0) + decimal(1, 0)).is_err());
 }

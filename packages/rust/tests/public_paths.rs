@@ -169,6 +169,20 @@ fn numbers() {
     has!(String: ParseFormatted);
 }
 
+/// What num-format's trait needs is enough for a type of a user's own.
+struct Cell(&'static str);
+
+impl ParseFormatted for Cell {
+    fn parse_formatted<F: Format, N: FromFormattedStr>(&self, format: &F) -> Result<N, Error> {
+        self.0.trim().parse_formatted(format)
+    }
+}
+
+#[test]
+fn a_text_of_ones_own() {
+    assert_eq!(Cell(" 1,000 ").parse_formatted(&Locale::en), Ok(1000));
+}
+
 #[test]
 fn writers() {
     macro_rules! check {
