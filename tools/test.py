@@ -73,7 +73,8 @@ def start_unproved(jobs):
     for crate in [path for path in crates if has_tests(path)]:
         jobs.script(f"tests of {crate.name}", "trials.py", crate.name)
     jobs.script("the examples of the doc comments", "doc_examples.py")
-    for name in others:
+    # Fewer cases are longer ones.
+    for name in reversed(others):
         jobs.script(f"cases of {name}", "cases.py", "--try", name)
     start_documents(jobs)
 
