@@ -50,16 +50,12 @@
 pub mod json;
 pub mod laws;
 
-pub use num_format_certificates::certificates;
 pub use num_format_certificates::certificates::{prints_alike, reads_back};
 pub use num_format_custom::custom_format::CustomFormat;
 pub use num_format_custom::custom_format_builder::CustomFormatBuilder;
-pub use num_format_custom::{custom_format, custom_format_builder};
 pub use num_format_int::buffer::Buffer;
 pub use num_format_int::to_formatted_str::ToFormattedStr;
 pub use num_format_locale::locale::Locale;
-pub use num_format_parsing::parsing;
-pub use num_format_text::error;
 pub use num_format_text::error::Error;
 pub use num_format_text::error_kind::{ErrorKind, MAX_MESSAGE_LEN};
 pub use num_format_text::format::Format;
@@ -67,7 +63,23 @@ pub use num_format_text::grouping::Grouping;
 pub use num_format_writers::formatted::{Formatted, text_len, text_width};
 pub use num_format_writers::to_formatted_string::ToFormattedString;
 pub use num_format_writers::write_formatted::WriteFormatted;
-pub use num_format_writers::{formatted, to_formatted_string, write_formatted};
+
+/// How an error keeps a text.
+pub mod error {
+    pub use num_format_text::error::{Error, cut};
+}
+
+/// Parsing: the traits, a parser that is kept, and the errors.
+pub mod parsing {
+    pub use num_format_parsing::parsing::{
+        FromFormattedStr, ParseBytesError, ParseFormatted, StrictError, StrictParser,
+    };
+}
+
+/// Writing into a string or a writer.
+pub mod to_formatted_string {
+    pub use num_format_writers::to_formatted_string::{ToFormattedString, write_whole};
+}
 
 /// The texts of a format, one type for each. A text has at most its capacity in bytes.
 pub mod utils {
