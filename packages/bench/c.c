@@ -85,7 +85,7 @@ static const struct {
     void (*parse)(void);
 } rows[] = {
     {"`num_format_print_i64`", "`num_format_parse_strict_i64`", print_one_by_one, parse_one_by_one},
-    {"`num_format_print_i64_column`", "`num_format_parse_strict_i64_column`", print_column, parse_column},
+    {"`num_format_print_i64_large_column`", "`num_format_parse_strict_i64_large_column`", print_column, parse_column},
     {"`snprintf` with `%'ld`", "`sscanf` with `%'ld`", print_by_printf, parse_by_scanf},
 };
 #define ROWS (sizeof rows / sizeof *rows)

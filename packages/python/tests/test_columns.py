@@ -1,6 +1,8 @@
 """Columns: NumPy arrays to texts, and back."""
+import itertools
 import pickle
 from collections import defaultdict
+from decimal import Decimal
 
 import cases
 import pytest
@@ -235,11 +237,14 @@ def test_refused_rows():
     expected += [0, Cause.UNEXPECTED, Cause.OUT_OF_RANGE, Cause.UNEXPECTED]
     values, causes = columns.try_parse_column(texts, "en")
     assert causes.tolist() == expected
-    assert values.tolist() == [1234, 0, 0, 0, 999, 0, 0, 0]
+    assert values.tolist() == [1234, None, None, None, 999, None, None, None]
+    assert values.data.tolist() == [1234, 0, 0, 0, 999, 0, 0, 0]
     with pytest.raises(ParseError) as caught:
         columns.parse_column(texts, "en")
     error = caught.value
     assert (error.text, error.cause, error.at, error.row) == ("1,23", Cause.MISSPELLED, None, 1)
+    with pytest.raises(ParseError, match="row 0: '-1' is refused: the number is below the type's least value or above"):
+        columns.parse_column(["-1"], "en", np.uint8)
     with pytest.raises(ParseError) as caught:
         columns.parse_column(["1", "\u22121", "-1\u00e9"], "sv")
     error = caught.value
@@ -262,7 +267,7 @@ def test_numbers_outside_a_dtype(dtype):
     for lenient, cause in [(False, Cause.OUT_OF_RANGE), (True, Cause.NOT_A_NUMBER)]:
         values, causes = columns.try_parse_column([f"{number:,}" for number in numbers], "en", dtype, lenient=lenient)
         assert causes.tolist() == [cause if is_outside else 0 for is_outside in outside]
-        assert values.tolist() == [0 if is_outside else number for number, is_outside in zip(numbers, outside)]
+        assert values.tolist() == [None if is_outside else number for number, is_outside in zip(numbers, outside)]
         assert values.dtype == dtype
 
 
@@ -284,7 +289,7 @@ def test_recorded_strict_results(recorded):
             columns.try_parse_column([text for text, _ in lines], form, dtype, lenient=True)
             continue
         values, causes = columns.try_parse_column([text for text, _ in lines], form, dtype)
-        for (text, result), value, cause in zip(lines, values.tolist(), causes.tolist()):
+        for (text, result), value, cause in zip(lines, values.data.tolist(), causes.tolist()):
             name = "ok" if cause == 0 else Cause(cause).name.title().replace("_", "")
             found = f"ok {value}" if cause == 0 else f"err {name}"
             assert found == result.split(" { at")[0], (text, words, type_name)
@@ -314,7 +319,7 @@ def test_wrong_offsets():
             columns.StringColumn(np.zeros(1, dtype=dtype), b"")
 
 
-@pytest.mark.parametrize("dtype", [bool, np.float32, np.float64, complex, object, "U5", "S5", "M8[s]", "m8[s]", "V8"])
+@pytest.mark.parametrize("dtype", [bool, np.float32, np.float64, complex, "U5", "S5", "M8[s]", "m8[s]", "V8"])
 def test_wrong_dtypes(dtype):
     with pytest.raises(TypeError):
         columns.format_column(np.zeros(3, dtype=dtype), "en")
@@ -344,8 +349,49 @@ def test_wrong_arguments():
 
 def test_lists_of_numbers():
     assert columns.format_column([1000, -5], Format(separator="'")).tolist() == ["1'000", "-5"]
-    with pytest.raises(TypeError):
+    assert columns.format_column([2**64 - 1], "en").tolist() == ["18,446,744,073,709,551,615"]
+    assert columns.format_column([], "en").tolist() == columns.format_column((), "en").tolist() == []
+    ragged = np.array([[1], [2, 3]], dtype=object)
+    for values in [[1.5], np.array([1.0]), ["5"], [True], [Decimal(1)], [None, 1.5], ragged, ragged[:1], [[1]]]:
+        with pytest.raises((TypeError, ValueError)):
+            columns.format_column(values, "en")
+    with pytest.raises(TypeError, match="a float is not exact"):
         columns.format_column([1.5], "en")
+
+
+def test_objects_that_are_null():
+    for null in [None, float("nan"), np.float32("nan"), Decimal("NaN")]:
+        row = [1000, null, 5]
+        for values in [row, np.array(row, dtype=object), np.ma.array(row, dtype=object)]:
+            assert columns.format_column(values, "en").tolist() == ["1,000", None, "5"]
+        for texts in [["1,000", null, "5"], [b"1,000", null, b"5"], np.array(["1,000", null, "5"], dtype=object)]:
+            assert columns.parse_column(texts, "en").tolist() == [1000, None, 5]
+        for both in [columns.format_column([null, null], "en"), columns.parse_column([null, null], "en")]:
+            assert both.tolist() == [None, None]
+
+
+def test_slices_and_equality():
+    texts = ["1", None, "2,345", "", "678", None, "9", "10", None, "11"]
+    for given in [texts, [text or "" for text in texts]]:
+        column = columns.StringColumn.from_strings(given)
+        rows = [None, *range(-11, 12)]
+        for part in itertools.starmap(slice, itertools.product(rows, rows, [None, 2, -1, -3])):
+            assert column[part].tolist() == given[part]
+            assert column[part] == columns.StringColumn.from_strings(given[part])
+        assert column[2:5].data is column.data and column[2:5][1:].tolist() == given[3:5]
+        assert column == column[:] and (column == column[1:]) is False and column != given
+        assert given[2] in column and column.index("678") == 4 and list(reversed(column)) == given[::-1]
+
+
+def test_pandas():
+    pandas = pytest.importorskip("pandas")
+    numbers = pandas.Series([1234567, pandas.NA, 5], dtype="Int64")
+    column = columns.format_column(numbers, "de")
+    assert column.tolist() == ["1.234.567", None, "5"]
+    assert columns.format_column(numbers.dropna(), "de").tolist() == ["1.234.567", "5"]
+    for dtype in [object, "string"]:
+        texts = pandas.Series(["1.234.567", None, "5"], dtype=dtype)
+        assert columns.StringColumn.from_strings(texts) == column
 
 
 def test_more_bytes_than_offsets_of_32_bits_say():

@@ -56,7 +56,7 @@ def test_units_of_128_bits(scale):
     assert whole(columns.parse_decimal_column(column, scale, "en", columns.WIDE)) == units
     narrow, causes = columns.try_parse_decimal_column(column, scale, "en")
     assert causes.tolist() == [0 if -(2**63) <= number < 2**63 else Cause.OUT_OF_RANGE for number in units]
-    assert narrow.tolist() == [number if cause == 0 else 0 for number, cause in zip(units, causes)]
+    assert narrow.tolist() == [number if cause == 0 else None for number, cause in zip(units, causes)]
 
 
 def test_as_single_decimals():
@@ -98,7 +98,7 @@ def test_changed_texts_as_single_decimals():
             texts.append(changed)
         units, causes = columns.try_parse_decimal_column(texts, 2, form, columns.WIDE)
         assert 500 < np.count_nonzero(causes) < 2500
-        found = list(zip(causes.tolist(), whole(units)))
+        found = list(zip(causes.tolist(), whole(units.data)))
         assert found == [parsed_alone(changed, form, 2) for changed in texts]
 
 
@@ -116,7 +116,8 @@ def test_fewer_and_more_decimals():
     units, causes = columns.try_parse_decimal_column(texts, 2, "en", columns.WIDE)
     refused = [Cause.DIGITS_LOST, Cause.MISSPELLED, Cause.UNEXPECTED, Cause.OUT_OF_RANGE, Cause.OUT_OF_RANGE]
     assert causes.tolist() == [0] * 6 + refused
-    assert whole(units) == [150, 700, -25, 123450, 150, 0, 0, 0, 0, 0, 0]
+    assert whole(units.data) == [150, 700, -25, 123450, 150, 0, 0, 0, 0, 0, 0]
+    assert units.mask["low"].tolist() == [False] * 6 + [True] * 5
     with pytest.raises(ParseError) as caught:
         columns.parse_decimal_column(["1", "1.2.3"], 2, "en")
     error = caught.value
@@ -131,7 +132,7 @@ def test_numbers_outside_a_dtype():
         texts = [text(number, 1) for number in numbers]
         units, causes = columns.try_parse_decimal_column(texts, 1, "en", dtype)
         assert causes.tolist() == [0 if has else Cause.OUT_OF_RANGE for has in is_there]
-        assert units.tolist() == [number if has else 0 for number, has in zip(numbers, is_there)]
+        assert units.tolist() == [number if has else None for number, has in zip(numbers, is_there)]
         assert units.dtype == dtype
 
 
@@ -143,6 +144,28 @@ def test_nulls():
         assert np.ma.getdata(again).tolist() == np.where([True, False, True], units, np.zeros(3, units.dtype)).tolist()
         # An array of `WIDE` that was parsed can be printed again, with its mask.
         assert columns.format_decimal_column(again, 2, "de").tolist() == column.tolist()
+
+
+def test_decimals():
+    """They are numbers, and not units: 1.5 at scale 2 is 150 units."""
+    numbers = [*map(Decimal, ["1.5", "-0.25", "7", "1E3", "0", "0.500", "1234567890123456789012345678901.23"])]
+    texts = ["1.50", "-0.25", "7.00", "1,000.00", "0.00", "0.50", "1,234,567,890,123,456,789,012,345,678,901.23"]
+    for given in [numbers, np.array(numbers), np.ma.array(numbers)]:
+        assert columns.format_decimal_column(given, 2, "en").tolist() == texts
+    found = columns.parse_decimal_column(texts, 2, "en", object)
+    assert found.tolist() == numbers and [f"{number:,}" for number in found] == texts
+    nulls = columns.format_decimal_column([Decimal(5), None, Decimal("NaN")], 1, "de")
+    assert nulls.tolist() == ["5,0", None, None]
+    again = columns.parse_decimal_column(nulls, 1, "de", object)
+    assert again.tolist() == [Decimal(5), None, None]
+    assert columns.format_decimal_column(again, 1, "de") == nulls
+    assert columns.try_parse_decimal_column(["1.5", "x"], 1, "en", object).values.tolist() == [Decimal("1.5"), None]
+    for number in ["0.001", "1E37", "1E-39", "Infinity"]:
+        with pytest.raises(ValueError if number == "0.001" else OverflowError):
+            columns.format_decimal_column([Decimal(number)], 2, "en")
+    for values in [[Decimal(1), 2], [1.5], ["1.5"]]:
+        with pytest.raises(TypeError):
+            columns.format_decimal_column(values, 2, "en")
 
 
 def test_texts_of_very_different_lengths():
@@ -174,7 +197,7 @@ def test_wrong_arguments():
     for scale in (1.5, "2", None):
         with pytest.raises(TypeError):
             columns.format_decimal_column([1], scale, "en")
-    for dtype in (float, bool, object, "U5"):
+    for dtype in (float, bool, "U5"):
         with pytest.raises(TypeError):
             columns.format_decimal_column(np.zeros(2, dtype=dtype), 2, "en")
         with pytest.raises(TypeError):

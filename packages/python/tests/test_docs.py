@@ -39,6 +39,12 @@ def test_readme():
     assert failures == 0 and tries > 5
 
 
+def test_pandas():
+    pytest.importorskip("pandas")
+    failures, tries = doctest.testfile(str(README.with_name("pandas.md")), module_relative=False, encoding="utf-8")
+    assert failures == 0 and tries > 5
+
+
 def test_types_are_there():
     package = Path(num_format.__file__).parent
     assert (package / "py.typed").is_file() and (package / "_native.pyi").is_file()

@@ -29,6 +29,7 @@ def test_all_locales_print_and_read_back(rows):
         for number in numbers:
             text = spelling.printed(number, form).decode()
             assert num_format.format(number, name) == text
+            assert num_format.text_width(number, name) == len(text)
             assert num_format.parse(text, name) == number
             assert num_format.parse(text, name, lenient=True) == number
 
@@ -191,7 +192,7 @@ def test_numbers_that_are_too_large(number):
 
 @pytest.mark.parametrize("number", [True, False, 1.0, float("nan"), "1", b"1", None, 1j, fractions.Fraction(1)])
 def test_wrong_types_of_numbers(number):
-    with pytest.raises(TypeError):
+    with pytest.raises(TypeError, match="a bool|an int or a decimal.Decimal, not "):
         num_format.format(number, "en")
 
 
@@ -203,7 +204,7 @@ def test_wrong_types_of_texts(text):
         num_format.parse(text, "en", lenient=True)
 
 
-@pytest.mark.parametrize("form", [None, 1, b"en", ("en",), Format])
+@pytest.mark.parametrize("form", [None, 1, b"en", ("en",), ["en"], Format])
 def test_wrong_types_of_formats(form):
     with pytest.raises(TypeError):
         num_format.format(1, form)

@@ -10,6 +10,8 @@ from pathlib import Path
 
 import pytest
 
+import num_format
+
 PACKAGE = Path(__file__).resolve().parents[1]
 
 # Compiles nothing: it runs what finds the library.
@@ -30,6 +32,11 @@ def test_dask():
     pytest.importorskip("distributed")
     status, output, errors = run(PACKAGE / "examples" / "dask_column.py", "200000", "sv")
     assert (status, output.splitlines()[-1:]) == (0, ["200,000 numbers, 200,000 equal"]), errors
+
+
+def test_version():
+    version = (Path(os.environ["NUM_FORMAT_REPOSITORY"]) / "VERSION").read_text().strip()
+    assert num_format.__version__ == importlib.metadata.version("num-format") == version
 
 
 def test_library_by_its_path():

@@ -1,4 +1,5 @@
 """The type hints, as mypy reads them."""
+import doctest
 import subprocess
 import sys
 from pathlib import Path
@@ -24,6 +25,9 @@ decimal: Decimal = num_format.parse_decimal("5", "de")
 column: StringColumn = format_column(np.array([1]), "de")
 column = format_column([1, 2], "de", large=True)
 column = format_decimal_column(np.zeros(2, WIDE), 2, "de")
+column = format_decimal_column([decimal, None], 2, "de")[1:]
+width: int = num_format.text_width(decimal, "de_DE")
+text_or_null: str | None = column[0]
 parse_column(["1", None], "de", np.int8)
 try:
     num_format.parse("x", "de")
@@ -57,6 +61,13 @@ def mypy(folder, *words):
 
 def test_the_package(tmp_path):
     assert mypy(tmp_path, Path(num_format.__file__).parent) == []
+
+
+def test_readme(tmp_path):
+    readme = Path(__file__).resolve().parents[1] / "README.md"
+    program = tmp_path / "readme.py"
+    program.write_text(doctest.script_from_examples(readme.read_text(encoding="utf-8")))
+    assert mypy(tmp_path, program) == []
 
 
 def test_a_program(tmp_path):

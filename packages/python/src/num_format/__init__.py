@@ -10,7 +10,8 @@
 """
 from ._errors import Cause, FormatError, NumFormatError, ParseError
 from ._format import Format, Grouping, locales, lookup
-from ._numbers import format, parse, parse_decimal
+from ._native import lib
+from ._numbers import format, parse, parse_decimal, text_width
 
 __all__ = [
     "Cause",
@@ -24,4 +25,8 @@ __all__ = [
     "lookup",
     "parse",
     "parse_decimal",
+    "text_width",
 ]
+
+_version = lib.num_format_version()
+__version__ = f"{_version // 10_000}.{_version // 100 % 100}.{_version % 100}"

@@ -17,19 +17,22 @@ class Cause(enum.IntEnum):
 
     #: The text is not UTF-8: the ``str`` has a lone surrogate.
     NOT_UTF8 = lib.NUM_FORMAT_NOT_UTF8
-    #: Lenient parsing: there is no digit, a numeric character is none of 0 to 9, or the number is too large.
+    #: Lenient parsing: there is no digit, a numeric character is none of 0 to 9, there are more digits than the longest
+    #: number has, or the number is none of the type.
     NOT_A_NUMBER = lib.NUM_FORMAT_NOT_A_NUMBER
-    #: No locale has the name.
+    #: No locale has the name, and none is found for it as a language tag.
     UNKNOWN_LOCALE = lib.NUM_FORMAT_UNKNOWN_LOCALE
     #: A text of a format has more than 8 bytes in UTF-8.
     TOO_LONG = lib.NUM_FORMAT_TOO_LONG
+    #: There is no such grouping.
+    BAD_GROUPING = lib.NUM_FORMAT_BAD_GROUPING
     #: A character is of no minus sign, digit, separator or decimal mark. The error says where.
     UNEXPECTED = lib.NUM_FORMAT_UNEXPECTED
     #: There is no digit.
     NO_DIGIT = lib.NUM_FORMAT_NO_DIGIT
     #: The text is not as its number is printed, grouped or not: under ``en`` as 01, 1,23, 1234,567 and -0.
     MISSPELLED = lib.NUM_FORMAT_MISSPELLED
-    #: The text is as its number is printed, and the number is too large.
+    #: The text is as its number is printed, and the number is below the least of the type or above its largest.
     OUT_OF_RANGE = lib.NUM_FORMAT_OUT_OF_RANGE
     #: More than 38 digits follow the decimal mark.
     TOO_MANY_DECIMALS = lib.NUM_FORMAT_TOO_MANY_DECIMALS
@@ -47,13 +50,14 @@ class Cause(enum.IntEnum):
 
 _REASONS = {
     Cause.NOT_UTF8: "it is not UTF-8",
-    Cause.NOT_A_NUMBER: "it has no digit, a numeral other than 0 to 9, or a number that is too large",
-    Cause.UNKNOWN_LOCALE: "no locale has this name",
+    Cause.NOT_A_NUMBER: "it has no digit, a numeral other than 0 to 9, too many digits, or a number out of range",
+    Cause.UNKNOWN_LOCALE: "no locale has this name, and none is found for it as a language tag",
     Cause.TOO_LONG: "it has more than 8 bytes",
+    Cause.BAD_GROUPING: "there is no such grouping",
     Cause.UNEXPECTED: "unexpected character",
     Cause.NO_DIGIT: "it has no digit",
     Cause.MISSPELLED: "it is not as its number is printed",
-    Cause.OUT_OF_RANGE: "the number is too large",
+    Cause.OUT_OF_RANGE: "the number is below the type's least value or above its largest",
     Cause.TOO_MANY_DECIMALS: "it has too many decimals",
     Cause.DIGITS_LOST: "a digit past the scale is not 0",
     Cause.AMBIGUOUS_FORMAT: "a text can be misread under the format",
@@ -104,12 +108,12 @@ class ParseError(NumFormatError):
 
 
 class FormatError(NumFormatError):
-    """A text can be no part of a format, no locale has the name, or nothing is parsed under the format.
+    """A text or a grouping can be no part of a format, no locale is found, or nothing is parsed under the format.
 
     >>> import num_format
     >>> num_format.Format.locale("xx")
     Traceback (most recent call last):
-    num_format.FormatError: locale 'xx' is refused: no locale has this name
+    num_format.FormatError: locale 'xx' is refused: no locale has this name, and none is found for it as a language tag
     >>> num_format.Format(separator="123456789")
     Traceback (most recent call last):
     num_format.FormatError: separator '123456789' is refused: it has more than 8 bytes

@@ -37,6 +37,10 @@ class Grouping(enum.Enum):
     #: Groups of three digits, and no separator in a number of four digits.
     SPARSE = "Sparse"
 
+    @classmethod
+    def _missing_(cls, value: object) -> Grouping | None:
+        return cls.__members__.get(value.upper()) if isinstance(value, str) else None
+
     def __repr__(self) -> str:
         return f"Grouping.{self.name}"
 
@@ -70,13 +74,13 @@ class Format:
 
     Args:
         separator: What is between two groups of digits.
-        grouping: How many digits are in a group: a :class:`Grouping`, or its name as ``"Indian"``.
+        grouping: How many digits are in a group: a :class:`Grouping`, or its name as ``"Indian"``, in any case.
         minus_sign: What is before the digits of a number below 0.
         decimal_mark: What is before the decimals of a :class:`decimal.Decimal`.
 
     Raises:
-        FormatError: A text has more than 8 bytes (`TOO_LONG`) or a lone surrogate (`NOT_UTF8`).
-        ValueError: There is no such grouping.
+        FormatError: A text has more than 8 bytes (`TOO_LONG`) or a lone surrogate (`NOT_UTF8`), or there is no such
+            grouping (`BAD_GROUPING`).
         TypeError: A text is no ``str``.
     """
 
@@ -96,7 +100,10 @@ class Format:
         texts = {"separator": separator, "minus_sign": minus_sign, "decimal_mark": decimal_mark}
         parts = {name: _encoded_part(name, text) for name, text in texts.items()}
         mark, sign, between = parts["decimal_mark"], parts["minus_sign"], parts["separator"]
-        number = _NUMBERS[Grouping(grouping)]
+        try:
+            number = _NUMBERS[Grouping(grouping)]
+        except ValueError:
+            raise FormatError("grouping", str(grouping), Cause.BAD_GROUPING) from None
         struct = ffi.new("num_format *")
         status = lib.num_format_custom_decimal(
             struct, between, len(between), number, sign, len(sign), mark, len(mark)
@@ -111,14 +118,14 @@ class Format:
     def locale(name: str) -> Format:
         """Returns the format of a locale.
 
-        The name is one of :func:`locales`, with hyphens or with an underscore for each.
+        The name is one of :func:`locales`, or a language tag for which :func:`lookup` finds one.
 
         >>> from num_format import Format
-        >>> Format.locale("de_CH")
+        >>> Format.locale("de_CH.UTF-8")
         Format(separator='’', grouping=Grouping.STANDARD, minus_sign='-', decimal_mark='.')
 
         Raises:
-            FormatError: No locale has the name (`UNKNOWN_LOCALE`), or it has a lone surrogate (`NOT_UTF8`).
+            FormatError: No locale is found (`UNKNOWN_LOCALE`), or the name has a lone surrogate (`NOT_UTF8`).
             TypeError: The name is no ``str``.
         """
         return _locale(name)
@@ -146,8 +153,8 @@ class Format:
     def reads_back(self) -> bool:
         """Returns whether every ``int`` that is printed under the format parses as the same number again.
 
-        It is true for each locale, and false, for one, without a minus sign. Where it is false, no text is parsed
-        strictly under the format, which is refused as `AMBIGUOUS_FORMAT`.
+        It is true for each locale. It is false for a format without a minus sign, for example. Where it is false, no
+        text is parsed strictly under the format, which is refused as `AMBIGUOUS_FORMAT`.
 
         >>> from num_format import Format
         >>> Format.locale("sv").reads_back(), Format(minus_sign="").reads_back()
@@ -207,12 +214,12 @@ def _from_parts(separator: str, grouping: Grouping, minus_sign: str, decimal_mar
     )
 
 
-@functools.cache
+@functools.lru_cache(maxsize=1024)
 def _locale(name: str) -> Format:
-    """Returns the format of a locale. There are few names, and what is raised is not kept."""
+    """Returns the format of a locale. A name is the tag for which it is found itself. What is raised is not kept."""
     struct = ffi.new("num_format *")
     text = _encoded_part("locale", name)
-    status = lib.num_format_locale(struct, text, len(text))
+    status = lib.num_format_lookup(struct, text, len(text))
     if status < 0:
         raise FormatError("locale", name, Cause(status))
     found = object.__new__(Format)
@@ -222,8 +229,12 @@ def _locale(name: str) -> Format:
 
 
 def to_format(format: Format | str) -> Format:
-    """Returns the format, or that of the locale of this name."""
-    return format if type(format) is Format else _locale(format)
+    """Returns the format, or that of the locale of this name or tag."""
+    if type(format) is Format:
+        return format
+    if not isinstance(format, str):
+        raise TypeError(f"the format must be a Format or a str, not {type(format).__name__}")
+    return _locale(format)
 
 
 @functools.cache
@@ -246,15 +257,13 @@ def _name(place: int, text: Any) -> str:
 def lookup(tag: str) -> str | None:
     """Returns the name of the locale for a language tag, as an environment or a browser gives one, or None.
 
-    It is the longest name with which the tag begins, at the end of the tag or before a hyphen. What follows the first
-    ``.`` or ``@`` does not count, nor does the case of ASCII letters, and an underscore counts as a hyphen. ``C`` and
-    ``POSIX`` are the locale en-US-POSIX.
+    What follows the first ``.`` or ``@`` does not count, nor does the case of ASCII letters, and an underscore counts
+    as a hyphen. From what is left, subtags are taken away at the end until it is a name: ``de-DE`` becomes ``de``.
+    ``C`` and ``POSIX`` are the locale en-US-POSIX. What takes a name of a locale takes such a tag too.
 
     >>> import num_format
     >>> num_format.lookup("de_DE.UTF-8"), num_format.lookup("zh-hant-TW"), num_format.lookup("english")
     ('de', 'zh-Hant', None)
-    >>> num_format.format(1234567, num_format.lookup("fr-CH") or "en")
-    '1\u202f234\u202f567'
 
     Raises:
         FormatError: The tag has a lone surrogate (`NOT_UTF8`).

@@ -62,12 +62,12 @@ def format(number: SupportsIndex | Decimal, format: Format | str) -> str:
         number: An ``int`` from -2**127 to 2**128 - 1, or what has one as its `__index__`, such as NumPy's
             integers; or a ``Decimal`` of at most 38 decimals, whose digits without the mark are a number from
             -2**127 to 2**127 - 1.
-        format: A :class:`Format`, or the name of a locale.
+        format: A :class:`Format`, or the name of a locale, or a language tag such as ``"de_DE"``.
 
     Raises:
         OverflowError: The number is none of these, or is infinite.
         ValueError: The ``Decimal`` is no number (NaN).
-        FormatError: No locale has the name.
+        FormatError: No locale is found.
         TypeError: The number is of another type. A ``bool`` is refused, and so is a ``float``.
     """
     struct = to_format(format)._struct
@@ -77,26 +77,43 @@ def format(number: SupportsIndex | Decimal, format: Format | str) -> str:
         # NumPy's bool has an `__index__` too.
         if isinstance(number, bool) or getattr(number, "dtype", None) == bool:
             raise TypeError("a bool is not printed as a number")
-        number = operator.index(number)
+        try:
+            number = operator.index(number)
+        except TypeError:
+            found = type(number).__name__
+            raise TypeError(f"the number must be an int or a decimal.Decimal, not {found}") from None
     text = _new_text(_TEXT)
     if _I64_MIN <= number <= _I64_MAX:
         length = lib.num_format_print_i64(struct, number, text, _MAX)
     elif 0 < number <= _U128_MAX:
-        length = lib.num_format_print_u128(struct, *_halves(number), text, _MAX)
+        length = lib.num_format_print_u128(struct, *halves(number), text, _MAX)
     elif _I128_MIN <= number < 0:
-        length = lib.num_format_print_i128(struct, *_halves(number), text, _MAX)
+        length = lib.num_format_print_i128(struct, *halves(number), text, _MAX)
     else:
         raise OverflowError("the number is not in the range from -2**127 to 2**128 - 1")
     return ffi.unpack(text, length).decode()
 
 
-def _halves(number: int) -> tuple[int, int]:
+_format = format
+
+
+def text_width(number: SupportsIndex | Decimal, format: Format | str) -> int:
+    """Returns how many characters the text of a number has, for columns that are aligned. It takes what `format` does.
+
+    >>> import num_format
+    >>> num_format.text_width(-1234567, "fr"), len(num_format.format(-1234567, "fr").encode())
+    (10, 14)
+    """
+    return len(_format(number, format))
+
+
+def halves(number: int) -> tuple[int, int]:
     """Returns the low and the high half of a number of 128 bits, in two's complement."""
     return number & _U64_MASK, number >> 64 & _U64_MASK
 
 
-def _decimal_text(number: Decimal, struct: Any) -> str:
-    """Returns the text of a decimal."""
+def units_of(number: Decimal) -> tuple[int, int]:
+    """Returns the units and the scale of a decimal."""
     if not number.is_finite():
         # Raises what it raises for int() too: a ValueError for NaN, an OverflowError for infinity.
         int(number)
@@ -111,8 +128,14 @@ def _decimal_text(number: Decimal, struct: Any) -> str:
     units = int(whole + decimals)
     if not _I128_MIN <= units <= _I128_MAX:
         raise OverflowError(_TOO_MANY_DIGITS)
+    return units, len(decimals)
+
+
+def _decimal_text(number: Decimal, struct: Any) -> str:
+    """Returns the text of a decimal."""
+    units, scale = units_of(number)
     text = _new_text(_DECIMAL_TEXT)
-    length = lib.num_format_print_decimal(struct, *_halves(units), len(decimals), text, _DECIMAL_MAX)
+    length = lib.num_format_print_decimal(struct, *halves(units), scale, text, _DECIMAL_MAX)
     return ffi.unpack(text, length).decode()
 
 
@@ -136,12 +159,12 @@ def parse(text: str, format: Format | str, *, lenient: bool = False) -> int:
 
     Args:
         text: A number from -2**127 to 2**128 - 1 as digits.
-        format: A :class:`Format`, or the name of a locale.
+        format: A :class:`Format`, or the name or the tag of a locale.
         lenient: Whether each character that is not numeric is ignored.
 
     Raises:
         ParseError: The text is refused. The error has the cause and, for an unexpected character, its index.
-        FormatError: No locale has the name, or the format is ambiguous (`AMBIGUOUS_FORMAT`), but not with `lenient`.
+        FormatError: No locale is found, or the format is ambiguous (`AMBIGUOUS_FORMAT`), but not with `lenient`.
         TypeError: The text is no ``str``.
     """
     struct = to_format(format)._struct
@@ -155,7 +178,7 @@ def parse(text: str, format: Format | str, *, lenient: bool = False) -> int:
     if status in _MAY_BE_WIDER:
         low, high = _new(_U64), _new(_U64)
         if i128(struct, given, len(given), low, high, *at) == 0:
-            return _signed(low[0], high[0])
+            return signed(low[0], high[0])
         status = u128(struct, given, len(given), low, high, *at)
         if status == 0:
             return high[0] << 64 | low[0]
@@ -178,11 +201,11 @@ def parse_decimal(text: str, format: Format | str) -> Decimal:
     Args:
         text: A decimal of at most 38 decimals, whose digits without the mark are a number from -2**127 to
             2**127 - 1.
-        format: A :class:`Format`, or the name of a locale.
+        format: A :class:`Format`, or the name or the tag of a locale.
 
     Raises:
         ParseError: The text is refused. The error has the cause and, for an unexpected character, its index.
-        FormatError: No locale has the name, or the format is ambiguous (`AMBIGUOUS_FORMAT`).
+        FormatError: No locale is found, or the format is ambiguous (`AMBIGUOUS_FORMAT`).
         TypeError: The text is no ``str``.
     """
     struct = to_format(format)._struct
@@ -191,11 +214,16 @@ def parse_decimal(text: str, format: Format | str) -> Decimal:
     status = lib.num_format_parse_decimal(struct, given, len(given), low, high, scale, at)
     if status < 0:
         raise _refusal(text, format, status, at)
+    return decimal_of(signed(low[0], high[0]), scale[0])
+
+
+def decimal_of(units: int, scale: int) -> Decimal:
+    """Returns units divided by 10 to the power of the scale."""
     # A string is converted exactly, which arithmetic in a context is not.
-    return Decimal(f"{_signed(low[0], high[0])}E-{scale[0]}")
+    return Decimal(f"{units}E-{scale}")
 
 
-def _signed(low: int, high: int) -> int:
+def signed(low: int, high: int) -> int:
     """Returns the number of 128 bits with these halves, in two's complement."""
     number = high << 64 | low
     return number if number <= _I128_MAX else number - 2**128

@@ -1,7 +1,7 @@
 """Columns of numbers: NumPy arrays to texts, and back. Needs NumPy.
 
-A column is one call, without a loop in Python and without the GIL, so threads work at once. No other thread may
-write an array meanwhile.
+An array of integers and a :class:`StringColumn` are converted without a loop in Python and without the GIL, so threads
+work at once. No other thread may write an array meanwhile.
 
 >>> import numpy as np
 >>> from num_format.columns import format_column, parse_column
@@ -11,7 +11,7 @@ write an array meanwhile.
 >>> parse_column(texts, "de")
 array([       5, -1234567,     1000])
 
-A row may be null, which is a masked item of an array of numbers, and None among texts:
+A row may be null: a masked item of an array, or None, NaN or ``pandas.NA`` among objects.
 
 >>> texts = format_column(np.ma.array([5, 0, 1000], mask=[False, True, False]), "de")
 >>> texts.tolist(), parse_column(texts, "de")
@@ -21,11 +21,12 @@ A row may be null, which is a masked item of an array of numbers, and None among
 """
 from __future__ import annotations
 
+import decimal
 import itertools
 import operator
-from collections.abc import Callable, Iterable
+from collections.abc import Callable, Iterable, Iterator, Sequence
 from functools import partial
-from typing import Any, NamedTuple
+from typing import Any, NamedTuple, overload
 
 import numpy as np
 import numpy.typing as npt
@@ -33,7 +34,7 @@ import numpy.typing as npt
 from ._errors import Cause, FormatError, ParseError
 from ._format import Format, to_format
 from ._native import ffi, lib
-from ._numbers import parse, parse_decimal
+from ._numbers import decimal_of, parse, parse_decimal, units_of
 
 __all__ = [
     "WIDE",
@@ -60,7 +61,7 @@ WIDE = np.dtype([("low", np.uint64), ("high", np.int64)])
 _MOST_DECIMALS = 38
 
 
-class StringColumn:
+class StringColumn(Sequence["str | None"]):
     """A column of texts in the layout of Apache Arrow: the bytes of all texts, and where each begins.
 
     Text k is ``data[offsets[k]:offsets[k + 1]]`` in UTF-8. Where there are nulls, row k is null if bit ``k % 8`` of
@@ -73,6 +74,11 @@ class StringColumn:
     >>> column = StringColumn(np.array([0, 1, 1, 6], dtype=np.int32), b"12,345", b"\x05")
     >>> len(column), column[0], column[-1], column.tolist()
     (3, '1', '2,345', ['1', None, '2,345'])
+    >>> column[1:] == StringColumn.from_strings([None, "2,345"])
+    True
+
+    A slice with step 1 shares the bytes. Columns are equal if their rows are. Bytes that are not UTF-8 raise a
+    ``UnicodeDecodeError`` where they are made a ``str``.
 
     Args:
         offsets: One more number than there are texts, of 32 or 64 bits. The first may be above 0.
@@ -118,8 +124,8 @@ class StringColumn:
     def from_strings(strings: Iterable[str | bytes | None] | npt.NDArray[Any]) -> StringColumn:
         """Returns a column of these texts: a NumPy array of dtype ``S``, ``U`` or object, or any iterable.
 
-        A masked item of an array is null, and so is None. NumPy's ``S`` and ``U`` do not keep zeros at the end of a
-        text.
+        A masked item of an array is null, and so are None, NaN and ``pandas.NA``. NumPy's ``S`` and ``U`` do not keep
+        zeros at the end of a text.
 
         >>> import numpy as np
         >>> from num_format.columns import StringColumn
@@ -145,21 +151,27 @@ class StringColumn:
         elif isinstance(strings, (str, bytes)):
             raise TypeError("a column is needed, not one text")
         texts = list(strings)
-        if None in texts:
-            valid = np.fromiter(map(operator.is_not, texts, itertools.repeat(None)), dtype=bool, count=len(texts))
-            return _with_nulls(StringColumn.from_strings(itertools.compress(texts, valid)), valid)
         try:
             parts = list(map(str.encode, texts)) if texts and isinstance(texts[0], str) else texts
             data = b"".join(parts)
+            lengths = np.fromiter(map(len, parts), dtype=np.int64, count=len(parts))
         except TypeError:
-            raise TypeError("each text must be a str, or each bytes") from None
-        lengths = np.fromiter(map(len, parts), dtype=np.int64, count=len(parts))
+            valid = _valid(texts)
+            if valid.all():
+                raise TypeError("each text must be a str, or each bytes") from None
+            return _with_nulls(StringColumn.from_strings(itertools.compress(texts, valid)), valid)
         return _unchecked(_to_offsets(lengths), np.frombuffer(data, dtype=np.uint8))
 
     def __len__(self) -> int:
         return len(self.offsets) - 1
 
-    def __getitem__(self, row: int) -> str | None:
+    @overload
+    def __getitem__(self, row: int) -> str | None: ...
+    @overload
+    def __getitem__(self, row: slice) -> StringColumn: ...
+    def __getitem__(self, row: int | slice) -> str | StringColumn | None:
+        if isinstance(row, slice):
+            return self._slice(range(len(self))[row])
         count = len(self)
         if not -count <= row < count:
             raise IndexError(f"row {row} of a column of {count}")
@@ -167,6 +179,21 @@ class StringColumn:
         if self.validity is not None and not self.validity[row // 8] >> row % 8 & 1:
             return None
         return self.row_bytes(row).decode()
+
+    def _slice(self, rows: range) -> StringColumn:
+        if rows.step != 1:
+            texts = self._rows()
+            return StringColumn.from_strings([texts[row] for row in rows])
+        valid = None if self.validity is None else np.packbits(self.valid()[rows.start : rows.stop], bitorder="little")
+        return _unchecked(self.offsets[rows.start : max(rows.start, rows.stop) + 1], self.data, valid)
+
+    def __iter__(self) -> Iterator[str | None]:
+        return iter(self.tolist())
+
+    def __eq__(self, other: object) -> bool:
+        if not isinstance(other, StringColumn):
+            return NotImplemented
+        return self._rows() == other._rows()
 
     def buffers(self) -> tuple[npt.NDArray[Any], ...]:
         """Returns the offsets, the bytes and, where there are nulls, the bits of validity.
@@ -205,15 +232,14 @@ class StringColumn:
         >>> StringColumn.from_strings(["1", "23"]).tolist()
         ['1', '23']
         """
+        return [None if row is None else row.decode() for row in self._rows()]
+
+    def _rows(self) -> list[bytes | None]:
         ends = self.offsets.tolist()
-        slices = map(slice, ends[:-1], ends[1:])
-        rows = map(self.data.tobytes().__getitem__, slices)
+        rows = map(self.data.tobytes().__getitem__, map(slice, ends[:-1], ends[1:]))
         if self.validity is None:
-            return list(map(bytes.decode, rows))
-        # What is null is not decoded.
-        texts = np.full(len(self), None, dtype=object)
-        texts[self.valid()] = list(map(bytes.decode, itertools.compress(rows, self.valid())))
-        return texts.tolist()
+            return list(rows)
+        return [row if is_valid else None for row, is_valid in zip(rows, self.valid().tolist())]
 
     def to_object(self) -> npt.NDArray[np.object_]:
         """Returns the texts as an array of dtype object, whose items are ``str``, and None for a null.
@@ -248,13 +274,15 @@ class StringColumn:
 class ParsedColumn(NamedTuple):
     """What :func:`try_parse_column` returns."""
 
-    #: The numbers. It is 0 at a row that is refused. Where the column has nulls, it is an array that masks them.
-    values: npt.NDArray[Any]
-    #: 0 at a row that is parsed, and else a :class:`num_format.Cause`.
+    #: The numbers, as an array that masks the rows which are refused or null, and has 0 there.
+    values: np.ma.MaskedArray[Any, np.dtype[Any]]
+    #: 0 at a row that is parsed or null, and else a :class:`num_format.Cause`.
     causes: npt.NDArray[np.int32]
 
 
-def format_column(values: npt.ArrayLike, format: Format | str, *, large: bool = False) -> StringColumn:
+def format_column(
+    values: npt.ArrayLike | Sequence[object], format: Format | str, *, large: bool = False
+) -> StringColumn:
     """Returns the texts of a column of numbers under a format.
 
     >>> import numpy as np
@@ -264,24 +292,23 @@ def format_column(values: npt.ArrayLike, format: Format | str, *, large: bool = 
     (array([0, 5, 7], dtype=int32), b'1,234-5')
 
     Args:
-        values: An array of one dimension of any of the eight types of integers, in any byte order and stride. A
-            masked item is null.
-        format: A :class:`num_format.Format`, or the name of a locale.
+        values: An array of one dimension of any of the eight types of integers, in any byte order and stride, or a
+            list. A masked item is null, and so is None, NaN or ``pandas.NA`` in a list or an array of objects.
+        format: A :class:`num_format.Format`, or the name or the tag of a locale.
         large: Whether the offsets are of 64 bits, for texts of 2**31 bytes or more.
 
     Raises:
         OverflowError: The texts have 2**31 bytes or more, and `large` is not set.
         TypeError: The array is of another type, such as ``bool`` or ``float64``.
         ValueError: The array has not one dimension.
-        FormatError: No locale has the name.
+        FormatError: No locale is found.
     """
     struct = to_format(format)._struct
-    given, valid = _unmasked(values, "the numbers")
-    if valid is not None:
-        return _with_nulls(format_column(given[valid], format, large=large), valid)
+    given, valid = _not_null(values, "the numbers")
     dtype, name = _number(given.dtype)
     numbers = np.ascontiguousarray(given, dtype=dtype)
-    return _printed(name, large, struct, ffi.from_buffer(f"{dtype}_t[]", numbers), len(numbers))
+    column = _printed(name, large, struct, ffi.from_buffer(f"{dtype}_t[]", numbers), len(numbers))
+    return column if valid is None else _with_nulls(column, valid)
 
 
 def parse_column(
@@ -308,22 +335,18 @@ def parse_column(
 
     Args:
         column: A :class:`StringColumn`, or what its `from_strings` takes, which raises what that raises.
-        format: A :class:`num_format.Format`, or the name of a locale.
+        format: A :class:`num_format.Format`, or the name or the tag of a locale.
         dtype: Any of the eight types of integers.
         lenient: Whether each character that is not numeric is ignored.
 
     Raises:
         ParseError: A text is refused. The error is that of the first such row.
-        FormatError: No locale has the name, or the format is ambiguous (`AMBIGUOUS_FORMAT`), but not with `lenient`.
+        FormatError: No locale is found, or the format is ambiguous (`AMBIGUOUS_FORMAT`), but not with `lenient`.
         TypeError: The dtype is of no integer.
         ValueError: The offsets of the column were changed, and are not as they have to be.
     """
     texts = _to_column(column)
-    values, causes = try_parse_column(texts, format, dtype, lenient=lenient)
-    if causes.any():
-        row = int(np.flatnonzero(causes)[0])
-        raise _refusal(texts.row_bytes(row), Cause(int(causes[row])), row, partial(parse, format=format))
-    return values
+    return _accepted(try_parse_column(texts, format, dtype, lenient=lenient), texts, partial(parse, format=format))
 
 
 def try_parse_column(
@@ -340,8 +363,8 @@ def try_parse_column(
     >>> from num_format import Cause
     >>> from num_format.columns import try_parse_column
     >>> values, causes = try_parse_column(["1,234", "1,2", "x"], "en")
-    >>> values
-    array([1234,    0,    0])
+    >>> values.tolist()
+    [1234, None, None]
     >>> [Cause(cause) for cause in causes[causes != 0]]
     [Cause.MISSPELLED, Cause.UNEXPECTED]
     """
@@ -355,7 +378,7 @@ def try_parse_column(
 
 
 def format_decimal_column(
-    units: npt.ArrayLike, scale: int, format: Format | str, *, large: bool = False
+    units: npt.ArrayLike | Sequence[object], scale: int, format: Format | str, *, large: bool = False
 ) -> StringColumn:
     """Returns the texts of a column of decimals, each its units divided by 10 to the power of the scale.
 
@@ -363,26 +386,30 @@ def format_decimal_column(
     >>> from num_format.columns import format_decimal_column
     >>> format_decimal_column(np.array([123450, -5]), 2, "de").tolist()
     ['1.234,50', '-0,05']
+    >>> from decimal import Decimal
+    >>> format_decimal_column([Decimal("1234.5"), None], 2, "de").tolist()
+    ['1.234,50', None]
 
     Args:
-        units: An array of one dimension of any of the eight types of integers, or of dtype `WIDE`, which a buffer of
-            Arrow's type decimal128 is as ``numpy.frombuffer(buffer, WIDE)``. A masked item is null.
+        units: What :func:`format_column` takes, or an array of dtype `WIDE`, which a buffer of Arrow's type decimal128
+            is as ``numpy.frombuffer(buffer, WIDE)``. Or ``Decimal`` objects: these are no units, but the numbers.
         scale: How many decimals each has, from 0 to 38.
-        format: A :class:`num_format.Format`, or the name of a locale.
+        format: A :class:`num_format.Format`, or the name or the tag of a locale.
         large: Whether the offsets are of 64 bits, for texts of 2**31 bytes or more.
 
     Raises:
-        OverflowError: The texts have 2**31 bytes or more, and `large` is not set.
+        OverflowError: The texts have 2**31 bytes or more, and `large` is not set. Or the units of a ``Decimal`` are not
+            in the range from -2**127 to 2**127 - 1.
         TypeError: The array is of another type.
-        ValueError: The array has not one dimension, or the scale is another one.
-        FormatError: No locale has the name.
+        ValueError: The array has not one dimension, the scale is another one, or a ``Decimal`` has a digit past the
+            scale that is not 0.
+        FormatError: No locale is found.
     """
     struct, scale = to_format(format)._struct, _to_scale(scale)
-    given, valid = _unmasked(units, "the units")
-    if valid is not None:
-        return _with_nulls(format_decimal_column(given[valid], scale, format, large=large), valid)
-    wide = _to_wide(given)
-    return _printed("decimal", large, struct, ffi.from_buffer("num_format_wide[]", wide), len(wide), scale)
+    given, valid = _not_null(units, "the units")
+    wide = _to_wide(given, scale)
+    column = _printed("decimal", large, struct, ffi.from_buffer("num_format_wide[]", wide), len(wide), scale)
+    return column if valid is None else _with_nulls(column, valid)
 
 
 def parse_decimal_column(
@@ -407,21 +434,18 @@ def parse_decimal_column(
     Args:
         column: What :func:`parse_column` takes.
         scale: How many decimals the units are, from 0 to 38.
-        format: A :class:`num_format.Format`, or the name of a locale.
-        dtype: Any of the eight types of integers, or `WIDE`.
+        format: A :class:`num_format.Format`, or the name or the tag of a locale.
+        dtype: Any of the eight types of integers, or `WIDE`, or ``object`` for ``Decimal`` objects of that scale.
 
     Raises:
         ParseError: A text is refused. The error is that of the first such row.
-        FormatError: No locale has the name, or the format is ambiguous (`AMBIGUOUS_FORMAT`).
+        FormatError: No locale is found, or the format is ambiguous (`AMBIGUOUS_FORMAT`).
         TypeError: The dtype is another one.
         ValueError: The scale is another one.
     """
     texts = _to_column(column)
-    units, causes = try_parse_decimal_column(texts, scale, format, dtype)
-    if causes.any():
-        row = int(np.flatnonzero(causes)[0])
-        raise _refusal(texts.row_bytes(row), Cause(int(causes[row])), row, partial(parse_decimal, format=format))
-    return units
+    found = try_parse_decimal_column(texts, scale, format, dtype)
+    return _accepted(found, texts, partial(parse_decimal, format=format))
 
 
 def try_parse_decimal_column(
@@ -436,15 +460,15 @@ def try_parse_decimal_column(
 
     >>> from num_format.columns import try_parse_decimal_column
     >>> units, causes = try_parse_decimal_column(["1.5", "1.555", "x"], 2, "en")
-    >>> units, causes != 0
-    (array([150,   0,   0]), array([False,  True,  True]))
+    >>> units.tolist(), causes != 0
+    ([150, None, None], array([False,  True,  True]))
     """
     form, scale = to_format(format), _to_scale(scale)
-    native = np.dtype(dtype) if np.dtype(dtype) == WIDE else _number(np.dtype(dtype))[0]
+    native = np.dtype(dtype) if np.dtype(dtype) in (WIDE, object) else _number(np.dtype(dtype))[0]
     texts = _to_column(column)
     units = np.zeros(len(texts), dtype=WIDE)
     causes = _parse_into(ffi.from_buffer("num_format_wide[]", units), "decimal", form, texts, scale)
-    return _parsed(_narrowed(units, causes, native), causes, texts)
+    return _parsed(_narrowed(units, causes, native, scale), causes, texts)
 
 
 def _printed(name: str, large: bool, struct: Any, numbers: Any, count: int, *scale: int) -> StringColumn:
@@ -478,7 +502,8 @@ def _number(dtype: np.dtype[Any]) -> tuple[np.dtype[Any], str]:
     """Returns the dtype of integers in the processor's byte order, and its part of a call's name."""
     native = dtype.newbyteorder("=")
     if native not in _NUMBERS:
-        raise TypeError(f"the dtype must be one of integers of 8 to 64 bits, not {dtype}")
+        inexact = ": a float is not exact" if dtype.kind == "f" else ""
+        raise TypeError(f"the dtype must be one of integers of 8 to 64 bits, not {dtype}{inexact}")
     return native, _NUMBERS[native]
 
 
@@ -497,6 +522,30 @@ def _unmasked(values: npt.ArrayLike, what: str) -> tuple[npt.NDArray[Any], npt.N
     return _one_dimension(values.data, what), ~(mask if mask.dtype == bool else mask["low"])
 
 
+def _not_null(values: Any, what: str) -> tuple[npt.NDArray[Any], npt.NDArray[np.bool_] | None]:
+    """Returns the numbers of a column that are not null, and which rows they are of, or None if no row is null."""
+    objects = np.array(values, dtype=object) if isinstance(values, (list, tuple)) else values
+    given, valid = _unmasked(objects, what)
+    if given.dtype != object:
+        return (given, None) if valid is None else (given[valid], valid)
+    items = given.tolist()
+    filled = _valid(items) if valid is None else _valid(items) & valid
+    numbers = list(itertools.compress(items, filled))
+    array = _one_dimension(np.array(numbers, dtype=None if numbers else np.int64), what)
+    return array, None if filled.all() else filled
+
+
+def _valid(items: list[Any]) -> npt.NDArray[np.bool_]:
+    """Returns which items are not null."""
+    return np.fromiter((not _is_null(item) for item in items), dtype=bool, count=len(items))
+
+
+def _is_null(item: Any) -> bool:
+    """Returns whether an object is None, NaN or pandas.NA."""
+    is_number = isinstance(item, (float, np.floating, decimal.Decimal))
+    return item is None or type(item).__name__ == "NAType" or (is_number and item != item)
+
+
 def _masked(values: npt.NDArray[Any], column: StringColumn) -> npt.NDArray[Any]:
     """Returns an array that masks the rows that are null in the column, if it has bits of validity."""
     return values if column.validity is None else np.ma.array(values, mask=~column.valid())
@@ -511,11 +560,18 @@ def _with_nulls(column: StringColumn, valid: npt.NDArray[np.bool_]) -> StringCol
 
 def _parsed(values: npt.NDArray[Any], causes: npt.NDArray[np.int32], column: StringColumn) -> ParsedColumn:
     """Returns what was parsed of a column, without what its nulls have."""
-    if column.validity is not None:
-        nulls = ~column.valid()
-        values[nulls] = 0
-        causes[nulls] = 0
-    return ParsedColumn(_masked(values, column), causes)
+    nulls = ~column.valid()
+    values[nulls] = 0
+    causes[nulls] = 0
+    return ParsedColumn(np.ma.array(values, mask=nulls | (causes != 0)), causes)
+
+
+def _accepted(found: ParsedColumn, texts: StringColumn, parse: Callable[[str], object]) -> npt.NDArray[Any]:
+    """Returns the numbers of a column, and raises the error of its first row that is refused."""
+    if found.causes.any():
+        row = int(np.flatnonzero(found.causes)[0])
+        raise _refusal(texts.row_bytes(row), Cause(int(found.causes[row])), row, parse)
+    return found.values.data if texts.validity is None else found.values
 
 
 def _to_column(column: StringColumn | Iterable[str | bytes | None] | npt.NDArray[Any]) -> StringColumn:
@@ -528,10 +584,13 @@ def _to_scale(scale: int) -> int:
     return operator.index(scale)
 
 
-def _to_wide(units: npt.NDArray[Any]) -> npt.NDArray[Any]:
+def _to_wide(units: npt.NDArray[Any], scale: int) -> npt.NDArray[Any]:
     """Returns units of 128 bits."""
     if units.dtype == WIDE:
         return np.ascontiguousarray(units)
+    if units.dtype == object:
+        whole = [_units_at(number, scale) for number in units]
+        return np.array([(number & 2**64 - 1, number >> 64) for number in whole], dtype=WIDE)
     numbers = units.astype(_number(units.dtype)[0])
     wide = np.zeros(len(numbers), dtype=WIDE)
     wide["low"] = numbers.astype(np.int64).view(np.uint64) if numbers.dtype.kind == "i" else numbers
@@ -540,10 +599,27 @@ def _to_wide(units: npt.NDArray[Any]) -> npt.NDArray[Any]:
     return wide
 
 
-def _narrowed(wide: npt.NDArray[Any], causes: npt.NDArray[np.int32], dtype: np.dtype[Any]) -> npt.NDArray[Any]:
+def _units_at(number: object, scale: int) -> int:
+    """Returns how many units of a scale a decimal is."""
+    if not isinstance(number, decimal.Decimal):
+        raise TypeError(f"units must be integers, or Decimals, not of type {type(number).__name__}")
+    units, own_scale = units_of(number)
+    units, lost = divmod(units * 10**scale, 10**own_scale)
+    if lost:
+        raise ValueError(f"{number} has a digit past the scale that is not 0")
+    if not -(2**127) <= units < 2**127:
+        raise OverflowError(f"the units of {number} are not in the range from -2**127 to 2**127 - 1")
+    return units
+
+
+def _narrowed(
+    wide: npt.NDArray[Any], causes: npt.NDArray[np.int32], dtype: np.dtype[Any], scale: int
+) -> npt.NDArray[Any]:
     """Returns units of the dtype, and 0 where it has them not, with a cause there."""
     if dtype == WIDE:
         return wide
+    if dtype == object:
+        return np.array([decimal_of((high << 64) + low, scale) for low, high in wide.tolist()], dtype=object)
     limits = np.iinfo(dtype)
     signed = wide["low"].view(np.int64)
     if dtype.kind == "i":
