@@ -4,9 +4,10 @@ use Rattle.std.specs.Prelude.{Result, IsTrue, ◌≤ℤ◌}
 use Rattle.std.specs.Int.{is_negative}
 use Rattle.std.proofs.lemmas.Bool.{both_ways, cases_Bool}
 use Rattle.std.proofs.lemmas.Int.{ints}
+use Rattle.num_format_text.specs.declared.grouping.Grouping.{Grouping}
 use Rattle.num_format_text.specs.Format.{FormatData}
 use Rattle.num_format_int.specs.Kind.{Kind, IsValueOf, IsWithin, signed_number}
-use Rattle.num_format_parsing.specs.Parts.{HasReading, IsJudged}
+use Rattle.num_format_parsing.specs.Parts.{number_in, HasBody, IsJudged}
 use Rattle.num_format_parsing.specs.Shapes.{HasPlainSymbols}
 use Rattle.num_format_parsing.specs.Strict.{SpellsNumber, StopsAt, IsExpected, IsCause, ParsesStrictly}
 use Rattle.num_format_parsing.specs.declared.strict.Reading.{Reading}
@@ -85,12 +86,6 @@ sign-kind k (negsuc n) given value negative =
       | inr none ↦ let above = given none in let least = value.above in absurd (omega (arith, ints, above, least))
     ]
 
--- what is too large by one test is too large by a weaker one
-pub reading-weaker : (strong weak : ℕ → Type 0) (f : FormatData) (t : List ℕ) (negative : Bool) (r : Reading) → ((n : ℕ) → strong n → weak n) → HasReading strong f t negative r → HasReading weak f t negative r
-reading-weaker strong weak f t negative (Number n) of read = read
-reading-weaker strong weak f t negative TooLarge of read = (read.0, of read.0 read.1, read.2)
-reading-weaker strong weak f t negative Unspelled of read = read
-
 pub below_high : (n : ℕ) (high : ℤ) → pos n ≤ℤ high → n ≤ unsigned_abs high
 below_high n (pos m) h = omega (arith, ints)
 below_high n (negsuc m) h = absurd (omega (arith, ints))
@@ -104,3 +99,10 @@ pub past-bound : (bound : ℕ) (k : Kind) (negative : Bool) (n : ℕ) → IsWith
 past-bound bound k false n within past value = omega (arith, below_high n k.high value.below, within.high, past)
 past-bound bound k true zero within past value = omega (arith, within.high, past)
 past-bound bound k true (suc n) within past value = omega (arith, above_low n k.low value.above, within.low, past)
+
+-- what is past the bound is too large
+pub reading-past : (bound : ℕ) (k : Kind) → IsWithin bound k → (g : Grouping) (s t : List ℕ) (r : Reading) → HasBody (λ n. bound ≤ n) g s t r →
+    HasBody (λ n. (b : Bool) → ¬ (IsValueOf k (signed_number b n))) g s t r
+reading-past bound k within g s t (Number n) read = read
+reading-past bound k within g s t TooLarge read = (read.0, λ b. past-bound bound k b (number_in t) within read.1)
+reading-past bound k within g s t Unspelled read = read

@@ -1,20 +1,22 @@
 -- The number that digits write, whole and modulo a bound, and bytes of ASCII.
-use Rattle.std.proofs.Common.{◌≡◌, ℕ, zero, suc, ◌+◌, ◌*◌, ◌^◌, ◌<◌, ◌≤◌, true, false, List, [], ◌∷◌, length, refl, ap, ◌∙◌, sym, arith, get_or, subst, lit<}
-use Rattle.std.specs.Char.{is_ascii}
+use Rattle.std.proofs.Common.{◌≡◌, ℕ, zero, suc, ◌+◌, ◌-◌, ◌*◌, ◌^◌, ◌<◌, ◌≤◌, true, false, List, [], ◌∷◌, length, refl, ap, ◌∙◌, sym, arith, get_or, lit<}
+use Rattle.std.specs.Char.{is_ascii, is_ascii_digit}
 use Rattle.std.specs.Int.Digits.{number_from_digits, number_from_digits_after, AllBelowBase}
 use Rattle.std.specs.List.{list_all, list_any}
 use Rattle.std.specs.Str.{chars, IsAscii}
-use Rattle.std.proofs.Math.Nat.{mod-eq_of_lt, mul_assoc, mul_comm, mul-le-mul_right, pow-le-pow_right, pow-suc}
+use Rattle.std.proofs.Math.Nat.{add-mul, mod-eq_of_lt, mul_assoc, mul_comm, mul-le-mul_right, pow-le-pow_right, pow-suc}
 use Rattle.std.proofs.lemmas.Bool.{and_parts}
 use Rattle.std.proofs.lemmas.Bool.Decides.{nat_tests}
-use Rattle.std.proofs.lemmas.Int.Digits.{number_after_lt, number_lt}
+use Rattle.std.proofs.lemmas.Int.Digits.{number_lt}
 use Rattle.std.proofs.lemmas.List.Elements.{All-head, All-tail}
 use Rattle.std.proofs.lemmas.Str.{chars-IsAscii}
 use Rattle.std.proofs.lemmas.Str.Ascii.{IsAscii-nil, IsAscii-cons}
 use Rattle.num_format_int.proofs.DigitLemmas.{AreDigits}
-use Rattle.num_format_parsing.specs.Parts.{WriteModulo}
+use Rattle.num_format_parsing.specs.Parts.{number_in, HasDigits}
 use Rattle.num_format_parsing.specs.Reading.{is_other_numeral}
-use Rattle.num_format_parsing.proofs.ReadingLemmas.{is_other_numeral-ascii}
+use Rattle.num_format_parsing.specs.Shapes.{byte_figures, BeginsWithDigit}
+use Rattle.num_format_parsing.proofs.FigureLemmas.{figures-below, figures-digit}
+use Rattle.num_format_parsing.proofs.ReadingLemmas.{is_ascii_digit-digit, is_other_numeral-ascii}
 
 ascii-all : (t : List ℕ) → list_all is_ascii t ≡ true → IsAscii t
 ascii-all [] all = IsAscii-nil
@@ -44,35 +46,14 @@ below_base : (ds : List ℕ) → AreDigits ds → AllBelowBase 10 ds
 below_base [] below = tt
 below_base (d ∷ ds) below = (All-head (λ x. x < 10) d ds below, below_base ds (All-tail (λ x. x < 10) d ds below))
 
--- digits after a number are worth at least the number with as many zeros
-after-ge : (n : ℕ) (ds : List ℕ) → n * 10 ^ length ds ≤ number_from_digits_after 10 n ds
-after-ge n [] = omega arith
-after-ge n (d ∷ ds) =
+-- digits after a number, and after nothing
+pub number-after : (n : ℕ) (ds : List ℕ) → number_from_digits_after 10 n ds ≡ n * 10 ^ length ds + number_from_digits 10 ds
+number-after n [] = omega arith
+number-after n (d ∷ ds) =
     let power = 10 ^ length ds in
     let tenfold : n * 10 ^ length (d ∷ ds) ≡ n * 10 * power = ap (λ p. n * p) (pow-suc 10 (length ds) ∙ mul_comm power 10) ∙ sym (mul_assoc n 10 power) in
-    let more : n * 10 * power ≤ (n * 10 + d) * power = mul-le-mul_right power (let e : n * 10 ≤ n * 10 + d = omega arith in e) in
-    omega (arith, tenfold, more, after-ge (n * 10 + d) ds)
-
--- few digits write their number, also modulo the bound
-pub exact-few : (bound safe : ℕ) (ds : List ℕ) (n : ℕ) → AreDigits ds → WriteModulo bound ds n → length ds ≤ safe → 10 ^ safe ≤ bound → n ≡ number_from_digits 10 ds
-exact-few bound safe ds n below write few fits =
-    let most : 10 ^ length ds ≤ 10 ^ safe = pow-le-pow_right (lit< tt) {i = length ds} {j = safe} few in
-    write ∙ mod-eq_of_lt (let e : number_from_digits 10 ds < bound = omega (arith, number_lt 10 ds (below_base ds below), most, fits) in e)
-
--- the number of digits is at least that of the first with zeros after it, and less than that of the next
-pub record BeginsAt (first safe n : ℕ) : Type 0 where
-  pub above : first * 10 ^ safe ≤ n
-  pub below : n < (first + 1) * 10 ^ safe
-
-pub begins-first : (safe first : ℕ) (ds rest : List ℕ) → AreDigits ds → ds ≡ first ∷ rest → length ds ≡ safe + 1 → BeginsAt first safe (number_from_digits 10 ds)
-begins-first safe first ds rest below same long =
-    let right : length rest ≡ safe = omega (arith, long, ap length same) in
-    let value : number_from_digits 10 ds ≡ number_from_digits_after 10 first rest = ap (number_from_digits 10) same ∙ ap (λ n. number_from_digits_after 10 n rest) (let e : 0 * 10 + first ≡ first = omega arith in e) in
-    let digits : AreDigits rest = All-tail (λ x. x < 10) first rest (subst AreDigits same below) in
-    record {
-      above = rw value (subst (λ k. first * 10 ^ k ≤ number_from_digits_after 10 first rest) right (after-ge first rest));
-      below = rw value (subst (λ k. number_from_digits_after 10 first rest < (first + 1) * 10 ^ k) right (number_after_lt 10 first rest (below_base rest digits)));
-    }
+    let first : number_from_digits 10 (d ∷ ds) ≡ d * power + number_from_digits 10 ds = ap (λ k. number_from_digits_after 10 k ds) (let e : 0 * 10 + d ≡ d = omega arith in e) ∙ number-after d ds in
+    omega (arith, number-after (n * 10 + d) ds, first, tenfold, add-mul (n * 10) d power)
 
 -- a text of one byte
 pub one-byte : (s : List ℕ) → length s ≡ 1 → s ≡ get_or s 0 0 ∷ []
@@ -80,16 +61,47 @@ one-byte [] one = absurd (omega arith)
 one-byte (b ∷ []) one = refl
 one-byte (b ∷ c ∷ s) one = absurd (omega arith)
 
--- digits of which the first is not zero write at least the power of ten with as many digits
-pub number-many : (safe first : ℕ) (ds rest : List ℕ) → ds ≡ first ∷ rest → 0 < first → safe < length rest → 10 ^ (safe + 1) ≤ number_from_digits 10 ds
-number-many safe first ds rest same some many =
-    let value : number_from_digits 10 ds ≡ number_from_digits_after 10 first rest = ap (number_from_digits 10) same ∙ ap (λ n. number_from_digits_after 10 n rest) (let e : 0 * 10 + first ≡ first = omega arith in e) in
-    let power : 10 ^ (safe + 1) ≤ 10 ^ length rest = pow-le-pow_right (lit< tt) {i = safe + 1} {j = length rest} (omega arith) in
-    let more : 1 * 10 ^ length rest ≤ first * 10 ^ length rest = mul-le-mul_right (10 ^ length rest) (omega arith) in
-    omega (arith, value, power, more, after-ge first rest)
-
 -- few digits write a number below the bound
-pub number-few : (bound safe : ℕ) (ds : List ℕ) → AreDigits ds → length ds ≤ safe → 10 ^ safe ≤ bound → number_from_digits 10 ds < bound
-number-few bound safe ds below few fits =
-    let most : 10 ^ length ds ≤ 10 ^ safe = pow-le-pow_right (lit< tt) {i = length ds} {j = safe} few in
-    omega (arith, number_lt 10 ds (below_base ds below), most, fits)
+pub number-few : (bound safe : ℕ) (t : List ℕ) → length (byte_figures t) ≤ safe → 10 ^ safe ≤ bound → number_in t < bound
+number-few bound safe t few fits =
+    let most : 10 ^ length (byte_figures t) ≤ 10 ^ safe = pow-le-pow_right (lit< tt) {i = length (byte_figures t)} {j = safe} few in
+    omega (arith, number_lt 10 (byte_figures t) (below_base (byte_figures t) (figures-below t)), most, fits)
+
+-- so it is that number, also modulo the bound
+pub exact-few : (bound safe : ℕ) (t : List ℕ) (count n : ℕ) → HasDigits bound t count n → count ≤ safe → 10 ^ safe ≤ bound → n ≡ number_in t
+exact-few bound safe t count n digits few fits = digits.number ∙ mod-eq_of_lt (number-few bound safe t (omega (arith, digits.figures, few)) fits)
+
+-- the first digit of bytes, and how much it is worth
+pub record HasFirst (t : List ℕ) : Type 0 where
+  pub rest : List ℕ
+  pub figures : byte_figures t ≡ (get_or t 0 0 - 48) ∷ rest
+  pub some : 48 < get_or t 0 0
+  pub number : number_in t ≡ (get_or t 0 0 - 48) * 10 ^ length rest + number_from_digits 10 rest
+  pub small : number_from_digits 10 rest < 10 ^ length rest
+
+pub has-first : (t : List ℕ) → BeginsWithDigit t → HasFirst t
+has-first t begin =
+    let first = get_or t 0 0 in
+    let rest = byte_figures begin.rest in
+    let byte : first ≡ 48 + begin.digit = ap (λ xs. get_or xs 0 0) begin.same in
+    let value : begin.digit ≡ first - 48 = omega (arith, byte) in
+    let digit : is_ascii_digit (48 + begin.digit) ≡ true = is_ascii_digit-digit begin.digit begin.small in
+    let figures : byte_figures t ≡ (first - 48) ∷ rest = ap byte_figures begin.same ∙ figures-digit (48 + begin.digit) begin.rest digit ∙ ap (λ b. (b - 48) ∷ rest) (sym byte) in
+    record {
+      rest = rest;
+      figures = figures;
+      some = omega (arith, byte, begin.some);
+      number =
+          ap (number_from_digits 10) figures
+          ∙ ap (λ n. number_from_digits_after 10 n rest) (let e : 0 * 10 + (first - 48) ≡ first - 48 = omega arith in e)
+          ∙ number-after (first - 48) rest;
+      small = number_lt 10 rest (below_base rest (figures-below begin.rest));
+    }
+
+-- digits of which the first is not zero write at least the power of ten with as many digits
+pub number-many : (safe : ℕ) (t : List ℕ) → (first : HasFirst t) → safe < length first.rest → 10 ^ (safe + 1) ≤ number_in t
+number-many safe t first many =
+    let digit = get_or t 0 0 - 48 in
+    let power : 10 ^ (safe + 1) ≤ 10 ^ length first.rest = pow-le-pow_right (lit< tt) {i = safe + 1} {j = length first.rest} (omega (arith, many)) in
+    let more : 1 * 10 ^ length first.rest ≤ digit * 10 ^ length first.rest = mul-le-mul_right (10 ^ length first.rest) (omega (arith, first.some)) in
+    omega (arith, power, more, first.number)

@@ -1,5 +1,5 @@
 -- The texts that spell a number.
-use Rattle.std.proofs.Common.{◌≡◌, ℕ, zero, suc, ◌+◌, ◌<◌, ◌≤◌, ◌⊎◌, inl, inr, Bool, true, false, List, [], ◌∷◌, ◌++◌, length, refl, ap, ◌∙◌, sym, arith, drop, length-append, lit<, subst, ℤ, pos, negsuc, unsigned_abs, IsUtf8}
+use Rattle.std.proofs.Common.{◌≡◌, ℕ, zero, suc, ◌+◌, ◌%◌, ◌<◌, ◌⊎◌, inl, inr, Bool, true, false, List, [], ◌∷◌, ◌++◌, length, refl, ap, ◌∙◌, sym, arith, take, drop, take-append-drop, length-append, lit<, subst, ℤ, pos, negsuc, unsigned_abs, IsUtf8}
 use Rattle.std.specs.Prelude.{if◌then◌else◌, nat_eq}
 use Rattle.std.specs.Int.{is_negative}
 use Rattle.std.specs.Int.Digits.{number_from_digits}
@@ -13,20 +13,20 @@ use Rattle.std.proofs.lemmas.Str.{IsUtf8-nil, IsUtf8-append, IsUtf8-from_ascii}
 use Rattle.std.proofs.lemmas.Str.Ascii.{IsAscii-nil, IsAscii-cons}
 use Rattle.num_format_text.specs.declared.grouping.Grouping.{Grouping}
 use Rattle.num_format_text.specs.declared.grouping.Grouping.TheVariants.{Posix}
-use Rattle.num_format_text.specs.declared.grouping.Sizes.{Sizes}
 use Rattle.num_format_text.specs.Format.{FormatData}
-use Rattle.num_format_text.specs.Separators.{GroupsBy, HaveShape, separates}
 use Rattle.num_format_int.specs.Digits.{digits}
 use Rattle.num_format_int.specs.Grouped.{separated, grouped, stands, printed_separator}
-use Rattle.num_format_int.specs.Groups.{plain}
+use Rattle.num_format_int.specs.Kind.{Kind, IsValueOf}
 use Rattle.num_format_int.specs.Text.{text_of, body_of}
-use Rattle.num_format_int.proofs.DigitLemmas.{AreDigits, digits-below_ten, digits-small, digits_given, number_from_digits-digits}
-use Rattle.num_format_int.proofs.GroupLemmas.{last_group-by, only-by}
-use Rattle.num_format_int.proofs.GroupedLemmas.{grouped-by, grouped-Posix, grouped-printed, grouped-short, of_either}
+use Rattle.num_format_int.proofs.DigitLemmas.{AreDigits, by_digits, digits-below_ten, digits-more, digits-small, digits_given, number_from_digits-digits}
+use Rattle.num_format_int.proofs.GroupedLemmas.{grouped-none, grouped-Posix, grouped-printed, grouped-short, of_either}
+use Rattle.num_format_parsing.specs.Parts.{number_in, IsBody, HasBody, HasReading}
 use Rattle.num_format_parsing.specs.Reading.{figures, is_negative_text, signed_number}
 use Rattle.num_format_parsing.specs.Strict.{SpellsNumber, with_separators, without_separators, ungrouped, sign_len, unexpected, unread}
-use Rattle.num_format_parsing.specs.Shapes.{byte_figures, BeginsWithDigit, HasPlainSymbols, HasSign, IsInGroups}
-use Rattle.num_format_parsing.proofs.FigureLemmas.{figures-bytes, Writes, writes}
+use Rattle.num_format_parsing.specs.Shapes.{byte_figures, BeginsWithDigit, HasPlainSymbols, HasSign}
+use Rattle.num_format_parsing.specs.declared.strict.Reading.{Reading}
+use Rattle.num_format_parsing.specs.declared.strict.Reading.TheVariants.{Number, TooLarge, Unspelled}
+use Rattle.num_format_parsing.proofs.FigureLemmas.{figures-bytes, writes}
 use Rattle.num_format_parsing.proofs.ReadingLemmas.{digits_among-append, digits_among-separated, is_ascii_digit-digit}
 use Rattle.num_format_parsing.proofs.UnreadLemmas.{begins-given, begins-at_digit, unread-separated}
 
@@ -59,64 +59,51 @@ text-signed f negative n ds some same =
     ap (λ (b : Bool). (if b then f.minus_sign else []) ++ body_of f (unsigned_abs (signed_number negative n))) (signed-sign negative n some)
     ∙ ap (λ ds. (if negative then f.minus_sign else []) ++ grouped f.grouping f.separator ds) (ap digits (signed-abs negative n) ∙ same)
 
--- a text spells the number of its sign and of the digits that stand behind it, with separators or without
-pub spells-body : (f : FormatData) (t : List ℕ) (negative : Bool) (start : ℕ) (ds : List ℕ) → HasSign f t negative start → Writes ds →
-    (drop start t ≡ grouped f.grouping f.separator ds) ⊎ (drop start t ≡ grouped Posix f.separator ds) → SpellsNumber f t (signed_number negative (number_from_digits 10 ds))
-spells-body f t negative start ds sign write either =
-    let front : List ℕ = if negative then f.minus_sign else [] in
-    let split : t ≡ front ++ drop start t = sign-behind f t negative start sign in
-    elim either [
-      | inl same ↦ with_separators (split ∙ ap (λ b. front ++ b) same ∙ sym (text-signed f negative (number_from_digits 10 ds) ds write.some write.same))
-      | inr same ↦ without_separators (split ∙ ap (λ b. front ++ b) same ∙ sym (text-signed (ungrouped f) negative (number_from_digits 10 ds) ds write.some write.same))
-    ]
-
--- digits alone behind a sign spell a number
-pub spells-digits : (f : FormatData) (t : List ℕ) (negative : Bool) (start : ℕ) → HasSign f t negative start → BeginsWithDigit (drop start t) →
-    drop start t ≡ plain (byte_figures (drop start t)) → SpellsNumber f t (signed_number negative (number_from_digits 10 (byte_figures (drop start t))))
-spells-digits f t negative start sign begin digits =
-    spells-body f t negative start (byte_figures (drop start t)) sign (writes (drop start t) begin) (inr (digits ∙ sym (grouped-Posix f.separator (byte_figures (drop start t)))))
-
--- the figures of groups of digits are these digits
-pub figures-groups : (sizes : Sizes) (s body : List ℕ) → HaveShape sizes → byte_figures s ≡ [] → (found : IsInGroups sizes.last sizes.size s body) → byte_figures body ≡ found.ds
-figures-groups sizes s body shape none found =
-    let is_due = separates sizes sizes.least in
-    ap byte_figures (found.text is_due (last_group-by sizes sizes.least (omega arith)) (only-by sizes shape sizes.least).groups)
-    ∙ digits_among-separated is_due s found.ds none found.below
-
--- groups of digits behind a sign spell a number, if they are enough for a separator
-pub spells-groups : (f : FormatData) (t s : List ℕ) (negative : Bool) (start : ℕ) (sizes : Sizes) → HasSign f t negative start → s ≡ printed_separator f.grouping f.separator → BeginsWithDigit (drop start t) →
-    GroupsBy f.grouping sizes → (found : IsInGroups sizes.last sizes.size s (drop start t)) → sizes.least ≤ length found.ds → SpellsNumber f t (signed_number negative (number_from_digits 10 found.ds))
-spells-groups f t s negative start sizes sign separator begin by found many =
-    let ds = found.ds in
-    let is_due = separates sizes (length ds) in
-    let text : drop start t ≡ separated is_due s ds = found.text is_due (last_group-by sizes (length ds) many) (only-by sizes by.shape (length ds)).groups in
-    let none : byte_figures s ≡ [] = ap byte_figures separator ∙ sign.symbols.separator in
-    let figures = figures-groups sizes s (drop start t) by.shape none found in
-    spells-body f t negative start ds sign (rw figures at (writes (drop start t) begin))
-    (inl (text ∙ sym (grouped-by f.grouping sizes by s ds) ∙ ap (λ x. grouped f.grouping x ds) separator ∙ sym (grouped-printed f.grouping f.separator ds)))
-
 -- one zero spells zero
 pub text-zero : (g : FormatData) → text_of g (pos 0) ≡ 48 ∷ []
 text-zero g = ap (grouped g.grouping g.separator) (digits-small 0 (lit< tt)) ∙ grouped-short g.grouping g.separator (0 ∷ []) (omega arith)
 
--- a text that spells z is the digits of z, in the groups of the format or in none, behind the sign of z
-pub record IsTextOf (f : FormatData) (t : List ℕ) (z : ℤ) : Type 0 where
+pub spells-zero : (f : FormatData) (t : List ℕ) (negative : Bool) → t ≡ 48 ∷ [] → SpellsNumber f t (signed_number negative 0)
+spells-zero f t true same = with_separators (same ∙ sym (text-zero f))
+spells-zero f t false same = with_separators (same ∙ sym (text-zero f))
+
+-- the digits of z, in the groups of the format or in none, are digits with a separator that has none
+pub record HasDigitsOf (f : FormatData) (z : ℤ) : Type 0 where
+  pub body : List ℕ
   pub grouping : Grouping
   pub either : (grouping ≡ f.grouping) ⊎ (grouping ≡ Posix)
-  pub text : t ≡ (if is_negative z then f.minus_sign else []) ++ grouped grouping f.separator (digits (unsigned_abs z))
+  pub same : body ≡ grouped grouping f.separator (digits (unsigned_abs z))
+  pub is_due : ℕ → Bool
+  pub separated_same : body ≡ separated is_due (printed_separator f.grouping f.separator) (digits (unsigned_abs z))
+
+-- a text that spells z is these behind the sign of z
+pub record IsTextOf (f : FormatData) (t : List ℕ) (z : ℤ) : Type 0 where
+  pub of : HasDigitsOf f z
+  pub text : t ≡ (if is_negative z then f.minus_sign else []) ++ of.body
 
 pub text-spelled : (f : FormatData) (t : List ℕ) (z : ℤ) → SpellsNumber f t z → IsTextOf f t z
-text-spelled f t z (with_separators same) = record { grouping = f.grouping; either = inl refl; text = same }
-text-spelled f t z (without_separators same) = record { grouping = Posix; either = inr refl; text = same }
-
--- digits in such groups are digits with a separator that has none
-record IsSeparated (body ds : List ℕ) (printed : List ℕ) : Type 0 where
-  is_due : ℕ → Bool
-  same : body ≡ separated is_due printed ds
-
-is-separated : (f : FormatData) (g : Grouping) (ds : List ℕ) → (g ≡ f.grouping) ⊎ (g ≡ Posix) → IsSeparated (grouped g f.separator ds) ds (printed_separator f.grouping f.separator)
-is-separated f g ds (inl same) = record { is_due = stands f.grouping (length ds); same = rw same (grouped-printed f.grouping f.separator ds) }
-is-separated f g ds (inr same) = record { is_due = stands Posix (length ds); same = rw same (grouped-Posix f.separator ds ∙ sym (grouped-Posix (printed_separator f.grouping f.separator) ds)) }
+text-spelled f t z (with_separators same) = record {
+  of = record {
+    body = grouped f.grouping f.separator (digits (unsigned_abs z));
+    grouping = f.grouping;
+    either = inl refl;
+    same = refl;
+    is_due = stands f.grouping (length (digits (unsigned_abs z)));
+    separated_same = grouped-printed f.grouping f.separator (digits (unsigned_abs z));
+  };
+  text = same;
+}
+text-spelled f t z (without_separators same) = record {
+  of = record {
+    body = grouped Posix f.separator (digits (unsigned_abs z));
+    grouping = Posix;
+    either = inr refl;
+    same = refl;
+    is_due = stands Posix (length (digits (unsigned_abs z)));
+    separated_same = grouped-Posix f.separator (digits (unsigned_abs z)) ∙ sym (grouped-Posix (printed_separator f.grouping f.separator) (digits (unsigned_abs z)));
+  };
+  text = same;
+}
 
 -- a number's digits begin with one
 first-digit : (is_due : ℕ → Bool) (s ds : List ℕ) → AreDigits ds → 0 < length ds → (d : ℕ) × (rest : List ℕ) × (d < 10) × (separated is_due s ds ≡ (48 + d) ∷ rest)
@@ -125,15 +112,15 @@ first-digit is_due s (d ∷ ds) below some = (d, (if is_due (length ds) then s e
 
 -- a text that spells a number begins with the minus sign exactly if the number is negative
 sign-told : (f : FormatData) (t : List ℕ) (z : ℤ) → HasPlainSymbols f → IsTextOf f t z → is_negative_text f t ≡ is_negative z
-sign-told f t z symbols of =
+sign-told f t z symbols told =
     let ds = digits (unsigned_abs z) in
-    let body = is-separated f of.grouping ds of.either in
+    let of = told.of in
     elim (cases_Bool (is_negative z)) [
       | inl negative ↦
-          (starts_is Decides-eqb t f.minus_sign (is_negative_text f t) refl).1 (grouped of.grouping f.separator ds) (of.text ∙ ap (λ (b : Bool). (if b then f.minus_sign else []) ++ grouped of.grouping f.separator ds) negative) ∙ sym negative
+          (starts_is Decides-eqb t f.minus_sign (is_negative_text f t) refl).1 of.body (told.text ∙ ap (λ (b : Bool). (if b then f.minus_sign else []) ++ of.body) negative) ∙ sym negative
       | inr positive ↦
-          let first = first-digit body.is_due (printed_separator f.grouping f.separator) ds (digits-below_ten (unsigned_abs z)) (digits_given (unsigned_abs z)) in
-          let same : t ≡ (48 + first.0) ∷ first.1 = of.text ∙ ap (λ (b : Bool). (if b then f.minus_sign else []) ++ grouped of.grouping f.separator ds) positive ∙ body.same ∙ first.3 in
+          let first = first-digit of.is_due (printed_separator f.grouping f.separator) ds (digits-below_ten (unsigned_abs z)) (digits_given (unsigned_abs z)) in
+          let same : t ≡ (48 + first.0) ∷ first.1 = told.text ∙ ap (λ (b : Bool). (if b then f.minus_sign else []) ++ of.body) positive ∙ of.separated_same ∙ first.3 in
           ap (λ x. starts_with nat_eq x f.minus_sign) same ∙ sym (begins-given f.minus_sign ((48 + first.0) ∷ first.1) symbols.sign_some)
           ∙ begins-at_digit f.minus_sign first.1 (48 + first.0) symbols.sign (is_ascii_digit-digit first.0 first.2) ∙ sym positive
     ]
@@ -141,21 +128,52 @@ sign-told f t z symbols of =
 -- and behind it stand the number's digits
 pub record TellsBody (f : FormatData) (t : List ℕ) (negative : Bool) (start : ℕ) (z : ℤ) : Type 0 where
   pub sign : negative ≡ is_negative z
-  pub grouping : Grouping
-  pub either : (grouping ≡ f.grouping) ⊎ (grouping ≡ Posix)
-  pub body : drop start t ≡ grouped grouping f.separator (digits (unsigned_abs z))
+  pub of : HasDigitsOf f z
+  pub body : drop start t ≡ of.body
+  pub figures : byte_figures (drop start t) ≡ digits (unsigned_abs z)
 
 pub body-told : (f : FormatData) (t : List ℕ) (negative : Bool) (start : ℕ) (z : ℤ) → HasSign f t negative start → SpellsNumber f t z → TellsBody f t negative start z
 body-told f t negative start z sign spells =
-    let of = text-spelled f t z spells in
-    let told : negative ≡ is_negative z = sign.tested ∙ sign-told f t z sign.symbols of in
-    let text : t ≡ (if negative then f.minus_sign else []) ++ grouped of.grouping f.separator (digits (unsigned_abs z)) = rw told of.text in
+    let told = text-spelled f t z spells in
+    let same : negative ≡ is_negative z = sign.tested ∙ sign-told f t z sign.symbols told in
+    let text : t ≡ (if negative then f.minus_sign else []) ++ told.of.body = rw same told.text in
+    let body : drop start t ≡ told.of.body = append_cancel_left (if negative then f.minus_sign else []) _ _ (sym (sign-behind f t negative start sign) ∙ text) in
     record {
-      sign = told;
-      grouping = of.grouping;
-      either = of.either;
-      body = append_cancel_left (if negative then f.minus_sign else []) _ _ (sym (sign-behind f t negative start sign) ∙ text);
+      sign = same;
+      of = told.of;
+      body = body;
+      figures =
+          ap byte_figures (body ∙ told.of.separated_same)
+          ∙ digits_among-separated told.of.is_due (printed_separator f.grouping f.separator) (digits (unsigned_abs z)) sign.symbols.separator (digits-below_ten (unsigned_abs z));
     }
+
+-- digits behind a sign spell a number, with the separators of the format or without any
+pub spells-body : (f : FormatData) (t s body : List ℕ) (g : Grouping) (negative : Bool) (start : ℕ) → body ≡ drop start t → HasSign f t negative start → s ≡ printed_separator f.grouping f.separator → g ≡ f.grouping →
+    BeginsWithDigit body → IsBody g s body → SpellsNumber f t (signed_number negative (number_in body))
+spells-body f t s body g negative start behind sign separator grouping begin either =
+    let ds = byte_figures body in
+    let front : List ℕ = if negative then f.minus_sign else [] in
+    let split : t ≡ front ++ body = sign-behind f t negative start sign ∙ ap (λ b. front ++ b) (sym behind) in
+    let write = writes body begin in
+    elim either [
+      | inl same ↦
+          let here : body ≡ grouped f.grouping f.separator ds = same ∙ ap (λ k. grouped k s ds) grouping ∙ ap (λ x. grouped f.grouping x ds) separator ∙ sym (grouped-printed f.grouping f.separator ds) in
+          with_separators (split ∙ ap (λ b. front ++ b) here ∙ sym (text-signed f negative (number_in body) ds write.some write.same))
+      | inr same ↦
+          without_separators (split ∙ ap (λ b. front ++ b) (same ∙ sym (grouped-Posix f.separator ds)) ∙ sym (text-signed (ungrouped f) negative (number_in body) ds write.some write.same))
+    ]
+
+-- and no other bytes there do
+pub body-spelled : (f : FormatData) (t s : List ℕ) (g : Grouping) (negative : Bool) (start : ℕ) (z : ℤ) → HasSign f t negative start → s ≡ printed_separator f.grouping f.separator → g ≡ f.grouping →
+    SpellsNumber f t z → IsBody g s (drop start t)
+body-spelled f t s g negative start z sign separator grouping spells =
+    let told = body-told f t negative start z sign spells in
+    let ds = byte_figures (drop start t) in
+    let here : drop start t ≡ grouped told.of.grouping f.separator ds = told.body ∙ told.of.same ∙ ap (grouped told.of.grouping f.separator) (sym told.figures) in
+    elim told.of.either [
+      | inl same ↦ inl (here ∙ ap (λ k. grouped k f.separator ds) same ∙ grouped-printed f.grouping f.separator ds ∙ ap (λ x. grouped f.grouping x ds) (sym separator) ∙ ap (λ k. grouped k s ds) (sym grouping))
+      | inr none ↦ inr (here ∙ grouped-none told.of.grouping none f.separator ds)
+    ]
 
 -- the sign that a text has
 pub sign-has : (f : FormatData) (t : List ℕ) → HasPlainSymbols f → HasSign f t (is_negative_text f t) (sign_len f t)
@@ -179,19 +197,53 @@ signed_number-unsigned_abs (negsuc n) = refl
 
 -- so a text spells one number at most
 pub spelled-once : (f : FormatData) (t : List ℕ) (y z : ℤ) → HasPlainSymbols f → SpellsNumber f t y → SpellsNumber f t z → y ≡ z
-spelled-once f t y z symbols first second =
-    let sign = sign-has f t symbols in
-    sym (number y first sign) ∙ number z second sign
+spelled-once f t y z symbols first second = sym (number y first) ∙ number z second
   where
-    number : (x : ℤ) → SpellsNumber f t x → HasSign f t (is_negative_text f t) (sign_len f t) → signed_number (is_negative_text f t) (number_from_digits 10 (byte_figures (drop (sign_len f t) t))) ≡ x
-    number x spells sign =
-        let told = body-told f t (is_negative_text f t) (sign_len f t) x sign spells in
-        let ds = digits (unsigned_abs x) in
-        let body = is-separated f told.grouping ds told.either in
-        let figures : byte_figures (drop (sign_len f t) t) ≡ ds = ap byte_figures (told.body ∙ body.same) ∙ digits_among-separated body.is_due (printed_separator f.grouping f.separator) ds symbols.separator (digits-below_ten (unsigned_abs x)) in
-        ap (λ b. signed_number b (number_from_digits 10 (byte_figures (drop (sign_len f t) t)))) told.sign
-        ∙ ap (λ n. signed_number (is_negative x) n) (ap (number_from_digits 10) figures ∙ number_from_digits-digits (unsigned_abs x))
+    number : (x : ℤ) → SpellsNumber f t x → signed_number (is_negative_text f t) (number_in (drop (sign_len f t) t)) ≡ x
+    number x spells =
+        let told = body-told f t (is_negative_text f t) (sign_len f t) x (sign-has f t symbols) spells in
+        ap (λ b. signed_number b (number_in (drop (sign_len f t) t))) told.sign
+        ∙ ap (λ n. signed_number (is_negative x) n) (ap (number_from_digits 10) told.figures ∙ number_from_digits-digits (unsigned_abs x))
         ∙ signed_number-unsigned_abs x
+
+-- a text that does not begin with a digit other than zero spells no number, unless it is one zero
+pub unspelled-zero : (f : FormatData) (t : List ℕ) (negative : Bool) (start : ℕ) (z : ℤ) → HasSign f t negative start → ¬ (BeginsWithDigit (drop start t)) → ¬ (t ≡ 48 ∷ []) → ¬ (SpellsNumber f t z)
+unspelled-zero f t negative start z sign other more spells =
+    let told = body-told f t negative start z sign spells in
+    let either : (unsigned_abs z ≡ 0) ⊎ (0 < unsigned_abs z) = grind arith in
+    elim either [
+      | inl none ↦ more (zero_text z none spells)
+      | inr some ↦
+          let ds = first-some (unsigned_abs z) some in
+          other (record {
+            digit = ds.0;
+            rest = (if told.of.is_due (length ds.1) then printed_separator f.grouping f.separator else []) ++ separated told.of.is_due (printed_separator f.grouping f.separator) ds.1;
+            some = ds.2;
+            small = ds.3;
+            same = told.body ∙ told.of.separated_same ∙ ap (separated told.of.is_due (printed_separator f.grouping f.separator)) ds.4;
+          })
+    ]
+  where
+    first-some : (n : ℕ) → 0 < n → (first : ℕ) × (rest : List ℕ) × (0 < first) × (first < 10) × (digits n ≡ first ∷ rest)
+    first-some = by_digits (λ n. 0 < n → (first : ℕ) × (rest : List ℕ) × (0 < first) × (first < 10) × (digits n ≡ first ∷ rest))
+        (λ n small some. (n, [], some, small, digits-small n small))
+        (λ n large less some.
+        let before = less (omega (arith, large)) in
+        (before.0, before.1 ++ (n % 10 ∷ []), before.2, before.3, digits-more n large ∙ ap (λ ds. ds ++ (n % 10 ∷ [])) before.4))
+
+    zero_text : (z : ℤ) → unsigned_abs z ≡ 0 → SpellsNumber f t z → t ≡ 48 ∷ []
+    zero_text (pos n) none (with_separators same) = same ∙ ap (λ m. text_of f (pos m)) none ∙ text-zero f
+    zero_text (pos n) none (without_separators same) = same ∙ ap (λ m. text_of (ungrouped f) (pos m)) none ∙ text-zero (ungrouped f)
+    zero_text (negsuc n) none spells = absurd (omega (arith, none))
+
+-- what is read of the digits behind a sign is read of the text
+pub reading-body : (k : Kind) (f : FormatData) (t s body : List ℕ) (g : Grouping) (negative : Bool) (start : ℕ) → body ≡ drop start t → HasSign f t negative start → s ≡ printed_separator f.grouping f.separator → g ≡ f.grouping →
+    BeginsWithDigit body → (r : Reading) → HasBody (λ n. (b : Bool) → ¬ (IsValueOf k (signed_number b n))) g s body r → HasReading k f t negative r
+reading-body k f t s body g negative start behind sign separator grouping begin (Number n) read =
+    subst (λ m. SpellsNumber f t (signed_number negative m)) (sym read.1) (spells-body f t s body g negative start behind sign separator grouping begin read.0)
+reading-body k f t s body g negative start behind sign separator grouping begin TooLarge read = (number_in body, read.1 negative, spells-body f t s body g negative start behind sign separator grouping begin read.0)
+reading-body k f t s body g negative start behind sign separator grouping begin Unspelled other =
+    λ z spells. other (subst (IsBody g s) (sym behind) (body-spelled f t s g negative start z sign separator grouping spells))
 
 -- separated digits are UTF-8, if the separator is
 pub utf8-separated : (is_due : ℕ → Bool) (s ds : List ℕ) → IsUtf8 s → AreDigits ds → IsUtf8 (separated is_due s ds)
@@ -204,34 +256,29 @@ utf8-separated is_due s (d ∷ ds) utf8 below =
     (of_either IsUtf8 IsUtf8-nil (is_due (length ds)) s utf8)
     (utf8-separated is_due s ds utf8 (All-tail (λ x. x < 10) d ds below)))
 
--- is UTF-8
+-- a text that spells a number is UTF-8
 pub utf8-spelled : (f : FormatData) (t : List ℕ) (z : ℤ) → HasPlainSymbols f → SpellsNumber f t z → IsUtf8 t
 utf8-spelled f t z symbols spells =
-    let of = text-spelled f t z spells in
-    let ds = digits (unsigned_abs z) in
+    let told = text-spelled f t z spells in
+    let of = told.of in
     let front : List ℕ = if is_negative z then f.minus_sign else [] in
-    let body = is-separated f of.grouping ds of.either in
-    subst IsUtf8 (sym (of.text ∙ ap (λ b. front ++ b) body.same)) (IsUtf8-append front (separated body.is_due (printed_separator f.grouping f.separator) ds)
+    subst IsUtf8 (sym (told.text ∙ ap (λ b. front ++ b) of.separated_same))
+    (IsUtf8-append front (separated of.is_due (printed_separator f.grouping f.separator) (digits (unsigned_abs z)))
     (of_either IsUtf8 IsUtf8-nil (is_negative z) f.minus_sign symbols.sign_utf8)
-    (utf8-separated body.is_due (printed_separator f.grouping f.separator) ds symbols.separator_utf8 (digits-below_ten (unsigned_abs z))))
+    (utf8-separated of.is_due (printed_separator f.grouping f.separator) (digits (unsigned_abs z)) symbols.separator_utf8 (digits-below_ten (unsigned_abs z))))
 
 -- has a digit
 pub figures-spelled : (f : FormatData) (t : List ℕ) (z : ℤ) → HasPlainSymbols f → SpellsNumber f t z → ¬ (figures t ≡ [])
 figures-spelled f t z symbols spells none =
-    let of = text-spelled f t z spells in
-    let ds = digits (unsigned_abs z) in
-    let front : List ℕ = if is_negative z then f.minus_sign else [] in
-    let body = is-separated f of.grouping ds of.either in
-    let text : t ≡ front ++ separated body.is_due (printed_separator f.grouping f.separator) ds = of.text ∙ ap (λ b. front ++ b) body.same in
-    let figures : byte_figures t ≡ byte_figures front ++ ds = ap byte_figures text ∙ digits_among-append front (separated body.is_due (printed_separator f.grouping f.separator) ds)
-    ∙ ap (λ xs. byte_figures front ++ xs) (digits_among-separated body.is_due (printed_separator f.grouping f.separator) ds symbols.separator (digits-below_ten (unsigned_abs z))) in
-    omega (arith, ap length (sym figures ∙ sym (figures-bytes t (utf8-spelled f t z symbols spells)) ∙ none), length-append (byte_figures front) ds, digits_given (unsigned_abs z))
+    let told = body-told f t (is_negative_text f t) (sign_len f t) z (sign-has f t symbols) spells in
+    let front = take (sign_len f t) t in
+    let parts : byte_figures t ≡ byte_figures front ++ byte_figures (drop (sign_len f t) t) =
+    ap byte_figures (sym (take-append-drop (sign_len f t) t)) ∙ digits_among-append front (drop (sign_len f t) t) in
+    omega (arith, ap length (sym parts ∙ sym (figures-bytes t (utf8-spelled f t z symbols spells)) ∙ none), length-append (byte_figures front) (byte_figures (drop (sign_len f t) t)), ap length told.figures, digits_given (unsigned_abs z))
 
 -- and no unexpected byte
 pub unexpected-none : (f : FormatData) (t : List ℕ) (z : ℤ) → HasPlainSymbols f → SpellsNumber f t z → unexpected f t ≡ []
 unexpected-none f t z symbols spells =
     let told = body-told f t (is_negative_text f t) (sign_len f t) z (sign-has f t symbols) spells in
-    let ds = digits (unsigned_abs z) in
     let s = printed_separator f.grouping f.separator in
-    let body = is-separated f told.grouping ds told.either in
-    ap (unread s 0) (told.body ∙ body.same) ∙ unread-separated body.is_due s ds symbols.separator (digits-below_ten (unsigned_abs z))
+    ap (unread s 0) (told.body ∙ told.of.separated_same) ∙ unread-separated told.of.is_due s (digits (unsigned_abs z)) symbols.separator (digits-below_ten (unsigned_abs z))

@@ -1,5 +1,5 @@
 -- What is left of a text after digits and separators.
-use Rattle.std.proofs.Common.{◌≡◌, ℕ, zero, suc, ◌+◌, ◌-◌, ◌<◌, ◌≤◌, inl, inr, Bool, true, false, List, [], ◌∷◌, ◌++◌, length, refl, ap, ◌∙◌, sym, arith, drop, drop-drop, get_or, length-append}
+use Rattle.std.proofs.Common.{◌≡◌, ℕ, zero, suc, ◌+◌, ◌-◌, ◌<◌, ◌≤◌, inl, inr, Bool, true, false, List, [], ◌∷◌, ◌++◌, length, refl, ap, ◌∙◌, sym, arith, drop, get_or, length-append}
 use Rattle.std.specs.Prelude.{if◌then◌else◌, nat_eq, All}
 use Rattle.std.specs.Char.{is_ascii_digit}
 use Rattle.std.specs.List.{starts_with}
@@ -10,7 +10,7 @@ use Rattle.std.proofs.lemmas.List.Elements.{All-head, All-tail}
 use Rattle.std.proofs.lemmas.Slice.Eq.{starts_is}
 use Rattle.num_format_int.specs.Grouped.{separated}
 use Rattle.num_format_parsing.specs.Strict.{unread, begins}
-use Rattle.num_format_parsing.specs.Shapes.{byte_figures, EndsSeparator}
+use Rattle.num_format_parsing.specs.Shapes.{byte_figures}
 use Rattle.num_format_parsing.proofs.FigureLemmas.{figures-digit}
 use Rattle.num_format_parsing.proofs.ReadingLemmas.{is_ascii_digit-digit}
 
@@ -70,21 +70,17 @@ pub begins-some : (s t : List ℕ) → begins s t ≡ true → 0 < length s
 begins-some [] t wrong = cc
 begins-some (c ∷ s) t begin = omega arith
 
--- a text is as long at least as the separator that it begins with
-pub begins-fits : (s t : List ℕ) → begins s t ≡ true → length s ≤ length t
-begins-fits [] t wrong = omega arith
-begins-fits (c ∷ s) t begin =
-    let split = (starts_is Decides-eqb t (c ∷ s) (starts_with nat_eq t (c ∷ s)) refl).0 begin in
-    omega (arith, ap length split, length-append (c ∷ s) (drop (length (c ∷ s)) t))
+-- what begins with a separator is it and the rest
+pub begins-split : (s t : List ℕ) → begins s t ≡ true → t ≡ s ++ drop (length s) t
+begins-split [] t begin = refl
+begins-split (c ∷ s) t begin = (starts_is Decides-eqb t (c ∷ s) (starts_with nat_eq t (c ∷ s)) refl).0 begin
 
--- a separator that stands there
-pub ends-separator : (s text : List ℕ) (start : ℕ) → begins s (drop start text) ≡ true → EndsSeparator s text start (start + length s)
-ends-separator s text start begin =
-    let starts : starts_with nat_eq (drop start text) s ≡ true = sym (begins-given s (drop start text) (begins-some s (drop start text) begin)) ∙ begin in
-    record {
-      within = omega arith;
-      text = (starts_is Decides-eqb (drop start text) s (starts_with nat_eq (drop start text) s) refl).0 starts ∙ ap (λ xs. s ++ xs) (drop-drop (length s) start text);
-    }
+pub begins-append : (s t rest : List ℕ) → 0 < length s → t ≡ s ++ rest → begins s t ≡ true
+begins-append s t rest some same = begins-given s t some ∙ (starts_is Decides-eqb t s (starts_with nat_eq t s) refl).1 rest same
+
+-- so it is as long at least
+pub begins-fits : (s t : List ℕ) → begins s t ≡ true → length s ≤ length t
+begins-fits s t begin = omega (arith, ap length (begins-split s t begin), length-append s (drop (length s) t))
 
 -- the first byte of a separator without digits
 pub plain-first : (c : ℕ) (s : List ℕ) → byte_figures (c ∷ s) ≡ [] → is_ascii_digit c ≡ false
@@ -102,8 +98,7 @@ begins-at_digit (c ∷ s) t b none digit = begins-off (c ∷ s) (b ∷ t) (λ sa
 unread-whole : (s t : List ℕ) → unread s 0 (s ++ t) ≡ unread s 0 t
 unread-whole [] t = refl
 unread-whole (c ∷ s) t =
-    let begin : begins (c ∷ s) (c ∷ s ++ t) ≡ true = (starts_is Decides-eqb (c ∷ s ++ t) (c ∷ s) (starts_with nat_eq (c ∷ s ++ t) (c ∷ s)) refl).1 t refl in
-    unread-begins (c ∷ s) (c ∷ s ++ t) begin ∙ ap (unread (c ∷ s) 0) (drop_at (c ∷ s) t (length (c ∷ s)) refl)
+    unread-begins (c ∷ s) (c ∷ s ++ t) (begins-append (c ∷ s) (c ∷ s ++ t) t (omega arith) refl) ∙ ap (unread (c ∷ s) 0) (drop_at (c ∷ s) t (length (c ∷ s)) refl)
 
 -- digits with such a separator are read to their end
 pub unread-separated : (is_due : ℕ → Bool) (s ds : List ℕ) → byte_figures s ≡ [] → All (λ d. d < 10) ds → unread s 0 (separated is_due s ds) ≡ []

@@ -1,87 +1,78 @@
--- What one pass over a text finds.
-use Rattle.std.specs.Prelude.{◌≡◌, ℕ, ℤ, ◌+◌, ◌-◌, ◌%◌, ◌<◌, ◌≤◌, Bool, true, false, List, ◌∷◌, ◌++◌, All, length, take, drop, slice_index, Result, MatchResult}
+-- What is read of a text without its minus sign.
+use Rattle.std.specs.Prelude.{◌≡◌, ℕ, zero, suc, ℤ, ◌+◌, ◌*◌, ◌%◌, ◌^◌, ◌<◌, ◌≤◌, ◌⊎◌, Bool, true, false, List, [], ◌++◌, All, length, take, drop, slice_index, Result, MatchResult}
 use Rattle.std.specs.Char.{is_ascii_digit}
 use Rattle.std.specs.Int.Digits.{number_from_digits}
 use Rattle.std.specs.List.{list_all}
+use Rattle.num_format_text.specs.declared.grouping.Grouping.{Grouping}
 use Rattle.num_format_text.specs.Format.{FormatData}
-use Rattle.num_format_int.specs.Grouped.{separated}
-use Rattle.num_format_int.specs.Groups.{HasOnlyGroups}
+use Rattle.num_format_int.specs.Grouped.{grouped}
+use Rattle.num_format_int.specs.Groups.{plain}
 use Rattle.num_format_int.specs.Kind.{Kind, IsValueOf, signed_number}
-use Rattle.num_format_parsing.specs.Shapes.{byte_figures, EndsSeparator, IsInGroups}
-use Rattle.num_format_parsing.specs.Strict.{SpellsNumber, IsCause, begins}
+use Rattle.num_format_parsing.specs.Shapes.{byte_figures}
+use Rattle.num_format_parsing.specs.Strict.{SpellsNumber, IsCause}
 use Rattle.num_format_parsing.specs.declared.strict.Reading.{Reading}
 use Rattle.num_format_parsing.specs.declared.strict.Reading.TheVariants.{Number, TooLarge, Unspelled}
 use Rattle.num_format_parsing.specs.declared.strict.StrictError.{StrictError}
 
--- the bytes from a place to before another are digits
-abbrev pub are_digits_between : List ℕ → ℕ → ℕ → Bool
-are_digits_between text start end = list_all is_ascii_digit (take (end - start) (drop start text))
+-- the number that the digits among bytes write
+abbrev pub number_in : List ℕ → ℕ
+number_in t = number_from_digits 10 (byte_figures t)
 
--- the figures between two places
-abbrev pub figures_between : List ℕ → ℕ → ℕ → List ℕ
-figures_between text start end = byte_figures (take (end - start) (drop start text))
+-- the digits among bytes are so many, and write n modulo a bound
+pub record HasDigits (bound : ℕ) (t : List ℕ) (count n : ℕ) : Type 0 where
+  pub figures : count ≡ length (byte_figures t)
+  pub number : n ≡ number_in t % bound
 
--- digits write n modulo a bound
-abbrev pub WriteModulo : ℕ → List ℕ → ℕ → Type 0
-WriteModulo bound ds n = n ≡ number_from_digits 10 ds % bound
+-- bytes begin with so many digits, and then with another byte
+pub record BeginsWithDigits (t : List ℕ) (count : ℕ) : Type 0 where
+  pub some : 0 < count
+  pub inside : count < length t
+  pub digits : list_all is_ascii_digit (take count t) ≡ true
+  pub stop : is_ascii_digit (slice_index t count) ≡ false
 
--- the bytes between two places are digits, and after digits that write n they write `more`, both modulo a bound
-pub record HasReadDigits (bound : ℕ) (text : List ℕ) (start end n more : ℕ) : Type 0 where
-  pub order : start ≤ end
-  pub within : end ≤ length text
-  pub digits : are_digits_between text start end ≡ true
-  pub number : (ds : List ℕ) → WriteModulo bound ds n → WriteModulo bound (ds ++ figures_between text start end) more
+-- bytes are digits, with the separators of a grouping or without any
+abbrev pub IsBody : Grouping → List ℕ → List ℕ → Type 0
+IsBody g s t = (t ≡ grouped g s (byte_figures t)) ⊎ (t ≡ plain (byte_figures t))
 
--- a separator and so many digits stand between two places
-pub record HasReadGroup (bound : ℕ) (s text : List ℕ) (start end count n more : ℕ) : Type 0 where
-  pub behind : ℕ
-  pub separator : EndsSeparator s text start behind
-  pub long : end ≡ behind + count
-  pub read : HasReadDigits bound text behind end n more
+-- bytes are a separator, so many digits, and the rest
+pub record BeginsWithGroup (s : List ℕ) (count : ℕ) (t rest : List ℕ) : Type 0 where
+  pub group : List ℕ
+  pub below : All (λ d. d < 10) group
+  pub long : length group ≡ count
+  pub same : t ≡ s ++ (plain group ++ rest)
 
--- a byte among so many from a place on is no digit
-abbrev pub LacksDigitAmong : List ℕ → ℕ → ℕ → Type 0
-LacksDigitAmong text place count = (i : ℕ) × (i < count) × (is_ascii_digit (slice_index text (place + i)) ≡ false)
+-- bytes begin with a separator and so many digits, and those digits after the digits of n write `more`, modulo a bound
+pub record AppendsGroup (bound : ℕ) (s : List ℕ) (count : ℕ) (t : List ℕ) (n more : ℕ) : Type 0 where
+  pub found : BeginsWithGroup s count t (drop (length s + count) t)
+  pub number : more ≡ (n * 10 ^ count + number_from_digits 10 found.group) % bound
 
--- no separator with so many digits after it stands at a place: another byte is in the place of the separator, or of a digit
-pub data LacksGroup (s text : List ℕ) (start count : ℕ) : Type 0 where
-  without_separator : begins s (drop start text) ≡ false → LacksGroup s text start count
-  without_digit : (behind : ℕ) → EndsSeparator s text start behind → LacksDigitAmong text behind count → LacksGroup s text start count
+-- bytes are so many groups of a size, and then the last, with a separator before each
+abbrev pub AreGroups : (last size : ℕ) → List ℕ → ℕ → List ℕ → Type 0
+AreGroups last size s zero t = BeginsWithGroup s last t []
+AreGroups last size s (suc count) t = (rest : List ℕ) × BeginsWithGroup s size t rest × AreGroups last size s count rest
 
--- a text was read to its end: from a place on it is in groups, whose digits are so many and write n modulo a bound
-pub record HasReadGroups (bound last size : ℕ) (s text : List ℕ) (start count n : ℕ) : Type 0 where
-  pub found : IsInGroups last size s (drop start text)
-  pub figures : count ≡ length found.ds
-  pub number : WriteModulo bound found.ds n
-
--- a text is in no such groups from a place on: no digits with their separators are what stands there
-abbrev pub LacksGroups : (last size : ℕ) → (s text : List ℕ) → (start : ℕ) → Type 0
-LacksGroups last size s text start =
-    (is_due : ℕ → Bool) → HasOnlyGroups is_due last size → (ds : List ℕ) → All (λ d. d < 10) ds → ¬ (drop start text ≡ separated is_due s ds)
-
--- digits, of which the first is the byte at a place of a text, and no zero, are so many, and write n modulo a bound
-pub record WriteWhole (bound : ℕ) (text : List ℕ) (start : ℕ) (ds : List ℕ) (count n : ℕ) : Type 0 where
-  pub below : All (λ d. d < 10) ds
+-- bytes are a first group, which may have fewer digits than the others, and these
+pub record IsInGroups (last size : ℕ) (s t : List ℕ) : Type 0 where
+  pub first : List ℕ
+  pub some : 0 < length first
+  pub few : length first ≤ size
+  pub below : All (λ d. d < 10) first
   pub rest : List ℕ
-  pub first : ds ≡ (slice_index text start - 48) ∷ rest
-  pub length : count ≡ length ds
-  pub number : WriteModulo bound ds n
+  pub same : t ≡ plain first ++ rest
+  pub count : ℕ
+  pub groups : AreGroups last size s count rest
 
--- a text was read to its end: it spells the number of its sign and of digits that are so many, and write n modulo a bound
-pub record IsReadWhole (bound : ℕ) (f : FormatData) (t : List ℕ) (negative : Bool) (start count n : ℕ) : Type 0 where
-  pub ds : List ℕ
-  pub digits : WriteWhole bound t start ds count n
-  pub spelled : SpellsNumber f t (signed_number negative (number_from_digits 10 ds))
+-- what was read of digits with their separators; a number for which `out` holds is too large
+abbrev pub HasBody : (ℕ → Type 0) → Grouping → List ℕ → List ℕ → Reading → Type 0
+HasBody out g s t (Number n) = IsBody g s t × (n ≡ number_in t)
+HasBody out g s t TooLarge = IsBody g s t × out (number_in t)
+HasBody out g s t Unspelled = ¬ (IsBody g s t)
 
--- a text spells no number
-abbrev pub SpellsNone : FormatData → List ℕ → Type 0
-SpellsNone f t = (z : ℤ) → ¬ (SpellsNumber f t z)
-
--- what was read of a text whose sign is known; an absolute value for which `out` holds is too large
-abbrev pub HasReading : (ℕ → Type 0) → FormatData → List ℕ → Bool → Reading → Type 0
-HasReading out f t negative (Number n) = SpellsNumber f t (signed_number negative n)
-HasReading out f t negative TooLarge = (n : ℕ) × out n × SpellsNumber f t (signed_number negative n)
-HasReading out f t negative Unspelled = SpellsNone f t
+-- what was read of a text whose sign is known: a number that it spells, a value of the kind or not, or none
+abbrev pub HasReading : Kind → FormatData → List ℕ → Bool → Reading → Type 0
+HasReading k f t negative (Number n) = SpellsNumber f t (signed_number negative n)
+HasReading k f t negative TooLarge = (n : ℕ) × (¬ (IsValueOf k (signed_number negative n))) × SpellsNumber f t (signed_number negative n)
+HasReading k f t negative Unspelled = (z : ℤ) → ¬ (SpellsNumber f t z)
 
 -- what is returned: a number that the text spells and that is a value of the kind, or the cause
 abbrev pub IsJudged : {X : Type 0} → Kind → (X → ℤ) → FormatData → List ℕ → Result X StrictError → Type 0

@@ -1,8 +1,7 @@
 -- What the steps of strict parsing find in the bytes of a text.
-use Rattle.std.specs.Prelude.{◌≡◌, ℕ, ◌+◌, ◌-◌, ◌<◌, ◌≤◌, Bool, List, [], ◌∷◌, ◌++◌, All, length, drop, map, filter, IsUtf8}
+use Rattle.std.specs.Prelude.{◌≡◌, ℕ, ◌+◌, ◌-◌, ◌<◌, ◌≤◌, Bool, List, [], ◌∷◌, length, map, filter, IsUtf8}
 use Rattle.std.specs.Char.{is_ascii_digit}
 use Rattle.num_format_text.specs.Format.{FormatData}
-use Rattle.num_format_int.specs.Groups.{IsGrouped}
 use Rattle.num_format_int.specs.Grouped.{printed_separator}
 use Rattle.num_format_parsing.specs.Reading.{is_negative_text}
 use Rattle.num_format_parsing.specs.Strict.{IsUnambiguous, sign_len}
@@ -18,17 +17,6 @@ pub record BeginsWithDigit (t : List ℕ) : Type 0 where
   pub some : 0 < digit
   pub small : digit < 10
   pub same : t ≡ (48 + digit) ∷ rest
-
--- a separator stands between two places
-pub record EndsSeparator (s body : List ℕ) (start end : ℕ) : Type 0 where
-  pub within : start ≤ end
-  pub text : drop start body ≡ s ++ drop end body
-
--- bytes are digits with separators before a last group and before groups of that size
-pub record IsInGroups (last size : ℕ) (s body : List ℕ) : Type 0 where
-  pub ds : List ℕ
-  pub below : All (λ d. d < 10) ds
-  pub text : IsGrouped last size s ds body
 
 -- the symbols of a format that is not ambiguous, as bytes
 pub record HasPlainSymbols (f : FormatData) : Type 0 where

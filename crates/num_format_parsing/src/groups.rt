@@ -1,11 +1,11 @@
-//! Texts of digits, alone or in groups with a separator between them.
-ghost use Rattle.std.specs.Prelude.{◌≡◌, ◌↔◌, ℕ, List, ◌+◌, ◌-◌, ◌^◌, ◌<◌, ◌≤◌, Bool, [], false, true, length, drop, slice_index, IsTrue, IfSome, MatchOption};
+//! Texts of digits, alone or in groups with a separator between them. What is read here stands behind a minus sign.
+ghost use Rattle.std.specs.Prelude.{◌≡◌, ◌↔◌, List, ◌+◌, ◌-◌, ◌^◌, ◌<◌, ◌≤◌, [], false, true, length, drop, take, slice_index, IsTrue, IfSome, MatchOption};
 ghost use Rattle.std.specs.Char.{is_ascii_digit};
-ghost use Rattle.std.specs.Int.Digits.{number_from_digits};
+ghost use Rattle.std.specs.List.{list_all};
 ghost use Rattle.num_format_text.specs.Format.{FormatData};
 ghost use Rattle.num_format_int.specs.Grouped.{printed_separator};
 ghost use Rattle.num_format_int.specs.Kind.{signed_number};
-ghost use Rattle.num_format_parsing.specs.Parts.{HasReadDigits, HasReadGroup, HasReadGroups, IsReadWhole, LacksDigitAmong, LacksGroup, LacksGroups, SpellsNone, WriteWhole};
+ghost use Rattle.num_format_parsing.specs.Parts.{AppendsGroup, BeginsWithDigits, BeginsWithGroup, HasDigits, IsBody, IsInGroups, number_in};
 ghost use Rattle.num_format_parsing.specs.Shapes.{BeginsWithDigit, HasSign, byte_figures};
 ghost use Rattle.num_format_parsing.specs.Strict.{SpellsNumber};
 
@@ -15,11 +15,9 @@ use crate::symbols::Sign;
 use num_format_text::Grouping;
 use num_format_text::grouping::Sizes;
 
-/// What was read of a text: its first bytes, how many digits are among them after the minus sign, and the
-/// number that these write, modulo the bound of the accumulator.
+/// What was read of a text: how many digits, and the number that they write, modulo the bound of the accumulator.
 #[derive(Clone, Copy)]
 pub(crate) struct Part<A> {
-    pub(crate) end: usize,
     pub(crate) figures: usize,
     pub(crate) magnitude: A,
 }
@@ -54,15 +52,11 @@ pub(crate) fn read_short(text: &[u8], sign: Sign) -> Option<u64>
     if !text.last()?.is_ascii_digit() {
         return None;
     }
-    let count = text.len() - sign.len;
-    if count == 0 {
+    let body = &text[sign.len..];
+    if !begins_with_digit(body) {
         return None;
     }
-    // A digit alone spells its number, zero too.
-    if text.len() != 1 && !begins_with_digit(&text[sign.len..]) {
-        return None;
-    }
-    push_few(text, sign.len, count, 0)
+    Some(few_digits(body)?.0 as u64)
 }
 
 /// Returns whether a text seems to end with a separator of one byte and three digits.
@@ -94,18 +88,18 @@ pub(crate) fn read_in_groups(
         → SpellsNumber f text.now (signed_number sign.is_negative n)) }
 {
     let sizes = grouping.sizes()?;
-    let bytes = separator.as_bytes();
-    if bytes.len() != 1 {
+    let separator = separator.as_bytes();
+    if separator.len() != 1 {
         return None;
     }
-    let len = text.len() - sign.len;
-    if len < SHORTEST_GROUPS || len > LONGEST_GROUPS {
+    let body = &text[sign.len..];
+    if body.len() < SHORTEST_GROUPS || body.len() > LONGEST_GROUPS {
         return None;
     }
-    if !begins_with_digit(&text[sign.len..]) {
+    if !begins_with_digit(body) {
         return None;
     }
-    let whole = read_by_byte(text, sign.len, bytes, sizes)?;
+    let whole = read_by_byte(body, separator, sizes)?;
     if whole.figures > SAFE_FIGURES || whole.figures < sizes.least {
         return None;
     }
@@ -116,18 +110,17 @@ pub(crate) fn read_in_groups(
 ///
 /// The sizes of groups are numbers that the loop knows where it is compiled.
 #[inline(always)]
-fn read_by_byte(text: &[u8], start: usize, separator: &[u8], sizes: Sizes) -> Option<Part<u64>>
-    requires long { start + SHORTEST_GROUPS ≤ length text.now }
+fn read_by_byte(text: &[u8], separator: &[u8], sizes: Sizes) -> Option<Part<u64>>
+    requires long { SHORTEST_GROUPS ≤ length text.now }
     requires plain { byte_figures separator.now ≡ [] }
     requires separator { length separator.now ≡ 1 }
-    ensures { IfSome result
-        (λ whole. HasReadGroups (2 ^ 64) sizes.last sizes.size separator.now text.now start
-        whole.figures whole.magnitude) }
+    ensures { IfSome result (λ whole. IsInGroups sizes.last sizes.size separator.now text.now
+        × HasDigits (2 ^ 64) text.now whole.figures whole.magnitude) }
 {
     match (sizes.size, sizes.last) {
-        (3, 3) => read_by_length(text, start, separator, 3, 3),
-        (2, 3) => read_by_length(text, start, separator, 3, 2),
-        (4, 4) => read_by_length(text, start, separator, 4, 4),
+        (3, 3) => read_by_length(text, separator, 3, 3),
+        (2, 3) => read_by_length(text, separator, 3, 2),
+        (4, 4) => read_by_length(text, separator, 4, 4),
         _ => None,
     }
 }
@@ -135,81 +128,61 @@ fn read_by_byte(text: &[u8], start: usize, separator: &[u8], sizes: Sizes) -> Op
 /// Returns the whole text, if it is in groups of these sizes. It may return `None` for any text, and does so if the first
 /// group has more than three digits.
 #[inline(always)]
-fn read_by_length(
-    text: &[u8],
-    start: usize,
-    separator: &[u8],
-    last: usize,
-    size: usize,
-) -> Option<Part<u64>>
-    requires long { start + SHORTEST_GROUPS ≤ length text.now }
+fn read_by_length(text: &[u8], separator: &[u8], last: usize, size: usize) -> Option<Part<u64>>
+    requires long { SHORTEST_GROUPS ≤ length text.now }
     requires plain { byte_figures separator.now ≡ [] }
     requires separator { length separator.now ≡ 1 }
     requires size { (0 < size) × (size ≤ last) × (last ≤ 4) }
-    ensures { IfSome result
-        (λ whole. HasReadGroups (2 ^ 64) last size separator.now text.now start
-        whole.figures whole.magnitude) }
+    ensures { IfSome result (λ whole. IsInGroups last size separator.now text.now
+        × HasDigits (2 ^ 64) text.now whole.figures whole.magnitude) }
 {
-    let figures = (text.len() - start - (last + 1)) % (size + 1);
+    let figures = (text.len() - (last + 1)) % (size + 1);
     if figures == 0 || figures > size || figures > 3 {
         return None;
     }
-    let end = start + figures;
-    if text[end] != separator[0] {
+    if text[figures] != separator[0] {
         return None;
     }
-    let magnitude = first_digits(text, start, figures)?;
-    let first = Part {
-        end,
-        figures,
-        magnitude,
-    };
-    read_groups(text, start, first, separator, last, size)
+    let magnitude = first_digits(&text[..figures])?;
+    let first = Part { figures, magnitude };
+    read_groups(text, first, separator, last, size)
 }
 
-/// Returns the number of the one to three digits from a place on, or `None` if one is no digit.
+/// Returns the number of one to three digits, or `None` if a byte is no digit.
 ///
 /// Numbers of all lengths follow one another, and the processor mistakes a branch on the length of the first group. So
 /// each of the three digits is looked at, and where there are fewer, one of them twice.
 #[inline(always)]
-fn first_digits(text: &[u8], place: usize, count: usize) -> Option<u64>
-    requires count { (1 ≤ count) × (count ≤ 3) }
-    requires within { place + count ≤ length text.now }
-    ensures { IfSome result (λ n. HasReadDigits (2 ^ 64) text.now place (place + count) 0 n) }
+fn first_digits(text: &[u8]) -> Option<u64>
+    requires { (1 ≤ length text.now) × (length text.now ≤ 3) }
+    ensures { IfSome result (λ n. (list_all is_ascii_digit text.now ≡ true) × (n ≡ number_in text.now)) }
 {
-    let first = digit_at(text, place)?;
-    let middle = digit_at(text, place + count / 2)?;
-    let last = digit_at(text, place + count - 1)?;
+    let count = text.len();
+    let first = digit(text[0])?;
+    let middle = digit(text[count / 2])?;
+    let last = digit(text[count - 1])?;
     let number = first * FIRST_WEIGHTS[count] + middle * MIDDLE_WEIGHTS[count] + last;
     Some(number as u64)
 }
 
-/// Returns the whole of a text, or `None` if it spells no number. `start` is the length of its minus sign, behind which
-/// it begins with a digit other than zero.
+/// Returns the whole of a text that begins with a digit other than zero, or `None` if it spells no number.
 #[inline]
 pub(crate) fn read_text<A: Accumulator>(
     text: &[u8],
-    start: usize,
     separator: &str,
     grouping: Grouping,
 ) -> Option<Part<A>>
-    requires begin { BeginsWithDigit (drop start text.now) }
+    requires begin { BeginsWithDigit text.now }
     requires plain { byte_figures separator.now ≡ [] }
-    ensures { (f : FormatData) (negative : Bool) → HasSign f text.now negative start
-        → separator.now ≡ printed_separator f.grouping f.separator → grouping ≡ f.grouping
-        → MatchOption result (SpellsNone f text.now)
-        (λ whole. IsReadWhole A.bound f text.now negative start whole.figures (A.number whole.magnitude)) }
+    ensures { MatchOption result (¬ (IsBody grouping separator.now text.now))
+        (λ whole. IsBody grouping separator.now text.now
+        × HasDigits A.bound text.now whole.figures (A.number whole.magnitude)) }
 {
-    let none = Part {
-        end: start,
-        figures: 0,
-        magnitude: A::zero(),
-    };
-    let first = read_digits(text, none, text.len());
-    if first.end == text.len() {
+    let first = read_digits(text);
+    if first.figures == text.len() {
         return Some(first);
     }
-    read_grouped(text, start, first, separator.as_bytes(), grouping)
+    read_grouped(text, first, separator.as_bytes(), grouping)
 }
 
 /// Returns the whole of a text that does not end with its first digits, or `None` if it spells no number.
@@ -218,27 +191,22 @@ pub(crate) fn read_text<A: Accumulator>(
 #[inline(never)]
 fn read_grouped<A: Accumulator>(
     text: &[u8],
-    start: usize,
     first: Part<A>,
     separator: &[u8],
     grouping: Grouping,
 ) -> Option<Part<A>>
-    requires begin { BeginsWithDigit (drop start text.now) }
-    requires read { HasReadDigits A.bound text.now start first.end 0 (A.number first.magnitude) }
-    requires figures { first.figures + start ≡ first.end }
-    requires inside { first.end < length text.now }
-    requires stop { is_ascii_digit (slice_index text.now first.end) ≡ false }
+    requires begin { BeginsWithDigits text.now first.figures }
+    requires read { HasDigits A.bound (take first.figures text.now) first.figures (A.number first.magnitude) }
     requires plain { byte_figures separator.now ≡ [] }
-    ensures { (f : FormatData) (negative : Bool) → HasSign f text.now negative start
-        → separator.now ≡ printed_separator f.grouping f.separator → grouping ≡ f.grouping
-        → MatchOption result (SpellsNone f text.now)
-        (λ whole. IsReadWhole A.bound f text.now negative start whole.figures (A.number whole.magnitude)) }
+    ensures { MatchOption result (¬ (IsBody grouping separator.now text.now))
+        (λ whole. IsBody grouping separator.now text.now
+        × HasDigits A.bound text.now whole.figures (A.number whole.magnitude)) }
 {
     let sizes = grouping.sizes()?;
     if separator.is_empty() {
         return None;
     }
-    let whole = read_groups(text, start, first, separator, sizes.last, sizes.size)?;
+    let whole = read_groups(text, first, separator, sizes.last, sizes.size)?;
     if whole.figures < sizes.least {
         return None;
     }
@@ -248,10 +216,10 @@ fn read_grouped<A: Accumulator>(
 /// Returns whether the number of a text that was read to its end is below the bound, so that it is that of its digits,
 /// and not only modulo the bound.
 #[inline]
-pub(crate) fn is_exact<A: Accumulator>(text: &[u8], start: usize, whole: Part<A>) -> bool
-    requires { BeginsWithDigit (drop start text.now) }
-    ensures { (ds : List ℕ) → WriteWhole A.bound text.now start ds whole.figures (A.number whole.magnitude)
-        → IsTrue result ↔ (number_from_digits 10 ds < A.bound) }
+pub(crate) fn is_exact<A: Accumulator>(text: &[u8], whole: Part<A>) -> bool
+    requires begin { BeginsWithDigit text.now }
+    requires read { HasDigits A.bound text.now whole.figures (A.number whole.magnitude) }
+    ensures { IsTrue result ↔ (number_in text.now < A.bound) }
 {
     let safe = A::safe_figures();
     if whole.figures <= safe {
@@ -260,107 +228,93 @@ pub(crate) fn is_exact<A: Accumulator>(text: &[u8], start: usize, whole: Part<A>
     if whole.figures - 1 != safe {
         return false;
     }
-    whole.magnitude.is_whole(text[start] - b'0')
+    whole.magnitude.is_whole(text[0] - b'0')
 }
 
-/// Returns the part of a text with the digits that follow it, up to `end`.
+/// Returns the digits that a text begins with.
 #[inline]
-fn read_digits<A: Accumulator>(text: &[u8], from: Part<A>, end: usize) -> Part<A>
-    requires order { from.end ≤ end }
-    requires within { end ≤ length text.now }
-    requires figures { from.figures ≤ from.end }
-    ensures read { HasReadDigits A.bound text.now from.end result.end (A.number from.magnitude) (A.number result.magnitude) }
-    ensures within { result.end ≤ end }
-    ensures figures { result.figures + from.end ≡ from.figures + result.end }
-    ensures stop { result.end < end → is_ascii_digit (slice_index text.now result.end) ≡ false }
+fn read_digits<A: Accumulator>(text: &[u8]) -> Part<A>
+    ensures within { result.figures ≤ length text.now }
+    ensures digits { list_all is_ascii_digit (take result.figures text.now) ≡ true }
+    ensures read { HasDigits A.bound (take result.figures text.now) result.figures (A.number result.magnitude) }
+    ensures stop { result.figures < length text.now
+        → is_ascii_digit (slice_index text.now result.figures) ≡ false }
 {
-    let mut part = from;
-    for place in from.end..end {
-        let byte = text[place];
+    let mut magnitude = A::zero();
+    for figures in 0..text.len() {
+        let byte = text[figures];
         if !byte.is_ascii_digit() {
-            return part;
+            return Part { figures, magnitude };
         }
-        part = Part {
-            end: place + 1,
-            figures: part.figures + 1,
-            magnitude: part.magnitude.push_wrapping(byte - b'0'),
-        };
+        magnitude = magnitude.push_group(10, (byte - b'0') as u16);
     }
-    part
+    Part {
+        figures: text.len(),
+        magnitude,
+    }
 }
 
-/// Returns the digit at a place, or `None` if no digit is there.
+/// Returns the digit that a byte is, or `None` if it is none.
 #[inline(always)]
-fn digit_at(text: &[u8], place: usize) -> Option<u16>
-    requires { place < length text.now }
-    ensures { MatchOption result (is_ascii_digit (slice_index text.now place) ≡ false)
-        (λ digit. (is_ascii_digit (slice_index text.now place) ≡ true)
-        × (digit ≡ slice_index text.now place - 48) × (digit < 10)) }
+fn digit(byte: u8) -> Option<u16>
+    ensures { MatchOption result (is_ascii_digit byte ≡ false)
+        (λ digit. (is_ascii_digit byte ≡ true) × (digit ≡ byte - 48) × (digit < 10)) }
 {
-    let byte = text[place];
     if !byte.is_ascii_digit() {
         return None;
     }
     Some((byte - b'0') as u16)
 }
 
-/// Returns the number with the `count` digits from a place on appended to its digits, or `None` if one is no digit.
+/// Returns the number of one to four digits, and the power of ten with as many zeros, or `None` if a byte is no digit.
 ///
-/// It has no loop, since all groups are this short, and appends them by one product.
+/// It has no loop, since all groups are this short.
 #[inline(always)]
-fn push_few<A: Accumulator>(text: &[u8], place: usize, count: usize, magnitude: A) -> Option<A>
-    requires within { place + count ≤ length text.now }
-    requires few { (0 < count) × (count ≤ 4) }
-    ensures { MatchOption result (LacksDigitAmong text.now place count)
-        (λ more. HasReadDigits A.bound text.now place (place + count) (A.number magnitude) (A.number more)) }
+fn few_digits(text: &[u8]) -> Option<(u16, u16)>
+    requires { (0 < length text.now) × (length text.now ≤ 4) }
+    ensures { MatchOption result (list_all is_ascii_digit text.now ≡ false)
+        (λ few. (list_all is_ascii_digit text.now ≡ true) × (few.0 ≡ number_in text.now)
+        × (few.1 ≡ 10 ^ length text.now)) }
 {
-    let first = digit_at(text, place)?;
-    if count == 1 {
-        return Some(magnitude.push_group(10, first));
+    match *text {
+        [a] => Some((digit(a)?, 10)),
+        [a, b] => Some((digit(a)? * 10 + digit(b)?, 100)),
+        [a, b, c] => Some(((digit(a)? * 10 + digit(b)?) * 10 + digit(c)?, 1_000)),
+        [a, b, c, d] => {
+            let three = (digit(a)? * 10 + digit(b)?) * 10 + digit(c)?;
+            Some((three * 10 + digit(d)?, 10_000))
+        }
+        _ => None,
     }
-    let second = digit_at(text, place + 1)?;
-    let two = first * 10 + second;
-    if count == 2 {
-        return Some(magnitude.push_group(100, two));
-    }
-    let third = digit_at(text, place + 2)?;
-    let three = two * 10 + third;
-    if count == 3 {
-        return Some(magnitude.push_group(1_000, three));
-    }
-    let fourth = digit_at(text, place + 3)?;
-    Some(magnitude.push_group(10_000, three * 10 + fourth))
 }
 
-/// Returns the part of a text with the separator and the `count` digits that follow it, or `None` if they do not.
+/// Returns the part with the digits of a group appended, if the text begins with the separator and so many digits.
 ///
 /// It is inlined, so that a part stays in registers.
 #[inline(always)]
 fn push_group<A: Accumulator>(
+    part: Part<A>,
     text: &[u8],
-    from: Part<A>,
     separator: &[u8],
     count: usize,
 ) -> Option<Part<A>>
-    requires room { from.end + length separator.now + count ≤ length text.now }
-    requires figures { from.figures ≤ from.end }
+    requires separator { 0 < length separator.now }
+    requires room { length separator.now + count ≤ length text.now }
+    requires figures { part.figures + count < 2 ^ 64 }
     requires few { (0 < count) × (count ≤ 4) }
-    ensures { MatchOption result (LacksGroup separator.now text.now from.end count)
-        (λ part. HasReadGroup A.bound separator.now text.now from.end part.end count
-        (A.number from.magnitude) (A.number part.magnitude)
-        × (part.figures ≡ from.figures + count)) }
+    ensures { MatchOption result
+        (¬ (BeginsWithGroup separator.now count text.now (drop (length separator.now + count) text.now)))
+        (λ more. (more.figures ≡ part.figures + count)
+        × AppendsGroup A.bound separator.now count text.now (A.number part.magnitude) (A.number more.magnitude)) }
 {
-    if !begins_with(&text[from.end..], separator) {
+    if !begins_with(text, separator) {
         return None;
     }
-    let place = from.end + separator.len();
-    let Some(magnitude) = push_few(text, place, count, from.magnitude) else {
-        return None;
-    };
+    let (_, behind) = text.split_at(separator.len());
+    let (group, power) = few_digits(&behind[..count])?;
     Some(Part {
-        end: place + count,
-        figures: from.figures + count,
-        magnitude,
+        figures: part.figures + count,
+        magnitude: part.magnitude.push_group(power, group),
     })
 }
 
@@ -371,35 +325,33 @@ fn push_group<A: Accumulator>(
 #[inline(always)]
 fn read_groups<A: Accumulator>(
     text: &[u8],
-    start: usize,
     first: Part<A>,
     separator: &[u8],
     last: usize,
     size: usize,
 ) -> Option<Part<A>>
-    requires read { HasReadDigits A.bound text.now start first.end 0 (A.number first.magnitude) }
-    requires some { start < first.end }
-    requires figures { first.figures + start ≡ first.end }
-    requires inside { first.end < length text.now }
-    requires stop { is_ascii_digit (slice_index text.now first.end) ≡ false }
+    requires begin { BeginsWithDigits text.now first.figures }
+    requires read { HasDigits A.bound (take first.figures text.now) first.figures (A.number first.magnitude) }
     requires plain { byte_figures separator.now ≡ [] }
     requires separator { 0 < length separator.now }
     requires size { (0 < size) × (size ≤ last) × (last ≤ 4) }
-    ensures { MatchOption result (LacksGroups last size separator.now text.now start)
-        (λ whole. HasReadGroups A.bound last size separator.now text.now start
-        whole.figures (A.number whole.magnitude)) }
+    ensures { MatchOption result (¬ (IsInGroups last size separator.now text.now))
+        (λ whole. IsInGroups last size separator.now text.now
+        × HasDigits A.bound text.now whole.figures (A.number whole.magnitude)) }
 {
-    if first.end - start > size {
+    if first.figures > size {
         return None;
     }
-    let least = last + separator.len();
+    let least = separator.len() + last;
     let mut part = first;
-    while text.len() - part.end > least {
-        let next = push_group(text, part, separator, size)?;
+    let mut end = first.figures;
+    while text.len() - end > least {
+        let next = push_group(part, &text[end..], separator, size)?;
         part = next;
+        end += separator.len() + size;
     }
-    if text.len() - part.end != least {
+    if text.len() - end != least {
         return None;
     }
-    push_group(text, part, separator, last)
+    push_group(part, &text[end..], separator, last)
 }

@@ -3,12 +3,12 @@
 //! A text *spells* a number if it is the text of the number under the format, or that text without
 //! separators. Strict parsing returns the number that a text spells, and refuses every other text. It refuses
 //! every text under a format that is ambiguous.
-ghost use Rattle.std.specs.Prelude.{◌≡◌, ℕ, List, Bool, [], ◌^◌, ◌<◌, ◌≤◌, drop, length, Some, IsTrue, IsUtf8, IfSome, MatchResult};
+ghost use Rattle.std.specs.Prelude.{◌≡◌, ℕ, List, Bool, [], ◌^◌, ◌<◌, ◌≤◌, length, Some, IsTrue, IsUtf8, IfSome, MatchResult};
 ghost use Rattle.num_format_text.specs.Format.{FormatData};
 ghost use Rattle.num_format_int.specs.Grouped.{printed_separator};
 ghost use Rattle.num_format_int.specs.Kind.{IsValueOf, signed_number};
 ghost use Rattle.num_format_parsing.specs.Strict.{SpellsNumber, ParsesStrictly, IsUnambiguous, strict_message_of};
-ghost use Rattle.num_format_parsing.specs.Parts.{HasReading, IsJudged};
+ghost use Rattle.num_format_parsing.specs.Parts.{HasBody, HasReading, IsJudged};
 ghost use Rattle.num_format_parsing.specs.Shapes.{BeginsWithDigit, HasSign, byte_figures};
 ghost use Rattle.num_format_parsing.specs.declared.strict.StrictError.TheVariants as cause;
 
@@ -261,26 +261,48 @@ pub(crate) enum Reading {
 }
 
 /// Returns what is read of a text.
-///
-/// Most texts are short: their digits fit 64 bits, which take less time than 128. Whether a type is wide is
-/// known where the code is compiled.
 #[inline]
 fn read<N: Sealed>(text: &[u8], sign: Sign, separator: &str, grouping: Grouping) -> Reading
     requires within { sign.len ≤ length text.now }
     requires plain { byte_figures separator.now ≡ [] }
     ensures { (f : FormatData) → HasSign f text.now sign.is_negative sign.len
         → separator.now ≡ printed_separator f.grouping f.separator → grouping ≡ f.grouping
-        → HasReading (λ n. ¬ (IsValueOf N.kind (signed_number sign.is_negative n))) f text.now sign.is_negative result }
+        → HasReading N.kind f text.now sign.is_negative result }
+{
+    let body = &text[sign.len..];
+    if begins_with_digit(body) {
+        return read_body::<N>(body, separator, grouping);
+    }
+    if text.len() != 1 {
+        return Reading::Unspelled;
+    }
+    let byte = text[0];
+    if byte != b'0' {
+        return Reading::Unspelled;
+    }
+    Reading::Number(0)
+}
+
+/// Returns what is read of a text that begins with a digit other than zero.
+///
+/// Most texts are short: their digits fit 64 bits, which take less time than 128. Whether a type is wide is
+/// known where the code is compiled.
+#[inline]
+fn read_body<N: Sealed>(text: &[u8], separator: &str, grouping: Grouping) -> Reading
+    requires begin { BeginsWithDigit text.now }
+    requires plain { byte_figures separator.now ≡ [] }
+    ensures { HasBody (λ n. (negative : Bool) → ¬ (IsValueOf N.kind (signed_number negative n)))
+        grouping separator.now text.now result }
 {
     if !N::is_wide() {
-        return read_by::<u64>(text, sign, separator, grouping);
+        return read_by::<u64>(text, separator, grouping);
     }
     if seems_wide(text) {
-        return read_wide(text, sign, separator, grouping);
+        return read_wide(text, separator, grouping);
     }
-    match read_by::<u64>(text, sign, separator, grouping) {
+    match read_by::<u64>(text, separator, grouping) {
         Reading::Number(magnitude) => Reading::Number(magnitude),
-        Reading::TooLarge => read_wide(text, sign, separator, grouping),
+        Reading::TooLarge => read_wide(text, separator, grouping),
         Reading::Unspelled => Reading::Unspelled,
     }
 }
@@ -295,51 +317,28 @@ fn seems_wide(bytes: &[u8]) -> bool {
 
 /// It is a function of its own, so that shorter texts are parsed without its space.
 #[inline(never)]
-fn read_wide(text: &[u8], sign: Sign, separator: &str, grouping: Grouping) -> Reading
-    requires within { sign.len ≤ length text.now }
+fn read_wide(text: &[u8], separator: &str, grouping: Grouping) -> Reading
+    requires begin { BeginsWithDigit text.now }
     requires plain { byte_figures separator.now ≡ [] }
-    ensures { (f : FormatData) → HasSign f text.now sign.is_negative sign.len
-        → separator.now ≡ printed_separator f.grouping f.separator → grouping ≡ f.grouping
-        → HasReading (λ n. 2 ^ 128 ≤ n) f text.now sign.is_negative result }
+    ensures { HasBody (λ n. 2 ^ 128 ≤ n) grouping separator.now text.now result }
 {
-    read_by::<u128>(text, sign, separator, grouping)
+    read_by::<u128>(text, separator, grouping)
 }
 
 /// Returns what is read of a text by way of the accumulator. A number past its bound is too large.
 #[inline]
-fn read_by<A: Accumulator>(text: &[u8], sign: Sign, separator: &str, grouping: Grouping) -> Reading
-    requires within { sign.len ≤ length text.now }
+fn read_by<A: Accumulator>(text: &[u8], separator: &str, grouping: Grouping) -> Reading
+    requires begin { BeginsWithDigit text.now }
     requires plain { byte_figures separator.now ≡ [] }
-    ensures { (f : FormatData) → HasSign f text.now sign.is_negative sign.len
-        → separator.now ≡ printed_separator f.grouping f.separator → grouping ≡ f.grouping
-        → HasReading (λ n. A.bound ≤ n) f text.now sign.is_negative result }
+    ensures { HasBody (λ n. A.bound ≤ n) grouping separator.now text.now result }
 {
-    if !begins_with_digit(&text[sign.len..]) {
-        return read_zero(text);
-    }
-    let Some(whole) = read_text::<A>(text, sign.len, separator, grouping) else {
+    let Some(whole) = read_text::<A>(text, separator, grouping) else {
         return Reading::Unspelled;
     };
-    if !is_exact(text, sign.len, whole) {
+    if !is_exact(text, whole) {
         return Reading::TooLarge;
     }
     Reading::Number(whole.magnitude.number())
-}
-
-/// Returns what is read of a text that does not begin with a digit other than zero, behind its minus sign: only `0`
-/// spells a number.
-fn read_zero(text: &[u8]) -> Reading
-    ensures { (f : FormatData) (negative : Bool) (start : ℕ) → HasSign f text.now negative start
-        → ¬ (BeginsWithDigit (drop start text.now)) → HasReading (λ _. ⊥) f text.now negative result }
-{
-    if text.len() != 1 {
-        return Reading::Unspelled;
-    }
-    let byte = text[0];
-    if byte != b'0' {
-        return Reading::Unspelled;
-    }
-    Reading::Number(0)
 }
 
 /// Returns the number of that sign and absolute value, if it is a value of the type.

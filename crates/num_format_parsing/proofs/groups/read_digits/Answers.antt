@@ -1,30 +1,19 @@
-use Rattle.std.proofs.Common.{◌≡◌, ◌<◌, ◌∙◌, true, sym, subst, arith, get_or, length, refl}
+use Rattle.std.proofs.Common.{◌≡◌, ◌∙◌, true, sym, get_or, refl}
 use Rattle.std.specs.Char.{is_ascii_digit}
-use Rattle.num_format_parsing.specs.Parts.{HasReadDigits}
-use Rattle.num_format_parsing.proofs.PartLemmas.{read-none, read-more}
+use Rattle.std.proofs.Math.Nat.{zero-mod}
+use Rattle.std.proofs.lemmas.List.Folds.{list_all_more}
+use Rattle.num_format_parsing.proofs.GroupsLemmas.{digit-appended}
 use Rattle.num_format_parsing.proofs.groups.read_digits.Goals as goal
 
-pub loop-place-init : goal.loop-place-init
-loop-place-init g c = record {
-  at = refl;
-  read = read-none g.A.Accumulator.bound c.args.text.now c.args.from.end (g.A.Accumulator.number c.args.from.magnitude) (omega (arith, c.requires.order, c.requires.within));
-  within = c.requires.order;
-  figures = refl;
-}
+pub loop-figures-init : goal.loop-figures-init
+loop-figures-init g c = record { digits = refl; read = record { figures = refl; number = c.zero-magnitude.ensures ∙ sym (zero-mod g.A.Accumulator.bound) } }
 
-pub loop-place-preserved : goal.loop-place-preserved
-loop-place-preserved g c =
-    let l = c.loop-place in
+pub loop-figures-preserved : goal.loop-figures-preserved
+loop-figures-preserved g c =
+    let l = c.loop-figures in
     let text = c.args.text.now in
-    let start = c.args.from.end in
-    let n = g.A.Accumulator.number c.args.from.magnitude in
-    let more = g.A.Accumulator.number l.part.magnitude in
-    let digit : is_ascii_digit (get_or text l.place 0) ≡ true = sym c.is_ascii_digit.ensures.value ∙ c.if-not-is_ascii_digit.false in
-    let before : HasReadDigits g.A.Accumulator.bound text start l.place n more = subst (λ e. HasReadDigits g.A.Accumulator.bound text start e n more) l.invariant.at l.invariant.read in
-    let inside : l.place < length text = omega (arith, c.requires.within, c.loop-place-test.true) in
+    let digit : is_ascii_digit (get_or text l.figures 0) ≡ true = sym c.is_ascii_digit.ensures.value ∙ c.if-not-is_ascii_digit.false in
     record {
-      at = refl;
-      read = read-more g.A.Accumulator.bound text start l.place n more (g.A.Accumulator.number c.push_wrapping.result) before inside digit c.push_wrapping.ensures;
-      within = omega (arith, c.loop-place-test.true);
-      figures = omega (arith, l.invariant.figures, l.invariant.at);
+      digits = list_all_more is_ascii_digit text l.figures 0 c.loop-figures-test.true ∙ rw (l.invariant.digits, digit) refl;
+      read = digit-appended g.A.Accumulator.bound text l.figures (g.A.Accumulator.number l.magnitude) (g.A.Accumulator.number c.push_group-magnitude.result) c.loop-figures-test.true digit l.invariant.read c.push_group-magnitude.ensures;
     }

@@ -1,11 +1,11 @@
-use Rattle.std.proofs.Common.{◌≡◌, ◌+◌, ◌≤◌}
-use Rattle.num_format_parsing.specs.Parts.{HasReadDigits}
+use Rattle.std.proofs.Common.{◌≡◌, take, true}
+use Rattle.std.specs.Char.{is_ascii_digit}
+use Rattle.std.specs.List.{list_all}
+use Rattle.num_format_parsing.specs.Parts.{HasDigits}
 use Rattle.num_format_parsing.proofs.groups.read_digits.Given as goal
 
-abbrev pub invariant-loop-place : goal.invariant-loop-place
-invariant-loop-place g l = record {
-  at : l.part.end ≡ l.place;
-  read : HasReadDigits g.A.Accumulator.bound l.text l.fn.from.end l.part.end (g.A.Accumulator.number l.fn.from.magnitude) (g.A.Accumulator.number l.part.magnitude);
-  within : l.part.end ≤ l.fn.end;
-  figures : l.part.figures + l.fn.from.end ≡ l.fn.from.figures + l.part.end;
+abbrev pub invariant-loop-figures : goal.invariant-loop-figures
+invariant-loop-figures g l = record {
+  digits : list_all is_ascii_digit (take l.figures l.text) ≡ true;
+  read : HasDigits g.A.Accumulator.bound (take l.figures l.text) l.figures (g.A.Accumulator.number l.magnitude);
 }

@@ -1,37 +1,30 @@
-use Rattle.std.proofs.Common.{◌^◌, ◌≤◌, subst}
-use Rattle.num_format_int.specs.Kind.{IsValueOf, IsWithin, signed_number}
-use Rattle.num_format_parsing.specs.Parts.{HasReading}
-use Rattle.num_format_parsing.proofs.CauseLemmas.{past-bound, reading-weaker}
+use Rattle.std.proofs.Common.{◌-◌, ◌∙◌, [], ◌∷◌, ap, drop, get_or, length, sym, subst, take}
+use Rattle.std.proofs.lemmas.Bool.{both_ways}
+use Rattle.std.proofs.lemmas.List.{take_rest}
+use Rattle.num_format_parsing.specs.Shapes.{BeginsWithDigit}
+use Rattle.num_format_parsing.proofs.NumberLemmas.{one-byte}
+use Rattle.num_format_parsing.proofs.SpellingLemmas.{reading-body, spells-zero, unspelled-zero}
 use Rattle.num_format_parsing.proofs.strict.read.Goals as goal
 
-pub returns-then-not-is_wide : goal.returns-then-not-is_wide
-returns-then-not-is_wide g c = λ f sign separator grouping.
-    let k = g.N.Sealed.kind in
-    let negative = c.args.sign.is_negative in
-    let within : IsWithin (2 ^ 64) k = rw c.if-not-is_wide.true at c.is_wide.ensures.within in
-    reading-weaker (λ n. 2 ^ 64 ≤ n) (λ n. ¬ (IsValueOf k (signed_number negative n))) f c.args.text.now negative c.read_by.result (λ n past. past-bound (2 ^ 64) k negative n within past)
-    (c.read_by.ensures f sign separator grouping)
+pub returns-then-begins_with_digit : goal.returns-then-begins_with_digit
+returns-then-begins_with_digit g c = λ f sign separator grouping.
+    let a = c.args in
+    let t = a.text.now in
+    let start = a.sign.len in
+    reading-body g.N.Sealed.kind f t a.separator.now (take (length t - start) (drop start t)) a.grouping a.sign.is_negative start (take_rest t start) sign separator grouping
+    (c.begins_with_digit.ensures.0 c.if-begins_with_digit.true) c.read_body.result c.read_body.ensures
 
-pub returns-then-seems_wide : goal.returns-then-seems_wide
-returns-then-seems_wide g c = λ f sign separator grouping.
-    let k = g.N.Sealed.kind in
-    let negative = c.args.sign.is_negative in
-    let within : IsWithin (2 ^ 128) k = rw c.if-not-is_wide.false at c.is_wide.ensures.within in
-    reading-weaker (λ n. 2 ^ 128 ≤ n) (λ n. ¬ (IsValueOf k (signed_number negative n))) f c.args.text.now negative c.read_wide.result (λ n past. past-bound (2 ^ 128) k negative n within past)
-    (c.read_wide.ensures f sign separator grouping)
+pub returns-then-text-ne1 : goal.returns-then-text-ne1
+returns-then-text-ne1 g c = λ f sign separator grouping z.
+    let t = c.args.text.now in
+    unspelled-zero f t c.args.sign.is_negative c.args.sign.len z sign
+    (λ begin. both_ways _ c.if-begins_with_digit.false (c.begins_with_digit.ensures.1 (subst BeginsWithDigit (sym (take_rest t c.args.sign.len)) begin))) (λ same. c.if-text-ne1.true (ap length same))
 
-pub returns-in-Number : goal.returns-in-Number
-returns-in-Number g c = λ f sign separator grouping.
-    subst (HasReading (λ n. 2 ^ 64 ≤ n) f c.args.text.now c.args.sign.is_negative) c.in-Number.is (c.read_by-2.ensures f sign separator grouping)
+pub returns-then-byte-ne48 : goal.returns-then-byte-ne48
+returns-then-byte-ne48 g c = λ f sign separator grouping z.
+    let t = c.args.text.now in
+    unspelled-zero f t c.args.sign.is_negative c.args.sign.len z sign
+    (λ begin. both_ways _ c.if-begins_with_digit.false (c.begins_with_digit.ensures.1 (subst BeginsWithDigit (sym (take_rest t c.args.sign.len)) begin))) (λ same. c.if-byte-ne48.true (ap (λ xs. get_or xs 0 0) same))
 
-pub returns-in-TooLarge : goal.returns-in-TooLarge
-returns-in-TooLarge g c = λ f sign separator grouping.
-    let k = g.N.Sealed.kind in
-    let negative = c.args.sign.is_negative in
-    let within : IsWithin (2 ^ 128) k = rw c.if-not-is_wide.false at c.is_wide.ensures.within in
-    reading-weaker (λ n. 2 ^ 128 ≤ n) (λ n. ¬ (IsValueOf k (signed_number negative n))) f c.args.text.now negative c.read_wide-in-TooLarge.result (λ n past. past-bound (2 ^ 128) k negative n within past)
-    (c.read_wide-in-TooLarge.ensures f sign separator grouping)
-
-pub returns-in-Unspelled : goal.returns-in-Unspelled
-returns-in-Unspelled g c = λ f sign separator grouping.
-    subst (HasReading (λ n. 2 ^ 64 ≤ n) f c.args.text.now c.args.sign.is_negative) c.in-Unspelled.is (c.read_by-2.ensures f sign separator grouping)
+pub returns : goal.returns
+returns g c = λ f sign separator grouping. spells-zero f c.args.text.now c.args.sign.is_negative (one-byte c.args.text.now c.if-text-ne1.false ∙ ap (λ b. b ∷ []) c.if-byte-ne48.false)
