@@ -8,6 +8,8 @@
 
 mod currency;
 mod money;
+mod price;
 
 pub use currency::Currency;
 pub use money::{FormattedMoney, Money};
+pub use price::format_price;
