@@ -28,6 +28,7 @@ pub use Rattle.num_format_parsing.proofs.SpellingLemmas.{is_negative-pos, signed
 use Rattle.num_format_certificates.specs.RoundTrips.{ReadsBack, RoundTrips, HasNoNumeral, IsUnambiguous, printed_separator}
 use Rattle.num_format_certificates.proofs.TextCharacterLemmas.{chars-ascii_byte, separator_chars, chars-text_of, digits_among-separated-ge, no_other-separated, lowest_separates, printed-chars, utf8-text_of}
 use Rattle.num_format_int.proofs.TextLemmas.{length-digits-i128-MIN}
+pub use Rattle.num_format_parsing.proofs.CommonLemmas.{empty_plain}
 
 -- the values of a kind have at most that many digits, which are within its limit, a minus sign counted as one
 record IsWithinLimit (most : ℕ) (k : Kind) : Type 0 where
@@ -246,8 +247,3 @@ pub round_trips-from_two : (f : FormatData) → IsUtf8 (text_of f (negsuc (2 ^ 1
 round_trips-from_two f utf8 one lowest =
     let parts = utf8-text_of f utf8 in
     round_trips-from_unambiguous f parts.0 parts.1 (unambiguous-from_two f parts.0 parts.1 one lowest)
-
--- the empty text has no numeral
-pub empty_plain : HasNoNumeral []
-unfolding chars
-empty_plain = record { no_digit = refl; no_other = refl }

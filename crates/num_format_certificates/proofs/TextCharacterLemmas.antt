@@ -22,6 +22,7 @@ use Rattle.num_format_int.specs.Text.{body_of, text_of}
 use Rattle.num_format_int.proofs.DigitLemmas.{AreDigits, digits-below_ten}
 use Rattle.num_format_int.proofs.GroupedLemmas.{grouped-printed, of_either}
 use Rattle.num_format_parsing.proofs.ReadingLemmas.{digits_among, digits_among-append, digits_among-first, is_ascii_digit-digit, is_other_numeral-digit}
+pub use Rattle.num_format_parsing.proofs.CommonLemmas.{of_printed}
 
 -- a byte of ASCII is a character
 pub chars-ascii_byte : (b : ℕ) (rest : List ℕ) → b < 128 → chars (b ∷ rest) ≡ b ∷ chars rest
@@ -42,11 +43,6 @@ chars-separated is_due s (d ∷ ds) utf8 below =
     chars-ascii_byte (48 + d) ((if is_due (length ds) then s else []) ++ separated is_due s ds) (omega arith)
     ∙ ap (λ cs. (48 + d) ∷ cs) (chars-when (is_due (length ds)) s (separated is_due s ds) utf8
     ∙ ap (λ cs. (if is_due (length ds) then chars s else []) ++ cs) rest)
-
--- what holds of a separator and of the empty text, holds of the separator as far as it is printed
-pub of_printed : (P : List ℕ → Type 0) → P [] → (g : Grouping) (s : List ℕ) → P s → P (printed_separator g s)
-of_printed P empty Posix s whole = empty
-of_printed P empty _ s whole = whole
 
 -- the characters of a format's separator, as far as it is printed
 abbrev pub separator_chars : FormatData → List ℕ

@@ -11,7 +11,7 @@ use lib.Utf8.{encode}
 use Rattle.num_format_text.specs.declared.capacities.TheConstants.{MAX_DEC_LEN, MAX_INF_LEN, MAX_MIN_LEN, MAX_NAN_LEN, MAX_PLUS_LEN, MAX_SEP_LEN}
 use Rattle.num_format_locale.specs.declared.cldr.TheConstants.{LEN}
 use Rattle.num_format_locale.specs.Entry.{IsWellFormed}
-use Rattle.num_format_locale.specs.Characters.{HasOnly, minus_sign_characters, separator_characters}
+use Rattle.num_format_text.specs.Characters.{HasOnly, minus_sign_characters, separator_characters}
 use Rattle.num_format_locale.specs.Classes.{Class, A, B, C, D, E, F, G, H, decimal_mark_of, separator_of}
 use Rattle.num_format_locale.specs.Families.{Member}
 use Rattle.num_format_locale.specs.Unusual.{Unusual, value_for}

@@ -1,4 +1,3 @@
-pub mod Characters
 pub mod Entry
 pub mod Classes
 pub mod Families

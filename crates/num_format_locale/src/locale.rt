@@ -392,4 +392,10 @@ impl Format for Locale {
     fn separator(&self) -> SeparatorStr<'_> {
         SeparatorStr::of(self.separator())
     }
+
+    fn has_common_symbols(&self) -> bool {
+        // The contract of a row says so of each.
+        self.row();
+        true
+    }
 }

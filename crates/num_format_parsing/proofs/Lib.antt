@@ -1,5 +1,6 @@
 pub mod CauseLemmas
 pub mod CharacterLemmas
+pub mod CommonLemmas
 pub mod FigureLemmas
 pub mod GroupingLemmas
 pub mod GroupsLemmas

@@ -3,7 +3,7 @@
 //! A text *spells* a number if it is the text of the number under the format, or that text without
 //! separators. Strict parsing returns the number that a text spells, and refuses every other text. It refuses
 //! every text under a format that is ambiguous.
-ghost use Rattle.std.specs.Prelude.{◌≡◌, ℕ, List, Bool, [], ◌^◌, ◌<◌, ◌≤◌, length, Some, IsTrue, IsUtf8, IfSome, MatchResult};
+ghost use Rattle.std.specs.Prelude.{◌≡◌, ◌↔◌, ℕ, List, Bool, [], ◌^◌, ◌<◌, ◌≤◌, length, Some, IsTrue, IsUtf8, IfSome, MatchResult};
 ghost use Rattle.num_format_text.specs.Format.{FormatData};
 ghost use Rattle.num_format_int.specs.Grouped.{printed_separator};
 ghost use Rattle.num_format_int.specs.Kind.{IsValueOf, signed_number};
@@ -100,6 +100,19 @@ impl<'a, F: Format> Model for StrictParser<'a, F> {
         × IsUnambiguous (F.answers p.format.now) };
 }
 
+/// Returns whether no text can be misread under a format with these symbols.
+#[inline(always)]
+fn is_unambiguous<F: Format>(format: &F, minus_sign: &str, separator: &str) -> bool
+    requires sign { minus_sign.now ≡ (F.answers format.now).minus_sign }
+    requires separator { separator.now ≡ printed_separator (F.answers format.now).grouping (F.answers format.now).separator }
+    ensures { IsTrue result ↔ IsUnambiguous (F.answers format.now) }
+{
+    if format.has_common_symbols() {
+        return true;
+    }
+    !minus_sign.is_empty() && is_plain(minus_sign) && is_plain(separator)
+}
+
 impl<'a, F: Format> StrictParser<'a, F> {
     /// Returns a parser of texts under the format.
     ///
@@ -124,7 +137,7 @@ impl<'a, F: Format> StrictParser<'a, F> {
             Grouping::Posix => "",
             _ => format.separator().into_str(),
         };
-        if minus_sign.is_empty() || !is_plain(minus_sign) || !is_plain(separator) {
+        if !is_unambiguous(format, minus_sign, separator) {
             return Err(StrictError::AmbiguousFormat);
         }
         Ok(StrictParser {

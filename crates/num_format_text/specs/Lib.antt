@@ -1,3 +1,4 @@
+pub mod Characters
 pub mod Cut
 pub mod English
 pub mod Equality

@@ -1,5 +1,6 @@
 //! The trait of number formats.
-ghost use Rattle.std.specs.Prelude.{◌≡◌};
+ghost use Rattle.std.specs.Prelude.{◌≡◌, IsTrue};
+ghost use Rattle.num_format_text.specs.Characters.{HasCommonSymbols};
 ghost use Rattle.num_format_text.specs.Format.{FormatData};
 
 use crate::grouping::Grouping;
@@ -84,4 +85,16 @@ pub trait Format {
     /// ```
     fn separator(&self) -> SeparatorStr<'_>
         ensures { result ≡ (answers self.now).separator };
+
+    /// Returns whether the minus sign and the separator are known to have only characters that those of locales have,
+    /// of which none is numeric. Strict parsing looks at the characters of other formats with each text.
+    ///
+    /// ```rust
+    /// Format::has_common_symbols(&Locale::en)    // true
+    /// ```
+    fn has_common_symbols(&self) -> bool
+        ensures { IsTrue result → HasCommonSymbols (answers self.now) }
+    {
+        false
+    }
 }

@@ -3,21 +3,15 @@ use Rattle.std.proofs.lemmas.Str.{IsUtf8-nil}
 use Rattle.num_format_locale.specs.Table.{entry}
 use Rattle.num_format_locale.proofs.Facts.{entry_is_well_formed}
 use Rattle.num_format_locale.specs.Data.{locale_data}
-use Rattle.num_format_certificates.specs.RoundTrips.{HasNoNumeral}
-use Rattle.num_format_certificates.proofs.LocaleCharacterLemmas.{minus_sign_plain, separator_plain}
-use Rattle.num_format_certificates.proofs.RoundTripLemmas.{empty_plain, round_trips-from_unambiguous}
-use Rattle.num_format_certificates.proofs.TextCharacterLemmas.{of_printed}
+use Rattle.num_format_parsing.proofs.CommonLemmas.{of_printed, unambiguous_from_common}
+use Rattle.num_format_certificates.proofs.RoundTripLemmas.{round_trips-from_unambiguous}
 use Rattle.num_format_certificates.proofs.laws.locale_round_trips.Goals as goal
 
 pub returns : goal.returns
 returns c =
     let f = locale_data c.args.locale in
-    let e = entry c.args.locale in
     let well = entry_is_well_formed c.args.locale c.name.ensures.within in
     let sign = subst IsUtf8 c.minus_sign.ensures.same c.minus_sign.utf8 in
     let separator = subst IsUtf8 c.separator.ensures.same c.separator.utf8 in
-    round_trips-from_unambiguous f sign (of_printed IsUtf8 IsUtf8-nil f.grouping f.separator separator) (record {
-      sign_given = well.min_given;
-      sign = minus_sign_plain e well;
-      separator = of_printed HasNoNumeral empty_plain f.grouping f.separator (separator_plain e well);
-    })
+    round_trips-from_unambiguous f sign (of_printed IsUtf8 IsUtf8-nil f.grouping f.separator separator)
+    (unambiguous_from_common f (record { sign_given = well.min_given; sign = well.min_characters; separator = well.sep_characters }))

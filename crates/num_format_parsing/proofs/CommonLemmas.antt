@@ -1,4 +1,4 @@
--- The minus signs and separators of locales have no digit and no other numeric character.
+-- A format whose symbols have only characters of those of locales is not ambiguous.
 use Rattle.std.proofs.Common.{◌≡◌, ℕ, ◌-◌, List, [], ◌∷◌, map, refl, sym, ap, ◌∙◌, Bool, true, false, Contains}
 use Rattle.std.specs.Prelude.{filter}
 use Rattle.std.specs.Char.{is_ascii_digit}
@@ -7,11 +7,14 @@ use Rattle.std.specs.Str.{chars}
 use Rattle.std.proofs.lemmas.Bool.{or_parts}
 use Rattle.std.proofs.lemmas.List.Elements.{All-weaker}
 use Rattle.std.proofs.lemmas.List.Folds.{list_any_at, list_any_none}
-use Rattle.num_format_locale.specs.Characters.{HasOnly, minus_sign_characters, separator_characters}
-use Rattle.num_format_locale.specs.Entry.{Entry, IsWellFormed}
+use Rattle.num_format_text.specs.declared.grouping.Grouping.{Grouping}
+use Rattle.num_format_text.specs.declared.grouping.Grouping.TheVariants.{Posix}
+use Rattle.num_format_text.specs.Characters.{HasCommonSymbols, HasOnly, minus_sign_characters, separator_characters}
+use Rattle.num_format_text.specs.Format.{FormatData}
+use Rattle.num_format_int.specs.Grouped.{printed_separator}
 use Rattle.num_format_parsing.specs.Reading.{is_other_numeral}
+use Rattle.num_format_parsing.specs.Strict.{HasNoNumeral, IsUnambiguous}
 use Rattle.num_format_parsing.proofs.ReadingLemmas.{ucd_category}
-use Rattle.num_format_certificates.specs.RoundTrips.{HasNoNumeral}
 
 -- a test that no element passes, an element does not pass
 fails_at : (p : ℕ → Bool) (xs : List ℕ) → list_any p xs ≡ false → (c : ℕ) → Contains xs c → p c ≡ false
@@ -40,12 +43,20 @@ has_no_numeral characters text no_digit no_other only = record {
   no_other = fails_in is_other_numeral characters text no_other only;
 }
 
--- so no minus sign of a locale has one
-pub minus_sign_plain : (e : Entry) → IsWellFormed e → HasNoNumeral e.min
-unfolding ucd_category
-minus_sign_plain e well = has_no_numeral minus_sign_characters e.min refl refl well.min_characters
+-- what holds of a separator and of the empty text, holds of the separator as far as it is printed
+pub of_printed : (P : List ℕ → Type 0) → P [] → (g : Grouping) (s : List ℕ) → P s → P (printed_separator g s)
+of_printed P empty Posix s whole = empty
+of_printed P empty _ s whole = whole
 
--- and no separator
-pub separator_plain : (e : Entry) → IsWellFormed e → HasNoNumeral e.sep
+pub empty_plain : HasNoNumeral []
+unfolding chars
+empty_plain = record { no_digit = refl; no_other = refl }
+
+-- so such a format is not ambiguous
+pub unambiguous_from_common : (f : FormatData) → HasCommonSymbols f → IsUnambiguous f
 unfolding ucd_category
-separator_plain e well = has_no_numeral separator_characters e.sep refl refl well.sep_characters
+unambiguous_from_common f common = record {
+  sign_given = common.sign_given;
+  sign = has_no_numeral minus_sign_characters f.minus_sign refl refl common.sign;
+  separator = of_printed HasNoNumeral empty_plain f.grouping f.separator (has_no_numeral separator_characters f.separator refl refl common.separator);
+}
