@@ -1,6 +1,6 @@
 use Rattle.std.proofs.Common.{◌≡◌, ℕ, ◌+◌, ◌^◌, ◌≤◌, List, length, ap, arith}
 use Rattle.num_format_text.specs.Format.{FormatData}
-use Rattle.num_format_decimal.specs.Printing.{unsigned_text}
+use Rattle.num_format_decimal.specs.Text.{unsigned_text}
 use Rattle.num_format_decimal.proofs.TextLemmas.{unsigned_text-length}
 use Rattle.num_format_decimal.proofs.buffer.DecimalBuffer.put_unsigned.Goals as goal
 
