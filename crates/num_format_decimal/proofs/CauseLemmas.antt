@@ -1,6 +1,7 @@
 -- At most one cause holds of a text, and none of a text that is parsed.
-use Rattle.std.proofs.Common.{◌≡◌, ℕ, ◌≤◌, List, length, refl, ap, ◌∙◌, sym, arith, length-drop, subst, Ok, Err, IsUtf8}
-use Rattle.std.specs.Prelude.{Result, MatchResult, ◌↔◌}
+use Rattle.std.proofs.Common.{◌≡◌, ℕ, ◌≤◌, List, length, drop, refl, ap, ◌∙◌, sym, arith, length-drop, subst, Ok, Err, IsUtf8}
+use Rattle.std.specs.Prelude.{Result, MatchResult}
+use Rattle.std.proofs.lemmas.List.{drop_all}
 use Rattle.num_format_text.specs.Format.{FormatData}
 use Rattle.num_format_decimal.specs.declared.decimal.TheConstants.{MAX_SCALE}
 use Rattle.num_format_decimal.specs.declared.error.DecimalError.{DecimalError}
@@ -10,9 +11,9 @@ use Rattle.num_format_decimal.specs.declared.parsing.ParseAtScaleError.TheVarian
 use Rattle.num_format_decimal.specs.declared.parsing.ParseDecimalError.{ParseDecimalError}
 use Rattle.num_format_decimal.specs.declared.parsing.ParseDecimalError.TheVariants.{AmbiguousFormat, NotUtf8, Unexpected, NoDigit, TooManyDecimals, Misspelled, OutOfRange}
 use Rattle.num_format_decimal.specs.declared.rounding.Rounding.TheVariants.{Exact}
-use Rattle.num_format_decimal.specs.FixedPoint.{FixedPoint, fixed_point}
+use Rattle.num_format_decimal.specs.FixedPoint.{FixedPoint}
 use Rattle.num_format_decimal.specs.Marks.{IsPlainFormat, MarksDecimals}
-use Rattle.num_format_decimal.specs.Parsing.{AtScaleResult, DecimalResult, DecimalStopsAt, IsAtScaleCause, IsDecimalCause, IsDecimalOutOfRange, IsExpectedDecimal, ParsesAtScale, ParsesDecimal, SpellsDecimal}
+use Rattle.num_format_decimal.specs.Parsing.{AtScaleResult, DecimalResult, DecimalStopsAt, IsAtScaleCause, IsDecimalCause, IsExpectedDecimal, ParsesAtScale, ParsesDecimal, SpellsDecimal, unexpected_in_decimal}
 use Rattle.num_format_decimal.specs.Values.{HasUnits}
 use Rattle.num_format_decimal.specs.Rounded.{CanRescale, CannotRescale, rescaled}
 use Rattle.num_format_decimal.proofs.MarkLemmas.{spelled_once, tells-spelled_decimal}
@@ -22,6 +23,9 @@ stops-not f t a stops expected = omega (arith, ap length (sym stops.rest ∙ exp
 
 stops-once : (f : FormatData) (t : List ℕ) (a b : ℕ) → DecimalStopsAt f t a → DecimalStopsAt f t b → a ≡ b
 stops-once f t a b p q = omega (arith, ap length (sym p.rest ∙ q.rest), length-drop a t, length-drop b t, p.inside, q.inside)
+
+pub expected_of : (f : FormatData) (t : List ℕ) (at : ℕ) → IsUtf8 t → ((d : FixedPoint) → d.scale ≤ MAX_SCALE → ¬ (SpellsDecimal f t d)) → unexpected_in_decimal f t ≡ drop at t → length t ≤ at → IsExpectedDecimal f t
+expected_of f t at utf8 none rest all = record { spells_none = record { utf8 = utf8; none = none }; rest = rest ∙ drop_all at t all }
 
 -- a text that spells a decimal is UTF-8, and is refused only if its units are no `i128`
 utf8-spelled : (f : FormatData) (t : List ℕ) (d : FixedPoint) → IsPlainFormat f → SpellsDecimal f t d → IsUtf8 t
@@ -56,17 +60,17 @@ module _ (f : FormatData) (t : List ℕ) (plain : IsPlainFormat f) (marks : Mark
   only_cause NoDigit NotUtf8 p q = absurd (q.1 p.1.expected.spells_none.utf8)
   only_cause NoDigit (Unexpected b) p q = absurd (stops-not f t b q.1 p.1.expected)
   only_cause NoDigit NoDigit p q = refl
-  only_cause NoDigit TooManyDecimals p q = absurd (q.1.some p.1.none)
-  only_cause NoDigit Misspelled p q = absurd (q.1.some p.1.none)
+  only_cause NoDigit TooManyDecimals p q = absurd (q.1.fault.0 p.1.fault)
+  only_cause NoDigit Misspelled p q = absurd (q.1.fault.0 p.1.fault)
   only_cause TooManyDecimals NotUtf8 p q = absurd (q.1 p.1.expected.spells_none.utf8)
   only_cause TooManyDecimals (Unexpected b) p q = absurd (stops-not f t b q.1 p.1.expected)
-  only_cause TooManyDecimals NoDigit p q = absurd (p.1.some q.1.none)
+  only_cause TooManyDecimals NoDigit p q = absurd (p.1.fault.0 q.1.fault)
   only_cause TooManyDecimals TooManyDecimals p q = refl
-  only_cause TooManyDecimals Misspelled p q = absurd (omega (arith, p.1.many, q.1.few))
+  only_cause TooManyDecimals Misspelled p q = absurd (omega (arith, p.1.fault.1, q.1.fault.1))
   only_cause Misspelled NotUtf8 p q = absurd (q.1 p.1.expected.spells_none.utf8)
   only_cause Misspelled (Unexpected b) p q = absurd (stops-not f t b q.1 p.1.expected)
-  only_cause Misspelled NoDigit p q = absurd (p.1.some q.1.none)
-  only_cause Misspelled TooManyDecimals p q = absurd (omega (arith, p.1.few, q.1.many))
+  only_cause Misspelled NoDigit p q = absurd (p.1.fault.0 q.1.fault)
+  only_cause Misspelled TooManyDecimals p q = absurd (omega (arith, p.1.fault.1, q.1.fault.1))
   only_cause Misspelled Misspelled p q = refl
 
   -- what is parsed, or refused for a cause, is what parsing returns

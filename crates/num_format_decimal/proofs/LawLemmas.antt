@@ -1,6 +1,6 @@
 -- The laws of decimals.
-use Rattle.std.proofs.Common.{◌≡◌, ℕ, suc, ◌+◌, ◌-◌, ◌*◌, ◌/◌, ◌%◌, ◌^◌, ◌<◌, ◌≤◌, Bool, true, false, List, [], ◌++◌, length, refl, ap, ◌∙◌, sym, arith, length-append, ℤ, pos, negsuc, unsigned_abs}
-use Rattle.std.specs.Prelude.{◌*ℤ◌, neg_ℤ, nat_lt, if◌then◌else◌}
+use Rattle.std.proofs.Common.{◌≡◌, ℕ, suc, ◌+◌, ◌-◌, ◌*◌, ◌/◌, ◌%◌, ◌^◌, ◌<◌, ◌≤◌, Bool, true, false, length, refl, ap, ◌∙◌, sym, arith, ℤ, pos, negsuc}
+use Rattle.std.specs.Prelude.{◌*ℤ◌, neg_ℤ, if◌then◌else◌}
 use Rattle.std.specs.Int.{is_negative}
 use Rattle.std.specs.Cmp.{nat_cmp_is}
 use Rattle.std.specs.Ordering.{int_cmp, nat_cmp, MatchOrdering}
@@ -12,12 +12,12 @@ use Rattle.std.proofs.lemmas.Cmp.{ranked}
 use Rattle.num_format_text.specs.declared.grouping.Grouping.TheVariants.{Indian}
 use Rattle.num_format_text.specs.Format.{FormatData, IsWithinCapacity}
 use Rattle.num_format_int.specs.Digits.{digits}
-use Rattle.num_format_int.specs.Groups.{last_digits, plain}
 use Rattle.num_format_int.specs.Text.{body_of}
 use Rattle.num_format_int.proofs.GroupedLemmas.{length-grouped, of_either}
+use Rattle.num_format_decimal.specs.declared.rounding.Rounding.{Rounding}
 use Rattle.num_format_decimal.specs.declared.rounding.Rounding.TheVariants.{HalfEven, HalfAwayFromZero}
 use Rattle.num_format_decimal.specs.FixedPoint.{FixedPoint, fixed_point}
-use Rattle.num_format_decimal.specs.Laws.{OrderLaw, RoundingLaw, TextBoundLaw}
+use Rattle.num_format_decimal.specs.Laws.{IsNearest, OrderLaw, RoundingLaw, TextBoundLaw}
 use Rattle.num_format_decimal.specs.Rounded.{quotient, rounds_up}
 use Rattle.num_format_decimal.specs.Text.{decimal_text}
 use Rattle.num_format_decimal.specs.Values.{HasUnits, value_of}
@@ -115,36 +115,23 @@ text_reached f indian separator minus_sign mark =
 pub text_bound_law : TextBoundLaw
 text_bound_law = record { bound = text_fits; reached = text_reached }
 
--- a quotient that is rounded up, or not
-up_bounds : (m n : ℕ) → 0 < n → n ≤ 2 * (m % n) → (2 * ((m / n + 1) * n) ≤ 2 * m + n) × (2 * m ≤ 2 * ((m / n + 1) * n) + n)
-up_bounds m n positive half =
-    let whole = div-add-mod m n in
-    let below = mod-lt m positive in
-    (omega (arith, half, whole), omega (arith, whole, below))
-
-down_bounds : (m n : ℕ) → 2 * (m % n) ≤ n → (2 * ((m / n + 0) * n) ≤ 2 * m + n) × (2 * m ≤ 2 * ((m / n + 0) * n) + n)
-down_bounds m n half =
-    let whole = div-add-mod m n in
-    (omega (arith, whole), omega (arith, half, whole))
-
+-- a quotient that is rounded up from half of the divisor on, and else not
 up_or_down : (b : Bool) (m n : ℕ) → (b ≡ true → n ≤ 2 * (m % n)) → (b ≡ false → 2 * (m % n) ≤ n) → 0 < n →
     (2 * ((m / n + (if b then 1 else 0)) * n) ≤ 2 * m + n) × (2 * m ≤ 2 * ((m / n + (if b then 1 else 0)) * n) + n)
-up_or_down true m n up down positive = up_bounds m n positive (up refl)
-up_or_down false m n up down positive = down_bounds m n (down refl)
+up_or_down true m n up down positive = (omega (arith, up refl, div-add-mod m n), omega (arith, div-add-mod m n, mod-lt m positive))
+up_or_down false m n up down positive = (omega (arith, div-add-mod m n), omega (arith, down refl, div-add-mod m n))
+
+nearest : (mode : Rounding) → ((q r n : ℕ) → rounds_up mode q r n ≡ false → 2 * r ≤ n) → IsNearest mode
+nearest mode down = record { above = λ m n positive. (bounds m n positive).0; below = λ m n positive. (bounds m n positive).1 }
+  where
+    bounds : (m n : ℕ) → 0 < n → (2 * (quotient mode m n * n) ≤ 2 * m + n) × (2 * m ≤ 2 * (quotient mode m n * n) + n)
+    bounds m n positive = up_or_down (rounds_up mode (m / n) (m % n) n) m n (at_least_half mode (m / n) (m % n) n) (down (m / n) (m % n) n) positive
 
 not_up_even : (q r n : ℕ) → rounds_up HalfEven q r n ≡ false → 2 * r ≤ n
 not_up_even q r n down = grind (arith, nat_tests)
 
 not_up_away : (q r n : ℕ) → rounds_up HalfAwayFromZero q r n ≡ false → 2 * r ≤ n
 not_up_away q r n down = grind (arith, nat_tests)
-
-even_bounds : (m n : ℕ) → 0 < n → (2 * (quotient HalfEven m n * n) ≤ 2 * m + n) × (2 * m ≤ 2 * (quotient HalfEven m n * n) + n)
-even_bounds m n positive =
-    up_or_down (rounds_up HalfEven (m / n) (m % n) n) m n (at_least_half HalfEven (m / n) (m % n) n) (not_up_even (m / n) (m % n) n) positive
-
-away_bounds : (m n : ℕ) → 0 < n → (2 * (quotient HalfAwayFromZero m n * n) ≤ 2 * m + n) × (2 * m ≤ 2 * (quotient HalfAwayFromZero m n * n) + n)
-away_bounds m n positive =
-    up_or_down (rounds_up HalfAwayFromZero (m / n) (m % n) n) m n (at_least_half HalfAwayFromZero (m / n) (m % n) n) (not_up_away (m / n) (m % n) n) positive
 
 half_to_even : (q r n : ℕ) → 2 * r ≡ n → (q + (if rounds_up HalfEven q r n then 1 else 0)) % 2 ≡ 0
 half_to_even q r n half = grind (arith, nat_tests)
@@ -154,8 +141,8 @@ half_away q r n half = grind (arith, nat_tests)
 
 pub rounding_law : RoundingLaw
 rounding_law = record {
-  half_even = record { above = λ m n positive. (even_bounds m n positive).0; below = λ m n positive. (even_bounds m n positive).1 };
+  half_even = nearest HalfEven not_up_even;
   to_even = λ m n half. half_to_even (m / n) (m % n) n half;
-  half_away = record { above = λ m n positive. (away_bounds m n positive).0; below = λ m n positive. (away_bounds m n positive).1 };
+  half_away = nearest HalfAwayFromZero not_up_away;
   away = λ m n half. half_away (m / n) (m % n) n half;
 }

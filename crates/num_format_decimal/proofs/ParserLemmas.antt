@@ -1,6 +1,6 @@
 -- What a parser of decimals reads of a text, and what it leaves out.
-use Rattle.std.proofs.Common.{◌≡◌, ℕ, zero, suc, ◌+◌, ◌-◌, ◌*◌, ◌/◌, ◌^◌, ◌<◌, ◌≤◌, ◌⊎◌, inl, inr, Bool, true, false, List, [], ◌∷◌, ◌++◌, length, take, drop, take-append-drop, drop-drop, refl, ap, ◌∙◌, sym, subst, arith, append_assoc, length-append, length-drop, IsUtf8, ℤ, pos, negsuc, unsigned_abs, Err}
-use Rattle.std.specs.Prelude.{nat_eq, if◌then◌else◌, FitsSigned, Result, Ok, Option, Some, None, SomeIff}
+use Rattle.std.proofs.Common.{◌≡◌, ℕ, zero, suc, ◌+◌, ◌-◌, ◌*◌, ◌/◌, ◌^◌, ◌<◌, ◌≤◌, inl, inr, Bool, true, false, List, [], ◌∷◌, ◌++◌, length, take, drop, take-append-drop, drop-drop, refl, ap, ◌∙◌, sym, subst, arith, length-append, length-drop, IsUtf8, ℤ, pos, negsuc, unsigned_abs, Err}
+use Rattle.std.specs.Prelude.{nat_eq, if◌then◌else◌, FitsSigned, Result, Ok}
 use Rattle.std.specs.Char.{is_ascii_digit}
 use Rattle.std.specs.Int.{is_negative, w128}
 use Rattle.std.specs.Int.Digits.{number_from_digits}
@@ -11,8 +11,6 @@ use Rattle.std.proofs.lemmas.Int.{ints}
 use Rattle.std.proofs.lemmas.List.{append_cancel_left, drop_at, take_rest}
 use Rattle.std.proofs.lemmas.Slice.Eq.{starts_is}
 use Rattle.std.proofs.lemmas.Str.{IsUtf8-nil}
-use Rattle.num_format_text.specs.declared.grouping.Grouping.{Grouping}
-use Rattle.num_format_text.specs.declared.grouping.Grouping.TheVariants.{Posix}
 use Rattle.num_format_text.specs.Format.{FormatData}
 use Rattle.num_format_text.proofs.SizesLemmas.{grouped_or_not}
 use Rattle.num_format_int.specs.Digits.{digits}
@@ -24,9 +22,10 @@ use Rattle.num_format_int.proofs.DigitLemmas.{digits-small}
 use Rattle.num_format_int.proofs.GroupedLemmas.{grouped-Posix, grouped-short}
 use Rattle.num_format_parsing.specs.Reading.{is_negative_text}
 use Rattle.num_format_parsing.specs.Shapes.{HasSign, byte_figures}
-use Rattle.num_format_parsing.specs.Strict.{IsUnambiguous, ParsesStrictly, SpellsNumber, begins, sign_len, ungrouped, with_separators, without_separators}
+use Rattle.num_format_parsing.specs.Strict.{IsUnambiguous, ParsesStrictly, SpellsNumber, begins, ungrouped, with_separators, without_separators}
 use Rattle.num_format_parsing.specs.declared.strict.StrictError.{StrictError}
 use Rattle.num_format_parsing.specs.declared.strict.StrictError.TheVariants as strict
+use Rattle.num_format_parsing.proofs.SpellingLemmas.{sign-behind}
 use Rattle.num_format_certificates.proofs.RoundTripLemmas.{is_negative-pos, round_trips-from_unambiguous, signed_number-unsigned_abs}
 use Rattle.num_format_certificates.proofs.TextCharacterLemmas.{of_printed}
 use Rattle.num_format_decimal.specs.declared.parser.Fault.{Fault}
@@ -34,24 +33,14 @@ use Rattle.num_format_decimal.specs.declared.parser.Fault.TheVariants.{TooLarge,
 use Rattle.num_format_decimal.specs.declared.decimal.TheConstants.{MAX_SCALE}
 use Rattle.num_format_decimal.specs.FixedPoint.{FixedPoint, fixed_point}
 use Rattle.num_format_decimal.specs.Marks.{IsMark, IsPlainFormat, MarksDecimals}
-use Rattle.num_format_decimal.specs.Parsing.{IsDecimalOutOfRange, SpellsDecimal}
-use Rattle.num_format_decimal.specs.Shapes.{HasAmount, HasReading, IsAmount, IsCut, IsSigned, IsSpelled, fault_of, tail_digits}
-use Rattle.num_format_decimal.specs.Text.{decimals_of, mark_at}
+use Rattle.num_format_decimal.specs.Parsing.{IsDecimalOutOfRange, ParsesDecimal, SpellsDecimal}
+use Rattle.num_format_decimal.specs.Shapes.{HasAmount, HasReading, IsAmount, IsCut, IsSigned, fault_of, tail_digits}
+use Rattle.num_format_decimal.specs.Text.{mark_at}
 use Rattle.num_format_decimal.specs.Values.{HasUnits}
 use Rattle.num_format_decimal.proofs.MarkLemmas.{apart-printed, tail-cut, tail-signed, tells-signed, tells-spelled_decimal}
 use Rattle.num_format_decimal.proofs.ScaleLemmas.{grown}
 use Rattle.num_format_decimal.proofs.SpelledLemmas.{amount-before, ends-read, signed-abs, signed-sign, signed-spelled, spelled-signed}
 use Rattle.num_format_decimal.proofs.TextLemmas.{length-plain, mark-some}
-
--- the minus sign at the start of a text, and what follows
-pub sign_taken : (f : FormatData) (t : List ℕ) (b : Bool) (start : ℕ) → HasSign f t b start → t ≡ (if b then f.minus_sign else []) ++ drop start t
-sign_taken f t b start sign =
-    subst (λ s. t ≡ (if b then f.minus_sign else []) ++ drop s t) (sym sign.long)
-    (subst (λ (c : Bool). t ≡ (if c then f.minus_sign else []) ++ drop (sign_len f t) t) (sym sign.tested) (taken (is_negative_text f t) refl))
-  where
-    taken : (c : Bool) → is_negative_text f t ≡ c → t ≡ (if c then f.minus_sign else []) ++ drop (if c then length f.minus_sign else 0) t
-    taken true negative = (starts_is Decides-eqb t f.minus_sign (is_negative_text f t) refl).0 negative
-    taken false negative = refl
 
 -- a number is an amount
 pub amount_of : (f : FormatData) (t : List ℕ) (z : ℤ) → SpellsNumber f t z → IsAmount f t (is_negative z) (unsigned_abs z)
@@ -67,7 +56,7 @@ pub plain_amount : (f : FormatData) (t : List ℕ) (b : Bool) (start n : ℕ) �
 plain_amount f t b start n sign same = record {
   grouping = (ungrouped f).grouping;
   either = inr refl;
-  text = sign_taken f t b start sign ∙ ap (λ xs. (if b then f.minus_sign else []) ++ xs) (same ∙ sym (grouped-Posix f.separator (digits n)));
+  text = sign-behind f t b start sign ∙ ap (λ xs. (if b then f.minus_sign else []) ++ xs) (same ∙ sym (grouped-Posix f.separator (digits n)));
 }
 
 -- and an amount is a number, unless it is zero with a sign
@@ -92,7 +81,7 @@ no_amount f t b start sign other none true zero amount =
     let minus = f.minus_sign in
     let text : t ≡ minus ++ (48 ∷ []) = amount.text ∙ ap (λ xs. minus ++ xs) (ap (grouped amount.grouping f.separator) (digits-small 0 (omega arith)) ∙ grouped-short amount.grouping f.separator (0 ∷ []) (omega arith)) in
     let negative : b ≡ true = sign.tested ∙ (starts_is Decides-eqb t minus (is_negative_text f t) refl).1 (48 ∷ []) text in
-    other (append_cancel_left minus _ _ (sym (sign_taken f t b start sign ∙ ap (λ (c : Bool). (if c then minus else []) ++ drop start t) negative) ∙ text))
+    other (append_cancel_left minus _ _ (sym (sign-behind f t b start sign ∙ ap (λ (c : Bool). (if c then minus else []) ++ drop start t) negative) ∙ text))
 
 value-of_i128 : (z : ℤ) → FitsSigned w128 z → IsValueOf (kind_of I128) z
 value-of_i128 (pos n) fits = record { above = omega (arith, ints, fits.sfits); below = omega (arith, ints, fits.sfits); zero = λ h. refl }
@@ -178,8 +167,9 @@ module _ (f : FormatData) (whole decimals : List ℕ) where
       let read = ends-read decimals has.units n has.digits has.sum in
       record { whole = whole; amount = subst (IsAmount f whole b) (sym read.whole) has.amount; text = ap (λ ds. whole ++ (mark_at f (length decimals) ++ ds)) read.digits }
 
-  pub parts_read : (b : Bool) (n : ℕ) → HasParts f whole decimals b n → (b ≡ true → 0 < n) → (d : FixedPoint) → d ≡ fixed_point (signed_number b n) (length decimals) → HasUnits d → IsSpelled f text d
-  parts_read b n has some d same fits = record {
+  pub parts_read : MarksDecimals f → (b : Bool) (n : ℕ) → HasParts f whole decimals b n → (b ≡ true → 0 < n) → (d : FixedPoint) → d ≡ fixed_point (signed_number b n) (length decimals) → HasUnits d → ParsesDecimal f text d
+  parts_read marks b n has some d same fits = record {
+    unambiguous = marks;
     spelled = subst (SpellsDecimal f text) (sym same) (spelled-signed f text b n (length decimals) some (parts_signed b n has));
     bound = omega (arith, ap (λ x. x.scale) same, has.few);
     fits = fits;

@@ -1,5 +1,5 @@
 -- What is prepended to the decimals.
-use Rattle.std.proofs.Common.{◌≡◌, ℕ, zero, suc, ◌+◌, ◌-◌, ◌≤◌, ◌*◌, ◌/◌, ◌%◌, ◌^◌, List, [], ◌∷◌, ◌++◌, length, refl, ap, ◌∙◌, sym, arith, append-nil, append_assoc}
+use Rattle.std.proofs.Common.{◌≡◌, ℕ, zero, suc, ◌+◌, ◌-◌, ◌≤◌, ◌/◌, ◌%◌, ◌^◌, List, [], ◌∷◌, ◌++◌, refl, ap, ◌∙◌, sym, arith, append-nil, append_assoc}
 use Rattle.std.proofs.Math.Nat.{div-div-eq-div-mul, pow-succ'}
 use Rattle.std.proofs.lemmas.List.{map-append}
 use Rattle.std.proofs.lemmas.Nat.{pow-add}
@@ -28,7 +28,7 @@ pub undivided : (n k : ℕ) → k ≡ 0 → n ≡ n / 10 ^ k
 undivided n k none = let whole : n ≡ n / 10 ^ 0 = omega arith in whole ∙ ap (λ i. n / 10 ^ i) (sym none)
 
 -- digits before the last digits of a number, and before a text
-digits_before : (k j n left : ℕ) (part text new old : List ℕ) → left ≡ n / 10 ^ k → text ≡ plain (last_digits k n) ++ old → part ≡ plain (last_digits j left) → new ≡ part ++ text →
+pub digits_before : (k j n left : ℕ) (part text new old : List ℕ) → left ≡ n / 10 ^ k → text ≡ plain (last_digits k n) ++ old → part ≡ plain (last_digits j left) → new ≡ part ++ text →
     new ≡ plain (last_digits (k + j) n) ++ old
 digits_before k j n left part text new old is_left before is_part after =
     after
@@ -43,10 +43,6 @@ two_digits_more k n left pair text new old is_left before is_pair after =
     let high : left % 100 / 10 ≡ left / 10 % 10 = omega arith in
     let low : left % 100 % 10 ≡ left % 10 = omega arith in
     digits_before k 2 n left pair text new old is_left before (is_pair ∙ ap (λ d. (48 + d) ∷ (48 + left % 100 % 10) ∷ []) high ∙ ap (λ d. (48 + left / 10 % 10) ∷ (48 + d) ∷ []) low) after
-
-pub one_digit_more : (k n left : ℕ) (digit text new old : List ℕ) → left ≡ n / 10 ^ k → text ≡ plain (last_digits k n) ++ old → digit ≡ (48 + left % 10) ∷ [] →
-    new ≡ digit ++ text → new ≡ plain (last_digits (k + 1) n) ++ old
-one_digit_more k n left digit text new old is_left before is_digit after = digits_before k 1 n left digit text new old is_left before is_digit after
 
 -- digits before nothing
 pub before_none : (text old new : List ℕ) → old ≡ [] → new ≡ text ++ old → new ≡ text

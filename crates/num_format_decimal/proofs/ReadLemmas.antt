@@ -1,5 +1,5 @@
 -- Digits that are read one by one.
-use Rattle.std.proofs.Common.{◌≡◌, ℕ, suc, ◌+◌, ◌-◌, ◌*◌, ◌^◌, ◌<◌, ◌≤◌, ◌⊎◌, inl, inr, true, false, List, [], ◌∷◌, ◌++◌, length, get_or, take, drop, take-append-drop, refl, ap, ◌∙◌, sym, subst, arith, length-append, length-drop}
+use Rattle.std.proofs.Common.{◌≡◌, ℕ, suc, ◌+◌, ◌-◌, ◌*◌, ◌^◌, ◌<◌, ◌≤◌, ◌⊎◌, inl, inr, true, false, List, [], ◌∷◌, ◌++◌, length, get_or, take, drop, take-append-drop, refl, ap, ◌∙◌, sym, arith, length-append, length-drop}
 use Rattle.std.specs.Prelude.{Option, Some, None, MatchOption}
 use Rattle.std.specs.Char.{is_ascii_digit}
 use Rattle.std.specs.Int.Digits.{number_from_digits}
@@ -60,16 +60,12 @@ few_fit t i n d before digit inside few =
     let most : 10 ^ (i + 1) ≤ 10 ^ 19 = pow-le-pow_right {n = 10} (omega arith) {i = i + 1} {j = 19} (omega arith) in
     omega (arith, power, most, before.small)
 
--- bytes of which one is no digit
-pub not_digits : (t : List ℕ) (i : ℕ) → i < length t → is_ascii_digit (get_or t i 0) ≡ false → list_all is_ascii_digit t ≡ false
-not_digits t i inside other = list_all_at is_ascii_digit t i 0 inside other
-
 -- digits that begin with no zero, and zero alone, are those of their number
 pub plain_read : (t : List ℕ) (n : ℕ) → 0 < length t → list_all is_ascii_digit t ≡ true → (¬ (get_or t 0 0 ≡ 48)) ⊎ (length t ≤ 1) → n ≡ number_from_digits 10 (byte_figures t) → t ≡ plain (digits n)
 plain_read t n some all either number =
     elim (cases_eq (get_or t 0 0) 48) [
       | inr other ↦
-          let first = true_from_ne_false (is_ascii_digit (get_or t 0 0)) (λ no. both_ways _ (not_digits t 0 some no) all) in
+          let first = true_from_ne_false (is_ascii_digit (get_or t 0 0)) (λ no. both_ways _ (list_all_at is_ascii_digit t 0 0 some no) all) in
           let write = writes t (begins-at t 0 some first other) in
           plain-all t all ∙ ap plain (sym write.same ∙ ap digits (sym number))
       | inl nought ↦ elim either [

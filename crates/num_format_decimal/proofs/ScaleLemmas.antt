@@ -2,7 +2,7 @@
 use Rattle.std.proofs.Common.{◌≡◌, ℕ, zero, suc, ◌+◌, ◌-◌, ◌*◌, ◌/◌, ◌%◌, ◌^◌, ◌<◌, ◌≤◌, Bool, true, false, refl, ap, ◌∙◌, sym, subst, inl, inr, arith, ℤ, pos, negsuc, unsigned_abs}
 use Rattle.std.specs.Prelude.{◌+ℤ◌, ◌-ℤ◌, ◌*ℤ◌, ◌≤ℤ◌, neg_ℤ, not, FitsSigned, ◌≢◌, if◌then◌else◌}
 use Rattle.std.specs.Int.{cast_signed, is_negative, w128, IsNonZero, NotMinOverMinusOne}
-use Rattle.std.proofs.Math.Nat.{div-add-mod, div-eq_of_lt, div-eq_of_lt-le, div-lt_self, div-mul-le_self, div-one, mod-eq-sub-div-mul, mod-eq_of_lt, mod-lt, mod-one, mul-le-mul_left, mul-add-mod_self_left, mul-mod_left, one-le-pow, pow-le-pow_right, pow-suc, zero-mod}
+use Rattle.std.proofs.Math.Nat.{div-add-mod, div-eq_of_lt-le, div-lt_self, div-mul-le_self, div-one, mod-eq-sub-div-mul, mod-eq_of_lt, mod-lt, mod-one, mul-le-mul_left, mul-add-mod_self_left, mul-mod_left, one-le-pow, pow-le-pow_right, pow-suc, zero-mod}
 use Rattle.std.proofs.lemmas.Bool.{cases_lt}
 use Rattle.std.proofs.lemmas.Bool.Decides.{nat_tests}
 use Rattle.std.proofs.lemmas.Int.{ints, to_z_pos}
@@ -123,14 +123,7 @@ pub larger : (d : FixedPoint) (scale : ℕ) → unsigned_abs d.units ≤ 2 ^ 127
 larger d scale within large =
     let above : d.scale < scale = raised d scale within large in
     let apart : dividend d scale ≢ 2 ^ 128 = no_power (unsigned_abs d.units) (scale - d.scale) (omega arith) in
-    elim (cases_lt (2 ^ 128) (dividend d scale)) [
-      | inl more ↦ more
-      | inr most ↦
-          elim (cases_lt (dividend d scale) (2 ^ 128)) [
-            | inl less ↦ absurd (large less)
-            | inr least ↦ absurd (apart (omega arith))
-          ]
-    ]
+    omega (arith, large, apart)
 
 -- a quotient is rounded up only where half of the divisor is left
 pub at_least_half : (mode : Rounding) (q r n : ℕ) → rounds_up mode q r n ≡ true → n ≤ 2 * r

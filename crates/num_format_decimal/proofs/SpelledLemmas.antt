@@ -1,24 +1,24 @@
 -- The parts of a text that spells a decimal, and the digits in it.
-use Rattle.std.proofs.Common.{◌≡◌, ℕ, zero, suc, ◌+◌, ◌*◌, ◌/◌, ◌%◌, ◌^◌, ◌<◌, ◌≤◌, inl, inr, Bool, true, false, List, [], ◌∷◌, ◌++◌, length, drop, take, refl, ap, ◌∙◌, sym, subst, arith, append_assoc, length-append, lit<, ℤ, pos, negsuc, unsigned_abs}
-use Rattle.std.specs.Prelude.{All, nat_lt, if◌then◌else◌}
+use Rattle.std.proofs.Common.{◌≡◌, ℕ, zero, suc, ◌+◌, ◌*◌, ◌/◌, ◌%◌, ◌^◌, ◌<◌, ◌⊎◌, inl, inr, Bool, true, false, List, [], ◌∷◌, ◌++◌, length, drop, take, refl, ap, ◌∙◌, sym, subst, arith, append_assoc, length-append, lit<, unsigned_abs}
+use Rattle.std.specs.Prelude.{if◌then◌else◌}
 use Rattle.std.specs.Char.{is_ascii_digit}
 use Rattle.std.specs.Int.{is_negative}
 use Rattle.std.specs.Int.Digits.{number_from_digits, number_from_digits_after}
 use Rattle.std.specs.List.{list_all}
 use Rattle.std.proofs.Math.Nat.{div-div-eq-div-mul, mod-lt, pow-suc, pow-succ'}
 use Rattle.std.proofs.lemmas.Bool.{and_from}
-use Rattle.std.proofs.lemmas.Bool.Decides.{nat_tests}
 use Rattle.std.proofs.lemmas.Int.Digits.{number_after_append, number_lt}
 use Rattle.std.proofs.lemmas.List.{length-map, take_at}
 use Rattle.std.proofs.lemmas.List.Elements.{All-append, All-cons, All-head, All-nil, All-tail, recursion_from_All}
 use Rattle.std.proofs.lemmas.Nat.{div-mul-add, mod-mul-add}
+use Rattle.num_format_text.specs.declared.grouping.Grouping.{Grouping}
+use Rattle.num_format_text.specs.declared.grouping.Grouping.TheVariants.{Posix}
 use Rattle.num_format_text.specs.Format.{FormatData}
 use Rattle.num_format_int.specs.Digits.{digits}
 use Rattle.num_format_int.specs.Grouped.{grouped}
 use Rattle.num_format_int.specs.Groups.{last_digits, plain}
 use Rattle.num_format_int.specs.Kind.{signed_number}
-use Rattle.num_format_int.specs.Text.{body_of}
-use Rattle.num_format_int.proofs.DigitLemmas.{AreDigits, digits-leading_one, digits-small, last_digits-mod, length-last_digits, number_from_digits-digits}
+use Rattle.num_format_int.proofs.DigitLemmas.{AreDigits, digits-leading_one, digits-small, last_digits-mod, number_from_digits-digits}
 use Rattle.num_format_parsing.specs.Shapes.{byte_figures}
 use Rattle.num_format_parsing.specs.Strict.{ungrouped}
 use Rattle.num_format_parsing.proofs.FigureLemmas.{digits-after, figures-below}
@@ -49,16 +49,12 @@ signed-text f b n k some =
     ∙ ap (λ j. (if b then f.minus_sign else []) ++ unsigned_text f j k) (signed-abs b n)
 
 pub signed-spelled : (f : FormatData) (t : List ℕ) (d : FixedPoint) → SpellsDecimal f t d → IsSigned f t (is_negative d.units) (unsigned_abs d.units) d.scale
-signed-spelled f t d (with_separators same) =
-    let n = unsigned_abs d.units in
-    let sign : List ℕ = if is_negative d.units then f.minus_sign else [] in
-    let body = body_of f (n / 10 ^ d.scale) in
-    record { whole = sign ++ body; amount = record { grouping = f.grouping; either = inl refl; text = refl }; text = same ∙ sym (append_assoc sign body (decimals_of f n d.scale)) }
-signed-spelled f t d (without_separators same) =
-    let n = unsigned_abs d.units in
-    let sign : List ℕ = if is_negative d.units then f.minus_sign else [] in
-    let body = body_of (ungrouped f) (n / 10 ^ d.scale) in
-    record { whole = sign ++ body; amount = record { grouping = (ungrouped f).grouping; either = inr refl; text = refl }; text = same ∙ sym (append_assoc sign body (decimals_of f n d.scale)) }
+signed-spelled f t d spells = elim spells [ with_separators same ↦ from f.grouping (inl refl) same | without_separators same ↦ from (ungrouped f).grouping (inr refl) same ]
+  where
+    from : (g : Grouping) → (g ≡ f.grouping) ⊎ (g ≡ Posix) →
+        t ≡ (if is_negative d.units then f.minus_sign else []) ++ (grouped g f.separator (digits (unsigned_abs d.units / 10 ^ d.scale)) ++ decimals_of f (unsigned_abs d.units) d.scale) →
+        IsSigned f t (is_negative d.units) (unsigned_abs d.units) d.scale
+    from g either same = record { whole = _; amount = record { grouping = g; either = either; text = refl }; text = same ∙ sym (append_assoc (if is_negative d.units then f.minus_sign else []) (grouped g f.separator (digits (unsigned_abs d.units / 10 ^ d.scale))) (decimals_of f (unsigned_abs d.units) d.scale)) }
 
 pub spelled-signed : (f : FormatData) (t : List ℕ) (b : Bool) (n k : ℕ) → (b ≡ true → 0 < n) → IsSigned f t b n k → SpellsDecimal f t (fixed_point (signed_number b n) k)
 spelled-signed f t b n k some signed =

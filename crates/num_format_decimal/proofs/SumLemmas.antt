@@ -2,6 +2,7 @@
 use Rattle.std.proofs.Common.{◌≡◌, ℕ, ◌+◌, ◌-◌, ◌^◌, ◌<◌, ◌≤◌, Bool, true, false, refl, ap, ◌∙◌, sym, subst, arith, unsigned_abs}
 use Rattle.std.specs.Prelude.{max, not, ◌+ℤ◌, FitsSigned, SomeIff, Option}
 use Rattle.std.specs.Int.{is_negative, w128}
+use Rattle.std.proofs.Math.IntN.{+ℤ_comm}
 use Rattle.std.proofs.lemmas.Int.{ints}
 use Rattle.num_format_int.specs.Kind.{signed_number}
 use Rattle.num_format_decimal.specs.FixedPoint.{FixedPoint, fixed_point}
@@ -42,10 +43,7 @@ exceeds_left true false m n large small fits = omega (arith, ints, fits_low _ fi
 exceeds_left true true m n large small fits = omega (arith, ints, fits_low _ fits, fits_high _ fits)
 
 exceeds_right : (b c : Bool) (m n : ℕ) → m ≤ 2 ^ 127 → 2 ^ 128 < n → ¬ (FitsSigned w128 (signed_number b m +ℤ signed_number c n))
-exceeds_right false false m n small large fits = omega (arith, ints, fits_low _ fits, fits_high _ fits)
-exceeds_right false true m n small large fits = omega (arith, ints, fits_low _ fits, fits_high _ fits)
-exceeds_right true false m n small large fits = omega (arith, ints, fits_low _ fits, fits_high _ fits)
-exceeds_right true true m n small large fits = omega (arith, ints, fits_low _ fits, fits_high _ fits)
+exceeds_right b c m n small large fits = exceeds_left c b n m large small (subst (FitsSigned w128) (+ℤ_comm (signed_number b m) (signed_number c n)) fits)
 
 -- no sum of decimals fits, where one of them takes more than 128 bits at the larger scale
 pub first_large : (a b : FixedPoint) (e : Bool) (s : ℕ) → s ≡ max a.scale b.scale → unsigned_abs a.units ≤ 2 ^ 127 → unsigned_abs b.units ≤ 2 ^ 127 →

@@ -19,6 +19,9 @@ use Rattle.num_format_decimal.specs.Text.{decimal_text, decimals_of, mark_at, un
 pub length-plain : (k n : ℕ) → length (plain (last_digits k n)) ≡ k
 length-plain k n = length-map (last_digits k n) (λ d. 48 + d) ∙ length-last_digits k n
 
+pub length-put : (k n : ℕ) (new old : List ℕ) → new ≡ plain (last_digits k n) ++ old → length new ≡ k + length old
+length-put k n new old same = ap length same ∙ length-append (plain (last_digits k n)) old ∙ ap (λ m. m + length old) (length-plain k n)
+
 -- the mark stands before some decimals
 pub mark-some : (f : FormatData) (k : ℕ) → 0 < k → mark_at f k ≡ f.decimal
 mark-some f k some =

@@ -15,9 +15,8 @@ use Rattle.num_format_decimal.specs.declared.decimal.TheConstants.{MAX_SCALE}
 use Rattle.num_format_decimal.specs.declared.parser.Fault.{Fault}
 use Rattle.num_format_decimal.specs.declared.parser.Fault.TheVariants.{TooLarge, Unspelled}
 use Rattle.num_format_decimal.specs.FixedPoint.{FixedPoint}
-use Rattle.num_format_decimal.specs.Parsing.{IsDecimalOutOfRange, SpellsDecimal}
+use Rattle.num_format_decimal.specs.Parsing.{IsDecimalOutOfRange, ParsesDecimal, SpellsDecimal}
 use Rattle.num_format_decimal.specs.Text.{decimals_of}
-use Rattle.num_format_decimal.specs.Values.{HasUnits}
 
 -- how many digits stand at the end of a text
 abbrev pub tail_digits : List ℕ → ℕ
@@ -43,12 +42,6 @@ pub record IsSigned (f : FormatData) (t : List ℕ) (negative : Bool) (n scale :
   pub amount : IsAmount f whole negative (n / 10 ^ scale)
   pub text : t ≡ whole ++ decimals_of f n scale
 
--- a text spells a decimal that there is
-pub record IsSpelled (f : FormatData) (t : List ℕ) (d : FixedPoint) : Type 0 where
-  pub spelled : SpellsDecimal f t d
-  pub bound : d.scale ≤ MAX_SCALE
-  pub fits : HasUnits d
-
 -- why a text is no amount that strict parsing refuses as an `i128`
 abbrev pub fault_of : StrictError → Fault
 fault_of OutOfRange = TooLarge
@@ -62,6 +55,6 @@ HasAmount f t (Err Unspelled) = (negative : Bool) (n : ℕ) → ¬ (IsAmount f t
 
 -- what was read of a text as a decimal of such scales
 abbrev pub HasReading : FormatData → List ℕ → (ℕ → Type 0) → Result FixedPoint Fault → Type 0
-HasReading f t among (Ok d) = IsSpelled f t d
+HasReading f t among (Ok d) = ParsesDecimal f t d
 HasReading f t among (Err TooLarge) = IsDecimalOutOfRange f t
 HasReading f t among (Err Unspelled) = (d : FixedPoint) → among d.scale → ¬ (SpellsDecimal f t d)

@@ -118,21 +118,11 @@ impl DecimalBuffer {
         let scale = d.scale();
         // Most numbers fit 64 bits, which take less time than 128.
         if n <= u64::MAX as u128 && scale < NINETEEN_DIGITS {
-            self.put_narrow(n as u64, scale, format);
+            let whole = self.put_decimals(n as u64, scale, format);
+            put_body(whole as u128, self, format);
             return;
         }
         self.put_wide(n, scale, format);
-    }
-
-    /// Prepends the same text of a number of 64 bits.
-    #[inline]
-    fn put_narrow<F: Format>(&mut self, n: u64, scale: u8, format: &F)
-        requires empty { self.old ≡ [] }
-        requires scale { scale < NINETEEN_DIGITS }
-        ensures { self.new ≡ unsigned_text (F.answers format.now) n scale }
-    {
-        let whole = self.put_decimals(n, scale, format);
-        put_body(whole as u128, self, format);
     }
 
     /// Prepends the same text of any number.
@@ -234,9 +224,7 @@ impl DecimalBuffer {
         }
     }
 
-    /// Prepends a symbol of any length.
-    ///
-    /// It is a function of its own, so that symbols of one byte are prepended without its space.
+    /// Prepends a symbol of any length: a call, so that symbols of one byte are prepended without its space.
     #[inline(never)]
     fn put_long_symbol(&mut self, symbol: &str)
         requires { length symbol.now + length self.old ≤ MAX_DECIMAL_LEN }

@@ -60,8 +60,7 @@ impl std::error::Error for ParseDecimalError {}
 pub enum ParseAtScaleError {
     /// The text is refused as a decimal.
     Parse(ParseDecimalError),
-    /// The text spells a decimal that cannot be rescaled: the scale is too large, digits other than zero would be
-    /// lost, or the units at the scale are no `i128`.
+    /// The text spells a decimal that cannot be rescaled.
     Rescale(DecimalError),
 }
 

@@ -103,9 +103,7 @@ impl Decimal {
 
 /// A decimal to be displayed under a format. A contract sees its text.
 ///
-/// [`formatted`](Decimal::formatted) returns it. Width, fill and alignment count as for a
-/// [`Formatted`](num_format_writers::Formatted) whole number: the width is in characters, and the text stands
-/// to the right where no side is asked for. Precision, `+`, `#` and `0` are ignored. The text is never cut.
+/// Width, fill and alignment count as for a [`Formatted`](num_format_writers::Formatted) whole number.
 #[derive(Drop)]
 pub struct FormattedDecimal<'a, F: Format> {
     d: &'a Decimal,

@@ -1,4 +1,4 @@
-use Rattle.std.proofs.Common.{◌≡◌, ◌∙◌, ◌+◌, ◌-◌, ◌*◌, ◌^◌, ◌<◌, take, drop, length, ap, refl, subst, arith}
+use Rattle.std.proofs.Common.{◌∙◌, ◌+◌, ◌-◌, ◌*◌, ◌^◌, ◌<◌, take, drop, length, ap, refl, subst, arith}
 use Rattle.std.specs.Prelude.{SomeIff}
 use Rattle.std.specs.Int.Digits.{number_from_digits}
 use Rattle.num_format_parsing.specs.Shapes.{byte_figures}

@@ -1,9 +1,10 @@
-use Rattle.std.proofs.Common.{◌≡◌, ◌-◌, ◌∙◌, true, get_or, length, take, take_all, refl, sym, subst, ap, arith}
+use Rattle.std.proofs.Common.{◌≡◌, ◌-◌, ◌∙◌, true, get_or, take, take_all, refl, sym, ap, arith}
 use Rattle.std.specs.Char.{is_ascii_digit}
 use Rattle.std.specs.Int.Digits.{number_from_digits}
 use Rattle.std.specs.List.{list_all}
+use Rattle.std.proofs.lemmas.List.Folds.{list_all_at}
 use Rattle.num_format_parsing.specs.Shapes.{byte_figures}
-use Rattle.num_format_decimal.proofs.ReadLemmas.{digit_bounds, few_fit, not_digits, one_more_digit}
+use Rattle.num_format_decimal.proofs.ReadLemmas.{digit_bounds, few_fit, one_more_digit}
 use Rattle.num_format_decimal.proofs.reading.read_digits.Goals as goal
 
 pub loop-byte-init : goal.loop-byte-init
@@ -28,7 +29,7 @@ loop-byte-preserved c =
 
 pub returns-then-not-is_ascii_digit : goal.returns-then-not-is_ascii_digit
 returns-then-not-is_ascii_digit c =
-    not_digits c.args.text.now c.loop-byte.byte-index c.loop-byte-test.true (sym c.is_ascii_digit.ensures.value ∙ c.if-not-is_ascii_digit.true)
+    list_all_at is_ascii_digit c.args.text.now c.loop-byte.byte-index 0 c.loop-byte-test.true (sym c.is_ascii_digit.ensures.value ∙ c.if-not-is_ascii_digit.true)
 
 pub returns : goal.returns
 returns c =

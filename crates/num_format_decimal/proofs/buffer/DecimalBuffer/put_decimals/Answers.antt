@@ -1,4 +1,4 @@
-use Rattle.std.proofs.Common.{◌∙◌, length, refl, ap, sym, arith}
+use Rattle.std.proofs.Common.{◌∙◌, length, ap, sym, arith}
 use Rattle.num_format_int.specs.Groups.{last_digits, plain}
 use Rattle.num_format_decimal.specs.Text.{decimals_of}
 use Rattle.num_format_decimal.proofs.PrintLemmas.{before_none, undivided}

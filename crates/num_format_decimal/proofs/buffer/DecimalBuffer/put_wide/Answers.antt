@@ -1,4 +1,4 @@
-use Rattle.std.proofs.Common.{length, refl, ap, arith}
+use Rattle.std.proofs.Common.{length, ap, arith}
 use Rattle.std.proofs.Math.Nat.{mod-lt}
 use Rattle.num_format_int.specs.Digits.{digits}
 use Rattle.num_format_decimal.proofs.ScaleLemmas.{power_positive}

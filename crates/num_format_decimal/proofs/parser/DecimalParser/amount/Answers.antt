@@ -2,8 +2,6 @@ use Rattle.std.proofs.Common.{◌≡◌, ◌∙◌, refl, ◌∷◌, [], drop, u
 use Rattle.std.specs.Int.{is_negative}
 use Rattle.std.proofs.lemmas.Int.{to_z-of_z}
 use Rattle.std.proofs.lemmas.List.{take_rest}
-use Rattle.num_format_int.specs.Digits.{digits}
-use Rattle.num_format_int.specs.Groups.{plain}
 use Rattle.num_format_int.specs.Kind.{I128, kind_of, signed_number}
 use Rattle.num_format_parsing.specs.Shapes.{HasSign}
 use Rattle.num_format_parsing.specs.Strict.{ParsesStrictly, SpellsNumber}

@@ -7,10 +7,7 @@ use Rattle.num_format_decimal.proofs.CauseLemmas.{result-judged}
 use Rattle.num_format_decimal.proofs.parser.DecimalParser.parse_any.Goals as goal
 
 pub returns-in-Ok : goal.returns-in-Ok
-returns-in-Ok g c =
-    let read = c.in-Ok.ensures in
-    result-judged c.args.self.now c.args.text.now c.mark.ensures.plain c.mark.ensures.marks (Ok c.in-Ok.decimal)
-    (record { unambiguous = c.mark.ensures.marks; spelled = read.spelled; bound = read.bound; fits = read.fits })
+returns-in-Ok g c = result-judged c.args.self.now c.args.text.now c.mark.ensures.plain c.mark.ensures.marks (Ok c.in-Ok.decimal) c.in-Ok.ensures
 
 pub returns-in-TooLarge : goal.returns-in-TooLarge
 returns-in-TooLarge g c =

@@ -1,4 +1,4 @@
-use Rattle.std.proofs.Common.{◌≡◌, ◌-◌, ℕ, Ok, Err, subst, arith, take, drop, length}
+use Rattle.std.proofs.Common.{◌≡◌, ◌-◌, Ok, Err, subst, arith, take, drop, length}
 use Rattle.num_format_decimal.specs.Shapes.{HasReading}
 use Rattle.num_format_decimal.proofs.ParserLemmas.{cut_digits, cut_length, cut_reads, cut_scale, reads_either}
 use Rattle.num_format_decimal.proofs.parser.DecimalParser.read.Goals as goal

@@ -1,4 +1,4 @@
-use Rattle.std.proofs.Common.{◌≡◌, ◌∙◌, Bool, ℕ, ◌<◌, true, length, refl, sym, subst, arith, inl, inr}
+use Rattle.std.proofs.Common.{true, refl, sym, subst, arith, inl, inr}
 use Rattle.std.proofs.lemmas.Bool.{both_ways}
 use Rattle.num_format_decimal.specs.Shapes.{IsAmount}
 use Rattle.num_format_decimal.specs.Values.{HasUnits}
@@ -23,7 +23,7 @@ returns-then-is_negative g c = λ d among.
 
 pub returns-in-Some-with_magnitude : goal.returns-in-Some-with_magnitude
 returns-in-Some-with_magnitude g c =
-    parts_read c.args.self.now c.args.whole.now c.args.decimals.now c.in-Ok.amount.0 c.in-Some.magnitude
+    parts_read c.args.self.now c.args.whole.now c.args.decimals.now c.mark.ensures.marks c.in-Ok.amount.0 c.in-Some.magnitude
     (record { units = c.in-Ok.amount.1; amount = c.in-Ok.ensures; digits = c.requires.digits; few = c.requires.few; sum = c.in-Some.ensures.1 })
     (λ negative. elim c.else-magnitude-eq0.either [ inl nought ↦ absurd (both_ways _ nought.1 negative) | inr some ↦ omega (arith, some) ])
     c.in-Some-with_magnitude.decimal c.in-Some-with_magnitude.ensures.1 (subst HasUnits (sym c.in-Some-with_magnitude.ensures.1) c.in-Some-with_magnitude.ensures.0)

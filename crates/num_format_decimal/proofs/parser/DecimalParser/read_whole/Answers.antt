@@ -1,4 +1,4 @@
-use Rattle.std.proofs.Common.{append-nil, ℕ, ◌≡◌, subst}
+use Rattle.std.proofs.Common.{append-nil, ◌≡◌, subst}
 use Rattle.num_format_decimal.specs.Shapes.{HasReading}
 use Rattle.num_format_decimal.proofs.parser.DecimalParser.read_whole.Goals as goal
 
