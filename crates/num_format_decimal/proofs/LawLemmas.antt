@@ -1,28 +1,30 @@
 -- The laws of decimals.
-use Rattle.std.proofs.Common.{◌≡◌, ℕ, suc, ◌+◌, ◌-◌, ◌*◌, ◌/◌, ◌%◌, ◌^◌, ◌<◌, ◌≤◌, Bool, true, false, List, [], ◌++◌, length, refl, ap, ◌∙◌, sym, arith, length-append, ℤ, pos, negsuc, unsigned_abs}
-use Rattle.std.specs.Prelude.{◌*ℤ◌, neg_ℤ, nat_lt, if◌then◌else◌}
+use Rattle.std.proofs.Common.{◌≡◌, ℕ, suc, ◌+◌, ◌-◌, ◌*◌, ◌/◌, ◌%◌, ◌^◌, ◌<◌, ◌≤◌, Bool, true, false, length, refl, ap, ◌∙◌, sym, arith, ℤ, pos, negsuc}
+use Rattle.std.specs.Prelude.{◌*ℤ◌, neg_ℤ, if◌then◌else◌}
 use Rattle.std.specs.Int.{is_negative}
-use Rattle.std.specs.Ordering.{int_cmp, MatchOrdering}
+use Rattle.std.specs.Cmp.{nat_cmp_is}
+use Rattle.std.specs.Ordering.{int_cmp, nat_cmp, MatchOrdering}
 use Rattle.std.specs.declared.cmp.Ordering.{Ordering}
 use Rattle.std.specs.declared.cmp.Ordering.TheVariants.{Less, Equal, Greater}
 use Rattle.std.proofs.Math.Nat.{div-add-mod, mod-lt, mul-le-mul, mul-le-mul_right}
 use Rattle.std.proofs.lemmas.Bool.Decides.{nat_tests}
-use Rattle.std.proofs.lemmas.Cmp.{int_ranked}
+use Rattle.std.proofs.lemmas.Cmp.{ranked}
 use Rattle.num_format_text.specs.declared.grouping.Grouping.TheVariants.{Indian}
 use Rattle.num_format_text.specs.Format.{FormatData, IsWithinCapacity}
 use Rattle.num_format_int.specs.Digits.{digits}
-use Rattle.num_format_int.specs.Groups.{last_digits, plain}
 use Rattle.num_format_int.specs.Text.{body_of}
-use Rattle.num_format_int.proofs.GroupedLemmas.{length-grouped}
+use Rattle.num_format_int.proofs.GroupedLemmas.{length-grouped, of_either}
+use Rattle.num_format_decimal.specs.declared.rounding.Rounding.{Rounding}
 use Rattle.num_format_decimal.specs.declared.rounding.Rounding.TheVariants.{HalfEven, HalfAwayFromZero}
 use Rattle.num_format_decimal.specs.FixedPoint.{FixedPoint, fixed_point}
-use Rattle.num_format_decimal.specs.Laws.{OrderLaw, RoundingLaw, TextBoundLaw}
+use Rattle.num_format_decimal.specs.Laws.{IsNearest, OrderLaw, RoundingLaw, TextBoundLaw}
 use Rattle.num_format_decimal.specs.Rounded.{quotient, rounds_up}
 use Rattle.num_format_decimal.specs.Text.{decimal_text}
 use Rattle.num_format_decimal.specs.Values.{HasUnits, value_of}
-use Rattle.num_format_decimal.proofs.PartLemmas.{negative_multiple, negative_rank, one_rank, positive_rank, rank_of_negative, rank_of_positive, scale_parts}
+use Rattle.num_format_decimal.proofs.PartLemmas.{negative_multiple, pos_cmp, scale_parts}
 use Rattle.num_format_decimal.proofs.ScaleLemmas.{abs_le, at_least_half, power_positive}
-use Rattle.num_format_decimal.proofs.TextLemmas.{decimal_text-length, length-body, length-plain}
+use Rattle.num_format_decimal.proofs.LengthLemmas.{decimal_text-length}
+use Rattle.num_format_decimal.proofs.TextLemmas.{decimal_text-fits}
 
 -- multiples of two numbers are in their order
 scaled_rank : (a b k : ℕ) (o : Ordering) → 0 < k → MatchOrdering o (a < b) (a ≡ b) (b < a) → MatchOrdering o (a * k < b * k) (a * k ≡ b * k) (b * k < a * k)
@@ -45,8 +47,7 @@ below_rank a b k Greater some h =
 
 scaled_cmp : (x y : ℤ) (k : ℕ) → 0 < k → int_cmp (x *ℤ pos k) (y *ℤ pos k) ≡ int_cmp x y
 scaled_cmp (pos a) (pos b) k some =
-    one_rank (pos (a * k)) (pos (b * k)) (int_cmp (pos (a * k)) (pos (b * k))) (int_cmp (pos a) (pos b)) (int_ranked (pos (a * k)) (pos (b * k)) _ refl)
-    (positive_rank (a * k) (b * k) (int_cmp (pos a) (pos b)) (scaled_rank a b k (int_cmp (pos a) (pos b)) some (rank_of_positive a b (int_cmp (pos a) (pos b)) (int_ranked (pos a) (pos b) _ refl))))
+    pos_cmp (a * k) (b * k) ∙ sym (nat_cmp_is (a * k) (b * k) (nat_cmp a b) (scaled_rank a b k (nat_cmp a b) some (ranked a b _ refl))) ∙ sym (pos_cmp a b)
 scaled_cmp (pos a) (negsuc b) k some = ap (λ z. int_cmp (pos (a * k)) z) (negative_multiple b k some)
 scaled_cmp (negsuc a) (pos b) k some = ap (λ z. int_cmp z (pos (b * k))) (negative_multiple a k some)
 scaled_cmp (negsuc a) (negsuc b) k some =
@@ -54,8 +55,9 @@ scaled_cmp (negsuc a) (negsuc b) k some =
     let n = suc b * k - 1 in
     ap (λ z. int_cmp z (negsuc b *ℤ pos k)) (negative_multiple a k some)
     ∙ ap (λ z. int_cmp (negsuc m) z) (negative_multiple b k some)
-    ∙ one_rank (negsuc m) (negsuc n) (int_cmp (negsuc m) (negsuc n)) (int_cmp (negsuc a) (negsuc b)) (int_ranked (negsuc m) (negsuc n) _ refl)
-    (negative_rank m n (int_cmp (negsuc a) (negsuc b)) (below_rank b a k (int_cmp (negsuc a) (negsuc b)) some (rank_of_negative a b (int_cmp (negsuc a) (negsuc b)) (int_ranked (negsuc a) (negsuc b) _ refl))))
+    ∙ pos_cmp n m
+    ∙ sym (nat_cmp_is n m (nat_cmp b a) (below_rank b a k (nat_cmp b a) some (ranked b a _ refl)))
+    ∙ sym (pos_cmp b a)
 
 -- two factors are one
 two_factors : (z : ℤ) (j k : ℕ) → 0 < j → z *ℤ pos j *ℤ pos k ≡ z *ℤ pos (j * k)
@@ -96,26 +98,9 @@ order_law a b few other =
         let second : 1 ≤ q = omega arith in
         omega (arith, mul-le-mul first second)
 
--- a part of a text that is there or not
-length-sign : (b : Bool) (sign : List ℕ) → length sign ≤ 8 → length (if b then sign else []) ≤ 8
-length-sign true sign short = short
-length-sign false sign short = omega arith
-
-length-decimals : (b : Bool) (mark : List ℕ) (k n : ℕ) → length mark ≤ 8 → length (if b then mark ++ plain (last_digits k n) else []) ≤ 8 + k
-length-decimals true mark k n short = omega (arith, length-append mark (plain (last_digits k n)), length-plain k n)
-length-decimals false mark k n short = omega arith
-
 text_fits : (f : FormatData) (d : FixedPoint) → IsWithinCapacity f → d.scale ≤ 38 → HasUnits d → length (decimal_text f d) ≤ 199
 text_fits f d within few fits =
-    let n = unsigned_abs d.units in
-    let small : n < 2 ^ 128 = omega (arith, abs_le d.units fits) in
-    omega (
-      arith,
-      decimal_text-length f d,
-      length-sign (is_negative d.units) f.minus_sign within.minus_sign,
-      length-body f n d.scale within.separator small few,
-      length-decimals (nat_lt 0 d.scale) f.decimal d.scale n within.decimal,
-    )
+    decimal_text-fits f d within.separator within.decimal (of_either (λ t. length t ≤ 8) (omega arith) (is_negative d.units) f.minus_sign within.minus_sign) (abs_le d.units fits) few
 
 longest_body : length (digits (2 ^ 127 / 10)) ≡ 38
 unfolding digits
@@ -125,41 +110,28 @@ text_reached : (f : FormatData) → f.grouping ≡ Indian → length f.separator
 text_reached f indian separator minus_sign mark =
     let body : length (body_of f (2 ^ 127 / 10)) ≡ 182 =
     length-grouped f.grouping f.separator (digits (2 ^ 127 / 10)) ∙ rw (longest_body, indian, separator) in
-    omega (arith, decimal_text-length f (fixed_point (negsuc (2 ^ 127 - 1)) 1), body, minus_sign, length-append f.decimal (plain (last_digits 1 (2 ^ 127))), mark)
+    omega (arith, decimal_text-length f (fixed_point (negsuc (2 ^ 127 - 1)) 1), body, length-grouped f.grouping f.separator (digits (2 ^ 127 / 10)), minus_sign, mark)
 
 pub text_bound_law : TextBoundLaw
 text_bound_law = record { bound = text_fits; reached = text_reached }
 
--- a quotient that is rounded up, or not
-up_bounds : (m n : ℕ) → 0 < n → n ≤ 2 * (m % n) → (2 * ((m / n + 1) * n) ≤ 2 * m + n) × (2 * m ≤ 2 * ((m / n + 1) * n) + n)
-up_bounds m n positive half =
-    let whole = div-add-mod m n in
-    let below = mod-lt m positive in
-    (omega (arith, half, whole), omega (arith, whole, below))
-
-down_bounds : (m n : ℕ) → 2 * (m % n) ≤ n → (2 * ((m / n + 0) * n) ≤ 2 * m + n) × (2 * m ≤ 2 * ((m / n + 0) * n) + n)
-down_bounds m n half =
-    let whole = div-add-mod m n in
-    (omega (arith, whole), omega (arith, half, whole))
-
+-- a quotient that is rounded up from half of the divisor on, and else not
 up_or_down : (b : Bool) (m n : ℕ) → (b ≡ true → n ≤ 2 * (m % n)) → (b ≡ false → 2 * (m % n) ≤ n) → 0 < n →
     (2 * ((m / n + (if b then 1 else 0)) * n) ≤ 2 * m + n) × (2 * m ≤ 2 * ((m / n + (if b then 1 else 0)) * n) + n)
-up_or_down true m n up down positive = up_bounds m n positive (up refl)
-up_or_down false m n up down positive = down_bounds m n (down refl)
+up_or_down true m n up down positive = (omega (arith, up refl, div-add-mod m n), omega (arith, div-add-mod m n, mod-lt m positive))
+up_or_down false m n up down positive = (omega (arith, div-add-mod m n), omega (arith, down refl, div-add-mod m n))
+
+nearest : (mode : Rounding) → ((q r n : ℕ) → rounds_up mode q r n ≡ false → 2 * r ≤ n) → IsNearest mode
+nearest mode down = record { above = λ m n positive. (bounds m n positive).0; below = λ m n positive. (bounds m n positive).1 }
+  where
+    bounds : (m n : ℕ) → 0 < n → (2 * (quotient mode m n * n) ≤ 2 * m + n) × (2 * m ≤ 2 * (quotient mode m n * n) + n)
+    bounds m n positive = up_or_down (rounds_up mode (m / n) (m % n) n) m n (at_least_half mode (m / n) (m % n) n) (down (m / n) (m % n) n) positive
 
 not_up_even : (q r n : ℕ) → rounds_up HalfEven q r n ≡ false → 2 * r ≤ n
 not_up_even q r n down = grind (arith, nat_tests)
 
 not_up_away : (q r n : ℕ) → rounds_up HalfAwayFromZero q r n ≡ false → 2 * r ≤ n
 not_up_away q r n down = grind (arith, nat_tests)
-
-even_bounds : (m n : ℕ) → 0 < n → (2 * (quotient HalfEven m n * n) ≤ 2 * m + n) × (2 * m ≤ 2 * (quotient HalfEven m n * n) + n)
-even_bounds m n positive =
-    up_or_down (rounds_up HalfEven (m / n) (m % n) n) m n (at_least_half HalfEven (m / n) (m % n) n) (not_up_even (m / n) (m % n) n) positive
-
-away_bounds : (m n : ℕ) → 0 < n → (2 * (quotient HalfAwayFromZero m n * n) ≤ 2 * m + n) × (2 * m ≤ 2 * (quotient HalfAwayFromZero m n * n) + n)
-away_bounds m n positive =
-    up_or_down (rounds_up HalfAwayFromZero (m / n) (m % n) n) m n (at_least_half HalfAwayFromZero (m / n) (m % n) n) (not_up_away (m / n) (m % n) n) positive
 
 half_to_even : (q r n : ℕ) → 2 * r ≡ n → (q + (if rounds_up HalfEven q r n then 1 else 0)) % 2 ≡ 0
 half_to_even q r n half = grind (arith, nat_tests)
@@ -169,8 +141,8 @@ half_away q r n half = grind (arith, nat_tests)
 
 pub rounding_law : RoundingLaw
 rounding_law = record {
-  half_even = record { above = λ m n positive. (even_bounds m n positive).0; below = λ m n positive. (even_bounds m n positive).1 };
+  half_even = nearest HalfEven not_up_even;
   to_even = λ m n half. half_to_even (m / n) (m % n) n half;
-  half_away = record { above = λ m n positive. (away_bounds m n positive).0; below = λ m n positive. (away_bounds m n positive).1 };
+  half_away = nearest HalfAwayFromZero not_up_away;
   away = λ m n half. half_away (m / n) (m % n) n half;
 }

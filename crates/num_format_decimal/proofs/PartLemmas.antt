@@ -1,6 +1,7 @@
 -- The two parts of a value, and their order.
 use Rattle.std.proofs.Common.{◌≡◌, ℕ, suc, ◌+◌, ◌-◌, ◌*◌, ◌/◌, ◌%◌, ◌^◌, ◌<◌, ◌≤◌, refl, ap, ◌∙◌, sym, arith, ℤ, pos, negsuc, unsigned_abs}
 use Rattle.std.specs.Prelude.{◌*ℤ◌, ◌<ℤ◌, neg_ℤ}
+use Rattle.std.specs.Cmp.{nat_cmp_is}
 use Rattle.std.specs.Int.{int_div_euclid, int_rem_euclid}
 use Rattle.std.specs.Ordering.{int_cmp, nat_cmp, ordering_then, MatchOrdering}
 use Rattle.std.specs.declared.cmp.Ordering.{Ordering}
@@ -127,38 +128,14 @@ ranks_of_parts n a b some Equal Equal first second = same_remainder n a b first 
 ranks_of_parts n a b some Equal Greater first second = lower_remainder n b a (sym first) second
 ranks_of_parts n a b some Greater r first second = lower_quotient n b a some first
 
--- two integers have one rank
-pub one_rank : (x y : ℤ) (o r : Ordering) → MatchOrdering o (x <ℤ y) (x ≡ y) (y <ℤ x) → MatchOrdering r (x <ℤ y) (x ≡ y) (y <ℤ x) → o ≡ r
-one_rank x y Less Less h k = refl
-one_rank x y Less Equal h k = absurd (omega (arith, ints))
-one_rank x y Less Greater h k = absurd (omega (arith, ints))
-one_rank x y Equal Less h k = absurd (omega (arith, ints))
-one_rank x y Equal Equal h k = refl
-one_rank x y Equal Greater h k = absurd (omega (arith, ints))
-one_rank x y Greater Less h k = absurd (omega (arith, ints))
-one_rank x y Greater Equal h k = absurd (omega (arith, ints))
-one_rank x y Greater Greater h k = refl
-
--- the ranks of numbers and of their complements
-pub positive_rank : (a b : ℕ) (o : Ordering) → MatchOrdering o (a < b) (a ≡ b) (b < a) → MatchOrdering o (pos a <ℤ pos b) (pos a ≡ pos b) (pos b <ℤ pos a)
-positive_rank a b Less h = omega (arith, ints)
-positive_rank a b Equal h = ap pos h
-positive_rank a b Greater h = omega (arith, ints)
-
-pub negative_rank : (a b : ℕ) (o : Ordering) → MatchOrdering o (b < a) (b ≡ a) (a < b) → MatchOrdering o (negsuc a <ℤ negsuc b) (negsuc a ≡ negsuc b) (negsuc b <ℤ negsuc a)
-negative_rank a b Less h = omega (arith, ints)
-negative_rank a b Equal h = ap negsuc (sym h)
-negative_rank a b Greater h = omega (arith, ints)
-
-pub rank_of_positive : (a b : ℕ) (o : Ordering) → MatchOrdering o (pos a <ℤ pos b) (pos a ≡ pos b) (pos b <ℤ pos a) → MatchOrdering o (a < b) (a ≡ b) (b < a)
+-- numbers that are not negative compare as natural numbers, and negative ones the other way round
+rank_of_positive : (a b : ℕ) (o : Ordering) → MatchOrdering o (pos a <ℤ pos b) (pos a ≡ pos b) (pos b <ℤ pos a) → MatchOrdering o (a < b) (a ≡ b) (b < a)
 rank_of_positive a b Less h = omega (arith, ints)
 rank_of_positive a b Equal h = omega (arith, ints)
 rank_of_positive a b Greater h = omega (arith, ints)
 
-pub rank_of_negative : (a b : ℕ) (o : Ordering) → MatchOrdering o (negsuc a <ℤ negsuc b) (negsuc a ≡ negsuc b) (negsuc b <ℤ negsuc a) → MatchOrdering o (b < a) (b ≡ a) (a < b)
-rank_of_negative a b Less h = omega (arith, ints)
-rank_of_negative a b Equal h = omega (arith, ints)
-rank_of_negative a b Greater h = omega (arith, ints)
+pub pos_cmp : (a b : ℕ) → int_cmp (pos a) (pos b) ≡ nat_cmp a b
+pos_cmp a b = nat_cmp_is a b (int_cmp (pos a) (pos b)) (rank_of_positive a b (int_cmp (pos a) (pos b)) (int_ranked (pos a) (pos b) _ refl))
 
 rank_of_complements : (n a b : ℕ) (o : Ordering) → a < n → b < n → MatchOrdering o (n - 1 - a < n - 1 - b) (n - 1 - a ≡ n - 1 - b) (n - 1 - b < n - 1 - a) → MatchOrdering o (b < a) (b ≡ a) (a < b)
 rank_of_complements n a b Less p q h = omega arith
@@ -170,21 +147,17 @@ parts_in_order : (n : ℕ) → 0 < n → (x y : ℤ) →
     ordering_then (int_cmp (int_div_euclid x (pos n)) (int_div_euclid y (pos n))) (nat_cmp (unsigned_abs (int_rem_euclid x (pos n))) (unsigned_abs (int_rem_euclid y (pos n))))
     ≡ int_cmp x y
 parts_in_order n some (pos a) (pos b) =
-    one_rank (pos a) (pos b) _ (int_cmp (pos a) (pos b))
-    (positive_rank a b _ (ranks_of_parts n a b some
-    (int_cmp (pos (a / n)) (pos (b / n))) (nat_cmp (a % n) (b % n))
-    (rank_of_positive (a / n) (b / n) (int_cmp (pos (a / n)) (pos (b / n))) (int_ranked (pos (a / n)) (pos (b / n)) _ refl))
-    (ranked (a % n) (b % n) _ refl)))
-    (int_ranked (pos a) (pos b) _ refl)
+    ap (λ o. ordering_then o (nat_cmp (a % n) (b % n))) (pos_cmp (a / n) (b / n))
+    ∙ nat_cmp_is a b (ordering_then (nat_cmp (a / n) (b / n)) (nat_cmp (a % n) (b % n))) (ranks_of_parts n a b some (nat_cmp (a / n) (b / n)) (nat_cmp (a % n) (b % n)) (ranked (a / n) (b / n) _ refl) (ranked (a % n) (b % n) _ refl))
+    ∙ sym (pos_cmp a b)
 parts_in_order n some (pos a) (negsuc b) = refl
 parts_in_order n some (negsuc a) (pos b) = refl
 parts_in_order n some (negsuc a) (negsuc b) =
-    one_rank (negsuc a) (negsuc b) _ (int_cmp (negsuc a) (negsuc b))
-    (negative_rank a b _ (ranks_of_parts n b a some
-    (int_cmp (negsuc (a / n)) (negsuc (b / n))) (nat_cmp (n - 1 - a % n) (n - 1 - b % n))
-    (rank_of_negative (a / n) (b / n) (int_cmp (negsuc (a / n)) (negsuc (b / n))) (int_ranked (negsuc (a / n)) (negsuc (b / n)) _ refl))
-    (rank_of_complements n (a % n) (b % n) (nat_cmp (n - 1 - a % n) (n - 1 - b % n)) (mod-lt a some) (mod-lt b some) (ranked (n - 1 - a % n) (n - 1 - b % n) _ refl))))
-    (int_ranked (negsuc a) (negsuc b) _ refl)
+    let rest = nat_cmp (n - 1 - a % n) (n - 1 - b % n) in
+    ap (λ o. ordering_then o rest) (pos_cmp (b / n) (a / n))
+    ∙ nat_cmp_is b a (ordering_then (nat_cmp (b / n) (a / n)) rest) (ranks_of_parts n b a some (nat_cmp (b / n) (a / n)) rest (ranked (b / n) (a / n) _ refl)
+    (rank_of_complements n (a % n) (b % n) rest (mod-lt a some) (mod-lt b some) (ranked (n - 1 - a % n) (n - 1 - b % n) _ refl)))
+    ∙ sym (pos_cmp b a)
 
 -- decimals compare as their parts do
 pub compared_by_parts : (a b : FixedPoint) (p q : ℤ) (r s : ℕ) → p ≡ whole_part a → q ≡ whole_part b → r ≡ rest_of a → s ≡ rest_of b →

@@ -2,12 +2,13 @@
 use Rattle.std.proofs.Common.{◌≡◌, ℕ, zero, suc, ◌+◌, ◌-◌, ◌*◌, ◌/◌, ◌%◌, ◌^◌, ◌<◌, ◌≤◌, Bool, true, false, refl, ap, ◌∙◌, sym, subst, inl, inr, arith, ℤ, pos, negsuc, unsigned_abs}
 use Rattle.std.specs.Prelude.{◌+ℤ◌, ◌-ℤ◌, ◌*ℤ◌, ◌≤ℤ◌, neg_ℤ, not, FitsSigned, ◌≢◌, if◌then◌else◌}
 use Rattle.std.specs.Int.{cast_signed, is_negative, w128, IsNonZero, NotMinOverMinusOne}
-use Rattle.std.proofs.Math.Nat.{div-add-mod, div-eq_of_lt, div-eq_of_lt-le, div-lt_self, div-mul-le_self, div-one, mod-eq-sub-div-mul, mod-eq_of_lt, mod-lt, mod-one, mul-add-mod_self_left, mul-mod_left, one-le-pow, pow-le-pow_right, pow-suc, zero-mod}
+use Rattle.std.proofs.Math.Nat.{div-add-mod, div-eq_of_lt-le, div-lt_self, div-mul-le_self, div-one, mod-eq-sub-div-mul, mod-eq_of_lt, mod-lt, mod-one, mul-le-mul_left, mul-add-mod_self_left, mul-mod_left, one-le-pow, pow-le-pow_right, pow-suc, zero-mod}
 use Rattle.std.proofs.lemmas.Bool.{cases_lt}
 use Rattle.std.proofs.lemmas.Bool.Decides.{nat_tests}
 use Rattle.std.proofs.lemmas.Int.{ints, to_z_pos}
 use Rattle.std.proofs.lemmas.Nat.{pow-add}
 use Rattle.num_format_int.specs.Kind.{signed_number}
+use Rattle.num_format_certificates.proofs.RoundTripLemmas.{signed_number-unsigned_abs}
 use Rattle.num_format_decimal.specs.declared.rounding.Rounding.{Rounding}
 use Rattle.num_format_decimal.specs.declared.rounding.Rounding.TheVariants.{HalfEven, HalfAwayFromZero, TowardZero, Exact}
 use Rattle.num_format_decimal.specs.FixedPoint.{FixedPoint, fixed_point}
@@ -21,22 +22,16 @@ power_le e small = pow-le-pow_right {n = 10} (omega arith) small
 pub power_positive : (e : ℕ) → 0 < 10 ^ e
 power_positive e = omega (arith, one-le-pow e 10 (omega arith))
 
+pub grown : (n k r : ℕ) → n ≤ n * 10 ^ k + r
+grown n k r =
+    let one : 1 ≤ 10 ^ k = omega (arith, power_positive k) in
+    omega (arith, mul-le-mul_left n one)
+
 -- a power of ten in two parts that fit 64 bits each
 pub power_parts : (e first : ℕ) → ¬ (e < 20) → first ≡ 10 ^ (e - 19) → first * 10000000000000000000 ≡ 10 ^ e
 power_parts e first large same =
     let sum : e - 19 + 19 ≡ e = omega arith in
     ap (λ m. m * 10 ^ 19) same ∙ sym (pow-add 10 (e - 19) 19) ∙ ap (λ k. 10 ^ k) sum
-
--- a number of 64 bits has at most 20 digits
-pub small_quotient : (n k : ℕ) → n < 2 ^ 64 → 20 ≤ k → 0 ≡ n / 10 ^ k
-small_quotient n k small many =
-    let large : 10 ^ 20 ≤ 10 ^ k = pow-le-pow_right {n = 10} (omega arith) {i = 20} {j = k} many in
-    sym (div-eq_of_lt (omega arith))
-
-pub small_remainder : (n k : ℕ) → n < 2 ^ 64 → 20 ≤ k → n ≡ n % 10 ^ k
-small_remainder n k small many =
-    let large : 10 ^ 20 ≤ 10 ^ k = pow-le-pow_right {n = 10} (omega arith) {i = 20} {j = k} many in
-    sym (mod-eq_of_lt (omega arith))
 
 power_zero : (e : ℕ) → e ≡ 0 → 10 ^ e ≡ 1
 power_zero e none = ap (λ k. 10 ^ k) none
@@ -59,14 +54,6 @@ zero_minus (suc n) = omega (arith, ints)
 pub zero_plus : (n : ℕ) → pos 0 +ℤ pos n ≡ pos n
 zero_plus n = omega (arith, ints)
 
--- a number is its sign and its absolute value
-signed_abs : (z : ℤ) → signed_number (is_negative z) (unsigned_abs z) ≡ z
-signed_abs (pos zero) = refl
-signed_abs (pos (suc n)) =
-    let sign : is_negative (pos (suc n)) ≡ false = grind (arith, nat_tests) in
-    ap (λ b. signed_number b (suc n)) sign
-signed_abs (negsuc n) = refl
-
 signed_mul : (b : Bool) (n k : ℕ) → signed_number b (n * k) ≡ signed_number b n *ℤ pos k
 signed_mul false n k = refl
 signed_mul true zero k = ap (λ m. neg_ℤ (pos m)) (zero_times k) ∙ sym (ap pos (zero_times k))
@@ -79,7 +66,7 @@ signed_mul true (suc n) k = refl
 pub units_at_signed : (scale : ℕ) (d : FixedPoint) → units_at scale d ≡ signed_number (is_negative d.units) (dividend d scale)
 units_at_signed scale d =
     let k = 10 ^ (scale - d.scale) in
-    ap (λ z. z *ℤ pos k) (sym (signed_abs d.units)) ∙ sym (signed_mul (is_negative d.units) (unsigned_abs d.units) k)
+    ap (λ z. z *ℤ pos k) (sym (signed_number-unsigned_abs d.units)) ∙ sym (signed_mul (is_negative d.units) (unsigned_abs d.units) k)
 
 -- and those of the negated number the other sign
 pub units_at_negated : (scale : ℕ) (d : FixedPoint) → units_at scale (negated d) ≡ signed_number (not (is_negative d.units)) (dividend d scale)
@@ -96,11 +83,6 @@ units_at_negated scale d = negated_signed d.units (10 ^ (scale - d.scale))
 pub abs_le : (z : ℤ) → FitsSigned w128 z → unsigned_abs z ≤ 2 ^ 127
 abs_le (pos n) fits = omega (arith, fits.sfits)
 abs_le (negsuc n) fits = omega (arith, fits.sfits)
-
-pub abs_neg : (z : ℤ) → unsigned_abs (neg_ℤ z) ≡ unsigned_abs z
-abs_neg (pos zero) = refl
-abs_neg (pos (suc n)) = refl
-abs_neg (negsuc n) = refl
 
 pub fits_low : (z : ℤ) → FitsSigned w128 z → negsuc (2 ^ 127 - 1) ≤ℤ z
 fits_low (pos n) fits = omega (arith, ints)
@@ -141,14 +123,7 @@ pub larger : (d : FixedPoint) (scale : ℕ) → unsigned_abs d.units ≤ 2 ^ 127
 larger d scale within large =
     let above : d.scale < scale = raised d scale within large in
     let apart : dividend d scale ≢ 2 ^ 128 = no_power (unsigned_abs d.units) (scale - d.scale) (omega arith) in
-    elim (cases_lt (2 ^ 128) (dividend d scale)) [
-      | inl more ↦ more
-      | inr most ↦
-          elim (cases_lt (dividend d scale) (2 ^ 128)) [
-            | inl less ↦ absurd (large less)
-            | inr least ↦ absurd (apart (omega arith))
-          ]
-    ]
+    omega (arith, large, apart)
 
 -- a quotient is rounded up only where half of the divisor is left
 pub at_least_half : (mode : Rounding) (q r n : ℕ) → rounds_up mode q r n ≡ true → n ≤ 2 * r

@@ -2,6 +2,7 @@
 use Rattle.std.proofs.Common.{◌≡◌, ℕ, ◌+◌, ◌-◌, ◌^◌, ◌<◌, ◌≤◌, Bool, true, false, refl, ap, ◌∙◌, sym, subst, arith, unsigned_abs}
 use Rattle.std.specs.Prelude.{max, not, ◌+ℤ◌, FitsSigned, SomeIff, Option}
 use Rattle.std.specs.Int.{is_negative, w128}
+use Rattle.std.proofs.Math.IntN.{+ℤ_comm}
 use Rattle.std.proofs.lemmas.Int.{ints}
 use Rattle.num_format_int.specs.Kind.{signed_number}
 use Rattle.num_format_decimal.specs.FixedPoint.{FixedPoint, fixed_point}
@@ -42,40 +43,26 @@ exceeds_left true false m n large small fits = omega (arith, ints, fits_low _ fi
 exceeds_left true true m n large small fits = omega (arith, ints, fits_low _ fits, fits_high _ fits)
 
 exceeds_right : (b c : Bool) (m n : ℕ) → m ≤ 2 ^ 127 → 2 ^ 128 < n → ¬ (FitsSigned w128 (signed_number b m +ℤ signed_number c n))
-exceeds_right false false m n small large fits = omega (arith, ints, fits_low _ fits, fits_high _ fits)
-exceeds_right false true m n small large fits = omega (arith, ints, fits_low _ fits, fits_high _ fits)
-exceeds_right true false m n small large fits = omega (arith, ints, fits_low _ fits, fits_high _ fits)
-exceeds_right true true m n small large fits = omega (arith, ints, fits_low _ fits, fits_high _ fits)
-
--- where one of two numbers takes more than 128 bits at the larger scale, no sum fits, whatever their signs
-pub first_exceeds : (a b : FixedPoint) (c e : Bool) → unsigned_abs a.units ≤ 2 ^ 127 → unsigned_abs b.units ≤ 2 ^ 127 →
-    ¬ (dividend a (max a.scale b.scale) < 2 ^ 128) →
-    ¬ (FitsSigned w128 (signed_number c (dividend a (max a.scale b.scale)) +ℤ signed_number e (dividend b (max a.scale b.scale))))
-first_exceeds a b c e within other large =
-    let scale = max a.scale b.scale in
-    let above : a.scale < scale = raised a scale within large in
-    let own = own_units b scale (omega arith) in
-    exceeds_left c e (dividend a scale) (dividend b scale) (larger a scale within large) (omega (arith, own))
-
-pub second_exceeds : (a b : FixedPoint) (c e : Bool) → unsigned_abs a.units ≤ 2 ^ 127 → unsigned_abs b.units ≤ 2 ^ 127 →
-    ¬ (dividend b (max a.scale b.scale) < 2 ^ 128) →
-    ¬ (FitsSigned w128 (signed_number c (dividend a (max a.scale b.scale)) +ℤ signed_number e (dividend b (max a.scale b.scale))))
-second_exceeds a b c e within other large =
-    let scale = max a.scale b.scale in
-    let above : b.scale < scale = raised b scale other large in
-    let own = own_units a scale (omega arith) in
-    exceeds_right c e (dividend a scale) (dividend b scale) (omega (arith, own)) (larger b scale other large)
+exceeds_right b c m n small large fits = exceeds_left c b n m large small (subst (FitsSigned w128) (+ℤ_comm (signed_number b m) (signed_number c n)) fits)
 
 -- no sum of decimals fits, where one of them takes more than 128 bits at the larger scale
 pub first_large : (a b : FixedPoint) (e : Bool) (s : ℕ) → s ≡ max a.scale b.scale → unsigned_abs a.units ≤ 2 ^ 127 → unsigned_abs b.units ≤ 2 ^ 127 →
     ¬ (dividend a s < 2 ^ 128) → ¬ (HasUnits (sum_with_sign a b e))
-first_large a b e s same within other large =
-    first_exceeds a b (is_negative a.units) e within other (subst (λ k. ¬ (dividend a k < 2 ^ 128)) same large)
+first_large a b e s same within other wide =
+    let scale = max a.scale b.scale in
+    let large : ¬ (dividend a scale < 2 ^ 128) = subst (λ k. ¬ (dividend a k < 2 ^ 128)) same wide in
+    let above : a.scale < scale = raised a scale within large in
+    let own = own_units b scale (omega arith) in
+    exceeds_left (is_negative a.units) e (dividend a scale) (dividend b scale) (larger a scale within large) (omega (arith, own))
 
 pub second_large : (a b : FixedPoint) (e : Bool) (s : ℕ) → s ≡ max a.scale b.scale → unsigned_abs a.units ≤ 2 ^ 127 → unsigned_abs b.units ≤ 2 ^ 127 →
     ¬ (dividend b s < 2 ^ 128) → ¬ (HasUnits (sum_with_sign a b e))
-second_large a b e s same within other large =
-    second_exceeds a b (is_negative a.units) e within other (subst (λ k. ¬ (dividend b k < 2 ^ 128)) same large)
+second_large a b e s same within other wide =
+    let scale = max a.scale b.scale in
+    let large : ¬ (dividend b scale < 2 ^ 128) = subst (λ k. ¬ (dividend b k < 2 ^ 128)) same wide in
+    let above : b.scale < scale = raised b scale other large in
+    let own = own_units a scale (omega arith) in
+    exceeds_right (is_negative a.units) e (dividend a scale) (dividend b scale) (omega (arith, own)) (larger b scale other large)
 
 -- the sum by signs and absolute values is the sum of the decimals
 sum_from : (a b : FixedPoint) (e c : Bool) (s x y : ℕ) → s ≡ max a.scale b.scale → c ≡ is_negative a.units → x ≡ dividend a s → y ≡ dividend b s →

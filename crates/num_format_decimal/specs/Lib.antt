@@ -5,7 +5,6 @@ pub mod Laws
 pub mod Marks
 pub mod Message
 pub mod Parsing
-pub mod Printing
 pub mod Rounded
 pub mod Shapes
 pub mod Sums

@@ -54,22 +54,10 @@ pub record IsExpectedDecimal (f : FormatData) (t : List ℕ) : Type 0 where
   pub spells_none : SpellsNone f t
   pub rest : unexpected_in_decimal f t ≡ []
 
--- such a text has no unexpected byte, and no digit
-pub record LacksDecimalDigit (f : FormatData) (t : List ℕ) : Type 0 where
+-- such a text has no unexpected byte, but a fault
+pub record IsExpectedBut (f : FormatData) (t : List ℕ) (Fault : Type 0) : Type 0 where
   pub expected : IsExpectedDecimal f t
-  pub none : figures t ≡ []
-
--- such a text has no unexpected byte, and digits, of which more than 38 follow the mark
-pub record HasManyDecimals (f : FormatData) (t : List ℕ) : Type 0 where
-  pub expected : IsExpectedDecimal f t
-  pub some : ¬ (figures t ≡ [])
-  pub many : MAX_SCALE < length (after_mark f t)
-
--- such a text has no unexpected byte, and digits, of which at most 38 follow the mark
-pub record IsMisspelledDecimal (f : FormatData) (t : List ℕ) : Type 0 where
-  pub expected : IsExpectedDecimal f t
-  pub some : ¬ (figures t ≡ [])
-  pub few : length (after_mark f t) ≤ MAX_SCALE
+  pub fault : Fault
 
 -- a text spells a decimal whose units are no `i128`
 pub record IsDecimalOutOfRange (f : FormatData) (t : List ℕ) : Type 0 where
@@ -83,9 +71,9 @@ abbrev pub IsDecimalCause : FormatData → List ℕ → ParseDecimalError → Ty
 IsDecimalCause f t AmbiguousFormat = ¬ (MarksDecimals f)
 IsDecimalCause f t NotUtf8 = MarksDecimals f × ¬ (IsUtf8 t)
 IsDecimalCause f t (Unexpected at) = MarksDecimals f × DecimalStopsAt f t at
-IsDecimalCause f t NoDigit = MarksDecimals f × LacksDecimalDigit f t
-IsDecimalCause f t TooManyDecimals = MarksDecimals f × HasManyDecimals f t
-IsDecimalCause f t Misspelled = MarksDecimals f × IsMisspelledDecimal f t
+IsDecimalCause f t NoDigit = MarksDecimals f × IsExpectedBut f t (figures t ≡ [])
+IsDecimalCause f t TooManyDecimals = MarksDecimals f × IsExpectedBut f t (¬ (figures t ≡ []) × (MAX_SCALE < length (after_mark f t)))
+IsDecimalCause f t Misspelled = MarksDecimals f × IsExpectedBut f t (¬ (figures t ≡ []) × (length (after_mark f t) ≤ MAX_SCALE))
 IsDecimalCause f t OutOfRange = MarksDecimals f × IsDecimalOutOfRange f t
 
 -- what parsing returns of a text: the decimal that it spells, or an error exactly if it is the cause

@@ -1,12 +1,11 @@
 //! The text of a decimal, kept in place.
-ghost use Rattle.std.specs.Prelude.{◌≡◌, ℕ, Bool, List, ◌+◌, ◌*◌, ◌/◌, ◌^◌, ◌<◌, ◌≤◌, [], ◌++◌, length, nat_lt, unsigned_abs, Some, if◌then◌else◌};
+ghost use Rattle.std.specs.Prelude.{◌≡◌, ◌+◌, ◌/◌, ◌^◌, ◌<◌, ◌≤◌, [], ◌++◌, length, unsigned_abs, Some};
 ghost use Rattle.num_format_int.specs.Groups.{last_digits, plain};
-ghost use Rattle.num_format_decimal.specs.Printing.{unsigned_text};
 ghost use Rattle.num_format_decimal.specs.declared.buffer.TheConstants.{MAX_DECIMAL_LEN};
-ghost use Rattle.num_format_decimal.specs.Text.{decimal_text};
+ghost use Rattle.num_format_decimal.specs.Text.{decimal_text, decimals_of, unsigned_text};
 
 use crate::decimal::{Decimal, MAX_SCALE};
-use crate::powers::{power_of_ten, split};
+use crate::powers::split;
 use num_format_int::buffer::{PutFront, copy_bytes};
 use num_format_int::to_formatted_str::{one_digit, put_body, two_digits};
 use num_format_text::Format;
@@ -18,7 +17,7 @@ use std::{fmt, str};
 /// decimal mark of 8 bytes each.
 pub const MAX_DECIMAL_LEN: usize = 199;
 
-/// The number of digits from which on a digit 1 before them makes a number of more than 64 bits.
+/// So many digits fit 64 bits, whatever they are.
 const NINETEEN_DIGITS: u8 = 19;
 
 /// The text of a decimal, kept in place. A contract sees its bytes.
@@ -51,8 +50,6 @@ impl DecimalBuffer {
     /// Returns a buffer with the text of the number: the format's minus sign if the units are negative, then
     /// the digits before the decimals, with the format's separator between groups, and where the scale is
     /// above zero the format's decimal mark and as many digits.
-    ///
-    /// It cannot fail, whatever the number and the format.
     ///
     /// ```rust
     /// DecimalBuffer::of(&Decimal::new(5, 2)?, &Locale::en).as_str()    // "0.05"
@@ -93,9 +90,7 @@ impl DecimalBuffer {
     {
         self.as_str().as_bytes()
     }
-}
 
-impl DecimalBuffer {
     /// Prepends the text of a number to the empty text.
     ///
     /// It is a call: a buffer on which [`of`](DecimalBuffer::of) makes one call is not copied when it is returned.
@@ -123,21 +118,11 @@ impl DecimalBuffer {
         let scale = d.scale();
         // Most numbers fit 64 bits, which take less time than 128.
         if n <= u64::MAX as u128 && scale < NINETEEN_DIGITS {
-            self.put_narrow(n as u64, scale, format);
+            let whole = self.put_decimals(n as u64, scale, format);
+            put_body(whole as u128, self, format);
             return;
         }
         self.put_wide(n, scale, format);
-    }
-
-    /// Prepends the same text of a number of 64 bits.
-    #[inline]
-    fn put_narrow<F: Format>(&mut self, n: u64, scale: u8, format: &F)
-        requires empty { self.old ≡ [] }
-        requires scale { scale < NINETEEN_DIGITS }
-        ensures { self.new ≡ unsigned_text (F.answers format.now) n scale }
-    {
-        let whole = self.put_decimals(n, scale, format);
-        put_body(whole as u128, self, format);
     }
 
     /// Prepends the same text of any number.
@@ -160,8 +145,7 @@ impl DecimalBuffer {
     fn put_decimals<F: Format>(&mut self, n: u64, count: u8, format: &F) -> u64
         requires empty { self.old ≡ [] }
         requires count { count < NINETEEN_DIGITS }
-        ensures text { self.new
-            ≡ (if nat_lt 0 count then (F.answers format.now).decimal ++ plain (last_digits count n) else []) }
+        ensures text { self.new ≡ decimals_of (F.answers format.now) n count }
         ensures room { length self.new ≤ count + MAX_DEC_LEN }
         ensures rest { result ≡ n / 10 ^ count }
     {
@@ -188,29 +172,17 @@ impl DecimalBuffer {
         requires empty { self.old ≡ [] }
         requires count { count ≤ MAX_SCALE }
         requires below { n < 10 ^ count }
-        ensures text { self.new
-            ≡ (if nat_lt 0 count then (F.answers format.now).decimal ++ plain (last_digits count n) else []) }
+        ensures text { self.new ≡ decimals_of (F.answers format.now) n count }
         ensures room { length self.new ≤ count + MAX_DEC_LEN }
     {
         if count < NINETEEN_DIGITS {
             self.put_decimals(n as u64, count, format);
             return;
         }
-        self.put_wide_digits(n, count);
+        let (high, low) = split(n, NINETEEN_DIGITS);
+        self.put_last_digits(low as u64, NINETEEN_DIGITS);
+        self.put_last_digits(high as u64, count - NINETEEN_DIGITS);
         self.put_mark(format);
-    }
-
-    /// Prepends the digits of `n`, which has no more than `count`, leading zeros included, to the empty text. A digit 1
-    /// before them keeps the zeros, and is left out.
-    fn put_wide_digits(&mut self, n: u128, count: u8)
-        requires empty { self.old ≡ [] }
-        requires count { count ≤ MAX_SCALE }
-        requires below { n < 10 ^ count }
-        ensures { self.new ≡ plain (last_digits count n) }
-    {
-        let mut printed = itoa::Buffer::new();
-        let digits = printed.format(power_of_ten(count) + n);
-        self.put_front(&digits[1..count as usize + 1]);
     }
 
     /// Prepends the last `count` digits of `n`, leading zeros included, two at a time. Returns `n` without these digits.
@@ -252,9 +224,7 @@ impl DecimalBuffer {
         }
     }
 
-    /// Prepends a symbol of any length.
-    ///
-    /// It is a function of its own, so that symbols of one byte are prepended without its space.
+    /// Prepends a symbol of any length: a call, so that symbols of one byte are prepended without its space.
     #[inline(never)]
     fn put_long_symbol(&mut self, symbol: &str)
         requires { length symbol.now + length self.old ≤ MAX_DECIMAL_LEN }
@@ -292,7 +262,6 @@ impl fmt::Display for DecimalBuffer {
 
     ghost styled_output = { λ b _. Some b };
 
-    /// Writes the text alone, whatever width or fill is asked for.
     fn fmt<W: fmt::Write>(&self, f: &mut fmt::Formatter<W>) -> fmt::Result {
         f.write_str(self.as_str())
     }
@@ -301,7 +270,6 @@ impl fmt::Display for DecimalBuffer {
 impl fmt::Debug for DecimalBuffer {
     ghost debug_output = { λ b. Some b };
 
-    /// Writes the bare text, with no quotes, as a [`Buffer`] does.
     fn fmt<W: fmt::Write>(&self, f: &mut fmt::Formatter<W>) -> fmt::Result {
         fmt::Display::fmt(self, f)
     }

@@ -35,7 +35,6 @@ impl PartialEq for Decimal {
 
     ghost laws = { partial_equiv_from_equiv (on_equiv value_of int_eq_equiv) };
 
-    /// Returns whether the values are equal: 1.50 equals 1.5.
     fn eq(&self, other: &Self) -> bool {
         self.cmp(other).is_eq()
     }
@@ -64,7 +63,6 @@ impl Ord for Decimal {
 
     ghost matches_eq = { λ a b. refl };
 
-    /// Compares the values, exactly, whatever the scales.
     fn cmp(&self, other: &Self) -> Ordering {
         let mine = self.parts();
         let theirs = other.parts();
@@ -77,7 +75,6 @@ impl Hash for Decimal {
 
     ghost respects_eq = { equal_hashed_alike };
 
-    /// Hashes the value, so that 1.50 and 1.5 are hashed alike.
     fn hash<H: Hasher>(&self, state: &mut H) {
         self.parts().hash(state);
     }

@@ -73,10 +73,8 @@ impl Decimal {
         ensures decimal { result ≡ fixed_point units scale }
         ensures fits { HasUnits result }
     {
-        Decimal {
-            units,
-            scale: scale as u64,
-        }
+        let scale = scale as u64;
+        Decimal { units, scale }
     }
 
     /// Returns the decimal whose units have that sign and that absolute value, or `None` if they are no `i128`.
@@ -148,115 +146,78 @@ pub(crate) fn with_sign(is_negative: bool, magnitude: u128) -> Option<i128>
 impl From<u8> for Decimal {
     ghost from_gives = { λ n d. d ≡ whole (pos n) };
 
-    /// Returns the number at scale 0.
     fn from(n: u8) -> Decimal {
-        Decimal {
-            units: i128::from(n),
-            scale: 0,
-        }
+        Decimal::of(i128::from(n), 0)
     }
 }
 
 impl From<u16> for Decimal {
     ghost from_gives = { λ n d. d ≡ whole (pos n) };
 
-    /// Returns the number at scale 0.
     fn from(n: u16) -> Decimal {
-        Decimal {
-            units: i128::from(n),
-            scale: 0,
-        }
+        Decimal::of(i128::from(n), 0)
     }
 }
 
 impl From<u32> for Decimal {
     ghost from_gives = { λ n d. d ≡ whole (pos n) };
 
-    /// Returns the number at scale 0.
     fn from(n: u32) -> Decimal {
-        Decimal {
-            units: i128::from(n),
-            scale: 0,
-        }
+        Decimal::of(i128::from(n), 0)
     }
 }
 
 impl From<u64> for Decimal {
     ghost from_gives = { λ n d. d ≡ whole (pos n) };
 
-    /// Returns the number at scale 0.
     fn from(n: u64) -> Decimal {
-        Decimal {
-            units: i128::from(n),
-            scale: 0,
-        }
+        Decimal::of(i128::from(n), 0)
     }
 }
 
 impl From<usize> for Decimal {
     ghost from_gives = { λ n d. d ≡ whole (pos n) };
 
-    /// Returns the number at scale 0.
     fn from(n: usize) -> Decimal {
-        Decimal {
-            units: n as i128,
-            scale: 0,
-        }
+        Decimal::of(n as i128, 0)
     }
 }
 
 impl From<i8> for Decimal {
     ghost from_gives = { λ n d. d ≡ whole n };
 
-    /// Returns the number at scale 0.
     fn from(n: i8) -> Decimal {
-        Decimal {
-            units: i128::from(n),
-            scale: 0,
-        }
+        Decimal::of(i128::from(n), 0)
     }
 }
 
 impl From<i16> for Decimal {
     ghost from_gives = { λ n d. d ≡ whole n };
 
-    /// Returns the number at scale 0.
     fn from(n: i16) -> Decimal {
-        Decimal {
-            units: i128::from(n),
-            scale: 0,
-        }
+        Decimal::of(i128::from(n), 0)
     }
 }
 
 impl From<i32> for Decimal {
     ghost from_gives = { λ n d. d ≡ whole n };
 
-    /// Returns the number at scale 0.
     fn from(n: i32) -> Decimal {
-        Decimal {
-            units: i128::from(n),
-            scale: 0,
-        }
+        Decimal::of(i128::from(n), 0)
     }
 }
 
 impl From<i64> for Decimal {
     ghost from_gives = { λ n d. d ≡ whole n };
 
-    /// Returns the number at scale 0.
     fn from(n: i64) -> Decimal {
-        Decimal {
-            units: i128::from(n),
-            scale: 0,
-        }
+        Decimal::of(i128::from(n), 0)
     }
 }
 
 impl From<i128> for Decimal {
     ghost from_gives = { λ n d. d ≡ whole n };
 
-    /// Returns the number at scale 0.
     fn from(n: i128) -> Decimal {
         Decimal { units: n, scale: 0 }
     }
@@ -265,12 +226,8 @@ impl From<i128> for Decimal {
 impl From<isize> for Decimal {
     ghost from_gives = { λ n d. d ≡ whole n };
 
-    /// Returns the number at scale 0.
     fn from(n: isize) -> Decimal {
-        Decimal {
-            units: n as i128,
-            scale: 0,
-        }
+        Decimal::of(n as i128, 0)
     }
 }
 
@@ -280,10 +237,6 @@ impl TryFrom<u128> for Decimal {
     ghost try_from_gives = { λ n result. OkIff result (n < 2 ^ 127) (whole (pos n))
         × IfErr result (λ e. e ≡ OutOfRange) };
 
-    /// Returns the number at scale 0.
-    ///
-    /// # Errors
-    ///
     /// Returns [`DecimalError::OutOfRange`] exactly if the number is no `i128`.
     fn try_from(n: u128) -> Result<Decimal, DecimalError> {
         match i128::try_from(n) {

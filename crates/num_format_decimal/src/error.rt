@@ -20,7 +20,6 @@ impl fmt::Display for DecimalError {
 
     ghost styled_output = { λ error _. Some (message_of error) };
 
-    /// Writes the message alone, whatever width or fill is asked for.
     fn fmt<W: fmt::Write>(&self, f: &mut fmt::Formatter<W>) -> fmt::Result {
         f.write_str(match self {
             DecimalError::ScaleTooLarge => "The scale is larger than 38.",

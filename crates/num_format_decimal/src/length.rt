@@ -1,8 +1,8 @@
 //! How long the text of a decimal is.
 ghost use Rattle.std.specs.Int.{is_negative};
-ghost use Rattle.std.specs.Prelude.{◌≡◌, ◌+◌, ◌/◌, ◌^◌, ◌≤◌, length, nat_lt, if◌then◌else◌};
+ghost use Rattle.std.specs.Prelude.{◌≡◌, ◌+◌, ◌/◌, ◌^◌, ◌≤◌, [], length, if◌then◌else◌};
 ghost use Rattle.num_format_int.specs.Digits.{digits};
-ghost use Rattle.num_format_decimal.specs.Text.{decimal_text};
+ghost use Rattle.num_format_decimal.specs.Text.{decimal_text, mark_at};
 
 use crate::buffer::{MAX_DECIMAL_LEN, texts_fit};
 use crate::decimal::{Decimal, MAX_SCALE};
@@ -42,7 +42,7 @@ fn whole_digits(n: u128, scale: u8) -> usize
 
 /// Returns the length of the minus sign of a number, if it is negative.
 fn sign_len<F: Format>(number: &Decimal, format: &F) -> usize
-    ensures value { result ≡ (if is_negative number.now.units then length (F.answers format.now).minus_sign else 0) }
+    ensures value { result ≡ length (if is_negative number.now.units then (F.answers format.now).minus_sign else []) }
     ensures bound { result ≤ MAX_MIN_LEN }
 {
     if number.is_negative() {
@@ -55,7 +55,7 @@ fn sign_len<F: Format>(number: &Decimal, format: &F) -> usize
 /// Returns how many bytes a decimal mark and so many decimals have, if there are any.
 fn decimals_len<F: Format>(scale: u8, format: &F) -> usize
     requires { scale ≤ MAX_SCALE }
-    ensures value { result ≡ (if nat_lt 0 scale then length (F.answers format.now).decimal + scale else 0) }
+    ensures value { result ≡ length (mark_at (F.answers format.now) scale) + scale }
     ensures bound { result ≤ MAX_DEC_LEN + MAX_SCALE }
 {
     if 0 < scale {

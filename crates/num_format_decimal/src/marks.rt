@@ -13,8 +13,6 @@ use num_format_text::Format;
 /// Then a text spells one decimal at most, and each decimal of each scale, printed under the format, parses as the same
 /// decimal again. Under any other format parsing refuses every text.
 ///
-/// Check a format once, where it is read from settings, and then rely on it for all decimals:
-///
 /// ```rust
 /// marks_decimals(&Locale::de)                                       // true, as for each locale
 /// marks_decimals(&CustomFormat::builder().decimal(",").build()?)    // false: the separator is a comma too

@@ -1,19 +1,20 @@
 //! A parser of decimals under one format.
-ghost use Rattle.std.specs.Prelude.{◌≡◌, ◌↔◌, ℕ, [], ◌∷◌, ◌+◌, ◌-◌, ◌<◌, ◌≤◌, IsTrue, IsUtf8, IfSome, MatchOption, MatchResult, drop, get_or, length};
+ghost use Rattle.std.specs.Prelude.{◌≡◌, ◌++◌, ◌<◌, ◌≤◌, true, IsTrue, IsUtf8, MatchOption, MatchResult, drop, length};
 ghost use Rattle.std.specs.Char.{is_ascii_digit};
 ghost use Rattle.std.specs.List.{list_all};
 ghost use Rattle.num_format_parsing.specs.Strict.{unexpected};
 ghost use Rattle.num_format_decimal.specs.FixedPoint.{FixedPoint};
 ghost use Rattle.num_format_decimal.specs.Marks.{IsPlainFormat, MarksDecimals};
 ghost use Rattle.num_format_decimal.specs.Parsing.{AtScaleResult, DecimalResult, IsDecimalCause, SpellsDecimal, after_mark, unexpected_in_decimal};
-ghost use Rattle.num_format_decimal.specs.Shapes.{HasAmount, HasReading, IsCut, IsSpelled, fault_of};
+ghost use Rattle.num_format_decimal.specs.Shapes.{HasAmount, HasReading, IsCut, fault_of};
+ghost use Rattle.num_format_decimal.specs.Text.{mark_at};
 ghost use Rattle.num_format_decimal.specs.declared.decimal.TheConstants.{MAX_SCALE};
 ghost use Rattle.num_format_decimal.specs.declared.parsing.ParseDecimalError.TheVariants as cause;
 
 use crate::decimal::{Decimal, MAX_SCALE};
 use crate::marks::is_mark;
 use crate::parsing::{ParseAtScaleError, ParseDecimalError};
-use crate::reading::{SAFE_DIGITS, joined, read_digits_and_mark, trailing_digits};
+use crate::reading::{joined, trailing_digits, whole_number};
 use crate::rounding::Rounding;
 use num_format_parsing::FromFormattedStr;
 use num_format_parsing::causes::{begins_with, expected_end, has_digit, is_utf8};
@@ -90,9 +91,7 @@ impl<'a, F: Format> DecimalParser<'a, F> {
     /// Returns the decimal that the text spells: its scale is the number of digits after the mark.
     ///
     /// ```rust
-    /// let parser = DecimalParser::new(&Locale::en)?;
-    /// parser.parse("1,234.50")    // Ok(1234.50)
-    /// parser.parse(".5")          // Err(Misspelled)
+    /// DecimalParser::new(&Locale::en)?.parse(".5")    // Err(Misspelled)
     /// ```
     ///
     /// # Errors
@@ -108,8 +107,7 @@ impl<'a, F: Format> DecimalParser<'a, F> {
     /// Returns the decimal that the text of these bytes spells.
     ///
     /// ```rust
-    /// let parser = DecimalParser::new(&Locale::en)?;
-    /// parser.parse_bytes(b"1\xFF")    // Err(NotUtf8)
+    /// DecimalParser::new(&Locale::en)?.parse_bytes(b"1\xFF")    // Err(NotUtf8)
     /// ```
     ///
     /// # Errors
@@ -125,8 +123,7 @@ impl<'a, F: Format> DecimalParser<'a, F> {
     /// Returns the decimal that the text spells at another scale: the same number, or an error.
     ///
     /// ```rust
-    /// let parser = DecimalParser::new(&Locale::en)?;
-    /// parser.parse_at_scale("1,234.5", 2)    // Ok(1234.50)
+    /// DecimalParser::new(&Locale::en)?.parse_at_scale("1,234.5", 2)    // Ok(1234.50)
     /// ```
     ///
     /// # Errors
@@ -141,8 +138,7 @@ impl<'a, F: Format> DecimalParser<'a, F> {
     /// Returns the decimal that the text of these bytes spells at another scale.
     ///
     /// ```rust
-    /// let parser = DecimalParser::new(&Locale::en)?;
-    /// parser.parse_bytes_at_scale(b"1\xFF", 2)    // Err(Parse(NotUtf8))
+    /// DecimalParser::new(&Locale::en)?.parse_bytes_at_scale(b"1\xFF", 2)    // Err(Parse(NotUtf8))
     /// ```
     ///
     /// # Errors
@@ -173,9 +169,6 @@ impl<'a, F: Format> DecimalParser<'a, F> {
         ensures { DecimalResult self.now text.now result }
     {
         self.mark();
-        if let Some(decimal) = self.read_directly(text) {
-            return Ok(decimal);
-        }
         match self.read(text) {
             Ok(decimal) => Ok(decimal),
             Err(fault) => match fault {
@@ -195,39 +188,20 @@ impl<'a, F: Format> DecimalParser<'a, F> {
         self.mark
     }
 
-    /// Returns the decimal that a text spells. It may return `None` for any text, and does not for most that are
-    /// short, or whole numbers in groups.
-    #[inline(always)]
-    fn read_directly(&self, text: &[u8]) -> Option<Decimal>
-        ensures { IfSome result (λ d. IsSpelled self.now text.now d) }
-    {
-        if let Some((is_negative, magnitude)) = self.numbers.grouped_number(text) {
-            return Decimal::with_magnitude(is_negative, magnitude as u128, 0);
-        }
-        if text.is_empty() || text.len() > SAFE_DIGITS {
-            return None;
-        }
-        let sign = self.numbers.sign(text);
-        let (magnitude, scale) = read_digits_and_mark(
-            text,
-            sign.is_negative,
-            sign.len,
-            self.mark(),
-        )?;
-        Decimal::with_magnitude(sign.is_negative, magnitude as u128, scale)
-    }
-
     /// Returns the decimal that a text spells.
     ///
     /// The digits at the end are its decimals if the mark stands before them. Where that spells no decimal, the mark may
     /// be a part of the separator.
+    #[inline(always)]
     fn read(&self, text: &[u8]) -> Result<Decimal, Fault>
         ensures { HasReading self.now text.now (λ scale. scale ≤ MAX_SCALE) result }
     {
-        let Some(place) = self.mark_place(text) else {
+        self.mark();
+        let Some(cut) = self.mark_place(text) else {
             return self.read_whole(text);
         };
-        match self.read_at(text, place) {
+        let (place, end) = cut;
+        match self.read_parts(&text[..place], &text[end..]) {
             Ok(decimal) => Ok(decimal),
             Err(fault) => match fault {
                 Fault::TooLarge => Err(Fault::TooLarge),
@@ -236,13 +210,13 @@ impl<'a, F: Format> DecimalParser<'a, F> {
         }
     }
 
-    /// Returns where the mark stands before the digits at the end of a text, if it does and they are no more than the
-    /// largest scale.
+    /// Returns where the mark begins and ends that stands before the digits at the end of a text, if it does and they
+    /// are no more than the largest scale.
     #[inline(always)]
-    fn mark_place(&self, text: &[u8]) -> Option<usize>
+    fn mark_place(&self, text: &[u8]) -> Option<(usize, usize)>
         ensures { MatchOption result
             ((d : FixedPoint) → 0 < d.scale → d.scale ≤ MAX_SCALE → ¬ (SpellsDecimal self.now text.now d))
-            (λ place. IsCut self.now.decimal text.now place) }
+            (λ cut. IsCut self.now.decimal text.now cut.0 cut.1) }
     {
         let mark = self.mark();
         let count = trailing_digits(text);
@@ -256,23 +230,24 @@ impl<'a, F: Format> DecimalParser<'a, F> {
         if !begins_with(&text[place..], mark.as_bytes()) {
             return None;
         }
-        Some(place)
+        Some((place, end))
     }
 
-    /// Returns the decimal that a text spells with decimals after the mark at this place.
+    /// Returns the decimal that the text before the mark and the decimals after it spell together.
     #[inline(always)]
-    fn read_at(&self, text: &[u8], place: usize) -> Result<Decimal, Fault>
-        requires { IsCut self.now.decimal text.now place }
-        ensures { HasReading self.now text.now (λ scale. (0 < scale) × (scale ≤ MAX_SCALE)) result }
+    fn read_parts(&self, whole: &[u8], decimals: &[u8]) -> Result<Decimal, Fault>
+        requires digits { list_all is_ascii_digit decimals.now ≡ true }
+        requires few { length decimals.now ≤ MAX_SCALE }
+        ensures { HasReading self.now (whole.now ++ (mark_at self.now (length decimals.now) ++ decimals.now))
+            (λ scale. scale ≡ length decimals.now) result }
     {
-        let end = place + self.mark().len();
-        let amount = match self.amount(&text[..place]) {
+        self.mark();
+        let amount = match self.amount(whole) {
             Ok(amount) => amount,
             Err(fault) => return Err(fault),
         };
-        let (is_negative, whole) = amount;
-        let decimals = &text[end..];
-        let Some(magnitude) = joined(whole, decimals) else {
+        let (is_negative, units) = amount;
+        let Some(magnitude) = joined(units, decimals) else {
             return Err(Fault::TooLarge);
         };
         if magnitude == 0 && is_negative {
@@ -284,33 +259,30 @@ impl<'a, F: Format> DecimalParser<'a, F> {
         }
     }
 
+    /// Returns the whole number that a text spells.
+    #[inline(always)]
+    fn read_whole(&self, text: &[u8]) -> Result<Decimal, Fault>
+        ensures { HasReading self.now text.now (λ scale. scale ≡ 0) result }
+    {
+        self.read_parts(text, &[])
+    }
+
     /// Returns whether the whole number before a mark has a minus sign, and its absolute value. Only here can a zero
     /// have one.
     #[inline(always)]
     fn amount(&self, text: &[u8]) -> Result<(bool, u128), Fault>
         ensures { HasAmount self.now text.now result }
     {
-        // Most are in groups, and are read without a call.
+        // Most are in groups, or digits alone, and are read without a call.
         if let Some((is_negative, magnitude)) = self.numbers.grouped_number(text) {
             return Ok((is_negative, magnitude as u128));
         }
         let sign = self.numbers.sign(text);
-        if is_zero(&text[sign.len..]) {
-            return Ok((sign.is_negative, 0));
+        if let Some(magnitude) = whole_number(&text[sign.len..]) {
+            return Ok((sign.is_negative, magnitude as u128));
         }
         match self.numbers.parse_bytes::<i128>(text) {
             Ok(whole) => Ok((whole.is_negative(), whole.unsigned_abs())),
-            Err(error) => Err(fault_of(error)),
-        }
-    }
-
-    /// Returns the whole number that a text spells.
-    fn read_whole(&self, text: &[u8]) -> Result<Decimal, Fault>
-        ensures { HasReading self.now text.now (λ scale. scale ≡ 0) result }
-    {
-        self.mark();
-        match self.numbers.parse_bytes::<i128>(text) {
-            Ok(units) => Ok(Decimal::of(units, 0)),
             Err(error) => Err(fault_of(error)),
         }
     }
@@ -358,13 +330,6 @@ impl<'a, F: Format> DecimalParser<'a, F> {
         let start = whole + mark.len();
         (expected_end(text, start, &[]), text.len() - start)
     }
-}
-
-/// Returns whether a text is the digit zero.
-fn is_zero(text: &[u8]) -> bool
-    ensures { IsTrue result ↔ (text.now ≡ 48 ∷ []) }
-{
-    matches!(text, [b'0'])
 }
 
 /// Returns why a text is no amount that strict parsing refuses as an `i128`.

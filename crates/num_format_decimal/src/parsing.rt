@@ -1,8 +1,6 @@
 //! Parsing: a text that is exactly as a decimal is printed, or the cause of its refusal.
 //!
 //! A text *spells* a decimal if it is the text of the decimal under the format, or that text without separators.
-//! Under a format for which [`marks_decimals`](crate::marks_decimals) is true, a text spells one decimal at most, and
-//! parsing returns it. Under any other it refuses every text.
 ghost use Rattle.std.specs.Prelude.{Some, ℕ, List, string_bytes};
 ghost use Rattle.num_format_decimal.specs.Parsing.{AtScaleResult, DecimalResult, at_scale_message_of, parse_message_of};
 
@@ -12,12 +10,7 @@ use crate::parser::DecimalParser;
 use num_format_text::Format;
 use std::fmt;
 
-/// Why a text was refused as a decimal.
-///
-/// The causes are tried in this order, but for the last: a text that spells a decimal is out of range, and
-/// is refused for no other cause but the format.
-///
-/// It takes 16 bytes, and does not keep the text.
+/// Why a text was refused as a decimal: the first of these causes, but `OutOfRange` if the text spells a decimal.
 #[derive(Clone, Copy, Debug, PartialEq, Eq, Hash)]
 pub enum ParseDecimalError {
     /// The format is ambiguous, so no text is parsed under it: [`marks_decimals`](crate::marks_decimals) is false.
@@ -47,7 +40,6 @@ impl fmt::Display for ParseDecimalError {
 
     ghost styled_output = { λ error _. Some (parse_message_of error) };
 
-    /// Writes the message alone, whatever width or fill is asked for.
     fn fmt<W: fmt::Write>(&self, f: &mut fmt::Formatter<W>) -> fmt::Result {
         f.write_str(match self {
             ParseDecimalError::AmbiguousFormat => "The format is ambiguous.",
@@ -68,8 +60,7 @@ impl std::error::Error for ParseDecimalError {}
 pub enum ParseAtScaleError {
     /// The text is refused as a decimal.
     Parse(ParseDecimalError),
-    /// The text spells a decimal that cannot be rescaled: the scale is too large, digits other than zero would be
-    /// lost, or the units at the scale are no `i128`.
+    /// The text spells a decimal that cannot be rescaled.
     Rescale(DecimalError),
 }
 
@@ -78,7 +69,6 @@ impl fmt::Display for ParseAtScaleError {
 
     ghost styled_output = { λ error _. Some (at_scale_message_of error) };
 
-    /// Writes the message alone, whatever width or fill is asked for.
     fn fmt<W: fmt::Write>(&self, f: &mut fmt::Formatter<W>) -> fmt::Result {
         match self {
             ParseAtScaleError::Parse(error) => fmt::Display::fmt(error, f),
@@ -101,37 +91,30 @@ impl Decimal {
     ///
     /// # Errors
     ///
-    /// [`ParseDecimalError`] has the causes for which a text is refused. `NotUtf8` is none of them.
+    /// A [`ParseDecimalError`], but not `NotUtf8`.
     pub fn from_strict_str<F: Format>(text: &str, format: &F) -> Result<Decimal, ParseDecimalError>
         ensures { DecimalResult (F.answers format.now) text.now result }
     {
-        match DecimalParser::new(format) {
-            Ok(parser) => parser.parse(text),
-            Err(error) => Err(error),
-        }
+        DecimalParser::new(format)?.parse(text)
     }
 
     /// Returns the decimal that the text of these bytes spells, as [`from_strict_str`](Decimal::from_strict_str)
     /// does.
     ///
     /// ```rust
-    /// Decimal::from_strict_bytes(b"1,234.50", &Locale::en)    // Ok(1234.50)
-    /// Decimal::from_strict_bytes(b"1\xFF", &Locale::en)       // Err(NotUtf8)
+    /// Decimal::from_strict_bytes(b"1\xFF", &Locale::en)    // Err(NotUtf8)
     /// ```
     ///
     /// # Errors
     ///
-    /// [`ParseDecimalError::NotUtf8`] if the bytes are not UTF-8, and else as `from_strict_str`.
+    /// A [`ParseDecimalError`].
     pub fn from_strict_bytes<F: Format>(
         bytes: &[u8],
         format: &F,
     ) -> Result<Decimal, ParseDecimalError>
         ensures { DecimalResult (F.answers format.now) bytes.now result }
     {
-        match DecimalParser::new(format) {
-            Ok(parser) => parser.parse_bytes(bytes),
-            Err(error) => Err(error),
-        }
+        DecimalParser::new(format)?.parse_bytes(bytes)
     }
 
     /// Returns the decimal that the text spells at another scale: the same number, or an error.
@@ -140,15 +123,13 @@ impl Decimal {
     ///
     /// ```rust
     /// Decimal::parse_at_scale("1,234.5", 2, &Locale::en)    // Ok(1234.50)
-    /// Decimal::parse_at_scale("1.250", 2, &Locale::en)      // Ok(1.25)
     /// Decimal::parse_at_scale("1.255", 2, &Locale::en)      // Err(Rescale(DigitsLost))
     /// Decimal::parse_at_scale("1.", 2, &Locale::en)         // Err(Parse(Misspelled))
     /// ```
     ///
     /// # Errors
     ///
-    /// [`ParseAtScaleError::Parse`] if [`from_strict_str`](Decimal::from_strict_str) refuses the text, and
-    /// [`ParseAtScaleError::Rescale`] if [`rescale`](Decimal::rescale) then refuses the scale under
+    /// That of [`from_strict_str`](Decimal::from_strict_str), or that of [`rescale`](Decimal::rescale) under
     /// [`Rounding::Exact`].
     pub fn parse_at_scale<F: Format>(
         text: &str,
@@ -168,7 +149,7 @@ impl Decimal {
 pub trait ParseDecimal {
     ghost bytes: { Self → List ℕ };
 
-    /// Returns the decimal that the text spells, or why it spells none, as [`Decimal::from_strict_str`] does.
+    /// Returns the decimal that the text spells, as [`Decimal::from_strict_str`] does.
     ///
     /// ```rust
     /// "1.234,50".parse_decimal(&Locale::de)     // Ok(1234.50)
@@ -177,7 +158,7 @@ pub trait ParseDecimal {
     ///
     /// # Errors
     ///
-    /// [`ParseDecimalError`] has the causes for which a text is refused. `NotUtf8` is none of them.
+    /// A [`ParseDecimalError`], but not `NotUtf8`.
     fn parse_decimal<F: Format>(&self, format: &F) -> Result<Decimal, ParseDecimalError>
         ensures { DecimalResult (F.answers format.now) (bytes self.now) result };
 }

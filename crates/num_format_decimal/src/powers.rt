@@ -40,31 +40,18 @@ pub(crate) fn signed_power_of_ten(exponent: u8) -> i128
 }
 
 /// Returns 10 to the power of an exponent, which fits 64 bits.
+#[rattlefmt::skip]
 pub(crate) fn narrow_power_of_ten(exponent: u8) -> u64
     requires { exponent < TWENTY_DIGITS }
     ensures { result ≡ 10 ^ exponent }
 {
     match exponent {
-        0 => 1,
-        1 => 10,
-        2 => 100,
-        3 => 1000,
-        4 => 10_000,
-        5 => 100_000,
-        6 => 1_000_000,
-        7 => 10_000_000,
-        8 => 100_000_000,
-        9 => 1_000_000_000,
-        10 => 10_000_000_000,
-        11 => 100_000_000_000,
-        12 => 1_000_000_000_000,
-        13 => 10_000_000_000_000,
-        14 => 100_000_000_000_000,
-        15 => 1_000_000_000_000_000,
-        16 => 10_000_000_000_000_000,
-        17 => 100_000_000_000_000_000,
-        18 => 1_000_000_000_000_000_000,
-        _ => 10_000_000_000_000_000_000,
+        0 => 1, 1 => 10, 2 => 100, 3 => 1000, 4 => 10_000, 5 => 100_000,
+        6 => 1_000_000, 7 => 10_000_000, 8 => 100_000_000, 9 => 1_000_000_000,
+        10 => 10_000_000_000, 11 => 100_000_000_000, 12 => 1_000_000_000_000,
+        13 => 10_000_000_000_000, 14 => 100_000_000_000_000, 15 => 1_000_000_000_000_000,
+        16 => 10_000_000_000_000_000, 17 => 100_000_000_000_000_000,
+        18 => 1_000_000_000_000_000_000, _ => 10_000_000_000_000_000_000,
     }
 }
 
@@ -74,52 +61,18 @@ pub(crate) fn split(n: u128, scale: u8) -> (u128, u128)
     ensures whole { result.0 ≡ n / 10 ^ scale }
     ensures rest { result.1 ≡ n % 10 ^ scale }
 {
-    if n <= u64::MAX as u128 {
-        return split_short(n as u64, scale);
-    }
-    // Most numbers have no decimals, two, or six. Three tests may take less time than a jump table over the scales.
-    if scale == 0 {
-        return (n, 0);
-    }
-    if scale == 2 {
-        return divide_by::<100>(n);
-    }
-    if scale == 6 {
-        return divide_by::<1_000_000>(n);
-    }
-    split_by_scale(n, scale)
-}
-
-/// Returns the same of a number of any size.
-#[inline(never)]
-fn split_by_scale(n: u128, scale: u8) -> (u128, u128)
-    requires { scale ≤ MAX_SCALE }
-    ensures whole { result.0 ≡ n / 10 ^ scale }
-    ensures rest { result.1 ≡ n % 10 ^ scale }
-{
     match scale {
+        0 => (n, 0),
         1 => divide_by::<10>(n),
+        2 => divide_by::<100>(n),
         3 => divide_by::<1000>(n),
         4 => divide_by::<10_000>(n),
         5 => divide_by::<100_000>(n),
+        6 => divide_by::<1_000_000>(n),
         7 => divide_by::<10_000_000>(n),
         8 => divide_by::<100_000_000>(n),
         9 => divide_by::<1_000_000_000>(n),
         _ => divide(n, power_of_ten(scale)),
-    }
-}
-
-/// Returns the same of a number of 64 bits.
-fn split_short(n: u64, scale: u8) -> (u128, u128)
-    requires { scale ≤ MAX_SCALE }
-    ensures whole { result.0 ≡ n / 10 ^ scale }
-    ensures rest { result.1 ≡ n % 10 ^ scale }
-{
-    if scale < TWENTY_DIGITS {
-        let (whole, rest) = split_narrow(n, scale);
-        (whole as u128, rest as u128)
-    } else {
-        (0, n as u128)
     }
 }
 
@@ -149,28 +102,4 @@ fn divide(n: u128, one: u128) -> (u128, u128)
 {
     let whole = n / one;
     (whole, n - whole * one)
-}
-
-/// Returns the same as [`split`] of a number of 64 bits. A division by a number that is known where the
-/// code is compiled takes a few multiplications.
-#[tactic(auto, using(crate::proofs::ScaleLemmas::power_positive))]
-fn split_narrow(n: u64, scale: u8) -> (u64, u64)
-    requires { scale < TWENTY_DIGITS }
-    ensures whole { result.0 ≡ n / 10 ^ scale }
-    ensures rest { result.1 ≡ n % 10 ^ scale }
-{
-    match scale {
-        0 => (n, 0),
-        1 => (n / 10, n % 10),
-        2 => (n / 100, n % 100),
-        3 => (n / 1000, n % 1000),
-        4 => (n / 10_000, n % 10_000),
-        5 => (n / 100_000, n % 100_000),
-        6 => (n / 1_000_000, n % 1_000_000),
-        8 => (n / 100_000_000, n % 100_000_000),
-        _ => {
-            let one = narrow_power_of_ten(scale);
-            (n / one, n % one)
-        }
-    }
 }

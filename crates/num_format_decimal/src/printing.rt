@@ -53,9 +53,8 @@ impl Decimal {
     ///
     /// # Errors
     ///
-    /// Returns the error of the first write that fails, also of one that was interrupted. A write of no bytes
-    /// is an error of kind [`WriteZero`](io::ErrorKind::WriteZero). The writer then received a prefix of the
-    /// text, and not all of it.
+    /// Returns the error of the first write that fails, or [`WriteZero`](io::ErrorKind::WriteZero) if one writes no
+    /// bytes. The writer then received a prefix of the text, and not all of it.
     pub fn read_to_io_writer<F: Format, W: io::Write>(
         &self,
         w: &mut W,
@@ -104,9 +103,8 @@ impl Decimal {
 
 /// A decimal to be displayed under a format. A contract sees its text.
 ///
-/// [`formatted`](Decimal::formatted) returns it. Width, fill and alignment count as for a
-/// [`Formatted`](num_format_writers::Formatted) whole number: the width is in characters, and the text stands
-/// to the right where no side is asked for. Precision, `+`, `#` and `0` are ignored. The text is never cut.
+/// Width, fill and alignment count as for a [`Formatted`](num_format_writers::Formatted) whole number.
+#[derive(Drop)]
 pub struct FormattedDecimal<'a, F: Format> {
     d: &'a Decimal,
     format: &'a F,
@@ -127,7 +125,6 @@ impl<'a, F: Format> fmt::Display for FormattedDecimal<'a, F> {
     ghost styled_output = { λ text spec. Some (filled (spec_width spec) (spec_align spec)
         (spec_fill spec) text) };
 
-    /// Writes the text of the number, filled up to the width.
     #[tactic(auto, using(num_format_writers::proofs::ColumnLemmas::writes_plain))]
     fn fmt<W: fmt::Write>(&self, f: &mut fmt::Formatter<W>) -> fmt::Result {
         let buffer = DecimalBuffer::of(self.d, self.format);
@@ -138,14 +135,7 @@ impl<'a, F: Format> fmt::Display for FormattedDecimal<'a, F> {
 impl<'a, F: Format> fmt::Debug for FormattedDecimal<'a, F> {
     ghost debug_output = { λ text. Some text };
 
-    /// Writes the bare text, as a [`DecimalBuffer`] does, filled up to the width.
     fn fmt<W: fmt::Write>(&self, f: &mut fmt::Formatter<W>) -> fmt::Result {
         fmt::Display::fmt(self, f)
-    }
-}
-
-impl<'a, F: Format> Drop for FormattedDecimal<'a, F> {
-    fn drop(self) {
-        let FormattedDecimal { d: _, format: _ } = self;
     }
 }

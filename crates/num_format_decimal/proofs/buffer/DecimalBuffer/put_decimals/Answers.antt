@@ -1,8 +1,12 @@
-use Rattle.std.proofs.Common.{length, refl, ap, arith}
+use Rattle.std.proofs.Common.{◌∙◌, length, ap, sym, arith}
 use Rattle.num_format_int.specs.Groups.{last_digits, plain}
-use Rattle.num_format_decimal.proofs.TextLemmas.{length-plain, some_decimals}
+use Rattle.num_format_decimal.specs.Text.{decimals_of}
 use Rattle.num_format_decimal.proofs.PrintLemmas.{before_none, undivided}
+use Rattle.num_format_decimal.proofs.TextLemmas.{decimals-after, length-plain}
 use Rattle.num_format_decimal.proofs.buffer.DecimalBuffer.put_decimals.Goals as goal
+
+pub returns-then-count-eq0-clause-text : goal.returns-then-count-eq0-clause-text
+returns-then-count-eq0-clause-text g c = c.requires.empty ∙ ap (decimals_of (g.F.Format.answers c.args.format.now) c.args.n) (sym c.if-count-eq0.true)
 
 pub returns-then-count-eq0-clause-rest : goal.returns-then-count-eq0-clause-rest
 returns-then-count-eq0-clause-rest g c = undivided c.args.n c.args.count c.if-count-eq0.true
@@ -17,9 +21,8 @@ put_mark-requires g c =
 
 pub returns-clause-text : goal.returns-clause-text
 returns-clause-text g c =
-    let f = g.F.Format.answers c.args.format.now in
     let digits = before_none (plain (last_digits c.args.count c.args.n)) c.args.self.now c.put_last_digits-whole.new.self c.requires.empty c.put_last_digits-whole.ensures.text in
-    some_decimals f c.args.count c.args.n f.decimal c.put_last_digits-whole.new.self c.put_mark.new.self c.if-count-eq0.false refl digits c.put_mark.ensures.text
+    decimals-after (g.F.Format.answers c.args.format.now) c.args.count c.args.n c.put_last_digits-whole.new.self c.put_mark.new.self (omega (arith, c.if-count-eq0.false)) digits c.put_mark.ensures.text
 
 pub returns-clause-room : goal.returns-clause-room
 returns-clause-room g c =

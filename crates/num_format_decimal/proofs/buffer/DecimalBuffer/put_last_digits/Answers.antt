@@ -1,7 +1,7 @@
-use Rattle.std.proofs.Common.{◌≡◌, ◌+◌, ◌/◌, ◌^◌, ◌++◌, ◌∙◌, length, refl, ap, sym, arith, length-append}
+use Rattle.std.proofs.Common.{◌≡◌, ◌+◌, ◌/◌, ◌^◌, ◌++◌, ◌∙◌, length, refl, ap, sym, arith}
 use Rattle.num_format_int.specs.Groups.{last_digits, plain}
-use Rattle.num_format_decimal.proofs.PrintLemmas.{one_digit_more, quotient_more, two_digits_more}
-use Rattle.num_format_decimal.proofs.TextLemmas.{length-plain}
+use Rattle.num_format_decimal.proofs.PrintLemmas.{digits_before, quotient_more, two_digits_more}
+use Rattle.num_format_decimal.proofs.TextLemmas.{length-put}
 use Rattle.num_format_decimal.proofs.buffer.DecimalBuffer.put_last_digits.Goals as goal
 
 pub put_front-requires : goal.put_front-requires
@@ -23,15 +23,7 @@ loop-put-init c = record { text = refl; rest = omega arith; within = omega arith
 pub put_front-requires-in-loop-put : goal.put_front-requires-in-loop-put
 put_front-requires-in-loop-put c =
     let l = c.loop-put in
-    omega (
-      arith,
-      ap length c.two_digits-in-loop-put.ensures,
-      ap length l.invariant.text,
-      length-append (plain (last_digits l.put c.args.n)) c.args.self.now,
-      length-plain l.put c.args.n,
-      c.loop-put-test.true,
-      c.requires,
-    )
+    omega (arith, ap length c.two_digits-in-loop-put.ensures, length-put l.put c.args.n l.self c.args.self.now l.invariant.text, c.loop-put-test.true, c.requires)
 
 pub loop-put-preserved : goal.loop-put-preserved
 loop-put-preserved c =
@@ -45,22 +37,13 @@ loop-put-preserved c =
 pub put_front-requires-2 : goal.put_front-requires-2
 put_front-requires-2 c =
     let l = c.loop-put in
-    omega (
-      arith,
-      ap length c.one_digit.ensures,
-      ap length l.invariant.text,
-      length-append (plain (last_digits l.put c.args.n)) c.args.self.now,
-      length-plain l.put c.args.n,
-      l.invariant.within,
-      c.if-put-count.false,
-      c.requires,
-    )
+    omega (arith, ap length c.one_digit.ensures, length-put l.put c.args.n l.self c.args.self.now l.invariant.text, l.invariant.within, c.if-put-count.false, c.requires)
 
 pub returns-clause-text : goal.returns-clause-text
 returns-clause-text c =
     let l = c.loop-put in
     let count : l.put + 1 ≡ c.args.count = omega (arith, l.invariant.within, c.loop-put-test.false, c.if-put-count.false) in
-    one_digit_more l.put c.args.n l.left c.one_digit.result.now l.self c.put_front-2.new.self c.args.self.now l.invariant.rest l.invariant.text c.one_digit.ensures c.put_front-2.ensures
+    digits_before l.put 1 c.args.n l.left c.one_digit.result.now l.self c.put_front-2.new.self c.args.self.now l.invariant.rest l.invariant.text c.one_digit.ensures c.put_front-2.ensures
     ∙ ap (λ k. plain (last_digits k c.args.n) ++ c.args.self.now) count
 
 pub returns-clause-rest : goal.returns-clause-rest

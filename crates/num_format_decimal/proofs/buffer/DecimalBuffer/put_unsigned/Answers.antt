@@ -1,16 +1,30 @@
-use Rattle.std.proofs.Common.{◌≡◌, ℕ, ◌+◌, ◌^◌, ◌≤◌, List, length, ap, arith}
-use Rattle.num_format_text.specs.Format.{FormatData}
-use Rattle.num_format_decimal.specs.Printing.{unsigned_text}
+use Rattle.std.proofs.Common.{◌+◌, ◌/◌, ◌^◌, ◌++◌, ◌∙◌, length, ap, arith, unsigned_abs}
+use Rattle.num_format_int.specs.Text.{body_of}
+use Rattle.num_format_int.proofs.DigitLemmas.{length-digits-le}
+use Rattle.num_format_decimal.specs.Text.{unsigned_text}
 use Rattle.num_format_decimal.proofs.TextLemmas.{unsigned_text-length}
 use Rattle.num_format_decimal.proofs.buffer.DecimalBuffer.put_unsigned.Goals as goal
 
-text_fits : (f : FormatData) (text : List ℕ) (n k : ℕ) → length f.separator ≤ 8 → length f.decimal ≤ 8 → n ≤ 2 ^ 127 → k ≤ 38 → text ≡ unsigned_text f n k → length text + 8 ≤ 199
-text_fits f text n k separator mark small few same = omega (arith, ap length same, unsigned_text-length f n k separator mark small few)
+pub put_body-requires : goal.put_body-requires
+put_body-requires g c = omega (arith, c.put_decimals-whole.ensures.room, length-digits-le 20 c.put_decimals-whole.result (omega arith) (omega arith))
+
+pub returns-then-scale-lt-NINETEEN_DIGITS-clause-text : goal.returns-then-scale-lt-NINETEEN_DIGITS-clause-text
+returns-then-scale-lt-NINETEEN_DIGITS-clause-text g c =
+    let decimals = c.put_decimals-whole in
+    c.put_body.ensures.text
+    ∙ ap (λ m. body_of (g.F.Format.answers c.args.format.now) m ++ decimals.new.self) decimals.ensures.rest
+    ∙ ap (λ t. body_of (g.F.Format.answers c.args.format.now) (c.magnitude-n.result / 10 ^ c.scale-scale.result) ++ t) decimals.ensures.text
+    ∙ ap (λ n. unsigned_text (g.F.Format.answers c.args.format.now) n c.scale-scale.result) c.magnitude-n.ensures.magnitude
+    ∙ ap (unsigned_text (g.F.Format.answers c.args.format.now) (unsigned_abs c.args.d.now.units)) c.scale-scale.ensures.scale
 
 pub returns-then-scale-lt-NINETEEN_DIGITS-clause-room : goal.returns-then-scale-lt-NINETEEN_DIGITS-clause-room
 returns-then-scale-lt-NINETEEN_DIGITS-clause-room g c =
-    text_fits (g.F.Format.answers c.args.format.now) c.put_narrow.new.self c.magnitude-n.result c.scale-scale.result c.texts_fit.ensures.separator c.texts_fit.ensures.mark c.magnitude-n.ensures.bound c.scale-scale.ensures.bound c.put_narrow.ensures
+    let decimals = c.put_decimals-whole in
+    let text = c.put_body.ensures.text
+    ∙ ap (λ m. body_of (g.F.Format.answers c.args.format.now) m ++ decimals.new.self) decimals.ensures.rest
+    ∙ ap (λ t. body_of (g.F.Format.answers c.args.format.now) (c.magnitude-n.result / 10 ^ c.scale-scale.result) ++ t) decimals.ensures.text in
+    omega (arith, ap length text, unsigned_text-length (g.F.Format.answers c.args.format.now) c.magnitude-n.result c.scale-scale.result c.texts_fit.ensures.separator c.texts_fit.ensures.mark c.magnitude-n.ensures.bound c.scale-scale.ensures.bound)
 
 pub returns-clause-room : goal.returns-clause-room
 returns-clause-room g c =
-    text_fits (g.F.Format.answers c.args.format.now) c.put_wide.new.self c.magnitude-n.result c.scale-scale.result c.texts_fit.ensures.separator c.texts_fit.ensures.mark c.magnitude-n.ensures.bound c.scale-scale.ensures.bound c.put_wide.ensures
+    omega (arith, ap length c.put_wide.ensures, unsigned_text-length (g.F.Format.answers c.args.format.now) c.magnitude-n.result c.scale-scale.result c.texts_fit.ensures.separator c.texts_fit.ensures.mark c.magnitude-n.ensures.bound c.scale-scale.ensures.bound)

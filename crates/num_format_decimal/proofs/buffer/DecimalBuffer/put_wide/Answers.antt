@@ -1,8 +1,8 @@
-use Rattle.std.proofs.Common.{length, refl, ap, arith}
+use Rattle.std.proofs.Common.{length, ap, arith}
 use Rattle.std.proofs.Math.Nat.{mod-lt}
 use Rattle.num_format_int.specs.Digits.{digits}
 use Rattle.num_format_decimal.proofs.ScaleLemmas.{power_positive}
-use Rattle.num_format_decimal.proofs.TextLemmas.{unsigned_text_from, whole_digits, whole_fits}
+use Rattle.num_format_decimal.proofs.TextLemmas.{unsigned_text-from, whole_digits}
 use Rattle.num_format_decimal.proofs.buffer.DecimalBuffer.put_wide.Goals as goal
 
 pub put_wide_decimals-requires-clause-below : goal.put_wide_decimals-requires-clause-below
@@ -19,5 +19,5 @@ put_body-requires g c =
 
 pub returns : goal.returns
 returns g c =
-    unsigned_text_from (g.F.Format.answers c.args.format.now) c.put_wide_decimals.new.self c.put_body.new.buffer c.args.n c.args.scale c.split-whole.result.0 c.split-whole.result.1
+    unsigned_text-from (g.F.Format.answers c.args.format.now) c.put_wide_decimals.new.self c.put_body.new.buffer c.args.n c.args.scale c.split-whole.result.0 c.split-whole.result.1
     c.split-whole.ensures.whole c.split-whole.ensures.rest c.put_wide_decimals.ensures.text c.put_body.ensures.text

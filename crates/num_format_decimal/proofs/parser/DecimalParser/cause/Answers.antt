@@ -1,10 +1,9 @@
-use Rattle.std.proofs.Common.{◌≡◌, ◌∙◌, drop, length, ap, sym, subst, arith}
-use Rattle.std.proofs.lemmas.List.{drop_all}
+use Rattle.std.proofs.Common.{◌∙◌, drop, ap, sym, subst, arith}
 use Rattle.num_format_int.specs.Grouped.{printed_separator}
 use Rattle.num_format_parsing.specs.Shapes.{HasSign}
-use Rattle.num_format_parsing.specs.Strict.{unexpected, unread}
+use Rattle.num_format_parsing.specs.Strict.{unread}
 use Rattle.num_format_parsing.proofs.FigureLemmas.{figures-bytes, figures-none, figures-some}
-use Rattle.num_format_decimal.specs.Parsing.{IsExpectedDecimal}
+use Rattle.num_format_decimal.proofs.CauseLemmas.{expected_of}
 use Rattle.num_format_decimal.proofs.parser.DecimalParser.cause.Goals as goal
 
 pub decimals_end-at-requires-clause-whole : goal.decimals_end-at-requires-clause-whole
@@ -30,34 +29,20 @@ returns-then-at-text g c = (
 pub returns-then-not-has_digit : goal.returns-then-not-has_digit
 returns-then-not-has_digit g c =
     let t = c.args.text.now in
-    let utf8 = c.is_utf8.ensures.0 c.if-not-is_utf8.false in (
-      c.mark.ensures.marks,
-      record {
-        expected = record { spells_none = record { utf8 = utf8; none = c.requires.unspelled }; rest = c.decimals_end-at.ensures.rest ∙ drop_all c.decimals_end-at.result.0 t c.if-at-text.false };
-        none = figures-bytes t utf8 ∙ figures-none t (sym c.has_digit.ensures ∙ c.if-not-has_digit.true);
-      },
-    )
+    let utf8 = c.is_utf8.ensures.0 c.if-not-is_utf8.false in
+    let expected = expected_of c.args.self.now t c.decimals_end-at.result.0 utf8 c.requires.unspelled c.decimals_end-at.ensures.rest c.if-at-text.false in
+    (c.mark.ensures.marks, record { expected = expected; fault = figures-bytes t utf8 ∙ figures-none t (sym c.has_digit.ensures ∙ c.if-not-has_digit.true) })
 
 pub returns-then-decimals : goal.returns-then-decimals
 returns-then-decimals g c =
     let t = c.args.text.now in
-    let utf8 = c.is_utf8.ensures.0 c.if-not-is_utf8.false in (
-      c.mark.ensures.marks,
-      record {
-        expected = record { spells_none = record { utf8 = utf8; none = c.requires.unspelled }; rest = c.decimals_end-at.ensures.rest ∙ drop_all c.decimals_end-at.result.0 t c.if-at-text.false };
-        some = λ none. figures-some t (sym c.has_digit.ensures ∙ c.if-not-has_digit.false) (sym (figures-bytes t utf8) ∙ none);
-        many = omega (arith, c.if-decimals.true, c.decimals_end-at.ensures.decimals);
-      },
-    )
+    let utf8 = c.is_utf8.ensures.0 c.if-not-is_utf8.false in
+    let expected = expected_of c.args.self.now t c.decimals_end-at.result.0 utf8 c.requires.unspelled c.decimals_end-at.ensures.rest c.if-at-text.false in
+    (c.mark.ensures.marks, record { expected = expected; fault = (λ none. figures-some t (sym c.has_digit.ensures ∙ c.if-not-has_digit.false) (sym (figures-bytes t utf8) ∙ none), omega (arith, c.if-decimals.true, c.decimals_end-at.ensures.decimals)) })
 
 pub returns : goal.returns
 returns g c =
     let t = c.args.text.now in
-    let utf8 = c.is_utf8.ensures.0 c.if-not-is_utf8.false in (
-      c.mark.ensures.marks,
-      record {
-        expected = record { spells_none = record { utf8 = utf8; none = c.requires.unspelled }; rest = c.decimals_end-at.ensures.rest ∙ drop_all c.decimals_end-at.result.0 t c.if-at-text.false };
-        some = λ none. figures-some t (sym c.has_digit.ensures ∙ c.if-not-has_digit.false) (sym (figures-bytes t utf8) ∙ none);
-        few = omega (arith, c.if-decimals.false, c.decimals_end-at.ensures.decimals);
-      },
-    )
+    let utf8 = c.is_utf8.ensures.0 c.if-not-is_utf8.false in
+    let expected = expected_of c.args.self.now t c.decimals_end-at.result.0 utf8 c.requires.unspelled c.decimals_end-at.ensures.rest c.if-at-text.false in
+    (c.mark.ensures.marks, record { expected = expected; fault = (λ none. figures-some t (sym c.has_digit.ensures ∙ c.if-not-has_digit.false) (sym (figures-bytes t utf8) ∙ none), omega (arith, c.if-decimals.false, c.decimals_end-at.ensures.decimals)) })

@@ -1,33 +1,24 @@
 use Rattle.std.proofs.Common.{Ok, Err, subst}
-use Rattle.num_format_decimal.specs.declared.parsing.ParseDecimalError.TheVariants as cause
 use Rattle.std.specs.Prelude.{◌≤◌}
-use Rattle.num_format_decimal.specs.Shapes.{HasReading}
 use Rattle.num_format_decimal.specs.declared.decimal.TheConstants.{MAX_SCALE}
+use Rattle.num_format_decimal.specs.declared.parsing.ParseDecimalError.TheVariants as cause
+use Rattle.num_format_decimal.specs.Shapes.{HasReading}
 use Rattle.num_format_decimal.proofs.CauseLemmas.{result-judged}
 use Rattle.num_format_decimal.proofs.parser.DecimalParser.parse_any.Goals as goal
 
-pub returns-in-Some : goal.returns-in-Some
-returns-in-Some g c =
-    let read = c.in-Some.ensures in
-    result-judged c.args.self.now c.args.text.now (Ok c.in-Some.decimal) c.mark.ensures.plain
-    (record { unambiguous = c.mark.ensures.marks; spelled = read.spelled; bound = read.bound; fits = read.fits })
-
 pub returns-in-Ok : goal.returns-in-Ok
-returns-in-Ok g c =
-    let read = c.in-Ok.ensures in
-    result-judged c.args.self.now c.args.text.now (Ok c.in-Ok.decimal) c.mark.ensures.plain
-    (record { unambiguous = c.mark.ensures.marks; spelled = read.spelled; bound = read.bound; fits = read.fits })
+returns-in-Ok g c = result-judged c.args.self.now c.args.text.now c.mark.ensures.plain c.mark.ensures.marks (Ok c.in-Ok.decimal) c.in-Ok.ensures
 
 pub returns-in-TooLarge : goal.returns-in-TooLarge
 returns-in-TooLarge g c =
     let f = c.args.self.now in
     let t = c.args.text.now in
     let large = subst (λ x. HasReading f t (λ scale. scale ≤ MAX_SCALE) (Err x)) c.in-TooLarge.is c.in-Err.ensures in
-    result-judged f t (Err cause.OutOfRange) c.mark.ensures.plain (c.mark.ensures.marks, large)
+    result-judged f t c.mark.ensures.plain c.mark.ensures.marks (Err cause.OutOfRange) (c.mark.ensures.marks, large)
 
 pub cause-requires-clause-unspelled : goal.cause-requires-clause-unspelled
 cause-requires-clause-unspelled g c =
     subst (λ x. HasReading c.args.self.now c.args.text.now (λ scale. scale ≤ MAX_SCALE) (Err x)) c.in-Unspelled.is c.in-Err.ensures
 
 pub returns-in-Unspelled : goal.returns-in-Unspelled
-returns-in-Unspelled g c = result-judged c.args.self.now c.args.text.now (Err c.cause.result) c.mark.ensures.plain c.cause.ensures
+returns-in-Unspelled g c = result-judged c.args.self.now c.args.text.now c.mark.ensures.plain c.mark.ensures.marks (Err c.cause.result) c.cause.ensures
