@@ -1,4 +1,4 @@
-/* num-format for C: numbers with separators between groups of digits, and back.
+/* num-format for C99 and later: numbers with separators between groups of digits, and back.
  *
  *     num_format format = {0};
  *     char text[NUM_FORMAT_MAX];
@@ -17,8 +17,8 @@
  * The contracts of the library's functions are proved. They hold for any bytes of a struct `num_format` and of a
  * text. What is inline at the end of this header is tested. What a caller must ensure, since no call can test it:
  *
- * - No pointer is null, but that to a text or an array of length 0 may be in a call that GCC or Clang compiles
- *   with this header: see its end.
+ * - No pointer is null. Only with GCC and Clang a call by its name may be passed one for a text or an array of length 0:
+ *   see the end of this header.
  * - A pointer to a text or an array points to as many bytes as the length or capacity beside it
  *   says, which is at most PTRDIFF_MAX.
  * - What a call writes overlaps nothing else that is passed to it, and no other thread reads or
@@ -29,6 +29,7 @@
 
 #include <stddef.h>
 #include <stdint.h>
+#include <string.h>
 
 #ifdef __cplusplus
 extern "C" {
@@ -49,7 +50,7 @@ extern "C" {
 
 /* The errors. */
 enum {
-    NUM_FORMAT_BAD_FORMAT = -1,     /* the struct has no format: no call filled it */
+    NUM_FORMAT_BAD_FORMAT = -1,     /* the struct has no format, as where no call filled it */
     NUM_FORMAT_TOO_SMALL = -2,      /* the array is shorter than the text */
     NUM_FORMAT_NOT_UTF8 = -3,       /* a text is not UTF-8 */
     NUM_FORMAT_NOT_A_NUMBER = -4,   /* the text is refused as a number: see num_format_parse_i64 */
@@ -61,13 +62,13 @@ enum {
     NUM_FORMAT_UNEXPECTED = -9,     /* a byte belongs to no minus sign, digit or separator */
     NUM_FORMAT_NO_DIGIT = -10,      /* the text has no digit */
     NUM_FORMAT_MISSPELLED = -11,    /* the text is not as its number is printed */
-    NUM_FORMAT_OUT_OF_RANGE = -12,  /* the number is none of that many bits */
+    NUM_FORMAT_OUT_OF_RANGE = -12,  /* the number is not in the range of the type */
     NUM_FORMAT_BAD_SCALE = -13,     /* the scale of a decimal is above 38 */
     /* The text is refused as a decimal: see num_format_parse_decimal. */
     NUM_FORMAT_TOO_MANY_DECIMALS = -14, /* more than 38 digits follow the decimal mark */
     /* The arrays of a column are refused: see num_format_print_i64_column and num_format_parse_i64_column. */
     NUM_FORMAT_BAD_LENGTH = -15,    /* there are not as many offsets, or bits of validity, as the numbers need */
-    NUM_FORMAT_BAD_OFFSETS = -16,   /* an offset is below the one before it, or past the bytes */
+    NUM_FORMAT_BAD_OFFSETS = -16,   /* an offset is below 0 or the one before it, or past the bytes */
     NUM_FORMAT_TOO_MANY_BYTES = -17, /* the texts have more bytes than the last offset can say */
     NUM_FORMAT_DIGITS_LOST = -18,   /* the text has digits other than 0 that the scale of a column has not */
     /* The format is refused by strict parsing, whatever the text is: see num_format_parse_strict_i64. */
@@ -110,13 +111,13 @@ typedef struct num_format {
 int32_t num_format_locale(num_format *format, const char *name, size_t length);
 
 /* Fills the struct with the format of the locale for a language tag, as an environment or a browser gives one,
- * and returns 0. It is that of the longest name with which the tag begins.
+ * and returns 0. A name of a locale is such a tag too.
  *
  * What follows the first "." or "@" does not count, nor does the case of ASCII letters, and an underscore counts
- * as a hyphen. A name counts only if the tag ends after it, or goes on with a hyphen: "de_DE.UTF-8" is "de",
+ * as a hyphen. From what is left, subtags are taken away at the end until it is a name: "de_DE.UTF-8" is "de",
  * "en-us" is "en", "zh-hant-TW" is "zh-Hant", "sr_RS@latin" is "sr". "C" and "POSIX" are "en-US-POSIX".
  *
- * Errors: NUM_FORMAT_NOT_UTF8, else NUM_FORMAT_UNKNOWN_LOCALE: the tag begins with no name, as "english". */
+ * Errors: NUM_FORMAT_NOT_UTF8, else NUM_FORMAT_UNKNOWN_LOCALE: no name is left, as of "english". */
 int32_t num_format_lookup(num_format *format, const char *tag, size_t length);
 
 /* Fills the struct with a separator of at most 8 bytes, a grouping, a minus sign of at most 8 bytes and the
@@ -177,6 +178,10 @@ int32_t num_format_print_decimal(const num_format *format, uint64_t low, uint64_
  * Errors: NUM_FORMAT_BAD_SCALE, else NUM_FORMAT_BAD_FORMAT. */
 int32_t num_format_print_decimal_len(const num_format *format, uint64_t low, uint64_t high, uint32_t scale);
 
+/* Returns the number of characters of a text, such as one that was printed: the columns that it takes where each
+ * character takes one. Of bytes that are not UTF-8, those that begin a character count. */
+size_t num_format_text_width(const char *text, size_t length);
+
 /* Parse a text as a number of 8, 16, 32 or 64 bits, write it, and return 0.
  *
  * The number is that of the digits 0 to 9 of the text in order, negated if the text begins with the
@@ -189,7 +194,7 @@ int32_t num_format_print_decimal_len(const num_format *format, uint64_t low, uin
  * - NUM_FORMAT_NOT_UTF8.
  * - NUM_FORMAT_NOT_A_NUMBER: the text has no digit; it has a numeric character other than 0 to 9; it
  *   has more digits, a minus sign counted as one, than the longest number of that many bits; or
- *   its number has more bits, or a sign that the type has not. */
+ *   its number is not in the range of the type. */
 int32_t num_format_parse_i64(const num_format *format, uint32_t bits, const char *text, size_t length,
                              int64_t *number);
 int32_t num_format_parse_u64(const num_format *format, uint32_t bits, const char *text, size_t length,
@@ -226,7 +231,7 @@ int32_t num_format_parse_i128(const num_format *format, const char *text, size_t
  * - NUM_FORMAT_MISSPELLED: the text is not as the number that its digits and its minus sign denote is
  *   printed, grouped or not: under "en" as "01", "1,23", "1234,567" and "-0".
  * - NUM_FORMAT_OUT_OF_RANGE: the text is as that number is printed, however many digits it has, and the
- *   number has more bits, or a sign that the type has not. */
+ *   number is not in the range of the type. */
 int32_t num_format_parse_strict_i64(const num_format *format, uint32_t bits, const char *text,
                                     size_t length, int64_t *number, size_t *at);
 int32_t num_format_parse_strict_u64(const num_format *format, uint32_t bits, const char *text,
@@ -250,7 +255,7 @@ int32_t num_format_parse_strict_i128(const num_format *format, const char *text,
  * `at` is written with NUM_FORMAT_UNEXPECTED alone, and the decimal with 0 alone. Each is as it was with
  * any other result.
  *
- * Errors, in this order, but that a text which spells a decimal has no error but the last:
+ * Errors, in this order. Only the first two and the last are of a text that is as a decimal is printed.
  * - NUM_FORMAT_BAD_FORMAT.
  * - NUM_FORMAT_AMBIGUOUS_FORMAT: num_format_reads_back returns 0, or the decimal mark is empty, has a numeric
  *   character, or is a separator that is printed. This holds for no locale either.
@@ -266,8 +271,8 @@ int32_t num_format_parse_decimal(const num_format *format, const char *text, siz
                                  uint64_t *high, uint32_t *scale, size_t *at);
 
 /* Returns 1 if every number, printed under the format, parses as the same number again, as any type
- * that has it; else 0. It is 1 for each locale, and 0 for an empty minus sign, or for the separator "0"
- * under a grouping that prints one.
+ * that has it; else 0. It is 1 for each locale, and 0 for an empty minus sign, for example, or for the
+ * separator "0" under a grouping that prints one.
  *
  * Error: NUM_FORMAT_BAD_FORMAT. */
 int32_t num_format_reads_back(const num_format *format);
@@ -907,11 +912,12 @@ static inline const char *num_format_strerror(int32_t status) {
 #define NUM_FORMAT_SOME(pointer) ((pointer) ? (pointer) : (__typeof__(pointer))sizeof *(pointer))
 
 /* The function that is called num_format_X in C, inline in place of that of the library, which it calls. */
-#define NUM_FORMAT_INLINE(name, parameters, arguments) \
-    int32_t num_format_call_##name parameters __asm__("num_format_" #name); \
-    extern __inline__ __attribute__((__gnu_inline__, __always_inline__)) int32_t num_format_##name parameters { \
+#define NUM_FORMAT_TYPED_INLINE(type, name, parameters, arguments) \
+    type num_format_call_##name parameters __asm__("num_format_" #name); \
+    extern __inline__ __attribute__((__gnu_inline__, __always_inline__)) type num_format_##name parameters { \
         return num_format_call_##name arguments; \
     }
+#define NUM_FORMAT_INLINE(name, parameters, arguments) NUM_FORMAT_TYPED_INLINE(int32_t, name, parameters, arguments)
 
 NUM_FORMAT_INLINE(locale, (num_format *format, const char *name, size_t length),
                   (format, NUM_FORMAT_SOME(name), length))
@@ -942,6 +948,7 @@ NUM_FORMAT_INLINE(print_decimal,
                   (const num_format *format, uint64_t low, uint64_t high, uint32_t scale, char *text,
                    size_t capacity),
                   (format, low, high, scale, NUM_FORMAT_SOME(text), capacity))
+NUM_FORMAT_TYPED_INLINE(size_t, text_width, (const char *text, size_t length), (NUM_FORMAT_SOME(text), length))
 NUM_FORMAT_INLINE(parse_i64,
                   (const num_format *format, uint32_t bits, const char *text, size_t length, int64_t *number),
                   (format, bits, NUM_FORMAT_SOME(text), length, number))
@@ -1040,6 +1047,7 @@ NUM_FORMAT_COLUMN_INLINE(SCALED, decimal, num_format_wide)
 NUM_FORMAT_COLUMN_INLINE(SCALED_NULLABLE, nullable_decimal, num_format_wide)
 
 #undef NUM_FORMAT_SOME
+#undef NUM_FORMAT_TYPED_INLINE
 #undef NUM_FORMAT_INLINE
 #undef NUM_FORMAT_PLAIN_PARAMETERS
 #undef NUM_FORMAT_PLAIN_ARGUMENTS
@@ -1056,6 +1064,32 @@ NUM_FORMAT_COLUMN_INLINE(SCALED_NULLABLE, nullable_decimal, num_format_wide)
 #undef NUM_FORMAT_COLUMN_INLINE
 #undef NUM_FORMAT_NUMBERS_INLINE
 #endif
+
+/* The same for names that end at a zero byte, and for decimals whose units have 64 bits. These are inline. */
+static inline int32_t num_format_locale_str(num_format *format, const char *name) {
+    return num_format_locale(format, name, strlen(name));
+}
+static inline int32_t num_format_lookup_str(num_format *format, const char *tag) {
+    return num_format_lookup(format, tag, strlen(tag));
+}
+static inline int32_t num_format_print_decimal_i64(const num_format *format, int64_t units, uint32_t scale, char *text,
+                                                   size_t capacity) {
+    return num_format_print_decimal(format, (uint64_t)units, units < 0 ? UINT64_MAX : 0, scale, text, capacity);
+}
+/* Errors: those of num_format_parse_decimal, and NUM_FORMAT_OUT_OF_RANGE where the units have more than 64 bits. */
+static inline int32_t num_format_parse_decimal_i64(const num_format *format, const char *text, size_t length,
+                                                   int64_t *units, uint32_t *scale, size_t *at) {
+    uint64_t low = 0, high = 0;
+    uint32_t found = 0;
+    int32_t status = num_format_parse_decimal(format, text, length, &low, &high, &found, at);
+    if (status == 0 && high != (low >> 63 ? UINT64_MAX : 0))
+        return NUM_FORMAT_OUT_OF_RANGE;
+    if (status == 0) {
+        *units = (int64_t)low;
+        *scale = found;
+    }
+    return status;
+}
 
 #ifdef __cplusplus
 }

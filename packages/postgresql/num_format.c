@@ -251,18 +251,6 @@ parse(FunctionCallInfo fcinfo, bool is_try)
 	PG_RETURN_INT64(number);
 }
 
-Datum
-num_parse(PG_FUNCTION_ARGS)
-{
-	return parse(fcinfo, false);
-}
-
-Datum
-num_try_parse(PG_FUNCTION_ARGS)
-{
-	return parse(fcinfo, true);
-}
-
 /* The same as a decimal. */
 static Datum
 parse_decimal(FunctionCallInfo fcinfo, bool is_try)
@@ -288,17 +276,12 @@ parse_decimal(FunctionCallInfo fcinfo, bool is_try)
 										Int32GetDatum(-1)));
 }
 
-Datum
-num_parse_decimal(PG_FUNCTION_ARGS)
-{
-	return parse_decimal(fcinfo, false);
-}
+#define PARSING(name, parse, is_try) Datum name(PG_FUNCTION_ARGS) { return parse(fcinfo, is_try); }
 
-Datum
-num_try_parse_decimal(PG_FUNCTION_ARGS)
-{
-	return parse_decimal(fcinfo, true);
-}
+PARSING(num_parse, parse, false)
+PARSING(num_try_parse, parse, true)
+PARSING(num_parse_decimal, parse_decimal, false)
+PARSING(num_try_parse_decimal, parse_decimal, true)
 
 /* Null is returned where the tag is of no locale. */
 Datum

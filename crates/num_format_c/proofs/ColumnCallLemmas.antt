@@ -1,5 +1,5 @@
 -- Columns under the format of a struct.
-use Rattle.std.proofs.Common.{◌≡◌, ◌≢◌, ℕ, ◌+◌, ◌<◌, ◌≤◌, inl, inr, Bool, ℤ, pos, List, length, slice_index_or, slice_set, ap, arith, sym, subst}
+use Rattle.std.proofs.Common.{◌≡◌, ◌≢◌, ℕ, ◌+◌, ◌<◌, ◌≤◌, inl, inr, Bool, ℤ, pos, List, length, slice_index_or, slice_set, arith, sym, subst}
 use Rattle.std.proofs.Math.Nat.{eq-or-lt_of_le}
 use Rattle.std.proofs.lemmas.List.{get_or-set_other, get_or-set_same}
 use Rattle.num_format.specs.Format.{FormatData}

@@ -6,3 +6,4 @@ pub mod LayoutLemmas
 pub mod NameLemmas
 pub mod StrictLemmas
 pub mod TextLemmas
+pub mod WidthLemmas

@@ -1,5 +1,5 @@
 -- What strict parsing returns, as a status.
-use Rattle.std.proofs.Common.{◌≡◌, ℕ, ℤ, List, Result, Ok, Err, ap, sym, ◌∙◌, subst}
+use Rattle.std.proofs.Common.{◌≡◌, ℕ, ℤ, List, Ok, Err, ap, sym, ◌∙◌, subst}
 use Rattle.num_format.specs.Format.{FormatData}
 use Rattle.num_format.specs.Kind.{Kind}
 use Rattle.num_format.specs.Strict.{IsCause, ParsesStrictly, SpellsNumber}

@@ -1,5 +1,6 @@
 //! What the calls do, with Rust's types.
 ghost use Rattle.std.specs.Prelude.{◌≡◌, ◌≢◌, ◌<◌, ◌≤◌, length, pos, Err, MatchOption, if◌then◌else◌};
+ghost use Rattle.std.specs.Fmt.{is_char_start};
 ghost use Rattle.num_format.specs.Alike.{Alike};
 ghost use Rattle.num_format.specs.Data.{locale_data};
 ghost use Rattle.num_format.specs.Names.{name_of};
@@ -128,6 +129,13 @@ pub fn decimal_len(format: &NumFormat, units: i128, scale: u32) -> Result<i32, S
         return Err(Status::BadFormat);
     };
     Ok(num_format_decimal::text_len(&number, &format) as i32)
+}
+
+/// Returns whether a byte begins a character.
+pub fn is_char_start(byte: u8) -> bool
+    ensures { result ≡ is_char_start byte }
+{
+    byte < 0x80 || byte >= 0xC0
 }
 
 /// Returns the decimal with these units and this scale, or `None` if the scale is too large.

@@ -6,12 +6,13 @@
 //! The header says what a C program has to know, and what it must ensure. The contracts here say
 //! what each call returns and writes, for any bytes of a struct and of a text.
 //!
-//! A call returns 0, a length in bytes, or 1 or 0 for yes and no. Where it fails it returns a
+//! A call returns 0, a length, a version, or 1 or 0 for yes and no. Where it fails it returns a
 //! negative number, the [`code`](Status::code) of a [`Status`], and what it would have written is as
-//! it was.
+//! it was, but for the place of an unexpected byte.
 #![tactic(auto)]
 
 ghost use Rattle.std.specs.Prelude.{◌≡◌, ◌+◌, ◌*◌, ◌^◌, codes, pos, MatchOption};
+ghost use Rattle.std.specs.Fmt.{char_count};
 ghost use Rattle.num_format.specs.Alike.{Alike};
 ghost use Rattle.num_format.specs.Data.{locale_data};
 ghost use Rattle.num_format.specs.Kind.{kind_of, I128, U128};
@@ -208,6 +209,18 @@ pub extern "C" fn num_format_print_decimal_len(
     ensures { ReturnsDecimalLength format.now (signed_wide low high) scale result }
 {
     returned(calls::decimal_len(format, joined(low, high).cast_signed(), scale))
+}
+
+/// Returns the number of characters of a text, which are the columns that it takes where each takes one. Of bytes that
+/// are not UTF-8, those that begin a character count.
+#[unsafe(no_mangle)]
+#[tactic(auto, using(crate::proofs::WidthLemmas::count_by_is_char_start))]
+pub extern "C" fn num_format_text_width(text: &[u8]) -> usize
+    ensures { result ≡ char_count text.now }
+{
+    text.iter()
+        .filter(|byte| calls::is_char_start(**byte))
+        .count()
 }
 
 /// Parses the text as a signed number of 8, 16, 32 or 64 bits, writes the number, and returns 0.

@@ -39,6 +39,7 @@ int32_t num_format_prints_alike(const num_format *, const num_format *);
 int32_t num_format_names(size_t, char *, size_t);
 int32_t num_format_lookup_name(const char *, size_t, char *, size_t);
 uint32_t num_format_version(void);
+size_t num_format_text_width(const char *, size_t);
 
 /* The calls for columns of a type: how they are named, the type of a value, and the parameters after the values. */
 #define COLUMN_CALLS(name, type, ...) \
@@ -656,7 +657,32 @@ static void check_lookup(void) {
     CHECK(num_format_lookup_name("de\xff", 3, name, sizeof name), -3);
 }
 
+/* Characters of one to four bytes, and the calls for names that end at a zero byte and for units of 64 bits. */
+static void check_helpers(void) {
+    CHECK(num_format_text_width("1\u202f234\u202f567", 13), 9);
+    CHECK(num_format_text_width("\u2212\u00e9\U0001d7d9x", 10), 4);
+    CHECK(num_format_text_width("\xff\x80x", 3), 2);
+    CHECK(num_format_text_width(NULL, 0), 0);
+    num_format format;
+    char text[NUM_FORMAT_DECIMAL_MAX];
+    int64_t units = 7;
+    uint32_t scale = 7;
+    size_t at = 7;
+    CHECK(num_format_locale_str(&format, "xx"), -5);
+    CHECK(num_format_lookup_str(&format, "fr_FR.UTF-8"), 0);
+    CHECK(num_format_locale_str(&format, "de"), 0);
+    CHECK(num_format_print_decimal_i64(&format, -95000, 2, text, sizeof text), 7);
+    check_bytes("-950,00", text, "-950,00");
+    CHECK(num_format_parse_decimal_i64(&format, "9223372036854775808", 19, &units, &scale, &at), -12);
+    CHECK(num_format_parse_decimal_i64(&format, "1x", 2, &units, &scale, &at), -9);
+    CHECK(units * 100 + scale * 10 + at, 771);
+    CHECK(num_format_parse_decimal_i64(&format, "-92233720368547758,08", 21, &units, &scale, &at), 0);
+    CHECK(units, INT64_MIN);
+    CHECK(scale, 2);
+}
+
 int main(void) {
+    check_helpers();
     check_constants();
     check_layout();
     check_filled();

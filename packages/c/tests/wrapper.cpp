@@ -13,11 +13,12 @@ static void check(const char *what, bool holds) {
 }
 
 // Whether a call throws that exception, with that status and place.
-template <class Error, class Call> static bool throws(Call call, int expected, std::size_t at = 0) {
+template <class Error, class Call> static bool throws(Call call, int expected, std::size_t at = 0, std::size_t row = 0) {
     try {
         call();
     } catch (const Error &error) {
-        return error.status == expected && error.at == at && error.what() == std::string(num_format_strerror(expected));
+        const bool is_there = error.at == at && error.row == row;
+        return error.status == expected && is_there && error.what() == std::string(num_format_strerror(expected));
     }
     return false;
 }
@@ -58,6 +59,24 @@ int main() {
     check("column", texts.bytes == "0-1.2341.234.567" && texts[1] == "-1.234" && de.parse(texts) == numbers);
     check("empty column", de.parse(de.print(std::vector<std::int64_t>{})).empty() && de.parse(numfmt::column()).empty());
     texts.bytes[5] = 'x';
-    check("refused column", throws<numfmt::unexpected>([&] { de.parse(texts); }, -9, 4));
+    check("refused column", throws<numfmt::unexpected>([&] { de.parse(texts); }, -9, 4, 1));
+    texts.offsets[1] = 9;
+    check("bad_offsets", throws<numfmt::bad_offsets>([&] { de.parse(texts); }, -16));
+    texts.offsets.clear();
+    check("bad_offsets, none", throws<numfmt::bad_offsets>([&] { de.parse(texts); }, -16));
+    check("decimal", de.print_decimal({-123450, 2}) == "-1.234,50" && de.parse_decimal("-1.234,50").units == -123450);
+    check("decimal, scale", de.parse_decimal("0,050").scale == 3 && de.parse_decimal("0,050").units == 50);
+    check("bad_scale", throws<numfmt::bad_scale>([&] { de.print_decimal({1, 39}); }, -13));
+    check("decimal, unexpected", throws<numfmt::unexpected>([&] { de.parse_decimal("1,2,3"); }, -9, 3));
+    check("decimal of 65 bits", throws<numfmt::out_of_range>([&] { de.parse_decimal("9223372036854775808"); }, -12));
+    check("too_many_decimals", throws<numfmt::too_many_decimals>([&] { de.parse_decimal("0," + std::string(39, '1')); }, -14));
+    check("text_width", numfmt::text_width(numfmt::format::locale("fr").print(1234567)) == 9 && numfmt::text_width({}) == 0);
+    const auto wide = numfmt::int128(1) << 100;
+    const char *digits = "1.267.650.600.228.229.401.496.703.205.376";
+    check("128 bits", de.print(-wide) == std::string("-") + digits && de.parse<numfmt::int128>(digits) == wide);
+    check("128 bits, unsigned", de.print(~numfmt::uint128(0)).size() == 51 && de.parse<numfmt::uint128>(digits) == numfmt::uint128(wide));
+    check("128 bits, refused", throws<numfmt::out_of_range>([&] { de.parse<numfmt::uint128>("-1"); }, -12));
+    check("128 bits, empty", throws<numfmt::no_digit>([&] { de.parse<numfmt::int128>({}); }, -10));
+    check("characters", !numfmt::is_number<char> && !numfmt::is_number<char32_t> && numfmt::is_number<signed char>);
     return status;
 }

@@ -385,13 +385,8 @@ def test_slices_and_equality():
 
 def test_pandas():
     pandas = pytest.importorskip("pandas")
-    numbers = pandas.Series([1234567, pandas.NA, 5], dtype="Int64")
-    column = columns.format_column(numbers, "de")
-    assert column.tolist() == ["1.234.567", None, "5"]
-    assert columns.format_column(numbers.dropna(), "de").tolist() == ["1.234.567", "5"]
-    for dtype in [object, "string"]:
-        texts = pandas.Series(["1.234.567", None, "5"], dtype=dtype)
-        assert columns.StringColumn.from_strings(texts) == column
+    numbers, texts = pandas.array([1234567, None, 5]), pandas.array(["1.234.567", None, "5"], dtype="string")
+    assert columns.format_column(numbers, "de") == columns.StringColumn.from_strings(texts)
 
 
 def test_more_bytes_than_offsets_of_32_bits_say():

@@ -63,9 +63,10 @@ class Format:
     A text has at most 8 bytes in UTF-8, and may be empty. Formats do not change, compare by their texts
     and grouping, can be keys, and can be copied and pickled.
 
-    >>> from num_format import Format, format
+    >>> import num_format
+    >>> from num_format import Format
     >>> swiss = Format(separator="'")
-    >>> format(-1234567, swiss)
+    >>> num_format.format(-1234567, swiss)
     "-1'234'567"
     >>> swiss
     Format(separator="'", grouping=Grouping.STANDARD, minus_sign='-', decimal_mark='.')

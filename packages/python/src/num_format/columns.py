@@ -232,9 +232,13 @@ class StringColumn(Sequence["str | None"]):
         >>> StringColumn.from_strings(["1", "23"]).tolist()
         ['1', '23']
         """
-        return [None if row is None else row.decode() for row in self._rows()]
+        rows = self._rows()
+        if self.validity is None:
+            return list(map(bytes.decode, rows))
+        return [None if row is None else row.decode() for row in rows]
 
-    def _rows(self) -> list[bytes | None]:
+    def _rows(self) -> list[Any]:
+        """Returns the bytes of each row, and None for a null."""
         ends = self.offsets.tolist()
         rows = map(self.data.tobytes().__getitem__, map(slice, ends[:-1], ends[1:]))
         if self.validity is None:
