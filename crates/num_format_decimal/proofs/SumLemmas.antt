@@ -6,8 +6,7 @@ use Rattle.std.proofs.Math.IntN.{+ℤ_comm}
 use Rattle.std.proofs.lemmas.Int.{ints}
 use Rattle.num_format_int.specs.Kind.{signed_number}
 use Rattle.num_format_decimal.specs.FixedPoint.{FixedPoint, fixed_point}
-use Rattle.num_format_decimal.specs.Rounded.{dividend}
-use Rattle.num_format_decimal.specs.Sums.{sum_with_sign}
+use Rattle.num_format_decimal.specs.Rounded.{dividend, sum_with_sign}
 use Rattle.num_format_decimal.specs.Values.{HasUnits, minus, plus, units_at}
 use Rattle.num_format_decimal.proofs.ScaleLemmas.{fits_high, fits_low, larger, own_units, raised, too_large, units_at_negated, units_at_signed}
 

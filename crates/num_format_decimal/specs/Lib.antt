@@ -7,6 +7,5 @@ pub mod Message
 pub mod Parsing
 pub mod Rounded
 pub mod Shapes
-pub mod Sums
 pub mod Text
 pub mod Values

@@ -1,5 +1,5 @@
--- A decimal at another scale.
-use Rattle.std.specs.Prelude.{◌≡◌, ℕ, ◌+◌, ◌-◌, ◌*◌, ◌/◌, ◌%◌, ◌^◌, ◌<◌, ◌≤◌, ◌≢◌, nat_lt, nat_le, ◌==◌, ◌&&◌, ◌||◌, Bool, false, unsigned_abs, if◌then◌else◌}
+-- A decimal at another scale, and a sum at the larger of two.
+use Rattle.std.specs.Prelude.{◌≡◌, ℕ, ◌+◌, ◌-◌, ◌*◌, ◌/◌, ◌%◌, ◌^◌, ◌<◌, ◌≤◌, ◌≢◌, nat_lt, nat_le, ◌==◌, ◌&&◌, ◌||◌, Bool, false, unsigned_abs, max, ◌+ℤ◌, if◌then◌else◌}
 use Rattle.std.specs.Int.{is_negative}
 use Rattle.num_format_int.specs.Kind.{signed_number}
 use Rattle.num_format_decimal.specs.declared.rounding.Rounding.{Rounding}
@@ -53,3 +53,9 @@ abbrev pub CannotRescale : Rounding → FixedPoint → (scale : ℕ) → Decimal
 CannotRescale mode d scale ScaleTooLarge = MAX_SCALE < scale
 CannotRescale mode d scale DigitsLost = (scale ≤ MAX_SCALE) × LosesDigits mode d scale
 CannotRescale mode d scale OutOfRange = (scale ≤ MAX_SCALE) × (¬ (LosesDigits mode d scale)) × (¬ (HasUnits (rescaled mode d scale)))
+
+-- the sum of two decimals at the larger of their scales, where the second has its absolute value and this sign
+abbrev pub sum_with_sign : FixedPoint → FixedPoint → (second_is_negative : Bool) → FixedPoint
+sum_with_sign a b second_is_negative =
+    let scale = max a.scale b.scale in
+    fixed_point (signed_number (is_negative a.units) (dividend a scale) +ℤ signed_number second_is_negative (dividend b scale)) scale

@@ -2,7 +2,7 @@
 ghost use Rattle.std.specs.Prelude.{◌≡◌, ◌≤◌, max, ◌+ℤ◌, FitsSigned, MatchOption, SomeIff};
 ghost use Rattle.std.specs.Int.{w128};
 ghost use Rattle.num_format_int.specs.Kind.{signed_number};
-ghost use Rattle.num_format_decimal.specs.Sums.{sum_with_sign};
+ghost use Rattle.num_format_decimal.specs.Rounded.{sum_with_sign};
 ghost use Rattle.num_format_decimal.specs.Values.{HasUnits, minus, negated, plus};
 
 use crate::decimal::{Decimal, MAX_SCALE};

@@ -1,4 +1,4 @@
-use Rattle.std.proofs.Common.{◌+◌, ◌/◌, ◌^◌, ◌++◌, ◌∙◌, length, ap, arith, unsigned_abs}
+use Rattle.std.proofs.Common.{◌/◌, ◌^◌, ◌++◌, ◌∙◌, length, ap, arith, unsigned_abs}
 use Rattle.num_format_int.specs.Text.{body_of}
 use Rattle.num_format_int.proofs.DigitLemmas.{length-digits-le}
 use Rattle.num_format_decimal.specs.Text.{unsigned_text}

@@ -1,4 +1,4 @@
-use Rattle.std.proofs.Common.{true, refl, sym, subst, arith, inl, inr}
+use Rattle.std.proofs.Common.{refl, sym, subst, arith, inl, inr}
 use Rattle.std.proofs.lemmas.Bool.{both_ways}
 use Rattle.num_format_decimal.specs.Shapes.{IsAmount}
 use Rattle.num_format_decimal.specs.Values.{HasUnits}
