@@ -39,30 +39,20 @@ spelled_cause k f t z OutOfRange s spells p = (refl, λ value. p.1.wrong (subst 
 pub only_cause : (k : Kind) (f : FormatData) (t : List ℕ) (d e : StrictError) → HasPlainSymbols f → IsCause k f t d → IsCause k f t e → d ≡ e
 only_cause k f t AmbiguousFormat e s p q = absurd (p s.unambiguous)
 only_cause k f t OutOfRange e s p q = sym (spelled_cause k f t p.1.number e s p.1.spelled q).0
-only_cause k f t NotUtf8 AmbiguousFormat s p q = absurd (q s.unambiguous)
+only_cause k f t d AmbiguousFormat s p q = absurd (q s.unambiguous)
+only_cause k f t d OutOfRange s p q = (spelled_cause k f t q.1.number d s q.1.spelled p).0
 only_cause k f t NotUtf8 NotUtf8 s p q = refl
 only_cause k f t NotUtf8 (Unexpected b) s p q = absurd (p.1 q.1.utf8)
-only_cause k f t NotUtf8 NoDigit s p q = absurd (p.1 q.1.expected.utf8)
-only_cause k f t NotUtf8 Misspelled s p q = absurd (p.1 q.1.expected.utf8)
-only_cause k f t NotUtf8 OutOfRange s p q = (spelled_cause k f t q.1.number NotUtf8 s q.1.spelled p).0
-only_cause k f t (Unexpected a) AmbiguousFormat s p q = absurd (q s.unambiguous)
-only_cause k f t (Unexpected a) NotUtf8 s p q = absurd (q.1 p.1.utf8)
+only_cause k f t NotUtf8 e s p q = absurd (p.1 q.1.expected.utf8)
 only_cause k f t (Unexpected a) (Unexpected b) s p q = ap Unexpected (stops-once f t a b p.1 q.1)
-only_cause k f t (Unexpected a) NoDigit s p q = absurd (stops-not f t a p.1 q.1.expected)
-only_cause k f t (Unexpected a) Misspelled s p q = absurd (stops-not f t a p.1 q.1.expected)
-only_cause k f t (Unexpected a) OutOfRange s p q = (spelled_cause k f t q.1.number (Unexpected a) s q.1.spelled p).0
-only_cause k f t NoDigit AmbiguousFormat s p q = absurd (q s.unambiguous)
-only_cause k f t NoDigit NotUtf8 s p q = absurd (q.1 p.1.expected.utf8)
-only_cause k f t NoDigit (Unexpected b) s p q = absurd (stops-not f t b q.1 p.1.expected)
+only_cause k f t (Unexpected a) NotUtf8 s p q = absurd (q.1 p.1.utf8)
+only_cause k f t (Unexpected a) e s p q = absurd (stops-not f t a p.1 q.1.expected)
+only_cause k f t d NotUtf8 s p q = absurd (q.1 p.1.expected.utf8)
+only_cause k f t d (Unexpected b) s p q = absurd (stops-not f t b q.1 p.1.expected)
 only_cause k f t NoDigit NoDigit s p q = refl
 only_cause k f t NoDigit Misspelled s p q = absurd (q.1.some p.1.none)
-only_cause k f t NoDigit OutOfRange s p q = (spelled_cause k f t q.1.number NoDigit s q.1.spelled p).0
-only_cause k f t Misspelled AmbiguousFormat s p q = absurd (q s.unambiguous)
-only_cause k f t Misspelled NotUtf8 s p q = absurd (q.1 p.1.expected.utf8)
-only_cause k f t Misspelled (Unexpected b) s p q = absurd (stops-not f t b q.1 p.1.expected)
 only_cause k f t Misspelled NoDigit s p q = absurd (p.1.some q.1.none)
 only_cause k f t Misspelled Misspelled s p q = refl
-only_cause k f t Misspelled OutOfRange s p q = (spelled_cause k f t q.1.number Misspelled s q.1.spelled p).0
 
 -- what is judged is what strict parsing returns
 pub parses-judged : {X : Type 0} (k : Kind) (value : X → ℤ) (f : FormatData) (t : List ℕ) (r : Result X StrictError) → HasPlainSymbols f → IsJudged k value f t r → ParsesStrictly k value f t r

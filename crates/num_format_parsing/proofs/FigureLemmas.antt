@@ -14,7 +14,7 @@ use Rattle.std.proofs.lemmas.Str.{chars-encodes, encode_ascii, inside_one}
 use Rattle.num_format_int.specs.Digits.{digits}
 use Rattle.num_format_parsing.specs.Reading.{figures}
 use Rattle.num_format_int.proofs.DigitLemmas.{digits-more, digits-small}
-use Rattle.num_format_parsing.proofs.ReadingLemmas.{digits_among-append}
+use Rattle.num_format_parsing.proofs.ReadingLemmas.{digits_among-append, digits_among-first, is_ascii_digit-digit}
 use Rattle.num_format_parsing.specs.Shapes.{byte_figures, BeginsWithDigit}
 
 -- a digit as a character, and back
@@ -117,9 +117,7 @@ pub writes : (t : List ℕ) → BeginsWithDigit t → Writes (byte_figures t)
 writes t begin =
     let d = begin.digit in
     let rest = byte_figures begin.rest in
-    let digit : is_ascii_digit (48 + d) ≡ true = let small = begin.small in grind (arith, nat_tests) in
-    let value : 48 + d - 48 ≡ d = omega arith in
-    let split : byte_figures t ≡ d ∷ rest = ap byte_figures begin.same ∙ figures-digit (48 + d) begin.rest digit ∙ ap (λ x. x ∷ rest) value in
+    let split : byte_figures t ≡ d ∷ rest = ap byte_figures begin.same ∙ digits_among-first d begin.rest begin.small in
     let first : number_from_digits 10 (d ∷ rest) ≡ number_from_digits_after 10 d rest = ap (λ n. number_from_digits_after 10 n rest) (let e : 0 * 10 + d ≡ d = omega arith in e) in
     rw split (record {
       some = omega (arith, first, number_after_ge 10 d rest (lit< tt), begin.some);
@@ -152,9 +150,7 @@ pub begin-some : (t : List ℕ) → BeginsWithDigit t → 0 < length t
 begin-some t begin = omega (arith, ap length begin.same)
 
 pub begin-digit : (t : List ℕ) → BeginsWithDigit t → is_ascii_digit (get_or t 0 0) ≡ true
-begin-digit t begin =
-    let digit : is_ascii_digit (48 + begin.digit) ≡ true = let small = begin.small in grind (arith, nat_tests) in
-    ap (λ xs. is_ascii_digit (get_or xs 0 0)) begin.same ∙ digit
+begin-digit t begin = ap (λ xs. is_ascii_digit (get_or xs 0 0)) begin.same ∙ is_ascii_digit-digit begin.digit begin.small
 
 pub begin-other : (t : List ℕ) → BeginsWithDigit t → ¬ (get_or t 0 0 ≡ 48)
 begin-other t begin zero_there = omega (arith, ap (λ xs. get_or xs 0 0) begin.same, zero_there, begin.some)

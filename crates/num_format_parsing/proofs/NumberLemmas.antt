@@ -1,6 +1,6 @@
 -- The number that digits write, whole and modulo a bound, and bytes of ASCII.
 use Rattle.std.proofs.Common.{◌≡◌, ℕ, zero, suc, ◌+◌, ◌-◌, ◌*◌, ◌^◌, ◌<◌, ◌≤◌, true, false, List, [], ◌∷◌, length, refl, ap, ◌∙◌, sym, arith, get_or, lit<}
-use Rattle.std.specs.Char.{is_ascii, is_ascii_digit}
+use Rattle.std.specs.Char.{is_ascii}
 use Rattle.std.specs.Int.Digits.{number_from_digits, number_from_digits_after, AllBelowBase}
 use Rattle.std.specs.List.{list_all, list_any}
 use Rattle.std.specs.Str.{chars, IsAscii}
@@ -15,8 +15,8 @@ use Rattle.num_format_int.proofs.DigitLemmas.{AreDigits}
 use Rattle.num_format_parsing.specs.Parts.{number_in, HasDigits}
 use Rattle.num_format_parsing.specs.Reading.{is_other_numeral}
 use Rattle.num_format_parsing.specs.Shapes.{byte_figures, BeginsWithDigit}
-use Rattle.num_format_parsing.proofs.FigureLemmas.{figures-below, figures-digit}
-use Rattle.num_format_parsing.proofs.ReadingLemmas.{is_ascii_digit-digit, is_other_numeral-ascii}
+use Rattle.num_format_parsing.proofs.FigureLemmas.{figures-below}
+use Rattle.num_format_parsing.proofs.ReadingLemmas.{digits_among-first, is_other_numeral-ascii}
 
 ascii-all : (t : List ℕ) → list_all is_ascii t ≡ true → IsAscii t
 ascii-all [] all = IsAscii-nil
@@ -85,8 +85,7 @@ has-first t begin =
     let rest = byte_figures begin.rest in
     let byte : first ≡ 48 + begin.digit = ap (λ xs. get_or xs 0 0) begin.same in
     let value : begin.digit ≡ first - 48 = omega (arith, byte) in
-    let digit : is_ascii_digit (48 + begin.digit) ≡ true = is_ascii_digit-digit begin.digit begin.small in
-    let figures : byte_figures t ≡ (first - 48) ∷ rest = ap byte_figures begin.same ∙ figures-digit (48 + begin.digit) begin.rest digit ∙ ap (λ b. (b - 48) ∷ rest) (sym byte) in
+    let figures : byte_figures t ≡ (first - 48) ∷ rest = ap byte_figures begin.same ∙ digits_among-first begin.digit begin.rest begin.small ∙ ap (λ d. d ∷ rest) value in
     record {
       rest = rest;
       figures = figures;

@@ -1,5 +1,5 @@
 -- Which texts parse as numbers under a format.
-use Rattle.std.proofs.Common.{◌≡◌, ℕ, ◌+◌, ◌^◌, ◌<◌, ◌≤◌, true, List, [], ◌∷◌, length, Result, Ok, Err, Decides, if◌then◌else◌, refl, ap, arith}
+use Rattle.std.proofs.Common.{◌≡◌, ℕ, ◌+◌, ◌^◌, ◌<◌, ◌≤◌, true, List, length, Result, Ok, Err, Decides, if◌then◌else◌, refl, ap, arith}
 use Rattle.std.specs.Prelude.{ℤ, pos, negsuc, IfOk, IfErr, not}
 use Rattle.std.specs.List.{list_any}
 use Rattle.std.specs.Result.{result_map_both}
@@ -14,6 +14,7 @@ use Rattle.num_format_text.specs.Format.{FormatData}
 use Rattle.num_format_text.specs.Refusal.{ParseNumber, refusal_of}
 use Rattle.num_format_text.specs.declared.error.Error.{Error}
 use Rattle.num_format_parsing.specs.Readable.{fits_i128, is_readable, number_read}
+use Rattle.num_format_parsing.proofs.SymbolLemmas.{some_first}
 
 -- the values of an i128 are the numbers that pass the test
 fits-from_value : (z : ℤ) → IsValueOf (signed 127 40) z → fits_i128 z ≡ true
@@ -23,11 +24,6 @@ fits-from_value (negsuc n) value = (Decides-ltb n (2 ^ 127)).1 (let above = valu
 pub value-from_fits : (z : ℤ) → fits_i128 z ≡ true → IsValueOf (signed 127 40) z
 value-from_fits (pos n) fits = let within = (Decides-ltb n (2 ^ 127)).0 fits in record { above = omega (arith, ints); below = omega (arith, ints); zero = λ _. refl }
 value-from_fits (negsuc n) fits = let within = (Decides-ltb n (2 ^ 127)).0 fits in record { above = omega (arith, ints); below = omega (arith, ints); zero = λ _. refl }
-
--- a list that is not empty has an element
-length-nonempty : (xs : List ℕ) → ¬ (xs ≡ []) → 0 < length xs
-length-nonempty [] some = absurd (some refl)
-length-nonempty (x ∷ xs) some = omega arith
 
 module _ (format : FormatData) (text : List ℕ) where
   -- the test is the four conditions
@@ -42,7 +38,7 @@ module _ (format : FormatData) (text : List ℕ) where
   readable-from_accepted accepted =
       let few : 40 < length (figures text) + (if is_negative_text format text then 1 else 0) → ⊥ = λ many. accepted (Refused.too_many_figures many) in
       readable-Decides.1 (
-        length-nonempty _ (λ none. accepted (Refused.no_digit none)),
+        some_first _ (λ none. accepted (Refused.no_digit none)),
         (
           not_from_false _ (false_from_ne_true _ (λ some. accepted (Refused.other_numeral some))),
           (

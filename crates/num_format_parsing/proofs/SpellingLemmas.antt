@@ -16,10 +16,11 @@ use Rattle.num_format_text.specs.declared.grouping.Grouping.TheVariants.{Posix}
 use Rattle.num_format_text.specs.Format.{FormatData}
 use Rattle.num_format_int.specs.Digits.{digits}
 use Rattle.num_format_int.specs.Grouped.{separated, grouped, stands, printed_separator}
+use Rattle.num_format_int.specs.Groups.{plain}
 use Rattle.num_format_int.specs.Kind.{Kind, IsValueOf}
 use Rattle.num_format_int.specs.Text.{text_of, body_of}
 use Rattle.num_format_int.proofs.DigitLemmas.{AreDigits, by_digits, digits-below_ten, digits-more, digits-small, digits_given, number_from_digits-digits}
-use Rattle.num_format_int.proofs.GroupedLemmas.{grouped-none, grouped-Posix, grouped-printed, grouped-short, of_either}
+use Rattle.num_format_int.proofs.GroupedLemmas.{grouped-Posix, grouped-printed, grouped-short, of_either}
 use Rattle.num_format_parsing.specs.Parts.{number_in, IsBody, HasBody, HasReading}
 use Rattle.num_format_parsing.specs.Reading.{figures, is_negative_text, signed_number}
 use Rattle.num_format_parsing.specs.Strict.{SpellsNumber, with_separators, without_separators, ungrouped, sign_len, unexpected, unread}
@@ -70,13 +71,11 @@ spells-zero f t false same = with_separators (same ∙ sym (text-zero f))
 -- the digits of z, in the groups of the format or in none, are digits with a separator that has none
 pub record HasDigitsOf (f : FormatData) (z : ℤ) : Type 0 where
   pub body : List ℕ
-  pub grouping : Grouping
-  pub either : (grouping ≡ f.grouping) ⊎ (grouping ≡ Posix)
-  pub same : body ≡ grouped grouping f.separator (digits (unsigned_abs z))
+  pub either : (body ≡ grouped f.grouping f.separator (digits (unsigned_abs z))) ⊎ (body ≡ plain (digits (unsigned_abs z)))
   pub is_due : ℕ → Bool
   pub separated_same : body ≡ separated is_due (printed_separator f.grouping f.separator) (digits (unsigned_abs z))
 
--- a text that spells z is these behind the sign of z
+-- a text that spells z is these after the sign of z
 pub record IsTextOf (f : FormatData) (t : List ℕ) (z : ℤ) : Type 0 where
   pub of : HasDigitsOf f z
   pub text : t ≡ (if is_negative z then f.minus_sign else []) ++ of.body
@@ -85,9 +84,7 @@ pub text-spelled : (f : FormatData) (t : List ℕ) (z : ℤ) → SpellsNumber f 
 text-spelled f t z (with_separators same) = record {
   of = record {
     body = grouped f.grouping f.separator (digits (unsigned_abs z));
-    grouping = f.grouping;
     either = inl refl;
-    same = refl;
     is_due = stands f.grouping (length (digits (unsigned_abs z)));
     separated_same = grouped-printed f.grouping f.separator (digits (unsigned_abs z));
   };
@@ -96,9 +93,7 @@ text-spelled f t z (with_separators same) = record {
 text-spelled f t z (without_separators same) = record {
   of = record {
     body = grouped Posix f.separator (digits (unsigned_abs z));
-    grouping = Posix;
-    either = inr refl;
-    same = refl;
+    either = inr (grouped-Posix f.separator (digits (unsigned_abs z)));
     is_due = stands Posix (length (digits (unsigned_abs z)));
     separated_same = grouped-Posix f.separator (digits (unsigned_abs z)) ∙ sym (grouped-Posix (printed_separator f.grouping f.separator) (digits (unsigned_abs z)));
   };
@@ -125,7 +120,7 @@ sign-told f t z symbols told =
           ∙ begins-at_digit f.minus_sign first.1 (48 + first.0) symbols.sign (is_ascii_digit-digit first.0 first.2) ∙ sym positive
     ]
 
--- and behind it stand the number's digits
+-- and after it stand the number's digits
 pub record TellsBody (f : FormatData) (t : List ℕ) (negative : Bool) (start : ℕ) (z : ℤ) : Type 0 where
   pub sign : negative ≡ is_negative z
   pub of : HasDigitsOf f z
@@ -147,7 +142,7 @@ body-told f t negative start z sign spells =
           ∙ digits_among-separated told.of.is_due (printed_separator f.grouping f.separator) (digits (unsigned_abs z)) sign.symbols.separator (digits-below_ten (unsigned_abs z));
     }
 
--- digits behind a sign spell a number, with the separators of the format or without any
+-- digits after a sign spell a number, with the separators of the format or without any
 pub spells-body : (f : FormatData) (t s body : List ℕ) (g : Grouping) (negative : Bool) (start : ℕ) → body ≡ drop start t → HasSign f t negative start → s ≡ printed_separator f.grouping f.separator → g ≡ f.grouping →
     BeginsWithDigit body → IsBody g s body → SpellsNumber f t (signed_number negative (number_in body))
 spells-body f t s body g negative start behind sign separator grouping begin either =
@@ -169,10 +164,11 @@ pub body-spelled : (f : FormatData) (t s : List ℕ) (g : Grouping) (negative : 
 body-spelled f t s g negative start z sign separator grouping spells =
     let told = body-told f t negative start z sign spells in
     let ds = byte_figures (drop start t) in
-    let here : drop start t ≡ grouped told.of.grouping f.separator ds = told.body ∙ told.of.same ∙ ap (grouped told.of.grouping f.separator) (sym told.figures) in
     elim told.of.either [
-      | inl same ↦ inl (here ∙ ap (λ k. grouped k f.separator ds) same ∙ grouped-printed f.grouping f.separator ds ∙ ap (λ x. grouped f.grouping x ds) (sym separator) ∙ ap (λ k. grouped k s ds) (sym grouping))
-      | inr none ↦ inr (here ∙ grouped-none told.of.grouping none f.separator ds)
+      | inl same ↦
+          inl (told.body ∙ same ∙ ap (grouped f.grouping f.separator) (sym told.figures) ∙ grouped-printed f.grouping f.separator ds ∙ ap (λ x. grouped f.grouping x ds) (sym separator)
+          ∙ ap (λ k. grouped k s ds) (sym grouping))
+      | inr same ↦ inr (told.body ∙ same ∙ ap plain (sym told.figures))
     ]
 
 -- the sign that a text has
@@ -236,7 +232,7 @@ unspelled-zero f t negative start z sign other more spells =
     zero_text (pos n) none (without_separators same) = same ∙ ap (λ m. text_of (ungrouped f) (pos m)) none ∙ text-zero (ungrouped f)
     zero_text (negsuc n) none spells = absurd (omega (arith, none))
 
--- what is read of the digits behind a sign is read of the text
+-- what is read of the digits after a sign is read of the text
 pub reading-body : (k : Kind) (f : FormatData) (t s body : List ℕ) (g : Grouping) (negative : Bool) (start : ℕ) → body ≡ drop start t → HasSign f t negative start → s ≡ printed_separator f.grouping f.separator → g ≡ f.grouping →
     BeginsWithDigit body → (r : Reading) → HasBody (λ n. (b : Bool) → ¬ (IsValueOf k (signed_number b n))) g s body r → HasReading k f t negative r
 reading-body k f t s body g negative start behind sign separator grouping begin (Number n) read =

@@ -1,7 +1,7 @@
 -- What texts spell, and where they stop, each shown by computing it.
 use Rattle.std.proofs.Common.{◌≡◌, refl, pos, negsuc, []}
 use Rattle.std.specs.Prelude.{codes}
-use Rattle.num_format_text.specs.declared.grouping.Grouping.TheVariants.{Indian, Myriad, Posix, Sparse}
+use Rattle.num_format_text.specs.declared.grouping.Grouping.TheVariants.{Indian, Posix}
 use Rattle.num_format_int.specs.Digits.{digits}
 use Rattle.num_format_text.specs.English.{english}
 use Rattle.num_format_parsing.specs.Strict.{SpellsNumber, with_separators, without_separators, unexpected}
@@ -18,28 +18,8 @@ indian : SpellsNumber (record english { grouping = Indian }) (codes "12,34,567")
 unfolding digits
 indian = with_separators refl
 
-myriad : SpellsNumber (record english { grouping = Myriad }) (codes "123,4567") (pos 1234567)
-unfolding digits
-myriad = with_separators refl
-
-sparse : SpellsNumber (record english { grouping = Sparse }) (codes "1234") (pos 1234)
-unfolding digits
-sparse = with_separators refl
-
 cents : unexpected english (codes "1,234.50") ≡ codes ".50"
 cents = refl
-
-exponent : unexpected english (codes "1e6") ≡ codes "e6"
-exponent = refl
-
-blank : unexpected english (codes " 1") ≡ codes " 1"
-blank = refl
-
-two_numbers : unexpected english (codes "1,234 2,345") ≡ codes " 2,345"
-two_numbers = refl
-
-hyphen : unexpected (record english { minus_sign = codes "−" }) (codes "-5") ≡ codes "-5"
-hyphen = refl
 
 separators_anywhere : unexpected english (codes "-,1,,2345,") ≡ []
 separators_anywhere = refl

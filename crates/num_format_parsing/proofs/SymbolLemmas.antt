@@ -41,23 +41,12 @@ decided-byte t b utf8 one ascii same =
     or_false false = refl
 
 -- symbols that many locales have, in UTF-8: narrow no-break space, no-break space, right single quotation mark, and minus sign
-pub narrow_space : HasNoNumeral (226 ∷ 128 ∷ 175 ∷ [])
+pub common-symbols : HasNoNumeral (226 ∷ 128 ∷ 175 ∷ []) × HasNoNumeral (194 ∷ 160 ∷ []) × HasNoNumeral (226 ∷ 128 ∷ 153 ∷ []) × HasNoNumeral (226 ∷ 136 ∷ 146 ∷ [])
 unfolding chars ucd_category
-narrow_space = record { no_digit = refl; no_other = refl }
+common-symbols = (record { no_digit = refl; no_other = refl }, record { no_digit = refl; no_other = refl }, record { no_digit = refl; no_other = refl }, record { no_digit = refl; no_other = refl })
 
-pub no_break_space : HasNoNumeral (194 ∷ 160 ∷ [])
-unfolding chars ucd_category
-no_break_space = record { no_digit = refl; no_other = refl }
-
-pub apostrophe : HasNoNumeral (226 ∷ 128 ∷ 153 ∷ [])
-unfolding chars ucd_category
-apostrophe = record { no_digit = refl; no_other = refl }
-
-pub minus_sign : HasNoNumeral (226 ∷ 136 ∷ 146 ∷ [])
-unfolding chars ucd_category
-minus_sign = record { no_digit = refl; no_other = refl }
-
-some_first : (t : List ℕ) → ¬ (t ≡ []) → 0 < length t
+-- a list that is not empty has an element
+pub some_first : (t : List ℕ) → ¬ (t ≡ []) → 0 < length t
 some_first [] other = absurd (other refl)
 some_first (b ∷ t) other = omega arith
 

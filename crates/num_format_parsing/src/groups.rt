@@ -1,4 +1,6 @@
-//! Texts of digits, alone or in groups with a separator between them. What is read here stands behind a minus sign.
+//! Texts of digits, alone or in groups with a separator between them.
+//!
+//! A function that is not passed a sign takes the text without its minus sign.
 ghost use Rattle.std.specs.Prelude.{◌≡◌, ◌↔◌, List, ◌+◌, ◌-◌, ◌^◌, ◌<◌, ◌≤◌, [], false, true, length, drop, take, slice_index, IsTrue, IfSome, MatchOption};
 ghost use Rattle.std.specs.Char.{is_ascii_digit};
 ghost use Rattle.std.specs.List.{list_all};
@@ -310,8 +312,8 @@ fn push_group<A: Accumulator>(
     if !begins_with(text, separator) {
         return None;
     }
-    let (_, behind) = text.split_at(separator.len());
-    let (group, power) = few_digits(&behind[..count])?;
+    let (_, digits) = text.split_at(separator.len());
+    let (group, power) = few_digits(&digits[..count])?;
     Some(Part {
         figures: part.figures + count,
         magnitude: part.magnitude.push_group(power, group),

@@ -197,6 +197,14 @@ impl<'a, F: Format> StrictParser<'a, F> {
         self.separator
     }
 
+    /// Returns the grouping of the format.
+    #[inline(always)]
+    fn grouping(&self) -> Grouping
+        ensures { result ≡ self.now.grouping }
+    {
+        self.grouping
+    }
+
     /// Returns whether the number that a text spells is negative, and its absolute value, which is above zero. It may
     /// return `None` for any text, and does not for most that are in groups with a separator of one byte.
     ///
@@ -238,10 +246,11 @@ impl<'a, F: Format> StrictParser<'a, F> {
         if let Some(magnitude) = self.read_directly(bytes, sign) {
             return number_of(sign, magnitude as u128);
         }
-        match read::<N>(bytes, sign, self.separator, self.grouping) {
+        let separator = self.separator();
+        match read::<N>(bytes, sign, separator, self.grouping()) {
             Reading::Number(magnitude) => number_of(sign, magnitude),
             Reading::TooLarge => Err(StrictError::OutOfRange),
-            Reading::Unspelled => Err(cause(bytes, is_text, sign.len, self.separator.as_bytes())),
+            Reading::Unspelled => Err(cause(bytes, is_text, sign.len, separator.as_bytes())),
         }
     }
 
