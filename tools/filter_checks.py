@@ -29,6 +29,7 @@ FAILURES = [
     (["en", "de"], b"1000\n", "stdout", WRITE_ERRORS),
     (["en", "de"], 100_000 * b"1000\n", "stdout", WRITE_ERRORS),
     (["en", "de"], b"1000\nx\n", "stdout", WRITE_ERRORS),
+    (["--line-buffered", "en", "de"], b"1000\n", "stdout", WRITE_ERRORS),
     (["en", "de"], b"1000\nx\n", "stderr", 2 * [b"1.000\n"]),
     (["--invalid=fail", "en", "de"], b"1000\nx\n", "stderr", 2 * [b"1.000\n"]),
     (["en", "xx"], b"", "stderr", 2 * [b""]),
@@ -43,6 +44,13 @@ SOUND_LINES = 2_400_000
 
 # How many records a text of them has.
 RECORDS = 2000
+
+# A line that no block of the output holds.
+LONG_LINE = 100_000 * b"x" + b"\n"
+
+# Regroups the third column of a table on many processes, and passes its header on.
+TABLE_BY_PARALLEL = """head -n 1 "$1"
+tail -n +2 "$1" | parallel --pipe --block 10M -k --halt never "$0" --invalid fail --field 3 en de"""
 
 # The memory in bytes that the program may have, with its code: less than the long input.
 MEMORY = 8 * 1024 * 1024
@@ -132,15 +140,35 @@ def check_failures(tally, program):
 def check_closed_pipe(tally, program):
     """Reads one line of a long output, and closes it."""
     heading("a pipe that is closed after one line")
-    with tempfile.TemporaryFile() as text:
-        text.write(LINES * b"1,000\n")
-        text.seek(0)
-        how = {"stdin": text, "stdout": subprocess.PIPE, "stderr": subprocess.PIPE}
-        with subprocess.Popen([program, "en", "de"], **how) as ended:
-            line = ended.stdout.readline()
-            ended.stdout.close()
-            found = (line, ended.wait(RUN_SECONDS), ended.stderr.read())
-    tally.compare("one line", found, (b"1.000\n", 141, b""))
+    runs = [([], LINES * b"1,000\n", b"1.000\n"), (["--line-buffered"], LINES * b"1,000\n", b"1.000\n")]
+    runs += [(["--invalid=ignore"], 200 * LONG_LINE, LONG_LINE)]
+    for options, text, first in runs:
+        with tempfile.TemporaryFile() as given:
+            given.write(text)
+            given.seek(0)
+            how = {"stdin": given, "stdout": subprocess.PIPE, "stderr": subprocess.PIPE}
+            with subprocess.Popen([program, *options, "en", "de"], **how) as ended:
+                line = ended.stdout.readline()
+                ended.stdout.close()
+                found = (ended.wait(RUN_SECONDS), ended.stderr.read())
+        tally.compare(f"{options}: the line", line == first, True)
+        tally.compare(f"{options}: the end", found, (141, b""))
+
+
+def check_output_is_input(tally, program):
+    """A file that is read and written has no end, so it is left out."""
+    heading("an output that is an input")
+    with tempfile.TemporaryDirectory() as folder:
+        written, other = Path(folder, "written"), Path(folder, "other")
+        other.write_bytes(b"2,000\n")
+        for names in [["written", "other"], ["-", "other"]]:
+            written.write_bytes(b"1,000\n")
+            with written.open("rb") as given, written.open("ab") as out:
+                how = {"stdin": given, "stdout": out, "stderr": subprocess.PIPE, "cwd": folder}
+                ended = run([program, "en", "de", *names], **how)
+            message = f"regroup-lines: {names[0]}: input file is output file\n".encode()
+            found = (ended.returncode, written.read_bytes(), ended.stderr)
+            tally.compare(names[0], found, (1, b"1,000\n2.000\n", message))
 
 
 def check_slow_input(tally, program):
@@ -205,6 +233,17 @@ def check_engines(tally, program):
     tally.compare("a program that is not to be split", (status, is_run), expected)
 
 
+def check_header(tally, program):
+    """The command of examples/engines for a table with a header and bad lines."""
+    if tally.lacks("parallel", "a table by GNU parallel"):
+        return
+    table = ROOT / "examples" / "sales.tsv"
+    expected = (ROOT / "examples" / "sales.expected").read_bytes()
+    ended = run(["bash", "-c", TABLE_BY_PARALLEL, program, table], capture_output=True)
+    found = (ended.returncode, ended.stdout, ended.stderr.count(b"not a number"))
+    tally.compare("a table by GNU parallel", found, (1, expected, 2))
+
+
 def check_help(tally, program):
     """What --help prints, which is not written out here, and the version of CHANGELOG.md."""
     ended = regroup(program, ["--help"], b"")
@@ -220,7 +259,7 @@ def main():
     program = Path(sys.argv[1]).resolve() if len(sys.argv) > 1 else PROGRAM
     tally = Tally()
     checks = check_help, check_open_input, check_records, check_failures, check_closed_pipe, check_slow_input
-    for check in *checks, check_long, check_engines:
+    for check in *checks, check_output_is_input, check_long, check_engines, check_header:
         check(tally, program)
     tally.end()
 

@@ -50,7 +50,7 @@ def lengths_of_regroup_lines():
     for grouping in lengths.LONGEST:
         formats = {}
         for separator, minus_sign, number, text in lengths.under(grouping):
-            formats.setdefault(f"custom:{separator}:{grouping}:{minus_sign}", []).append((f"{number}\n", f"{text}\n"))
+            formats.setdefault(f"custom:{separator}:{grouping}:{minus_sign or '-'}", []).append((f"{number}\n", f"{text}\n"))
         for name, lines in formats.items():
             given, out = map("".join, zip(*lines))
             yield case(["en", name], given, out=out)
@@ -72,7 +72,7 @@ def of_tables():
         for name in ("sales.tsv", "sales.expected", "sales.csv", "sales_csv.expected")
     )
     words = ["--header", "--field", "3", "en", "de"]
-    first = "regroup-lines: -:8: field 3: '12.5O': not a number at byte 5; --lenient reads 125\n"
+    first = "regroup-lines: -:8: field 3: '12.5O': not a number at byte 5\n"
     both = first + "regroup-lines: -:{}: field 3: 'n/a': not a number at byte 1\n"
     yield case(["--invalid", "ignore", *words], table, out=out)
     for mode, status in [("fail", 1), ("warn", 0)]:

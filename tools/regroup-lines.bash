@@ -4,7 +4,7 @@ _regroup_lines() {
     local words="--field --delimiter --csv --header --header-lines --empty --invalid --lenient --line-buffered --zero-terminated --help --version"
     case $before in
     --invalid) words="abort fail warn ignore" ;;
-    --field | --delimiter | -d | --header-lines) return ;;
+    --field | -f | --delimiter | -d | --header-lines) return ;;
     esac
     mapfile -t COMPREPLY < <(compgen -W "$words" -- "$word")
 }

@@ -8,9 +8,9 @@ const VERSION: &str = "0.1.0";
 
 /// What `--help` says after the options.
 const AFTER_HELP: &str = "\
-FROM and TO are each plain, as in -1234.5, a locale, as en-US, de_DE.UTF-8 or C, custom:SEP:GROUPING:MINUS:
-the format of en with these three fields, or @FILE: that of a JSON object with the texts dec, grp, inf, min, nan,
-plus and sep. GROUPING, or grp, is Standard, Indian, Posix, Myriad or Sparse.
+FROM and TO are each plain, as in -1234.5, a locale, as en-US, de_DE.UTF-8 or C, custom:SEP:GROUPING:MINUS or
+custom:SEP:GROUPING:MINUS:MARK: the format of en with these fields, or @FILE: that of a JSON object with the texts dec,
+grp, inf, min, nan, plus and sep. GROUPING, or grp, is Standard, Indian, Posix, Myriad or Sparse.
 
 LIST has parts N, N-M, N- or -M, with commas between them, as 1,3-5: fields are counted from 1. A line needs each
 field that LIST names, and of N- the field N.
@@ -20,8 +20,9 @@ if it was in quotes or has to be. A quote that no other one closes is at fault.
 
 A number is read exactly as it is printed under FROM, grouped or not, and is written with as many decimals
 as it has. Spaces, tabs and carriage returns around it are passed on, and so is a byte order mark at the start
-of a file. A last line without a newline is written with one. Without --lenient, each decimal under FROM has to
-parse back from its text: FROM needs a minus sign, and a decimal mark that is not a separator that it prints.
+of a file. A last line without a newline is written with one. Each decimal under TO, and without --lenient under
+FROM, has to parse back from its text: they need a minus sign, and a decimal mark that is not a separator that they
+print.
 
 A line is at fault if its number is none, or if it has too few fields or more than 1,048,576 bytes. With MODE
 abort no line after it is written. With fail, warn and ignore it is passed on as it is. With fail and warn a
@@ -29,9 +30,10 @@ message names it, and with fail the status is 1.
 
 Lines are written before more of a file is read, so that they come out as they go in.
 
-Lines are numbered in each file, and each has its header. A file that cannot be opened is left out. The status
-is 0 if all lines were written; 1 if a file was left out, or with abort or fail a line is at fault; 2 for other
-arguments, also such that are not UTF-8 or whose FILE has no format; 3 if a read or a write failed; and 141 if standard output was closed.";
+Lines are numbered in each file, and each has its header. A file that cannot be opened, a directory or the output
+itself is left out. The status is 0 if all lines were written; 1 if a file was left out, or with abort or fail a line
+is at fault; 2 for other arguments, also such that are not UTF-8 or whose FILE has no format, and for a format under
+which decimals do not parse back; 3 if a read or a write failed; and 141 if standard output was closed.";
 
 /// Returns what the arguments say.
 ///
@@ -69,20 +71,31 @@ fn command<'a>(alloc: Global) -> Result<Command<'a>, AllocError> {
                 .default_value("-")
                 .help("The files to read, and - for standard input"),
         )?
-        .arg(
-            Arg::new(alloc, "line-buffered")
-                .long("line-buffered")
-                .action(ArgAction::SetTrue)
-                .help("Write each line at once, and not when a block is full or more is read"),
+        .arg(flag(
+            alloc,
+            "line-buffered",
+            "Write each line at once, and not when a block is full or more is read",
+        )?)?
+        .arg(flag(
+            alloc,
+            "zero-terminated",
+            "End lines with NUL, not with a newline",
         )?
-        .arg(
-            Arg::new(alloc, "zero-terminated")
-                .short('z')
-                .long("zero-terminated")
-                .action(ArgAction::SetTrue)
-                .help("End lines with NUL, not with a newline"),
-        )?;
+        .short('z'))?;
     with_options(alloc, command)
+}
+
+/// Returns an option of this name without a value, which may be repeated.
+///
+/// # Errors
+///
+/// Returns an error if there is no memory for it.
+fn flag<'a>(alloc: Global, name: &'a str, help: &'a str) -> Result<Arg<'a>, AllocError> {
+    Arg::new(alloc, name)
+        .long(name)
+        .action(ArgAction::SetTrue)
+        .help(help)
+        .overrides_with(name)
 }
 
 /// Returns the command line with its options.
@@ -90,6 +103,7 @@ fn with_options<'a>(alloc: Global, command: Command<'a>) -> Result<Command<'a>, 
     let command = command
         .arg(
             Arg::new(alloc, "field")
+                .short('f')
                 .long("field")
                 .value_name("LIST")
                 .allow_hyphen_values(true)
@@ -102,23 +116,16 @@ fn with_options<'a>(alloc: Global, command: Command<'a>) -> Result<Command<'a>, 
                 .value_name("CHAR")
                 .requires_arg("field")?
                 .help(
-                    "The ASCII character between two fields [default: a tab, or a comma with --csv]",
+                    "The ASCII character between two fields, or \\t for a tab [default: a tab, or a comma with --csv]",
                 ),
         )?
-        .arg(
-            Arg::new(alloc, "csv")
-                .long("csv")
-                .action(ArgAction::SetTrue)
-                .requires_arg("field")?
-                .help("Read records of RFC 4180: fields may be in quotes"),
+        .arg(flag(
+            alloc,
+            "csv",
+            "Read records of RFC 4180: fields may be in quotes",
         )?
-        .arg(
-            Arg::new(alloc, "header")
-                .long("header")
-                .action(ArgAction::SetTrue)
-                .conflicts_with("header-lines")?
-                .help("Pass on the first line"),
-        )?
+        .requires_arg("field")?)?
+        .arg(flag(alloc, "header", "Pass on the first line")?.conflicts_with("header-lines")?)?
         .arg(
             Arg::new(alloc, "header-lines")
                 .long("header-lines")
@@ -140,18 +147,14 @@ fn with_fault_options<'a>(alloc: Global, command: Command<'a>) -> Result<Command
                 .default_value("abort")
                 .help("What to do at a line at fault"),
         )?
-        .arg(
-            Arg::new(alloc, "empty")
-                .long("empty")
-                .action(ArgAction::SetTrue)
-                .help("Pass on a line where nothing is in place of the number"),
-        )?
-        .arg(
-            Arg::new(alloc, "lenient")
-                .long("lenient")
-                .action(ArgAction::SetTrue)
-                .help(
-                    "Read whole numbers, and ignore each character that is not numeric, but for a minus sign at the start",
-                ),
-        )
+        .arg(flag(
+            alloc,
+            "empty",
+            "Pass on a line where nothing is in place of the number",
+        )?)?
+        .arg(flag(
+            alloc,
+            "lenient",
+            "Read whole numbers, and ignore each character that is not numeric, but for a minus sign at the start",
+        )?)
 }

@@ -7,20 +7,23 @@
 #![tactic(auto)]
 
 mod command_line;
+mod files;
 mod misuse;
 mod options;
+mod output;
 mod words;
 
 use crate::command_line::matches;
+use crate::files::{FileId, Input};
 use crate::misuse::{refuse_arguments, refuse_words};
 use crate::options::{capacity_of, files_of, is_quote_between, list_of, rules_of, words_of};
+use crate::output::Output;
 use crate::words::Word;
 use clap::error::ErrorKind;
 use regroup_stream::{
-    FAILED, FAULTY, Formats, Invalid, MISUSED, REGROUPED, Rules, formats_named, refuse, run,
+    FAILED, FAULTY, Formats, Invalid, MISUSED, REGROUPED, Rules, formats_named, run,
 };
-use std::fs::File;
-use std::io::{BufWriter, Read, Stdin};
+use std::io::BufWriter;
 use std::process::ExitCode;
 use std::{env, io};
 
@@ -83,7 +86,7 @@ fn try_main(rt: &HostRuntime) -> io::Result<u8> {
 }
 
 /// Regroups the lines of the files in turn, up to the first whose lines are not all written, and returns the highest
-/// status. A file that cannot be opened is left out. The buffer of the output has this capacity, and that of the input one
+/// status. A file that cannot be opened, or is the output, is left out. The buffer of the output has this capacity, and that of the input one
 /// byte more than a line may have.
 ///
 /// # Errors
@@ -96,15 +99,16 @@ fn regroup_files(
     capacity: usize,
     names: &[&str],
 ) -> io::Result<u8> {
-    let mut out = BufWriter::with_capacity(rt.alloc(), capacity, rt.stdout())?;
+    let mut out = BufWriter::with_capacity(rt.alloc(), capacity, Output::new(rt.stdout()))?;
     let mut buffer = vec![in rt.alloc(); 0; rules.max_line_len as usize + 1]?;
     let mut err = rt.stderr();
+    let output = FileId::of_output(rt);
     let mut status = REGROUPED;
     for name in names {
-        let ended = match Input::open(rt, name) {
+        let ended = match Input::open(rt, name, output) {
             Ok(input) => run(rules, formats, name, &mut buffer, input, &mut out, &mut err),
-            Err(error) => {
-                status = status.max(refuse(name, error.kind(), &mut err));
+            Err(unread) => {
+                status = status.max(unread.refuse(name, &mut err));
                 continue;
             }
         };
@@ -115,34 +119,4 @@ fn regroup_files(
         }
     }
     Ok(status)
-}
-
-/// What is read.
-#[derive(Drop)]
-enum Input {
-    Stdin(Stdin),
-    File(File),
-}
-
-impl Input {
-    /// Opens the file of that name. The name `-` is that of standard input.
-    ///
-    /// # Errors
-    ///
-    /// Returns the error of a file that cannot be opened.
-    fn open(rt: &HostRuntime, name: &str) -> io::Result<Input> {
-        match name {
-            "-" => Ok(Input::Stdin(rt.stdin())),
-            _ => Ok(Input::File(File::open(rt, name)?)),
-        }
-    }
-}
-
-impl Read for Input {
-    fn read(&mut self, buf: &mut [u8]) -> io::Result<usize> {
-        match self {
-            Input::Stdin(input) => input.read(buf),
-            Input::File(input) => input.read(buf),
-        }
-    }
 }

@@ -80,6 +80,7 @@ fn span_of<'a>(matches: &ArgMatches<'_>, list: &'a [FieldRange]) -> Option<Span<
     let is_csv = matches.get_flag("csv");
     let usual = if is_csv { "," } else { "\t" };
     let delimiter = match matches.get_str("delimiter").unwrap_or(usual).as_bytes() {
+        b"\\t" => b'\t',
         [byte] if byte.is_ascii() => *byte,
         _ => return None,
     };

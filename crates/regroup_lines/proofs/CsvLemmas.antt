@@ -17,7 +17,7 @@ use Rattle.regroup_lines.specs.Fault.{Fault}
 use Rattle.regroup_lines.specs.Fault.Fault.{FewFields}
 use Rattle.regroup_lines.specs.Fields.{SendsIfOk, checked}
 use Rattle.regroup_lines.specs.Lines.{csv_field_written, csv_number, csv_written, number_written, with_first}
-use Rattle.regroup_lines.specs.Places.{are_enough, is_chosen, is_chosen_from}
+use Rattle.regroup_lines.specs.Places.{are_enough, field_count, is_chosen, is_chosen_from}
 use Rattle.regroup_lines.specs.declared.rules.FieldRange.{FieldRange}
 use Rattle.regroup_lines.specs.declared.rules.Rules.{Rules}
 use Rattle.regroup_lines.proofs.FieldLemmas.{Parts, SendsIfOk-err, SendsIfOk-ok, checked-first, checked-later, chosen-none, chosen_from-later, enough-all, joined-first, joined-more, none-left, parts, texts_of}
@@ -168,7 +168,7 @@ module _ (rules : Rules) (d : ℕ) (list : List FieldRange) (from to : FormatDat
   pub csv-passed : (count : ℕ) (inside : Bool) (fields : List (List ℕ)) → is_chosen_from list (next_number count) ≡ false →
       csv_written rules d list from to number count inside fields ≡ Ok fields
   csv-passed count inside [] past =
-      ap (λ (b : Bool). if b then Ok [] else Err (FewFields number))
+      ap (λ (b : Bool). if b then Ok [] else Err (FewFields number (field_count d list count)))
       (or_true inside (are_enough list count) (enough-all list count (chosen_from-later list (next_number count) (count + 1) (next-within count) past)))
   csv-passed count inside (field ∷ fields) past =
       let n = next_number count in
@@ -186,7 +186,7 @@ module _ (rules : Rules) (d : ℕ) (list : List FieldRange) (from to : FormatDat
       subst (λ l. 0 < length l) (sym found.texts_are) (omega arith)
 
   pub csv-none : (count : ℕ) (inside : Bool) (texts : List (List ℕ)) → csv_written rules d list from to number count inside [] ≡ Ok texts → texts ≡ []
-  csv-none count inside texts is = none-left (inside || are_enough list count) (FewFields number) texts is
+  csv-none count inside texts is = none-left (inside || are_enough list count) (FewFields number (field_count d list count)) texts is
 
 -- what a check found of the fields so far: the fault of the line is that of the fields from here on
 module _ (whole : Result (List (List ℕ)) Fault) (first : Result (List ℕ) Fault) (later : Result (List (List ℕ)) Fault) (same : checked whole ≡ checked (with_first first later)) where

@@ -17,7 +17,7 @@ use Rattle.regroup_lines.specs.Fault.Fault.{FewFields, Write}
 use Rattle.regroup_lines.specs.Fields.{SendsIfOk, checked}
 use Rattle.regroup_lines.specs.LineFaults.{line_fault_of}
 use Rattle.regroup_lines.specs.Lines.{field_written, fields_written, with_first}
-use Rattle.regroup_lines.specs.Places.{are_enough, is_at_most, is_chosen, is_chosen_from, is_enough}
+use Rattle.regroup_lines.specs.Places.{are_enough, field_count, is_at_most, is_chosen, is_chosen_from, is_enough}
 use Rattle.regroup_lines.specs.declared.line_fault.LineFault.{LineFault}
 use Rattle.regroup_lines.specs.declared.line_fault.LineFault.TheVariants as fault
 use Rattle.regroup_lines.specs.declared.rules.FieldRange.{FieldRange}
@@ -59,13 +59,13 @@ enough-all (range ∷ list) count past =
     let parts = or_parts (is_at_most (count + 1) range.last) (is_chosen_from list (count + 1)) past in
     and_true _ _ (enough-one range.first range.last count parts.0) (enough-all list count parts.1)
 
-module _ (rules : Rules) (list : List FieldRange) (from to : FormatData) (number : ℕ) where
+module _ (rules : Rules) (d : ℕ) (list : List FieldRange) (from to : FormatData) (number : ℕ) where
   -- so the fields from there on are passed on
   pub fields-passed : (count : ℕ) (fields : List (List ℕ)) → is_chosen_from list (count + 1) ≡ false →
-      fields_written rules list from to number count fields ≡ Ok fields
-  fields-passed count [] past = ap (λ enough. if enough then Ok [] else Err (FewFields number)) (enough-all list count past)
+      fields_written rules d list from to number count fields ≡ Ok fields
+  fields-passed count [] past = ap (λ enough. if enough then Ok [] else Err (FewFields number (field_count d list count))) (enough-all list count past)
   fields-passed count (field ∷ fields) past =
-      ap (λ chosen. with_first (field_written rules from to number (count + 1) chosen field) (fields_written rules list from to number (count + 1) fields)) (chosen-none list (count + 1) past)
+      ap (λ chosen. with_first (field_written rules from to number (count + 1) chosen field) (fields_written rules d list from to number (count + 1) fields)) (chosen-none list (count + 1) past)
       ∙ ap (with_first (Ok field)) (fields-passed (count + 1) fields (chosen_from-later list (count + 1) (count + 1 + 1) (omega arith) past))
 
 -- a fault, or none, before others
@@ -88,18 +88,18 @@ split-either end n fields field rest within more last = by (nat_lt end n) refl
     by false is = ([], last (let over = ltb-false end n is in omega (arith, over)))
 
 -- what a check found of the fields so far: the fault of the line is that of the fields from here on
-module _ (rules : Rules) (list : List FieldRange) (from to : FormatData) (number count : ℕ) (whole : Result (List (List ℕ)) Fault) (fields : List (List ℕ))
-    (same : checked whole ≡ checked (fields_written rules list from to number count fields)) (field : List ℕ) (rest : List (List ℕ)) (split : fields ≡ field ∷ rest) where
+module _ (rules : Rules) (d : ℕ) (list : List FieldRange) (from to : FormatData) (number count : ℕ) (whole : Result (List (List ℕ)) Fault) (fields : List (List ℕ))
+    (same : checked whole ≡ checked (fields_written rules d list from to number count fields)) (field : List ℕ) (rest : List (List ℕ)) (split : fields ≡ field ∷ rest) where
   pub check-later : Ok tt ≡ checked (field_written rules from to number (count + 1) (is_chosen list (count + 1)) field) →
-      checked whole ≡ checked (fields_written rules list from to number (count + 1) rest)
+      checked whole ≡ checked (fields_written rules d list from to number (count + 1) rest)
   check-later sound =
-      same ∙ ap (λ l. checked (fields_written rules list from to number count l)) split
-      ∙ checked-later (field_written rules from to number (count + 1) (is_chosen list (count + 1)) field) (fields_written rules list from to number (count + 1) rest) sound
+      same ∙ ap (λ l. checked (fields_written rules d list from to number count l)) split
+      ∙ checked-later (field_written rules from to number (count + 1) (is_chosen list (count + 1)) field) (fields_written rules d list from to number (count + 1) rest) sound
 
   pub check-first : (f : Fault) → Err f ≡ checked (field_written rules from to number (count + 1) (is_chosen list (count + 1)) field) → checked whole ≡ Err f
   check-first f is =
-      same ∙ ap (λ l. checked (fields_written rules list from to number count l)) split
-      ∙ checked-first (field_written rules from to number (count + 1) (is_chosen list (count + 1)) field) (fields_written rules list from to number (count + 1) rest) f is
+      same ∙ ap (λ l. checked (fields_written rules d list from to number count l)) split
+      ∙ checked-first (field_written rules from to number (count + 1) (is_chosen list (count + 1)) field) (fields_written rules d list from to number (count + 1) rest) f is
 
 -- the parts of what is written of a field and those after it
 pub record Parts (first : Result (List ℕ) Fault) (rest : Result (List (List ℕ)) Fault) (texts : List (List ℕ)) : Type 0 where
@@ -123,17 +123,17 @@ none-left true f texts is = sym (ap texts_of is)
 none-left false f texts is = absurd (cc)
 
 -- as many texts are written as there are fields
-written-length : (rules : Rules) (list : List FieldRange) (from to : FormatData) (number count : ℕ) (fields texts : List (List ℕ)) →
-    fields_written rules list from to number count fields ≡ Ok texts → 0 < length fields → 0 < length texts
-written-length rules list from to number count [] texts is some = absurd (omega arith)
-written-length rules list from to number count (field ∷ fields) texts is some =
-    let found = parts (field_written rules from to number (count + 1) (is_chosen list (count + 1)) field) (fields_written rules list from to number (count + 1) fields) texts is in
+written-length : (rules : Rules) (d : ℕ) (list : List FieldRange) (from to : FormatData) (number count : ℕ) (fields texts : List (List ℕ)) →
+    fields_written rules d list from to number count fields ≡ Ok texts → 0 < length fields → 0 < length texts
+written-length rules d list from to number count [] texts is some = absurd (omega arith)
+written-length rules d list from to number count (field ∷ fields) texts is some =
+    let found = parts (field_written rules from to number (count + 1) (is_chosen list (count + 1)) field) (fields_written rules d list from to number (count + 1) fields) texts is in
     subst (λ l. 0 < length l) (sym found.texts_are) (omega arith)
 
-written-none : (rules : Rules) (list : List FieldRange) (from to : FormatData) (number count : ℕ) (fields texts : List (List ℕ)) →
-    fields_written rules list from to number count fields ≡ Ok texts → fields ≡ [] → texts ≡ []
-written-none rules list from to number count [] texts is none = none-left (are_enough list count) (FewFields number) texts is
-written-none rules list from to number count (field ∷ fields) texts is none = absurd (cc)
+written-none : (rules : Rules) (d : ℕ) (list : List FieldRange) (from to : FormatData) (number count : ℕ) (fields texts : List (List ℕ)) →
+    fields_written rules d list from to number count fields ≡ Ok texts → fields ≡ [] → texts ≡ []
+written-none rules d list from to number count [] texts is none = none-left (are_enough list count) (FewFields number (field_count d list count)) texts is
+written-none rules d list from to number count (field ∷ fields) texts is none = absurd (cc)
 
 -- texts with a delimiter between each two
 pub joined-more : (d : ℕ) (text : List ℕ) (texts : List (List ℕ)) → 0 < length texts → join_with_byte d (text ∷ texts) ≡ text ++ d ∷ join_with_byte d texts
@@ -143,7 +143,7 @@ joined-more d text (next ∷ texts) some = refl
 -- what was sent of the fields so far, if the line has past fault: the fields from here on are left
 pub record Sent (rules : Rules) (list : List FieldRange) (from to : FormatData) (number d count : ℕ) (texts fields : List (List ℕ)) (old new : Option (List ℕ)) : Type 0 where
   pub left : List (List ℕ)
-  pub left_is : fields_written rules list from to number count fields ≡ Ok left
+  pub left_is : fields_written rules d list from to number count fields ≡ Ok left
   pub sent : List ℕ
   pub joined : join_with_byte d texts ≡ sent ++ join_with_byte d left
   pub appended : Appends old new sent
@@ -169,7 +169,7 @@ joined-first d text [] = ([], sym (append-nil text))
 joined-first d text (next ∷ later) = (d ∷ join_with_byte d (next ∷ later), refl)
 
 module _ (rules : Rules) (list : List FieldRange) (from to : FormatData) (number d : ℕ) (a : Option (List ℕ)) where
-  pub Sent-none : (texts fields : List (List ℕ)) → fields_written rules list from to number 0 fields ≡ Ok texts → Sent rules list from to number d 0 texts fields a a
+  pub Sent-none : (texts fields : List (List ℕ)) → fields_written rules d list from to number 0 fields ≡ Ok texts → Sent rules list from to number d 0 texts fields a a
   Sent-none texts fields is = record { left = texts; left_is = is; sent = []; joined = refl; appended = Appends-nil a }
 
   module _ (count : ℕ) (texts fields : List (List ℕ)) (b : Option (List ℕ)) (so_far : Sent rules list from to number d count texts fields a b) where
@@ -188,13 +188,13 @@ module _ (rules : Rules) (list : List FieldRange) (from to : FormatData) (number
     pub sent-rest : {T : Type 0} (c : Option (List ℕ)) (text : List ℕ) (result : Result T Fault) → is_chosen_from list (count + 1) ≡ false →
         fields ≡ slice_split (λ b. b == d) text → SendsIfOk (Ok (ended_by rules.line_end text)) b c result → SendsIfOk (Ok (ended_by rules.line_end (join_with_byte d texts))) a c result
     sent-rest c text result past split sends =
-        let left : so_far.left ≡ fields = ap texts_of (sym so_far.left_is ∙ fields-passed rules list from to number count fields past) in
+        let left : so_far.left ≡ fields = ap texts_of (sym so_far.left_is ∙ fields-passed rules d list from to number count fields past) in
         sent-last c (ended_by rules.line_end text) result
         (ap (ended_by rules.line_end) (ap (join_with_byte d) (left ∙ split) ∙ join_with_byte-slice_split d text)) sends
 
     module _ (field : List ℕ) (rest : List (List ℕ)) (split : fields ≡ field ∷ rest) where
-      found : Parts (field_written rules from to number (count + 1) (is_chosen list (count + 1)) field) (fields_written rules list from to number (count + 1) rest) so_far.left
-      found = parts _ _ so_far.left (ap (fields_written rules list from to number count) (sym split) ∙ so_far.left_is)
+      found : Parts (field_written rules from to number (count + 1) (is_chosen list (count + 1)) field) (fields_written rules d list from to number (count + 1) rest) so_far.left
+      found = parts _ _ so_far.left (ap (fields_written rules d list from to number count) (sym split) ∙ so_far.left_is)
 
       -- the field was sent, or not
       pub sent-stop : (T : Type 0) (c : Option (List ℕ)) (f : Fault) →
@@ -215,7 +215,7 @@ module _ (rules : Rules) (list : List FieldRange) (from to : FormatData) (number
 
         last : rest ≡ [] → (so_far.sent ++ found.text) ++ rules.line_end ∷ [] ≡ ended_by rules.line_end (join_with_byte d texts)
         last none =
-            let ends : found.later ≡ [] = written-none rules list from to number (count + 1) rest found.later found.rest_is none in
+            let ends : found.later ≡ [] = written-none rules d list from to number (count + 1) rest found.later found.rest_is none in
             ap (ended_by rules.line_end) (sym (so_far.joined ∙ ap (λ l. so_far.sent ++ join_with_byte d l) (found.texts_are ∙ ap (λ l. found.text ∷ l) ends)))
 
         -- then the byte that ends the line, where it is the last field
@@ -229,7 +229,7 @@ module _ (rules : Rules) (list : List FieldRange) (from to : FormatData) (number
         -- or a delimiter
         more : 0 < length rest → join_with_byte d texts ≡ ((so_far.sent ++ found.text) ++ d ∷ []) ++ join_with_byte d found.later
         more some =
-            let fields = written-length rules list from to number (count + 1) rest found.later found.rest_is some in
+            let fields = written-length rules d list from to number (count + 1) rest found.later found.rest_is some in
             so_far.joined
             ∙ ap (λ l. so_far.sent ++ l) (ap (join_with_byte d) found.texts_are ∙ joined-more d found.text found.later fields)
             ∙ sym (append_assoc so_far.sent found.text (d ∷ join_with_byte d found.later))

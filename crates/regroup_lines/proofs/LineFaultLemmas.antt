@@ -22,7 +22,7 @@ text_fault_bytes number text invalid =
 pub in_field_again : (m n : ℕ) (fault : Fault) → in_field m (in_field n fault) ≡ in_field n fault
 in_field_again m n TooMany = refl
 in_field_again m n (TooLong number max_line_len) = refl
-in_field_again m n (FewFields number) = refl
+in_field_again m n (FewFields number count) = refl
 in_field_again m n Read = refl
 in_field_again m n (NotText number) = refl
 in_field_again m n (FieldNotText number field) = refl

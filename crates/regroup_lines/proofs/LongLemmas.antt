@@ -106,7 +106,7 @@ module _ (span0 span1 span2 : Span) (line_end len : ℕ) (flushes : Bool) (begun
       PassesLong-halted left Flush is sent = (so_far.text ++ text, more, longer, sent_more sent, is)
       PassesLong-halted left TooMany is sent = absurd is
       PassesLong-halted left (TooLong number max_line_len) is sent = absurd is
-      PassesLong-halted left (FewFields number) is sent = absurd is
+      PassesLong-halted left (FewFields number count) is sent = absurd is
       PassesLong-halted left (NotText number) is sent = absurd is
       PassesLong-halted left (FieldNotText number field) is sent = absurd is
       PassesLong-halted left (Line number refusal) is sent = absurd is

@@ -12,7 +12,6 @@ use Rattle.std.proofs.lemmas.List.Sums.{prefix_len-le-length, suffix_len-le-leng
 use lib.Seq.{take-add}
 use Rattle.num_format.specs.Format.{FormatData}
 use Rattle.regroup_lines.specs.Fault.{Fault, in_field}
-use Rattle.regroup_lines.specs.Fault.Fault.{FewFields}
 use Rattle.regroup_lines.specs.Lines.{between, field_written, fields_replaced, fields_written, number_replaced, number_written, place_written, with_first}
 use Rattle.regroup_lines.specs.Lists.{one_field}
 use Rattle.regroup_lines.specs.Places.{field_place, is_chosen, is_chosen_from, trimmed}
@@ -144,15 +143,16 @@ module _ (rules : Rules) (from to : FormatData) (number : ℕ) where
       ∙ ap (λ (l : List ℕ). if empty then Ok text else between (xs ++ take a ys) l (written (slice_range ys a b))) (drop-later xs ys m b len)
       ∙ empty-before empty ys (take a ys) (drop b ys) xs (written (slice_range ys a b))
 
-  -- a line with the number in the field at a place, if there is such a place
-  abbrev pub at_place : ℕ → List ℕ → Option (ℕ × ℕ) → Result (List ℕ) Fault
-  at_place one text None = Err (FewFields number)
-  at_place one text (Some place) = as_field one (place_written rules from to number text (trimmed text place))
+  -- a line with the number in the field at a place, or what is written where there is no such place
+  abbrev pub at_place : Result (List ℕ) Fault → ℕ → List ℕ → Option (ℕ × ℕ) → Result (List ℕ) Fault
+  at_place other one text None = other
+  at_place other one text (Some place) = as_field one (place_written rules from to number text (trimmed text place))
 
-  at_place-later : (one : ℕ) (xs ys : List ℕ) (m : ℕ) → length xs ≡ m → (place : Option (ℕ × ℕ)) →
-      at_place one (xs ++ ys) (option_map (λ p. (m + p.0, m + p.1)) place) ≡ result_map_both (λ t. xs ++ t) (λ fault. fault) (at_place one ys place)
-  at_place-later one xs ys m len None = refl
-  at_place-later one xs ys m len (Some place) =
+  at_place-later : (other : Result (List ℕ) Fault) (one : ℕ) (xs ys : List ℕ) (m : ℕ) → length xs ≡ m → (place : Option (ℕ × ℕ)) →
+      at_place (result_map_both (λ t. xs ++ t) (λ fault. fault) other) one (xs ++ ys) (option_map (λ p. (m + p.0, m + p.1)) place)
+      ≡ result_map_both (λ t. xs ++ t) (λ fault. fault) (at_place other one ys place)
+  at_place-later other one xs ys m len None = refl
+  at_place-later other one xs ys m len (Some place) =
       ap (λ p. as_field one (place_written rules from to number (xs ++ ys) p)) (trimmed-later xs ys m place.0 place.1 len)
       ∙ ap (as_field one) (place-later xs ys m (trimmed ys place).0 (trimmed ys place).1 len)
       ∙ as_field-later one (λ t. xs ++ t) (place_written rules from to number ys (trimmed ys place))
@@ -197,13 +197,7 @@ module _ (rules : Rules) (from to : FormatData) (number d one : ℕ) where
   list = one_field one ∷ []
 
   abbrev written : ℕ → List (List ℕ) → Result (List ℕ) Fault
-  written count fields = result_map_both (join_with_byte d) (λ fault. fault) (fields_written rules list from to number count fields)
-
-  -- too few fields
-  none-written : (count : ℕ) → count < one → written count [] ≡ Err (FewFields number)
-  none-written count low =
-      ap (λ (b : Bool). result_map_both (join_with_byte d) (λ fault. fault) (if◌then◌else◌ {A = Result (List (List ℕ)) Fault} (b && true) (Ok []) (Err (FewFields number))))
-      (lt-leb one count low)
+  written count fields = result_map_both (join_with_byte d) (λ fault. fault) (fields_written rules d list from to number count fields)
 
   -- the field
   one-chosen : (count : ℕ) → one ≡ count + 1 → is_chosen list (count + 1) ≡ true
@@ -219,18 +213,18 @@ module _ (rules : Rules) (from to : FormatData) (number d one : ℕ) where
   one-before count low = ap (λ b. (b && nat_le (count + 1) one) || false) (lt-leb one (count + 1) low)
 
   here-written : (count : ℕ) (field : List ℕ) (fields : List (List ℕ)) → one ≡ count + 1 →
-      written count (field ∷ fields) ≡ at_place rules from to number one (join_with_byte d (field ∷ fields)) (Some (0, 0 + length field))
+      written count (field ∷ fields) ≡ at_place rules from to number (written count (field ∷ fields)) one (join_with_byte d (field ∷ fields)) (Some (0, 0 + length field))
   here-written count field fields is =
       let more = tail_of d fields in
       let len : 0 + length field ≡ length field = omega arith in
       let p = trimmed field (0, length field) in
       let within = trimmed-within field 0 (length field) (omega arith) (omega arith) in
       ap (λ chosen. result_map_both (join_with_byte d) (λ fault. fault)
-      (with_first (field_written rules from to number (count + 1) chosen field) (fields_written rules list from to number (count + 1) fields))) (one-chosen count is)
+      (with_first (field_written rules from to number (count + 1) chosen field) (fields_written rules d list from to number (count + 1) fields))) (one-chosen count is)
       ∙ ap (λ n. result_map_both (join_with_byte d) (λ fault. fault)
-      (with_first (as_field n (number_replaced rules from to number field)) (fields_written rules list from to number (count + 1) fields))) (sym is)
+      (with_first (as_field n (number_replaced rules from to number field)) (fields_written rules d list from to number (count + 1) fields))) (sym is)
       ∙ ap (λ rest. result_map_both (join_with_byte d) (λ fault. fault) (with_first (as_field one (number_replaced rules from to number field)) rest))
-      (fields-passed rules list from to number (count + 1) fields (one-past count is))
+      (fields-passed rules d list from to number (count + 1) fields (one-past count is))
       ∙ first-passed d (as_field one (number_replaced rules from to number field)) fields
       ∙ sym (as_field-later one (λ t. t ++ more) (number_replaced rules from to number field))
       ∙ ap (as_field one) (sym (place-first rules from to number field more p within.0 within.1))
@@ -239,32 +233,33 @@ module _ (rules : Rules) (from to : FormatData) (number d one : ℕ) where
       ∙ ap (λ n. as_field one (place_written rules from to number (join_with_byte d (field ∷ fields)) (trimmed (join_with_byte d (field ∷ fields)) (0, n)))) (sym len)
 
   before-written : (count before : ℕ) (field : List ℕ) (fields : List (List ℕ)) → count + 1 < one →
-      written (count + 1) fields ≡ at_place rules from to number one (join_with_byte d fields) (field_place 0 fields before) →
-      written count (field ∷ fields) ≡ at_place rules from to number one (join_with_byte d (field ∷ fields)) (field_place (0 + length field + 1) fields before)
+      written (count + 1) fields ≡ at_place rules from to number (written (count + 1) fields) one (join_with_byte d fields) (field_place 0 fields before) →
+      written count (field ∷ fields)
+      ≡ at_place rules from to number (written count (field ∷ fields)) one (join_with_byte d (field ∷ fields)) (field_place (0 + length field + 1) fields before)
   unfolding field_place
-  before-written count before field [] low same =
-      ap (λ chosen. result_map_both (join_with_byte d) (λ fault. fault)
-      (with_first (field_written rules from to number (count + 1) chosen field) (fields_written rules list from to number (count + 1) []))) (one-before count low)
-      ∙ ap (λ (b : Bool). result_map_both (join_with_byte d) (λ fault. fault)
-      (with_first (Ok field) (if◌then◌else◌ {A = Result (List (List ℕ)) Fault} (b && true) (Ok []) (Err (FewFields number))))) (lt-leb one (count + 1) low)
+  before-written count before field [] low same = refl
   before-written count before field (next ∷ fields) low same =
       let pre = field ++ d ∷ [] in
       let rest = next ∷ fields in
       let len : length pre ≡ length field + 1 = length-append field (d ∷ []) in
       let sum : length field + 1 + 0 ≡ 0 + length field + 1 = omega arith in
+      let later = written (count + 1) rest in
+      let step : written count (field ∷ rest) ≡ result_map_both (λ t. pre ++ t) (λ fault. fault) later =
       ap (λ chosen. result_map_both (join_with_byte d) (λ fault. fault)
-      (with_first (field_written rules from to number (count + 1) chosen field) (fields_written rules list from to number (count + 1) rest))) (one-before count low)
-      ∙ rest-written d field next fields (field_written rules from to number (count + 1 + 1) (is_chosen list (count + 1 + 1)) next) (fields_written rules list from to number (count + 1 + 1) fields)
+      (with_first (field_written rules from to number (count + 1) chosen field) (fields_written rules d list from to number (count + 1) rest))) (one-before count low)
+      ∙ rest-written d field next fields (field_written rules from to number (count + 1 + 1) (is_chosen list (count + 1 + 1)) next) (fields_written rules d list from to number (count + 1 + 1) fields) in
+      step
       ∙ ap (result_map_both (λ t. pre ++ t) (λ fault. fault)) same
-      ∙ sym (at_place-later rules from to number one pre (join_with_byte d rest) (length field + 1) len (field_place 0 rest before))
-      ∙ ap (at_place rules from to number one (pre ++ join_with_byte d rest))
+      ∙ sym (at_place-later rules from to number later one pre (join_with_byte d rest) (length field + 1) len (field_place 0 rest before))
+      ∙ ap (λ other. at_place rules from to number other one (pre ++ join_with_byte d rest) (option_map (λ p. (length field + 1 + p.0, length field + 1 + p.1)) (field_place 0 rest before))) (sym step)
+      ∙ ap (at_place rules from to number (written count (field ∷ rest)) one (pre ++ join_with_byte d rest))
       (sym (place-later_start (length field + 1) 0 rest before) ∙ ap (λ n. field_place n rest before) sum)
-      ∙ ap (λ l. at_place rules from to number one l (field_place (0 + length field + 1) rest before)) (append_assoc field (d ∷ []) (join_with_byte d rest))
+      ∙ ap (λ l. at_place rules from to number (written count (field ∷ rest)) one l (field_place (0 + length field + 1) rest before)) (append_assoc field (d ∷ []) (join_with_byte d rest))
 
   one-written : (count : ℕ) (fields : List (List ℕ)) (before : ℕ) → one ≡ count + before + 1 →
-      written count fields ≡ at_place rules from to number one (join_with_byte d fields) (field_place 0 fields before)
+      written count fields ≡ at_place rules from to number (written count fields) one (join_with_byte d fields) (field_place 0 fields before)
   unfolding field_place
-  one-written count [] before is = none-written count (omega (arith, is))
+  one-written count [] before is = refl
   one-written count (field ∷ fields) zero is = here-written count field fields (omega (arith, is))
   one-written count (field ∷ fields) (suc before) is =
       before-written count before field fields (omega (arith, is)) (one-written (count + 1) fields before (omega (arith, is)))
@@ -272,14 +267,17 @@ module _ (rules : Rules) (from to : FormatData) (number d one : ℕ) where
 -- a line with one chosen field
 pub one-replaced : (rules : Rules) (from to : FormatData) (number one : ℕ) (text : List ℕ) (fields : Fields) (place : Option (ℕ × ℕ)) →
     fields.list.now ≡ one_field one ∷ [] → 0 < one → place ≡ field_place 0 (slice_split (λ b. b == fields.delimiter) text) (one - 1) →
-    fields_replaced fields rules from to number text ≡ at_place rules from to number one text place
+    fields_replaced fields rules from to number text ≡ at_place rules from to number (fields_replaced fields rules from to number text) one text place
 one-replaced rules from to number one text fields place is some there =
     let d = fields.delimiter in
     let parts = slice_split (λ b. b == d) text in
-    ap (λ list. result_map_both (join_with_byte d) (λ fault. fault) (fields_written rules list from to number 0 parts)) is
+    let whole = fields_replaced fields rules from to number text in
+    let listed = ap (λ list. result_map_both (join_with_byte d) (λ fault. fault) (fields_written rules d list from to number 0 parts)) is in
+    listed
     ∙ one-written rules from to number d one 0 parts (one - 1) (omega (arith, some))
-    ∙ ap (λ l. at_place rules from to number one l (field_place 0 parts (one - 1))) (join_with_byte-slice_split d text)
-    ∙ ap (at_place rules from to number one text) (sym there)
+    ∙ ap (λ other. at_place rules from to number other one (join_with_byte d parts) (field_place 0 parts (one - 1))) (sym listed)
+    ∙ ap (λ l. at_place rules from to number whole one l (field_place 0 parts (one - 1))) (join_with_byte-slice_split d text)
+    ∙ ap (at_place rules from to number whole one text) (sym there)
 
 -- the place of a field, field after field
 slice-length : (text : List ℕ) (start end : ℕ) → end ≤ length text → length (slice_range text start end) ≡ end - start

@@ -45,7 +45,7 @@ Sends-fault : (all : Regrouped) (told : List ℕ) (a b d e : Option (List ℕ)) 
     Appends a b all.written → Appends d e told → Sends all told a b d e (Err fault)
 Sends-fault all told a b d e TooMany sent is written named = (is, written, named)
 Sends-fault all told a b d e (TooLong number max_line_len) sent is written named = (is, written, named)
-Sends-fault all told a b d e (FewFields number) sent is written named = (is, written, named)
+Sends-fault all told a b d e (FewFields number count) sent is written named = (is, written, named)
 Sends-fault all told a b d e Read sent is written named = (is, written, named)
 Sends-fault all told a b d e (NotText number) sent is written named = (is, written, named)
 Sends-fault all told a b d e (FieldNotText number field) sent is written named = (is, written, named)
@@ -274,7 +274,7 @@ module _ (start : Span) (rules : Rules) (name : List ℕ) (most : ℕ) (from to 
     Regroups-stopped held stop (Ok n) faults rest Flush s2 t2 so_far at_end unflushed ends is other sends = absurd sends
     Regroups-stopped held stop (Ok n) faults rest TooMany s2 t2 so_far at_end unflushed ends is other sends = absurd sends
     Regroups-stopped held stop (Ok n) faults rest (TooLong number max_line_len) s2 t2 so_far at_end unflushed ends is other sends = absurd sends
-    Regroups-stopped held stop (Ok n) faults rest (FewFields number) s2 t2 so_far at_end unflushed ends is other sends = absurd sends
+    Regroups-stopped held stop (Ok n) faults rest (FewFields number count) s2 t2 so_far at_end unflushed ends is other sends = absurd sends
     Regroups-stopped held stop (Ok n) faults rest Read s2 t2 so_far at_end unflushed ends is other sends = absurd sends
     Regroups-stopped held stop (Ok n) faults rest (NotText number) s2 t2 so_far at_end unflushed ends is other sends = absurd sends
     Regroups-stopped held stop (Ok n) faults rest (FieldNotText number field) s2 t2 so_far at_end unflushed ends is other sends = absurd sends
@@ -344,7 +344,7 @@ module _ (start : Span) (rules : Rules) (name : List ℕ) (most : ℕ) (from to 
           (rest-halted rules most from to Unflushed count text none (omega arith) short refl) refl
       Regroups-halted TooMany is short = absurd is
       Regroups-halted (TooLong number max_line_len) is short = absurd is
-      Regroups-halted (FewFields number) is short = absurd is
+      Regroups-halted (FewFields number count) is short = absurd is
       Regroups-halted (NotText number) is short = absurd is
       Regroups-halted (FieldNotText number field) is short = absurd is
       Regroups-halted (Line number refusal) is short = absurd is
@@ -461,7 +461,7 @@ module _ (start : Span) (rules : Rules) (name : List ℕ) (most : ℕ) (from to 
           long_failed left span_new Write stops = Regroups-long_unsent left stops
           long_failed left span_new Report passed = absurd passed
           long_failed left span_new (TooLong number max_line_len) passed = absurd passed
-          long_failed left span_new (FewFields number) passed = absurd passed
+          long_failed left span_new (FewFields number count) passed = absurd passed
           long_failed left span_new (NotText number) passed = absurd passed
           long_failed left span_new (FieldNotText number field) passed = absurd passed
           long_failed left span_new (Line number refusal) passed = absurd passed
@@ -498,7 +498,7 @@ module _ (start : Span) (rules : Rules) (name : List ℕ) (most : ℕ) (from to 
       Regroups-unread Flush is = Regroups-fault most has r2 s1 t1 [] Unflushed Flush unread (λ e. absurd (cc)) (λ e. is) (λ e. cc) refl refl
       Regroups-unread TooMany is = absurd is
       Regroups-unread (TooLong number max_line_len) is = absurd is
-      Regroups-unread (FewFields number) is = absurd is
+      Regroups-unread (FewFields number count) is = absurd is
       Regroups-unread (NotText number) is = absurd is
       Regroups-unread (FieldNotText number field) is = absurd is
       Regroups-unread (Line number refusal) is = absurd is

@@ -15,7 +15,8 @@ use Rattle.regroup_lines.specs.Fault.Fault.{TooMany, TooLong, FewFields, Read, N
 use Rattle.regroup_lines.specs.Csv.{csv_place, csv_split, field_with, is_inside_after, is_quote, next_number}
 use Rattle.regroup_lines.specs.LineFaults.{text_fault}
 use Rattle.regroup_lines.specs.Lines.{csv_field_written, csv_number, csv_read, csv_written, after_mark, between, body_or_itself, body_written, fault_written, field_written, fields_written, number_in_text, number_written, numbers_replaced, passes_mark, place_written, text_written, with_first}
-use Rattle.regroup_lines.specs.Places.{are_enough, is_chosen, trimmed}
+use Rattle.regroup_lines.specs.Places.{are_enough, field_count, is_chosen, trimmed}
+use Rattle.regroup_lines.specs.declared.fault.FieldCount.{FieldCount}
 use Rattle.regroup_lines.specs.declared.rules.FieldRange.{FieldRange}
 use Rattle.regroup_lines.specs.declared.rules.Invalid.{Invalid}
 use Rattle.regroup_lines.specs.declared.rules.Invalid.TheVariants.{Abort, Fail, Ignore, Warn}
@@ -78,7 +79,7 @@ place-sent rules from to number text place =
 in_field-sent : (n : ℕ) (fault : Fault) → is_unsent (in_field n fault) ≡ is_unsent fault
 in_field-sent n TooMany = refl
 in_field-sent n (TooLong number max_line_len) = refl
-in_field-sent n (FewFields number) = refl
+in_field-sent n (FewFields number count) = refl
 in_field-sent n Read = refl
 in_field-sent n (NotText number) = refl
 in_field-sent n (FieldNotText number field) = refl
@@ -102,15 +103,15 @@ first-sent (Ok text) (Ok texts) here there = tt
 first-sent (Ok text) (Err fault) here there = there
 first-sent (Err fault) rest here there = here
 
-count-sent : (enough : Bool) (number : ℕ) → IsSent (if◌then◌else◌ {A = Result (List (List ℕ)) Fault} enough (Ok []) (Err (FewFields number)))
-count-sent true number = tt
-count-sent false number = refl
+count-sent : (enough : Bool) (number : ℕ) (count : FieldCount) → IsSent (if◌then◌else◌ {A = Result (List (List ℕ)) Fault} enough (Ok []) (Err (FewFields number count)))
+count-sent true number count = tt
+count-sent false number count = refl
 
-fields-sent : (rules : Rules) (list : List FieldRange) (from to : FormatData) (number before : ℕ) (fields : List (List ℕ)) →
-    IsSent (fields_written rules list from to number before fields)
-fields-sent rules list from to number before [] = count-sent (are_enough list before) number
-fields-sent rules list from to number before (field ∷ fields) =
-    first-sent _ _ (field-sent rules from to number (before + 1) (is_chosen list (before + 1)) field) (fields-sent rules list from to number (before + 1) fields)
+fields-sent : (rules : Rules) (d : ℕ) (list : List FieldRange) (from to : FormatData) (number before : ℕ) (fields : List (List ℕ)) →
+    IsSent (fields_written rules d list from to number before fields)
+fields-sent rules d list from to number before [] = count-sent (are_enough list before) number (field_count d list before)
+fields-sent rules d list from to number before (field ∷ fields) =
+    first-sent _ _ (field-sent rules from to number (before + 1) (is_chosen list (before + 1)) field) (fields-sent rules d list from to number (before + 1) fields)
 
 joined-sent : (delimiter : ℕ) (texts : Result (List (List ℕ)) Fault) → IsSent texts → IsSent (result_map_both (join_with_byte delimiter) (λ fault. fault) texts)
 joined-sent delimiter (Ok texts) sent = tt
@@ -145,7 +146,7 @@ csv_field-sent rules delimiter from to number n false field = tt
 
 csv-sent : (rules : Rules) (delimiter : ℕ) (list : List FieldRange) (from to : FormatData) (number before : ℕ) (inside : Bool) (fields : List (List ℕ)) →
     IsSent (csv_written rules delimiter list from to number before inside fields)
-csv-sent rules delimiter list from to number before inside [] = count-sent (inside || are_enough list before) number
+csv-sent rules delimiter list from to number before inside [] = count-sent (inside || are_enough list before) number (field_count delimiter list before)
 csv-sent rules delimiter list from to number before inside (field ∷ fields) =
     let n = next_number before in
     first-sent _ _ (csv_field-sent rules delimiter from to number n (is_chosen list n && not inside) field) (csv-sent rules delimiter list from to number n (is_inside_after inside field) fields)
@@ -154,7 +155,7 @@ numbers-sent : (span : Span) (rules : Rules) (from to : FormatData) (number : �
 numbers-sent span.Line rules from to number text = place-sent rules from to number text (0, length text)
 numbers-sent span.Trimmed rules from to number text = place-sent rules from to number text (trimmed text (0, length text))
 numbers-sent (span.Fields fields) rules from to number text =
-    joined-sent fields.delimiter _ (fields-sent rules fields.list.now from to number 0 (slice_split (λ b. b == fields.delimiter) text))
+    joined-sent fields.delimiter _ (fields-sent rules fields.delimiter fields.list.now from to number 0 (slice_split (λ b. b == fields.delimiter) text))
 numbers-sent (span.Csv records) rules from to number text =
     let delimiter = records.fields.delimiter in
     let inside = records.within.inside in

@@ -24,7 +24,8 @@ use Rattle.regroup_lines.specs.LineFaults.{text_fault}
 use Rattle.regroup_lines.specs.Laws.{SplitLaw, SplitsInto}
 use Rattle.regroup_lines.specs.Lines.{csv_field_written, csv_number, csv_read, csv_written, input_end, is_inside, passes, rules_after, span_after, with_span, MARK, Regrouped, after_mark, begins_with_mark, between, body_named, body_or_itself, body_written, fault_named, fault_written, field_written, fields_written, line_named, line_written, number_replaced, number_written, numbers_replaced, passes_mark, place_written, regrouped, regrouped_parts, returning, text_named, text_written, with_first, writing_line}
 use Rattle.regroup_lines.specs.Lines.Stop.{Ended}
-use Rattle.regroup_lines.specs.Places.{are_enough, is_chosen, trimmed}
+use Rattle.regroup_lines.specs.Places.{are_enough, field_count, is_chosen, trimmed}
+use Rattle.regroup_lines.specs.declared.fault.FieldCount.{FieldCount}
 use Rattle.regroup_lines.specs.declared.rules.FieldRange.{FieldRange}
 use Rattle.regroup_lines.specs.declared.rules.Invalid.{Invalid}
 use Rattle.regroup_lines.specs.declared.rules.Invalid.TheVariants.{Abort, Fail, Warn, Ignore}
@@ -77,8 +78,8 @@ none-same true x y same = refl
 none-same false x y same = same
 
 -- what is left of a line after its fields, by whether they are enough
-abbrev ended : Bool → ℕ → Result (List (List ℕ)) Fault
-ended is number = if is then Ok [] else Err (FewFields number)
+abbrev ended : Bool → ℕ → FieldCount → Result (List (List ℕ)) Fault
+ended is number count = if is then Ok [] else Err (FewFields number count)
 
 -- one line has the text of the other, if it has one, and faults are named of both or of none
 record SameLine (x y : Result (List ℕ) Fault) (named_x named_y : List Fault) : Type 0 where
@@ -123,19 +124,19 @@ module _ (rules : Rules) (from to : FormatData) (n m : ℕ) where
       ∙ sym (named-ok (in_field k) (number_replaced rules from to m field))
   field-same k false field = refl
 
-  enough-same : (is : Bool) → result_ok (ended is n) ≡ result_ok (ended is m)
-  enough-same true = refl
-  enough-same false = refl
+  enough-same : (is : Bool) (count : FieldCount) → result_ok (ended is n count) ≡ result_ok (ended is m count)
+  enough-same true count = refl
+  enough-same false count = refl
 
-  fields-same : (list : List FieldRange) (before : ℕ) (fields : List (List ℕ)) →
-      result_ok (fields_written rules list from to n before fields) ≡ result_ok (fields_written rules list from to m before fields)
-  fields-same list before [] = enough-same (are_enough list before)
-  fields-same list before (field ∷ fields) =
+  fields-same : (d : ℕ) (list : List FieldRange) (before : ℕ) (fields : List (List ℕ)) →
+      result_ok (fields_written rules d list from to n before fields) ≡ result_ok (fields_written rules d list from to m before fields)
+  fields-same d list before [] = enough-same (are_enough list before) (field_count d list before)
+  fields-same d list before (field ∷ fields) =
       let chosen = is_chosen list (before + 1) in
-      with_first-joined (field_written rules from to n (before + 1) chosen field) (fields_written rules list from to n (before + 1) fields)
-      ∙ ap (λ text. joined text (result_ok (fields_written rules list from to n (before + 1) fields))) (field-same (before + 1) chosen field)
-      ∙ ap (joined (result_ok (field_written rules from to m (before + 1) chosen field))) (fields-same list (before + 1) fields)
-      ∙ sym (with_first-joined (field_written rules from to m (before + 1) chosen field) (fields_written rules list from to m (before + 1) fields))
+      with_first-joined (field_written rules from to n (before + 1) chosen field) (fields_written rules d list from to n (before + 1) fields)
+      ∙ ap (λ text. joined text (result_ok (fields_written rules d list from to n (before + 1) fields))) (field-same (before + 1) chosen field)
+      ∙ ap (joined (result_ok (field_written rules from to m (before + 1) chosen field))) (fields-same d list (before + 1) fields)
+      ∙ sym (with_first-joined (field_written rules from to m (before + 1) chosen field) (fields_written rules d list from to m (before + 1) fields))
 
   csv_number-same : (text : List ℕ) → result_ok (csv_number rules from to n text) ≡ result_ok (csv_number rules from to m text)
   csv_number-same text =
@@ -158,7 +159,7 @@ module _ (rules : Rules) (from to : FormatData) (n m : ℕ) where
 
   csv-same : (d : ℕ) (list : List FieldRange) (before : ℕ) (inside : Bool) (fields : List (List ℕ)) →
       result_ok (csv_written rules d list from to n before inside fields) ≡ result_ok (csv_written rules d list from to m before inside fields)
-  csv-same d list before inside [] = enough-same (inside || are_enough list before)
+  csv-same d list before inside [] = enough-same (inside || are_enough list before) (field_count d list before)
   csv-same d list before inside (field ∷ fields) =
       let k = next_number before in
       let chosen = is_chosen list k && not inside in
@@ -173,9 +174,9 @@ module _ (rules : Rules) (from to : FormatData) (n m : ℕ) where
   numbers-same span.Trimmed text = place-same text (trimmed text (0, length text))
   numbers-same (span.Fields fields) text =
       let parts = slice_split (λ b. b == fields.delimiter) text in
-      join-map fields.delimiter (fields_written rules fields.list.now from to n 0 parts)
-      ∙ ap (option_map (join_with_byte fields.delimiter)) (fields-same fields.list.now 0 parts)
-      ∙ sym (join-map fields.delimiter (fields_written rules fields.list.now from to m 0 parts))
+      join-map fields.delimiter (fields_written rules fields.delimiter fields.list.now from to n 0 parts)
+      ∙ ap (option_map (join_with_byte fields.delimiter)) (fields-same fields.delimiter fields.list.now 0 parts)
+      ∙ sym (join-map fields.delimiter (fields_written rules fields.delimiter fields.list.now from to m 0 parts))
   numbers-same (span.Csv records) text =
       let d = records.fields.delimiter in
       let inside = records.within.inside in

@@ -126,7 +126,7 @@ either_other false a b first second = second
 field_other : (n : ℕ) (fault : Fault) → fault ≢ Write → in_field n fault ≢ Write
 field_other n TooMany other is = other is
 field_other n (TooLong number max_line_len) other is = other is
-field_other n (FewFields number) other is = other is
+field_other n (FewFields number count) other is = other is
 field_other n Read other is = other is
 field_other n (NotText number) other is = cc
 field_other n (FieldNotText number field) other is = other is
@@ -140,6 +140,6 @@ field_other n Flush other is = other is
 pub other_fault : (f : LineFault) → f ≢ fault.Write → line_fault_of f ≢ Write
 other_fault (fault.NotANumber number text) other is = either_other (is_utf8 text.now) _ _ (λ same. cc) (λ same. cc) is
 other_fault (fault.NotAField number field text) other is = field_other field _ (either_other (is_utf8 text.now) _ _ (λ same. cc) (λ same. cc)) is
-other_fault (fault.FewFields number) other is = cc
+other_fault (fault.FewFields number count) other is = cc
 other_fault fault.Write other is = other refl
 other_fault fault.Report other is = cc

@@ -108,7 +108,7 @@ module _ (all : Regrouped) (a b d e : Option (List ℕ)) where
   untold_returned (Err Flush) sent other = sent.0
   untold_returned (Err TooMany) sent other = sent.0
   untold_returned (Err (TooLong number max_line_len)) sent other = sent.0
-  untold_returned (Err (FewFields number)) sent other = sent.0
+  untold_returned (Err (FewFields number count)) sent other = sent.0
   untold_returned (Err Read) sent other = sent.0
   untold_returned (Err (NotText number)) sent other = sent.0
   untold_returned (Err (FieldNotText number field)) sent other = sent.0
@@ -123,7 +123,7 @@ module _ (all : Regrouped) (a b d e : Option (List ℕ)) where
   untold_written (Err Flush) sent other = sent.1
   untold_written (Err TooMany) sent other = sent.1
   untold_written (Err (TooLong number max_line_len)) sent other = sent.1
-  untold_written (Err (FewFields number)) sent other = sent.1
+  untold_written (Err (FewFields number count)) sent other = sent.1
   untold_written (Err Read) sent other = sent.1
   untold_written (Err (NotText number)) sent other = sent.1
   untold_written (Err (FieldNotText number field)) sent other = sent.1
@@ -138,7 +138,7 @@ module _ (all : Regrouped) (a b d e : Option (List ℕ)) where
   untold_prefix (Err Flush) sent failed = absurd (cc)
   untold_prefix (Err TooMany) sent failed = absurd (cc)
   untold_prefix (Err (TooLong number max_line_len)) sent failed = absurd (cc)
-  untold_prefix (Err (FewFields number)) sent failed = absurd (cc)
+  untold_prefix (Err (FewFields number count)) sent failed = absurd (cc)
   untold_prefix (Err Read) sent failed = absurd (cc)
   untold_prefix (Err (NotText number)) sent failed = absurd (cc)
   untold_prefix (Err (FieldNotText number field)) sent failed = absurd (cc)

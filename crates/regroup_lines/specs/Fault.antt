@@ -2,15 +2,17 @@
 use Rattle.std.specs.Prelude.{ℕ, Bool, true, false, List, [], ◌∷◌, ◌++◌, codes}
 use Rattle.std.specs.Fmt.{decimal}
 use Rattle.num_format.specs.Refusal.{Refusal, message_of, refusal_of}
+use Rattle.regroup_lines.specs.declared.fault.FieldCount.{FieldCount}
 use Rattle.regroup_lines.specs.declared.fault.RegroupFault.{RegroupFault}
 use Rattle.regroup_lines.specs.declared.fault.RegroupFault.TheVariants as fault
 
--- a fault, with the number of its line, and of its field where a text in a chosen field is at fault; of a line that is too long, with how many bytes it may have;
+-- a fault, with the number of its line, and of its field where a text in a chosen field is at fault; of a line that is too long, with how many bytes it may have, and of
+-- one with too few fields with how many it has;
 -- an error is what clauses see of it
 pub data Fault : Type 0 where
   TooMany : Fault
   TooLong : ℕ → ℕ → Fault
-  FewFields : ℕ → Fault
+  FewFields : ℕ → FieldCount → Fault
   Read : Fault
   NotText : ℕ → Fault
   FieldNotText : ℕ → ℕ → Fault
@@ -25,7 +27,7 @@ pub data Fault : Type 0 where
 abbrev pub fault_of : RegroupFault → Fault
 fault_of fault.TooMany = TooMany
 fault_of (fault.TooLong number max_line_len) = TooLong number max_line_len
-fault_of (fault.FewFields number) = FewFields number
+fault_of (fault.FewFields number count) = FewFields number count
 fault_of fault.Read = Read
 fault_of (fault.NotText number) = NotText number
 fault_of (fault.FieldNotText number field) = FieldNotText number field
@@ -65,7 +67,7 @@ long_text max_line_len = codes "More than " ++ (decimal max_line_len ++ codes " 
 abbrev pub message_of_fault : Fault → List ℕ
 message_of_fault TooMany = codes "The input has more lines than are allowed."
 message_of_fault (TooLong number max_line_len) = line_prefix number ++ long_text max_line_len
-message_of_fault (FewFields number) = line_prefix number ++ codes "Too few fields."
+message_of_fault (FewFields number count) = line_prefix number ++ codes "Too few fields."
 message_of_fault Read = codes "Failed to read."
 message_of_fault (NotText number) = line_prefix number ++ codes "Not UTF-8."
 message_of_fault (FieldNotText number field) = line_prefix number ++ codes "Not UTF-8."

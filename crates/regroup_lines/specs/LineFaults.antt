@@ -16,6 +16,6 @@ text_fault number text = if is_utf8 text then Line number (ParseNumber (cut_text
 abbrev pub line_fault_of : LineFault → Fault
 line_fault_of (fault.NotANumber number text) = text_fault number text.now
 line_fault_of (fault.NotAField number field text) = in_field field (text_fault number text.now)
-line_fault_of (fault.FewFields number) = FewFields number
+line_fault_of (fault.FewFields number count) = FewFields number count
 line_fault_of fault.Write = Write
 line_fault_of fault.Report = Report

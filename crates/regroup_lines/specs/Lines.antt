@@ -16,7 +16,7 @@ use Rattle.regroup_lines.specs.Decimals.{decimal_read}
 use Rattle.regroup_lines.specs.Fault.{Fault, in_field}
 use Rattle.regroup_lines.specs.Fault.Fault.{TooMany, TooLong, FewFields, Flush, Read, NotText, Line, Unclosed}
 use Rattle.regroup_lines.specs.LineFaults.{text_fault}
-use Rattle.regroup_lines.specs.Places.{are_enough, is_chosen, trimmed}
+use Rattle.regroup_lines.specs.Places.{are_enough, field_count, is_chosen, trimmed}
 use Rattle.regroup_lines.specs.declared.rules.FieldRange.{FieldRange}
 use Rattle.regroup_lines.specs.declared.rules.Fields.{Fields}
 use Rattle.regroup_lines.specs.declared.rules.Invalid.{Invalid}
@@ -94,16 +94,17 @@ with_first (Ok text) (Err fault) = Err fault
 with_first (Err fault) texts = Err fault
 
 -- the fields of a line that so many others are before, or the first fault; where they end, the line may have too few
-abbrev pub fields_written : Rules → List FieldRange → FormatData → FormatData → ℕ → (before : ℕ) → List (List ℕ) → Result (List (List ℕ)) Fault
-fields_written rules list from to number before [] = if are_enough list before then Ok [] else Err (FewFields number)
-fields_written rules list from to number before (field ∷ fields) =
-    with_first (field_written rules from to number (before + 1) (is_chosen list (before + 1)) field) (fields_written rules list from to number (before + 1) fields)
+abbrev pub fields_written : Rules → (delimiter : ℕ) → List FieldRange → FormatData → FormatData → ℕ → (before : ℕ) → List (List ℕ) → Result (List (List ℕ)) Fault
+fields_written rules delimiter list from to number before [] =
+    if are_enough list before then Ok [] else Err (FewFields number (field_count delimiter list before))
+fields_written rules delimiter list from to number before (field ∷ fields) =
+    with_first (field_written rules from to number (before + 1) (is_chosen list (before + 1)) field) (fields_written rules delimiter list from to number (before + 1) fields)
 
 -- a line split at the delimiter, with the number in each chosen field replaced, and joined again
 abbrev pub fields_replaced : Fields → Rules → FormatData → FormatData → ℕ → List ℕ → Result (List ℕ) Fault
 fields_replaced fields rules from to number text =
     result_map_both (join_with_byte fields.delimiter) (λ fault. fault)
-    (fields_written rules fields.list.now from to number 0 (slice_split (λ b. b == fields.delimiter) text))
+    (fields_written rules fields.delimiter fields.list.now from to number 0 (slice_split (λ b. b == fields.delimiter) text))
 
 -- the text that is written in place of that of a number, or the fault of that text: no number has a quote
 abbrev pub csv_number : Rules → FormatData → FormatData → ℕ → List ℕ → Result (Option (List ℕ)) Fault
@@ -126,7 +127,8 @@ csv_field_written rules delimiter from to number n chosen field =
 -- the fields of a line that so many others of the record are before, or the first fault: the rest of a field that an earlier line began is
 -- passed on, and where the record ends, it may have too few
 abbrev pub csv_written : Rules → (delimiter : ℕ) → List FieldRange → FormatData → FormatData → ℕ → (before : ℕ) → (inside : Bool) → List (List ℕ) → Result (List (List ℕ)) Fault
-csv_written rules delimiter list from to number before inside [] = if inside || are_enough list before then Ok [] else Err (FewFields number)
+csv_written rules delimiter list from to number before inside [] =
+    if inside || are_enough list before then Ok [] else Err (FewFields number (field_count delimiter list before))
 csv_written rules delimiter list from to number before inside (field ∷ fields) =
     with_first (csv_field_written rules delimiter from to number (next_number before) (is_chosen list (next_number before) && not inside) field)
     (csv_written rules delimiter list from to number (next_number before) (is_inside_after inside field) fields)

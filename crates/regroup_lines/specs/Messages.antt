@@ -1,7 +1,7 @@
 -- The messages that name faults.
-use Rattle.std.specs.Prelude.{ℕ, ◌+◌, ◌-◌, nat_le, ℤ, if◌then◌else◌, List, [], ◌∷◌, ◌++◌, length, codes, Option, None, Some, Result, Ok, Err}
-use Rattle.std.specs.Fmt.{decimal, signed_decimal}
-use Rattle.std.specs.List.{flat_map, list_any}
+use Rattle.std.specs.Prelude.{ℕ, ◌+◌, ◌-◌, if◌then◌else◌, List, [], ◌∷◌, ◌++◌, length, codes, Option, None, Some}
+use Rattle.std.specs.Fmt.{decimal}
+use Rattle.std.specs.List.{flat_map}
 use Rattle.num_format.specs.Format.{FormatData}
 use Rattle.num_format.specs.Refusal.{Refusal, Capacity, Other, ParseLocale, ParseNumber}
 use Rattle.num_format_decimal.specs.Parsing.{unexpected_in_decimal}
@@ -9,13 +9,11 @@ use Rattle.num_format_decimal.specs.declared.decimal.TheConstants.{MAX_SCALE}
 use Rattle.num_format_decimal.specs.declared.parsing.ParseDecimalError.{ParseDecimalError}
 use Rattle.num_format_decimal.specs.declared.parsing.ParseDecimalError.TheVariants.{Unexpected}
 use Rattle.regroup_lines.specs.Quoting.{quoted, shown}
-use Rattle.num_format.specs.Readable.{number_read}
 use Rattle.regroup_lines.specs.Ended.{line}
-use Rattle.regroup_lines.specs.declared.quoting.TheConstants.{MAX_SHOWN_LEN}
-use Rattle.regroup_lines.specs.Csv.{is_quote}
 use Rattle.regroup_lines.specs.Decimals.{marks_decimals, scale_below}
 use Rattle.regroup_lines.specs.Fault.{Fault}
 use Rattle.regroup_lines.specs.Fault.Fault.{TooMany, TooLong, FewFields, Read, NotText, FieldNotText, Line, Field, Unclosed, Write, Report, Flush}
+use Rattle.regroup_lines.specs.declared.fault.FieldCount.{FieldCount}
 use Rattle.regroup_lines.specs.declared.rules.Reading.{Reading}
 use Rattle.regroup_lines.specs.declared.rules.Reading.TheVariants.{Lenient, Strict}
 
@@ -69,25 +67,14 @@ line_message name number text = line (codes "regroup-lines: " ++ (shown_name nam
 abbrev pub field_message : (name : List ℕ) → ℕ → ℕ → List ℕ → List ℕ
 field_message name number field text = line_message name number (codes "field " ++ (decimal field ++ (codes ": " ++ text)))
 
--- what is said of a number that lenient reading returns
-abbrev pub read_text : Result ℤ Refusal → List ℕ
-read_text (Ok value) = codes "; --lenient reads " ++ signed_decimal value
-read_text (Err refusal) = []
+-- what is said of a text that is not a number
+abbrev pub refused_text : Reading → FormatData → List ℕ → List ℕ
+refused_text reading from text = quoted text ++ (codes ": not a number" ++ byte_text (before_fault reading from text))
 
--- which number lenient reading would return of a text that strict reading refuses, if it returns one and all of the text is shown
-abbrev pub lenient_text : Reading → FormatData → List ℕ → List ℕ
-lenient_text Strict from text = if nat_le (length text) MAX_SHOWN_LEN then read_text (number_read from text) else []
-lenient_text Lenient from text = []
-
--- the same of the text of a field, unless a byte of it is a quote: in a record of RFC 4180 lenient reading refuses it too, and a message
--- does not know whether the field is of one
-abbrev pub lenient_field_text : Reading → FormatData → List ℕ → List ℕ
-lenient_field_text reading from text = if list_any is_quote text then [] else lenient_text reading from text
-
--- what is said of a text that is not a number, and after it what is said of lenient reading
-abbrev pub refused_text : Reading → FormatData → (lenient text : List ℕ) → List ℕ
-refused_text reading from lenient text =
-    quoted text ++ (codes ": not a number" ++ (byte_text (before_fault reading from text) ++ lenient))
+-- what is said of a line with too few fields
+abbrev pub few_text : FieldCount → List ℕ
+few_text count =
+    codes "too few fields: " ++ (decimal count.found ++ (codes " of " ++ (decimal count.wanted ++ (codes ", separated by " ++ quoted (count.delimiter ∷ [])))))
 
 -- what is said of a line that may have this many bytes and has more
 abbrev pub long_cause : (max_line_len : ℕ) → List ℕ
@@ -96,11 +83,11 @@ long_cause max_line_len = codes "more than " ++ (decimal max_line_len ++ codes "
 -- the message that names the fault of a line, in an input of this name that is read under the format; other faults have none
 abbrev pub fault_message : (name : List ℕ) → Reading → FormatData → Fault → List ℕ
 fault_message name reading from (TooLong number max_line_len) = line_message name number (long_cause max_line_len)
-fault_message name reading from (FewFields number) = line_message name number (codes "too few fields")
+fault_message name reading from (FewFields number count) = line_message name number (few_text count)
 fault_message name reading from (NotText number) = line_message name number (codes "not UTF-8")
 fault_message name reading from (FieldNotText number field) = field_message name number field (codes "not UTF-8")
-fault_message name reading from (Line number refusal) = line_message name number (refused_text reading from (lenient_text reading from (kept_in refusal)) (kept_in refusal))
-fault_message name reading from (Field number field refusal) = field_message name number field (refused_text reading from (lenient_field_text reading from (kept_in refusal)) (kept_in refusal))
+fault_message name reading from (Line number refusal) = line_message name number (refused_text reading from (kept_in refusal))
+fault_message name reading from (Field number field refusal) = field_message name number field (refused_text reading from (kept_in refusal))
 fault_message name reading from (Unclosed number) = line_message name number (codes "unclosed quote")
 fault_message name reading from TooMany = []
 fault_message name reading from Read = []

@@ -1,9 +1,10 @@
 -- Where the number is in a text, and which fields of a line have one. A place is from the first of two numbers on and before the second.
-use Rattle.std.specs.Prelude.{ℕ, zero, suc, ◌+◌, ◌-◌, nat_le, Bool, true, ◌&&◌, List, [], ◌∷◌, length, slice_range, Option, None, Some}
+use Rattle.std.specs.Prelude.{ℕ, zero, suc, ◌+◌, ◌-◌, max, nat_le, Bool, true, ◌&&◌, List, [], ◌∷◌, length, slice_range, Option, None, Some}
 use Rattle.std.specs.Char.{is_ascii_whitespace}
-use Rattle.std.specs.List.{list_all, list_any, prefix_len, suffix_len}
+use Rattle.std.specs.List.{fold, list_all, list_any, prefix_len, suffix_len}
 use Rattle.std.specs.Option.{unwrap_or}
 use Rattle.std.specs.declared.ops.Range.{Range}
+use Rattle.regroup_lines.specs.declared.fault.FieldCount.{FieldCount}
 use Rattle.regroup_lines.specs.declared.rules.FieldRange.{FieldRange}
 
 -- a place as clauses compare it
@@ -25,9 +26,13 @@ is_at_most n (Some last) = nat_le n last
 abbrev pub is_in_range : ℕ → FieldRange → Bool
 is_in_range n range = nat_le range.first n && is_at_most n range.last
 
--- whether a line of so many fields has the last one of the range, or else the first one
+-- how many fields a line has to have for a range: as many as the number of its last one, or else of its first one
+abbrev pub wanted_of : FieldRange → ℕ
+wanted_of range = unwrap_or range.last range.first
+
+-- whether a line of so many fields has them
 abbrev pub is_enough : ℕ → FieldRange → Bool
-is_enough count range = nat_le (unwrap_or range.last range.first) count
+is_enough count range = nat_le (wanted_of range) count
 
 -- whether the field of this number is chosen
 abbrev pub is_chosen : List FieldRange → ℕ → Bool
@@ -40,6 +45,14 @@ is_chosen_from list n = list_any (λ range. is_at_most n range.last) list
 -- whether a line of so many fields has all that are wanted of it
 abbrev pub are_enough : List FieldRange → ℕ → Bool
 are_enough list count = list_all (is_enough count) list
+
+-- how many fields a line has to have
+abbrev pub wanted : List FieldRange → ℕ
+wanted list = fold (λ most range. max most (wanted_of range)) 0 list
+
+-- what is counted of a line of so many fields, with this byte between two
+abbrev pub field_count : (delimiter : ℕ) → List FieldRange → ℕ → FieldCount
+field_count delimiter list found = record { found = found; wanted = wanted list; delimiter = delimiter }
 
 -- where the field is that so many others are before, if the first of the fields begins at this place and one byte is between two
 unfoldable pub field_place : (start : ℕ) → List (List ℕ) → (before : ℕ) → Option (ℕ × ℕ)

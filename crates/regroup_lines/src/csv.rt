@@ -284,13 +284,13 @@ fn check_count(
     count: u64,
     number: u64,
 ) -> Result<(), LineFault<'static>>
-    ensures { (rules : Rules) (delimiter : ℕ) (from to : FormatData) → result_map_both (λ done. done) line_fault_of result
-        ≡ checked (csv_written rules delimiter fields.now.list.now from to number count is_open []) }
+    ensures { (rules : Rules) (from to : FormatData) → result_map_both (λ done. done) line_fault_of result
+        ≡ checked (csv_written rules fields.now.delimiter fields.now.list.now from to number count is_open []) }
 {
     if is_open || fields.are_enough(count) {
         Ok(())
     } else {
-        Err(LineFault::FewFields(number))
+        Err(LineFault::FewFields(number, fields.counted(count)))
     }
 }
 
@@ -417,7 +417,7 @@ fn read_number<'a, F: Format>(
 }
 
 /// Returns whether a byte is a quote.
-pub(crate) fn has_quote(text: &[u8]) -> bool
+fn has_quote(text: &[u8]) -> bool
     ensures { result ≡ list_any is_quote text.now }
 {
     text.iter().any(|byte| *byte == QUOTE)

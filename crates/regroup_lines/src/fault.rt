@@ -20,7 +20,7 @@ pub enum RegroupFault {
     /// The line of the first number has more bytes than the second number.
     TooLong(u64, u32),
     /// The line of this number has too few fields, or the record that ends in it.
-    FewFields(u64),
+    FewFields(u64, FieldCount),
     /// A read failed, also one that was interrupted.
     Read,
     /// The line of this number is not UTF-8.
@@ -41,6 +41,17 @@ pub enum RegroupFault {
     Flush,
 }
 
+/// How many fields a line has that has too few.
+#[derive(Clone, Copy, Debug, PartialEq, Eq)]
+pub struct FieldCount {
+    /// How many there are.
+    pub found: u64,
+    /// How many are wanted.
+    pub wanted: u64,
+    /// The byte between two of them.
+    pub delimiter: u8,
+}
+
 impl RegroupFault {
     /// Returns the message, which needs no memory and cannot fail.
     ///
@@ -55,7 +66,7 @@ impl RegroupFault {
             RegroupFault::TooLong(number, max_line_len) => {
                 line_message(*number, long_text(*max_line_len).as_str())
             }
-            RegroupFault::FewFields(number) => line_message(*number, "Too few fields."),
+            RegroupFault::FewFields(number, _) => line_message(*number, "Too few fields."),
             RegroupFault::Read => whole_message("Failed to read."),
             RegroupFault::NotText(number) | RegroupFault::FieldNotText(number, _) => {
                 line_message(*number, "Not UTF-8.")

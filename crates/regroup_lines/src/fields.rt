@@ -44,7 +44,7 @@ pub(crate) fn regroup_fields<'a, W: Write, F: Format, G: Format>(
                     Err(fault) => Err(fault.in_field(field)),
                 }
             }
-            None => Err(LineFault::FewFields(number)),
+            None => regroup_each(rules, fields, text, number, w, from, to),
         },
         None => regroup_each(rules, fields, text, number, w, from, to),
     }
@@ -98,7 +98,7 @@ fn check_fields<'a, F: Format>(
     from: &F,
 ) -> Result<(), LineFault<'a>>
     ensures { (to : FormatData) → result_map_both (λ done. done) line_fault_of result
-        ≡ checked (fields_written rules.now fields.now.list.now (F.answers from.now) to number 0
+        ≡ checked (fields_written rules.now fields.now.delimiter fields.now.list.now (F.answers from.now) to number 0
         (slice_split (λ b. b == fields.now.delimiter) text.now)) }
 {
     let mut start = 0;
@@ -196,12 +196,12 @@ fn check_field<'a, F: Format>(
 /// Returns the fault of a line of so many fields, if it has too few.
 fn check_count(fields: &Fields, count: u64, number: u64) -> Result<(), LineFault<'static>>
     ensures { (rules : Rules) (from to : FormatData) → result_map_both (λ done. done) line_fault_of result
-        ≡ checked (fields_written rules fields.now.list.now from to number count []) }
+        ≡ checked (fields_written rules fields.now.delimiter fields.now.list.now from to number count []) }
 {
     if fields.are_enough(count) {
         Ok(())
     } else {
-        Err(LineFault::FewFields(number))
+        Err(LineFault::FewFields(number, fields.counted(count)))
     }
 }
 

@@ -45,7 +45,7 @@ ghost use Rattle.regroup_lines.specs.declared.rules.Span.TheVariants.{Trimmed};
 ghost use Rattle.regroup_lines.specs.Sending.{EndsInput, Names, Regroups, RegroupsNaming, SendsLine, SendsTold};
 
 use crate::csv::regroup_csv;
-pub use crate::fault::RegroupFault;
+pub use crate::fault::{FieldCount, RegroupFault};
 use crate::fields::{regroup_fields, send_bytes};
 use crate::input::{Input, Piece};
 use crate::line_fault::LineFault;

@@ -5,7 +5,7 @@ ghost use Rattle.num_format.specs.Refusal.{ParseNumber, refusal_of};
 ghost use Rattle.regroup_lines.specs.Fault.{fault_of, in_field};
 ghost use Rattle.regroup_lines.specs.LineFaults.{line_fault_of, text_fault};
 
-use crate::fault::RegroupFault;
+use crate::fault::{FieldCount, RegroupFault};
 use num_format::error::cut;
 use num_format::{Error, ErrorKind};
 use std::str;
@@ -18,7 +18,7 @@ pub(crate) enum LineFault<'a> {
     /// This text is not a number: in the line of the first number, the field of the second.
     NotAField(u64, u64, &'a [u8]),
     /// The line of this number has too few fields.
-    FewFields(u64),
+    FewFields(u64, FieldCount),
     /// A write failed.
     Write,
     /// A write of a message that names a fault failed.
@@ -35,7 +35,7 @@ impl<'a> LineFault<'a> {
         match self {
             LineFault::NotANumber(number, text) => LineFault::NotAField(number, field, text),
             LineFault::NotAField(..)
-            | LineFault::FewFields(_)
+            | LineFault::FewFields(..)
             | LineFault::Write
             | LineFault::Report => self,
         }
@@ -53,7 +53,7 @@ impl<'a> From<LineFault<'a>> for RegroupFault {
         match fault {
             LineFault::NotANumber(number, text) => text_fault(number, text),
             LineFault::NotAField(number, field, text) => field_fault(number, field, text),
-            LineFault::FewFields(number) => RegroupFault::FewFields(number),
+            LineFault::FewFields(number, count) => RegroupFault::FewFields(number, count),
             LineFault::Write => RegroupFault::Write,
             LineFault::Report => RegroupFault::Report,
         }

@@ -1,18 +1,14 @@
 //! The messages that name faults.
 ghost use Rattle.std.specs.Prelude.{◌≡◌, ◌≤◌, length};
-ghost use Rattle.std.specs.Result.{result_map_both};
 ghost use Rattle.num_format.specs.Refusal.{refusal_of};
-ghost use Rattle.num_format.specs.Readable.{number_read};
 ghost use Rattle.regroup_lines.specs.Fault.{fault_of};
-ghost use Rattle.regroup_lines.specs.Messages.{before_fault, before_in, byte_text, fault_message, field_message, kept_in, lenient_field_text, lenient_text, line_message, long_cause, read_text, refused_text};
+ghost use Rattle.regroup_lines.specs.Messages.{before_fault, before_in, byte_text, fault_message, few_text, field_message, kept_in, line_message, long_cause, refused_text};
 
-use crate::csv::has_quote;
-use crate::fault::RegroupFault;
-use crate::quoting::{MAX_QUOTED_LEN, MAX_SHOWN_LEN, quoted, shown};
+use crate::fault::{FieldCount, RegroupFault};
+use crate::quoting::{MAX_QUOTED_LEN, quoted, shown};
 use crate::rules::Reading;
 use arrayvec::ArrayString;
 use num_format::laws::format_data;
-use num_format::parsing::ParseFormatted;
 use num_format::{Error, ErrorKind, Format};
 use num_format_decimal::{Decimal, ParseDecimalError};
 
@@ -25,17 +21,17 @@ const MAX_LONG_CAUSE_LEN: usize = 40;
 /// The most bytes of ` at byte ` and a number.
 const MAX_BYTE_TEXT_LEN: usize = 50;
 
-/// The most bytes of `; --lenient reads ` and a number.
-const MAX_LENIENT_TEXT_LEN: usize = 60;
-
 /// The most bytes of `: not a number` and what follows it.
-const MAX_CAUSE_LEN: usize = 14 + MAX_BYTE_TEXT_LEN + MAX_LENIENT_TEXT_LEN;
+const MAX_CAUSE_LEN: usize = 14 + MAX_BYTE_TEXT_LEN;
 
 /// The most bytes of what is said of a text that is not a number.
 const MAX_REFUSED_TEXT_LEN: usize = MAX_QUOTED_LEN + MAX_CAUSE_LEN;
 
 /// The most bytes of `field `, a number and `: `.
 const MAX_FIELD_PREFIX_LEN: usize = 30;
+
+/// The most bytes of what is said of a line with too few fields.
+const MAX_FEW_TEXT_LEN: usize = MAX_QUOTED_LEN + 80;
 
 /// The most bytes of what is said of a line.
 const MAX_LINE_TEXT_LEN: usize = MAX_FIELD_PREFIX_LEN + MAX_REFUSED_TEXT_LEN;
@@ -65,21 +61,21 @@ pub fn fault_message<F: Format>(
         RegroupFault::TooLong(number, max_line_len) => {
             line_message(name, *number, long_cause(*max_line_len).as_str())
         }
-        RegroupFault::FewFields(number) => line_message(name, *number, "too few fields"),
+        RegroupFault::FewFields(number, count) => {
+            line_message(name, *number, few_text(*count).as_str())
+        }
         RegroupFault::NotText(number) => line_message(name, *number, "not UTF-8"),
         RegroupFault::FieldNotText(number, field) => {
             field_message(name, *number, *field, "not UTF-8")
         }
         RegroupFault::Line(number, error) => {
             let text = kept_in(error);
-            let lenient = lenient_text(reading, text, from);
-            let refused = refused_text(reading, text, lenient.as_str(), from);
+            let refused = refused_text(reading, text, from);
             line_message(name, *number, refused.as_str())
         }
         RegroupFault::Field(number, field, error) => {
             let text = kept_in(error);
-            let lenient = lenient_field_text(reading, text, from);
-            let refused = refused_text(reading, text, lenient.as_str(), from);
+            let refused = refused_text(reading, text, from);
             field_message(name, *number, *field, refused.as_str())
         }
         RegroupFault::Unclosed(number) => line_message(name, *number, "unclosed quote"),
@@ -101,6 +97,21 @@ fn long_cause(max_line_len: u32) -> ArrayString<MAX_LONG_CAUSE_LEN>
     cause.push_str(digits.format(max_line_len));
     cause.push_str(" bytes");
     cause
+}
+
+/// Returns what is said of a line with too few fields.
+fn few_text(count: FieldCount) -> ArrayString<MAX_FEW_TEXT_LEN>
+    ensures { result.bytes ≡ few_text count }
+{
+    let mut digits = itoa::Buffer::new();
+    let mut text = ArrayString::new();
+    text.push_str("too few fields: ");
+    text.push_str(digits.format(count.found));
+    text.push_str(" of ");
+    text.push_str(digits.format(count.wanted));
+    text.push_str(", separated by ");
+    text.push_str(quoted(&[count.delimiter]).as_str());
+    text
 }
 
 /// Returns a message with the name of the input and the number of a line before the text.
@@ -139,77 +150,19 @@ fn field_message(
     line_message(name, number, message.as_str())
 }
 
-/// Returns what is said of a text that is not a number, and after it what is said of lenient reading.
+/// Returns what is said of a text that is not a number.
 fn refused_text<F: Format>(
     reading: Reading,
     text: &str,
-    lenient: &str,
     from: &F,
 ) -> ArrayString<MAX_REFUSED_TEXT_LEN>
-    requires { length lenient.now ≤ MAX_LENIENT_TEXT_LEN }
-    ensures { result.bytes ≡ refused_text reading (F.answers from.now) lenient.now text.now }
+    ensures { result.bytes ≡ refused_text reading (F.answers from.now) text.now }
 {
     let mut message = ArrayString::new();
     message.push_str(quoted(text.as_bytes()).as_str());
     message.push_str(": not a number");
     message.push_str(byte_text(before_fault(reading, text, from)).as_str());
-    message.push_str(lenient);
     message
-}
-
-/// Returns which number lenient reading would return of a text that strict reading refuses, if it returns one and all of
-/// the text is shown.
-fn lenient_text<F: Format>(
-    reading: Reading,
-    text: &str,
-    from: &F,
-) -> ArrayString<MAX_LENIENT_TEXT_LEN>
-    ensures { result.bytes ≡ lenient_text reading (F.answers from.now) text.now }
-{
-    match reading {
-        Reading::Strict if text.len() <= MAX_SHOWN_LEN => read_text(number_read(text, from)),
-        Reading::Strict | Reading::Lenient => ArrayString::new(),
-    }
-}
-
-/// Returns the same of the text of a field, unless a byte of it is a quote. In a record of RFC 4180 lenient reading refuses
-/// it too, and a message does not know whether the field is of one.
-fn lenient_field_text<F: Format>(
-    reading: Reading,
-    text: &str,
-    from: &F,
-) -> ArrayString<MAX_LENIENT_TEXT_LEN>
-    ensures { result.bytes ≡ lenient_field_text reading (F.answers from.now) text.now }
-{
-    if has_quote(text.as_bytes()) {
-        return ArrayString::new();
-    }
-    lenient_text(reading, text, from)
-}
-
-/// Returns the text of a number that lenient reading returned.
-fn read_text(read: Result<i128, Error>) -> ArrayString<MAX_LENIENT_TEXT_LEN>
-    ensures { result.bytes ≡ read_text (result_map_both (λ number. number) refusal_of read) }
-{
-    let mut text = ArrayString::new();
-    if let Ok(number) = read {
-        let mut digits = itoa::Buffer::new();
-        text.push_str("; --lenient reads ");
-        text.push_str(digits.format(number));
-    }
-    text
-}
-
-/// Returns the number that lenient reading returns of a text.
-///
-/// # Errors
-///
-/// Returns an error if the text does not parse as an `i128`.
-#[tactic(auto, using(num_format::proofs::ReadableLemmas::number_read_from_parse))]
-fn number_read<F: Format>(text: &str, from: &F) -> Result<i128, Error>
-    ensures { result_map_both (λ number. number) refusal_of result ≡ number_read (F.answers from.now) text.now }
-{
-    text.parse_formatted(from)
 }
 
 /// Returns which byte it is that so many others are before, counted from 1.

@@ -3,8 +3,9 @@ ghost use Rattle.std.specs.Prelude.{◌≡◌, ◌<◌, ◌≤◌, [], ◌∷◌
 ghost use Rattle.regroup_lines.specs.Ended.{ended_by};
 ghost use Rattle.regroup_lines.specs.Lines.{is_inside, passes, passes_mark, span_after};
 ghost use Rattle.regroup_lines.specs.Lists.{one_field};
-ghost use Rattle.regroup_lines.specs.Places.{are_enough, is_at_most, is_chosen, is_chosen_from, is_enough, is_in_range, place_of, trimmed};
+ghost use Rattle.regroup_lines.specs.Places.{are_enough, field_count, is_at_most, is_chosen, is_chosen_from, is_enough, is_in_range, place_of, trimmed, wanted, wanted_of};
 
+use crate::fault::FieldCount;
 use std::ops::Range;
 
 /// The bytes of a byte order mark, the character U+FEFF.
@@ -196,7 +197,14 @@ impl FieldRange {
     fn is_enough(&self, count: u64) -> bool
         ensures { result ≡ is_enough count self.now }
     {
-        self.last.unwrap_or(self.first) <= count
+        self.wanted() <= count
+    }
+
+    /// Returns how many fields a line has to have for it.
+    fn wanted(&self) -> u64
+        ensures { result ≡ wanted_of self.now }
+    {
+        self.last.unwrap_or(self.first)
     }
 }
 
@@ -235,6 +243,27 @@ impl Fields<'_> {
         ensures { result ≡ are_enough self.now.list.now count }
     {
         self.list.iter().all(|range| range.is_enough(count))
+    }
+
+    /// Returns what is counted of a line that has this many fields.
+    #[cold]
+    pub(crate) fn counted(&self, found: u64) -> FieldCount
+        ensures { result ≡ field_count self.now.delimiter self.now.list.now found }
+    {
+        FieldCount {
+            found,
+            wanted: self.wanted(),
+            delimiter: self.delimiter,
+        }
+    }
+
+    /// Returns how many fields are wanted of a line.
+    fn wanted(&self) -> u64
+        ensures { result ≡ wanted self.now.list.now }
+    {
+        self.list
+            .iter()
+            .fold(0, |most, range| most.max(range.wanted()))
     }
 }
 

@@ -47,7 +47,7 @@ module _ (rules : Rules) (name : List ℕ) (from to : FormatData) (q r s a b c d
   Sends-kept all told (Err Flush) sends = (sends.0, Appends-kept a b c _ sends.1 kept, sends.2)
   Sends-kept all told (Err TooMany) sends = (sends.0, Appends-kept a b c _ sends.1 kept, sends.2)
   Sends-kept all told (Err (TooLong number max_line_len)) sends = (sends.0, Appends-kept a b c _ sends.1 kept, sends.2)
-  Sends-kept all told (Err (FewFields number)) sends = (sends.0, Appends-kept a b c _ sends.1 kept, sends.2)
+  Sends-kept all told (Err (FewFields number count)) sends = (sends.0, Appends-kept a b c _ sends.1 kept, sends.2)
   Sends-kept all told (Err Read) sends = (sends.0, Appends-kept a b c _ sends.1 kept, sends.2)
   Sends-kept all told (Err (NotText number)) sends = (sends.0, Appends-kept a b c _ sends.1 kept, sends.2)
   Sends-kept all told (Err (FieldNotText number field)) sends = (sends.0, Appends-kept a b c _ sends.1 kept, sends.2)
@@ -81,7 +81,7 @@ module _ (rules : Rules) (name : List ℕ) (from to : FormatData) (q r s a b c d
 pub of_line : (f : RegroupFault) → f ≢ fault.Read → f ≢ fault.Write → f ≢ fault.Flush → f ≢ fault.Report → f ≢ fault.TooMany → is_of_line (fault_of f) ≡ true
 of_line fault.TooMany read write flush report many = absurd (many refl)
 of_line (fault.TooLong number max_line_len) read write flush report many = refl
-of_line (fault.FewFields number) read write flush report many = refl
+of_line (fault.FewFields number count) read write flush report many = refl
 of_line fault.Read read write flush report many = absurd (read refl)
 of_line (fault.NotText number) read write flush report many = refl
 of_line (fault.FieldNotText number field) read write flush report many = refl

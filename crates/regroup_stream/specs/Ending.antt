@@ -13,7 +13,7 @@ use Rattle.regroup_stream.specs.declared.ending.Ending.TheVariants as ending
 
 -- how a run ends: each line was regrouped or passed on, and messages may have named faults for which the input is at fault; a line is at
 -- fault, which a message names; a read or a write failed, for this reason if it is known, or that of a message; there are more lines than
--- are counted, or the input cannot be opened
+-- are counted, or the input cannot be opened, or is the output
 pub data End : Type 0 where
   Regrouped : End
   Named : End
@@ -23,6 +23,7 @@ pub data End : Type 0 where
   WriteFailed : Option ErrorKind → End
   TooManyLines : End
   Unopened : ErrorKind → End
+  IsOutput : End
 
 -- the `End` of an `Ending`
 abbrev pub end_of : Ending → End
@@ -34,6 +35,7 @@ end_of (ending.ReadFailed kind) = ReadFailed kind
 end_of (ending.WriteFailed kind) = WriteFailed kind
 end_of ending.TooManyLines = TooManyLines
 end_of (ending.Unopened kind) = Unopened kind
+end_of ending.IsOutput = IsOutput
 
 -- how a run ends where each line was regrouped or passed on, by whether messages named faults
 abbrev pub end_of_lines : Invalid → (has_faults : Bool) → End
@@ -54,6 +56,7 @@ status_of (WriteFailed kind) = 3
 status_of (ReadFailed kind) = 3
 status_of TooManyLines = 3
 status_of (Unopened kind) = 1
+status_of IsOutput = 1
 
 -- what a message says of the kind of an error
 abbrev pub reason_of : ErrorKind → List ℕ
@@ -97,6 +100,7 @@ message_of_end name (WriteFailed kind) = failure_message [] (codes "write error"
 message_of_end name (ReadFailed kind) = failure_message name (codes ": read error") kind
 message_of_end name TooManyLines = failure_message name (codes ": too many lines") None
 message_of_end name (Unopened kind) = failure_message name (codes ": cannot open") (Some kind)
+message_of_end name IsOutput = failure_message name (codes ": input file is output file") None
 
 -- standard error received the message and the status is that of the end, or not all of the message could be sent and it is 3
 abbrev pub Finishes : (name : List ℕ) → End → ℕ → (err_old err_new : Option (List ℕ)) → Type 0

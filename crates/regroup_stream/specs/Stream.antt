@@ -19,7 +19,7 @@ most_lines = 2 ^ 64 - 1
 abbrev pub is_of_line : Fault → Bool
 is_of_line TooMany = false
 is_of_line (TooLong number max_line_len) = true
-is_of_line (FewFields number) = true
+is_of_line (FewFields number count) = true
 is_of_line Read = false
 is_of_line (NotText number) = true
 is_of_line (FieldNotText number field) = true

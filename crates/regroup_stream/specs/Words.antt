@@ -1,5 +1,5 @@
 -- The formats that words and files name, and what is wrong with those that name none.
-use Rattle.std.specs.Prelude.{◌≡◌, ◌⊎◌, ℕ, ◌==◌, Bool, true, false, if◌then◌else◌, nat_eq, List, [], ◌∷◌, ◌++◌, drop, codes, Option, None, Some, option_and_then, Result, Ok, Err, ⊤}
+use Rattle.std.specs.Prelude.{◌≡◌, ◌⊎◌, ℕ, ◌==◌, Bool, true, false, if◌then◌else◌, nat_eq, List, [], ◌∷◌, ◌++◌, length, drop, codes, Option, None, Some, option_and_then, Result, Ok, Err, ⊤}
 use Rattle.std.specs.List.{starts_with}
 use Rattle.std.specs.Io.KnownBytes.{Appends}
 use Rattle.std.specs.Option.{option_map}
@@ -8,6 +8,8 @@ use Rattle.std.specs.Str.{bytes_eq}
 use Rattle.std.specs.declared.io.ErrorKind.{ErrorKind}
 use Rattle.num_format.specs.Data.{locale_data}
 use Rattle.num_format.specs.Format.{FormatData}
+use Rattle.num_format.specs.Grouped.{printed_separator}
+use Rattle.num_format.specs.Grouping.{Grouping}
 use Rattle.num_format.specs.Grouping.TheVariants.{Posix}
 use Rattle.num_format.specs.GroupingNames.{grouping_named}
 use Rattle.num_format.specs.Lookup.{LooksUpTag}
@@ -15,11 +17,15 @@ use Rattle.num_format.specs.Writing.{StopsWithin}
 use Rattle.num_format_decimal.specs.Marks.{MarksDecimals}
 use Rattle.regroup_lines.specs.declared.rules.Reading.{Reading}
 use Rattle.regroup_lines.specs.declared.rules.Reading.TheVariants.{Lenient, Strict}
-use Rattle.num_format.specs.Building.{custom_format}
+use Rattle.num_format.specs.Building.{built, choices_of, chosen, custom_format}
+use Rattle.num_format.specs.Constants.{MAX_DEC_LEN, MAX_MIN_LEN, MAX_SEP_LEN}
+use Rattle.num_format.specs.English.{english}
 use Rattle.regroup_lines.specs.Quoting.{quoted}
 use Rattle.regroup_lines.specs.Ended.{line}
 use Rattle.regroup_stream.specs.Files.{HoldsFormat, Unfit, unfit_message, unfit_of}
 use Rattle.regroup_stream.specs.Files.Unfit.{Unread}
+use Rattle.regroup_stream.specs.declared.words.Ambiguity.{Ambiguity}
+use Rattle.regroup_stream.specs.declared.words.Ambiguity.TheVariants.{NoMinusSign, NoDecimalMark, SameSymbol, NumeralInSymbol}
 use Rattle.regroup_stream.specs.declared.words.Misuse.{Misuse}
 use Rattle.regroup_stream.specs.declared.words.Misuse.TheVariants as misuse
 use Rattle.regroup_stream.specs.declared.words.Source.{Source}
@@ -35,18 +41,33 @@ unfoldable pub split_last : List ℕ → Option (List ℕ × List ℕ)
 split_last [] = None
 split_last (b ∷ bytes) = split_before b bytes (split_last bytes)
 
--- en's format with these three fields, if the grouping has this name and the other two fit
-abbrev pub format_of_fields : List ℕ → List ℕ → List ℕ → Option FormatData
-format_of_fields separator grouping minus_sign =
-    option_and_then (λ named. result_ok (custom_format separator named minus_sign)) (grouping_named grouping)
+-- en's format with these four fields, if the grouping has this name and the others fit
+abbrev pub format_of_fields : (separator grouping minus_sign mark : List ℕ) → Option FormatData
+format_of_fields separator grouping minus_sign mark =
+    option_and_then (λ named. result_ok (built (record (choices_of english) {
+      separator = chosen MAX_SEP_LEN separator;
+      grouping = named;
+      minus_sign = chosen MAX_MIN_LEN minus_sign;
+      decimal = chosen MAX_DEC_LEN mark;
+    }))) (grouping_named grouping)
 
--- the format of `SEP:GROUPING` and a minus sign
-abbrev pub format_of_two : List ℕ → List ℕ → Option FormatData
-format_of_two fields minus_sign = option_and_then (λ parts. format_of_fields parts.0 parts.1 minus_sign) (split_last fields)
+-- the format of `SEP:GROUPING`, a minus sign and a decimal mark
+abbrev pub marked_format_named : (fields minus_sign mark : List ℕ) → Option FormatData
+marked_format_named fields minus_sign mark = option_and_then (λ parts. format_of_fields parts.0 parts.1 minus_sign mark) (split_last fields)
 
--- the format of the fields `SEP:GROUPING:MINUS`
+-- the format of three fields by which grouping the middle one names, if it names one, and else of four: the first one is then
+-- `SEP:GROUPING`
+abbrev pub format_of_three : (front middle last : List ℕ) → Option Grouping → Option FormatData
+format_of_three front middle last (Some named) = result_ok (custom_format front named last)
+format_of_three front middle last None = marked_format_named front middle last
+
+-- the format of the fields before the last one, and of that
+abbrev pub format_before : (fields last : List ℕ) → Option FormatData
+format_before fields last = option_and_then (λ parts. format_of_three parts.0 parts.1 last (grouping_named parts.1)) (split_last fields)
+
+-- the format of the fields `SEP:GROUPING:MINUS` or `SEP:GROUPING:MINUS:MARK`
 abbrev pub custom_format_named : List ℕ → Option FormatData
-custom_format_named fields = option_and_then (λ parts. format_of_two parts.0 parts.1) (split_last fields)
+custom_format_named fields = option_and_then (λ parts. format_before parts.0 parts.1) (split_last fields)
 
 -- en's format without groups, with a hyphen as the minus sign
 abbrev pub plain : Option FormatData
@@ -77,6 +98,21 @@ abbrev pub IsReadUnder : Reading → FormatData → Type 0
 IsReadUnder Strict format = MarksDecimals format
 IsReadUnder Lenient format = ⊤
 
+-- why a format is ambiguous that is: the minus sign or the decimal mark is empty, the mark is the separator that is printed, or else a
+-- symbol has a numeric character
+abbrev pub ambiguity_of : FormatData → Ambiguity
+ambiguity_of format =
+    if length format.minus_sign == 0 then NoMinusSign else
+    if length format.decimal == 0 then NoDecimalMark else
+    if bytes_eq format.decimal (printed_separator format.grouping format.separator) then SameSymbol else NumeralInSymbol
+
+-- what is said of such a format
+abbrev pub cause_of : Ambiguity → List ℕ
+cause_of NoMinusSign = codes ": the minus sign is empty"
+cause_of NoDecimalMark = codes ": the decimal mark is empty"
+cause_of SameSymbol = codes ": the decimal mark is the separator"
+cause_of NumeralInSymbol = codes ": a symbol has a digit"
+
 -- what names a format: a word, or the name of a file and its bytes, or why it cannot be read
 pub data Named : Type 0 where
   Word : List ℕ → Named
@@ -95,13 +131,13 @@ text_of_named (File name bytes) = name
 -- what is wrong with words or files, with the one that is wrong
 pub data Wrong : Type 0 where
   NoFormat : List ℕ → Wrong
-  NoDecimals : List ℕ → Wrong
+  Ambiguous : List ℕ → Ambiguity → Wrong
   BadFile : List ℕ → Unfit → Wrong
 
 -- the `Wrong` of a `Misuse`
 abbrev pub wrong_of : Misuse → Wrong
 wrong_of (misuse.NoFormat word) = NoFormat word.now
-wrong_of (misuse.NoDecimals word) = NoDecimals word.now
+wrong_of (misuse.Ambiguous word ambiguity) = Ambiguous word.now ambiguity
 wrong_of (misuse.BadFile name fault) = BadFile name.now (unfit_of fault)
 
 -- the format that a word names, or that it names none
@@ -119,17 +155,20 @@ abbrev pub IsFormatOf : Named → Result FormatData Wrong → Type 0
 IsFormatOf (Word word) result = IsNamed word result
 IsFormatOf (File name bytes) result = IsHeld name bytes result
 
--- what is wrong with two of them: the first has no format, or one that is not read; or the second has none, and the first one that is read
+-- what is wrong with two of them: the first has no format, or one that is not read; or else the second has none, or one that is ambiguous
 pub data IsWrong (reading : Reading) (from to : Named) : Wrong → Type 0 where
   first : (wrong : Wrong) → IsFormatOf from (Err wrong) → IsWrong reading from to wrong
-  unread : (format : FormatData) → IsFormatOf from (Ok format) → ¬ IsReadUnder reading format → IsWrong reading from to (NoDecimals (text_of_named from))
+  unread : (format : FormatData) → IsFormatOf from (Ok format) → ¬ IsReadUnder reading format → IsWrong reading from to (Ambiguous (text_of_named from) (ambiguity_of format))
   second : (format : FormatData) (wrong : Wrong) → IsFormatOf from (Ok format) → IsReadUnder reading format → IsFormatOf to (Err wrong) → IsWrong reading from to wrong
+  unwritten : (source target : FormatData) → IsFormatOf from (Ok source) → IsReadUnder reading source → IsFormatOf to (Ok target) → ¬ MarksDecimals target →
+      IsWrong reading from to (Ambiguous (text_of_named to) (ambiguity_of target))
 
--- the two have these formats, and the first is read
+-- the two have these formats, the first is read, and the second is not ambiguous
 pub record NamesBoth (reading : Reading) (from to : Named) (formats : FormatData × FormatData) : Type 0 where
   pub first : IsFormatOf from (Ok formats.0)
   pub read : IsReadUnder reading formats.0
   pub second : IsFormatOf to (Ok formats.1)
+  pub written : MarksDecimals formats.1
 
 -- the formats of two of them, or what is wrong
 abbrev pub NamesFormats : Reading → (from to : Named) → Result (FormatData × FormatData) Wrong → Type 0
@@ -143,7 +182,7 @@ misuse_message word cause = line (codes "regroup-lines: " ++ (quoted word ++ cau
 -- the message of what is wrong
 abbrev pub message_of_wrong : Wrong → List ℕ
 message_of_wrong (NoFormat word) = misuse_message word (codes " names no format")
-message_of_wrong (NoDecimals word) = misuse_message word (codes ": decimals do not parse back")
+message_of_wrong (Ambiguous word ambiguity) = misuse_message word (cause_of ambiguity)
 message_of_wrong (BadFile name unfit) = unfit_message name unfit
 
 -- standard error received the message and the status is 2, or not all of the message, and it is 3

@@ -29,6 +29,8 @@ pub(crate) enum Ending {
     TooManyLines,
     /// The input cannot be opened.
     Unopened(io::ErrorKind),
+    /// The input is the output.
+    IsOutput,
 }
 
 impl Ending {
@@ -48,7 +50,7 @@ impl Ending {
     {
         match self {
             Ending::Regrouped => REGROUPED,
-            Ending::Named | Ending::Faulty(_) | Ending::Unopened(_) => FAULTY,
+            Ending::Named | Ending::Faulty(_) | Ending::Unopened(_) | Ending::IsOutput => FAULTY,
             Ending::WriteFailed(Some(io::ErrorKind::BrokenPipe)) => CLOSED,
             Ending::WriteFailed(_)
             | Ending::ReadFailed(_)
@@ -71,6 +73,7 @@ impl Ending {
             Ending::WriteFailed(kind) => failure_message("", "write error", *kind),
             Ending::TooManyLines => failure_message(name, ": too many lines", None),
             Ending::Unopened(kind) => failure_message(name, ": cannot open", Some(*kind)),
+            Ending::IsOutput => failure_message(name, ": input file is output file", None),
         }
     }
 }

@@ -6,7 +6,7 @@
 //! | Status | Standard output | Standard error |
 //! |---|---|---|
 //! | 0 | each line, or one at fault as it is | nothing, or with [`Invalid::Warn`] the message of each line at fault |
-//! | 1 | the lines before the one at fault, or all where a quote is not closed; or nothing of an input that cannot be opened | its message |
+//! | 1 | the lines before the one at fault, or all where a quote is not closed; or nothing of an input that cannot be opened, or is the output | its message |
 //! | 1 | with [`Invalid::Fail`] each line, or one at fault as it is | the message of each line at fault |
 //! | 2 | nothing | what is wrong with the words |
 //! | 3 | the lines before a read or a write failed | which, and why if it is known, after the messages of those lines |
@@ -25,13 +25,13 @@ ghost use Rattle.std.specs.Io.Buffered.{writer_buffer, writer_contents};
 ghost use Rattle.std.specs.Result.{result_map_both};
 ghost use Rattle.regroup_lines.specs.Fault.{fault_of};
 ghost use Rattle.regroup_stream.specs.Ending.{Finishes, end_of, end_of_lines};
-ghost use Rattle.regroup_stream.specs.Ending.End.{Unopened};
+ghost use Rattle.regroup_stream.specs.Ending.End.{IsOutput, Unopened};
 ghost use Rattle.regroup_stream.specs.Stream.{IsEndOf, RegroupsAll, Runs};
 
 use crate::ending::Ending;
 pub use crate::files::FileFault;
 use crate::watched::Watched;
-pub use crate::words::{Formats, Misuse, Source, TRY_HELP, formats_named};
+pub use crate::words::{Ambiguity, Formats, Misuse, Source, TRY_HELP, formats_named};
 use num_format::CustomFormat;
 pub use regroup_lines::{
     FieldRange, Fields, Invalid, Reading, Records, Rules, Span, Within, field_list,
@@ -117,6 +117,19 @@ pub fn refuse<E: Write>(name: &str, kind: ErrorKind, err: &mut E) -> u8
     ensures { Finishes name.now (Unopened kind) result (E.contents err.old) (E.contents err.new) }
 {
     Ending::Unopened(kind).finish(name, err)
+}
+
+/// Sends the message of an input that is the output, and returns the status, as [`refuse`] does.
+///
+/// ```rust
+/// let mut err = Vec::new(alloc);
+/// refuse_output("x.tsv", &mut err)    // 1
+/// str::from_utf8(&err)    // Ok("regroup-lines: x.tsv: input file is output file\n")
+/// ```
+pub fn refuse_output<E: Write>(name: &str, err: &mut E) -> u8
+    ensures { Finishes name.now IsOutput result (E.contents err.old) (E.contents err.new) }
+{
+    Ending::IsOutput.finish(name, err)
 }
 
 /// Regroups the lines, flushes `out`, and returns how that ends.

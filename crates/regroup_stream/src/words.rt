@@ -3,7 +3,8 @@ ghost use Rattle.std.specs.Prelude.{◌≡◌, ◌≤◌, nat_eq, codes, length,
 ghost use Rattle.std.specs.List.{starts_with};
 ghost use Rattle.std.specs.Option.{option_map};
 ghost use Rattle.std.specs.Result.{result_map_both};
-ghost use Rattle.regroup_stream.specs.Words.{IsFormatOf, IsHeld, IsNamed, IsReadUnder, LooksUpFormat, NamesCustomOrLocale, NamesFormat, NamesFormats, SendsMisuse, custom_format_named, message_of_wrong, misuse_message, named_of, split_last, text_of_named, wrong_of};
+ghost use Rattle.num_format.specs.Grouped.{printed_separator};
+ghost use Rattle.regroup_stream.specs.Words.{IsFormatOf, IsHeld, IsNamed, IsReadUnder, LooksUpFormat, NamesCustomOrLocale, NamesFormat, NamesFormats, SendsMisuse, ambiguity_of, cause_of, custom_format_named, marked_format_named, message_of_wrong, misuse_message, named_of, split_last, text_of_named, wrong_of};
 
 use crate::files::{FileFault, format_held};
 use crate::{FAILED, MISUSED};
@@ -30,7 +31,7 @@ pub struct Formats {
 /// What names a format.
 #[derive(Clone, Copy, Debug)]
 pub enum Source<'a> {
-    /// A word: `plain`, `custom:SEP:GROUPING:MINUS` or a locale.
+    /// A word: `plain`, `custom:SEP:GROUPING:MINUS[:MARK]` or a locale.
     Word(&'a str),
     /// A file of this name, with its bytes or why it cannot be read. It has the format as a JSON object with its
     /// seven fields, as [`format_to_value`](num_format::json::format_to_value) returns it.
@@ -66,8 +67,8 @@ impl<'a> Source<'a> {
 pub enum Misuse<'a> {
     /// This word names no format.
     NoFormat(&'a str),
-    /// Not each decimal parses back from its text under the format that this word names, or this file holds.
-    NoDecimals(&'a str),
+    /// The format that this word names, or this file holds, is ambiguous.
+    Ambiguous(&'a str, Ambiguity),
     /// The file of this name holds no format.
     BadFile(&'a str, FileFault),
 }
@@ -96,15 +97,68 @@ impl Misuse<'_> {
     {
         match self {
             Misuse::NoFormat(word) => misuse_message(word, " names no format"),
-            Misuse::NoDecimals(word) => misuse_message(word, ": decimals do not parse back"),
+            Misuse::Ambiguous(word, ambiguity) => misuse_message(word, ambiguity.cause()),
             Misuse::BadFile(name, fault) => fault.message(name),
         }
     }
 }
 
+/// Why not each decimal parses back from its text under a format.
+#[derive(Clone, Copy, Debug, PartialEq, Eq)]
+pub enum Ambiguity {
+    /// The minus sign is empty.
+    NoMinusSign,
+    /// The decimal mark is empty.
+    NoDecimalMark,
+    /// The decimal mark is the separator, which is printed.
+    SameSymbol,
+    /// A symbol has a digit or another numeric character.
+    NumeralInSymbol,
+}
+
+impl Ambiguity {
+    /// Returns why a format is ambiguous that is.
+    fn of(format: &CustomFormat) -> Ambiguity
+        ensures { result ≡ ambiguity_of format.now }
+    {
+        if format.minus_sign().is_empty() {
+            Ambiguity::NoMinusSign
+        } else if format.decimal().is_empty() {
+            Ambiguity::NoDecimalMark
+        } else if format.decimal() == printed_separator(format) {
+            Ambiguity::SameSymbol
+        } else {
+            Ambiguity::NumeralInSymbol
+        }
+    }
+
+    /// Returns what is said of a format.
+    fn cause(self) -> &'static str
+        ensures text { result.now ≡ cause_of self }
+        ensures short { length result.now ≤ 40 }
+    {
+        match self {
+            Ambiguity::NoMinusSign => ": the minus sign is empty",
+            Ambiguity::NoDecimalMark => ": the decimal mark is empty",
+            Ambiguity::SameSymbol => ": the decimal mark is the separator",
+            Ambiguity::NumeralInSymbol => ": a symbol has a digit",
+        }
+    }
+}
+
+/// Returns the separator, if the format prints one.
+fn printed_separator(format: &CustomFormat) -> &str
+    ensures { result.now ≡ printed_separator format.now.grouping format.now.separator }
+{
+    match format.grouping() {
+        Grouping::Posix => "",
+        _ => format.separator(),
+    }
+}
+
 /// Returns the message that shows the word with what is wrong with it: two lines.
 fn misuse_message(word: &str, cause: &str) -> ArrayString<MAX_FAULT_MESSAGE_LEN>
-    requires { length cause.now ≤ 28 }
+    requires { length cause.now ≤ 40 }
     ensures { result.bytes ≡ misuse_message word.now cause.now }
 {
     let mut message = ArrayString::new();
@@ -118,9 +172,9 @@ fn misuse_message(word: &str, cause: &str) -> ArrayString<MAX_FAULT_MESSAGE_LEN>
 
 /// Returns the formats that two words or files name.
 ///
-/// A word is `plain`, as in `-1234.5`, `custom:SEP:GROUPING:MINUS`, which is the format of `en` with these three
-/// fields, or a locale as [`Locale::lookup`] finds it, such as `de_DE.UTF-8`. The last two colons are those before
-/// and after GROUPING, so `custom:::Standard:-` has the separator `:`.
+/// A word is `plain`, as in `-1234.5`, `custom:SEP:GROUPING:MINUS` or `custom:SEP:GROUPING:MINUS:MARK`, which is the
+/// format of `en` with these fields, or a locale as [`Locale::lookup`] finds it, such as `de_DE.UTF-8`. GROUPING is the
+/// last field but one if that names one, and else the last but two, so `custom:::Standard:-` has the separator `:`.
 ///
 /// ```rust
 /// formats_named(alloc, Reading::Strict, Source::Word("C"), Source::Word("de_DE.UTF-8")).is_ok()    // true
@@ -129,8 +183,8 @@ fn misuse_message(word: &str, cause: &str) -> ArrayString<MAX_FAULT_MESSAGE_LEN>
 ///
 /// # Errors
 ///
-/// Returns what is wrong: the first has no format, or one under which decimals do not parse back, unless
-/// numbers are read leniently; or the second has no format.
+/// Returns what is wrong: the first has no format, or one that is ambiguous, unless numbers are read leniently; or the
+/// second has no format, or one that is ambiguous.
 pub fn formats_named<'a>(
     alloc: Global,
     reading: Reading,
@@ -142,9 +196,12 @@ pub fn formats_named<'a>(
 {
     let source = from.format(alloc)?;
     if !is_read_under(reading, &source) {
-        return Err(Misuse::NoDecimals(from.text()));
+        return Err(Misuse::Ambiguous(from.text(), Ambiguity::of(&source)));
     }
     let target = to.format(alloc)?;
+    if !marks_decimals(&target) {
+        return Err(Misuse::Ambiguous(to.text(), Ambiguity::of(&target)));
+    }
     Ok(Formats {
         from: source,
         to: target,
@@ -161,9 +218,8 @@ fn is_read_under(reading: Reading, format: &CustomFormat) -> bool
     }
 }
 
-/// Returns the format that the word names: `plain`, which has no groups, that of `en` with the three fields of
-/// `custom:SEP:GROUPING:MINUS`, or that of the locale as which the word is looked up. Returns `None` where there is
-/// none.
+/// Returns the format that the word names: `plain`, which has no groups, that of `en` with the fields after `custom:`, or
+/// that of the locale as which the word is looked up. Returns `None` where there is none.
 fn format_named(word: &str) -> Option<CustomFormat>
     ensures { NamesFormat word.now result }
 {
@@ -190,14 +246,30 @@ fn locale_named(tag: &str) -> Option<CustomFormat>
     Some(CustomFormat::from(Locale::lookup(tag)?))
 }
 
-/// Returns the format of the fields `SEP:GROUPING:MINUS`. The last two colons are those before and
-/// after GROUPING, so that SEP may be a colon.
+/// Returns the format of the fields `SEP:GROUPING:MINUS`, or `SEP:GROUPING:MINUS:MARK`. SEP may have colons.
 fn custom_format_named(fields: &str) -> Option<CustomFormat>
     ensures { result ≡ custom_format_named fields.now }
 {
-    let (fields, minus_sign) = split_last(fields)?;
+    let (fields, last) = split_last(fields)?;
+    let (front, middle) = split_last(fields)?;
+    match Grouping::from_name(middle) {
+        Some(grouping) => CustomFormat::new(front, grouping, last).ok(),
+        None => marked_format_named(front, middle, last),
+    }
+}
+
+/// Returns the format of the fields `SEP:GROUPING`, a minus sign and a decimal mark.
+fn marked_format_named(fields: &str, minus_sign: &str, mark: &str) -> Option<CustomFormat>
+    ensures { result ≡ marked_format_named fields.now minus_sign.now mark.now }
+{
     let (separator, grouping) = split_last(fields)?;
-    CustomFormat::new(separator, Grouping::from_name(grouping)?, minus_sign).ok()
+    CustomFormat::builder()
+        .separator(separator)
+        .grouping(Grouping::from_name(grouping)?)
+        .minus_sign(minus_sign)
+        .decimal(mark)
+        .build()
+        .ok()
 }
 
 /// Returns what stands before the last colon, and what stands after it.

@@ -47,7 +47,7 @@ returns-then-end-text g c to =
     let parts = csv_split d inside (drop c.fields.start text) in
     let last : end ≡ length text = omega arith in
     let later = csv_written rules d list from to number (next_number count) (is_inside_after inside field) [] in
-    c.check_count.ensures rules d from to
+    c.check_count.ensures rules from to
     ∙ ap (λ n. checked (csv_written rules d list from to number n c.field_end-end.result.1 [])) c.next_number-count.ensures
     ∙ ap (λ b. checked (csv_written rules d list from to number (next_number count) b [])) c.field_end-end.ensures.open
     ∙ sym (check-on _ _ later (c.fields.invariant.1 to ∙ ap checked (fields-from rules d list from to number count inside parts field [] (c.field_end-end.ensures.last last)))

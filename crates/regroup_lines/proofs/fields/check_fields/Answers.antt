@@ -19,8 +19,8 @@ returns-in_err-check_field g c to =
     let fault = line_fault_of c.in_err-check_field.field-0.0 in
     let split = split-either _ _ _ _ _ c.field_end-end.ensures.within c.field_end-end.ensures.more c.field_end-end.ensures.last in
     let p = err_from_is_err_and c.from_residual.result c.from_residual.ensures.1 in
-    rw (p.1, p.2) (sym (check-first rules list from to c.args.number c.fields.count
-    (fields_written rules list from to c.args.number 0 (slice_split (λ b. b == d) text)) (slice_split (λ b. b == d) (drop c.fields.start text))
+    rw (p.1, p.2) (sym (check-first rules d list from to c.args.number c.fields.count
+    (fields_written rules d list from to c.args.number 0 (slice_split (λ b. b == d) text)) (slice_split (λ b. b == d) (drop c.fields.start text))
     (c.fields.invariant.2 to) field split.0 split.1 fault
     (subst (λ b. Err fault ≡ checked (field_written rules from to c.args.number (c.fields.count + 1) b field)) c.contain-is_chosen.ensures (c.in_err-check_field.ensures to))))
 
@@ -34,8 +34,8 @@ returns-then-end-text g c to =
     let field = slice_range text c.fields.start c.field_end-end.result in
     let last : c.field_end-end.result ≡ length text = omega arith in
     c.check_count.ensures rules from to
-    ∙ sym (check-later rules list from to c.args.number c.fields.count
-    (fields_written rules list from to c.args.number 0 (slice_split (λ b. b == d) text)) (slice_split (λ b. b == d) (drop c.fields.start text))
+    ∙ sym (check-later rules d list from to c.args.number c.fields.count
+    (fields_written rules d list from to c.args.number 0 (slice_split (λ b. b == d) text)) (slice_split (λ b. b == d) (drop c.fields.start text))
     (c.fields.invariant.2 to) field [] (c.field_end-end.ensures.last last)
     (subst (λ b. Ok tt ≡ checked (field_written rules from to c.args.number (c.fields.count + 1) b field)) c.contain-is_chosen.ensures (c.in_ok-check_field.ensures to)))
 
@@ -50,8 +50,8 @@ fields-preserved g c =
     let below : c.field_end-end.result < length text = omega arith in (
       omega arith,
       omega arith,
-      λ to. check-later rules list from to c.args.number c.fields.count
-          (fields_written rules list from to c.args.number 0 (slice_split (λ b. b == d) text)) (slice_split (λ b. b == d) (drop c.fields.start text))
+      λ to. check-later rules d list from to c.args.number c.fields.count
+          (fields_written rules d list from to c.args.number 0 (slice_split (λ b. b == d) text)) (slice_split (λ b. b == d) (drop c.fields.start text))
           (c.fields.invariant.2 to) field _ (c.field_end-end.ensures.more below)
           (subst (λ b. Ok tt ≡ checked (field_written rules from to c.args.number (c.fields.count + 1) b field)) c.contain-is_chosen.ensures (c.in_ok-check_field.ensures to)),
     )
@@ -64,4 +64,4 @@ returns g c to =
     let from = g.F.Format.answers c.args.from.now in
     let past : is_chosen_from list (c.fields.count + 1) ≡ false = sym c.reach.ensures ∙ c.fields-test.false in
     sym (c.fields.invariant.2 to
-    ∙ ap checked (fields-passed rules list from to c.args.number c.fields.count (slice_split (λ b. b == d) (drop c.fields.start c.args.text.now)) past))
+    ∙ ap checked (fields-passed rules d list from to c.args.number c.fields.count (slice_split (λ b. b == d) (drop c.fields.start c.args.text.now)) past))

@@ -1,8 +1,7 @@
-use Rattle.std.proofs.Common.{None, Some, Ok, Err, refl, subst, sym}
+use Rattle.std.proofs.Common.{Some, Ok, Err, subst, sym}
 use Rattle.std.specs.Result.{result_map_both}
 use Rattle.regroup_lines.specs.LineFaults.{line_fault_of}
 use Rattle.regroup_lines.specs.Fault.{in_field}
-use Rattle.regroup_lines.specs.Fault.Fault.{FewFields}
 use Rattle.regroup_lines.specs.Lines.{place_written}
 use Rattle.regroup_lines.specs.Places.{place_of}
 use Rattle.regroup_lines.specs.Sending.{SendsLine}
@@ -44,12 +43,3 @@ returns-in-Err g c =
     (sym (one-replaced rules from to c.args.number n text c.args.fields.now (Some (place_of c.in-Some-field_place.place)) only.1 only.0 c.in-Some-field_place.ensures.place))
     (subst (λ place. SendsLine {T = Unit {0}} rules.line_end (as_field n (place_written rules from to c.args.number text place)) a b (Err (line_fault_of fault))) c.trim.ensures.place
     (subst (λ f. SendsLine {T = Unit {0}} rules.line_end (as_field n (place_written rules from to c.args.number text (place_of c.trim.result))) a b (Err f)) (sym c.in_field.ensures) sends))
-
-pub returns-in-None-field_place : goal.returns-in-None-field_place
-returns-in-None-field_place g c =
-    let a = g.W.Write.contents c.args.w.now in
-    let only = c.in-Some.ensures in
-    subst (λ written. SendsLine {T = Unit {0}} c.args.rules.now.line_end written a a (Err (FewFields c.args.number)))
-    (sym (one-replaced c.args.rules.now (g.F.Format.answers c.args.from.now) (g.G.Format.answers c.args.to.now) c.args.number c.in-Some.field c.args.text.now
-    c.args.fields.now None only.1 only.0 c.in-None-field_place.ensures.place))
-    (refl, refl)

@@ -28,7 +28,7 @@ returns-in_err-send_field g c =
     let a = g.W.Write.contents c.args.w.now in
     let b = g.W.Write.contents c.fields.w in
     let e = g.W.Write.contents c.send_field.new.w in
-    rw (p.1, p.2) (sends-any rules.line_end d (fields_written rules list from to c.args.number 0 (slice_split (λ b. b == d) text)) a e (Err fault)
+    rw (p.1, p.2) (sends-any rules.line_end d (fields_written rules d list from to c.args.number 0 (slice_split (λ b. b == d) text)) a e (Err fault)
     (λ texts is. sent-stop rules list from to c.args.number d a c.fields.count texts (slice_split (λ b. b == d) (drop c.fields.start text)) b
     (c.fields.invariant.2 texts is) field split.0 split.1 (Unit {0}) e fault
     (subst (λ x. SendsIfOk {T = Unit {0}} (field_written rules from to c.args.number (c.fields.count + 1) x field) b e (Err fault)) c.contain-is_chosen.ensures c.in_err-send_field.ensures)))
@@ -46,7 +46,7 @@ returns-then-end-text g c =
     let a = g.W.Write.contents c.args.w.now in
     let b = g.W.Write.contents c.fields.w in
     let e = g.W.Write.contents c.send_field.new.w in
-    sends-any rules.line_end d (fields_written rules list from to c.args.number 0 (slice_split (λ b. b == d) text)) a _ _
+    sends-any rules.line_end d (fields_written rules d list from to c.args.number 0 (slice_split (λ b. b == d) text)) a _ _
     (λ texts is. sent-end rules list from to c.args.number d a c.fields.count texts (slice_split (λ b. b == d) (drop c.fields.start text)) b
     (c.fields.invariant.2 texts is) field [] (c.field_end-end.ensures.last last) e tt
     (subst (λ x. SendsIfOk {T = Unit {0}} (field_written rules from to c.args.number (c.fields.count + 1) x field) b e (Ok tt)) c.contain-is_chosen.ensures c.in_ok-send_field.ensures)
@@ -68,7 +68,7 @@ returns-in_err-send_bytes g c =
     let a = g.W.Write.contents c.args.w.now in
     let b = g.W.Write.contents c.fields.w in
     let e = g.W.Write.contents c.send_field.new.w in
-    rw (p.1, p.2) (sends-any rules.line_end d (fields_written rules list from to c.args.number 0 (slice_split (λ b. b == d) text)) a _ (Err fault)
+    rw (p.1, p.2) (sends-any rules.line_end d (fields_written rules d list from to c.args.number 0 (slice_split (λ b. b == d) text)) a _ (Err fault)
     (λ texts is. sent-cut rules list from to c.args.number d a c.fields.count texts (slice_split (λ b. b == d) (drop c.fields.start text)) b
     (c.fields.invariant.2 texts is) field (slice_split (λ b. b == d) (drop (end + 1) text)) (c.field_end-end.ensures.more below) e tt
     (subst (λ x. SendsIfOk {T = Unit {0}} (field_written rules from to c.args.number (c.fields.count + 1) x field) b e (Ok tt)) c.contain-is_chosen.ensures c.in_ok-send_field.ensures)
@@ -108,7 +108,7 @@ returns g c =
     let past : is_chosen_from list (c.fields.count + 1) ≡ false = sym c.reach.ensures ∙ c.fields-test.false in
     let a = g.W.Write.contents c.args.w.now in
     let b = g.W.Write.contents c.fields.w in
-    sends-any rules.line_end d (fields_written rules list from to c.args.number 0 (slice_split (λ b. b == d) text)) a _ _
+    sends-any rules.line_end d (fields_written rules d list from to c.args.number 0 (slice_split (λ b. b == d) text)) a _ _
     (λ texts is. sent-rest rules list from to c.args.number d a c.fields.count texts (slice_split (λ b. b == d) (drop c.fields.start text)) b
     (c.fields.invariant.2 texts is) _ rest _ past (ap (slice_split (λ b. b == d)) (sym (take_rest text c.fields.start)))
     (text-sent b _ _ c.pass_on.result c.pass_on.ensures c.or.result c.or.ensures))

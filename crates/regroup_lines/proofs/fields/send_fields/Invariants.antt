@@ -8,7 +8,7 @@ use Rattle.regroup_lines.proofs.fields.send_fields.Given as goal
 abbrev pub invariant-fields : goal.invariant-fields
 invariant-fields g l =
     (l.start ≤ length l.text) × (l.count ≤ l.start)
-    × ((texts : List (List ℕ)) → fields_written l.rules l.fields.list.now (g.F.Format.answers l.from) (g.G.Format.answers l.to) l.number 0
+    × ((texts : List (List ℕ)) → fields_written l.rules l.fields.delimiter l.fields.list.now (g.F.Format.answers l.from) (g.G.Format.answers l.to) l.number 0
     (slice_split (λ b. b == l.fields.delimiter) l.text) ≡ Ok texts →
     Sent l.rules l.fields.list.now (g.F.Format.answers l.from) (g.G.Format.answers l.to) l.number l.fields.delimiter l.count texts
     (slice_split (λ b. b == l.fields.delimiter) (drop l.start l.text)) (g.W.Write.contents l.fn.w) (g.W.Write.contents l.w))

@@ -10,7 +10,7 @@ returns-in_err-source c =
 
 pub returns-then-not-is_read_under : goal.returns-then-not-is_read_under
 returns-then-not-is_read_under c =
-    rw c.text.ensures (IsWrong.unread c.in_ok-source.source c.in_ok-source.ensures
+    rw (c.text.ensures, c.of.ensures) (IsWrong.unread c.in_ok-source.source c.in_ok-source.ensures
     (λ read. both_ways _ c.if-not-is_read_under.true (c.is_read_under.ensures.1 read)))
 
 pub returns-in_err-target : goal.returns-in_err-target
@@ -18,3 +18,9 @@ returns-in_err-target c =
     let p = err_from_is_err_and c.from_residual-in_err-target.result c.from_residual-in_err-target.ensures.1 in
     rw (p.1, p.2) (IsWrong.second c.in_ok-source.source (wrong_of c.in_err-target.field-0.0) c.in_ok-source.ensures
     (c.is_read_under.ensures.0 c.if-not-is_read_under.false) c.in_err-target.ensures)
+
+pub returns-then-not-marks_decimals : goal.returns-then-not-marks_decimals
+returns-then-not-marks_decimals c =
+    rw (c.text-then-not-marks_decimals.ensures, c.of-then-not-marks_decimals.ensures)
+    (IsWrong.unwritten c.in_ok-source.source c.in_ok-target.target c.in_ok-source.ensures (c.is_read_under.ensures.0 c.if-not-is_read_under.false) c.in_ok-target.ensures
+    (λ marked. both_ways _ c.if-not-marks_decimals.true (c.marks_decimals.ensures.1 marked)))
