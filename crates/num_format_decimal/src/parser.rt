@@ -246,8 +246,8 @@ impl<'a, F: Format> DecimalParser<'a, F> {
             Ok(amount) => amount,
             Err(fault) => return Err(fault),
         };
-        let (is_negative, units) = amount;
-        let Some(magnitude) = joined(units, decimals) else {
+        let (is_negative, integer) = amount;
+        let Some(magnitude) = joined(integer, decimals) else {
             return Err(Fault::TooLarge);
         };
         if magnitude == 0 && is_negative {
