@@ -35,6 +35,7 @@ ITEM = r"((?:^{0}///.*\n)*)(?:^{0}#.*\n)*^({0}(?:{1}) (?s:.+?)(?:;|(?=\s*\{{)))(
 NAMES = re.compile(r"(impl)(?:<[^>]*>)? (?:.*?(\w+)(?:<.*>)? for )?.*?(\w+)(?:<.*>|\])*$| *(?:pub )?(\w+) (\w+)", re.M)
 GHOST = re.compile(r"^    ghost (?!use )(?:.*\n)*?.*;$", re.M)
 USE = re.compile(r"^( *)pub (?:use|mod) ([\w:]+?)(?:::\{([^}]*)\})?;", re.M)
+MODULE = re.compile(r"^pub mod (\w+) \{", re.M)
 SPEC = re.compile(r"ghost use Rattle\.(num_format\w*)\.specs\.([\w.]+)\.\{([^}]*)\};")
 TYPES = re.compile(r"^(?:use (?:crate|num_format)[^;]*;|pub (?:struct|enum|trait|const|type) \w+)", re.M)
 CONSTANT = re.compile(r"^pub (?:const|trait) (\w+)", re.M)
@@ -55,12 +56,15 @@ def items(file, text, indent="", starts=r"pub(?= (?:struct|enum|trait|fn|const|t
 
 def passed(file, inside=""):
     """What a file passes on: the file that has it, its name, or nothing for each item, and the path to it."""
-    for place, path, names in USE.findall(file.read_text()):
+    text = file.read_text()
+    for found in USE.finditer(text):
+        place, path, names = found.groups("")
+        around = MODULE.findall(text, 0, found.start())
         for name in re.findall(r"\w+", names) or [""]:
             parts = f"{path}::{name}".strip(":").removeprefix("crate::").split("::")
             owner, module, *name = parts if parts[0].startswith("num_format") else [file.parts[-3], *parts]
             source = ROOT / "crates" / owner / "src" / f"{module}.rt"
-            yield source, "".join(name), "::utils" if place else inside if name else f"::{module}"
+            yield source, "".join(name), f"::{around[-1]}" if place else inside if name else f"::{module}"
             yield from [] if name else passed(source, f"::{module}")
 
 

@@ -46,7 +46,9 @@ OTHERS = {"Value": "serde_json::Value", "str::from_utf8": "std::str", "Cursor": 
           "copy_bytes": "num_format_int::buffer::copy_bytes",
           "one_digit": "num_format_int::to_formatted_str::one_digit",
           "two_digits": "num_format_int::to_formatted_str::two_digits",
-          "is_plain": "num_format_parsing::symbols::is_plain"}
+          "is_plain": "num_format_parsing::symbols::is_plain",
+          "digits_size": "num_format_writers::formatted::digits_size",
+          "digit_count": "num_format_writers::formatted::digit_count"}
 
 BLOCK = re.compile(r"^( *//[/!]) ?```(\w*)\n(.*?)^\1 ?```$", re.DOTALL | re.MULTILINE)
 SHOWN = re.compile(r"(.*?)\s*// (.*)", re.DOTALL)

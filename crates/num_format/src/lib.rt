@@ -60,7 +60,7 @@ pub use num_format_text::error::Error;
 pub use num_format_text::error_kind::{ErrorKind, MAX_MESSAGE_LEN};
 pub use num_format_text::format::Format;
 pub use num_format_text::grouping::Grouping;
-pub use num_format_writers::formatted::{Formatted, text_len, text_width};
+pub use num_format_writers::formatted::{Formatted, text_len, text_width, write_filled};
 pub use num_format_writers::to_formatted_string::ToFormattedString;
 pub use num_format_writers::write_formatted::WriteFormatted;
 
@@ -71,9 +71,8 @@ pub mod error {
 
 /// Parsing: the traits, a parser that is kept, and the errors.
 pub mod parsing {
-    pub use num_format_parsing::parsing::{
-        FromFormattedStr, ParseBytesError, ParseFormatted, StrictError, StrictParser,
-    };
+    pub use num_format_parsing::parsing::{FromFormattedStr, ParseBytesError, ParseFormatted};
+    pub use num_format_parsing::strict::{StrictError, StrictParser};
 }
 
 /// Writing into a string or a writer.

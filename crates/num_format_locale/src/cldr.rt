@@ -26,10 +26,10 @@ pub const LEN: usize = 542;
 /// Returns the row at `place`, counted from 0 in rising byte order of the names.
 ///
 /// ```rust
-/// row(134).name     // "en-IN"
-/// row(134).dec      // "."
-/// row(134).sep      // ","
-/// row(134).group    // 1, which is Indian
+/// cldr::row(134).name     // "en-IN"
+/// cldr::row(134).dec      // "."
+/// cldr::row(134).sep      // ","
+/// cldr::row(134).group    // 1, which is Indian
 /// ```
 pub fn row(place: usize) -> &'static Row
     requires { place < LEN }
@@ -45,9 +45,9 @@ pub fn row(place: usize) -> &'static Row
 /// They rise in byte order, and none has an underscore.
 ///
 /// ```rust
-/// names()[0]      // "af"
-/// names()[90]     // "en"
-/// names()[541]    // "zu"
+/// cldr::names()[0]      // "af"
+/// cldr::names()[90]     // "en"
+/// cldr::names()[541]    // "zu"
 /// ```
 pub fn names() -> &'static [&'static str]
     ensures listed { map (λ name. name.now) result.now ≡ table_names }
