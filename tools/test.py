@@ -49,8 +49,8 @@ BUILT = {
     "test_properties": ["program_checks.py"],
 }
 
-# How nice what can wait is to `rt ci`.
-LATER = 19
+# How nice to `rt ci` are the library for C, and what can wait.
+SOON, LATER = 10, 19
 
 
 def has_tests(crate):
@@ -116,7 +116,8 @@ def test(tally, is_whole):
         start_documents(jobs)
         jobs.script("numfmt", "numfmt_rows.py")
         built = {"is_counted": False, "then": lambda: start("library"), "cwd": library_checks.CRATE}
-        jobs.start("rt lib", ["rt", "lib"], **built)
+        # `rt ci` has the longer way to go.
+        jobs.start("rt lib", ["nice", "-n", str(SOON), "rt", "lib"], **built)
         for name in [] if is_whole else trials.TRIED:
             jobs.script(f"tests of {name}", "trials.py", name, nice=LATER)
         jobs.script("the examples of the doc comments", "doc_examples.py", nice=LATER)
