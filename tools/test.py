@@ -2,7 +2,7 @@
 """Tests everything, in minutes, or proves and tests everything.
 
     python3 tools/test.py                    # the tests, unproved: minutes
-    python3 tools/test.py --prove            # proves what users need, and runs every test: over half an hour
+    python3 tools/test.py --prove            # proves what users need, and runs every test: under half an hour
     python3 tools/test.py --prove --edits    # proves the tests too, and tries the must-fail edits: over an hour
 
 The first needs the kit alone, and runs by `rt try`, side by side: the tests of each crate that has some, the stored run
@@ -84,8 +84,8 @@ def waiting(top):
     programs = {"regroup", "regroup_filter"}
     for ending in COMPILERS:
         built = {crate: top / "crates" / crate / "out" / f"{crate}{ending}" for crate in [*BUILT, *programs]}
-        for crate, scripts in BUILT.items():
-            for script in scripts:
+        for crate in [name for name in BUILT if (top / "crates" / name).is_dir()]:
+            for script in BUILT[crate]:
                 words = ["--program", built[crate], crate] if script == "cases.py" else [built[crate]]
                 yield {crate}, f"{script} {built[crate].name}", script, *words
         needed = {*programs, f"{memory_checks.CRATE}: tests"}
@@ -118,10 +118,12 @@ def test(tally, is_whole):
         built = {"is_counted": False, "then": lambda: start("library"), "cwd": library_checks.CRATE}
         # `rt ci` has the longer way to go.
         jobs.start("rt lib", ["nice", "-n", str(SOON), "rt", "lib"], **built)
-        for name in [] if is_whole else trials.TRIED:
+        for name in [] if is_whole else trials.TESTS:
             jobs.script(f"tests of {name}", "trials.py", name, nice=LATER)
+        for name in [] if is_whole else trials.PROGRAMS:
+            jobs.script(f"cases of {name}", "cases.py", "--try", name, nice=LATER)
         jobs.script("the examples of the doc comments", "doc_examples.py", nice=LATER)
-        for name in prove(tally, copy):
+        for name in prove(tally, copy, is_whole):
             start(name)
         # What waits for a crate that is not proved says what is missing.
         start(*(name for needed, *_ in left for name in needed - {"library"}))

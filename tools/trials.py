@@ -9,8 +9,10 @@ import sys
 
 from tally import ROOT, Tally, heading, run
 
-# The crates of tests alone that take the prover long, so that only --edits proves them.
-TRIED = ["num_format_vectors", "test_hostile"]
+# The crates of tests alone that take the prover long, so that only --edits proves them: libraries with tests, and programs.
+TESTS = ["num_format_vectors", "test_hostile"]
+PROGRAMS = ["test_decimal", "test_oracle", "test_properties"]
+TRIED = [*TESTS, *PROGRAMS]
 
 # The most seconds for the tests of a crate.
 SECONDS = 1500
