@@ -23,7 +23,9 @@ TOP = "../.."
 STYLE = ROOT / "tools" / "api_page.css"
 HEAD = """<!DOCTYPE html><html lang="en"><meta charset="utf-8"><meta name="viewport" content="width=device-width">
 <title>num_format for Rattle: public calls</title><link rel="stylesheet" href="style.css"><nav><b>Public calls in Rattle</b>{nav}</nav>
-<main><p>Below a call is its contract, which is proved. See the <a href="../../README.md">README</a>.{main}</main>"""
+<main><p>The calls in Rattle, which is Rust with contracts. C, C++, Python, Rust and SQL have others: see the
+<a href="../../README.md">README</a>. Below a call is its contract, which is proved;
+<a href="../../docs/THEOREMS.md">THEOREMS</a> says how to read one, and names in it link to their definitions.{main}</main>"""
 CRATES = ["num_format", "num_format_decimal"]
 # The files in the order in which a reader needs them; others follow.
 ORDER = """lib buffer to_formatted_str to_formatted_string formatted write_formatted decimal parsing strict locale
@@ -55,7 +57,7 @@ def items(file, text, indent="", starts=r"pub(?= (?:struct|enum|trait|fn|const|t
 
 
 def passed(file, inside=""):
-    """What a file passes on: the file that has it, its name, or nothing for each item, and the path to it."""
+    """What a file re-exports: the file that has it, its name, or nothing for each item, and the path to it."""
     text = file.read_text()
     for found in USE.finditer(text):
         place, path, names = found.groups("")
@@ -70,7 +72,7 @@ def passed(file, inside=""):
 
 @functools.cache
 def sections(crate):
-    """The modules of a crate, each with its file and what it has or passes on, with the path to each item."""
+    """The modules of a crate, each with its file and what it has or re-exports, with the path to each item."""
     lib = ROOT / "crates" / crate / "src" / "lib.rt"
     wanted, found, paths = {lib: {"": ""}}, {}, {}
     for file, name, inside in passed(lib):
