@@ -36,11 +36,11 @@ ROWS = [
 WIDTH, NAMES, PANELS, PANEL, TOP, ROW = 800, 282, (300, 556), 206, 104, 23
 # The nanoseconds at both ends of the scale, and those with a line.
 FROM, TO, LINES = 30, 20_000, [100, 1_000, 10_000]
-COLOURS = {True: "#0072b2", False: "#d55e00"}
 BOTTOM = TOP + ROW * len(ROWS)
+BOLD = ' font-weight="bold"'
 
-HEAD = f"""<svg xmlns="http://www.w3.org/2000/svg" width="{WIDTH}" height="{BOTTOM + 34}"
- viewBox="0 0 {WIDTH} {BOTTOM + 34}" font-family="DejaVu Sans, Verdana, sans-serif" font-size="12">
+HEAD = f"""<svg xmlns="http://www.w3.org/2000/svg" width="{WIDTH}" height="{BOTTOM + 54}"
+ viewBox="0 0 {WIDTH} {BOTTOM + 54}" font-family="DejaVu Sans, Verdana, sans-serif" font-size="12">
 <rect width="100%" height="100%" fill="#fff"/>"""
 
 
@@ -54,7 +54,8 @@ def read(text):
 
 def time(rows, language, call, column):
     """The nanoseconds of the first call that begins so."""
-    return next(float(row[column + 1].replace(",", "")) for row in rows if row[0] == language and row[column].startswith(call))
+    found = (row for row in rows if row[0] == language and row[column].startswith(call))
+    return float(next(found)[column + 1].replace(",", ""))
 
 
 def across(panel, nanoseconds):
@@ -66,18 +67,20 @@ def text(x, y, shown, anchor="start", more=""):
 
 
 def mark(x, y, is_ours):
-    shape = f'<circle cx="{x:.1f}" cy="{y}" r="5"' if is_ours else f'<rect x="{x - 4.5:.1f}" y="{y - 4.5}" width="9" height="9"'
-    return f'{shape} fill="{COLOURS[is_ours]}"/>'
+    if is_ours:
+        return f'<circle cx="{x:.1f}" cy="{y}" r="5" fill="#0072b2"/>'
+    return f'<rect x="{x - 4.5:.1f}" y="{y - 4.5}" width="9" height="9" fill="#d55e00"/>'
 
 
 def frame(date, machine):
     """The titles, the legend and the scale of both panels."""
-    yield text(14, 24, "Nanoseconds to print and to parse an integer of 64 bits", more=' font-size="16" font-weight="bold"')
-    yield text(14, 44, f"of 1 to 19 digits under the locale en, on a logarithmic scale: left is faster. {machine}, {date}")
+    yield text(14, 24, "Nanoseconds to print and to parse an integer of 64 bits", more=f' font-size="16"{BOLD}')
+    yield text(14, 44, "of 1 to 19 digits under the locale en, on a logarithmic scale: left is faster")
+    yield text(14, BOTTOM + 42, f"Measured on {date} on {machine}", more=' fill="#555"')
     yield mark(20, 66, True) + text(32, 70, "this library, which parses strictly")
     yield mark(276, 66, False) + text(288, 70, "what people use without it")
     for panel, title in enumerate(["printed", "parsed"]):
-        yield text(PANELS[panel], TOP - 10, title, more=' font-weight="bold"')
+        yield text(PANELS[panel], TOP - 10, title, more=BOLD)
         for line in LINES:
             x = across(panel, line)
             yield f'<path d="M{x:.1f} {TOP - 4}V{BOTTOM}" stroke="#ddd"/>' + text(x, BOTTOM + 18, f"{line:,}", "middle")
@@ -90,7 +93,8 @@ def chart(source):
     for place, (language, name, *calls, is_ours) in enumerate(ROWS):
         y = TOP + ROW * place + ROW / 2
         if language != before:
-            parts.append(f'<path d="M14 {y - ROW / 2}H{WIDTH - 14}" stroke="#bbb"/>' + text(14, y + 4, language, more=' font-weight="bold"'))
+            parts.append(f'<path d="M14 {y - ROW / 2}H{WIDTH - 14}" stroke="#bbb"/>')
+            parts.append(text(14, y + 4, language, more=BOLD))
             before = language
         parts.append(text(NAMES, y + 4, name, "end"))
         for panel, call in enumerate(calls):
@@ -103,7 +107,8 @@ def chart(source):
 def main():
     drawn = chart(TIMES.read_text(encoding="utf-8"))
     if sys.argv[1:] == ["--check"]:
-        sys.exit(None if CHART.read_text(encoding="utf-8") == drawn else "bench/speed.svg is not of the times: python3 bench/plot.py")
+        is_same = CHART.read_text(encoding="utf-8") == drawn
+        sys.exit(None if is_same else "bench/speed.svg is not of the times: run python3 bench/plot.py")
     CHART.write_text(drawn, encoding="utf-8")
 
 

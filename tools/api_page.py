@@ -13,6 +13,7 @@ import shutil
 import sys
 from collections import namedtuple
 from html import escape
+from itertools import product
 from pathlib import Path
 from textwrap import dedent
 
@@ -27,6 +28,7 @@ HEAD = """<!DOCTYPE html><html lang="en"><meta charset="utf-8"><meta name="viewp
 <a href="../../README.md">README</a>. Below a call is its contract, which is proved;
 <a href="../../docs/THEOREMS.md">THEOREMS</a> says how to read one, and names in it link to their definitions.{main}</main>"""
 CRATES = ["num_format", "num_format_decimal"]
+LAWS = "laws"
 # The files in the order in which a reader needs them; others follow.
 ORDER = """lib buffer to_formatted_str to_formatted_string formatted write_formatted decimal parsing strict locale
 custom_format custom_format_builder format grouping strings certificates json error error_kind printing parser rounding
@@ -141,17 +143,25 @@ def section(crate, item, path):
     return f"<section class=method>{title}{out}</section>" if level == 4 else title + out
 
 
+def heading(path):
+    """The last name of a path, and of a crate's laws the whole path."""
+    return path if path.endswith(f"::{LAWS}") else path.split("::")[-1]
+
+
 def main():
     page = nav = ""
-    for crate in CRATES:
+    # Laws come after all calls.
+    for laws, crate in product([False, True], CRATES):
         for module, (file, pairs) in sections(crate).items():
+            if (module == LAWS) != laws:
+                continue
             path = f"{crate}::{module}".removesuffix("::lib")
             tag = "h2" if "::" in path else "h1"
-            page += f'<{tag} id="{path}">{anchor(f"{TOP}/{file.relative_to(ROOT)}", path.split("::")[-1])}</{tag}>'
+            page += f'<{tag} id="{path}">{anchor(f"{TOP}/{file.relative_to(ROOT)}", heading(path))}</{tag}>'
             page += markdown(crate, "".join(re.findall(r"^//! ?(.*\n)", file.read_text(), re.M)))
             page += "".join(section(crate, *pair) for pair in pairs)
     for tag, path in re.findall(r'<(h[123]) id="([^"]*)"', page):
-        nav += {"h1": "<h2>{}</h2>", "h2": "<p>{}", "h3": " {}"}[tag].format(anchor(f"#{path}", path.split("::")[-1]))
+        nav += {"h1": "<h2>{}</h2>", "h2": "<p>{}", "h3": " {}"}[tag].format(anchor(f"#{path}", heading(path)))
     page = HEAD.format(nav=nav, main=page)
     ends = re.findall('id="([^"]*)"', page)
     wrong = [f"no #{name}" for name in re.findall('href="#([^"]*)"', page) if name not in ends]
