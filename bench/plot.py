@@ -1,57 +1,115 @@
 #!/usr/bin/env python3
-"""Draws speed.svg: nanoseconds by number of digits, from the table that `run` writes."""
+"""Draws speed.svg: what printing and strict parsing take, of the times that packages/bench/run --write writes.
 
-import csv
+    python3 bench/plot.py
+    python3 bench/plot.py --check    # writes nothing
+
+With --check the exit status is 1 where the chart is not of these times.
+"""
+import math
+import re
+import sys
+from html import escape
 from pathlib import Path
 
-import matplotlib
+HERE = Path(__file__).resolve().parent
+TIMES = HERE.parent / "packages" / "bench" / "README.md"
+CHART = HERE / "speed.svg"
 
-matplotlib.use("svg")
-import matplotlib.pyplot as plt
-
-HERE = Path(__file__).parent
-TYPES = ["i64", "u64", "u128"]
-# The column of the table, the name in the legend, the colour and the marker.
-SIDES = [
-    ("original", "num-format 0.4.4 (Rust)", "#d55e00", "s"),
-    ("port", "this port (Rattle)", "#0072b2", "o"),
-    ("plain", "itoa (Rust), plain digits", "#777777", "^"),
+# The rows: a language, the name that the chart shows, what prints, what parses, and whether both are this library's.
+ROWS = [
+    ("C", "num_format.h", "`num_format_print_i64`", "`num_format_parse_strict_i64`", True),
+    ("C", "snprintf, sscanf", "`snprintf` with `%'ld`", "`sscanf` with `%'ld`", False),
+    ("Rust", "write_formatted, parse_strict", "`buffer.write_formatted(", "`text.parse_strict::", True),
+    ("Rust", "num-format 0.4.4, not strict", "the same of num-format", "the same of num-format", False),
+    ("SQLite", "num_format, num_parse", "`num_format(n,", "`num_parse(t,", True),
+    ("SQLite", "printf, CAST(replace ..)", "`printf('%,d'", "`CAST(replace(t,", False),
+    ("PostgreSQL", "num_format, num_parse", "`num_format(n,", "`num_parse(t,", True),
+    ("PostgreSQL", "to_char, to_number", "`to_char(n,", "`to_number(t,", False),
+    ("Python", "format_column, parse_column", "`format_column(", "`parse_column(", True),
+    ("Python", "format, parse", "`num_format.format(", "`num_format.parse(", True),
+    ("Python", 'f"{n:,}", int(replace ..)', '`f"{n:,}"`', "`int(text.replace(", False),
+    ("Python", "babel.numbers", "`babel.numbers.format_decimal(", "`babel.numbers.parse_number(", False),
 ]
 
+# In pixels: the chart, where names end, where each panel starts and how wide it is, where rows start, and a row.
+WIDTH, NAMES, PANELS, PANEL, TOP, ROW = 800, 282, (300, 556), 206, 104, 23
+# The nanoseconds at both ends of the scale, and those with a line.
+FROM, TO, LINES = 30, 20_000, [100, 1_000, 10_000]
+BOTTOM = TOP + ROW * len(ROWS)
+BOLD = ' font-weight="bold"'
 
-def points(rows, type_name, side):
-    """The digits and the times of a type's positive numbers of one length."""
-    chosen = [row for row in rows if row["type"] == type_name and row["digits"].isdigit()]
-    return [int(row["digits"]) for row in chosen], [float(row[side]) for row in chosen]
+HEAD = f"""<svg xmlns="http://www.w3.org/2000/svg" width="{WIDTH}" height="{BOTTOM + 54}"
+ viewBox="0 0 {WIDTH} {BOTTOM + 54}" font-family="DejaVu Sans, Verdana, sans-serif" font-size="12">
+<rect width="100%" height="100%" fill="#fff"/>"""
+
+
+def read(text):
+    """The rows of the table by their language, as lists of cells, and what the line after it says of the run."""
+    table, rest = re.search(r"\n(\| For \|.*?)\n\n(.*?)\n", text, re.S).groups()
+    rows = [[cell.strip() for cell in line.strip("|").split(" | ")] for line in table.splitlines()[2:]]
+    date, machine = re.search(r"; (\d{4}-\d\d-\d\d), (.*?)(?:, load|\.?$)", rest).groups()
+    return rows, date, machine
+
+
+def time(rows, language, call, column):
+    """The nanoseconds of the first call that begins so."""
+    found = (row for row in rows if row[0] == language and row[column].startswith(call))
+    return float(next(found)[column + 1].replace(",", ""))
+
+
+def across(panel, nanoseconds):
+    return PANELS[panel] + PANEL * math.log(nanoseconds / FROM) / math.log(TO / FROM)
+
+
+def text(x, y, shown, anchor="start", more=""):
+    return f'<text x="{x:.1f}" y="{y:.1f}" text-anchor="{anchor}"{more}>{escape(shown, quote=False)}</text>'
+
+
+def mark(x, y, is_ours):
+    if is_ours:
+        return f'<circle cx="{x:.1f}" cy="{y}" r="5" fill="#0072b2"/>'
+    return f'<rect x="{x - 4.5:.1f}" y="{y - 4.5}" width="9" height="9" fill="#d55e00"/>'
+
+
+def frame(date, machine):
+    """The titles, the legend and the scale of both panels."""
+    yield text(14, 24, "Nanoseconds to print and to parse an integer of 64 bits", more=f' font-size="16"{BOLD}')
+    yield text(14, 44, "of 1 to 19 digits under the locale en, on a logarithmic scale: left is faster")
+    yield text(14, BOTTOM + 42, f"Measured on {date} on {machine}", more=' fill="#555"')
+    yield mark(20, 66, True) + text(32, 70, "this library, which parses strictly")
+    yield mark(276, 66, False) + text(288, 70, "what people use without it")
+    for panel, title in enumerate(["printed", "parsed"]):
+        yield text(PANELS[panel], TOP - 10, title, more=BOLD)
+        for line in LINES:
+            x = across(panel, line)
+            yield f'<path d="M{x:.1f} {TOP - 4}V{BOTTOM}" stroke="#ddd"/>' + text(x, BOTTOM + 18, f"{line:,}", "middle")
+
+
+def chart(source):
+    """The chart of the times that the document has."""
+    rows, date, machine = read(source)
+    parts, before = [HEAD, *frame(date, machine)], None
+    for place, (language, name, *calls, is_ours) in enumerate(ROWS):
+        y = TOP + ROW * place + ROW / 2
+        if language != before:
+            parts.append(f'<path d="M14 {y - ROW / 2}H{WIDTH - 14}" stroke="#bbb"/>')
+            parts.append(text(14, y + 4, language, more=BOLD))
+            before = language
+        parts.append(text(NAMES, y + 4, name, "end"))
+        for panel, call in enumerate(calls):
+            found = time(rows, language, call, 1 + 2 * panel)
+            x = across(panel, found)
+            parts.append(mark(x, y, is_ours) + text(x + 9, y + 4, f"{found:,.0f}"))
+    return "\n".join([*parts, "</svg>", ""])
 
 
 def main():
-    with open(HERE / "cells.tsv", newline="") as table:
-        rows = [
-            row
-            for row in csv.DictReader(table, delimiter="\t")
-            if row["operation"] == "used Buffer" and row["format"] == "en"
-        ]
-    # The same file for the same table.
-    plt.rcParams.update({"svg.hashsalt": "speed", "font.size": 10})
-    figure, axes = plt.subplots(
-        1, len(TYPES), figsize=(11, 4.2), sharey=True, width_ratios=[19, 20, 39]
-    )
-    for axis, type_name in zip(axes, TYPES):
-        for side, label, colour, marker in SIDES:
-            digits, times = points(rows, type_name, side)
-            axis.plot(digits, times, label=label, color=colour, marker=marker, markersize=3.5)
-        axis.set_title(type_name)
-        axis.set_xlabel("digits of the number")
-        axis.set_xticks([1, 4, 7, 10, 13, 16, 19, *range(22, 40, 3)][: (max(digits) + 2) // 3])
-        axis.set_xlim(0, max(digits) + 1)
-        axis.grid(color="#dddddd", linewidth=0.6)
-    axes[0].set_ylabel("nanoseconds a number")
-    axes[0].set_ylim(bottom=0)
-    axes[-1].legend(loc="upper left")
-    figure.suptitle("Printing into a Buffer under the locale en (lower is better)")
-    figure.tight_layout()
-    figure.savefig(HERE / "speed.svg", metadata={"Date": None})
+    drawn = chart(TIMES.read_text(encoding="utf-8"))
+    if sys.argv[1:] == ["--check"]:
+        is_same = CHART.read_text(encoding="utf-8") == drawn
+        sys.exit(None if is_same else "bench/speed.svg is not of the times: run python3 bench/plot.py")
+    CHART.write_text(drawn, encoding="utf-8")
 
 
 if __name__ == "__main__":

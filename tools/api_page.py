@@ -13,6 +13,7 @@ import shutil
 import sys
 from collections import namedtuple
 from html import escape
+from itertools import product
 from pathlib import Path
 from textwrap import dedent
 
@@ -23,8 +24,11 @@ TOP = "../.."
 STYLE = ROOT / "tools" / "api_page.css"
 HEAD = """<!DOCTYPE html><html lang="en"><meta charset="utf-8"><meta name="viewport" content="width=device-width">
 <title>num_format for Rattle: public calls</title><link rel="stylesheet" href="style.css"><nav><b>Public calls in Rattle</b>{nav}</nav>
-<main><p>Below a call is its contract, which is proved. See the <a href="../../README.md">README</a>.{main}</main>"""
+<main><p>The calls in Rattle, which is Rust with contracts. C, C++, Python, Rust and SQL have others: see the
+<a href="../../README.md">README</a>. Below a call is its contract, which is proved;
+<a href="../../docs/THEOREMS.md">THEOREMS</a> says how to read one, and names in it link to their definitions.{main}</main>"""
 CRATES = ["num_format", "num_format_decimal"]
+LAWS = "laws"
 # The files in the order in which a reader needs them; others follow.
 ORDER = """lib buffer to_formatted_str to_formatted_string formatted write_formatted decimal parsing strict locale
 custom_format custom_format_builder format grouping strings certificates json error error_kind printing parser rounding
@@ -55,7 +59,7 @@ def items(file, text, indent="", starts=r"pub(?= (?:struct|enum|trait|fn|const|t
 
 
 def passed(file, inside=""):
-    """What a file passes on: the file that has it, its name, or nothing for each item, and the path to it."""
+    """What a file re-exports: the file that has it, its name, or nothing for each item, and the path to it."""
     text = file.read_text()
     for found in USE.finditer(text):
         place, path, names = found.groups("")
@@ -70,7 +74,7 @@ def passed(file, inside=""):
 
 @functools.cache
 def sections(crate):
-    """The modules of a crate, each with its file and what it has or passes on, with the path to each item."""
+    """The modules of a crate, each with its file and what it has or re-exports, with the path to each item."""
     lib = ROOT / "crates" / crate / "src" / "lib.rt"
     wanted, found, paths = {lib: {"": ""}}, {}, {}
     for file, name, inside in passed(lib):
@@ -139,17 +143,25 @@ def section(crate, item, path):
     return f"<section class=method>{title}{out}</section>" if level == 4 else title + out
 
 
+def heading(path):
+    """The last name of a path, and of a crate's laws the whole path."""
+    return path if path.endswith(f"::{LAWS}") else path.split("::")[-1]
+
+
 def main():
     page = nav = ""
-    for crate in CRATES:
+    # Laws come after all calls.
+    for laws, crate in product([False, True], CRATES):
         for module, (file, pairs) in sections(crate).items():
+            if (module == LAWS) != laws:
+                continue
             path = f"{crate}::{module}".removesuffix("::lib")
             tag = "h2" if "::" in path else "h1"
-            page += f'<{tag} id="{path}">{anchor(f"{TOP}/{file.relative_to(ROOT)}", path.split("::")[-1])}</{tag}>'
+            page += f'<{tag} id="{path}">{anchor(f"{TOP}/{file.relative_to(ROOT)}", heading(path))}</{tag}>'
             page += markdown(crate, "".join(re.findall(r"^//! ?(.*\n)", file.read_text(), re.M)))
             page += "".join(section(crate, *pair) for pair in pairs)
     for tag, path in re.findall(r'<(h[123]) id="([^"]*)"', page):
-        nav += {"h1": "<h2>{}</h2>", "h2": "<p>{}", "h3": " {}"}[tag].format(anchor(f"#{path}", path.split("::")[-1]))
+        nav += {"h1": "<h2>{}</h2>", "h2": "<p>{}", "h3": " {}"}[tag].format(anchor(f"#{path}", heading(path)))
     page = HEAD.format(nav=nav, main=page)
     ends = re.findall('id="([^"]*)"', page)
     wrong = [f"no #{name}" for name in re.findall('href="#([^"]*)"', page) if name not in ends]

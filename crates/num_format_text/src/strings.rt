@@ -96,8 +96,7 @@ impl<'a, S: Symbol> BoundedStr<'a, S> {
 
     /// Returns the same text. Unlike a clone, it is not wrapped in a `Result`.
     ///
-    /// The Rust crate's types are `Copy`. Rattle has no `Copy` yet for a type that has both a
-    /// lifetime and a [`Model`].
+    /// The Rust crate has no such call.
     ///
     /// ```rust
     /// SeparatorStr::of(",").copied()    // ","
