@@ -230,7 +230,11 @@ pub(crate) fn is_exact<A: Accumulator>(text: &[u8], whole: Part<A>) -> bool
     if whole.figures - 1 != safe {
         return false;
     }
-    whole.magnitude.is_whole(text[0] - b'0')
+    match A::worth(text[0] - b'0') {
+        // A number past the bound leaves less of itself than its first digit is worth.
+        Some(least) => least <= whole.magnitude.number(),
+        None => false,
+    }
 }
 
 /// Returns the digits that a text begins with.
