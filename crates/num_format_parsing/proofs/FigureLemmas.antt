@@ -30,9 +30,7 @@ figures-other b t other = rw other
 -- bytes of which none is a digit, and of which one is
 pub figures-none : (t : List ℕ) → list_any is_ascii_digit t ≡ false → byte_figures t ≡ []
 figures-none [] none = refl
-figures-none (b ∷ t) none =
-    let parts = or_parts _ _ none in
-    figures-other b t parts.0 ∙ figures-none t parts.1
+figures-none (b ∷ t) none = let parts = or_parts _ _ none in figures-other b t parts.0 ∙ figures-none t parts.1
 
 pub figures-some : (t : List ℕ) → list_any is_ascii_digit t ≡ true → ¬ (byte_figures t ≡ [])
 figures-some [] some none = let wrong : false ≡ true = some in cc
