@@ -1,11 +1,11 @@
 -- What a text tells of a decimal, under a format that marks decimals.
 use Rattle.std.proofs.Common.{◌≡◌, ℕ, zero, suc, ◌+◌, ◌/◌, ◌^◌, ◌<◌, ◌⊎◌, inl, inr, Bool, true, false, List, [], ◌∷◌, ◌++◌, length, refl, ap, ◌∙◌, sym, subst, arith, append_assoc, append-nil, ℤ, unsigned_abs, IsUtf8}
-use Rattle.std.specs.Prelude.{if◌then◌else◌, ◌&&◌, nat_lt}
+use Rattle.std.specs.Prelude.{if◌then◌else◌, nat_lt}
 use Rattle.std.specs.Char.{is_ascii_digit}
 use Rattle.std.specs.Int.{is_negative}
 use Rattle.std.specs.Int.Digits.{number_from_digits}
 use Rattle.std.specs.List.{AllByRecursion, list_all}
-use Rattle.std.proofs.lemmas.Bool.{cases_Bool, false_from_ne_true}
+use Rattle.std.proofs.lemmas.Bool.{and_right, false_from_ne_true}
 use Rattle.std.proofs.lemmas.Bool.Decides.{Decides-eqb}
 use Rattle.std.proofs.lemmas.List.{append_cancel_left}
 use Rattle.std.proofs.lemmas.List.Elements.{All-head, All-tail}
@@ -25,7 +25,8 @@ use Rattle.num_format_int.proofs.GroupedLemmas.{grouped-Posix, grouped-printed, 
 use Rattle.num_format_parsing.specs.Reading.{denoted, is_negative_text, magnitude_of}
 use Rattle.num_format_parsing.specs.Shapes.{byte_figures}
 use Rattle.num_format_parsing.specs.Strict.{HasNoNumeral}
-use Rattle.num_format_parsing.proofs.FigureLemmas.{figures-bytes, figures-digit, figures-other}
+use Rattle.num_format_parsing.proofs.FigureLemmas.{figures-bytes, figures-other}
+use Rattle.num_format_parsing.proofs.UnreadLemmas.{plain-first}
 use Rattle.num_format_parsing.proofs.ReadingLemmas.{digits_among-append, digits_among-separated, is_ascii_digit-digit}
 use Rattle.num_format_parsing.proofs.SpellingLemmas.{utf8-separated}
 use Rattle.num_format_certificates.proofs.RoundTripLemmas.{lowest_of_i128, no_prefix, one_of_i128, separated-begins, signed_number-unsigned_abs, unambiguous-from_two}
@@ -150,11 +151,7 @@ denoted-decimal f t z k tells = ap (λ b. signed_number b (magnitude_of t)) tell
 
 -- the first of bytes without digits, and the others
 first_other : (b : ℕ) (t : List ℕ) → byte_figures (b ∷ t) ≡ [] → (is_ascii_digit b ≡ false) × (byte_figures t ≡ [])
-first_other b t none =
-    elim (cases_Bool (is_ascii_digit b)) [
-      | inl digit ↦ (let wrong = sym (figures-digit b t digit) ∙ none in cc)
-      | inr other ↦ (other, sym (figures-other b t other) ∙ none)
-    ]
+first_other b t none = let other = plain-first b t none in (other, sym (figures-other b t other) ∙ none)
 
 -- how many digits stand at the end of digits, and of a text that ends in others
 pub tail-all : (ds : List ℕ) → list_all is_ascii_digit ds ≡ true → tail_digits ds ≡ length ds
@@ -163,11 +160,7 @@ tail-all (d ∷ ds) all = rw all refl
 
 pub tail-skip : (xs rest : List ℕ) → list_all is_ascii_digit rest ≡ false → tail_digits (xs ++ rest) ≡ tail_digits rest
 tail-skip [] rest other = refl
-tail-skip (b ∷ xs) rest other = rw (list_all-append is_ascii_digit (b ∷ xs) rest ∙ ap (λ c. list_all is_ascii_digit (b ∷ xs) && c) other ∙ and_false (list_all is_ascii_digit (b ∷ xs))) (tail-skip xs rest other)
-  where
-    and_false : (c : Bool) → (c && false) ≡ false
-    and_false true = refl
-    and_false false = refl
+tail-skip (b ∷ xs) rest other = rw (list_all-append is_ascii_digit (b ∷ xs) rest ∙ and_right (list_all is_ascii_digit (b ∷ xs)) _ other) (tail-skip xs rest other)
 
 -- after a mark, these are the digits that follow it
 tail-marked : (mark ds : List ℕ) → byte_figures mark ≡ [] → ¬ (mark ≡ []) → list_all is_ascii_digit ds ≡ true → (tail_digits (mark ++ ds) ≡ length ds) × (list_all is_ascii_digit (mark ++ ds) ≡ false)

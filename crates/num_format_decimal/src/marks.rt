@@ -3,6 +3,7 @@ ghost use Rattle.std.specs.Prelude.{◌↔◌, IsTrue};
 ghost use Rattle.num_format_decimal.specs.Marks.{IsMark, MarksDecimals};
 
 use crate::parser::DecimalParser;
+use num_format_parsing::causes::begins_with;
 use num_format_parsing::symbols::is_plain;
 use num_format_text::Format;
 
@@ -32,7 +33,7 @@ pub(crate) fn is_mark(mark: &str, separator: &str) -> bool
     if mark.is_empty() {
         return false;
     }
-    if mark == separator {
+    if begins_with(mark.as_bytes(), separator.as_bytes()) && mark == separator {
         return false;
     }
     is_plain(mark)

@@ -197,17 +197,17 @@ impl<'a, F: Format> DecimalParser<'a, F> {
         ensures { HasReading self.now text.now (λ scale. scale ≤ MAX_SCALE) result }
     {
         self.mark();
-        let Some(cut) = self.mark_place(text) else {
-            return self.read_whole(text);
-        };
-        let (place, end) = cut;
-        match self.read_parts(&text[..place], &text[end..]) {
-            Ok(decimal) => Ok(decimal),
-            Err(fault) => match fault {
-                Fault::TooLarge => Err(Fault::TooLarge),
-                Fault::Unspelled => self.read_whole(text),
-            },
+        if let Some(cut) = self.mark_place(text) {
+            let (place, end) = cut;
+            match self.read_parts(&text[..place], &text[end..]) {
+                Ok(decimal) => return Ok(decimal),
+                Err(fault) => match fault {
+                    Fault::TooLarge => return Err(Fault::TooLarge),
+                    Fault::Unspelled => {}
+                },
+            }
         }
+        self.read_whole(text)
     }
 
     /// Returns where the mark begins and ends that stands before the digits at the end of a text, if it does and they
@@ -224,9 +224,7 @@ impl<'a, F: Format> DecimalParser<'a, F> {
             return None;
         }
         let end = text.len() - count;
-        let Some(place) = end.checked_sub(mark.len()) else {
-            return None;
-        };
+        let place = end.checked_sub(mark.len())?;
         if !begins_with(&text[place..], mark.as_bytes()) {
             return None;
         }
@@ -287,9 +285,9 @@ impl<'a, F: Format> DecimalParser<'a, F> {
         }
     }
 
-    /// Returns why a text is refused that spells no decimal.
+    /// Returns why a text is refused that spells no decimal. It is inlined, so that a parser stays in registers.
     #[cold]
-    #[inline(never)]
+    #[inline(always)]
     fn cause(&self, text: &[u8], is_text: bool) -> ParseDecimalError
         requires utf8 { IsTrue is_text → IsUtf8 text.now }
         requires unspelled { (d : FixedPoint) → d.scale ≤ MAX_SCALE → ¬ (SpellsDecimal self.now text.now d) }
@@ -316,6 +314,7 @@ impl<'a, F: Format> DecimalParser<'a, F> {
 
     /// Returns the place after one decimal mark and digits, if the mark stands at the place `whole`, and how many bytes
     /// follow the mark.
+    #[inline(always)]
     fn decimals_end(&self, text: &[u8], whole: usize) -> (usize, usize)
         requires within { whole ≤ length text.now }
         requires whole { unexpected self.now text.now ≡ drop whole text.now }

@@ -22,15 +22,11 @@ stops-not f t a stops expected = omega (arith, ap length (sym stops.rest ∙ exp
 stops-once : (f : FormatData) (t : List ℕ) (a b : ℕ) → StopsAt f t a → StopsAt f t b → a ≡ b
 stops-once f t a b p q = omega (arith, ap length (sym p.rest ∙ q.rest), length-drop a t, length-drop b t, p.inside, q.inside)
 
--- a text that spells a number has no unexpected byte
-expected_in : (f : FormatData) (t : List ℕ) (z : ℤ) → HasPlainSymbols f → SpellsNumber f t z → IsExpected f t
-expected_in f t z s spells = record { utf8 = utf8-spelled f t z s spells; rest = unexpected-none f t z s spells }
-
--- and no cause but that it is out of range
+-- a text that spells a number is refused for no cause but that it is out of range
 spelled_cause : (k : Kind) (f : FormatData) (t : List ℕ) (z : ℤ) (e : StrictError) → HasPlainSymbols f → SpellsNumber f t z → IsCause k f t e → (e ≡ OutOfRange) × ¬ (IsValueOf k z)
 spelled_cause k f t z AmbiguousFormat s spells p = absurd (p s.unambiguous)
 spelled_cause k f t z NotUtf8 s spells p = absurd (p.1 (utf8-spelled f t z s spells))
-spelled_cause k f t z (Unexpected a) s spells p = absurd (stops-not f t a p.1 (expected_in f t z s spells))
+spelled_cause k f t z (Unexpected a) s spells p = absurd (stops-not f t a p.1 (record { utf8 = utf8-spelled f t z s spells; rest = unexpected-none f t z s spells }))
 spelled_cause k f t z NoDigit s spells p = absurd (figures-spelled f t z s spells p.1.none)
 spelled_cause k f t z Misspelled s spells p = absurd (p.1.wrong z spells)
 spelled_cause k f t z OutOfRange s spells p = (refl, λ value. p.1.wrong (subst (IsValueOf k) (spelled-once f t z p.1.number s spells p.1.spelled) value))

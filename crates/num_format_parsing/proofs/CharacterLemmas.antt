@@ -1,11 +1,11 @@
 -- Bytes that are gone over character by character.
-use Rattle.std.proofs.Common.{◌≡◌, ℕ, ◌+◌, ◌-◌, ◌*◌, ◌<◌, ◌≤◌, ◌⊎◌, inl, inr, Bool, true, false, ◌||◌, List, [], ◌∷◌, ◌++◌, length, refl, ap, ◌∙◌, sym, arith, length-append, append-nil, append_assoc, take, drop, get_or, take-append-drop, take_all, length-take-le, drop-drop, subst, Some, None, IsUtf8}
+use Rattle.std.proofs.Common.{◌≡◌, ℕ, ◌+◌, ◌-◌, ◌*◌, ◌<◌, ◌≤◌, ◌⊎◌, inl, inr, true, false, List, [], ◌∷◌, ◌++◌, length, refl, ap, ◌∙◌, sym, arith, length-append, append-nil, append_assoc, take, drop, get_or, take-append-drop, take_all, length-take-le, drop-drop, subst, Some, None, IsUtf8}
 use Rattle.std.specs.Prelude.{encode_utf8}
 use Rattle.std.specs.Char.{is_ascii_digit}
 use Rattle.std.specs.Int.Digits.{number_from_digits}
 use Rattle.std.specs.List.{list_any}
 use Rattle.std.specs.Str.{chars, encode_utf8_all}
-use Rattle.std.proofs.lemmas.Bool.{and_parts}
+use Rattle.std.proofs.lemmas.Bool.{and_parts, or_left, or_right}
 use Rattle.std.proofs.lemmas.Bool.Decides.{nat_tests}
 use Rattle.std.proofs.lemmas.Int.Digits.{number_after_append, number_after_ge}
 use Rattle.std.proofs.lemmas.List.{drop_more, length-drop, nil_from_length, take_rest}
@@ -82,10 +82,6 @@ read-none text most = record {
   gathers = subst (λ cs. Gathers cs most 0 0) (sym chars-nil) (record { number = refl; length = refl; few = omega arith; below = omega arith; plain = refl });
 }
 
-or_second : (a b c : Bool) → b ≡ true → (a || (b || c)) ≡ true
-or_second true b c h = refl
-or_second false b c h = rw h
-
 module _ (text : List ℕ) (place most count n : ℕ) (read : HasRead text place most count n) where
   -- a digit on
   pub read-digit : (more : ℕ) → place < length text → is_ascii_digit (get_or text place 0) ≡ true → count < most → more ≡ n * 10 + (get_or text place 0 - 48) →
@@ -127,7 +123,7 @@ module _ (text : List ℕ) (place most count n : ℕ) (read : HasRead text place
   refuses-numeral bound size c past numeral =
       let seen = chars (take place text) in
       let rest = chars (drop (place + size) text) in
-      with_other_numeral (ap (list_any is_other_numeral) past.split ∙ list_any-append is_other_numeral seen (c ∷ rest) ∙ or_second (list_any is_other_numeral seen) (is_other_numeral c) (list_any is_other_numeral rest) numeral)
+      with_other_numeral (ap (list_any is_other_numeral) past.split ∙ list_any-append is_other_numeral seen (c ∷ rest) ∙ or_right (list_any is_other_numeral seen) _ (or_left _ (list_any is_other_numeral rest) numeral))
 
   -- all characters, of which none is a digit
   pub refuses-none : (bound : ℕ) → length text ≤ place → count ≡ 0 → HasNoNumber most bound text

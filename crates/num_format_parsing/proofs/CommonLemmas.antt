@@ -1,10 +1,9 @@
 -- A format whose symbols have only characters of those of locales is not ambiguous.
-use Rattle.std.proofs.Common.{◌≡◌, ℕ, ◌-◌, List, [], ◌∷◌, map, refl, sym, ap, ◌∙◌, Bool, true, false, Contains}
-use Rattle.std.specs.Prelude.{filter}
+use Rattle.std.proofs.Common.{◌≡◌, ℕ, List, [], refl, ap, ◌∙◌, Bool, false, Contains}
 use Rattle.std.specs.Char.{is_ascii_digit}
 use Rattle.std.specs.List.{list_any}
 use Rattle.std.specs.Str.{chars}
-use Rattle.std.proofs.lemmas.Bool.{or_parts}
+use Rattle.std.proofs.lemmas.Bool.{both_ways, false_from_ne_true}
 use Rattle.std.proofs.lemmas.List.Elements.{All-weaker}
 use Rattle.std.proofs.lemmas.List.Folds.{list_any_at, list_any_none}
 use Rattle.num_format_text.specs.declared.grouping.Grouping.{Grouping}
@@ -14,32 +13,22 @@ use Rattle.num_format_text.specs.Format.{FormatData}
 use Rattle.num_format_int.specs.Grouped.{printed_separator}
 use Rattle.num_format_parsing.specs.Reading.{is_other_numeral}
 use Rattle.num_format_parsing.specs.Strict.{HasNoNumeral, IsUnambiguous}
+use Rattle.num_format_parsing.proofs.FigureLemmas.{figures-none}
 use Rattle.num_format_parsing.proofs.ReadingLemmas.{ucd_category}
 
 -- a test that no element passes, an element does not pass
 fails_at : (p : ℕ → Bool) (xs : List ℕ) → list_any p xs ≡ false → (c : ℕ) → Contains xs c → p c ≡ false
-fails_at p xs none c at =
-    elim (p c) as (λ b. p c ≡ b → b ≡ false) [
-      | true ↦ λ yes. sym (list_any_at p xs at.0 c at.1 (ap p at.2 ∙ yes)) ∙ none
-      | false ↦ λ no. refl
-    ] refl
+fails_at p xs none c at = false_from_ne_true _ (λ yes. both_ways _ none (list_any_at p xs at.0 c at.1 (ap p at.2 ∙ yes)))
 
 -- a test that none of the characters passes, none of a text with only these characters passes
 pub fails_in : (p : ℕ → Bool) (characters text : List ℕ) → list_any p characters ≡ false → HasOnly characters text → list_any p (chars text) ≡ false
 fails_in p characters text none only =
     list_any_none p (chars text) (All-weaker (Contains characters) (λ c. p c ≡ false) (fails_at p characters none) (chars text) only)
 
--- what no element passes, leaves none
-filter_none : (p : ℕ → Bool) (xs : List ℕ) → list_any p xs ≡ false → filter p xs ≡ []
-filter_none p [] none = refl
-filter_none p (x ∷ xs) none =
-    let parts = or_parts (p x) (list_any p xs) none in
-    rw (parts.0, filter_none p xs parts.1)
-
 -- a text has no numeral, if none of the characters that it may have is a digit or another numeral
 has_no_numeral : (characters text : List ℕ) → list_any is_ascii_digit characters ≡ false → list_any is_other_numeral characters ≡ false → HasOnly characters text → HasNoNumeral text
 has_no_numeral characters text no_digit no_other only = record {
-  no_digit = ap (map (λ c. c - 48)) (filter_none is_ascii_digit (chars text) (fails_in is_ascii_digit characters text no_digit only));
+  no_digit = figures-none (chars text) (fails_in is_ascii_digit characters text no_digit only);
   no_other = fails_in is_other_numeral characters text no_other only;
 }
 

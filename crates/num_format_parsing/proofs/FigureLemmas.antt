@@ -5,7 +5,7 @@ use Rattle.std.specs.Char.{is_ascii_digit}
 use Rattle.std.specs.Int.Digits.{number_from_digits, number_from_digits_after}
 use Rattle.std.specs.List.{list_any}
 use Rattle.std.specs.Str.{chars, encode_utf8_all}
-use Rattle.std.proofs.lemmas.Bool.{cases_Bool}
+use Rattle.std.proofs.lemmas.Bool.{cases_Bool, or_parts}
 use Rattle.std.proofs.lemmas.Bool.Decides.{nat_tests}
 use Rattle.std.proofs.lemmas.Int.Digits.{number_after_append, number_after_ge}
 use Rattle.std.proofs.lemmas.List.{drop_more}
@@ -30,11 +30,7 @@ figures-other b t other = rw other
 -- bytes of which none is a digit, and of which one is
 pub figures-none : (t : List ℕ) → list_any is_ascii_digit t ≡ false → byte_figures t ≡ []
 figures-none [] none = refl
-figures-none (b ∷ t) none =
-    elim (cases_Bool (is_ascii_digit b)) [
-      | inl digit ↦ (let wrong : true ≡ false = rw digit at none in cc)
-      | inr other ↦ figures-other b t other ∙ figures-none t (rw other at none)
-    ]
+figures-none (b ∷ t) none = let parts = or_parts _ _ none in figures-other b t parts.0 ∙ figures-none t parts.1
 
 pub figures-some : (t : List ℕ) → list_any is_ascii_digit t ≡ true → ¬ (byte_figures t ≡ [])
 figures-some [] some none = let wrong : false ≡ true = some in cc

@@ -1,11 +1,12 @@
 -- The number that digits write, whole and modulo a bound, and bytes of ASCII.
-use Rattle.std.proofs.Common.{◌≡◌, ℕ, zero, suc, ◌+◌, ◌-◌, ◌*◌, ◌^◌, ◌<◌, ◌≤◌, true, false, List, [], ◌∷◌, length, refl, ap, ◌∙◌, sym, arith, get_or, lit<}
+use Rattle.std.proofs.Common.{◌≡◌, ℕ, zero, suc, ◌+◌, ◌-◌, ◌*◌, ◌%◌, ◌^◌, ◌<◌, ◌≤◌, inl, inr, true, false, List, [], ◌∷◌, length, refl, ap, ◌∙◌, sym, arith, get_or, lit<}
+use Rattle.std.specs.Prelude.{◌↔◌}
 use Rattle.std.specs.Char.{is_ascii}
 use Rattle.std.specs.Int.Digits.{number_from_digits, number_from_digits_after, AllBelowBase}
 use Rattle.std.specs.List.{list_all, list_any}
 use Rattle.std.specs.Str.{chars, IsAscii}
-use Rattle.std.proofs.Math.Nat.{add-mul, mod-eq_of_lt, mul_assoc, mul_comm, mul-le-mul_right, pow-le-pow_right, pow-suc}
-use Rattle.std.proofs.lemmas.Bool.{and_parts}
+use Rattle.std.proofs.Math.Nat.{add-mul, mod-eq-sub-mod, mod-eq_of_lt, mod-le, mul_assoc, mul_comm, mul-le-mul_right, pow-le-pow_right, pow-suc}
+use Rattle.std.proofs.lemmas.Bool.{and_parts, cases_lt}
 use Rattle.std.proofs.lemmas.Bool.Decides.{nat_tests}
 use Rattle.std.proofs.lemmas.Int.Digits.{number_lt}
 use Rattle.std.proofs.lemmas.List.Elements.{All-head, All-tail}
@@ -30,16 +31,9 @@ no_other : (t : List ℕ) → IsAscii t → list_any is_other_numeral t ≡ fals
 no_other [] ascii = refl
 no_other (b ∷ t) ascii = rw (is_other_numeral-ascii b (ascii zero)) (no_other t (λ i. ascii (suc i)))
 
--- no character of a text is another numeral
-abbrev pub HasNoOther : List ℕ → Type 0
-HasNoOther t = list_any is_other_numeral (chars t) ≡ false
-
-no_other-ascii : (t : List ℕ) → IsAscii t → HasNoOther t
-no_other-ascii t ascii = ap (list_any is_other_numeral) (chars-IsAscii t ascii) ∙ no_other t ascii
-
--- as in a text whose bytes are tested
-pub no_other-bytes : (t : List ℕ) → list_all is_ascii t ≡ true → HasNoOther t
-no_other-bytes t all = no_other-ascii t (ascii-all t all)
+-- nor among the characters of a text of such bytes
+pub no_other-bytes : (t : List ℕ) → list_all is_ascii t ≡ true → list_any is_other_numeral (chars t) ≡ false
+no_other-bytes t all = let ascii = ascii-all t all in ap (list_any is_other_numeral) (chars-IsAscii t ascii) ∙ no_other t ascii
 
 -- digits as std's words for numbers take them
 below_base : (ds : List ℕ) → AreDigits ds → AllBelowBase 10 ds
@@ -70,6 +64,16 @@ number-few bound safe t few fits =
 -- so it is that number, also modulo the bound
 pub exact-few : (bound safe : ℕ) (t : List ℕ) (count n : ℕ) → HasDigits bound t count n → count ≤ safe → 10 ^ safe ≤ bound → n ≡ number_in t
 exact-few bound safe t count n digits few fits = digits.number ∙ mod-eq_of_lt (number-few bound safe t (omega (arith, digits.figures, few)) fits)
+
+-- a number with one digit more is below the bound exactly if what is left of it modulo the bound is not less than its first digit is worth
+pub exact-worth : (bound power first n m : ℕ) → power ≤ bound → first * power ≤ n → n < (first + 1) * power → m ≡ n % bound → (n < bound) ↔ (first * power ≤ m)
+exact-worth bound power first n m fits above below same = (
+  λ under. omega (arith, same ∙ mod-eq_of_lt under, above),
+  λ enough. elim (cases_lt n bound) [
+    | inl under ↦ under
+    | inr past ↦ absurd (omega (arith, same ∙ mod-eq-sub-mod past, mod-le (n - bound) bound, add-mul first 1 power, below, enough, fits, past))
+  ],
+)
 
 -- the first digit of bytes, and how much it is worth
 pub record HasFirst (t : List ℕ) : Type 0 where

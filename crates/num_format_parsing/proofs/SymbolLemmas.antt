@@ -1,9 +1,9 @@
 -- The symbols of a format that is not ambiguous.
-use Rattle.std.proofs.Common.{◌≡◌, ℕ, ◌<◌, inl, inr, Bool, true, false, not, ◌||◌, get_or, List, [], ◌∷◌, length, refl, ap, ◌∙◌, sym, arith, IsUtf8}
+use Rattle.std.proofs.Common.{◌≡◌, ℕ, ◌<◌, inl, inr, Bool, true, false, not, get_or, List, [], ◌∷◌, length, refl, ap, ◌∙◌, sym, arith, IsUtf8}
 use Rattle.std.specs.Prelude.{◌↔◌, IsTrue}
 use Rattle.std.specs.Char.{is_ascii, is_ascii_digit}
 use Rattle.std.specs.List.{list_all, list_any}
-use Rattle.std.proofs.lemmas.Bool.{both_ways, cases_Bool}
+use Rattle.std.proofs.lemmas.Bool.{both_ways, cases_Bool, or_from, or_left}
 use Rattle.std.specs.Str.{chars}
 use Rattle.num_format_text.specs.Format.{FormatData}
 use Rattle.num_format_int.specs.Grouped.{printed_separator}
@@ -30,15 +30,11 @@ decided t false utf8 none same = (λ yes. no_numeral t utf8 none (sym same), λ 
 -- a text of one byte of ASCII has one exactly if the byte is a digit
 pub decided-byte : (t : List ℕ) (b : Bool) → IsUtf8 t → length t ≡ 1 → list_all is_ascii t ≡ true → b ≡ is_ascii_digit (get_or t 0 0) → IsTrue (not b) ↔ HasNoNumeral t
 decided-byte t b utf8 one ascii same =
-    let digits : list_any is_ascii_digit t ≡ b = ap (list_any is_ascii_digit) (one-byte t one) ∙ or_false (is_ascii_digit (get_or t 0 0)) ∙ sym same in
+    let digits = ap (list_any is_ascii_digit) (one-byte t one) in
     elim (cases_Bool b) [
-      | inl digit ↦ (λ yes. absurd (both_ways _ (ap not digit) yes), λ plain. absurd (some_digit t utf8 (digits ∙ digit) plain))
-      | inr none ↦ (λ yes. no_numeral t utf8 (digits ∙ none) (no_other-bytes t ascii), λ plain. ap not none)
+      | inl digit ↦ (λ yes. absurd (both_ways _ (ap not digit) yes), λ plain. absurd (some_digit t utf8 (digits ∙ or_left _ false (sym same ∙ digit)) plain))
+      | inr none ↦ (λ yes. no_numeral t utf8 (digits ∙ or_from _ false (sym same ∙ none) refl) (no_other-bytes t ascii), λ plain. ap not none)
     ]
-  where
-    or_false : (b : Bool) → (b || false) ≡ b
-    or_false true = refl
-    or_false false = refl
 
 -- symbols that many locales have, in UTF-8: narrow no-break space, no-break space, right single quotation mark, and minus sign
 pub common-symbols : HasNoNumeral (226 ∷ 128 ∷ 175 ∷ []) × HasNoNumeral (194 ∷ 160 ∷ []) × HasNoNumeral (226 ∷ 128 ∷ 153 ∷ []) × HasNoNumeral (226 ∷ 136 ∷ 146 ∷ [])

@@ -208,11 +208,36 @@ fn read_grouped<A: Accumulator>(
     if separator.is_empty() {
         return None;
     }
-    let whole = read_groups(text, first, separator, sizes.last, sizes.size)?;
+    let whole = read_by_sizes(text, first, separator, sizes)?;
     if whole.figures < sizes.least {
         return None;
     }
     Some(whole)
+}
+
+/// Returns the whole text, if groups of these sizes follow the first part.
+///
+/// The sizes of most groups, and that the separator is one byte, are known where their loop is compiled.
+#[inline(always)]
+fn read_by_sizes<A: Accumulator>(
+    text: &[u8],
+    first: Part<A>,
+    separator: &[u8],
+    sizes: Sizes,
+) -> Option<Part<A>>
+    requires begin { BeginsWithDigits text.now first.figures }
+    requires read { HasDigits A.bound (take first.figures text.now) first.figures (A.number first.magnitude) }
+    requires plain { byte_figures separator.now ≡ [] }
+    requires separator { 0 < length separator.now }
+    requires size { (0 < sizes.size) × (sizes.size ≤ sizes.last) × (sizes.last ≤ 4) }
+    ensures { MatchOption result (¬ (IsInGroups sizes.last sizes.size separator.now text.now))
+        (λ whole. IsInGroups sizes.last sizes.size separator.now text.now
+        × HasDigits A.bound text.now whole.figures (A.number whole.magnitude)) }
+{
+    match (separator.len(), sizes.size, sizes.last) {
+        (1, 3, 3) => read_groups(text, first, separator, 3, 3),
+        _ => read_groups(text, first, separator, sizes.last, sizes.size),
+    }
 }
 
 /// Returns whether the number of a text that was read to its end is below the bound, so that it is that of its digits,
@@ -230,7 +255,11 @@ pub(crate) fn is_exact<A: Accumulator>(text: &[u8], whole: Part<A>) -> bool
     if whole.figures - 1 != safe {
         return false;
     }
-    whole.magnitude.is_whole(text[0] - b'0')
+    match A::worth(text[0] - b'0') {
+        // A number past the bound leaves less of itself than its first digit is worth.
+        Some(least) => least <= whole.magnitude.number(),
+        None => false,
+    }
 }
 
 /// Returns the digits that a text begins with.
@@ -257,7 +286,7 @@ fn read_digits<A: Accumulator>(text: &[u8]) -> Part<A>
 }
 
 /// Returns the digit that a byte is, or `None` if it is none.
-#[inline(always)]
+#[inline]
 fn digit(byte: u8) -> Option<u16>
     ensures { MatchOption result (is_ascii_digit byte ≡ false)
         (λ digit. (is_ascii_digit byte ≡ true) × (digit ≡ byte - 48) × (digit < 10)) }

@@ -113,6 +113,28 @@ fn is_unambiguous<F: Format>(format: &F, minus_sign: &str, separator: &str) -> b
     !minus_sign.is_empty() && is_plain(minus_sign) && is_plain(separator)
 }
 
+/// Returns the number that the text of the bytes spells under a format, or the first cause for which it is refused.
+#[inline(always)]
+pub(crate) fn parse_strict<N: Sealed, F: Format>(
+    bytes: &[u8],
+    is_text: bool,
+    format: &F,
+) -> Result<N, StrictError>
+    requires { IsTrue is_text → IsUtf8 bytes.now }
+    ensures { ParsesStrictly N.kind N.value (F.answers format.now) bytes.now result }
+{
+    // Most texts are short. What is needed of the separator is what its getter promises: that it is UTF-8.
+    if bytes.len() <= SHORT_LEN && format.has_common_symbols() {
+        format.separator().into_str();
+        let minus_sign = format.minus_sign().into_str();
+        let sign = sign_of(bytes, minus_sign);
+        if let Some(magnitude) = read_short(bytes, sign) {
+            return number_of(sign, magnitude as u128);
+        }
+    }
+    StrictParser::new(format)?.parse_any(bytes, is_text)
+}
+
 impl<'a, F: Format> StrictParser<'a, F> {
     /// Returns a parser of texts under the format.
     ///

@@ -20,8 +20,8 @@ returns-then-is_empty g c =
     let none : length a.separator.now ≡ 0 = grind (arith, nat_tests, empty) in
     lacks-separator a.grouping a.separator.now a.text.now a.first.figures c.requires.begin (grouped-empty a.grouping a.separator.now (byte_figures a.text.now) none)
 
-pub read_groups-requires-clause-size : goal.read_groups-requires-clause-size
-read_groups-requires-clause-size g c = shape-bounds c.in_ok-sizes.sizes c.in_ok-sizes.ensures.shape
+pub read_by_sizes-requires-clause-size : goal.read_by_sizes-requires-clause-size
+read_by_sizes-requires-clause-size g c = shape-bounds c.in_ok-sizes.sizes c.in_ok-sizes.ensures.shape
 
 pub returns-in_err-whole : goal.returns-in_err-whole
 returns-in_err-whole g c =
