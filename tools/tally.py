@@ -41,8 +41,9 @@ class Tally:
         self.count(not problem, bool(problem))
 
     def compare(self, name, found, expected):
-        """Counts a check that failed if the values differ."""
+        """Counts a check that failed if the values differ, and returns whether it passed."""
         self.add(name, None if found == expected else f"{found!r} in place of {expected!r}")
+        return found == expected
 
     def skip(self, name, why):
         """Counts a check that is not made."""
