@@ -1,16 +1,15 @@
 -- Decimals of a scale that are parsed, as they cross to C.
-use Rattle.std.proofs.Common.{◌≡◌, ℕ, ℤ, pos, List, ap, sym, ◌∙◌, subst, Result, Ok, Err}
-use Rattle.std.specs.Prelude.{◌↔◌}
+use Rattle.std.proofs.Common.{◌≡◌, ℕ, ℤ, pos, List, refl, ap, sym, ◌∙◌, subst, Result, Ok, Err}
+use Rattle.std.specs.Prelude.{◌↔◌, MatchResult}
 use Rattle.num_format.specs.Format.{FormatData}
 use Rattle.num_format_decimal.specs.FixedPoint.{FixedPoint}
 use Rattle.num_format_decimal.specs.Parsing.{IsAtScaleCause, ParsesAtScale}
 use Rattle.num_format_decimal.specs.declared.parsing.ParseAtScaleError.{ParseAtScaleError}
 use Rattle.num_format_c.specs.Calls.{ParsesAtScaleUnder, at_scale_status_of, code}
-use Rattle.num_format_c.specs.Columns.{ParsesAtScaleInto, signed_value}
+use Rattle.num_format_c.specs.Columns.{ParsesAtScaleInto}
 use Rattle.num_format_c.specs.Held.{HasFormat, format_of}
 use Rattle.num_format_c.specs.declared.format.NumFormat.{NumFormat}
 use Rattle.num_format_c.specs.declared.status.Status.{Status}
-use Rattle.num_format_c.specs.declared.wide.SignedWide.{SignedWide}
 use Rattle.num_format_c.proofs.CallLemmas.{error_code}
 
 module _ (scale : ℕ) (s : NumFormat) (text : List ℕ) where
@@ -39,19 +38,16 @@ module _ (scale : ℕ) (s : NumFormat) (text : List ℕ) where
       number = λ _ z read. (let wrong = spelled z read in cc);
     }
 
-  module _ (old new : SignedWide) (result : ℤ) where
-    -- the units are stored, and 0 returned
-    pub units_stored : (d : FixedPoint) → ParsesAtScaleUnder scale s text (Ok d) → signed_value new ≡ d.units → result ≡ pos 0 → ParsesAtScaleInto scale s text old new result
-    units_stored d p same ok = record {
-      bad_format = λ none. (let e = p.bad_format none in cc);
-      refused = λ given e why. (let f = p.refused given e why in cc);
-      number = λ given z read. (let e = p.number given z read in let one : d ≡ z = cc in (ok, same ∙ ap (λ x. x.units) one));
-    }
-
-    -- nothing is stored, and the error's number returned
-    pub units_kept : (status : Status) → ParsesAtScaleUnder scale s text (Err status) → new ≡ old → result ≡ code status → ParsesAtScaleInto scale s text old new result
-    units_kept status p same error = record {
-      bad_format = λ none. record { error = error ∙ ap error_code (p.bad_format none); unchanged = same };
-      refused = λ given e why. record { error = error ∙ ap error_code (p.refused given e why); unchanged = same };
-      number = λ given z read. (let e = p.number given z read in cc);
-    }
+-- what is stored for what parsing returns
+pub at_scale_into : (scale : ℕ) (s : NumFormat) (text : List ℕ) (r : Result FixedPoint Status) → ParsesAtScaleUnder scale s text r →
+    MatchResult r (λ d. (old : ℤ) → ParsesAtScaleInto scale s text old d.units (pos 0)) (λ status. (old : ℤ) → ParsesAtScaleInto scale s text old old (code status))
+at_scale_into scale s text (Ok d) p = λ old. record {
+  bad_format = λ none. (let e = p.bad_format none in cc);
+  refused = λ given e why. (let f = p.refused given e why in cc);
+  number = λ given z read. (let e = p.number given z read in let one : d ≡ z = cc in (refl, ap (λ x. x.units) one));
+}
+at_scale_into scale s text (Err status) p = λ old. record {
+  bad_format = λ none. record { error = ap error_code (p.bad_format none); unchanged = refl };
+  refused = λ given e why. record { error = ap error_code (p.refused given e why); unchanged = refl };
+  number = λ given z read. (let e = p.number given z read in cc);
+}

@@ -1,8 +1,9 @@
 -- Results, as they cross to C.
 use Rattle.std.proofs.Common.{◌≡◌, ℕ, ℤ, pos, List, refl, ap, Option, Some, None, Result, Ok, Err, MatchOption, ◌∙◌, Bool, true, false, if◌then◌else◌}
-use Rattle.std.specs.Prelude.{IsTrue, ◌↔◌}
+use Rattle.std.specs.Prelude.{IsTrue, MatchResult, ◌↔◌}
 use Rattle.num_format.specs.Kind.{Kind}
 use Rattle.num_format_c.specs.Calls.{Fails, Parses, ParsesExactly, ParsesExactlyInto, ParsesInto, Tells, code}
+use Rattle.num_format_c.specs.Columns.{ParsesRowExactly}
 use Rattle.num_format_c.specs.declared.format.NumFormat.{NumFormat}
 use Rattle.num_format_c.specs.declared.status.Status.{Status}
 use Rattle.num_format_c.specs.declared.status.Status.TheVariants.{BadBits}
@@ -79,3 +80,16 @@ module _ {A : Type 0} (value : A → ℤ) (s : NumFormat) (text : List ℕ) (old
       MatchOption kind (Fails BadBits old new result × (at_new ≡ at_old)) (λ k. ParsesExactlyInto k s text old new at_old at_new result)
   kept_exactly_any at_old at_new None status p same error = (record { error = error ∙ ap error_code p.0; unchanged = same }, p.1)
   kept_exactly_any at_old at_new (Some k) status p same error = kept_exactly at_old at_new k status p same error
+
+module _ {A : Type 0} (value : A → ℤ) (s : NumFormat) (text : List ℕ) (k : Kind) where
+  -- what is stored for what parsing returns
+  pub parsed_into : (r : Result A Status) → Parses k value s text r →
+      MatchResult r (λ n. (old : ℤ) → ParsesInto k s text old (value n) (pos 0)) (λ status. (old : ℤ) → ParsesInto k s text old old (code status))
+  parsed_into (Ok n) p = λ old. stored value s text old (value n) (pos 0) k n p refl refl
+  parsed_into (Err status) p = λ old. kept value s text old old (code status) k status p refl refl
+
+  -- the same of strict parsing
+  pub parsed_row_exactly : (at : ℕ) (r : Result A Status) → ParsesExactly k value s text 0 at r →
+      MatchResult r (λ n. (old : ℤ) → ParsesRowExactly k s text old (value n) (pos 0)) (λ status. (old : ℤ) → ParsesRowExactly k s text old old (code status))
+  parsed_row_exactly at (Ok n) p = λ old. (at, stored_exactly value s text old (value n) (pos 0) 0 at k n p refl refl)
+  parsed_row_exactly at (Err status) p = λ old. (at, kept_exactly value s text old old (code status) 0 at k status p refl refl)

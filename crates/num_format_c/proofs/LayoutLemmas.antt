@@ -1,65 +1,46 @@
--- The texts of the first values of a column, and one more of them.
-use Rattle.std.proofs.Common.{◌≡◌, inl, inr, ℕ, ◌+◌, ◌<◌, ◌≤◌, List, [], ◌∷◌, ◌++◌, length, take, drop, get_or, set, refl, ap, ◌∙◌, sym, arith, append-nil, length-append, length-take, get_or-set_same, get_or-set_other}
-use Rattle.std.specs.List.{enumerate_from, flat_map}
-use Rattle.std.proofs.lemmas.List.{take_more, take-append-drop, take_at, drop_at, drop-drop}
-use Rattle.std.proofs.lemmas.List.Concat.{flat_map-append}
-use Rattle.std.proofs.lemmas.Bool.{cases_eq}
-use Rattle.num_format_c.specs.Layout.{Rows, row_text, texts_of}
+-- The texts of the first rows of a column, and one row more.
+use Rattle.std.proofs.Common.{◌≡◌, ◌≢◌, inl, inr, ℕ, zero, suc, ◌+◌, ◌*◌, ◌<◌, ◌≤◌, List, ◌++◌, length, take, drop, refl, ap, ◌∙◌, arith, add-one, length-append}
+use Rattle.std.proofs.Math.Nat.{eq-or-lt_of_le}
+use Rattle.std.proofs.lemmas.List.{take_at, drop_at, drop-drop}
+use Rattle.std.proofs.lemmas.Bool.{cases_eq, eqb-true}
+use Rattle.std.proofs.lemmas.Nat.{div-add-mod'}
+use Rattle.std.specs.Prelude.{Option, Some, None, ◌==◌, ◌&&◌, ◌/◌, ◌%◌, Bool, true, false, if◌then◌else◌}
+use Rattle.std.specs.Int.{byte_len}
+use Rattle.num_format_c.specs.Layout.{IsEnough, Representation, covers, row_count, texts_of, width}
+use Rattle.num_format_c.specs.declared.layout.offset.OffsetType.{OffsetType}
+use Rattle.num_format_c.specs.declared.layout.offset.OffsetType.TheVariants.{I32, I64}
 
--- the elements of two lists with their places
-enumerate_append : {A : Type 0} (n : ℕ) (xs ys : List A) → enumerate_from n (xs ++ ys) ≡ enumerate_from n xs ++ enumerate_from (n + length xs) ys
-enumerate_append n [] ys = let same : n ≡ n + 0 = omega arith in ap (λ m. enumerate_from m ys) same
-enumerate_append n (x ∷ xs) ys =
-    let same : n + 1 + length xs ≡ n + length (x ∷ xs) = omega arith in
-    ap (λ rest. (n, x) ∷ rest) (enumerate_append (n + 1) xs ys ∙ ap (λ m. enumerate_from (n + 1) xs ++ enumerate_from m ys) same)
-
-module _ {A : Type 0} (text : A → List ℕ) (rows : Rows) (values : List A) where
-  -- the text of a row, by its place and its value
-  abbrev placed : ℕ × A → List ℕ
-  placed row = row_text text rows row.0 row.1
-
+module _ (text : ℕ → List ℕ) where
   -- one more text
-  pub texts_more : (i : ℕ) (x : A) → i < length values → x ≡ get_or values i x →
-      texts_of text rows (take (i + 1) values) ≡ texts_of text rows (take i values) ++ row_text text rows i x
-  texts_more i x within is =
-      let more : take (i + 1) values ≡ take i values ++ x ∷ [] = take_more values i x within ∙ ap (λ y. take i values ++ y ∷ []) (sym is) in
-      let place : 0 + length (take i values) ≡ i = omega (arith, length-take i values) in
-      ap (λ vs. texts_of text rows vs) more
-      ∙ ap (flat_map placed) (enumerate_append 0 (take i values) (x ∷ []))
-      ∙ flat_map-append placed (enumerate_from 0 (take i values)) (enumerate_from (0 + length (take i values)) (x ∷ []))
-      ∙ ap (λ m. texts_of text rows (take i values) ++ (row_text text rows m x ++ [])) place
-      ∙ ap (λ t. texts_of text rows (take i values) ++ t) (append-nil (row_text text rows i x))
+  pub texts_more : (i : ℕ) → texts_of text (i + 1) ≡ texts_of text i ++ text i
+  texts_more i = ap (texts_of text) (add-one i)
 
   -- and its length
-  pub length_texts_more : (i : ℕ) (x : A) → i < length values → x ≡ get_or values i x →
-      length (texts_of text rows (take (i + 1) values)) ≡ length (texts_of text rows (take i values)) + length (row_text text rows i x)
-  length_texts_more i x within is =
-      ap length (texts_more i x within is) ∙ length-append (texts_of text rows (take i values)) (row_text text rows i x)
+  pub length_texts_more : (i : ℕ) → length (texts_of text (i + 1)) ≡ length (texts_of text i) + length (text i)
+  length_texts_more i = ap length (texts_more i) ∙ length-append (texts_of text i) (text i)
 
   -- the first texts are no longer than all
-  pub length_texts_le : (i : ℕ) → length (texts_of text rows (take i values)) ≤ length (texts_of text rows values)
-  length_texts_le i =
-      let front = enumerate_from 0 (take i values) in
-      let back = enumerate_from (0 + length (take i values)) (drop i values) in
-      let parts : texts_of text rows values ≡ flat_map placed front ++ flat_map placed back =
-      ap (λ vs. texts_of text rows vs) (sym (take-append-drop i values)) ∙ ap (flat_map placed) (enumerate_append 0 (take i values) (drop i values)) ∙ flat_map-append placed front back in
-      omega (arith, ap length parts, length-append (flat_map placed front) (flat_map placed back))
+  pub length_texts_le : (i n : ℕ) → i ≤ n → length (texts_of text i) ≤ length (texts_of text n)
+  length_texts_le i zero le =
+      let none : i ≡ 0 = omega arith in
+      omega (arith, ap (λ j. length (texts_of text j)) none)
+  length_texts_le i (suc n) le =
+      elim (eq-or-lt_of_le le) [
+        | inl same ↦ omega (arith, ap (λ j. length (texts_of text j)) same)
+        | inr under ↦ omega (arith, length_texts_le i n (omega arith), length-append (texts_of text n) (text n))
+      ]
 
   -- one more is no longer than all
-  pub length_texts_fit : (i : ℕ) (x : A) → i < length values → x ≡ get_or values i x →
-      length (texts_of text rows (take i values)) + length (row_text text rows i x) ≤ length (texts_of text rows values)
-  length_texts_fit i x within is =
-      omega (arith, length_texts_more i x within is, length_texts_le (i + 1))
+  pub length_texts_fit : (i n : ℕ) → i < n → length (texts_of text i) + length (text i) ≤ length (texts_of text n)
+  length_texts_fit i n under = omega (arith, length_texts_more i, length_texts_le (i + 1) n (omega arith))
 
   -- one more offset
-  pub ends_more : {B : Type 0} (place : B → ℕ) (offsets : List B) (i : ℕ) (o : B) → i + 1 < length offsets →
-      ((j : ℕ) (d : B) → j ≤ i → place (get_or offsets j d) ≡ length (texts_of text rows (take j values))) →
-      place o ≡ length (texts_of text rows (take (i + 1) values)) →
-      (j : ℕ) (d : B) → j ≤ i + 1 → place (get_or (set offsets (i + 1) o) j d) ≡ length (texts_of text rows (take j values))
-  ends_more {B} place offsets i o within before here j d most =
-      elim (cases_eq j (i + 1)) as (λ _. place (get_or (set offsets (i + 1) o) j d) ≡ length (texts_of text rows (take j values))) [
-        | inl same ↦ rw (same, get_or-set_same offsets (i + 1) o d within) here
-        | inr other ↦ rw (get_or-set_other offsets (i + 1) j o d other) (before j d (omega arith))
+  pub ends_more : (old new : ℕ → ℕ) (i : ℕ) → ((j : ℕ) → j ≤ i → old j ≡ length (texts_of text j)) → new (i + 1) ≡ length (texts_of text (i + 1)) →
+      ((j : ℕ) → j ≢ i + 1 → new j ≡ old j) → (j : ℕ) → j ≤ i + 1 → new j ≡ length (texts_of text j)
+  ends_more old new i before here others j most =
+      elim (cases_eq j (i + 1)) as (λ _. new j ≡ length (texts_of text j)) [
+        | inl same ↦ rw same here
+        | inr other ↦ others j other ∙ before j (omega arith)
       ]
 
 -- a text written after others
@@ -75,3 +56,29 @@ written old done text bytes end at is =
       drop-drop (length text) (length done) old,
       length-append done text,
     ) refl
+
+-- one row more has a property that each before it has, where nothing else changed
+pub row_more : {A B : Type 0} (P : ℕ → A → B → Type 0) (a b : ℕ → A) (c d : ℕ → B) (n : ℕ) → ((k : ℕ) → k < n → P k (a k) (c k)) → P n (b n) (d n) →
+    ((k : ℕ) → k ≢ n → b k ≡ a k) → ((k : ℕ) → k ≢ n → d k ≡ c k) → (k : ℕ) → k < n + 1 → P k (b k) (d k)
+row_more P a b c d n before here same alike k below =
+    elim (cases_eq k n) as (λ _. P k (b k) (d k)) [
+      | inl is ↦ rw is here
+      | inr other ↦ rw (same k other, alike k other) (before k (omega arith))
+    ]
+
+-- an offset lies in the bytes of all
+pub offset_within : (t : OffsetType) (n len k : ℕ) → IsEnough t n len → k ≤ n → (k + 1) * byte_len (width t) ≤ len
+offset_within I32 n len k enough le = omega arith
+offset_within I64 n len k enough le = omega arith
+
+-- values that are whole
+whole_if : (b c : Bool) (len size n : ℕ) → (b ≡ true → len % size ≡ 0) → (if b && c then Some (len / size) else None) ≡ Some n → len ≡ n * size
+whole_if true true len size n none is =
+    let count : len / size ≡ n = cc in
+    omega (arith, div-add-mod' len size, none refl, ap (λ m. m * size) count)
+whole_if true false len size n none is = cc
+whole_if false c len size n none is = cc
+
+pub whole_rows : (t : Representation) (values bits : List ℕ) (bit_offset n : ℕ) → row_count t values bits bit_offset ≡ Some n → length values ≡ n * t.size
+whole_rows t values bits bit_offset n is =
+    whole_if (length values % t.size == 0) (covers bits bit_offset (length values / t.size)) (length values) t.size n (eqb-true (length values % t.size) 0) is

@@ -1,6 +1,6 @@
 pub mod AtScaleLemmas
+pub mod ByteLemmas
 pub mod CallLemmas
-pub mod ColumnCallLemmas
 pub mod DecimalLemmas
 pub mod LayoutLemmas
 pub mod NameLemmas

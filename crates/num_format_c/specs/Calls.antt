@@ -24,7 +24,7 @@ use Rattle.num_format_decimal.specs.declared.parsing.ParseDecimalError.TheVarian
 use Rattle.num_format_c.specs.Held.{Agrees, HasFormat, IsPadded, format_of, format_with, grouping_of}
 use Rattle.num_format_c.specs.declared.format.NumFormat.{NumFormat}
 use Rattle.num_format_c.specs.declared.status.Status.{Status}
-use Rattle.num_format_c.specs.declared.status.Status.TheVariants.{BadFormat, TooSmall, NotUtf8, NotANumber, UnknownLocale, TooLong, BadGrouping, BadBits, Unexpected, NoDigit, Misspelled, OutOfRange, BadScale, TooManyDecimals, BadLength, BadOffsets, TooManyBytes, DigitsLost, AmbiguousFormat}
+use Rattle.num_format_c.specs.declared.status.Status.TheVariants.{BadFormat, TooSmall, NotUtf8, NotANumber, UnknownLocale, TooLong, BadGrouping, BadBits, Unexpected, NoDigit, Misspelled, OutOfRange, BadScale, TooManyDecimals, BadLength, BadOffsets, TooManyBytes, DigitsLost, AmbiguousFormat, BadType}
 
 -- the number by which an error crosses to C; `negsuc n` is the number one below -n
 abbrev pub code : Status → ℤ
@@ -47,6 +47,7 @@ code BadOffsets = negsuc 15
 code TooManyBytes = negsuc 16
 code DigitsLost = negsuc 17
 code AmbiguousFormat = negsuc 18
+code BadType = negsuc 19
 
 -- the number that a call returns
 abbrev pub returned : Result ℤ Status → ℤ

@@ -1,133 +1,179 @@
 -- What the calls of C do with columns.
-use Rattle.std.specs.Prelude.{◌≡◌, ℕ, ◌+◌, ◌^◌, ◌<◌, ◌≤◌, min, Bool, ℤ, pos, List, length, slice_index_or, slice_range, IsTrue}
+use Rattle.std.specs.Prelude.{◌≡◌, ℕ, ◌+◌, ◌^◌, ◌<◌, ◌≤◌, min, ℤ, pos, List, length, slice_index_or, slice_range, Option, IsTrue, MatchOption}
 use Rattle.num_format.specs.Format.{FormatData}
-use Rattle.num_format.specs.Kind.{Kind}
+use Rattle.std.specs.Int.{w128}
+use Rattle.num_format.specs.Kind.{I128, Kind}
+use Rattle.num_format.specs.Strict.{IsUnambiguous}
 use Rattle.num_format.specs.Text.{text_of}
-use Rattle.num_format_c.specs.Layout.{AreOffsets, IsColumn, Rows, texts_of}
+use Rattle.num_format_c.specs.Layout.{AreAtStart, AreEnds, AreOffsets, IsEnough, MatchType, Representation, is_valid, largest_offset, number_at, offset_at, offset_type_of, row_count, row_text, signed, texts_of, value_type_of}
 use Rattle.num_format_decimal.specs.FixedPoint.{FixedPoint, fixed_point}
 use Rattle.num_format_decimal.specs.Marks.{MarksDecimals}
 use Rattle.num_format_decimal.specs.Parsing.{IsAtScaleCause, ParsesAtScale}
 use Rattle.num_format_decimal.specs.Text.{decimal_text}
 use Rattle.num_format_decimal.specs.declared.decimal.TheConstants.{MAX_SCALE}
 use Rattle.num_format_decimal.specs.declared.parsing.ParseAtScaleError.{ParseAtScaleError}
-use Rattle.num_format_c.specs.Calls.{Fails, ParsesExactlyInto, at_scale_status_of, signed_wide, unsigned_wide}
+use Rattle.num_format_c.specs.Calls.{Fails, ParsesExactlyInto, ParsesInto, at_scale_status_of}
 use Rattle.num_format_c.specs.Held.{HasFormat, format_of}
 use Rattle.num_format_c.specs.declared.format.NumFormat.{NumFormat}
-use Rattle.num_format_c.specs.declared.wide.SignedWide.{SignedWide}
-use Rattle.num_format_c.specs.declared.wide.UnsignedWide.{UnsignedWide}
-use Rattle.num_format_c.specs.declared.status.Status.TheVariants.{AmbiguousFormat, BadFormat, TooSmall, BadLength, BadOffsets, BadScale, TooManyBytes}
+use Rattle.num_format_c.specs.declared.layout.offset.OffsetType.{OffsetType}
+use Rattle.num_format_c.specs.declared.status.Status.TheVariants.{AmbiguousFormat, BadFormat, TooSmall, BadLength, BadOffsets, BadScale, BadType, TooManyBytes}
 
--- an unsigned number of 128 bits in a column
-abbrev pub unsigned_value : UnsignedWide → ℤ
-unsigned_value w = unsigned_wide w.low w.high
+-- how the units of decimals are represented
+abbrev pub decimal_units : Representation
+decimal_units = signed w128 I128
 
--- a signed one
-abbrev pub signed_value : SignedWide → ℤ
-signed_value w = signed_wide w.low w.high
+-- the text of the decimal that has units
+abbrev pub decimal_at : (scale : ℕ) → FormatData → ℤ → List ℕ
+decimal_at scale f z = decimal_text f (fixed_point z scale)
 
--- the text of the number that a value of a column is
-abbrev pub number_text : {A : Type 0} → (A → ℤ) → FormatData → A → List ℕ
-number_text number f value = text_of f (number value)
+-- what a call that prints a column writes: the offsets, the bytes of the texts, and how many those are
+pub record Printed : Type 0 where
+  pub offsets : List ℕ
+  pub bytes : List ℕ
+  pub len : ℕ
 
--- the text of the decimal that has units of a column
-abbrev pub decimal_at : (scale : ℕ) → FormatData → SignedWide → List ℕ
-decimal_at scale f units = decimal_text f (fixed_point (signed_value units) scale)
+abbrev pub to_printed : List ℕ → List ℕ → ℕ → Printed
+to_printed offsets bytes len = record { offsets = offsets; bytes = bytes; len = len }
 
--- a column of n rows has n + 1 offsets, and it is said of each row whether it has a value
-abbrev pub FitsRows : Rows → (n offsets : ℕ) → Type 0
-FitsRows rows n offsets = (offsets ≡ n + 1) × IsTrue (rows.covers n)
+-- the texts of n rows are a column
+pub record IsColumn (text : ℕ → List ℕ) (n : ℕ) (t : OffsetType) (old new : Printed) : Type 0 where
+  pub bytes : AreAtStart text n old.bytes new.bytes
+  pub ends : AreEnds text n (offset_at t new.offsets)
+  pub len : new.len ≡ length (texts_of text n)
 
--- values are printed into a column, whose offsets are at most the limit
-pub record PrintsRows {A B : Type 0} (text : A → List ℕ) (rows : Rows) (place : B → ℕ) (limit : ℕ) (values : List A) (offsets_old offsets_new : List B) (old new : List ℕ) (result : ℤ) : Type 0 where
-  pub bad_length : ¬ FitsRows rows (length values) (length offsets_old) → Fails BadLength old new result × (offsets_new ≡ offsets_old)
-  pub too_many_bytes : FitsRows rows (length values) (length offsets_old) → limit < length (texts_of text rows values) → Fails TooManyBytes old new result × (offsets_new ≡ offsets_old)
-  pub too_small : FitsRows rows (length values) (length offsets_old) → length (texts_of text rows values) ≤ limit → length old < length (texts_of text rows values) →
-      Fails TooSmall old new result × (offsets_new ≡ offsets_old)
-  pub printed : FitsRows rows (length values) (length offsets_old) → length (texts_of text rows values) ≤ limit → length (texts_of text rows values) ≤ length old →
-      (result ≡ pos 0) × IsColumn text rows place values offsets_new old new
+-- the texts of n rows are printed
+pub record PrintsRows (text : ℕ → List ℕ) (n : ℕ) (t : OffsetType) (old new : Printed) (result : ℤ) : Type 0 where
+  pub bad_length : ¬ IsEnough t n (length old.offsets) → Fails BadLength old new result
+  pub too_many_bytes : IsEnough t n (length old.offsets) → largest_offset t < length (texts_of text n) → Fails TooManyBytes old new result
+  pub too_small : IsEnough t n (length old.offsets) → length (texts_of text n) ≤ largest_offset t → length old.bytes < length (texts_of text n) → Fails TooSmall old new result
+  pub printed : IsEnough t n (length old.offsets) → length (texts_of text n) ≤ largest_offset t → length (texts_of text n) ≤ length old.bytes → (result ≡ pos 0) × IsColumn text n t old new
 
--- the same under the format of a struct
-pub record PrintsColumn {A B : Type 0} (text : FormatData → A → List ℕ) (rows : Rows) (place : B → ℕ) (limit : ℕ) (s : NumFormat) (values : List A) (offsets_old offsets_new : List B) (old new : List ℕ) (result : ℤ) : Type 0 where
-  pub bad_format : ¬ HasFormat s → Fails BadFormat old new result × (offsets_new ≡ offsets_old)
-  pub printed : HasFormat s → PrintsRows (text (format_of s)) rows place limit values offsets_old offsets_new old new result
+-- the same if there are so many rows
+abbrev pub PrintsCounted : (ℕ → List ℕ) → Option ℕ → OffsetType → (old new : Printed) → (result : ℤ) → Type 0
+PrintsCounted text count t old new result = MatchOption count (Fails BadLength old new result) (λ n. PrintsRows text n t old new result)
 
--- the same of decimals of one scale
-pub record PrintsDecimals {B : Type 0} (scale : ℕ) (rows : Rows) (place : B → ℕ) (limit : ℕ) (s : NumFormat) (units : List SignedWide) (offsets_old offsets_new : List B) (old new : List ℕ) (result : ℤ) : Type 0 where
-  pub bad_scale : MAX_SCALE < scale → Fails BadScale old new result × (offsets_new ≡ offsets_old)
-  pub column : scale ≤ MAX_SCALE → PrintsColumn (decimal_at scale) rows place limit s units offsets_old offsets_new old new result
-
--- how many bytes the texts of values have is written
-pub record Measures {A : Type 0} (text : A → List ℕ) (rows : Rows) (values : List A) (old new : ℕ) (result : ℤ) : Type 0 where
-  pub bad_length : ¬ IsTrue (rows.covers (length values)) → Fails BadLength old new result
-  pub too_many_bytes : IsTrue (rows.covers (length values)) → 2 ^ 64 ≤ length (texts_of text rows values) → Fails TooManyBytes old new result
-  pub size : IsTrue (rows.covers (length values)) → length (texts_of text rows values) < 2 ^ 64 → (result ≡ pos 0) × (new ≡ length (texts_of text rows values))
-
--- the same under the format of a struct
-pub record MeasuresColumn {A : Type 0} (text : FormatData → A → List ℕ) (rows : Rows) (s : NumFormat) (values : List A) (old new : ℕ) (result : ℤ) : Type 0 where
+-- a call does something under the format of a struct
+pub record UnderFormat {A : Type 0} (s : NumFormat) (Does : FormatData → Type 0) (old new : A) (result : ℤ) : Type 0 where
   pub bad_format : ¬ HasFormat s → Fails BadFormat old new result
-  pub measured : HasFormat s → Measures (text (format_of s)) rows values old new result
+  pub format : HasFormat s → Does (format_of s)
 
--- the same of decimals of one scale
-pub record MeasuresDecimals (scale : ℕ) (rows : Rows) (s : NumFormat) (units : List SignedWide) (old new : ℕ) (result : ℤ) : Type 0 where
+-- numbers of the type for which a number stands are printed
+abbrev pub PrintsNumbers : (value_code offset_code : ℕ) → NumFormat → (values bits : List ℕ) → (bit_offset : ℕ) → (old new : Printed) → (result : ℤ) → Type 0
+PrintsNumbers value_code offset_code s values bits bit_offset old new result =
+    MatchOption (value_type_of value_code) (Fails BadType old new result) (λ type.
+    MatchOption (offset_type_of offset_code) (Fails BadType old new result) (λ t.
+    UnderFormat s (λ f. MatchType type (λ v. PrintsCounted (row_text v (text_of f) values bits bit_offset) (row_count v values bits bit_offset) t old new result)) old new result))
+
+-- decimals of one scale are printed
+pub record PrintsDecimals (scale offset_code : ℕ) (s : NumFormat) (values bits : List ℕ) (bit_offset : ℕ) (old new : Printed) (result : ℤ) : Type 0 where
   pub bad_scale : MAX_SCALE < scale → Fails BadScale old new result
-  pub column : scale ≤ MAX_SCALE → MeasuresColumn (decimal_at scale) rows s units old new result
+  pub column : scale ≤ MAX_SCALE → MatchOption (offset_type_of offset_code) (Fails BadType old new result) (λ t.
+      UnderFormat s (λ f. PrintsCounted (row_text decimal_units (decimal_at scale f) values bits bit_offset) (row_count decimal_units values bits bit_offset) t old new result) old new result)
 
--- what a call that parses one text does: the struct, the text, the value before and after, and what is returned
-abbrev pub RowParser : Type 0 → Type 1
-RowParser A = NumFormat → List ℕ → A → A → ℤ → Type 0
+-- the length of some texts is written
+pub record Measures (total old new : ℕ) (result : ℤ) : Type 0 where
+  pub too_many_bytes : 2 ^ 64 ≤ total → Fails TooManyBytes old new result
+  pub size : total < 2 ^ 64 → (result ≡ pos 0) × (new ≡ total)
+
+-- the length of the texts of the rows is written, if there are so many
+abbrev pub MeasuresCounted : (ℕ → List ℕ) → Option ℕ → (old new : ℕ) → (result : ℤ) → Type 0
+MeasuresCounted text count old new result = MatchOption count (Fails BadLength old new result) (λ n. Measures (length (texts_of text n)) old new result)
+
+-- that of the texts of numbers of the type for which a number stands is written
+abbrev pub MeasuresNumbers : (value_code : ℕ) → NumFormat → (values bits : List ℕ) → (bit_offset : ℕ) → (old new : ℕ) → (result : ℤ) → Type 0
+MeasuresNumbers value_code s values bits bit_offset old new result =
+    MatchOption (value_type_of value_code) (Fails BadType old new result) (λ type.
+    UnderFormat s (λ f. MatchType type (λ v. MeasuresCounted (row_text v (text_of f) values bits bit_offset) (row_count v values bits bit_offset) old new result)) old new result)
+
+-- that of the texts of decimals of one scale is written
+pub record MeasuresDecimals (scale : ℕ) (s : NumFormat) (values bits : List ℕ) (bit_offset old new : ℕ) (result : ℤ) : Type 0 where
+  pub bad_scale : MAX_SCALE < scale → Fails BadScale old new result
+  pub column : scale ≤ MAX_SCALE →
+      UnderFormat s (λ f. MeasuresCounted (row_text decimal_units (decimal_at scale f) values bits bit_offset) (row_count decimal_units values bits bit_offset) old new result) old new result
+
+-- what a call that parses one text does: the struct, the text, the number before and after, and what is returned
+abbrev pub RowParser : Type 1
+RowParser = NumFormat → List ℕ → (old new result : ℤ) → Type 0
 
 -- what num_format_parse_strict_i64 does but for the place of an unexpected byte
-abbrev pub ParsesRowExactly : Kind → NumFormat → List ℕ → (old new result : ℤ) → Type 0
+abbrev pub ParsesRowExactly : Kind → RowParser
 ParsesRowExactly k s text old new result = (at : ℕ) × ParsesExactlyInto k s text old new 0 at result
 
--- a row of numbers of a kind; `number` says which number a value is
-abbrev pub number_row : {A : Type 0} → (Kind → NumFormat → List ℕ → (old new result : ℤ) → Type 0) → Kind → (A → ℤ) → RowParser A
-number_row Parses kind number s text old new result = Parses kind s text (number old) (number new) result
-
 -- a text is parsed as a decimal of a scale, whose units are written over others
-pub record ParsesAtScaleInto (scale : ℕ) (s : NumFormat) (text : List ℕ) (old new : SignedWide) (result : ℤ) : Type 0 where
+pub record ParsesAtScaleInto (scale : ℕ) (s : NumFormat) (text : List ℕ) (old new result : ℤ) : Type 0 where
   pub bad_format : ¬ HasFormat s → Fails BadFormat old new result
   pub refused : HasFormat s → (e : ParseAtScaleError) → IsAtScaleCause (format_of s) text scale e → Fails (at_scale_status_of e) old new result
-  pub number : HasFormat s → (d : FixedPoint) → ParsesAtScale (format_of s) text scale d → (result ≡ pos 0) × (signed_value new ≡ d.units)
+  pub number : HasFormat s → (d : FixedPoint) → ParsesAtScale (format_of s) text scale d → (result ≡ pos 0) × (new ≡ d.units)
 
--- the text of a row begins at its offset and ends at the next
-abbrev pub row_text : {B : Type 0} → (B → ℕ) → List B → List ℕ → ℕ → B → List ℕ
-row_text place offsets bytes k e = slice_range bytes (place (slice_index_or offsets k e)) (place (slice_index_or offsets (k + 1) e))
+-- what a call that parses a column is given: the offsets, the bytes, the bits and the first of them
+pub record Texts : Type 0 where
+  pub offsets : List ℕ
+  pub bytes : List ℕ
+  pub bits : List ℕ
+  pub bit_offset : ℕ
 
--- a row with a value is parsed, and of a null row the status is 0, and the value is as it was
-pub record ParsesRow {A : Type 0} (Parses : RowParser A) (is_valid : Bool) (s : NumFormat) (text : List ℕ) (old new : A) (status : ℤ) : Type 0 where
-  pub valid : IsTrue is_valid → Parses s text old new status
-  pub null : ¬ IsTrue is_valid → (new ≡ old) × (status ≡ pos 0)
+abbrev pub to_texts : (offsets bytes bits : List ℕ) → ℕ → Texts
+to_texts offsets bytes bits bit_offset = record { offsets = offsets; bytes = bytes; bits = bits; bit_offset = bit_offset }
 
--- each of the first n rows is parsed
-abbrev pub AreParsed : {A B : Type 0} → RowParser A → Rows → (B → ℕ) → NumFormat → List B → List ℕ → List A → List A → List ℤ → ℕ → Type 0
-AreParsed {A} {B} Parses rows place s offsets bytes old new statuses n =
-    (k : ℕ) (d : A) (e : B) → k < n →
-    ParsesRow Parses (rows.is_valid k) s (row_text place offsets bytes k e) (slice_index_or old k d) (slice_index_or new k d) (slice_index_or statuses k (pos 0))
+-- what it writes: the bytes of the values, and a status of each row
+pub record Parsed : Type 0 where
+  pub values : List ℕ
+  pub statuses : List ℤ
 
--- a column of n numbers has n + 1 offsets and n statuses, and it is said of each row whether it has a value
-abbrev pub HasLengths : Rows → (n offsets statuses : ℕ) → Type 0
-HasLengths rows n offsets statuses = (offsets ≡ n + 1) × ((statuses ≡ n) × IsTrue (rows.covers n))
+abbrev pub to_parsed : List ℕ → List ℤ → Parsed
+to_parsed values statuses = record { values = values; statuses = statuses }
 
--- the rows of a column are parsed, each as by the call for one text
-pub record ParsesRows {A B : Type 0} (Parses : RowParser A) (rows : Rows) (place : B → ℕ) (limit : ℕ) (s : NumFormat) (offsets : List B) (bytes : List ℕ) (old new : List A) (statuses_old statuses_new : List ℤ) (result : ℤ) : Type 0 where
-  pub bad_length : ¬ HasLengths rows (length old) (length offsets) (length statuses_old) → Fails BadLength old new result × (statuses_new ≡ statuses_old)
-  pub bad_offsets : HasLengths rows (length old) (length offsets) (length statuses_old) → ¬ AreOffsets place (min limit (length bytes)) offsets →
-      Fails BadOffsets old new result × (statuses_new ≡ statuses_old)
-  pub parsed : HasLengths rows (length old) (length offsets) (length statuses_old) → AreOffsets place (min limit (length bytes)) offsets →
-      (result ≡ pos 0) × AreParsed Parses rows place s offsets bytes old new statuses_new (length old)
+-- a text of a row is parsed if the row has a value; else the number is as it was, and the status 0
+pub record ParsesRow (Parses : RowParser) (has_value : Type 0) (s : NumFormat) (text : List ℕ) (old new status : ℤ) : Type 0 where
+  pub valid : has_value → Parses s text old new status
+  pub null : ¬ has_value → (new ≡ old) × (status ≡ pos 0)
+
+-- each of n rows is parsed: the text of row k begins at offset k and ends at the next
+abbrev pub AreParsed : RowParser → Representation → OffsetType → NumFormat → Texts → (old new : Parsed) → (n : ℕ) → Type 0
+AreParsed Parses v t s c old new n =
+    (k : ℕ) → k < n →
+    ParsesRow Parses (IsTrue (is_valid c.bits c.bit_offset k)) s (slice_range c.bytes (offset_at t c.offsets k) (offset_at t c.offsets (k + 1)))
+    (number_at v old.values k) (number_at v new.values k) (slice_index_or new.statuses k (pos 0))
+
+-- a column of n rows has n + 1 offsets and n statuses
+abbrev pub HasLengths : OffsetType → Texts → Parsed → (n : ℕ) → Type 0
+HasLengths t c old n = IsEnough t n (length c.offsets) × (length old.statuses ≡ n)
+
+-- the offsets of n rows lie in the bytes
+abbrev pub HasOffsets : OffsetType → Texts → (n : ℕ) → Type 0
+HasOffsets t c n = AreOffsets n (min (largest_offset t) (length c.bytes)) (offset_at t c.offsets)
+
+-- n rows are parsed, each as by the call for one text
+pub record ParsesRows (Parses : RowParser) (v : Representation) (t : OffsetType) (s : NumFormat) (c : Texts) (old new : Parsed) (result : ℤ) (n : ℕ) : Type 0 where
+  pub bad_length : ¬ HasLengths t c old n → Fails BadLength old new result
+  pub bad_offsets : HasLengths t c old n → ¬ HasOffsets t c n → Fails BadOffsets old new result
+  pub parsed : HasLengths t c old n → HasOffsets t c n → (result ≡ pos 0) × AreParsed Parses v t s c old new n
+
+-- the same if the values are those of whole rows, and there is a bit for each of them
+abbrev pub ParsesValues : RowParser → Representation → OffsetType → NumFormat → Texts → (old new : Parsed) → (result : ℤ) → Type 0
+ParsesValues Parses v t s c old new result =
+    MatchOption (row_count v old.values c.bits c.bit_offset) (Fails BadLength old new result) (ParsesRows Parses v t s c old new result)
+
+-- a call parses under the format of a struct, if it is one by which no text can be misread
+pub record ParsesUnder (IsClear : FormatData → Type 0) (s : NumFormat) (Parsing : Type 0) (old new : Parsed) (result : ℤ) : Type 0 where
+  pub bad_format : ¬ HasFormat s → Fails BadFormat old new result
+  pub ambiguous : HasFormat s → ¬ IsClear (format_of s) → Fails AmbiguousFormat old new result
+  pub parsed : HasFormat s → IsClear (format_of s) → Parsing
 
 -- lenient parsing takes any format
 abbrev pub IsAny : FormatData → Type 0
 IsAny _ = Unit {0}
 
--- the same under the format of a struct, if it is one by which no text can be misread
-pub record ParsesColumn {A B : Type 0} (IsClear : FormatData → Type 0) (Parses : RowParser A) (rows : Rows) (place : B → ℕ) (limit : ℕ) (s : NumFormat) (offsets : List B) (bytes : List ℕ) (old new : List A) (statuses_old statuses_new : List ℤ) (result : ℤ) : Type 0 where
-  pub bad_format : ¬ HasFormat s → Fails BadFormat old new result × (statuses_new ≡ statuses_old)
-  pub ambiguous : HasFormat s → ¬ IsClear (format_of s) → Fails AmbiguousFormat old new result × (statuses_new ≡ statuses_old)
-  pub parsed : HasFormat s → IsClear (format_of s) → ParsesRows Parses rows place limit s offsets bytes old new statuses_old statuses_new result
+-- numbers of the type for which a number stands are parsed, strictly or not
+abbrev pub ParsesNumbers : (value_code offset_code lenient : ℕ) → NumFormat → Texts → (old new : Parsed) → (result : ℤ) → Type 0
+ParsesNumbers value_code offset_code lenient s c old new result =
+    MatchOption (value_type_of value_code) (Fails BadType old new result) (λ type.
+    MatchOption (offset_type_of offset_code) (Fails BadType old new result) (λ t.
+    (lenient ≡ 0 → ParsesUnder IsUnambiguous s (MatchType type (λ v. ParsesValues (ParsesRowExactly v.kind) v t s c old new result)) old new result)
+    × (0 < lenient → ParsesUnder IsAny s (MatchType type (λ v. ParsesValues (ParsesInto v.kind) v t s c old new result)) old new result)))
 
--- the same of decimals of one scale
-pub record ParsesDecimals {B : Type 0} (scale : ℕ) (rows : Rows) (place : B → ℕ) (limit : ℕ) (s : NumFormat) (offsets : List B) (bytes : List ℕ) (old new : List SignedWide) (statuses_old statuses_new : List ℤ) (result : ℤ) : Type 0 where
-  pub bad_scale : MAX_SCALE < scale → Fails BadScale old new result × (statuses_new ≡ statuses_old)
-  pub column : scale ≤ MAX_SCALE → ParsesColumn MarksDecimals (ParsesAtScaleInto scale) rows place limit s offsets bytes old new statuses_old statuses_new result
+-- decimals of one scale are parsed
+pub record ParsesDecimals (scale offset_code : ℕ) (s : NumFormat) (c : Texts) (old new : Parsed) (result : ℤ) : Type 0 where
+  pub bad_scale : MAX_SCALE < scale → Fails BadScale old new result
+  pub column : scale ≤ MAX_SCALE → MatchOption (offset_type_of offset_code) (Fails BadType old new result) (λ t.
+      ParsesUnder MarksDecimals s (ParsesValues (ParsesAtScaleInto scale) decimal_units t s c old new result) old new result)

@@ -33,11 +33,12 @@ decimal_mark_of s = take s.decimal_mark_len s.decimal_mark
 abbrev pub padded : List ℕ → List ℕ
 padded text = text ++ replicate (8 - length text) 0
 
--- in each array of the struct, the bytes after the text are zero
+-- in each array of the struct, the bytes after the text are zero, and so are those that are reserved
 pub record IsPadded (s : NumFormat) : Type 0 where
   pub separator : s.separator ≡ padded (separator_of s)
   pub minus_sign : s.minus_sign ≡ padded (minus_sign_of s)
   pub decimal_mark : s.decimal_mark ≡ padded (decimal_mark_of s)
+  pub reserved : s.reserved ≡ replicate 4 0
 
 -- the texts of the struct are UTF-8 within their arrays
 pub record HasTexts (s : NumFormat) : Type 0 where

@@ -1,40 +1,130 @@
--- A column: the texts of values, one after another, and where each ends.
-use Rattle.std.specs.Prelude.{◌≡◌, ◌==◌, ℕ, ◌+◌, ◌*◌, ◌/◌, ◌%◌, ◌^◌, ◌<◌, ◌≤◌, nat_le, Bool, true, List, [], ◌++◌, length, take, drop, slice_index_or, if◌then◌else◌}
-use Rattle.std.specs.List.{enumerate_from, flat_map}
+-- A column: the bytes of its values, which rows have one, the texts, and where each ends.
+use Rattle.std.specs.Prelude.{◌≡◌, ◌==◌, ℕ, zero, suc, ◌+◌, ◌-◌, ◌*◌, ◌/◌, ◌%◌, ◌^◌, ◌<◌, ◌≤◌, ℤ, pos, nat_le, Bool, ◌&&◌, ◌||◌, List, [], ◌++◌, length, drop, slice_index_or, slice_range, Option, Some, None, if◌then◌else◌}
+use Rattle.std.specs.Int.{Width, byte_len, cast_signed, from_le_bytes, w8, w16, w32, w64, w128}
+use Rattle.num_format.specs.Kind.{IntegerType, Kind, kind_of}
+use Rattle.num_format.specs.Kind as integer
+use Rattle.num_format_c.specs.declared.layout.offset.OffsetType.{OffsetType}
+use Rattle.num_format_c.specs.declared.layout.offset.OffsetType.TheVariants as offset
+use Rattle.num_format_c.specs.declared.layout.value.ValueType.{ValueType}
+use Rattle.num_format_c.specs.declared.layout.value.ValueType.TheVariants as value
 
--- which rows of a column have a value, and of how many rows that is said; the other rows are null
-pub record Rows : Type 0 where
-  pub is_valid : ℕ → Bool
-  pub covers : ℕ → Bool
+-- the number of some bytes, of which the first is the lowest
+abbrev pub unsigned_number : Width → List ℕ → ℤ
+unsigned_number w bytes = pos (from_le_bytes w bytes)
 
--- each row has a value
-abbrev pub all_valid : Rows
-all_valid = record { is_valid = λ _. true; covers = λ _. true }
+-- the number of bytes in two's complement
+abbrev pub signed_number : Width → List ℕ → ℤ
+signed_number w bytes = cast_signed w (from_le_bytes w bytes)
 
--- row k has a value if bit k is set, where the bits of a byte are counted from its lowest
-abbrev pub by_bits : List ℕ → Rows
-by_bits bytes = record { is_valid = λ k. slice_index_or bytes (k / 8) 0 / 2 ^ (k % 8) % 2 == 1; covers = λ n. nat_le n (8 * length bytes) }
+-- a type of values: how many bytes one has, which number they are, and the kind of that number
+pub record Representation : Type 0 where
+  pub size : ℕ
+  pub number : List ℕ → ℤ
+  pub kind : Kind
 
--- the text of row k, which has the value; that of a null row is empty
-abbrev pub row_text : {A : Type 0} → (A → List ℕ) → Rows → ℕ → A → List ℕ
-row_text text rows k value = if rows.is_valid k then text value else []
+-- unsigned integers of a width
+abbrev pub unsigned : Width → IntegerType → Representation
+unsigned w kind = record { size = byte_len w; number = unsigned_number w; kind = kind_of kind }
 
--- the texts of the rows with these values, one after another
-abbrev pub texts_of : {A : Type 0} → (A → List ℕ) → Rows → List A → List ℕ
-texts_of text rows values = flat_map (λ row. row_text text rows row.0 row.1) (enumerate_from 0 values)
+-- signed integers of a width
+abbrev pub signed : Width → IntegerType → Representation
+signed w kind = record { size = byte_len w; number = signed_number w; kind = kind_of kind }
 
--- offset k is the length of the first k texts; `place` says which number an offset is
-abbrev pub AreEnds : {A B : Type 0} → (A → List ℕ) → Rows → (B → ℕ) → List A → List B → Type 0
-AreEnds {A} {B} text rows place values offsets =
-    (k : ℕ) (d : B) → k ≤ length values → place (slice_index_or offsets k d) ≡ length (texts_of text rows (take k values))
+-- the bytes of row k
+abbrev pub row_bytes : (size : ℕ) → List ℕ → ℕ → List ℕ
+row_bytes size bytes k = slice_range bytes (k * size) (k * size + size)
 
--- the texts of values are at the start of the bytes, whose others are as they were, and the offsets are their ends
-pub record IsColumn {A B : Type 0} (text : A → List ℕ) (rows : Rows) (place : B → ℕ) (values : List A) (offsets : List B) (old new : List ℕ) : Type 0 where
-  pub texts : new ≡ texts_of text rows values ++ drop (length (texts_of text rows values)) old
-  pub ends : AreEnds text rows place values offsets
+-- the number of row k
+abbrev pub number_at : Representation → List ℕ → ℕ → ℤ
+number_at t values k = t.number (row_bytes t.size values k)
 
--- no offset is below the one before it, and none after the first is above a limit
-abbrev pub AreOffsets : {B : Type 0} → (B → ℕ) → ℕ → List B → Type 0
-AreOffsets {B} place limit offsets =
-    (k : ℕ) (d : B) → k + 1 < length offsets →
-    (place (slice_index_or offsets k d) ≤ place (slice_index_or offsets (k + 1) d)) × (place (slice_index_or offsets (k + 1) d) ≤ limit)
+-- a property of how the values of a type are represented
+abbrev pub MatchType : ValueType → (Representation → Type 0) → Type 0
+MatchType value.I8 P = P (signed w8 integer.I8)
+MatchType value.U8 P = P (unsigned w8 integer.U8)
+MatchType value.I16 P = P (signed w16 integer.I16)
+MatchType value.U16 P = P (unsigned w16 integer.U16)
+MatchType value.I32 P = P (signed w32 integer.I32)
+MatchType value.U32 P = P (unsigned w32 integer.U32)
+MatchType value.I64 P = P (signed w64 integer.I64)
+MatchType value.U64 P = P (unsigned w64 integer.U64)
+MatchType value.I128 P = P (signed w128 integer.I128)
+MatchType value.U128 P = P (unsigned w128 integer.U128)
+
+-- the type of values for which a number stands: the code of Apache Arrow's letter for it, and of q and Q, which Arrow has not
+abbrev pub value_type_of : ℕ → Option ValueType
+value_type_of code =
+    if code == 0x63 then Some value.I8 else (if code == 0x43 then Some value.U8 else
+    (if code == 0x73 then Some value.I16 else (if code == 0x53 then Some value.U16 else
+    (if code == 0x69 then Some value.I32 else (if code == 0x49 then Some value.U32 else
+    (if code == 0x6C then Some value.I64 else (if code == 0x4C then Some value.U64 else
+    (if code == 0x71 then Some value.I128 else (if code == 0x51 then Some value.U128 else None)))))))))
+
+-- the type of offsets for which a number stands
+abbrev pub offset_type_of : ℕ → Option OffsetType
+offset_type_of code = if code == 0x69 then Some offset.I32 else (if code == 0x6C then Some offset.I64 else None)
+
+-- the width of offsets
+abbrev pub width : OffsetType → Width
+width offset.I32 = w32
+width offset.I64 = w64
+
+-- offset k
+abbrev pub offset_at : OffsetType → List ℕ → ℕ → ℕ
+offset_at t bytes k = from_le_bytes (width t) (row_bytes (byte_len (width t)) bytes k)
+
+-- the largest offset: Apache Arrow has signed offsets, of which none is negative
+abbrev pub largest_offset : OffsetType → ℕ
+largest_offset t = 2 ^ (8 * byte_len (width t) - 1) - 1
+
+-- a column of n rows has n + 1 offsets
+abbrev pub IsEnough : OffsetType → (n len : ℕ) → Type 0
+IsEnough t n len = len ≡ (n + 1) * byte_len (width t)
+
+-- bit k is set, where the bits of a byte are counted from its lowest
+abbrev pub is_bit_set : List ℕ → ℕ → Bool
+is_bit_set bits k = slice_index_or bits (k / 8) 0 / 2 ^ (k % 8) % 2 == 1
+
+-- row k has a value: there are no bits, or bit k from the offset is set; the other rows are null
+abbrev pub is_valid : (bits : List ℕ) (bit_offset k : ℕ) → Bool
+is_valid bits bit_offset k = (length bits == 0) || is_bit_set bits (bit_offset + k)
+
+-- there are no bits, or there is one for each of n rows
+abbrev pub covers : (bits : List ℕ) (bit_offset n : ℕ) → Bool
+covers bits bit_offset n = (length bits == 0) || nat_le (bit_offset + n) (8 * length bits)
+
+-- how many rows a column has, if its values are whole, and there is a bit for each of them
+abbrev pub row_count : Representation → (values bits : List ℕ) → (bit_offset : ℕ) → Option ℕ
+row_count t values bits bit_offset =
+    if (length values % t.size == 0) && covers bits bit_offset (length values / t.size) then Some (length values / t.size) else None
+
+-- the number of row k, if it has a value
+abbrev pub row_value : Representation → (values bits : List ℕ) → (bit_offset k : ℕ) → Option ℤ
+row_value t values bits bit_offset k = if is_valid bits bit_offset k then Some (number_at t values k) else None
+
+-- the text of a row, where that of a number is given; that of a null row is empty
+abbrev pub text_or_none : (ℤ → List ℕ) → Option ℤ → List ℕ
+text_or_none text None = []
+text_or_none text (Some z) = text z
+
+-- the text of row k
+abbrev pub row_text : Representation → (ℤ → List ℕ) → (values bits : List ℕ) → (bit_offset k : ℕ) → List ℕ
+row_text t text values bits bit_offset k = text_or_none text (row_value t values bits bit_offset k)
+
+-- the texts of the first n rows, one after another
+abbrev pub texts_of : (ℕ → List ℕ) → ℕ → List ℕ
+texts_of text zero = []
+texts_of text (suc n) = texts_of text n ++ text n
+
+-- offset k of n + 1 is the length of the first k texts
+abbrev pub AreEnds : (ℕ → List ℕ) → (n : ℕ) → (ℕ → ℕ) → Type 0
+AreEnds text n offset = (k : ℕ) → k ≤ n → offset k ≡ length (texts_of text k)
+
+-- the texts of n rows are at the start of the bytes, whose others are as they were
+abbrev pub AreAtStart : (ℕ → List ℕ) → (n : ℕ) → (old new : List ℕ) → Type 0
+AreAtStart text n old new = new ≡ texts_of text n ++ drop (length (texts_of text n)) old
+
+-- no offset of n + 1 is below the one before it, or above a limit
+pub record AreOffsets (n limit : ℕ) (offset : ℕ → ℕ) : Type 0 where
+  pub first : offset 0 ≤ limit
+  pub others : (k : ℕ) → k < n → (offset k ≤ offset (k + 1)) × (offset (k + 1) ≤ limit)

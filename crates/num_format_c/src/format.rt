@@ -23,6 +23,8 @@ pub struct NumFormat {
     pub minus_sign_len: u8,
     pub decimal_mark_len: u8,
     pub grouping: u8,
+    /// For later versions. The calls that fill the struct write zeros.
+    pub reserved: [u8; 4],
 }
 
 impl NumFormat {
@@ -43,6 +45,7 @@ impl NumFormat {
             minus_sign_len: minus_sign.len() as u8,
             decimal_mark_len: decimal_mark.len() as u8,
             grouping: number_of(format.grouping()),
+            reserved: [0; 4],
         }
     }
 

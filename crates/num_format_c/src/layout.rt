@@ -4,7 +4,11 @@
 pub mod offset;
 pub mod printing;
 pub mod validity;
+pub mod value;
+pub mod values;
 
-pub use offset::{Offset, are_offsets};
-pub use printing::{NumberPrinter, Printer, append, print_texts, texts_len};
-pub use validity::{AllValid, Bitmap, Validity};
+pub use offset::OffsetType;
+pub use printing::{Printer, append, print_texts, texts_len};
+pub use validity::Validity;
+pub use value::{Value, ValueType, row_count, set_value, value_at};
+pub use values::Values;

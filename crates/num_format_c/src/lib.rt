@@ -1,8 +1,5 @@
 //! num-format for C: a static library over `num_format`, whose header is `num_format.h`.
 //!
-//! `tools/column_calls.py` writes `column_calls` and a part of the header. Any other file may be changed, and
-//! with an export its declaration.
-//!
 //! The header says what a C program has to know, and what it must ensure. The contracts here say
 //! what each call returns and writes, for any bytes of a struct and of a text.
 //!
@@ -21,11 +18,11 @@ ghost use Rattle.num_format.specs.RoundTrips.{RoundTrips};
 ghost use Rattle.num_format.specs.Text.{text_of};
 ghost use Rattle.num_format_decimal.specs.FixedPoint.{fixed_point};
 ghost use Rattle.num_format_c.specs.Calls.{ByTag, Fails, Fills, FillsCustom, FillsLocale, ReturnsLength, ReturnsDecimalLength, ParsesDecimalInto, ParsesExactlyInto, ParsesInto, Prints, PrintsDecimal, Tells, Writes, WritesName, signed_kind, signed_wide, unsigned_kind, unsigned_wide};
+ghost use Rattle.num_format_c.specs.Columns.{MeasuresDecimals, MeasuresNumbers, ParsesDecimals, ParsesNumbers, PrintsDecimals, PrintsNumbers, to_parsed, to_printed, to_texts};
 ghost use Rattle.num_format_c.specs.declared.status.Status.TheVariants.{BadBits};
 ghost use Rattle.num_format_c.specs.Held.{HasFormat, format_of};
 
 mod calls;
-pub mod column_calls;
 mod columns;
 pub mod format;
 pub mod layout;
@@ -33,6 +30,7 @@ pub mod status;
 pub mod wide;
 
 use format::NumFormat;
+use layout::Validity;
 use status::{Status, returned};
 use wide::{joined, split};
 
@@ -429,6 +427,201 @@ pub extern "C" fn num_format_parse_decimal(
         }
         Err(status) => status.code(),
     }
+}
+
+/// Prints the numbers of a column one after another at the start of the bytes, writes where each text ends and how
+/// many bytes they have together, and returns 0. A null row has an empty text.
+///
+/// The types are numbers, as [`ValueType`](layout::ValueType) and [`OffsetType`](layout::OffsetType) say, and the
+/// values and the offsets are bytes, in the machine's order. There is one offset more than rows, and the first is 0.
+/// Where there are no bits in `validity`, no row is null; else row k is null if bit `bit_offset + k` is not set.
+///
+/// Errors, in this order: a number of no type, a struct that has no format, values that are not those of whole
+/// rows, another number of offsets or fewer bits than the rows need, more bytes than the last offset can say, an
+/// array that is shorter than the texts.
+#[unsafe(no_mangle)]
+pub extern "C" fn num_format_print_column(
+    format: &NumFormat,
+    value_type: u32,
+    values: &[u8],
+    validity: &[u8],
+    bit_offset: usize,
+    offsets: &mut [u8],
+    offset_type: u32,
+    bytes: &mut [u8],
+    len: &mut usize,
+) -> i32
+    ensures { PrintsNumbers value_type offset_type format.now values.now validity.now bit_offset
+        (to_printed offsets.old bytes.old len.old) (to_printed offsets.new bytes.new len.new) result }
+{
+    let validity = Validity {
+        bits: validity,
+        bit_offset,
+    };
+    returned(columns::print(
+        format,
+        value_type,
+        values,
+        &validity,
+        offsets,
+        offset_type,
+        bytes,
+        len,
+    ))
+}
+
+/// Writes how many bytes the texts of the numbers of a column have together, and returns 0.
+///
+/// Errors, in this order: a number of no type, a struct that has no format, values that are not those of whole
+/// rows or fewer bits than the rows need, more bytes than a `usize` holds.
+#[unsafe(no_mangle)]
+pub extern "C" fn num_format_print_column_len(
+    format: &NumFormat,
+    value_type: u32,
+    values: &[u8],
+    validity: &[u8],
+    bit_offset: usize,
+    len: &mut usize,
+) -> i32
+    ensures { MeasuresNumbers value_type format.now values.now validity.now bit_offset len.old len.new result }
+{
+    let validity = Validity {
+        bits: validity,
+        bit_offset,
+    };
+    returned(columns::measure(format, value_type, values, &validity, len))
+}
+
+/// Parses the texts of a column strictly, or leniently if `lenient` is not 0, and returns 0. Writes the number and
+/// the status of each row: those that the call for one text writes and returns. The number of a null row stays, and
+/// its status is 0.
+///
+/// Errors, in this order: a number of no type, a struct that has no format, a format under which a text can be
+/// misread if it parses strictly, values that are not those of whole rows, another number of offsets or statuses or
+/// fewer bits than the rows need, an offset that is below the one before it, or past the bytes.
+#[unsafe(no_mangle)]
+pub extern "C" fn num_format_parse_column(
+    format: &NumFormat,
+    value_type: u32,
+    lenient: u32,
+    offsets: &[u8],
+    offset_type: u32,
+    bytes: &[u8],
+    values: &mut [u8],
+    validity: &[u8],
+    bit_offset: usize,
+    statuses: &mut [i32],
+) -> i32
+    ensures { ParsesNumbers value_type offset_type lenient format.now (to_texts offsets.now bytes.now validity.now bit_offset)
+        (to_parsed values.old statuses.old) (to_parsed values.new statuses.new) result }
+{
+    let validity = Validity {
+        bits: validity,
+        bit_offset,
+    };
+    returned(columns::parse(
+        format,
+        value_type,
+        lenient,
+        offsets,
+        offset_type,
+        bytes,
+        values,
+        &validity,
+        statuses,
+    ))
+}
+
+/// Prints the decimals with these units and this scale as [`num_format_print_column`] does numbers. Units have 16
+/// bytes each, in two's complement.
+///
+/// Its first error is a scale above 38.
+#[unsafe(no_mangle)]
+pub extern "C" fn num_format_print_decimal_column(
+    format: &NumFormat,
+    units: &[u8],
+    scale: u32,
+    validity: &[u8],
+    bit_offset: usize,
+    offsets: &mut [u8],
+    offset_type: u32,
+    bytes: &mut [u8],
+    len: &mut usize,
+) -> i32
+    ensures { PrintsDecimals scale offset_type format.now units.now validity.now bit_offset
+        (to_printed offsets.old bytes.old len.old) (to_printed offsets.new bytes.new len.new) result }
+{
+    let validity = Validity {
+        bits: validity,
+        bit_offset,
+    };
+    returned(columns::print_decimals(
+        format,
+        units,
+        scale,
+        &validity,
+        offsets,
+        offset_type,
+        bytes,
+        len,
+    ))
+}
+
+/// Writes how many bytes the texts of the decimals of a column have, as [`num_format_print_column_len`] does those
+/// of numbers.
+///
+/// Its first error is a scale above 38.
+#[unsafe(no_mangle)]
+pub extern "C" fn num_format_print_decimal_column_len(
+    format: &NumFormat,
+    units: &[u8],
+    scale: u32,
+    validity: &[u8],
+    bit_offset: usize,
+    len: &mut usize,
+) -> i32
+    ensures { MeasuresDecimals scale format.now units.now validity.now bit_offset len.old len.new result }
+{
+    let validity = Validity {
+        bits: validity,
+        bit_offset,
+    };
+    returned(columns::measure_decimals(format, units, scale, &validity, len))
+}
+
+/// Parses the texts of a column strictly as decimals, writes their units at this scale, and else does as
+/// [`num_format_parse_column`].
+///
+/// Its first error is a scale above 38, and its fourth a format under which a decimal can be misread.
+#[unsafe(no_mangle)]
+pub extern "C" fn num_format_parse_decimal_column(
+    format: &NumFormat,
+    scale: u32,
+    offsets: &[u8],
+    offset_type: u32,
+    bytes: &[u8],
+    units: &mut [u8],
+    validity: &[u8],
+    bit_offset: usize,
+    statuses: &mut [i32],
+) -> i32
+    ensures { ParsesDecimals scale offset_type format.now (to_texts offsets.now bytes.now validity.now bit_offset)
+        (to_parsed units.old statuses.old) (to_parsed units.new statuses.new) result }
+{
+    let validity = Validity {
+        bits: validity,
+        bit_offset,
+    };
+    returned(columns::parse_decimals(
+        format,
+        scale,
+        offsets,
+        offset_type,
+        bytes,
+        units,
+        &validity,
+        statuses,
+    ))
 }
 
 /// Returns 1 if every number of every integer type parses again from its text under the format,

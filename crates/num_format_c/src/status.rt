@@ -33,7 +33,7 @@ pub enum Status {
     BadScale,
     /// The text has more than 38 decimals.
     TooManyDecimals,
-    /// There are not as many offsets or statuses as the numbers of a column need.
+    /// There are not as many offsets, statuses or bits as the rows of a column need, or the last value is not whole.
     BadLength,
     /// An offset is below the one before it, or past the bytes.
     BadOffsets,
@@ -43,6 +43,8 @@ pub enum Status {
     DigitsLost,
     /// A text can be misread under the format, so that none is parsed strictly.
     AmbiguousFormat,
+    /// No type of values or offsets has the number.
+    BadType,
 }
 
 impl Status {
@@ -70,6 +72,7 @@ impl Status {
             Status::TooManyBytes => -17,
             Status::DigitsLost => -18,
             Status::AmbiguousFormat => -19,
+            Status::BadType => -20,
         }
     }
 }

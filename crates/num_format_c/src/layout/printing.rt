@@ -1,135 +1,67 @@
 //! Printing a column.
-ghost use Rattle.std.specs.Prelude.{◌≡◌, ℕ, List, ◌+◌, ◌^◌, ◌≤◌, length, take, drop, ◌++◌, MatchOption};
-ghost use Rattle.num_format.specs.Text.{text_of};
-ghost use Rattle.num_format_c.specs.Layout.{IsColumn, row_text, texts_of};
+ghost use Rattle.std.specs.Prelude.{◌≡◌, ℕ, List, ◌+◌, ◌^◌, ◌<◌, ◌≤◌, length, take, drop, ◌++◌, MatchOption};
+ghost use Rattle.num_format_c.specs.Layout.{AreAtStart, AreEnds, IsEnough, largest_offset, offset_at, texts_of};
 
-use super::offset::Offset;
-use super::validity::Validity;
-use num_format::{Buffer, Format, ToFormattedStr, text_len};
+use super::offset::OffsetType;
+use num_format::Buffer;
 use num_format_int::buffer::copy_bytes;
 
-/// What prints the values of a column.
-pub trait Printer<T> {
-    ghost text: { Self → T → List ℕ };
+/// What prints the rows of a column.
+pub trait Printer {
+    ghost rows: { Self → ℕ };
 
-    /// Returns the length of the text of a value in bytes.
-    fn text_len(&self, value: &T) -> usize
-        ensures { result ≡ length (text self.now value.now) };
+    ghost text: { Self → ℕ → List ℕ };
 
-    /// Writes the text of a value at a place of the bytes, and returns where it ends.
-    fn print(&mut self, value: &T, start: usize, bytes: &mut [u8]) -> usize
-        requires { start + length (text self.old value.now) ≤ length bytes.old }
-        ensures same { text self.new ≡ text self.old }
-        ensures end { result ≡ start + length (text self.old value.now) }
-        ensures bytes { bytes.new ≡ take start bytes.old ++ text self.old value.now ++ drop (start + length (text self.old value.now)) bytes.old };
+    /// Returns the number of rows.
+    fn len(&self) -> usize
+        ensures { result ≡ rows self.now };
+
+    /// Returns the length of the text of a row in bytes.
+    fn text_len(&self, row: usize) -> usize
+        requires { row < rows self.now }
+        ensures { result ≡ length (text self.now row) };
+
+    /// Writes the text of a row at a place of the bytes, and returns where it ends. It may use the buffer.
+    fn print(&self, row: usize, buffer: &mut Buffer, start: usize, bytes: &mut [u8]) -> usize
+        requires row { row < rows self.now }
+        requires fits { start + length (text self.now row) ≤ length bytes.old }
+        ensures end { result ≡ start + length (text self.now row) }
+        ensures bytes { bytes.new ≡ take start bytes.old ++ text self.now row ++ drop (start + length (text self.now row)) bytes.old };
 }
 
-/// Prints whole numbers under a format.
-#[derive(Drop)]
-pub struct NumberPrinter<'a, F: Format> {
-    format: &'a F,
-    buffer: Buffer,
-}
-
-impl<'a, F: Format> NumberPrinter<'a, F> {
-    /// Returns what prints under that format.
-    pub fn new(format: &'a F) -> NumberPrinter<'a, F>
-        ensures { result.format.now ≡ format.now }
-    {
-        NumberPrinter {
-            format,
-            buffer: Buffer::new(),
-        }
-    }
-}
-
-impl<'a, N: ToFormattedStr, F: Format> Printer<N> for NumberPrinter<'a, F> {
-    ghost text = { λ p number. text_of (F.answers p.format.now) (N.value number) };
-
-    fn text_len(&self, number: &N) -> usize {
-        text_len(number, self.format)
-    }
-
-    fn print(&mut self, number: &N, start: usize, bytes: &mut [u8]) -> usize {
-        number.read_to_buffer(&mut self.buffer, self.format);
-        append(self.buffer.as_bytes(), start, bytes)
-    }
-}
-
-/// Returns how many bytes the texts of the values have together, or `None` if a `usize` does not hold it.
-pub fn texts_len<T, P: Printer<T>, V: Validity>(
-    values: &[T],
-    printer: &P,
-    validity: &V,
-) -> Option<usize>
-    ensures { let total = length (texts_of (P.text printer.now) (V.rows validity.now) values.now) in
+/// Returns how many bytes the texts of the rows have together, or `None` if a `usize` does not hold it.
+pub fn texts_len<P: Printer>(printer: &P) -> Option<usize>
+    ensures { let total = length (texts_of (P.text printer.now) (P.rows printer.now)) in
         MatchOption result (2 ^ 64 ≤ total) (λ len. len ≡ total) }
 {
     let mut len: usize = 0;
-    for (k, value) in values.iter().enumerate() {
-        len = len.checked_add(row_len(k, value, printer, validity))?;
+    for row in 0..printer.len() {
+        len = len.checked_add(printer.text_len(row))?;
     }
     Some(len)
 }
 
-/// Returns the length of the text of a row.
-#[inline(always)]
-fn row_len<T, P: Printer<T>, V: Validity>(row: usize, value: &T, printer: &P, validity: &V) -> usize
-    ensures { result ≡ length (row_text (P.text printer.now) (V.rows validity.now) row value.now) }
-{
-    if validity.is_valid(row) {
-        printer.text_len(value)
-    } else {
-        0
-    }
-}
-
-/// Prints the values one after another at the start of the bytes, and writes where each text ends. The text of
-/// a null row is empty.
+/// Prints the rows one after another at the start of the bytes, and writes where each text ends.
 ///
-/// There is one offset more than values, and the first is 0.
-pub fn print_texts<T, P: Printer<T>, V: Validity, O: Offset>(
-    values: &[T],
-    printer: &mut P,
-    validity: &V,
-    offsets: &mut [O],
+/// There is one offset more than rows, and the first is 0.
+pub fn print_texts<P: Printer>(
+    printer: &P,
+    offset_type: OffsetType,
+    offsets: &mut [u8],
     bytes: &mut [u8],
 )
-    requires offsets { length offsets.old ≡ length values.now + 1 }
-    requires fits { length (texts_of (P.text printer.old) (V.rows validity.now) values.now) ≤ length bytes.old }
-    requires within { length (texts_of (P.text printer.old) (V.rows validity.now) values.now) ≤ O.LIMIT }
-    ensures { IsColumn (P.text printer.old) (V.rows validity.now) O.position values.now offsets.new bytes.old bytes.new }
+    requires offsets { IsEnough offset_type (P.rows printer.now) (length offsets.old) }
+    requires fits { length (texts_of (P.text printer.now) (P.rows printer.now)) ≤ length bytes.old }
+    requires within { length (texts_of (P.text printer.now) (P.rows printer.now)) ≤ largest_offset offset_type }
+    ensures bytes { AreAtStart (P.text printer.now) (P.rows printer.now) bytes.old bytes.new }
+    ensures ends { AreEnds (P.text printer.now) (P.rows printer.now) (offset_at offset_type offsets.new) }
 {
+    let mut buffer = Buffer::new();
     let mut end = 0;
-    offsets[0] = O::new(end);
-    for (k, value) in values.iter().enumerate() {
-        end = print_row(k, value, printer, validity, end, bytes);
-        offsets[k + 1] = O::new(end);
-    }
-}
-
-/// Writes the text of a row at a place of the bytes, and returns where it ends.
-#[inline(always)]
-fn print_row<T, P: Printer<T>, V: Validity>(
-    row: usize,
-    value: &T,
-    printer: &mut P,
-    validity: &V,
-    start: usize,
-    bytes: &mut [u8],
-) -> usize
-    requires { start + length (row_text (P.text printer.old) (V.rows validity.now) row value.now) ≤ length bytes.old }
-    ensures same { P.text printer.new ≡ P.text printer.old }
-    ensures end { result ≡ start + length (row_text (P.text printer.old) (V.rows validity.now) row value.now) }
-    ensures bytes { bytes.new
-        ≡ take start bytes.old
-        ++ row_text (P.text printer.old) (V.rows validity.now) row value.now
-        ++ drop result bytes.old }
-{
-    if validity.is_valid(row) {
-        printer.print(value, start, bytes)
-    } else {
-        start
+    offset_type.set(offsets, 0, end);
+    for row in 0..printer.len() {
+        end = printer.print(row, &mut buffer, end, bytes);
+        offset_type.set(offsets, row + 1, end);
     }
 }
 

@@ -1,64 +1,46 @@
 //! Which rows of a column have a value.
-ghost use Rattle.std.specs.Prelude.{◌≡◌};
-ghost use Rattle.num_format_c.specs.Layout.{Rows, all_valid, by_bits};
+ghost use Rattle.std.specs.Prelude.{◌≡◌, ◌+◌};
+ghost use Rattle.num_format_c.specs.Layout.{covers, is_bit_set, is_valid};
 
 /// Which rows of a column have a value. The others are null.
-pub trait Validity {
-    ghost rows: { Self → Rows };
+///
+/// Where there are no bits, each row has one. Else there is a bit for each row, which is set if the row has a
+/// value, as in a validity bitmap of Apache Arrow: the bits of a byte are counted from its lowest.
+#[derive(Clone, Copy)]
+pub struct Validity<'a> {
+    pub bits: &'a [u8],
+    /// The bit of the first row.
+    pub bit_offset: usize,
+}
 
+impl<'a> Validity<'a> {
     /// Returns whether the row has a value.
-    fn is_valid(&self, row: usize) -> bool
-        ensures { result ≡ (rows self.now).is_valid row };
-
-    /// Returns whether it says of so many rows whether they have a value.
-    fn covers(&self, n: usize) -> bool
-        ensures { result ≡ (rows self.now).covers n };
-}
-
-/// Each row has a value.
-#[derive(Drop)]
-pub struct AllValid;
-
-impl Validity for AllValid {
-    ghost rows = { λ _. all_valid };
-
     #[inline(always)]
-    fn is_valid(&self, _row: usize) -> bool {
-        true
-    }
-
-    fn covers(&self, _n: usize) -> bool {
-        true
-    }
-}
-
-/// A bit for each row, which is set if the row has a value, as in a validity bitmap of Apache Arrow: the bits
-/// of a byte are counted from its lowest.
-#[derive(Drop)]
-pub struct Bitmap<'a> {
-    bytes: &'a [u8],
-}
-
-impl<'a> Bitmap<'a> {
-    /// Returns the bitmap of these bytes.
-    pub fn new(bytes: &'a [u8]) -> Bitmap<'a>
-        ensures { result.bytes.now ≡ bytes.now }
+    pub fn is_valid(&self, row: usize) -> bool
+        ensures { result ≡ is_valid self.now.bits.now self.now.bit_offset row }
     {
-        Bitmap { bytes }
+        self.bits.is_empty() || self.has_bit(row)
     }
-}
 
-impl<'a> Validity for Bitmap<'a> {
-    ghost rows = { λ b. by_bits b.bytes.now };
-
-    fn is_valid(&self, row: usize) -> bool {
-        match self.bytes.get(row / 8) {
-            Some(byte) => (byte >> (row % 8)) % 2 == 1,
+    /// Returns whether the bit of the row is set.
+    ///
+    /// The sum of the row and the offset of its bit may not fit a `usize`, but that of their bytes does.
+    #[inline(always)]
+    fn has_bit(&self, row: usize) -> bool
+        ensures { result ≡ is_bit_set self.now.bits.now (self.now.bit_offset + row) }
+    {
+        let bit = self.bit_offset % 8 + row % 8;
+        match self.bits.get(self.bit_offset / 8 + row / 8 + bit / 8) {
+            Some(byte) => (byte >> (bit % 8)) % 2 == 1,
             None => false,
         }
     }
 
-    fn covers(&self, n: usize) -> bool {
-        n.div_ceil(8) <= self.bytes.len()
+    /// Returns whether it says of so many rows whether they have a value.
+    pub fn covers(&self, n: usize) -> bool
+        ensures { result ≡ covers self.now.bits.now self.now.bit_offset n }
+    {
+        let bits = self.bit_offset % 8 + n % 8;
+        self.bits.is_empty() || self.bit_offset / 8 + n / 8 + bits.div_ceil(8) <= self.bits.len()
     }
 }

@@ -1,25 +1,31 @@
-use Rattle.std.proofs.Common.{◌≡◌, ◌+◌, ◌∙◌, slice_index_or, w32, of_z, to_z, ap, arith, refl, rules}
-use Rattle.std.proofs.lemmas.List.{get_or_default}
-use Rattle.num_format_c.proofs.ColumnCallLemmas.{parses_row_more}
+use Rattle.std.proofs.Common.{◌≡◌, ◌∙◌, ◌+◌, IsTrue, pos, slice_index_or, slice_set, slice_range, w32, of_z, to_z, ap, arith, rules}
+use Rattle.std.proofs.lemmas.List.{get_or-set_other, get_or-set_same}
+use Rattle.num_format_c.specs.Columns.{ParsesRow}
+use Rattle.num_format_c.specs.Layout.{is_valid, number_at, offset_at}
+use Rattle.num_format_c.proofs.LayoutLemmas.{row_more}
 use Rattle.num_format_c.proofs.columns.parse_rows.Goals as goal
 
-pub loop-k-preserved : goal.loop-k-preserved
-loop-k-preserved g c =
-    let place = g.O.Offset.position in
-    let offsets = c.args.offsets.now in
-    let k = c.loop-k.k in
-    let start : (e : _) → c.get.result ≡ place (slice_index_or offsets k e) =
-    λ e. c.get.ensures ∙ ap place (c.index-offsets-k.is ∙ get_or_default offsets k c.index-offsets-k.result e (search rules)) in
-    let end : (e : _) → c.get-in-loop-k.result ≡ place (slice_index_or offsets (k + 1) e) =
-    λ e. c.get-in-loop-k.ensures ∙ ap place (c.index-offsets-k-in-loop-k.is ∙ get_or_default offsets (k + 1) c.index-offsets-k-in-loop-k.result e (search rules)) in
-    let is_status : to_z w32 (of_z w32 c.parse_row.result) ≡ c.parse_row.result = search rules in
+pub loop-row-preserved : goal.loop-row-preserved
+loop-row-preserved g c =
+    let v = g.N.Value.repr in
+    let row = c.loop-row.row in
+    let status = c.parse_row.result in
+    let offset = offset_at c.args.offset_type c.args.offsets.now in
+    let is_status : to_z w32 (of_z w32 status) ≡ status = search rules in
+    let prior : number_at v c.loop-row.values row ≡ number_at v c.args.values.now row = ap v.number (c.loop-row.invariant.left row (omega arith)) in
     record {
-      length = search rules;
+      length = omega arith;
       parsed = λ s given.
           rw is_status
-          (parses_row_more (g.P.Parser.Parses c.args.parser.now) (g.V.Validity.rows c.args.validity.now) place s offsets c.args.bytes.now
-          c.args.values.now c.loop-k.values c.loop-k.statuses k _ _ (search rules) (search rules) (c.loop-k.invariant.parsed s given)
-          (c.parse_row.ensures s given) c.is_valid.ensures (λ e. rw (start e, end e) refl)
-          (λ d. get_or_default c.loop-k.values k c.index-values-k.result d (search rules) ∙ c.loop-k.invariant.left k d (omega arith)));
-      left = search rules;
+          (row_more
+          (λ k new status. ParsesRow (g.P.Parser.Parses c.args.parser.now) (IsTrue (is_valid c.args.validity.now.bits.now c.args.validity.now.bit_offset k)) s (slice_range c.args.bytes.now (offset k) (offset (k + 1))) (number_at v c.args.values.now k) new status)
+          (number_at v c.loop-row.values) (number_at v c.parse_row.new.values) (λ k. slice_index_or c.loop-row.statuses k (pos 0)) (λ k. slice_index_or (slice_set c.loop-row.statuses row status) k (pos 0)) row
+          (c.loop-row.invariant.parsed s given)
+          (rw (get_or-set_same c.loop-row.statuses row status (pos 0) (omega arith), ← prior, ← c.is_valid.ensures, ← c.get-start.ensures, ← c.get.ensures) (c.parse_row.ensures.parsed s given))
+          (λ k other. ap v.number (c.parse_row.ensures.others k other))
+          (λ k other. get_or-set_other c.loop-row.statuses row k status (pos 0) other));
+      left = λ k le. c.parse_row.ensures.others k (λ same. absurd (omega (arith, same, le))) ∙ c.loop-row.invariant.left k (omega (arith, le));
     }
+
+pub returns : goal.returns
+returns g c = λ s given k under. c.loop-row.invariant.parsed s given k (omega (arith, under))

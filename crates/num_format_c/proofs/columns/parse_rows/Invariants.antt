@@ -1,12 +1,15 @@
-use Rattle.std.proofs.Common.{◌≡◌, ℕ, ◌≤◌, length, get_or}
-use Rattle.num_format_c.specs.Columns.{AreParsed}
+use Rattle.std.proofs.Common.{◌≡◌, ℕ, ◌≤◌, length}
+use Rattle.num_format_c.specs.Columns.{AreParsed, to_parsed, to_texts}
 use Rattle.num_format_c.specs.Held.{IsFormatOf}
+use Rattle.num_format_c.specs.Layout.{row_bytes}
 use Rattle.num_format_c.specs.declared.format.NumFormat.{NumFormat}
 use Rattle.num_format_c.proofs.columns.parse_rows.Given as goal
 
-abbrev pub invariant-loop-k : goal.invariant-loop-k
-invariant-loop-k g l = record {
+abbrev pub invariant-loop-row : goal.invariant-loop-row
+invariant-loop-row g l = record {
   length : length l.values ≡ length l.initial.values;
-  parsed : (s : NumFormat) → IsFormatOf (g.P.Parser.format l.parser) s → AreParsed (g.P.Parser.Parses l.parser) (g.V.Validity.rows l.validity) g.O.Offset.position s l.offsets l.bytes l.initial.values l.values l.statuses l.k;
-  left : (j : ℕ) (d : _) → l.k ≤ j → get_or l.values j d ≡ get_or l.initial.values j d;
+  parsed : (s : NumFormat) → IsFormatOf (g.P.Parser.format l.parser) s →
+      AreParsed (g.P.Parser.Parses l.parser) g.N.Value.repr l.offset_type s (to_texts l.offsets l.bytes l.validity.bits.now l.validity.bit_offset)
+      (to_parsed l.initial.values l.initial.statuses) (to_parsed l.values l.statuses) l.row;
+  left : (k : ℕ) → l.row ≤ k → row_bytes g.N.Value.repr.size l.values k ≡ row_bytes g.N.Value.repr.size l.initial.values k;
 }

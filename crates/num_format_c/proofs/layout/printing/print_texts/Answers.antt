@@ -1,50 +1,27 @@
-use Rattle.std.proofs.Common.{length-set, ◌≡◌, ◌∙◌, ◌<◌, ◌≤◌, ◌+◌, ◌++◌, ℕ, List, sym, ap, arith, length, take, drop, subst}
-use Rattle.num_format_c.specs.Layout.{row_text, texts_of}
+use Rattle.std.proofs.Common.{◌≡◌, ◌∙◌, ◌+◌, arith, length}
+use Rattle.num_format_c.specs.Layout.{offset_at, texts_of}
 use Rattle.num_format_c.proofs.LayoutLemmas.{length_texts_more, length_texts_fit, texts_more, written, ends_more}
 use Rattle.num_format_c.proofs.layout.printing.print_texts.Goals as goal
 
-pub print_row-end-requires : goal.print_row-end-requires
-print_row-end-requires g c =
-    let text = g.P.Printer.text c.args.printer.now in
-    let rows = g.V.Validity.rows c.args.validity.now in
-    let x = c.index-values-k.result in
-    let k = c.loop-k.k in
-    let fits = length_texts_fit text rows c.args.values.now k x (omega arith) c.index-values-k.is in
-    let here : c.loop-k.end + length (row_text text rows k x) ≤ length c.loop-k.bytes = omega (arith, fits) in
-    subst (λ t. c.loop-k.end + length (row_text t rows k x) ≤ length c.loop-k.bytes) (sym c.loop-k.invariant.same) here
+pub print-end-requires : goal.print-end-requires
+print-end-requires g c =
+    let fits = length_texts_fit (g.P.Printer.text c.args.printer.now) c.loop-row.row (g.P.Printer.rows c.args.printer.now) (omega arith) in
+    record { row = omega arith; fits = omega (arith, c.loop-row.invariant.end, fits) }
 
-pub new-requires-in-loop-k : goal.new-requires-in-loop-k
-new-requires-in-loop-k g c =
-    let text = g.P.Printer.text c.args.printer.now in
-    let rows = g.V.Validity.rows c.args.validity.now in
-    let x = c.index-values-k.result in
-    let k = c.loop-k.k in
-    let fits = length_texts_fit text rows c.args.values.now k x (omega arith) c.index-values-k.is in
-    let end : c.print_row-end.result ≡ c.loop-k.end + length (row_text text rows k x) =
-    subst (λ t. c.print_row-end.result ≡ c.loop-k.end + length (row_text t rows k x)) c.loop-k.invariant.same c.print_row-end.ensures.end in
-    omega (arith, fits, end)
+pub set-requires-in-loop-row-clause-fits : goal.set-requires-in-loop-row-clause-fits
+set-requires-in-loop-row-clause-fits g c =
+    let fits = length_texts_fit (g.P.Printer.text c.args.printer.now) c.loop-row.row (g.P.Printer.rows c.args.printer.now) (omega arith) in
+    omega (arith, c.loop-row.invariant.end, c.print-end.ensures.end, fits)
 
-pub loop-k-preserved : goal.loop-k-preserved
-loop-k-preserved g c =
+pub loop-row-preserved : goal.loop-row-preserved
+loop-row-preserved g c =
     let text = g.P.Printer.text c.args.printer.now in
-    let rows = g.V.Validity.rows c.args.validity.now in
-    let values = c.args.values.now in
-    let x = c.index-values-k.result in
-    let k = c.loop-k.k in
-    let done : List ℕ = texts_of text rows (take k values) in
-    let row : List ℕ = row_text text rows k x in
-    let within : k < length values = omega arith in
-    let more = texts_more text rows values k x within c.index-values-k.is in
-    let longer = length_texts_more text rows values k x within c.index-values-k.is in
-    let ended : c.print_row-end.result ≡ c.loop-k.end + length row =
-    subst (λ t. c.print_row-end.result ≡ c.loop-k.end + length (row_text t rows k x)) c.loop-k.invariant.same c.print_row-end.ensures.end in
-    let bytes : c.print_row-end.new.bytes ≡ take c.loop-k.end c.loop-k.bytes ++ row ++ drop (c.loop-k.end + length row) c.loop-k.bytes =
-    subst (λ t. c.print_row-end.new.bytes ≡ take c.loop-k.end c.loop-k.bytes ++ row_text t rows k x ++ drop c.print_row-end.result c.loop-k.bytes) c.loop-k.invariant.same c.print_row-end.ensures.bytes
-    ∙ ap (λ n. take c.loop-k.end c.loop-k.bytes ++ row ++ drop n c.loop-k.bytes) ended in
-    let end : c.print_row-end.result ≡ length (texts_of text rows (take (k + 1) values)) = omega (arith, longer, ended) in
+    let row = c.loop-row.row in
+    let more = texts_more text row in
+    let end : c.print-end.result ≡ length (texts_of text (row + 1)) = omega (arith, length_texts_more text row, c.print-end.ensures.end) in
     record {
-      same = c.print_row-end.ensures.same ∙ c.loop-k.invariant.same;
       end = end;
-      texts = rw more (bytes ∙ written c.args.bytes.now done row c.loop-k.bytes c.loop-k.end c.loop-k.invariant.end c.loop-k.invariant.texts);
-      ends = ends_more text rows values g.O.Offset.position c.loop-k.offsets k c.new-in-loop-k.result (omega (arith, simp length-set at c.loop-k.auto.offsets)) c.loop-k.invariant.ends (c.new-in-loop-k.ensures ∙ end);
+      texts = rw more (c.print-end.ensures.bytes ∙ written c.args.bytes.now (texts_of text row) (text row) c.loop-row.bytes c.loop-row.end c.loop-row.invariant.end c.loop-row.invariant.texts);
+      ends = ends_more text (offset_at c.args.offset_type c.loop-row.offsets) (offset_at c.args.offset_type c.set-in-loop-row.new.offsets) row
+          c.loop-row.invariant.ends (c.set-in-loop-row.ensures.written ∙ end) c.set-in-loop-row.ensures.others;
     }

@@ -4,10 +4,10 @@ use Rattle.num_format_c.proofs.layout.printing.texts_len.Goals as goal
 
 pub returns-in_err-len : goal.returns-in_err-len
 returns-in_err-len g c =
-    let fits = length_texts_fit (g.P.Printer.text c.args.printer.now) (g.V.Validity.rows c.args.validity.now) c.args.values.now c.loop-k.k c.index-values-k.result (omega arith) c.index-values-k.is in
+    let fits = length_texts_fit (g.P.Printer.text c.args.printer.now) c.loop-row.row (g.P.Printer.rows c.args.printer.now) (omega arith) in
     search (rules, fits)
 
-pub loop-k-preserved : goal.loop-k-preserved
-loop-k-preserved g c =
-    let more = length_texts_more (g.P.Printer.text c.args.printer.now) (g.V.Validity.rows c.args.validity.now) c.args.values.now c.loop-k.k c.index-values-k.result (omega arith) c.index-values-k.is in
+pub loop-row-preserved : goal.loop-row-preserved
+loop-row-preserved g c =
+    let more = length_texts_more (g.P.Printer.text c.args.printer.now) c.loop-row.row in
     search (rules, more)
