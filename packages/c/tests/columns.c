@@ -5,7 +5,7 @@
 #include <stdio.h>
 #include <string.h>
 
-enum { ROWS = 40, MOST_SHIFT = 3, MOST_BITS = 13, ROOM = ROWS * NUM_FORMAT_DECIMAL_MAX };
+enum { ROWS = 40, MOST_SHIFT = 3, MOST_BITS = 13, TRIED = 10, ROOM = ROWS * NUM_FORMAT_DECIMAL_MAX };
 
 /* A type of values; decimals are of one more. */
 typedef struct kind {
@@ -46,22 +46,17 @@ static void check(const char *what, size_t row, long long found, long long expec
 static uint8_t *values(void) { return (uint8_t *)now.values + now.shift; }
 static uint8_t *offsets(void) { return (uint8_t *)now.offsets + now.shift; }
 
+#define FORMAT &now.format
 #define VALUES values(), now.values_size
 #define NULLS now.validity, now.validity_size, now.bit_offset
 #define TEXTS offsets(), now.offsets_size, now.offset_type, now.bytes, now.bytes_size
 #define STATUSES now.statuses, now.statuses_length
-static int32_t print(void) { return num_format_print_column(&now.format, now.type, VALUES, NULLS, TEXTS, &now.length); }
-static int32_t measure(void) { return num_format_print_column_len(&now.format, now.type, VALUES, NULLS, &now.length); }
-static int32_t parse(void) { return num_format_parse_column(&now.format, now.type, now.lenient, TEXTS, VALUES, NULLS, STATUSES); }
-static int32_t print_decimals(void) {
-    return num_format_print_decimal_column(&now.format, VALUES, now.scale, NULLS, TEXTS, &now.length);
-}
-static int32_t measure_decimals(void) {
-    return num_format_print_decimal_column_len(&now.format, VALUES, now.scale, NULLS, &now.length);
-}
-static int32_t parse_decimals(void) {
-    return num_format_parse_decimal_column(&now.format, now.scale, TEXTS, VALUES, NULLS, STATUSES);
-}
+static int32_t print(void) { return num_format_print_column(FORMAT, now.type, VALUES, NULLS, TEXTS, &now.length); }
+static int32_t measure(void) { return num_format_print_column_len(FORMAT, now.type, VALUES, NULLS, &now.length); }
+static int32_t parse(void) { return num_format_parse_column(FORMAT, now.type, now.lenient, TEXTS, VALUES, NULLS, STATUSES); }
+static int32_t print_decimals(void) { return num_format_print_decimal_column(FORMAT, VALUES, now.scale, NULLS, TEXTS, &now.length); }
+static int32_t measure_decimals(void) { return num_format_print_decimal_column_len(FORMAT, VALUES, now.scale, NULLS, &now.length); }
+static int32_t parse_decimals(void) { return num_format_parse_decimal_column(FORMAT, now.scale, TEXTS, VALUES, NULLS, STATUSES); }
 
 /* The calls for numbers, and for decimals. */
 static int32_t (*const calls[][3])(void) = {{print, measure, parse}, {print_decimals, measure_decimals, parse_decimals}};
@@ -245,7 +240,6 @@ static void check_types(void) {
 
 /* Texts as numbers, strictly and leniently, and as decimals at scale 2: the status of each, and what is written with 0.
  * A row without a text is null. */
-enum { TRIED = 10 };
 static const struct {
     const char *text;
     int32_t status, value;

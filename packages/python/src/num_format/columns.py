@@ -498,8 +498,8 @@ def _parse_into(
     offsets, causes = texts.offsets, np.zeros(len(texts), dtype=np.int32)
     inputs = *_buffer(offsets), _TYPES[offsets.dtype], *_buffer(texts.data, "char")
     validity = (ffi.NULL, 0) if texts.validity is None else _buffer(texts.validity)
-    statuses = ffi.from_buffer("int32_t[]", causes)
-    status = call(form._struct, *how, *inputs, *_buffer(values), *validity, 0, statuses, len(causes))
+    outputs = *_buffer(values), *validity, 0, ffi.from_buffer("int32_t[]", causes), len(causes)
+    status = call(form._struct, *how, *inputs, *outputs)
     if status == lib.NUM_FORMAT_AMBIGUOUS_FORMAT:
         raise FormatError("format", repr(form), Cause(status))
     _check(status)
