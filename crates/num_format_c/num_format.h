@@ -278,19 +278,11 @@ static inline int32_t num_format_parse_decimal_i64(const num_format *format, con
 
 /* ---- Columns: many numbers at once, their texts in the layout of a column of strings of Apache Arrow ---- */
 
-/* The types of values and offsets: the letters that Arrow's C data interface has for them. It has no integers of 128
- * bits. */
+/* The types of values and offsets, as Arrow's C data interface names them, which has no integers of 128 bits. */
 typedef enum num_format_type {
-    NUM_FORMAT_I8 = 'c',
-    NUM_FORMAT_U8 = 'C',
-    NUM_FORMAT_I16 = 's',
-    NUM_FORMAT_U16 = 'S',
-    NUM_FORMAT_I32 = 'i',
-    NUM_FORMAT_U32 = 'I',
-    NUM_FORMAT_I64 = 'l',
-    NUM_FORMAT_U64 = 'L',
-    NUM_FORMAT_I128 = 'q',
-    NUM_FORMAT_U128 = 'Q'
+    NUM_FORMAT_I8 = 'c', NUM_FORMAT_U8 = 'C', NUM_FORMAT_I16 = 's', NUM_FORMAT_U16 = 'S',
+    NUM_FORMAT_I32 = 'i', NUM_FORMAT_U32 = 'I', NUM_FORMAT_I64 = 'l', NUM_FORMAT_U64 = 'L',
+    NUM_FORMAT_I128 = 'q', NUM_FORMAT_U128 = 'Q'
 } num_format_type;
 
 /* A column of n rows, in the layout of Arrow:
@@ -395,8 +387,9 @@ enum {
     NUM_FORMAT_BAD_TYPE = -20         /* no type of values or offsets has this number */
 };
 
-/* Returns what a status means, as a text that ends at a zero byte and is never freed: "ok" for 0 and above. */
-const char *num_format_strerror(int32_t status);
+/* Returns what a status means, as a text that ends at a zero byte and is never freed: "ok" for 0 and above. This is
+ * inline. */
+static inline const char *num_format_strerror(int32_t status);
 
 /* ---- What is inline ---- */
 
@@ -513,6 +506,18 @@ NUM_FORMAT_INLINE(int32_t, parse_decimal_column,
 #undef NUM_FORMAT_SOME_TEXTS
 #endif
 
+static inline const char *num_format_strerror(int32_t status) {
+    static const char *const texts[] = {
+        "ok", "the struct has no format", "the array is shorter than the text", "the text is not UTF-8",
+        "the text is refused as a number", "no such locale", "a text of the format has more than 8 bytes",
+        "no such grouping", "the number of bits is not 8, 16, 32 or 64", "unexpected byte", "the text has no digit",
+        "the text is not as its number is printed", "the number is out of range", "the scale is above 38",
+        "more than 38 digits follow the decimal mark", "the sizes of a column's arrays do not fit one another",
+        "an offset is below 0 or the one before it, or past the bytes", "the texts have more bytes than an offset can say",
+        "the text has digits other than 0 that the scale has not", "the format is ambiguous", "no such type",
+    };
+    return status >= 0 ? texts[0] : status < NUM_FORMAT_BAD_TYPE ? "unknown status" : texts[-status];
+}
 static inline int32_t num_format_locale_str(num_format *format, const char *name) {
     return num_format_locale(format, name, strlen(name));
 }

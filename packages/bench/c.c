@@ -60,9 +60,8 @@ static void parse_one_by_one(void) {
 }
 
 static void print_column(void) {
-    size_t length;
     sum += (uint64_t)num_format_print_column(&en, NUM_FORMAT_I64, numbers, n * 8, NULL, 0, 0, offsets, (n + 1) * 8,
-                                             NUM_FORMAT_I64, bytes, size, &length);
+                                             NUM_FORMAT_I64, bytes, size, &size);
 }
 
 static void parse_column(void) {

@@ -96,17 +96,19 @@ using decimal = basic_decimal<std::int64_t>;
 
 /// A number of 128 bits by its halves, in two's complement.
 struct halves {
-    std::uint64_t low, high;
-    template <class T> static halves of(T number) {
-        if constexpr (is_wide<T>) return {std::uint64_t(number), std::uint64_t(number >> 64)};
-        else if constexpr (is_signed<T>) return {std::uint64_t(number), number < 0 ? UINT64_MAX : 0};
-        else return {number, 0};
+    std::uint64_t low = 0, high = 0;
+    halves() = default;
+    template <class T> explicit halves(T number) : low(std::uint64_t(number)) {
+        if constexpr (is_wide<T>) high = std::uint64_t(number >> 64);
+        else if constexpr (is_signed<T>) high = number < 0 ? UINT64_MAX : 0;
+    }
+    template <class T> T as() const {
+        if constexpr (is_wide<T>) return T(T(high) << 64 | low);
+        else return T(low);
     }
     /// Makes it a number of the type, and returns whether it is one.
     template <class T> bool to(T &number) const {
-        if constexpr (is_wide<T>) number = T(T(high) << 64 | low);
-        else number = T(low);
-        const halves again = of(number);
+        const halves again(number = as<T>());
         return again.low == low && again.high == high;
     }
 };
@@ -182,8 +184,8 @@ public:
         char text[NUM_FORMAT_MAX];
         std::int32_t len;
         if constexpr (is_wide<T>) {
-            const auto [low, high] = halves::of(number);
-            len = (is_signed<T> ? num_format_print_i128 : num_format_print_u128)(&held, low, high, text, sizeof text);
+            const halves of(number);
+            len = (is_signed<T> ? num_format_print_i128 : num_format_print_u128)(&held, of.low, of.high, text, sizeof text);
         } else if constexpr (is_signed<T>) len = num_format_print_i64(&held, number, text, sizeof text);
         else len = num_format_print_u64(&held, number, text, sizeof text);
         return {text, std::size_t(check(len))};
@@ -192,9 +194,8 @@ public:
     /// The length of that text, which is not printed.
     template <class T> std::size_t print_len(T number) const {
         static_assert(is_number<T>, "an integer, and no character");
-        const auto [low, high] = halves::of(number);
-        if constexpr (is_signed<T>) return std::size_t(check(num_format_print_i128_len(&held, low, high)));
-        else return std::size_t(check(num_format_print_u128_len(&held, low, high)));
+        const halves of(number);
+        return std::size_t(check((is_signed<T> ? num_format_print_i128_len : num_format_print_u128_len)(&held, of.low, of.high)));
     }
 
     /// The number that a text spells, with its separators or without. Throws ambiguous_format where reads_back is
@@ -203,10 +204,10 @@ public:
         static_assert(is_number<T>, "an integer, and no character");
         std::size_t at = 0;
         if constexpr (is_wide<T>) {
-            halves found{0, 0};
+            halves found;
             const auto parse_wide = is_signed<T> ? num_format_parse_strict_i128 : num_format_parse_strict_u128;
             check(parse_wide(&held, text.empty() ? "" : text.data(), text.size(), &found.low, &found.high, &at), at);
-            return T(T(found.high) << 64 | found.low);
+            return found.as<T>();
         }
         std::conditional_t<is_signed<T>, std::int64_t, std::uint64_t> number = 0;
         if constexpr (is_signed<T>)
@@ -221,8 +222,8 @@ public:
     template <class T> std::string print_decimal(basic_decimal<T> number) const {
         static_assert(is_units<T>, "units of at most 128 bits with a sign");
         char text[NUM_FORMAT_DECIMAL_MAX];
-        const auto [low, high] = halves::of(number.units);
-        return {text, std::size_t(check(num_format_print_decimal(&held, low, high, number.scale, text, sizeof text)))};
+        const halves of(number.units);
+        return {text, std::size_t(check(num_format_print_decimal(&held, of.low, of.high, number.scale, text, sizeof text)))};
     }
 
     /// The decimal that a text spells, with as many decimals. Throws too_many_decimals too, and out_of_range where the type
@@ -230,7 +231,7 @@ public:
     template <class T = std::int64_t> basic_decimal<T> parse_decimal(std::string_view text) const {
         static_assert(is_units<T>, "units of at most 128 bits with a sign");
         basic_decimal<T> number{};
-        halves units{0, 0};
+        halves units;
         std::size_t at = 0;
         check(num_format_parse_decimal(&held, text.data(), text.size(), &units.low, &units.high, &number.scale, &at), at);
         return units.to(number.units) ? number : throw out_of_range(NUM_FORMAT_OUT_OF_RANGE);
@@ -260,11 +261,9 @@ public:
 
     /// The numbers of many texts, each as by `parse`. Throws ambiguous_format, bad_offsets or bad_length.
     template <class T = std::int64_t> parsed_column<T> try_parse_column(const column &texts) const {
-        std::vector<number_of<T>> numbers(texts.size());
-        auto statuses = parsed(texts, numbers, [&](auto... from) {
+        return parsed<T, number_of<T>>(texts, [&](auto... from) {
             return num_format_parse_column(&held, type<number_of<T>>(), 0, from...);
         });
-        return {found<T>(std::move(numbers), statuses, texts), std::move(statuses)};
     }
 
     /// The units of many decimals at one scale, each text parsed as by `parse_decimal`. Throws bad_scale too. A text that has
@@ -272,14 +271,9 @@ public:
     template <class T = std::int64_t>
     parsed_column<T> try_parse_decimal_column(const column &texts, std::uint32_t scale) const {
         static_assert(is_units<number_of<T>>, "units of at most 128 bits with a sign");
-        std::vector<halves> units(texts.size());
-        std::vector<number_of<T>> numbers(texts.size());
-        auto statuses = parsed(texts, units, [&](auto... from) {
+        return parsed<T, halves>(texts, [&](auto... from) {
             return num_format_parse_decimal_column(&held, scale, from...);
         });
-        for (std::size_t k = 0; k < units.size(); k++)
-            if (!units[k].to(numbers[k])) numbers[k] = 0, statuses[k] = NUM_FORMAT_OUT_OF_RANGE;
-        return {found<T>(std::move(numbers), statuses, texts), std::move(statuses)};
     }
 
     /// The numbers of many texts. Throws what try_parse_column throws, or the exception of the first text that is refused,
@@ -312,30 +306,10 @@ private:
     }
 
     /// The values as numbers of type N, where a null is 0.
-    template <class N, class T> static decltype(auto) given(const std::vector<T> &values) {
-        if constexpr (std::is_same_v<N, T>) return (values);
-        else {
-            std::vector<N> numbers(values.size());
-            for (std::size_t k = 0; k < values.size(); k++) {
-                const std::optional<number_of<T>> number = values[k];
-                if constexpr (std::is_same_v<N, halves>) numbers[k] = halves::of(number.value_or(0));
-                else numbers[k] = number.value_or(0);
-            }
-            return numbers;
-        }
-    }
-
-    /// Numbers that were parsed, as values of type T.
-    template <class T>
-    static std::vector<T> found(std::vector<number_of<T>> numbers, const std::vector<std::int32_t> &statuses,
-                                const column &texts) {
-        if constexpr (std::is_same_v<T, number_of<T>>) return numbers;
-        else {
-            std::vector<T> values(numbers.size());
-            for (std::size_t k = 0; k < values.size(); k++)
-                if (statuses[k] == 0 && !texts.is_null(k)) values[k] = numbers[k];
-            return values;
-        }
+    template <class N, class T> static std::vector<N> given(const std::vector<T> &values) {
+        std::vector<N> numbers(values.size());
+        for (std::size_t k = 0; k < values.size(); k++) numbers[k] = N(std::optional<number_of<T>>(values[k]).value_or(0));
+        return numbers;
     }
 
     /// Prints a column by a call that measures it and one that prints it.
@@ -351,14 +325,19 @@ private:
         return {std::move(offsets), std::move(bytes), std::move(validity)};
     }
 
-    /// Parses a column by a call, and returns the statuses.
-    template <class N, class Parse>
-    static std::vector<std::int32_t> parsed(const column &texts, std::vector<N> &numbers, Parse parse) {
-        const std::size_t n = numbers.size(), size = (n + 1) * sizeof(std::int64_t), first = 0;
-        std::vector<std::int32_t> statuses(n);
+    /// Parses a column as numbers of type N by a call, and makes them values of type T.
+    template <class T, class N, class Parse> static parsed_column<T> parsed(const column &texts, Parse parse) {
+        const std::size_t n = texts.size(), size = (n + 1) * sizeof(std::int64_t), first = 0;
+        std::vector<N> numbers(n);
+        parsed_column<T> made{std::vector<T>(n), std::vector<std::int32_t>(n)};
         check(parse(texts.offsets.data(), size, NUM_FORMAT_I64, texts.bytes.data(), texts.bytes.size(), numbers.data(),
-                    n * sizeof(N), texts.validity.data(), texts.validity.size(), first, statuses.data(), n));
-        return statuses;
+                    n * sizeof(N), texts.validity.data(), texts.validity.size(), first, made.statuses.data(), n));
+        for (std::size_t k = 0; k < n; k++) {
+            number_of<T> number{};
+            if (!halves(numbers[k]).to(number)) made.statuses[k] = NUM_FORMAT_OUT_OF_RANGE;
+            if (made.statuses[k] == 0 && !texts.is_null(k)) made.values[k] = number;
+        }
+        return made;
     }
 
     /// The values of a column. Throws the exception of its first row that is refused, with the place in its text.
@@ -366,7 +345,7 @@ private:
         for (std::size_t k = 0, at = 0; k < found.statuses.size(); k++)
             if (found.statuses[k] < 0) {
                 const std::string_view text = texts[k];
-                halves any{0, 0};
+                halves any;
                 std::uint32_t scale = 0;
                 if (is_decimal) num_format_parse_decimal(&held, text.data(), text.size(), &any.low, &any.high, &scale, &at);
                 else num_format_parse_strict_u128(&held, text.data(), text.size(), &any.low, &any.high, &at);

@@ -27,9 +27,9 @@ Build it by `tools/build library`, or set NUM_FORMAT_LIBRARY to its path. Looked
 3. {BUILT}"""
 
 # What cffi is told of num_format.h: its numbers, the struct, and the calls that are not inline.
-NUMBER = re.compile(r"^(?:#define |    )(NUM_FORMAT_\w+)(?= \d+$| = )", re.MULTILINE)
+NUMBER = re.compile(r"\b(NUM_FORMAT_\w+)(?= = | \d+$)", re.MULTILINE)
 STRUCT = re.compile(r"^typedef struct num_format \{.*?^\} num_format;$", re.DOTALL | re.MULTILINE)
-CALL = re.compile(r"^(?:u?int32_t|size_t|const char \*) ?num_format_\w+\([^)]*\);$", re.MULTILINE)
+CALL = re.compile(r"^(?:u?int32_t|size_t) num_format_\w+\([^)]*\);$", re.MULTILINE)
 
 
 def declarations(folder):

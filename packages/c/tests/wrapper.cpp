@@ -70,8 +70,8 @@ static void check_columns(const numfmt::format &de, const numfmt::format &sevens
     check("statuses", small.statuses == std::vector<std::int32_t>{0, -12, -12} && small.values[0] == 0 && !small.values[1]);
     check("row out of range", throws<numfmt::out_of_range>([&] { de.parse_column<std::uint64_t>(texts); }, -12, 0, 1));
     check("digits_lost", throws<numfmt::digits_lost>([&] { de.parse_decimal_column({{0, 3}, "0,5", {}}, 0); }, -18));
-    check("bad_scale, column", throws<numfmt::bad_scale>([&] { de.print_decimal_column(numbers, 39); }, -13));
-    check("bad_scale, parsed", throws<numfmt::bad_scale>([&] { de.parse_decimal_column(texts, 39); }, -13));
+    check("bad_scale, column", throws<numfmt::bad_scale>([&] { de.print_decimal_column(numbers, 39); }, -13)
+          && throws<numfmt::bad_scale>([&] { de.parse_decimal_column(texts, 39); }, -13));
     check("unexpected decimal", throws<numfmt::unexpected>([&] { de.parse_decimal_column({{0, 1, 5}, "1,2,3", {}}, 0); }, -9, 2, 1));
     texts.bytes[5] = 'x';
     check("refused column", throws<numfmt::unexpected>([&] { de.parse_column(texts); }, -9, 4, 1));

@@ -70,7 +70,6 @@ extern "C" {
         name: *mut u8,
         capacity: usize,
     ) -> i32;
-
     fn num_format_print_decimal(
         format: *const RawFormat,
         low: u64,
@@ -79,7 +78,6 @@ extern "C" {
         text: *mut u8,
         capacity: usize,
     ) -> i32;
-
     fn num_format_parse_decimal(
         format: *const RawFormat,
         text: *const u8,
@@ -89,7 +87,6 @@ extern "C" {
         scale: *mut u32,
         at: *mut usize,
     ) -> i32;
-
     fn num_format_reads_back(format: *const RawFormat) -> i32;
     fn num_format_prints_alike(first: *const RawFormat, second: *const RawFormat) -> i32;
 }

@@ -48,10 +48,8 @@ __all__ = [
     "try_parse_decimal_column",
 ]
 
-# The dtypes of numbers and of offsets, and the library's number of each.
-_TYPES = [(kind, bits) for kind in "iu" for bits in (8, 16, 32, 64)]
-_NUMBERS = {np.dtype(f"{kind}{bits // 8}"): getattr(lib, f"NUM_FORMAT_{kind}{bits}".upper()) for kind, bits in _TYPES}
-_OFFSETS = {np.dtype(np.int32): lib.NUM_FORMAT_I32, np.dtype(np.int64): lib.NUM_FORMAT_I64}
+# The dtypes of numbers, and the library's number of each.
+_TYPES = {np.dtype(f"{k}{n}"): getattr(lib, f"NUM_FORMAT_{k.upper()}{8 * n}") for k in "iu" for n in (1, 2, 4, 8)}
 
 #: The dtype of the units of decimals of 128 bits, in two's complement: that of Apache Arrow's type decimal128.
 WIDE = np.dtype([("low", np.uint64), ("high", np.int64)])
@@ -104,7 +102,7 @@ class StringColumn(Sequence["str | None"]):
     def __init__(self, offsets: npt.ArrayLike, data: Any, validity: Any = None) -> None:
         given = _one_dimension(np.asarray(offsets), "the offsets")
         native = given.dtype.newbyteorder("=")
-        if native not in _OFFSETS:
+        if native not in (np.int32, np.int64):
             raise TypeError(f"the offsets must be int32 or int64, not {given.dtype}")
         self.offsets = np.ascontiguousarray(given, dtype=native)
         self.data = np.frombuffer(data, dtype=np.uint8)
@@ -309,7 +307,7 @@ def format_column(
     struct = to_format(format)._struct
     given, valid = _not_null(values, "the numbers")
     numbers = np.ascontiguousarray(given, dtype=_integers(given.dtype))
-    passed = struct, _NUMBERS[numbers.dtype], *_buffer(numbers)
+    passed = struct, _TYPES[numbers.dtype], *_buffer(numbers)
     column = _printed(lib.num_format_print_column, lib.num_format_print_column_len, passed, len(numbers), large)
     return column if valid is None else _with_nulls(column, valid)
 
@@ -374,7 +372,7 @@ def try_parse_column(
     form, native = to_format(format), _integers(np.dtype(dtype))
     texts = _to_column(column)
     values = np.zeros(len(texts), dtype=native)
-    causes = _parse_into(values, lib.num_format_parse_column, form, (_NUMBERS[native], bool(lenient)), texts)
+    causes = _parse_into(values, lib.num_format_parse_column, form, (_TYPES[native], bool(lenient)), texts)
     return _parsed(values, causes, texts)
 
 
@@ -488,7 +486,7 @@ def _printed(
     if length[0] > np.iinfo(offsets.dtype).max:
         _check(lib.NUM_FORMAT_TOO_MANY_BYTES)
     data = np.empty(length[0], dtype=np.uint8)
-    outputs = *_buffer(offsets), _OFFSETS[offsets.dtype], *_buffer(data, "char")
+    outputs = *_buffer(offsets), _TYPES[offsets.dtype], *_buffer(data, "char")
     _check(call(*passed, *no_nulls, *outputs, length))
     return _unchecked(offsets, data)
 
@@ -498,10 +496,10 @@ def _parse_into(
 ) -> npt.NDArray[np.int32]:
     """Parses texts by a call, which writes values but of rows that are null or refused, and returns the statuses."""
     offsets, causes = texts.offsets, np.zeros(len(texts), dtype=np.int32)
-    inputs = *_buffer(offsets), _OFFSETS[offsets.dtype], *_buffer(texts.data, "char")
+    inputs = *_buffer(offsets), _TYPES[offsets.dtype], *_buffer(texts.data, "char")
     validity = (ffi.NULL, 0) if texts.validity is None else _buffer(texts.validity)
-    statuses = ffi.from_buffer("int32_t[]", causes)
-    status = call(form._struct, *how, *inputs, *_buffer(values), *validity, 0, statuses, len(causes))
+    outputs = *_buffer(values), *validity, 0, ffi.from_buffer("int32_t[]", causes), len(causes)
+    status = call(form._struct, *how, *inputs, *outputs)
     if status == lib.NUM_FORMAT_AMBIGUOUS_FORMAT:
         raise FormatError("format", repr(form), Cause(status))
     _check(status)
@@ -511,7 +509,7 @@ def _parse_into(
 def _integers(dtype: np.dtype[Any]) -> np.dtype[Any]:
     """Returns the dtype of integers in the processor's byte order."""
     native = dtype.newbyteorder("=")
-    if native not in _NUMBERS:
+    if native not in _TYPES:
         inexact = ": a float is not exact" if dtype.kind == "f" else ""
         raise TypeError(f"the dtype must be one of integers of 8 to 64 bits, not {dtype}{inexact}")
     return native
