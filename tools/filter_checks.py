@@ -9,10 +9,12 @@ import io
 import itertools
 import os
 import random
+import re
 import resource
 import subprocess
 import sys
 import tempfile
+from decimal import Decimal
 from pathlib import Path
 
 from case_files import shown
@@ -58,6 +60,11 @@ MEMORY = 8 * 1024 * 1024
 # How many lines the engines regroup, and a program that is not to be split: it writes one line more in each process.
 ENGINE_LINES = 100_000
 PREFIXED = "#!/bin/sh\necho first\nexec cat\n"
+# What stands in place of a number of `en`, and what is one.
+AMOUNTS = ['"1,234"', "-12345", "98765", " 4000 ", '"-1,234,567"', '" 4,000\t"', '""', "", "1234.5", '"1234.50"']
+AMOUNTS += ["12x", '"1\n000"', '5"', '"5" ', ' "5"', "1.0", '"7"\t']
+AMOUNT = re.compile(r"-?(\d{1,3}(,\d{3})+|\d+)(\.\d+)?")
+RANDOM_RECORDS = 8000
 
 
 def compare(tally, name, ended, status, out, err):
@@ -96,6 +103,64 @@ def check_records(tally, program):
         compare_records(tally, name, there, expected)
         compare_records(tally, f"{name}, back", regroup(program, [*words, "de", "en"], there.stdout), rows)
         compare(tally, f"{name}, each byte", regroup(program, [*words, "en", "en"], text), 0, text, b"")
+
+
+def check_random_records(tally, program):
+    """Regroups random records, of which some have bare quotes and several lines, and compares the fields that Python's `csv`
+    reads of them."""
+    heading("random records, as Python's csv reads them")
+    randomly = random.Random(8000)
+    text = "".join(random_record(randomly) for _ in range(RANDOM_RECORDS))
+    ended = regroup(program, ["--csv", "--field", "2,4", "--empty", "--invalid", "warn", "en", "de"], text.encode())
+    expected, lines_at_fault = [], []
+    for line, raw, fields in records_of(text):
+        converted = with_german(fields)
+        if converted is None:
+            lines_at_fault.append(line)
+        expected.append((raw, fields) if converted is None else (None, converted))
+    found = [(raw, fields) for _, raw, fields in records_of(ended.stdout.decode())]
+    pairs = itertools.zip_longest(found, expected)
+    differ = next((pair for pair in pairs if None in pair or pair[0][1] != pair[1][1] or pair[1][0] not in (None, pair[0][0])), None)
+    named = [int(message.split(":")[2]) for message in ended.stderr.decode().splitlines()]
+    tally.compare("fields", (ended.returncode, len(found), differ), (0, RANDOM_RECORDS, None))
+    tally.compare("lines at fault", named, lines_at_fault)
+
+
+def random_record(randomly):
+    """A record with numbers, or what is none, in its second and fourth fields, if it has as many."""
+    fields = [random_field(randomly), randomly.choice(AMOUNTS), random_field(randomly), randomly.choice(AMOUNTS)]
+    count = randomly.choice([3, 4, 4, 4, 4])
+    return ",".join(fields[:count]) + randomly.choice(["\n", "\r\n"])
+
+
+def random_field(randomly):
+    """A field in quotes, which bytes may follow, or with quotes that open nothing."""
+    if randomly.random() < 0.35:
+        return "".join(randomly.choices(["a", ";", " ", "7", "\u20ac", 'x"', 'y"z', "\t"], k=randomly.randrange(5)))
+    inner = "".join(randomly.choices(["a", ",", '""', "\n", "\r\n", ";", " ", "\u20ac"], k=randomly.randrange(6)))
+    return '"' + inner + '"' + randomly.choice(["", "", "", "", " ", "x", 'x"y', 'b"c'])
+
+
+def records_of(text):
+    """The records of a text: the number of the first line, the text and the fields that Python's `csv` reads."""
+    lines = io.StringIO(text, newline="").readlines()
+    reader = csv.reader(lines)
+    before = 0
+    for fields in reader:
+        yield before + 1, "".join(lines[before : reader.line_num]), fields
+        before = reader.line_num
+
+
+def with_german(fields):
+    """The fields with the amounts in the second and the fourth as `de` writes them, or nothing if there are none."""
+    converted = list(fields)
+    for at in [1, 3]:
+        amount = fields[at].strip() if at < len(fields) else "none"
+        if amount and not AMOUNT.fullmatch(amount):
+            return None
+        if amount:
+            converted[at] = fields[at].replace(amount, german(f"{Decimal(amount.replace(',', '')):,}"))
+    return converted
 
 
 def row_of(randomly):
@@ -258,8 +323,8 @@ def check_help(tally, program):
 def main():
     program = Path(sys.argv[1]).resolve() if len(sys.argv) > 1 else PROGRAM
     tally = Tally()
-    checks = check_help, check_open_input, check_records, check_failures, check_closed_pipe, check_slow_input
-    for check in *checks, check_output_is_input, check_long, check_engines, check_header:
+    checks = check_help, check_open_input, check_records, check_random_records, check_failures, check_closed_pipe
+    for check in *checks, check_slow_input, check_output_is_input, check_long, check_engines, check_header:
         check(tally, program)
     tally.end()
 

@@ -1,9 +1,7 @@
 //! What the options and words of the command line ask for.
 
 use clap::ArgMatches;
-use regroup_stream::{
-    FieldRange, Fields, Invalid, Reading, Records, Rules, Span, Within, field_list,
-};
+use regroup_stream::{FieldRange, Fields, Invalid, Reading, Rules, Span, field_list};
 use std::alloc::{AllocError, Global};
 
 /// The most bytes of a line, without the byte that ends it.
@@ -84,15 +82,11 @@ fn span_of<'a>(matches: &ArgMatches<'_>, list: &'a [FieldRange]) -> Option<Span<
         [byte] if byte.is_ascii() => *byte,
         _ => return None,
     };
-    let fields = Fields { list, delimiter };
-    if !is_csv {
-        return Some(Span::Fields(fields));
-    }
-    let within = Within {
-        inside: false,
-        before: 0,
-    };
-    Some(Span::Csv(Records { fields, within }))
+    Some(Span::Fields(Fields {
+        list,
+        delimiter,
+        quotes: is_csv,
+    }))
 }
 
 /// Returns the capacity of the output's buffer in bytes: that of a block, or none where each line is written at once.

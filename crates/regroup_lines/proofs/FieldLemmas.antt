@@ -1,13 +1,12 @@
 -- What becomes of the fields of a line, field after field.
-use Rattle.std.proofs.Common.{◌≡◌, ℕ, ◌+◌, ◌<◌, ◌≤◌, ◌==◌, Bool, true, false, List, [], ◌∷◌, ◌++◌, length, Option, Some, None, Result, Ok, Err, if◌then◌else◌, refl, sym, ap, subst, ◌∙◌, arith, append_assoc, append-nil}
+use Rattle.std.proofs.Common.{◌≡◌, ℕ, ◌+◌, ◌<◌, ◌≤◌, Bool, true, false, List, [], ◌∷◌, ◌++◌, length, Option, Some, None, Result, Ok, Err, if◌then◌else◌, refl, sym, ap, subst, ◌∙◌, arith, append_assoc, append-nil}
 use Rattle.std.specs.Prelude.{nat_le, nat_lt, ◌&&◌}
-use Rattle.std.specs.List.{join_with_byte, slice_split}
+use Rattle.std.specs.List.{join_with_byte}
 use Rattle.std.specs.Result.{result_map_both, result_or}
 use Rattle.std.specs.Io.KnownBytes.{Appends}
 use Rattle.std.proofs.KnownBytes.{Appends-nil, Appends-trans}
 use Rattle.std.proofs.lemmas.Bool.{le-leb, leb-false, lt-leb, ltb-false, or_from, or_parts}
 use Rattle.std.proofs.lemmas.Bool.Decides.{Decides-ltb}
-use Rattle.std.proofs.lemmas.List.Splits.{join_with_byte-slice_split}
 use Rattle.num_format.specs.Format.{FormatData}
 use Rattle.num_format.specs.Writing.{Sends, StopsWithin}
 use Rattle.regroup_lines.specs.Ended.{ended_by}
@@ -21,6 +20,7 @@ use Rattle.regroup_lines.specs.Places.{are_enough, field_count, is_at_most, is_c
 use Rattle.regroup_lines.specs.declared.line_fault.LineFault.{LineFault}
 use Rattle.regroup_lines.specs.declared.line_fault.LineFault.TheVariants as fault
 use Rattle.regroup_lines.specs.declared.rules.FieldRange.{FieldRange}
+use Rattle.regroup_lines.specs.declared.rules.Fields.{Fields}
 use Rattle.regroup_lines.specs.declared.rules.Rules.{Rules}
 
 -- a test that fails of a number fails of those above it
@@ -59,14 +59,14 @@ enough-all (range ∷ list) count past =
     let parts = or_parts (is_at_most (count + 1) range.last) (is_chosen_from list (count + 1)) past in
     and_true _ _ (enough-one range.first range.last count parts.0) (enough-all list count parts.1)
 
-module _ (rules : Rules) (d : ℕ) (list : List FieldRange) (from to : FormatData) (number : ℕ) where
+module _ (rules : Rules) (cs : Fields) (from to : FormatData) (number : ℕ) where
   -- so the fields from there on are passed on
-  pub fields-passed : (count : ℕ) (fields : List (List ℕ)) → is_chosen_from list (count + 1) ≡ false →
-      fields_written rules d list from to number count fields ≡ Ok fields
-  fields-passed count [] past = ap (λ enough. if enough then Ok [] else Err (FewFields number (field_count d list count))) (enough-all list count past)
+  pub fields-passed : (count : ℕ) (fields : List (List ℕ)) → is_chosen_from cs.list.now (count + 1) ≡ false →
+      fields_written rules cs from to number count fields ≡ Ok fields
+  fields-passed count [] past = ap (λ enough. if enough then Ok [] else Err (FewFields number (field_count cs.delimiter cs.list.now count))) (enough-all cs.list.now count past)
   fields-passed count (field ∷ fields) past =
-      ap (λ chosen. with_first (field_written rules from to number (count + 1) chosen field) (fields_written rules d list from to number (count + 1) fields)) (chosen-none list (count + 1) past)
-      ∙ ap (with_first (Ok field)) (fields-passed (count + 1) fields (chosen_from-later list (count + 1) (count + 1 + 1) (omega arith) past))
+      ap (λ chosen. with_first (field_written rules cs from to number (count + 1) chosen field) (fields_written rules cs from to number (count + 1) fields)) (chosen-none cs.list.now (count + 1) past)
+      ∙ ap (with_first (Ok field)) (fields-passed (count + 1) fields (chosen_from-later cs.list.now (count + 1) (count + 1 + 1) (omega arith) past))
 
 -- a fault, or none, before others
 pub checked-later : (first : Result (List ℕ) Fault) (rest : Result (List (List ℕ)) Fault) → Ok tt ≡ checked first → checked (with_first first rest) ≡ checked rest
@@ -88,18 +88,18 @@ split-either end n fields field rest within more last = by (nat_lt end n) refl
     by false is = ([], last (let over = ltb-false end n is in omega (arith, over)))
 
 -- what a check found of the fields so far: the fault of the line is that of the fields from here on
-module _ (rules : Rules) (d : ℕ) (list : List FieldRange) (from to : FormatData) (number count : ℕ) (whole : Result (List (List ℕ)) Fault) (fields : List (List ℕ))
-    (same : checked whole ≡ checked (fields_written rules d list from to number count fields)) (field : List ℕ) (rest : List (List ℕ)) (split : fields ≡ field ∷ rest) where
-  pub check-later : Ok tt ≡ checked (field_written rules from to number (count + 1) (is_chosen list (count + 1)) field) →
-      checked whole ≡ checked (fields_written rules d list from to number (count + 1) rest)
+module _ (rules : Rules) (cs : Fields) (from to : FormatData) (number count : ℕ) (whole : Result (List (List ℕ)) Fault) (fields : List (List ℕ))
+    (same : checked whole ≡ checked (fields_written rules cs from to number count fields)) (field : List ℕ) (rest : List (List ℕ)) (split : fields ≡ field ∷ rest) where
+  pub check-later : Ok tt ≡ checked (field_written rules cs from to number (count + 1) (is_chosen cs.list.now (count + 1)) field) →
+      checked whole ≡ checked (fields_written rules cs from to number (count + 1) rest)
   check-later sound =
-      same ∙ ap (λ l. checked (fields_written rules d list from to number count l)) split
-      ∙ checked-later (field_written rules from to number (count + 1) (is_chosen list (count + 1)) field) (fields_written rules d list from to number (count + 1) rest) sound
+      same ∙ ap (λ l. checked (fields_written rules cs from to number count l)) split
+      ∙ checked-later (field_written rules cs from to number (count + 1) (is_chosen cs.list.now (count + 1)) field) (fields_written rules cs from to number (count + 1) rest) sound
 
-  pub check-first : (f : Fault) → Err f ≡ checked (field_written rules from to number (count + 1) (is_chosen list (count + 1)) field) → checked whole ≡ Err f
+  pub check-first : (f : Fault) → Err f ≡ checked (field_written rules cs from to number (count + 1) (is_chosen cs.list.now (count + 1)) field) → checked whole ≡ Err f
   check-first f is =
-      same ∙ ap (λ l. checked (fields_written rules d list from to number count l)) split
-      ∙ checked-first (field_written rules from to number (count + 1) (is_chosen list (count + 1)) field) (fields_written rules d list from to number (count + 1) rest) f is
+      same ∙ ap (λ l. checked (fields_written rules cs from to number count l)) split
+      ∙ checked-first (field_written rules cs from to number (count + 1) (is_chosen cs.list.now (count + 1)) field) (fields_written rules cs from to number (count + 1) rest) f is
 
 -- the parts of what is written of a field and those after it
 pub record Parts (first : Result (List ℕ) Fault) (rest : Result (List (List ℕ)) Fault) (texts : List (List ℕ)) : Type 0 where
@@ -123,17 +123,17 @@ none-left true f texts is = sym (ap texts_of is)
 none-left false f texts is = absurd (cc)
 
 -- as many texts are written as there are fields
-written-length : (rules : Rules) (d : ℕ) (list : List FieldRange) (from to : FormatData) (number count : ℕ) (fields texts : List (List ℕ)) →
-    fields_written rules d list from to number count fields ≡ Ok texts → 0 < length fields → 0 < length texts
-written-length rules d list from to number count [] texts is some = absurd (omega arith)
-written-length rules d list from to number count (field ∷ fields) texts is some =
-    let found = parts (field_written rules from to number (count + 1) (is_chosen list (count + 1)) field) (fields_written rules d list from to number (count + 1) fields) texts is in
+written-length : (rules : Rules) (cs : Fields) (from to : FormatData) (number count : ℕ) (fields texts : List (List ℕ)) →
+    fields_written rules cs from to number count fields ≡ Ok texts → 0 < length fields → 0 < length texts
+written-length rules cs from to number count [] texts is some = absurd (omega arith)
+written-length rules cs from to number count (field ∷ fields) texts is some =
+    let found = parts (field_written rules cs from to number (count + 1) (is_chosen cs.list.now (count + 1)) field) (fields_written rules cs from to number (count + 1) fields) texts is in
     subst (λ l. 0 < length l) (sym found.texts_are) (omega arith)
 
-written-none : (rules : Rules) (d : ℕ) (list : List FieldRange) (from to : FormatData) (number count : ℕ) (fields texts : List (List ℕ)) →
-    fields_written rules d list from to number count fields ≡ Ok texts → fields ≡ [] → texts ≡ []
-written-none rules d list from to number count [] texts is none = none-left (are_enough list count) (FewFields number (field_count d list count)) texts is
-written-none rules d list from to number count (field ∷ fields) texts is none = absurd (cc)
+written-none : (rules : Rules) (cs : Fields) (from to : FormatData) (number count : ℕ) (fields texts : List (List ℕ)) →
+    fields_written rules cs from to number count fields ≡ Ok texts → fields ≡ [] → texts ≡ []
+written-none rules cs from to number count [] texts is none = none-left (are_enough cs.list.now count) (FewFields number (field_count cs.delimiter cs.list.now count)) texts is
+written-none rules cs from to number count (field ∷ fields) texts is none = absurd (cc)
 
 -- texts with a delimiter between each two
 pub joined-more : (d : ℕ) (text : List ℕ) (texts : List (List ℕ)) → 0 < length texts → join_with_byte d (text ∷ texts) ≡ text ++ d ∷ join_with_byte d texts
@@ -141,9 +141,9 @@ joined-more d text [] some = absurd (omega arith)
 joined-more d text (next ∷ texts) some = refl
 
 -- what was sent of the fields so far, if the line has past fault: the fields from here on are left
-pub record Sent (rules : Rules) (list : List FieldRange) (from to : FormatData) (number d count : ℕ) (texts fields : List (List ℕ)) (old new : Option (List ℕ)) : Type 0 where
+pub record Sent (rules : Rules) (cs : Fields) (from to : FormatData) (number d count : ℕ) (texts fields : List (List ℕ)) (old new : Option (List ℕ)) : Type 0 where
   pub left : List (List ℕ)
-  pub left_is : fields_written rules d list from to number count fields ≡ Ok left
+  pub left_is : fields_written rules cs from to number count fields ≡ Ok left
   pub sent : List ℕ
   pub joined : join_with_byte d texts ≡ sent ++ join_with_byte d left
   pub appended : Appends old new sent
@@ -168,11 +168,11 @@ pub joined-first : (d : ℕ) (text : List ℕ) (later : List (List ℕ)) → (mo
 joined-first d text [] = ([], sym (append-nil text))
 joined-first d text (next ∷ later) = (d ∷ join_with_byte d (next ∷ later), refl)
 
-module _ (rules : Rules) (list : List FieldRange) (from to : FormatData) (number d : ℕ) (a : Option (List ℕ)) where
-  pub Sent-none : (texts fields : List (List ℕ)) → fields_written rules d list from to number 0 fields ≡ Ok texts → Sent rules list from to number d 0 texts fields a a
+module _ (rules : Rules) (cs : Fields) (from to : FormatData) (number d : ℕ) (a : Option (List ℕ)) where
+  pub Sent-none : (texts fields : List (List ℕ)) → fields_written rules cs from to number 0 fields ≡ Ok texts → Sent rules cs from to number d 0 texts fields a a
   Sent-none texts fields is = record { left = texts; left_is = is; sent = []; joined = refl; appended = Appends-nil a }
 
-  module _ (count : ℕ) (texts fields : List (List ℕ)) (b : Option (List ℕ)) (so_far : Sent rules list from to number d count texts fields a b) where
+  module _ (count : ℕ) (texts fields : List (List ℕ)) (b : Option (List ℕ)) (so_far : Sent rules cs from to number d count texts fields a b) where
     whole : (text : List ℕ) → join_with_byte d so_far.left ++ rules.line_end ∷ [] ≡ text → so_far.sent ++ text ≡ ended_by rules.line_end (join_with_byte d texts)
     whole text is = ap (λ l. so_far.sent ++ l) (sym is) ∙ sym (append_assoc so_far.sent (join_with_byte d so_far.left) (rules.line_end ∷ [])) ∙ ap (ended_by rules.line_end) (sym so_far.joined)
 
@@ -185,20 +185,20 @@ module _ (rules : Rules) (list : List FieldRange) (from to : FormatData) (number
         (sends.0, subst (StopsWithin a c) (whole text is) (StopsWithin_suffix a b c so_far.sent text so_far.appended sends.1))
 
     -- all other fields are passed on
-    pub sent-rest : {T : Type 0} (c : Option (List ℕ)) (text : List ℕ) (result : Result T Fault) → is_chosen_from list (count + 1) ≡ false →
-        fields ≡ slice_split (λ b. b == d) text → SendsIfOk (Ok (ended_by rules.line_end text)) b c result → SendsIfOk (Ok (ended_by rules.line_end (join_with_byte d texts))) a c result
+    pub sent-rest : {T : Type 0} (c : Option (List ℕ)) (text : List ℕ) (result : Result T Fault) → is_chosen_from cs.list.now (count + 1) ≡ false →
+        join_with_byte d fields ≡ text → SendsIfOk (Ok (ended_by rules.line_end text)) b c result → SendsIfOk (Ok (ended_by rules.line_end (join_with_byte d texts))) a c result
     sent-rest c text result past split sends =
-        let left : so_far.left ≡ fields = ap texts_of (sym so_far.left_is ∙ fields-passed rules d list from to number count fields past) in
+        let left : so_far.left ≡ fields = ap texts_of (sym so_far.left_is ∙ fields-passed rules cs from to number count fields past) in
         sent-last c (ended_by rules.line_end text) result
-        (ap (ended_by rules.line_end) (ap (join_with_byte d) (left ∙ split) ∙ join_with_byte-slice_split d text)) sends
+        (ap (ended_by rules.line_end) (ap (join_with_byte d) left ∙ split)) sends
 
     module _ (field : List ℕ) (rest : List (List ℕ)) (split : fields ≡ field ∷ rest) where
-      found : Parts (field_written rules from to number (count + 1) (is_chosen list (count + 1)) field) (fields_written rules d list from to number (count + 1) rest) so_far.left
-      found = parts _ _ so_far.left (ap (fields_written rules d list from to number count) (sym split) ∙ so_far.left_is)
+      found : Parts (field_written rules cs from to number (count + 1) (is_chosen cs.list.now (count + 1)) field) (fields_written rules cs from to number (count + 1) rest) so_far.left
+      found = parts _ _ so_far.left (ap (fields_written rules cs from to number count) (sym split) ∙ so_far.left_is)
 
       -- the field was sent, or not
       pub sent-stop : (T : Type 0) (c : Option (List ℕ)) (f : Fault) →
-          SendsIfOk {T = T} (field_written rules from to number (count + 1) (is_chosen list (count + 1)) field) b c (Err f) → SendsIfOk {T = T} (Ok (ended_by rules.line_end (join_with_byte d texts))) a c (Err f)
+          SendsIfOk {T = T} (field_written rules cs from to number (count + 1) (is_chosen cs.list.now (count + 1)) field) b c (Err f) → SendsIfOk {T = T} (Ok (ended_by rules.line_end (join_with_byte d texts))) a c (Err f)
       sent-stop T c f sends =
           let stops = SendsIfOk-err T _ found.text b c f found.first_is sends in
           let more = joined-first d found.text found.later in (
@@ -209,13 +209,13 @@ module _ (rules : Rules) (list : List FieldRange) (from to : FormatData) (number
                 (subst (StopsWithin b c) (sym (ap (join_with_byte d) found.texts_are ∙ more.1)) (StopsWithin_prefix b c found.text more.0 stops.1)))),
           )
 
-      module _ {T : Type 0} (c : Option (List ℕ)) (done : T) (sends : SendsIfOk (field_written rules from to number (count + 1) (is_chosen list (count + 1)) field) b c (Ok done)) where
+      module _ {T : Type 0} (c : Option (List ℕ)) (done : T) (sends : SendsIfOk (field_written rules cs from to number (count + 1) (is_chosen cs.list.now (count + 1)) field) b c (Ok done)) where
         appended : Appends a c (so_far.sent ++ found.text)
         appended = Appends-trans a b c so_far.sent found.text so_far.appended (SendsIfOk-ok _ found.text b c done found.first_is sends)
 
         last : rest ≡ [] → (so_far.sent ++ found.text) ++ rules.line_end ∷ [] ≡ ended_by rules.line_end (join_with_byte d texts)
         last none =
-            let ends : found.later ≡ [] = written-none rules d list from to number (count + 1) rest found.later found.rest_is none in
+            let ends : found.later ≡ [] = written-none rules cs from to number (count + 1) rest found.later found.rest_is none in
             ap (ended_by rules.line_end) (sym (so_far.joined ∙ ap (λ l. so_far.sent ++ join_with_byte d l) (found.texts_are ∙ ap (λ l. found.text ∷ l) ends)))
 
         -- then the byte that ends the line, where it is the last field
@@ -229,14 +229,14 @@ module _ (rules : Rules) (list : List FieldRange) (from to : FormatData) (number
         -- or a delimiter
         more : 0 < length rest → join_with_byte d texts ≡ ((so_far.sent ++ found.text) ++ d ∷ []) ++ join_with_byte d found.later
         more some =
-            let fields = written-length rules d list from to number (count + 1) rest found.later found.rest_is some in
+            let fields = written-length rules cs from to number (count + 1) rest found.later found.rest_is some in
             so_far.joined
             ∙ ap (λ l. so_far.sent ++ l) (ap (join_with_byte d) found.texts_are ∙ joined-more d found.text found.later fields)
             ∙ sym (append_assoc so_far.sent found.text (d ∷ join_with_byte d found.later))
             ∙ sym (append_assoc (so_far.sent ++ found.text) (d ∷ []) (join_with_byte d found.later))
 
         pub sent-next : {U : Type 0} (e : Option (List ℕ)) (there : U) → 0 < length rest → SendsIfOk (Ok (d ∷ [])) c e (Ok there) →
-            Sent rules list from to number d (count + 1) texts rest a e
+            Sent rules cs from to number d (count + 1) texts rest a e
         sent-next e there some delimiter = record {
           left = found.later;
           left_is = found.rest_is;

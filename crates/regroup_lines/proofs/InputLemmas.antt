@@ -1,15 +1,16 @@
 -- The bytes that an input holds, read after read.
-use Rattle.std.proofs.Common.{◌≡◌, ℕ, ◌+◌, ◌-◌, ◌<◌, ◌≤◌, ◌==◌, true, false, Bool, List, [], ◌∷◌, ◌++◌, length, take, drop, get_or, slice_range, Option, Some, None, refl, sym, ap, subst, ◌∙◌, arith, append_assoc, append-nil, take-append-drop}
-use Rattle.std.specs.Prelude.{MatchOption, is_some, not}
+use Rattle.std.proofs.Common.{◌≡◌, ℕ, ◌+◌, ◌-◌, ◌<◌, ◌≤◌, ◌==◌, true, false, Bool, List, [], ◌∷◌, ◌++◌, length, take, drop, get_or, slice_range, Option, Some, None, refl, sym, ap, subst, ◌∙◌, arith, append_assoc, append-nil}
+use Rattle.std.specs.Prelude.{All, MatchOption, is_some, not}
 use Rattle.std.specs.Io.KnownBytes.{Consumes, IsAtEnd, Keeps}
 use Rattle.std.proofs.KnownBytes.{Consumes-kept, Consumes-nil, Consumes-trans}
 use Rattle.std.proofs.lemmas.Bool.{false_from_ne_true, eqb-true}
-use Rattle.std.proofs.lemmas.List.{drop-append-le, drop-drop, drop-take, drop_at, drop_more, get_or-drop, get_or-take, length-drop, length-take, length-take-le, take-append-le, take_all, take_at, take_rest}
-use Rattle.std.proofs.lemmas.List.Elements.{All-append, All-from_get_or}
+use Rattle.std.proofs.lemmas.List.{drop-append-le, drop-drop, drop-take, drop_at, get_or-drop, get_or-take, length-drop, length-take, length-take-le, take-append-le, take_all, take_at, take_rest}
+use Rattle.std.proofs.lemmas.List.Elements.{All-from_get_or}
 use borrow.Rule.Slice.PartMut.{put_mid, post_of}
 use lib.Seq.{take-add}
 use Rattle.memchr.specs.Find.{IsFirstByte, is_byte}
-use Rattle.regroup_lines.specs.Input.{EndsOrGoesOn, FindsLineEnd, HasNoLineEnd, Reads}
+use Rattle.regroup_lines.specs.Input.{EndsOrGoesOn, FindsEnd, IsRecord, Reads}
+use Rattle.regroup_lines.specs.declared.records.Within.{Within}
 
 -- a range of an array without its first n bytes
 pub range-later : (xs : List ℕ) (start end n : ℕ) → start + n ≤ end → slice_range xs (start + n) end ≡ drop n (slice_range xs start end)
@@ -62,41 +63,29 @@ Reads-kept xs ys a b c first kept = record { given = first.given; joined = first
 pub Reads-same : (xs ys zs : List ℕ) (a b : Option (List ℕ)) → Reads xs ys a b → zs ≡ ys → Reads xs zs a b
 Reads-same xs ys zs a b first same = subst (λ l. Reads xs l a b) (sym same) first
 
--- a search that finds nothing
-line_ends-none : (line_end : ℕ) (bytes : List ℕ) → IsFirstByte (is_byte line_end) bytes None → HasNoLineEnd line_end bytes
-line_ends-none line_end bytes nowhere = All-from_get_or (λ b. (b == line_end) ≡ false) bytes 0 (λ k within. false_from_ne_true _ (nowhere k (omega arith) within))
+-- a search from a place on, by what it returned in the slice there
+module _ (byte : ℕ) (bytes : List ℕ) (start : ℕ) where
+  abbrev searched : List ℕ
+  searched = take (length bytes - start) (drop start bytes)
 
--- bytes none of which ends a line, and a search after them that finds nothing
-pub line_ends-none_after : (line_end : ℕ) (bytes : List ℕ) (n : ℕ) → HasNoLineEnd line_end (take n bytes) → IsFirstByte (is_byte line_end) (take (length bytes - n) (drop n bytes)) None → HasNoLineEnd line_end bytes
-line_ends-none_after line_end bytes n before nowhere =
-    let after : IsFirstByte (is_byte line_end) (drop n bytes) None = subst (λ l. IsFirstByte (is_byte line_end) l None) (take_rest bytes n) nowhere in
-    subst (HasNoLineEnd line_end) (take-append-drop n bytes) (All-append (λ b. (b == line_end) ≡ false) (take n bytes) (drop n bytes) before (line_ends-none line_end (drop n bytes) after))
+  module _ (k : ℕ) (found : IsFirstByte (is_byte byte) searched (Some k)) where
+    there : IsFirstByte (is_byte byte) (drop start bytes) (Some k)
+    there = subst (λ l. IsFirstByte (is_byte byte) l (Some k)) (take_rest bytes start) found
 
--- no byte before the first one that ends a line ends one
-line_ends-before : (line_end : ℕ) (bytes : List ℕ) (k : ℕ) → IsFirstByte (is_byte line_end) bytes (Some k) → HasNoLineEnd line_end (take k bytes)
-line_ends-before line_end bytes k found =
-    All-from_get_or (λ b. (b == line_end) ≡ false) (take k bytes) 0 (λ j within.
-    let low : j < k = omega (arith, length-take k bytes) in
-    let same : get_or (take k bytes) j 0 ≡ get_or bytes j 0 = get_or-take k bytes j 0 low in
-    subst (λ b. (b == line_end) ≡ false) (sym same) (false_from_ne_true _ (found.0.before j (omega arith) low)))
+    pub found-byte : get_or bytes (start + k) 0 ≡ byte
+    found-byte = sym (get_or-drop start bytes k 0) ∙ eqb-true _ _ there.1
 
--- bytes none of which ends a line, and a search after them that finds one
-pub line_ends-first_after : (line_end : ℕ) (bytes : List ℕ) (n k : ℕ) → HasNoLineEnd line_end (take n bytes) → n ≤ length bytes →
-    IsFirstByte (is_byte line_end) (take (length bytes - n) (drop n bytes)) (Some k) → FindsLineEnd line_end bytes (Some (n + k))
-line_ends-first_after line_end bytes n k before within found =
-    let after : IsFirstByte (is_byte line_end) (drop n bytes) (Some k) = subst (λ l. IsFirstByte (is_byte line_end) l (Some k)) (take_rest bytes n) found in
-    let high : k < length (drop n bytes) = after.0.high in
-    let inside : n + k < length bytes = omega (arith, length-drop n bytes) in
-    let byte : get_or bytes (n + k) 0 ≡ line_end = sym (get_or-drop n bytes k 0) ∙ eqb-true _ _ after.1 in (
-      inside,
-      sym (take-append-drop (n + k) bytes) ∙ ap (λ l. take (n + k) bytes ++ l) (drop_more bytes (n + k) 0 inside ∙ ap (λ b. b ∷ drop (n + k + 1) bytes) byte),
-      subst (HasNoLineEnd line_end) (sym (take-add n k bytes)) (All-append (λ b. (b == line_end) ≡ false) (take n bytes) (take k (drop n bytes)) before (line_ends-before line_end (drop n bytes) k after)),
-    )
+    pub none-before : All (λ b. (b == byte) ≡ false) (slice_range bytes start (start + k))
+    none-before =
+        let len : start + k - start ≡ k = omega arith in
+        subst (λ n. All (λ b. (b == byte) ≡ false) (take n (drop start bytes))) (sym len)
+        (All-from_get_or (λ b. (b == byte) ≡ false) (take k (drop start bytes)) 0 (λ j inside.
+        let low : j < k = omega (arith, length-take k (drop start bytes)) in
+        let same : get_or (take k (drop start bytes)) j 0 ≡ get_or (drop start bytes) j 0 = get_or-take k (drop start bytes) j 0 low in
+        subst (λ b. (b == byte) ≡ false) (sym same) (false_from_ne_true _ (there.0.before j (omega arith) low))))
 
--- after a read, the bytes that were held before it are those that were searched
-pub line_ends-searched : (line_end : ℕ) (xs ys : List ℕ) (a b : Option (List ℕ)) (n : ℕ) → Reads xs ys a b → HasNoLineEnd line_end xs → n ≡ length xs → HasNoLineEnd line_end (take n ys)
-line_ends-searched line_end xs ys a b n read none searched =
-    subst (HasNoLineEnd line_end) (sym (ap (take n) (sym read.joined) ∙ take_at xs read.given n (sym searched))) none
+  pub none-there : IsFirstByte (is_byte byte) searched None → All (λ b. (b == byte) ≡ false) searched
+  none-there nowhere = All-from_get_or (λ b. (b == byte) ≡ false) searched 0 (λ k inside. false_from_ne_true _ (nowhere k (omega arith) inside))
 
 -- whether a byte follows
 pub ends_or_goes_on : (bytes : List ℕ) (a b : Option (List ℕ)) (read : Option ℕ) (end : Bool) → bytes ≡ [] → is_some read ≡ not end →
@@ -107,27 +96,21 @@ ends_or_goes_on bytes a b (Some byte) true empty is read = absurd (cc)
 ends_or_goes_on bytes a b (Some byte) false empty is read =
     (byte ∷ [], record { given = byte ∷ []; joined = ap (λ l. l ++ byte ∷ []) empty; consumed = read }, omega arith)
 
--- the line before the first byte that ends one
-pub line_found : (line_end : ℕ) (before bytes text left : List ℕ) (a b : Option (List ℕ)) (n : ℕ) → Reads before bytes a b → FindsLineEnd line_end bytes (Some n) → text ≡ take n bytes →
-    left ≡ drop (n + 1) bytes → Reads before (text ++ line_end ∷ left) a b × HasNoLineEnd line_end text
-line_found line_end before bytes text left a b n read found is_text is_left = (
+-- the record before the first byte that ends one
+pub record_found : (q : Option ℕ) (line_end : ℕ) (w : Within) (before bytes text left : List ℕ) (a b : Option (List ℕ)) (n : ℕ) → Reads before bytes a b → FindsEnd q line_end w bytes (Some n) → text ≡ take n bytes →
+    left ≡ drop (n + 1) bytes → Reads before (text ++ line_end ∷ left) a b × IsRecord q line_end w text
+record_found q line_end w before bytes text left a b n read found is_text is_left = (
   Reads-same before bytes (text ++ line_end ∷ left) a b read (rw (is_text, is_left) (sym found.1)),
-  subst (HasNoLineEnd line_end) (sym is_text) found.2,
+  subst (IsRecord q line_end w) (sym is_text) found.2,
 )
 
+-- after a read, the bytes that were held before it are those that were searched
+pub read-front : (xs ys : List ℕ) (a b : Option (List ℕ)) (n : ℕ) → Reads xs ys a b → n ≡ length xs → take n ys ≡ xs
+read-front xs ys a b n read searched = ap (take n) (sym read.joined) ∙ take_at xs read.given n (sym searched)
+
+pub read-searched : (xs ys : List ℕ) (a b : Option (List ℕ)) (n : ℕ) → Reads xs ys a b → n ≡ length xs → take n xs ≡ take n ys
+read-searched xs ys a b n read all = take_all n xs (omega (arith, all)) ∙ sym (read-front xs ys a b n read all)
+
 -- a read that gives nothing
-pub line_ends-unread : (line_end : ℕ) (xs ys : List ℕ) (a b : Option (List ℕ)) → Reads xs ys a b → HasNoLineEnd line_end xs → length ys ≤ length xs → HasNoLineEnd line_end ys
-line_ends-unread line_end xs ys a b read none same = subst (HasNoLineEnd line_end) (take_all (length xs) ys same) (line_ends-searched line_end xs ys a b (length xs) read none refl)
-
--- the same of the slice that is searched, and the result of the search
-pub searched_none : (line_end : ℕ) (bytes shown : List ℕ) (n : ℕ) (r : Option ℕ) → shown ≡ bytes → HasNoLineEnd line_end (take n bytes) →
-    IsFirstByte (is_byte line_end) (take (length shown - n) (drop n shown)) r → r ≡ None → HasNoLineEnd line_end bytes
-searched_none line_end bytes shown n r same before search none =
-    line_ends-none_after line_end bytes n before (subst (λ l. IsFirstByte (is_byte line_end) (take (length l - n) (drop n l)) None) same
-    (subst (IsFirstByte (is_byte line_end) (take (length shown - n) (drop n shown))) none search))
-
-pub searched_first : (line_end : ℕ) (bytes shown : List ℕ) (n k : ℕ) (r : Option ℕ) → shown ≡ bytes → HasNoLineEnd line_end (take n bytes) → n ≤ length bytes →
-    IsFirstByte (is_byte line_end) (take (length shown - n) (drop n shown)) r → r ≡ Some k → FindsLineEnd line_end bytes (Some (n + k))
-searched_first line_end bytes shown n k r same before within search first =
-    line_ends-first_after line_end bytes n k before within (subst (λ l. IsFirstByte (is_byte line_end) (take (length l - n) (drop n l)) (Some k)) same
-    (subst (IsFirstByte (is_byte line_end) (take (length shown - n) (drop n shown))) first search))
+pub read-nothing : (xs ys : List ℕ) (a b : Option (List ℕ)) → Reads xs ys a b → length ys ≤ length xs → ys ≡ xs
+read-nothing xs ys a b read same = sym (take_all (length xs) ys same) ∙ read-front xs ys a b (length xs) read refl

@@ -14,6 +14,7 @@ mod MessageLemmas
 mod OneFieldLemmas
 mod PlaceLemmas
 mod ProgressLemmas
+mod RecordLemmas
 mod SentLemmas
 pub mod SplitLemmas
 mod TextLemmas

@@ -7,7 +7,7 @@ use Rattle.std.proofs.lemmas.Str.{IsUtf8-from_is_utf8, is_utf8-from_IsUtf8}
 use Rattle.num_format.specs.Cut.{cut_text}
 use Rattle.num_format.specs.Refusal.{ParseNumber}
 use Rattle.regroup_lines.specs.Fault.{Fault, in_field}
-use Rattle.regroup_lines.specs.Fault.Fault.{TooMany, TooLong, FewFields, Read, NotText, FieldNotText, Line, Field, Unclosed, Write, Report, Flush}
+use Rattle.regroup_lines.specs.Fault.Fault.{NotText, Line}
 use Rattle.regroup_lines.specs.LineFaults.{text_fault}
 
 pub text_fault_utf8 : (number : ℕ) (text : List ℕ) → IsUtf8 text → text_fault number text ≡ Line number (ParseNumber (cut_text text))
@@ -20,15 +20,5 @@ text_fault_bytes number text invalid =
 
 -- a fault names one field
 pub in_field_again : (m n : ℕ) (fault : Fault) → in_field m (in_field n fault) ≡ in_field n fault
-in_field_again m n TooMany = refl
-in_field_again m n (TooLong number max_line_len) = refl
-in_field_again m n (FewFields number count) = refl
-in_field_again m n Read = refl
 in_field_again m n (NotText number) = refl
-in_field_again m n (FieldNotText number field) = refl
-in_field_again m n (Line number refusal) = refl
-in_field_again m n (Field number field refusal) = refl
-in_field_again m n (Unclosed number) = refl
-in_field_again m n Write = refl
-in_field_again m n Report = refl
-in_field_again m n Flush = refl
+in_field_again m n fault = refl

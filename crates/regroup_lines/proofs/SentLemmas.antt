@@ -1,7 +1,7 @@
 -- No text is at fault of a write that failed.
 use Rattle.std.proofs.Common.{◌≡◌, ℕ, ◌+◌, ◌==◌, Bool, true, false, List, [], ◌∷◌, length, Option, Some, None, Result, Ok, Err, if◌then◌else◌, refl, ◌∙◌}
-use Rattle.std.specs.Prelude.{ℤ, nat_le, ◌&&◌, ◌||◌, not, take, drop, slice_range, ⊤}
-use Rattle.std.specs.List.{join_with_byte, list_any, slice_split}
+use Rattle.std.specs.Prelude.{ℤ, nat_le, ◌&&◌, take, drop, slice_range, ⊤}
+use Rattle.std.specs.List.{join_with_byte, list_any}
 use Rattle.std.specs.Option.{ok_or}
 use Rattle.std.specs.Result.{result_map_both}
 use Rattle.std.specs.Str.{is_utf8}
@@ -11,13 +11,15 @@ use Rattle.num_format.specs.Refusal.{ParseNumber, Refusal}
 use Rattle.num_format.specs.Text.{text_of}
 use Rattle.num_format.specs.Readable.{number_read}
 use Rattle.regroup_lines.specs.Fault.{Fault, in_field, is_unsent}
-use Rattle.regroup_lines.specs.Fault.Fault.{TooMany, TooLong, FewFields, Read, NotText, FieldNotText, Line, Field, Unclosed, Write, Report, Flush}
-use Rattle.regroup_lines.specs.Csv.{csv_place, csv_split, field_with, is_inside_after, is_quote, next_number}
+use Rattle.regroup_lines.specs.Fault.Fault.{FewFields, NotText, Line, Unclosed}
+use Rattle.regroup_lines.specs.Ended.{without_end}
+use Rattle.regroup_lines.specs.Csv.{field_with, is_barred, number_place}
 use Rattle.regroup_lines.specs.LineFaults.{text_fault}
-use Rattle.regroup_lines.specs.Lines.{csv_field_written, csv_number, csv_read, csv_written, after_mark, between, body_or_itself, body_written, fault_written, field_written, fields_written, number_in_text, number_written, numbers_replaced, passes_mark, place_written, text_written, with_first}
+use Rattle.regroup_lines.specs.Lines.{after_mark, between, body_or_itself, body_written, fault_written, field_read, field_written, fields_of, fields_written, number_in_field, number_in_text, number_written, numbers_replaced, passes_mark, place_written, quotes_in, record_written, text_written, with_first}
 use Rattle.regroup_lines.specs.Places.{are_enough, field_count, is_chosen, trimmed}
+use Rattle.regroup_lines.specs.Records.{is_open}
 use Rattle.regroup_lines.specs.declared.fault.FieldCount.{FieldCount}
-use Rattle.regroup_lines.specs.declared.rules.FieldRange.{FieldRange}
+use Rattle.regroup_lines.specs.declared.rules.Fields.{Fields}
 use Rattle.regroup_lines.specs.declared.rules.Invalid.{Invalid}
 use Rattle.regroup_lines.specs.declared.rules.Invalid.TheVariants.{Abort, Fail, Ignore, Warn}
 use Rattle.regroup_lines.specs.declared.rules.Reading.{Reading}
@@ -77,26 +79,8 @@ place-sent rules from to number text place =
 
 -- nor is a field, nor are fields
 in_field-sent : (n : ℕ) (fault : Fault) → is_unsent (in_field n fault) ≡ is_unsent fault
-in_field-sent n TooMany = refl
-in_field-sent n (TooLong number max_line_len) = refl
-in_field-sent n (FewFields number count) = refl
-in_field-sent n Read = refl
 in_field-sent n (NotText number) = refl
-in_field-sent n (FieldNotText number field) = refl
-in_field-sent n (Line number refusal) = refl
-in_field-sent n (Field number field refusal) = refl
-in_field-sent n (Unclosed number) = refl
-in_field-sent n Write = refl
-in_field-sent n Report = refl
-in_field-sent n Flush = refl
-
-as_field-sent : (n : ℕ) (written : Result (List ℕ) Fault) → IsSent written → IsSent (result_map_both (λ text. text) (in_field n) written)
-as_field-sent n (Ok text) sent = tt
-as_field-sent n (Err fault) sent = in_field-sent n fault ∙ sent
-
-field-sent : (rules : Rules) (from to : FormatData) (number n : ℕ) (chosen : Bool) (field : List ℕ) → IsSent (field_written rules from to number n chosen field)
-field-sent rules from to number n true field = as_field-sent n _ (place-sent rules from to number field (trimmed field (0, length field)))
-field-sent rules from to number n false field = tt
+in_field-sent n fault = refl
 
 first-sent : (first : Result (List ℕ) Fault) (rest : Result (List (List ℕ)) Fault) → IsSent first → IsSent rest → IsSent (with_first first rest)
 first-sent (Ok text) (Ok texts) here there = tt
@@ -107,59 +91,45 @@ count-sent : (enough : Bool) (number : ℕ) (count : FieldCount) → IsSent (if�
 count-sent true number count = tt
 count-sent false number count = refl
 
-fields-sent : (rules : Rules) (d : ℕ) (list : List FieldRange) (from to : FormatData) (number before : ℕ) (fields : List (List ℕ)) →
-    IsSent (fields_written rules d list from to number before fields)
-fields-sent rules d list from to number before [] = count-sent (are_enough list before) number (field_count d list before)
-fields-sent rules d list from to number before (field ∷ fields) =
-    first-sent _ _ (field-sent rules from to number (before + 1) (is_chosen list (before + 1)) field) (fields-sent rules d list from to number (before + 1) fields)
-
-joined-sent : (delimiter : ℕ) (texts : Result (List (List ℕ)) Fault) → IsSent texts → IsSent (result_map_both (join_with_byte delimiter) (λ fault. fault) texts)
-joined-sent delimiter (Ok texts) sent = tt
-joined-sent delimiter (Err fault) sent = sent
-
--- nor are those of a record
 map-sent : {T U : Type 0} (f : T → U) (written : Result T Fault) → IsSent written → IsSent (result_map_both f (λ fault. fault) written)
 map-sent f (Ok text) sent = tt
 map-sent f (Err fault) sent = sent
 
-csv_number-sent : (rules : Rules) (from to : FormatData) (number : ℕ) (text : List ℕ) → IsSent (csv_number rules from to number text)
-csv_number-sent rules from to number text =
-    refused-sent (list_any is_quote text) (text_fault number text) _ (text_fault-sent number text) (map-sent Some (number_written rules.reading from to number text) (number_written-sent rules.reading from to number text))
+number_in_field-sent : (rules : Rules) (quotes : Bool) (from to : FormatData) (number : ℕ) (text : List ℕ) → IsSent (number_in_field rules quotes from to number text)
+number_in_field-sent rules quotes from to number text =
+    refused-sent (quotes && list_any (is_barred rules.line_end) text) (text_fault number text) _ (text_fault-sent number text)
+    (map-sent Some (number_written rules.reading from to number text) (number_written-sent rules.reading from to number text))
 
 none-sent : (empty : Bool) (written : Result (Option (List ℕ)) Fault) → IsSent written → IsSent (if empty then Ok None else written)
 none-sent true written sent = tt
 none-sent false written sent = sent
 
-csv_read-sent : (rules : Rules) (from to : FormatData) (number : ℕ) (field : List ℕ) → IsSent (csv_read rules from to number field)
-csv_read-sent rules from to number field =
-    let place = csv_place field in
-    refused-sent (is_inside_after false field) (text_fault number field) _ (text_fault-sent number field)
-    (none-sent (rules.passes_empty && (place.0 == place.1)) _ (csv_number-sent rules from to number (slice_range field place.0 place.1)))
-
 in_record-sent : (n : ℕ) (with_number : Option (List ℕ) → List ℕ) (read : Result (Option (List ℕ)) Fault) → IsSent read → IsSent (result_map_both with_number (in_field n) read)
 in_record-sent n with_number (Ok text) sent = tt
 in_record-sent n with_number (Err fault) sent = in_field-sent n fault ∙ sent
 
-csv_field-sent : (rules : Rules) (delimiter : ℕ) (from to : FormatData) (number n : ℕ) (chosen : Bool) (field : List ℕ) → IsSent (csv_field_written rules delimiter from to number n chosen field)
-csv_field-sent rules delimiter from to number n true field = in_record-sent n (field_with delimiter rules.line_end field) _ (csv_read-sent rules from to number field)
-csv_field-sent rules delimiter from to number n false field = tt
+field-sent : (rules : Rules) (cs : Fields) (from to : FormatData) (number n : ℕ) (chosen : Bool) (field : List ℕ) → IsSent (field_written rules cs from to number n chosen field)
+field-sent rules cs from to number n true field =
+    let place = number_place cs.quotes field in
+    in_record-sent n (field_with cs rules.line_end field) (field_read rules cs.quotes from to number field)
+    (none-sent (rules.passes_empty && (place.0 == place.1)) _ (number_in_field-sent rules cs.quotes from to number (slice_range field place.0 place.1)))
+field-sent rules cs from to number n false field = tt
 
-csv-sent : (rules : Rules) (delimiter : ℕ) (list : List FieldRange) (from to : FormatData) (number before : ℕ) (inside : Bool) (fields : List (List ℕ)) →
-    IsSent (csv_written rules delimiter list from to number before inside fields)
-csv-sent rules delimiter list from to number before inside [] = count-sent (inside || are_enough list before) number (field_count delimiter list before)
-csv-sent rules delimiter list from to number before inside (field ∷ fields) =
-    let n = next_number before in
-    first-sent _ _ (csv_field-sent rules delimiter from to number n (is_chosen list n && not inside) field) (csv-sent rules delimiter list from to number n (is_inside_after inside field) fields)
+fields-sent : (rules : Rules) (cs : Fields) (from to : FormatData) (number before : ℕ) (fields : List (List ℕ)) →
+    IsSent (fields_written rules cs from to number before fields)
+fields-sent rules cs from to number before [] = count-sent (are_enough cs.list.now before) number (field_count cs.delimiter cs.list.now before)
+fields-sent rules cs from to number before (field ∷ fields) =
+    first-sent _ _ (field-sent rules cs from to number (before + 1) (is_chosen cs.list.now (before + 1)) field) (fields-sent rules cs from to number (before + 1) fields)
+
+joined-sent : (delimiter : ℕ) (texts : Result (List (List ℕ)) Fault) → IsSent texts → IsSent (result_map_both (join_with_byte delimiter) (λ fault. fault) texts)
+joined-sent delimiter (Ok texts) sent = tt
+joined-sent delimiter (Err fault) sent = sent
 
 numbers-sent : (span : Span) (rules : Rules) (from to : FormatData) (number : ℕ) (text : List ℕ) → IsSent (numbers_replaced span rules from to number text)
 numbers-sent span.Line rules from to number text = place-sent rules from to number text (0, length text)
 numbers-sent span.Trimmed rules from to number text = place-sent rules from to number text (trimmed text (0, length text))
-numbers-sent (span.Fields fields) rules from to number text =
-    joined-sent fields.delimiter _ (fields-sent rules fields.delimiter fields.list.now from to number 0 (slice_split (λ b. b == fields.delimiter) text))
-numbers-sent (span.Csv records) rules from to number text =
-    let delimiter = records.fields.delimiter in
-    let inside = records.within.inside in
-    joined-sent delimiter _ (csv-sent rules delimiter records.fields.list.now from to number records.within.before inside (csv_split delimiter inside text))
+numbers-sent (span.Fields cs) rules from to number text =
+    joined-sent cs.delimiter _ (fields-sent rules cs from to number 0 (fields_of cs text))
 
 mark-sent : (written : Result (List ℕ) Fault) → IsSent written → IsSent (after_mark written)
 mark-sent (Ok text) sent = tt
@@ -188,3 +158,12 @@ itself-sent invalid text (Err fault) sent = fault-sent invalid text fault sent
 pub text_written-sent : (rules : Rules) (from to : FormatData) (number : ℕ) (text : List ℕ) → IsSent (text_written rules from to number text)
 text_written-sent rules from to number text =
     empty-sent (nat_le number rules.header_lines) text _ (itself-sent rules.invalid text _ (body_written-sent rules from to number text))
+
+either_fault-sent : (is : Bool) (invalid : Invalid) (text : List ℕ) (fault : Fault) (written : Result (List ℕ) Fault) → is_unsent fault ≡ false → IsSent written →
+    IsSent (if is then fault_written invalid text fault else written)
+either_fault-sent true invalid text fault written other sent = fault-sent invalid text fault other
+either_fault-sent false invalid text fault written other sent = sent
+
+pub record_written-sent : (rules : Rules) (from to : FormatData) (number : ℕ) (text : List ℕ) → IsSent (record_written rules from to number text)
+record_written-sent rules from to number text =
+    either_fault-sent (is_open (quotes_in rules.span) text) rules.invalid (without_end rules.line_end text) (Unclosed number) _ refl (text_written-sent rules from to number text)

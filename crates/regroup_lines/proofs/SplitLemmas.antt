@@ -1,13 +1,12 @@
 -- An input that is split after a byte that ends a line: the output of each part.
 use Rattle.std.proofs.Common.{◌≡◌, ℕ, ◌+◌, ◌<◌, ◌≤◌, Bool, true, false, List, [], ◌∷◌, ◌++◌, length, Option, Some, None, Result, Ok, Err, if◌then◌else◌, refl, sym, ap, subst, ◌∙◌, arith, append_assoc, eq-eqb}
-use Rattle.std.specs.Prelude.{◌==◌, ◌&&◌, ◌||◌, not, nat_eq, ⊤, ℤ, nat_le, nat_lt, take, drop, slice_range}
-use Rattle.std.specs.List.{join_with_byte, list_any, onto_first, slice_split}
+use Rattle.std.specs.Prelude.{◌==◌, ◌&&◌, ◌||◌, nat_eq, ⊤, ℤ, nat_le, nat_lt, take, drop, slice_range}
+use Rattle.std.specs.List.{join_with_byte, list_any}
 use Rattle.std.specs.Option.{ok_or, option_map}
 use Rattle.std.specs.Result.{result_map_both, result_ok}
 use Rattle.std.specs.Str.{is_utf8}
 use Rattle.std.proofs.lemmas.Bool.{both_ways, eqb-true, false_from_ne_true, le-ltb, lt-leb, ltb-false}
 use Rattle.std.proofs.lemmas.List.{length-take, take-append-le}
-use Rattle.std.proofs.lemmas.List.Splits.{join_with_byte-slice_split, length-slice_split}
 use lib.Pointwise.{pointwise, pointwise_long}
 use Rattle.num_format.specs.Cut.{cut_text}
 use Rattle.num_format.specs.Format.{FormatData}
@@ -15,18 +14,20 @@ use Rattle.num_format.specs.Refusal.{ParseNumber, Refusal}
 use Rattle.num_format.specs.Text.{text_of}
 use Rattle.num_format_decimal.specs.Text.{decimal_text}
 use Rattle.num_format.specs.Readable.{number_read}
-use Rattle.regroup_lines.specs.Ended.{ended_by}
-use Rattle.regroup_lines.specs.Csv.{csv_place, csv_split, field_with, is_inside_after, is_quote, next_number}
+use Rattle.regroup_lines.specs.Ended.{ended_by, without_end}
+use Rattle.regroup_lines.specs.Csv.{field_with, is_barred, number_place}
 use Rattle.regroup_lines.specs.Decimals.{decimal_read}
 use Rattle.regroup_lines.specs.Fault.{Fault, are_any, in_field}
-use Rattle.regroup_lines.specs.Fault.Fault.{TooMany, TooLong, FewFields, NotText, Line, Unclosed}
+use Rattle.regroup_lines.specs.Fault.Fault.{TooMany, FewFields, NotText, Line, Unclosed}
 use Rattle.regroup_lines.specs.LineFaults.{text_fault}
 use Rattle.regroup_lines.specs.Laws.{SplitLaw, SplitsInto}
-use Rattle.regroup_lines.specs.Lines.{csv_field_written, csv_number, csv_read, csv_written, input_end, is_inside, passes, rules_after, span_after, with_span, MARK, Regrouped, after_mark, begins_with_mark, between, body_named, body_or_itself, body_written, fault_named, fault_written, field_written, fields_written, line_named, line_written, number_replaced, number_written, numbers_replaced, passes_mark, place_written, regrouped, regrouped_parts, returning, text_named, text_written, with_first, writing_line}
+use Rattle.regroup_lines.specs.Lines.{field_read, fields_of, line_after, long_fault, number_in_field, quotes_in, MARK, Regrouped, after_mark, begins_with_mark, between, body_named, body_or_itself, body_written, fault_named, fault_written, field_written, fields_written, line_named, line_written, number_written, numbers_replaced, passes_mark, place_written, regrouped, regrouped_parts, returning, text_named, text_written, with_first, writing_line}
 use Rattle.regroup_lines.specs.Lines.Stop.{Ended}
 use Rattle.regroup_lines.specs.Places.{are_enough, field_count, is_chosen, trimmed}
+use Rattle.regroup_lines.specs.Records.{is_open, split_at}
+use Rattle.regroup_lines.specs.declared.records.Within.TheVariants.{Start}
 use Rattle.regroup_lines.specs.declared.fault.FieldCount.{FieldCount}
-use Rattle.regroup_lines.specs.declared.rules.FieldRange.{FieldRange}
+use Rattle.regroup_lines.specs.declared.rules.Fields.{Fields}
 use Rattle.regroup_lines.specs.declared.rules.Invalid.{Invalid}
 use Rattle.regroup_lines.specs.declared.rules.Invalid.TheVariants.{Abort, Fail, Warn, Ignore}
 use Rattle.regroup_lines.specs.declared.rules.Reading.{Reading}
@@ -34,7 +35,7 @@ use Rattle.regroup_lines.specs.declared.rules.Reading.TheVariants.{Lenient, Stri
 use Rattle.regroup_lines.specs.declared.rules.Rules.{Rules}
 use Rattle.regroup_lines.specs.declared.rules.Span.{Span}
 use Rattle.regroup_lines.specs.declared.rules.Span.TheVariants as span
-use Rattle.regroup_lines.proofs.LongLemmas.{span-append}
+use Rattle.regroup_lines.proofs.RecordLemmas.{split-append, split-joined, split-some}
 use Rattle.regroup_lines.proofs.FieldLemmas.{and_false, joined-first}
 
 -- the text before others, if there is each
@@ -52,10 +53,6 @@ with_first-joined (Err fault) xs = refl
 between-map : (before after : List ℕ) (x : Result (List ℕ) Fault) → result_ok (between before after x) ≡ option_map (λ text. before ++ (text ++ after)) (result_ok x)
 between-map before after (Ok text) = refl
 between-map before after (Err fault) = refl
-
-named-ok : (name : Fault → Fault) (x : Result (List ℕ) Fault) → result_ok (result_map_both (λ text. text) name x) ≡ result_ok x
-named-ok name (Ok text) = refl
-named-ok name (Err fault) = refl
 
 join-map : (d : ℕ) (x : Result (List (List ℕ)) Fault) → result_ok (result_map_both (join_with_byte d) (λ fault. fault) x) ≡ option_map (join_with_byte d) (result_ok x)
 join-map d (Ok texts) = refl
@@ -117,74 +114,46 @@ module _ (rules : Rules) (from to : FormatData) (n m : ℕ) where
       ∙ ap (option_map (λ number. take place.0 text ++ (number ++ drop place.1 text))) (number-same rules.reading at)
       ∙ sym (between-map (take place.0 text) (drop place.1 text) (number_written rules.reading from to m at)))
 
-  field-same : (k : ℕ) (chosen : Bool) (field : List ℕ) → result_ok (field_written rules from to n k chosen field) ≡ result_ok (field_written rules from to m k chosen field)
-  field-same k true field =
-      named-ok (in_field k) (number_replaced rules from to n field)
-      ∙ place-same field (trimmed field (0, length field))
-      ∙ sym (named-ok (in_field k) (number_replaced rules from to m field))
-  field-same k false field = refl
-
   enough-same : (is : Bool) (count : FieldCount) → result_ok (ended is n count) ≡ result_ok (ended is m count)
   enough-same true count = refl
   enough-same false count = refl
 
-  fields-same : (d : ℕ) (list : List FieldRange) (before : ℕ) (fields : List (List ℕ)) →
-      result_ok (fields_written rules d list from to n before fields) ≡ result_ok (fields_written rules d list from to m before fields)
-  fields-same d list before [] = enough-same (are_enough list before) (field_count d list before)
-  fields-same d list before (field ∷ fields) =
-      let chosen = is_chosen list (before + 1) in
-      with_first-joined (field_written rules from to n (before + 1) chosen field) (fields_written rules d list from to n (before + 1) fields)
-      ∙ ap (λ text. joined text (result_ok (fields_written rules d list from to n (before + 1) fields))) (field-same (before + 1) chosen field)
-      ∙ ap (joined (result_ok (field_written rules from to m (before + 1) chosen field))) (fields-same d list (before + 1) fields)
-      ∙ sym (with_first-joined (field_written rules from to m (before + 1) chosen field) (fields_written rules d list from to m (before + 1) fields))
-
-  csv_number-same : (text : List ℕ) → result_ok (csv_number rules from to n text) ≡ result_ok (csv_number rules from to m text)
-  csv_number-same text =
-      refused-same (list_any is_quote text) (text_fault n text) (text_fault m text) _ _
+  in_field-same : (quotes : Bool) (text : List ℕ) → result_ok (number_in_field rules quotes from to n text) ≡ result_ok (number_in_field rules quotes from to m text)
+  in_field-same quotes text =
+      refused-same (quotes && list_any (is_barred rules.line_end) text) (text_fault n text) (text_fault m text) _ _
       (some-ok (number_written rules.reading from to n text) ∙ ap (option_map Some) (number-same rules.reading text) ∙ sym (some-ok (number_written rules.reading from to m text)))
 
-  csv_read-same : (field : List ℕ) → result_ok (csv_read rules from to n field) ≡ result_ok (csv_read rules from to m field)
-  csv_read-same field =
-      let place = csv_place field in
+  read-same : (quotes : Bool) (field : List ℕ) → result_ok (field_read rules quotes from to n field) ≡ result_ok (field_read rules quotes from to m field)
+  read-same quotes field =
+      let place = number_place quotes field in
       let text = slice_range field place.0 place.1 in
-      refused-same (is_inside_after false field) (text_fault n field) (text_fault m field) _ _
-      (none-same (rules.passes_empty && (place.0 == place.1)) (csv_number rules from to n text) (csv_number rules from to m text) (csv_number-same text))
+      none-same (rules.passes_empty && (place.0 == place.1)) (number_in_field rules quotes from to n text) (number_in_field rules quotes from to m text) (in_field-same quotes text)
 
-  csv_field-same : (d k : ℕ) (chosen : Bool) (field : List ℕ) → result_ok (csv_field_written rules d from to n k chosen field) ≡ result_ok (csv_field_written rules d from to m k chosen field)
-  csv_field-same d k true field =
-      mapped-ok (field_with d rules.line_end field) (in_field k) (csv_read rules from to n field)
-      ∙ ap (option_map (field_with d rules.line_end field)) (csv_read-same field)
-      ∙ sym (mapped-ok (field_with d rules.line_end field) (in_field k) (csv_read rules from to m field))
-  csv_field-same d k false field = refl
+  field-same : (cs : Fields) (k : ℕ) (chosen : Bool) (field : List ℕ) → result_ok (field_written rules cs from to n k chosen field) ≡ result_ok (field_written rules cs from to m k chosen field)
+  field-same cs k true field =
+      mapped-ok (field_with cs rules.line_end field) (in_field k) (field_read rules cs.quotes from to n field)
+      ∙ ap (option_map (field_with cs rules.line_end field)) (read-same cs.quotes field)
+      ∙ sym (mapped-ok (field_with cs rules.line_end field) (in_field k) (field_read rules cs.quotes from to m field))
+  field-same cs k false field = refl
 
-  csv-same : (d : ℕ) (list : List FieldRange) (before : ℕ) (inside : Bool) (fields : List (List ℕ)) →
-      result_ok (csv_written rules d list from to n before inside fields) ≡ result_ok (csv_written rules d list from to m before inside fields)
-  csv-same d list before inside [] = enough-same (inside || are_enough list before) (field_count d list before)
-  csv-same d list before inside (field ∷ fields) =
-      let k = next_number before in
-      let chosen = is_chosen list k && not inside in
-      let after = is_inside_after inside field in
-      with_first-joined (csv_field_written rules d from to n k chosen field) (csv_written rules d list from to n k after fields)
-      ∙ ap (λ text. joined text (result_ok (csv_written rules d list from to n k after fields))) (csv_field-same d k chosen field)
-      ∙ ap (joined (result_ok (csv_field_written rules d from to m k chosen field))) (csv-same d list k after fields)
-      ∙ sym (with_first-joined (csv_field_written rules d from to m k chosen field) (csv_written rules d list from to m k after fields))
+  fields-same : (cs : Fields) (before : ℕ) (fields : List (List ℕ)) →
+      result_ok (fields_written rules cs from to n before fields) ≡ result_ok (fields_written rules cs from to m before fields)
+  fields-same cs before [] = enough-same (are_enough cs.list.now before) (field_count cs.delimiter cs.list.now before)
+  fields-same cs before (field ∷ fields) =
+      let chosen = is_chosen cs.list.now (before + 1) in
+      with_first-joined (field_written rules cs from to n (before + 1) chosen field) (fields_written rules cs from to n (before + 1) fields)
+      ∙ ap (λ text. joined text (result_ok (fields_written rules cs from to n (before + 1) fields))) (field-same cs (before + 1) chosen field)
+      ∙ ap (joined (result_ok (field_written rules cs from to m (before + 1) chosen field))) (fields-same cs (before + 1) fields)
+      ∙ sym (with_first-joined (field_written rules cs from to m (before + 1) chosen field) (fields_written rules cs from to m (before + 1) fields))
 
   numbers-same : (where_is : Span) (text : List ℕ) → result_ok (numbers_replaced where_is rules from to n text) ≡ result_ok (numbers_replaced where_is rules from to m text)
   numbers-same span.Line text = place-same text (0, length text)
   numbers-same span.Trimmed text = place-same text (trimmed text (0, length text))
-  numbers-same (span.Fields fields) text =
-      let parts = slice_split (λ b. b == fields.delimiter) text in
-      join-map fields.delimiter (fields_written rules fields.delimiter fields.list.now from to n 0 parts)
-      ∙ ap (option_map (join_with_byte fields.delimiter)) (fields-same fields.delimiter fields.list.now 0 parts)
-      ∙ sym (join-map fields.delimiter (fields_written rules fields.delimiter fields.list.now from to m 0 parts))
-  numbers-same (span.Csv records) text =
-      let d = records.fields.delimiter in
-      let inside = records.within.inside in
-      let list = records.fields.list.now in
-      let parts = csv_split d inside text in
-      join-map d (csv_written rules d list from to n records.within.before inside parts)
-      ∙ ap (option_map (join_with_byte d)) (csv-same d list records.within.before inside parts)
-      ∙ sym (join-map d (csv_written rules d list from to m records.within.before inside parts))
+  numbers-same (span.Fields cs) text =
+      let parts = fields_of cs text in
+      join-map cs.delimiter (fields_written rules cs from to n 0 parts)
+      ∙ ap (option_map (join_with_byte cs.delimiter)) (fields-same cs 0 parts)
+      ∙ sym (join-map cs.delimiter (fields_written rules cs from to m 0 parts))
 
   mark-map : (x : Result (List ℕ) Fault) → result_ok (after_mark x) ≡ option_map (λ text. MARK ++ text) (result_ok x)
   mark-map (Ok text) = refl
@@ -221,16 +190,16 @@ module _ (rules : Rules) (from to : FormatData) (n m : ℕ) where
       SameLine (text_written rules from to n text) (text_written rules from to m text) (text_named rules from to n text) (text_named rules from to m text)
   text-same text at_n at_m marks = rw (at_n, at_m) (body-same rules.invalid text _ _ (marked-same text marks))
 
-  long-same : (is : Bool) (text : List ℕ) (x y : Result (List ℕ) Fault) (named_x named_y : List Fault) → SameLine x y named_x named_y →
-      SameLine (if is then fault_written rules.invalid text (TooLong n rules.max_line_len) else x) (if is then fault_written rules.invalid text (TooLong m rules.max_line_len) else y)
-      (if is then fault_named rules.invalid (TooLong n rules.max_line_len) else named_x) (if is then fault_named rules.invalid (TooLong m rules.max_line_len) else named_y)
-  long-same true text x y named_x named_y same = fault-same rules.invalid text (TooLong n rules.max_line_len) (TooLong m rules.max_line_len)
-  long-same false text x y named_x named_y same = same
+  faulty-same : (is : Bool) (text : List ℕ) (f g : Fault) (x y : Result (List ℕ) Fault) (named_x named_y : List Fault) → SameLine x y named_x named_y →
+      SameLine (if is then fault_written rules.invalid text f else x) (if is then fault_written rules.invalid text g else y)
+      (if is then fault_named rules.invalid f else named_x) (if is then fault_named rules.invalid g else named_y)
+  faulty-same true text f g x y named_x named_y same = fault-same rules.invalid text f g
+  faulty-same false text f g x y named_x named_y same = same
 
-  many-case : (most : ℕ) (is : Bool) (x y : Result (List ℕ) Fault) (named_x named_y : List Fault) → nat_lt most n ≡ is → (nat_lt most n ≡ false → nat_lt most m ≡ false) →
-      SameLine x y named_x named_y → SameLine (if is then Err TooMany else x) (if nat_lt most m then Err TooMany else y) named_x named_y
-  many-case most true x y named_x named_y at few same = record { written = λ text is. absurd (cc); named = same.named }
-  many-case most false x y named_x named_y at few same = rw (few at) same
+  many-case : (most count k : ℕ) (is : Bool) (x y : Result (List ℕ) Fault) (named_x named_y : List Fault) → nat_lt most count ≡ is → (nat_lt most count ≡ false → nat_lt most k ≡ false) →
+      SameLine x y named_x named_y → SameLine (if is then Err TooMany else x) (if nat_lt most k then Err TooMany else y) named_x named_y
+  many-case most count k true x y named_x named_y at few same = record { written = λ text is. absurd (cc); named = same.named }
+  many-case most count k false x y named_x named_y at few same = rw (few at) same
 
 -- a lower number is not too high where a higher one is not
 fewer : (most n m : ℕ) → m ≤ n → nat_lt most n ≡ false → nat_lt most m ≡ false
@@ -256,7 +225,6 @@ same-mark : (where_is : Span) (n m : ℕ) (text : List ℕ) → m ≤ n → 0 < 
 same-mark span.Line n m text below some plain = refl
 same-mark span.Trimmed n m text below some plain = plain-mark n m text below some plain
 same-mark (span.Fields fields) n m text below some plain = plain-mark n m text below some plain
-same-mark (span.Csv records) n m text below some plain = plain-mark n m text below some plain
 
 -- a text that begins with a mark does so with more bytes after it
 mark-more : (text more : List ℕ) → begins_with_mark text ≡ true → begins_with_mark (text ++ more) ≡ true
@@ -326,182 +294,110 @@ prefix-line line_end (Ok text) fx all first second middle total is rest =
     }
 prefix-line line_end (Err fault) fx all first second middle total is rest = absurd (cc)
 
--- the end of an input, with more lines before it or fewer
-named-same : (invalid : Invalid) (f g : Fault) → are_any (fault_named invalid f) ≡ are_any (fault_named invalid g)
-named-same Abort f g = refl
-named-same Fail f g = refl
-named-same Warn f g = refl
-named-same Ignore f g = refl
-
-abbrev end_at : (inside passed : Bool) → List Fault → Fault → ℕ → Regrouped
-end_at inside passed named fault n = record { written = []; named = if inside then named else []; returned = Some (if inside && not passed then Err fault else Ok n) }
-
-end_at-shifts : (inside passed : Bool) (fn fk : List Fault) (f g : Fault) (n k before total : ℕ) → are_any fn ≡ are_any fk → n ≡ before + k →
-    (end_at inside passed fn f n).returned ≡ Some (Ok total) → Shifts (end_at inside passed fn f n) (end_at inside passed fk g k) before total
-end_at-shifts false passed fn fk f g n k before total named sum is =
+rest-shifts : (line_end : ℕ) (is : Bool) (n k before total : ℕ) (x y : Result (List ℕ) Fault) (fx fy : List Fault) → n ≡ before + k → SameLine x y fx fy →
+    (if is then returning (Some (Ok n)) else writing_line line_end x fx (returning (Some (Ok (n + 1))))).returned ≡ Some (Ok total) →
+    Shifts (if is then returning (Some (Ok n)) else writing_line line_end x fx (returning (Some (Ok (n + 1)))))
+    (if is then returning (Some (Ok k)) else writing_line line_end y fy (returning (Some (Ok (k + 1))))) before total
+rest-shifts line_end true n k before total x y fx fy sum same is =
     record { lines = k; returned = refl; counted = let e : n ≡ total = cc in omega arith; written = refl; named = refl }
-end_at-shifts true true fn fk f g n k before total named sum is =
-    record { lines = k; returned = refl; counted = let e : n ≡ total = cc in omega arith; written = refl; named = named }
-end_at-shifts true false fn fk f g n k before total named sum is = absurd (cc)
+rest-shifts line_end false n k before total x y fx fy sum same is =
+    shift-line line_end x y fx fy (returning (Some (Ok (n + 1)))) (returning (Some (Ok (k + 1)))) before total same is
+    (λ ended. record { lines = k + 1; returned = refl; counted = let e : n + 1 ≡ total = cc in omega arith; written = refl; named = refl })
 
-end-shifts : (rules : Rules) (n k before total : ℕ) → n ≡ before + k → (input_end rules n).returned ≡ Some (Ok total) → Shifts (input_end rules n) (input_end rules k) before total
-end-shifts rules n k before total sum is =
-    end_at-shifts (is_inside rules.span) (passes rules.invalid) (fault_named rules.invalid (Unclosed n)) (fault_named rules.invalid (Unclosed k)) (Unclosed n) (Unclosed k) n k before total
-    (named-same rules.invalid (Unclosed n) (Unclosed k)) sum is
+-- the number of the line after several records
+line_over : Rules → ℕ → List (List ℕ) → ℕ
+line_over rules number [] = number
+line_over rules number (text ∷ texts) = line_over rules (line_after rules number text) texts
 
-rest-shifts : (rules after : Rules) (is : Bool) (n k before total : ℕ) (x y : Result (List ℕ) Fault) (fx fy : List Fault) → n ≡ before + k → SameLine x y fx fy →
-    (if is then input_end rules n else writing_line rules.line_end x fx (input_end after (n + 1))).returned ≡ Some (Ok total) →
-    Shifts (if is then input_end rules n else writing_line rules.line_end x fx (input_end after (n + 1)))
-    (if is then input_end rules k else writing_line rules.line_end y fy (input_end after (k + 1))) before total
-rest-shifts rules after true n k before total x y fx fy sum same is = end-shifts rules n k before total sum is
-rest-shifts rules after false n k before total x y fx fy sum same is =
-    shift-line rules.line_end x y fx fy (input_end after (n + 1)) (input_end after (k + 1)) before total same is
-    (λ ended. end-shifts after (n + 1) (k + 1) before total (omega arith) ended)
-
-end-outside : (rules : Rules) (n : ℕ) → is_inside rules.span ≡ false → input_end rules n ≡ returning (Some (Ok n))
-end-outside rules n outside = rw outside refl
-
--- where the numbers are of what follows lines, and the rules for it
-spans_over : (line_end : ℕ) → Span → List (List ℕ) → Span
-spans_over line_end span [] = span
-spans_over line_end span (text ∷ texts) = spans_over line_end (span_after line_end span (ended_by line_end text)) texts
-
-rules_over : Rules → List (List ℕ) → Rules
-rules_over rules [] = rules
-rules_over rules (text ∷ texts) = rules_over (rules_after rules text) texts
-
-rules_over-span : (rules : Rules) (texts : List (List ℕ)) → rules_over rules texts ≡ with_span rules (spans_over rules.line_end rules.span texts)
-unfolding rules_over spans_over
-rules_over-span rules [] = refl
-rules_over-span rules (text ∷ texts) = rules_over-span (rules_after rules text) texts
-
--- those of the lines of a text are those of the text
-spans_over-first : (line_end : ℕ) (span : Span) (b : ℕ) (texts : List (List ℕ)) → 0 < length texts →
-    spans_over line_end span (onto_first b texts) ≡ spans_over line_end (span_after line_end span (b ∷ [])) texts
-unfolding spans_over
-spans_over-first line_end span b [] some = absurd (omega arith)
-spans_over-first line_end span b (text ∷ texts) some = ap (λ s. spans_over line_end s texts) (span-append line_end span (b ∷ []) (ended_by line_end text))
-
-spans_over-split : (line_end : ℕ) (span : Span) (text : List ℕ) → spans_over line_end span (slice_split (λ b. b == line_end) text) ≡ span_after line_end span (ended_by line_end text)
-unfolding spans_over
-spans_over-split line_end span [] = refl
-spans_over-split line_end span (b ∷ text) =
-    by (b == line_end) refl (spans_over-split line_end (span_after line_end span (b ∷ [])) text ∙ sym (span-append line_end span (b ∷ []) (ended_by line_end text)))
-  where
-    by : (is : Bool) → (b == line_end) ≡ is →
-        spans_over line_end (span_after line_end span (b ∷ [])) (slice_split (λ b. b == line_end) text) ≡ span_after line_end span (b ∷ ended_by line_end text) →
-        spans_over line_end span (if is then [] ∷ slice_split (λ b. b == line_end) text else onto_first b (slice_split (λ b. b == line_end) text)) ≡ span_after line_end span (b ∷ ended_by line_end text)
-    by true same after =
-        ap (λ c. spans_over line_end (span_after line_end span (c ∷ [])) (slice_split (λ b. b == line_end) text)) (sym (eqb-true b line_end same)) ∙ after
-    by false same after =
-        spans_over-first line_end span b (slice_split (λ b. b == line_end) text) (omega (arith, length-slice_split (λ b. b == line_end) text)) ∙ after
+line_over-some : (rules : Rules) (number : ℕ) (texts : List (List ℕ)) → 1 ≤ number → 1 ≤ line_over rules number texts
+unfolding line_over
+line_over-some rules number [] some = some
+line_over-some rules number (text ∷ texts) some =
+    line_over-some rules (line_after rules number text) texts (omega arith)
 
 -- an input in parts, read to its end
-module _ (most : ℕ) (from to : FormatData) where
-  run : Rules → ℕ → List (List ℕ) → Regrouped
-  run rules count parts = regrouped_parts rules most from to Ended count parts
+module _ (rules : Rules) (most : ℕ) (from to : FormatData) where
+  run : ℕ → ℕ → List (List ℕ) → Regrouped
+  run count number parts = regrouped_parts rules most from to Ended count number parts
 
-  at_line : Rules → ℕ → List ℕ → Result (List ℕ) Fault
-  at_line rules n text = line_written rules most from to n text
+  at_line : ℕ → ℕ → List ℕ → Result (List ℕ) Fault
+  at_line count number text = line_written rules most from to count number text
 
-  faults_at : Rules → ℕ → List ℕ → List Fault
-  faults_at rules n text = line_named rules from to n text
+  faults_at : ℕ → List ℕ → List Fault
+  faults_at number text = line_named rules from to number text
 
-  line-same : (rules : Rules) (none : rules.header_lines ≡ 0) (n m : ℕ) (text : List ℕ) → m ≤ n → 0 < m → (m ≡ 1 → begins_with_mark text ≡ false) → SameLine (at_line rules n text) (at_line rules m text) (faults_at rules n text) (faults_at rules m text)
+  line-same : (none : rules.header_lines ≡ 0) (n k p q : ℕ) (text : List ℕ) → k ≤ n → q ≤ p → 0 < q → (q ≡ 1 → begins_with_mark text ≡ false) → SameLine (at_line n p text) (at_line k q text) (faults_at p text) (faults_at q text)
   unfolding at_line faults_at
-  line-same rules none n m text below some plain = many-case rules from to n m most (nat_lt most n) _ _ _ _ refl (fewer most n m below)
-      (long-same rules from to n m (nat_lt rules.max_line_len (length text)) text _ _ _ _
-      (text-same rules from to n m text (past-header n rules.header_lines none (omega arith)) (past-header m rules.header_lines none some)
-      (same-mark rules.span n m text below some plain)))
+  line-same none n k p q text fewer_lines below some plain = many-case rules from to p q most (n + 1) (k + 1) (nat_lt most (n + 1)) _ _ _ _ refl (fewer most (n + 1) (k + 1) (omega (arith, fewer_lines)))
+      (faulty-same rules from to p q (nat_lt rules.max_line_len (length text)) text (long_fault rules p text) (long_fault rules q text) _ _ _ _
+      (faulty-same rules from to p q (is_open (quotes_in rules.span) text) (without_end rules.line_end text) (Unclosed p) (Unclosed q) _ _ _ _
+      (text-same rules from to p q text (past-header p rules.header_lines none (omega (arith, some, below))) (past-header q rules.header_lines none some)
+      (same-mark rules.span p q text below some plain))))
 
-  shifts : (rules : Rules) (none : rules.header_lines ≡ 0) (n k before total : ℕ) (parts : List (List ℕ)) → n ≡ before + k → (k ≡ 0 → IsPlain parts) → (run rules n parts).returned ≡ Some (Ok total) →
-      Shifts (run rules n parts) (run rules k parts) before total
+  shifts : (none : rules.header_lines ≡ 0) (n k p q before total : ℕ) (parts : List (List ℕ)) → n ≡ before + k → q ≤ p → 0 < q → (q ≡ 1 → IsPlain parts) → (run n p parts).returned ≡ Some (Ok total) →
+      Shifts (run n p parts) (run k q parts) before total
   unfolding run at_line faults_at
-  shifts rules none n k before total [] sum plain is = absurd (cc)
-  shifts rules none n k before total (rest ∷ []) sum plain is =
-      rest-shifts rules (rules_after rules rest) (length rest == 0) n k before total (at_line rules (n + 1) rest) (at_line rules (k + 1) rest)
-      (faults_at rules (n + 1) rest) (faults_at rules (k + 1) rest) sum (line-same rules none (n + 1) (k + 1) rest (omega arith) (omega arith) (λ one. plain (omega arith))) is
-  shifts rules none n k before total (text ∷ next ∷ parts) sum plain is =
-      shift-line rules.line_end (at_line rules (n + 1) text) (at_line rules (k + 1) text) (faults_at rules (n + 1) text) (faults_at rules (k + 1) text)
-      (run (rules_after rules text) (n + 1) (next ∷ parts)) (run (rules_after rules text) (k + 1) (next ∷ parts)) before total
-      (line-same rules none (n + 1) (k + 1) text (omega arith) (omega arith) (λ one. plain (omega arith))) is
-      (λ after. shifts (rules_after rules text) none (n + 1) (k + 1) before total (next ∷ parts) (omega arith) (λ zero. absurd (omega arith)) after)
+  shifts none n k p q before total [] sum below some plain is = absurd (cc)
+  shifts none n k p q before total (rest ∷ []) sum below some plain is =
+      rest-shifts rules.line_end (length rest == 0) n k before total (at_line n p rest) (at_line k q rest)
+      (faults_at p rest) (faults_at q rest) sum (line-same none n k p q rest (omega (arith, sum)) below some plain) is
+  shifts none n k p q before total (text ∷ next ∷ parts) sum below some plain is =
+      shift-line rules.line_end (at_line n p text) (at_line k q text) (faults_at p text) (faults_at q text)
+      (run (n + 1) (line_after rules p text) (next ∷ parts)) (run (k + 1) (line_after rules q text) (next ∷ parts)) before total
+      (line-same none n k p q text (omega (arith, sum)) below some plain) is
+      (λ after. shifts none (n + 1) (k + 1) (line_after rules p text) (line_after rules q text) before total (next ∷ parts) (omega (arith, sum)) (omega (arith, below)) (omega arith)
+      (λ one. absurd (omega (arith, one, some))) after)
 
   -- a line before others
-  run-line : (rules : Rules) (n : ℕ) (text : List ℕ) (texts : List (List ℕ)) (next : List ℕ) (parts : List (List ℕ)) →
-      run rules n (text ∷ (texts ++ next ∷ parts))
-      ≡ writing_line rules.line_end (at_line rules (n + 1) text) (faults_at rules (n + 1) text) (run (rules_after rules text) (n + 1) (texts ++ next ∷ parts))
+  run-line : (n p : ℕ) (text : List ℕ) (texts : List (List ℕ)) (next : List ℕ) (parts : List (List ℕ)) →
+      run n p (text ∷ (texts ++ next ∷ parts))
+      ≡ writing_line rules.line_end (at_line n p text) (faults_at p text) (run (n + 1) (line_after rules p text) (texts ++ next ∷ parts))
   unfolding run at_line faults_at
-  run-line rules n text [] next parts = refl
-  run-line rules n text (other ∷ texts) next parts = refl
+  run-line n p text [] next parts = refl
+  run-line n p text (other ∷ texts) next parts = refl
 
-  prefixed-none : (rules : Rules) (n total : ℕ) (next : List ℕ) (parts : List (List ℕ)) → is_inside rules.span ≡ false → (run rules n (next ∷ parts)).returned ≡ Some (Ok total) →
-      Prefixed (run rules n (next ∷ parts)) (run rules n ([] ∷ [])) (run rules n (next ∷ parts)) n total
-  unfolding run
-  prefixed-none rules n total next parts outside is =
-      subst (λ r. Prefixed (run rules n (next ∷ parts)) r (run rules n (next ∷ parts)) n total) (sym (end-outside rules n outside))
+  prefixed : (n p middle total : ℕ) (texts : List (List ℕ)) (next : List ℕ) (parts : List (List ℕ)) → middle ≡ n + length texts →
+      (run n p (texts ++ next ∷ parts)).returned ≡ Some (Ok total) →
+      Prefixed (run n p (texts ++ next ∷ parts)) (run n p (texts ++ [] ∷ [])) (run middle (line_over rules p texts) (next ∷ parts)) middle total
+  unfolding line_over run
+  prefixed n p middle total [] next parts sum is =
+      let same : n ≡ middle = omega (arith, sum) in
+      subst (λ k. Prefixed (run n p (next ∷ parts)) (run n p ([] ∷ [])) (run k p (next ∷ parts)) k total) same
       (record { first_returned = refl; second_returned = is; written = refl; named = refl })
+  prefixed n p middle total (text ∷ texts) next parts sum is =
+      let whole = run-line n p text texts next parts in
+      let alone = run-line n p text texts [] [] in
+      rw (whole, alone) (prefix-line rules.line_end (at_line n p text) (faults_at p text) (run (n + 1) (line_after rules p text) (texts ++ next ∷ parts))
+      (run (n + 1) (line_after rules p text) (texts ++ [] ∷ [])) (run middle (line_over rules (line_after rules p text) texts) (next ∷ parts)) middle total
+      (ap (λ r. r.returned) (sym whole) ∙ is) (λ after. prefixed (n + 1) (line_after rules p text) middle total texts next parts (omega (arith, sum)) after))
 
-  prefixed : (rules : Rules) (n middle total : ℕ) (texts : List (List ℕ)) (next : List ℕ) (parts : List (List ℕ)) → middle ≡ n + length texts →
-      is_inside (rules_over rules texts).span ≡ false → (run rules n (texts ++ next ∷ parts)).returned ≡ Some (Ok total) →
-      Prefixed (run rules n (texts ++ next ∷ parts)) (run rules n (texts ++ [] ∷ [])) (run (rules_over rules texts) middle (next ∷ parts)) middle total
-  unfolding rules_over
-  prefixed rules n middle total [] next parts sum outside is =
-      let same : n ≡ middle = omega arith in
-      subst (λ k. Prefixed (run rules n (next ∷ parts)) (run rules n ([] ∷ [])) (run rules k (next ∷ parts)) k total) same
-      (prefixed-none rules n total next parts outside is)
-  prefixed rules n middle total (text ∷ texts) next parts sum outside is =
-      let whole = run-line rules n text texts next parts in
-      let alone = run-line rules n text texts [] [] in
-      rw (whole, alone) (prefix-line rules.line_end (at_line rules (n + 1) text) (faults_at rules (n + 1) text) (run (rules_after rules text) (n + 1) (texts ++ next ∷ parts))
-      (run (rules_after rules text) (n + 1) (texts ++ [] ∷ [])) (run (rules_over (rules_after rules text) texts) middle (next ∷ parts)) middle total
-      (ap (λ r. r.returned) (sym whole) ∙ is) (λ after. prefixed (rules_after rules text) (n + 1) middle total texts next parts (omega arith) outside after))
-
-  both : (rules : Rules) (none : rules.header_lines ≡ 0) (texts parts : List (List ℕ)) (total : ℕ) → 0 < length parts → rules_over rules texts ≡ rules → is_inside rules.span ≡ false → IsPlain parts →
-      (run rules 0 (texts ++ parts)).returned ≡ Some (Ok total) → SplitsInto (run rules 0 (texts ++ parts)) (run rules 0 (texts ++ [] ∷ [])) (run rules 0 parts) total
-  both rules none texts [] total some again outside plain is = absurd (omega arith)
-  both rules none texts (next ∷ parts) total some again outside plain is =
-      let first = subst (λ r. Prefixed (run rules 0 (texts ++ next ∷ parts)) (run rules 0 (texts ++ [] ∷ [])) (run r (length texts) (next ∷ parts)) (length texts) total) again
-      (prefixed rules 0 (length texts) total texts next parts (omega arith) (ap (λ r. is_inside r.span) again ∙ outside) is) in
-      let second = shifts rules none (length texts) 0 (length texts) total (next ∷ parts) (omega arith) (λ _. plain) first.second_returned in
+  both : (none : rules.header_lines ≡ 0) (texts parts : List (List ℕ)) (total : ℕ) → 0 < length parts → IsPlain parts →
+      (run 0 1 (texts ++ parts)).returned ≡ Some (Ok total) → SplitsInto (run 0 1 (texts ++ parts)) (run 0 1 (texts ++ [] ∷ [])) (run 0 1 parts) total
+  both none texts [] total some plain is = absurd (omega arith)
+  both none texts (next ∷ parts) total some plain is =
+      let reached = line_over rules 1 texts in
+      let first = prefixed 0 1 (length texts) total texts next parts (omega arith) is in
+      let second = shifts none (length texts) 0 reached 1 (length texts) total (next ∷ parts) (omega arith) (line_over-some rules 1 texts (omega arith)) (omega arith) (λ _. plain) first.second_returned in
       record {
         first_lines = length texts;
         second_lines = second.lines;
         first_returned = first.first_returned;
         second_returned = second.returned;
         counted = second.counted;
-        written = first.written ∙ ap (λ l. (run rules 0 (texts ++ [] ∷ [])).written ++ l) second.written;
-        named = first.named ∙ ap (λ b. are_any (run rules 0 (texts ++ [] ∷ [])).named || b) second.named;
+        written = first.written ∙ ap (λ l. (run 0 1 (texts ++ [] ∷ [])).written ++ l) second.written;
+        named = first.named ∙ ap (λ b. are_any (run 0 1 (texts ++ [] ∷ [])).named || b) second.named;
       }
-
--- a split of two lists with the byte that ends a line between them
-onto-append : (b : ℕ) (xs : List (List ℕ)) (ys : List (List ℕ)) → 0 < length xs → onto_first b (xs ++ ys) ≡ onto_first b xs ++ ys
-onto-append b [] ys some = absurd (omega arith)
-onto-append b (x ∷ xs) ys some = refl
-
-split-append : (end : ℕ) (front back : List ℕ) → slice_split (λ b. b == end) (front ++ end ∷ back) ≡ slice_split (λ b. b == end) front ++ slice_split (λ b. b == end) back
-split-append end [] back =
-    ap (λ (is : Bool). if is then [] ∷ slice_split (λ b. b == end) back else onto_first end (slice_split (λ b. b == end) back)) (eq-eqb end end refl)
-split-append end (b ∷ front) back = split-case (b == end) (split-append end front back)
-  where
-    split-case : (is : Bool) → slice_split (λ b. b == end) (front ++ end ∷ back) ≡ slice_split (λ b. b == end) front ++ slice_split (λ b. b == end) back →
-        (if is then [] ∷ slice_split (λ b. b == end) (front ++ end ∷ back) else onto_first b (slice_split (λ b. b == end) (front ++ end ∷ back)))
-        ≡ (if is then [] ∷ slice_split (λ b. b == end) front else onto_first b (slice_split (λ b. b == end) front)) ++ slice_split (λ b. b == end) back
-    split-case true same = ap (λ l. [] ∷ l) same
-    split-case false same =
-        ap (onto_first b) same
-        ∙ onto-append b (slice_split (λ b. b == end) front) (slice_split (λ b. b == end) back) (omega (arith, length-slice_split (λ b. b == end) front))
 
 pub split_law : SplitLaw
 unfolding run
-split_law rules most from to a b lines none plain outside again is =
-    let split : List ℕ → List (List ℕ) = slice_split (λ b. b == rules.line_end) in
-    let same : rules_over rules (split a) ≡ rules =
-    rules_over-span rules (split a) ∙ ap (with_span rules) (spans_over-split rules.line_end rules.span a ∙ again) in
-    let whole : regrouped rules most from to Ended (ended_by rules.line_end a ++ b) ≡ run most from to rules 0 (split a ++ split b) =
-    ap (regrouped rules most from to Ended) (append_assoc a (rules.line_end ∷ []) b) ∙ ap (run most from to rules 0) (split-append rules.line_end a b) in
-    let first : regrouped rules most from to Ended (ended_by rules.line_end a) ≡ run most from to rules 0 (split a ++ [] ∷ []) = ap (run most from to rules 0) (split-append rules.line_end a []) in
-    let parts = both most from to rules none (split a) (split b) lines (omega (arith, length-slice_split (λ b. b == rules.line_end) b)) same outside
-    (plain-parts rules.line_end b (split b) (join_with_byte-slice_split rules.line_end b) plain) (ap (λ r. r.returned) (sym whole) ∙ is) in
-    subst (λ r. SplitsInto r (regrouped rules most from to Ended (ended_by rules.line_end a)) (regrouped rules most from to Ended b) lines) (sym whole)
-    (subst (λ r. SplitsInto (run most from to rules 0 (split a ++ split b)) r (regrouped rules most from to Ended b) lines) (sym first) parts)
+split_law rules most from to a b lines none plain closed is =
+    let q = quotes_in rules.span in
+    let e = rules.line_end in
+    let split : List ℕ → List (List ℕ) = split_at q e Start in
+    let whole : regrouped rules most from to Ended (ended_by e a ++ b) ≡ run rules most from to 0 1 (split a ++ split b) =
+    ap (regrouped rules most from to Ended) (append_assoc a (e ∷ []) b) ∙ ap (run rules most from to 0 1) (split-append q e Start a b closed) in
+    let first : regrouped rules most from to Ended (ended_by e a) ≡ run rules most from to 0 1 (split a ++ [] ∷ []) = ap (run rules most from to 0 1) (split-append q e Start a [] closed) in
+    let parts = both rules most from to none (split a) (split b) lines (split-some q e Start b)
+    (plain-parts e b (split b) (split-joined q e Start b) plain) (ap (λ r. r.returned) (sym whole) ∙ is) in
+    subst (λ r. SplitsInto r (regrouped rules most from to Ended (ended_by e a)) (regrouped rules most from to Ended b) lines) (sym whole)
+    (subst (λ r. SplitsInto (run rules most from to 0 1 (split a ++ split b)) r (regrouped rules most from to Ended b) lines) (sym first) parts)

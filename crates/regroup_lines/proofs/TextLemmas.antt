@@ -1,5 +1,5 @@
 -- The number in the text of a line.
-use Rattle.std.proofs.Common.{◌≡◌, ℕ, Bool, true, false, List, ◌++◌, Option, None, Result, Ok, Err, refl, sym, ap, subst}
+use Rattle.std.proofs.Common.{◌≡◌, ℕ, Bool, true, false, List, Option, None, Result, Ok, Err, refl, sym, ap, subst}
 use Rattle.std.specs.Prelude.{ℤ, IsUtf8, ◌↔◌}
 use Rattle.std.specs.Result.{result_map_both, result_or}
 use Rattle.std.specs.Str.{is_utf8}
@@ -22,7 +22,7 @@ use Rattle.regroup_lines.specs.Decimals.{decimal_read}
 use Rattle.regroup_lines.specs.Fault.{Fault}
 use Rattle.regroup_lines.specs.Fault.Fault.{Write}
 use Rattle.regroup_lines.specs.LineFaults.{line_fault_of, text_fault}
-use Rattle.regroup_lines.specs.Lines.{between, number_in_text, number_written}
+use Rattle.regroup_lines.specs.Lines.{number_in_text, number_written}
 use Rattle.regroup_lines.specs.Sending.{SendsLine}
 use Rattle.regroup_lines.specs.declared.line_fault.LineFault.{LineFault}
 use Rattle.regroup_lines.specs.declared.line_fault.LineFault.TheVariants as fault
@@ -86,10 +86,3 @@ module _ (from to : FormatData) (number : ℕ) (text : List ℕ) where
 
   pub lenient-fault : (f : Fault) → number_in_text from number text ≡ Err f → number_written Lenient from to number text ≡ Err f
   lenient-fault f is = ap (result_map_both (text_of to) (λ fault. fault)) is
-
--- the bytes around a number
-pub between-ok : (before after text : List ℕ) (written : Result (List ℕ) Fault) → written ≡ Ok text → between before after written ≡ Ok (before ++ (text ++ after))
-between-ok before after text written is = ap (between before after) is
-
-pub between-err : (before after : List ℕ) (f : Fault) (written : Result (List ℕ) Fault) → written ≡ Err f → between before after written ≡ Err f
-between-err before after f written is = ap (between before after) is

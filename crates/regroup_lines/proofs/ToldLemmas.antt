@@ -1,14 +1,11 @@
 -- What is sent of one line and told of it.
-use Rattle.std.proofs.Common.{◌≡◌, ◌≢◌, ℕ, ◌<◌, ◌≤◌, Bool, true, false, List, [], Option, Result, Ok, Err, if◌then◌else◌, refl, sym, ap, subst}
-use Rattle.std.specs.Io.KnownBytes.{Appends}
+use Rattle.std.proofs.Common.{◌≡◌, ◌≢◌, ℕ, ◌<◌, Bool, true, false, List, [], Option, Result, Ok, Err, if◌then◌else◌, refl, sym, ap, subst}
 use Rattle.std.specs.Str.{is_utf8}
 use Rattle.std.proofs.KnownBytes.{Appends-nil}
-use Rattle.std.proofs.lemmas.Bool.{both_ways, le-leb, lt-leb}
+use Rattle.std.proofs.lemmas.Bool.{both_ways, lt-leb}
 use Rattle.num_format.specs.Format.{FormatData}
-use Rattle.num_format.specs.Writing.{StopsWithin}
-use Rattle.regroup_lines.specs.Ended.{ended_by}
 use Rattle.regroup_lines.specs.Fault.{Fault, are_any, in_field, is_unsent}
-use Rattle.regroup_lines.specs.Fault.Fault.{TooMany, TooLong, FewFields, Read, NotText, FieldNotText, Line, Field, Unclosed, Write, Report, Flush}
+use Rattle.regroup_lines.specs.Fault.Fault.{NotText, Line, Write}
 use Rattle.regroup_lines.specs.LineFaults.{line_fault_of}
 use Rattle.regroup_lines.specs.Lines.{body_named, body_or_itself, body_written, fault_named, fault_written, passes, text_named, text_written}
 use Rattle.regroup_lines.specs.Messages.{messages}
@@ -17,7 +14,6 @@ use Rattle.regroup_lines.specs.declared.line_fault.LineFault.{LineFault}
 use Rattle.regroup_lines.specs.declared.line_fault.LineFault.TheVariants as fault
 use Rattle.regroup_lines.specs.declared.rules.Invalid.{Invalid}
 use Rattle.regroup_lines.specs.declared.rules.Invalid.TheVariants.{Abort, Fail, Ignore, Warn}
-use Rattle.regroup_lines.specs.declared.rules.Reading.{Reading}
 use Rattle.regroup_lines.specs.declared.rules.Rules.{Rules}
 use Rattle.regroup_lines.proofs.SentLemmas.{IsSent, body_written-sent}
 
@@ -33,25 +29,9 @@ module _ (rules : Rules) (name : List ℕ) (from to : FormatData) (number : ℕ)
       (messages name rules.reading from (if header then [] else body_named rules.invalid (body_written rules from to number text)))
       (are_any (if header then [] else body_named rules.invalid (body_written rules from to number text))) a b d e result
 
-  -- a header
-  pub header_told : (a b d : Option (List ℕ)) → number ≤ rules.header_lines → Appends a b (ended_by rules.line_end text) → SendsText a b d d (Ok false)
-  header_told a b d within sent = subst (λ (header : Bool). SendsIf header a b d d (Ok false)) (sym (le-leb number rules.header_lines within)) (refl, sent, Appends-nil d)
-
-  pub header_unsent : (a b d : Option (List ℕ)) → number ≤ rules.header_lines → StopsWithin a b (ended_by rules.line_end text) → SendsText a b d d (Err Write)
-  header_unsent a b d within stops = subst (λ (header : Bool). SendsIf header a b d d (Err Write)) (sym (le-leb number rules.header_lines within)) (stops, Appends-nil d)
-
   module _ (a b d : Option (List ℕ)) (below : rules.header_lines < number) where
     no_header : (c e : Option (List ℕ)) (result : Result Bool Fault) → SendsIf false a c d e result → SendsText a c d e result
     no_header c e result sends = subst (λ (header : Bool). SendsIf header a c d e result) (sym (lt-leb number rules.header_lines below)) sends
-
-    -- a line without a fault
-    body_told : (body : Result (List ℕ) Fault) → SendsLine {T = Unit {0}} rules.line_end body a b (Ok tt) →
-        SendsTold rules.line_end (body_or_itself rules.invalid text body) (messages name rules.reading from (body_named rules.invalid body)) (are_any (body_named rules.invalid body)) a b d d (Ok false)
-    body_told (Ok written) sends = (refl, sends, Appends-nil d)
-    body_told (Err fault) sends = absurd sends
-
-    pub text_told : SendsLine {T = Unit {0}} rules.line_end (body_written rules from to number text) a b (Ok tt) → SendsText a b d d (Ok false)
-    text_told sends = no_header b d (Ok false) (body_told (body_written rules from to number text) sends)
 
     -- a line of which not all is sent
     body_unsent : (body : Result (List ℕ) Fault) → IsSent body → SendsLine {T = Unit {0}} rules.line_end body a b (Err Write) →
@@ -93,53 +73,18 @@ aborts-itself Fail is = absurd (cc)
 aborts-itself Warn is = absurd (cc)
 aborts-itself Ignore is = absurd (cc)
 
--- a line at fault that is returned, or passed on after its message
-module _ (line_end : ℕ) (invalid : Invalid) (name : List ℕ) (reading : Reading) (from : FormatData) (fault : Fault) (text : List ℕ) (a b d e : Option (List ℕ)) where
-  abbrev told_of : List ℕ
-  told_of = messages name reading from (fault_named invalid fault)
-
-  pub fault_returned : passes invalid ≡ false → SendsTold line_end (fault_written invalid text fault) told_of (are_any (fault_named invalid fault)) a a d d (Err fault)
-  fault_returned is =
-      subst (λ i. SendsTold line_end (fault_written i text fault) (messages name reading from (fault_named i fault)) (are_any (fault_named i fault)) a a d d (Err fault))
-      (sym (aborts-itself invalid is)) (refl, refl, refl)
-
-  module _ (is : passes invalid ≡ true) where
-    passed : (result : Result Bool Fault) → SendsTold line_end (Ok text) told_of (are_any (fault_named invalid fault)) a b d e result →
-        SendsTold line_end (fault_written invalid text fault) told_of (are_any (fault_named invalid fault)) a b d e result
-    passed result sends = subst (λ w. SendsTold line_end w told_of (are_any (fault_named invalid fault)) a b d e result) (sym (passes-itself invalid text fault is)) sends
-
-    pub fault_untold : b ≡ a → StopsWithin d e told_of → SendsTold line_end (fault_written invalid text fault) told_of (are_any (fault_named invalid fault)) a b d e (Err Report)
-    fault_untold same stops = passed (Err Report) (same, stops)
-
-    module _ (told : Bool) (names : (told ≡ are_any (fault_named invalid fault)) × Appends d e told_of) where
-      pub fault_passed : Appends a b (ended_by line_end text) → SendsTold line_end (fault_written invalid text fault) told_of (are_any (fault_named invalid fault)) a b d e (Ok told)
-      fault_passed sent = passed (Ok told) (names.0, sent, names.1)
-
-      pub fault_unsent : StopsWithin a b (ended_by line_end text) → SendsTold line_end (fault_written invalid text fault) told_of (are_any (fault_named invalid fault)) a b d e (Err Write)
-      fault_unsent stops = passed (Err Write) (stops, names.1)
-
 -- a fault that is no failed write
 either_other : (utf8 : Bool) (a b : Fault) → a ≢ Write → b ≢ Write → (if utf8 then a else b) ≢ Write
 either_other true a b first second = first
 either_other false a b first second = second
 
 field_other : (n : ℕ) (fault : Fault) → fault ≢ Write → in_field n fault ≢ Write
-field_other n TooMany other is = other is
-field_other n (TooLong number max_line_len) other is = other is
-field_other n (FewFields number count) other is = other is
-field_other n Read other is = other is
 field_other n (NotText number) other is = cc
-field_other n (FieldNotText number field) other is = other is
 field_other n (Line number refusal) other is = cc
-field_other n (Field number field refusal) other is = other is
-field_other n (Unclosed number) other is = other is
-field_other n Write other is = other is
-field_other n Report other is = other is
-field_other n Flush other is = other is
+field_other n fault other is = other is
 
 pub other_fault : (f : LineFault) → f ≢ fault.Write → line_fault_of f ≢ Write
 other_fault (fault.NotANumber number text) other is = either_other (is_utf8 text.now) _ _ (λ same. cc) (λ same. cc) is
 other_fault (fault.NotAField number field text) other is = field_other field _ (either_other (is_utf8 text.now) _ _ (λ same. cc) (λ same. cc)) is
-other_fault (fault.FewFields number count) other is = cc
 other_fault fault.Write other is = other refl
-other_fault fault.Report other is = cc
+other_fault f other is = cc

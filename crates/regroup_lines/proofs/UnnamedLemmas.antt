@@ -1,17 +1,17 @@
 -- What regrouping returns where it names no fault.
 use Rattle.std.proofs.Common.{◌≡◌, ◌≢◌, ℕ, ◌+◌, ◌==◌, Bool, true, false, List, [], ◌∷◌, ◌++◌, length, Option, Some, Result, Ok, Err, if◌then◌else◌, refl, ap, subst, ◌∙◌, arith}
 use Rattle.std.specs.Prelude.{nat_le, nat_lt}
-use Rattle.std.specs.List.{slice_split}
 use Rattle.std.specs.Result.{result_map_both}
 use Rattle.std.specs.Io.KnownBytes.{Appends}
 use Rattle.std.proofs.lemmas.List.{length-append}
 use Rattle.num_format.specs.Format.{FormatData}
 use Rattle.num_format.specs.Writing.{StopsWithin}
 use Rattle.regroup_lines.specs.Fault.{Fault}
-use Rattle.regroup_lines.specs.Fault.Fault.{FewFields, Line, NotText, FieldNotText, Field, Flush, Read, Report, TooLong, TooMany, Unclosed, Write}
-use Rattle.regroup_lines.specs.Lines.{Regrouped, Stop, input_end, is_inside, rules_after, line_begun, line_named, line_written, long_begun, stop_returned, body_named, body_written, fault_named, fault_written, text_named, regrouped, regrouped_parts, regrouped_rest, returning, writing_line}
+use Rattle.regroup_lines.specs.Fault.Fault.{Report, TooMany, Unclosed, Write}
+use Rattle.regroup_lines.specs.Lines.{Regrouped, Stop, line_after, line_begun, line_named, line_written, long_begun, long_fault, quotes_in, record_named, records_of, stop_returned, body_named, body_written, fault_named, fault_written, text_named, regrouped, regrouped_parts, regrouped_rest, returning, writing_line}
 use Rattle.regroup_lines.specs.Lines.Stop.{Ended, Endless, Failed, Unflushed, Unread}
 use Rattle.regroup_lines.specs.Messages.{messages}
+use Rattle.regroup_lines.specs.Records.{is_open}
 use Rattle.regroup_lines.specs.Sending.{Regroups, RegroupsNaming, Sends}
 use Rattle.regroup_lines.specs.declared.Summary.{Summary}
 use Rattle.regroup_lines.specs.declared.rules.Invalid.{Invalid}
@@ -52,46 +52,46 @@ module _ (rules : Rules) (aborts : rules.invalid ≡ Abort) (most : ℕ) (from t
   which_named-none true a b first second = first
   which_named-none false a b first second = second
 
+  record_unnamed : (number : ℕ) (text : List ℕ) → record_named rules from to number text ≡ []
+  record_unnamed number text =
+      which_named-none (is_open (quotes_in rules.span) text) (fault_named rules.invalid (Unclosed number)) (text_named rules from to number text)
+      (fault_unnamed rules.invalid (Unclosed number) aborts) (text_named-none number text)
+
   line_unnamed : (number : ℕ) (text : List ℕ) → line_named rules from to number text ≡ []
   line_unnamed number text =
-      which_named-none (nat_lt rules.max_line_len (length text)) (fault_named rules.invalid (TooLong number rules.max_line_len)) (text_named rules from to number text)
-      (fault_unnamed rules.invalid (TooLong number rules.max_line_len) aborts) (text_named-none number text)
+      which_named-none (nat_lt rules.max_line_len (length text)) (fault_named rules.invalid (long_fault rules number text)) (record_named rules from to number text)
+      (fault_unnamed rules.invalid (long_fault rules number text) aborts) (record_unnamed number text)
 
   begun_named-none : (written : Result (List ℕ) Fault) (named : List Fault) (stop : Stop) → named ≡ [] → (long_begun written named stop).named ≡ []
   begun_named-none (Ok text) named stop none = none
   begun_named-none (Err fault) named stop none = refl
 
-  line_begun-none : (stop : Stop) (number : ℕ) (text : List ℕ) → (line_begun rules most stop number text).named ≡ []
-  line_begun-none stop number text =
+  line_begun-none : (stop : Stop) (count number : ℕ) (text : List ℕ) → (line_begun rules most stop count number text).named ≡ []
+  line_begun-none stop count number text =
+      let fault = long_fault rules number text in
       if_named-none (length text == 0) (returning (stop_returned stop)) _ refl
-      (if_named-none (nat_lt most number) (returning (Some (Err TooMany))) _ refl
-      (if_named-none (nat_lt rules.max_line_len (length text)) (long_begun (fault_written rules.invalid text (TooLong number rules.max_line_len)) (fault_named rules.invalid (TooLong number rules.max_line_len)) stop) (returning (stop_returned stop))
-      (begun_named-none (fault_written rules.invalid text (TooLong number rules.max_line_len)) (fault_named rules.invalid (TooLong number rules.max_line_len)) stop (fault_unnamed rules.invalid (TooLong number rules.max_line_len) aborts)) refl))
+      (if_named-none (nat_lt most (count + 1)) (returning (Some (Err TooMany))) _ refl
+      (if_named-none (nat_lt rules.max_line_len (length text)) (long_begun (fault_written rules.invalid text fault) (fault_named rules.invalid fault) stop) (returning (stop_returned stop))
+      (begun_named-none (fault_written rules.invalid text fault) (fault_named rules.invalid fault) stop (fault_unnamed rules.invalid fault aborts)) refl))
 
-  end_unnamed : (inside : Bool) (number : ℕ) → (if inside then fault_named rules.invalid (Unclosed number) else []) ≡ []
-  end_unnamed inside number = which_named-none inside (fault_named rules.invalid (Unclosed number)) [] (fault_unnamed rules.invalid (Unclosed number) aborts) refl
+  rest_named-none : (stop : Stop) (count number : ℕ) (text : List ℕ) → (regrouped_rest rules most from to stop count number text).named ≡ []
+  rest_named-none Ended count number text =
+      if_named-none (length text == 0) (returning (Some (Ok count))) _ refl
+      (line_named-none (line_written rules most from to count number text) (line_named rules from to number text) _ (line_unnamed number text) refl)
+  rest_named-none Failed count number text = line_begun-none Failed count number text
+  rest_named-none Unflushed count number text = line_begun-none Unflushed count number text
+  rest_named-none Unread count number text = line_begun-none Unread count number text
+  rest_named-none Endless count number text = line_begun-none Endless count number text
 
-  rest_named-none : (stop : Stop) (count : ℕ) (text : List ℕ) → (regrouped_rest rules most from to stop count text).named ≡ []
-  rest_named-none Ended count text =
-      if_named-none (length text == 0) (input_end rules count) _ (end_unnamed (is_inside rules.span) count)
-      (line_named-none (line_written rules most from to (count + 1) text) (line_named rules from to (count + 1) text) _ (line_unnamed (count + 1) text)
-      (end_unnamed (is_inside (rules_after rules text).span) (count + 1)))
-  rest_named-none Failed count text = line_begun-none Failed (count + 1) text
-  rest_named-none Unflushed count text = line_begun-none Unflushed (count + 1) text
-  rest_named-none Unread count text = line_begun-none Unread (count + 1) text
-  rest_named-none Endless count text = line_begun-none Endless (count + 1) text
-
-parts_named-none : (rules : Rules) → rules.invalid ≡ Abort → (most : ℕ) (from to : FormatData) (stop : Stop) (count : ℕ) (parts : List (List ℕ)) →
-    (regrouped_parts rules most from to stop count parts).named ≡ []
-parts_named-none rules aborts most from to stop count [] = refl
-parts_named-none rules aborts most from to stop count (rest ∷ []) = rest_named-none rules aborts most from to stop count rest
-parts_named-none rules aborts most from to stop count (text ∷ next ∷ parts) =
-    line_named-none rules aborts most from to (line_written rules most from to (count + 1) text) (line_named rules from to (count + 1) text) _
-    (line_unnamed rules aborts most from to (count + 1) text)
-    (parts_named-none (rules_after rules text) aborts most from to stop (count + 1) (next ∷ parts))
+  parts_named-none : (stop : Stop) (count number : ℕ) (parts : List (List ℕ)) → (regrouped_parts rules most from to stop count number parts).named ≡ []
+  parts_named-none stop count number [] = refl
+  parts_named-none stop count number (rest ∷ []) = rest_named-none stop count number rest
+  parts_named-none stop count number (text ∷ next ∷ parts) =
+      line_named-none (line_written rules most from to count number text) (line_named rules from to number text) _
+      (line_unnamed number text) (parts_named-none stop (count + 1) (line_after rules number text) (next ∷ parts))
 
 pub named-none : (rules : Rules) → rules.invalid ≡ Abort → (most : ℕ) (from to : FormatData) (stop : Stop) (bytes : List ℕ) → (regrouped rules most from to stop bytes).named ≡ []
-named-none rules aborts most from to stop bytes = parts_named-none rules aborts most from to stop 0 (slice_split (λ b. b == rules.line_end) bytes)
+named-none rules aborts most from to stop bytes = parts_named-none rules aborts most from to stop 0 1 (records_of rules bytes)
 
 -- no writer stops within no text
 stops_nowhere : (a b : Option (List ℕ)) → StopsWithin a b [] → ⊥
@@ -105,46 +105,18 @@ module _ (all : Regrouped) (a b d e : Option (List ℕ)) where
   untold_returned (Ok summary) sent other = sent.0
   untold_returned (Err Write) sent other = absurd (other refl)
   untold_returned (Err Report) sent other = absurd (stops_nowhere d e sent.1)
-  untold_returned (Err Flush) sent other = sent.0
-  untold_returned (Err TooMany) sent other = sent.0
-  untold_returned (Err (TooLong number max_line_len)) sent other = sent.0
-  untold_returned (Err (FewFields number count)) sent other = sent.0
-  untold_returned (Err Read) sent other = sent.0
-  untold_returned (Err (NotText number)) sent other = sent.0
-  untold_returned (Err (FieldNotText number field)) sent other = sent.0
-  untold_returned (Err (Line number refusal)) sent other = sent.0
-  untold_returned (Err (Field number field refusal)) sent other = sent.0
-  untold_returned (Err (Unclosed number)) sent other = sent.0
+  untold_returned (Err fault) sent other = sent.0
 
   untold_written : (result : Result Summary Fault) → Sends all [] a b d e result → lines_of result ≢ Err Write → Appends a b all.written
   untold_written (Ok summary) sent other = sent.2
   untold_written (Err Write) sent other = absurd (other refl)
   untold_written (Err Report) sent other = absurd (stops_nowhere d e sent.1)
-  untold_written (Err Flush) sent other = sent.1
-  untold_written (Err TooMany) sent other = sent.1
-  untold_written (Err (TooLong number max_line_len)) sent other = sent.1
-  untold_written (Err (FewFields number count)) sent other = sent.1
-  untold_written (Err Read) sent other = sent.1
-  untold_written (Err (NotText number)) sent other = sent.1
-  untold_written (Err (FieldNotText number field)) sent other = sent.1
-  untold_written (Err (Line number refusal)) sent other = sent.1
-  untold_written (Err (Field number field refusal)) sent other = sent.1
-  untold_written (Err (Unclosed number)) sent other = sent.1
+  untold_written (Err fault) sent other = sent.1
 
   untold_prefix : (result : Result Summary Fault) → Sends all [] a b d e result → lines_of result ≡ Err Write → StopsWithin a b all.written
   untold_prefix (Ok summary) sent failed = absurd (cc)
   untold_prefix (Err Write) sent failed = sent.0
-  untold_prefix (Err Report) sent failed = absurd (cc)
-  untold_prefix (Err Flush) sent failed = absurd (cc)
-  untold_prefix (Err TooMany) sent failed = absurd (cc)
-  untold_prefix (Err (TooLong number max_line_len)) sent failed = absurd (cc)
-  untold_prefix (Err (FewFields number count)) sent failed = absurd (cc)
-  untold_prefix (Err Read) sent failed = absurd (cc)
-  untold_prefix (Err (NotText number)) sent failed = absurd (cc)
-  untold_prefix (Err (FieldNotText number field)) sent failed = absurd (cc)
-  untold_prefix (Err (Line number refusal)) sent failed = absurd (cc)
-  untold_prefix (Err (Field number field refusal)) sent failed = absurd (cc)
-  untold_prefix (Err (Unclosed number)) sent failed = absurd (cc)
+  untold_prefix (Err fault) sent failed = absurd (cc)
 
 -- so what is returned and written is all that they do
 pub Regroups-naming_none : (rules : Rules) (name : List ℕ) (most : ℕ) (from to : FormatData) (a b d e f g : Option (List ℕ)) (result : Result Summary Fault) → rules.invalid ≡ Abort →

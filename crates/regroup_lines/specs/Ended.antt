@@ -1,5 +1,6 @@
 -- Texts with the byte that ends them.
-use Rattle.std.specs.Prelude.{ℕ, List, [], ◌∷◌, ◌++◌}
+use Rattle.std.specs.Prelude.{ℕ, ◌-◌, ◌==◌, nat_lt, ◌&&◌, if◌then◌else◌, List, [], ◌∷◌, ◌++◌, length, take}
+use Rattle.std.specs.List.{slice_index}
 
 -- a text and the byte that ends it
 abbrev pub ended_by : (end : ℕ) → List ℕ → List ℕ
@@ -8,3 +9,11 @@ ended_by end text = text ++ end ∷ []
 -- a text and a newline
 abbrev pub line : List ℕ → List ℕ
 line text = ended_by 10 text
+
+-- how many bytes a text has without this byte at its end
+abbrev pub len_without : (end : ℕ) → List ℕ → ℕ
+len_without end text = if nat_lt 0 (length text) && (slice_index text (length text - 1) == end) then length text - 1 else length text
+
+-- a text without this byte at its end
+abbrev pub without_end : (end : ℕ) → List ℕ → List ℕ
+without_end end text = take (len_without end text) text

@@ -3,8 +3,9 @@ use Rattle.std.specs.Prelude.{◌≡◌, ℕ, ◌+◌, false, ◌||◌, List, �
 use Rattle.num_format.specs.Format.{FormatData}
 use Rattle.regroup_lines.specs.Ended.{ended_by}
 use Rattle.regroup_lines.specs.Fault.{are_any}
-use Rattle.regroup_lines.specs.Lines.{Regrouped, begins_with_mark, is_inside, regrouped, span_after}
+use Rattle.regroup_lines.specs.Lines.{Regrouped, begins_with_mark, quotes_in, regrouped}
 use Rattle.regroup_lines.specs.Lines.Stop.{Ended}
+use Rattle.regroup_lines.specs.Records.{is_left_open}
 use Rattle.regroup_lines.specs.declared.rules.Rules.{Rules}
 
 -- the whole has this many lines: each part returns its lines, writes its part of the bytes, and the whole names a fault exactly if a part does
@@ -18,9 +19,9 @@ pub record SplitsInto (all first second : Regrouped) (lines : ℕ) : Type 0 wher
   pub named : are_any all.named ≡ (are_any first.named || are_any second.named)
 
 -- where no line is at fault, or none ends the run, and there is no header, an input may be split after a byte that ends a line, and not
--- before a byte order mark, if it begins outside quotes and that byte ends a record
+-- before a byte order mark, if the first part does not end inside quotes
 abbrev pub SplitLaw : Type 0
 SplitLaw = (rules : Rules) (most : ℕ) (from to : FormatData) (a b : List ℕ) (lines : ℕ) → rules.header_lines ≡ 0 → begins_with_mark b ≡ false →
-    is_inside rules.span ≡ false → span_after rules.line_end rules.span (ended_by rules.line_end a) ≡ rules.span →
+    is_left_open (quotes_in rules.span) rules.line_end a ≡ false →
     (regrouped rules most from to Ended (ended_by rules.line_end a ++ b)).returned ≡ Some (Ok lines) →
     SplitsInto (regrouped rules most from to Ended (ended_by rules.line_end a ++ b)) (regrouped rules most from to Ended (ended_by rules.line_end a)) (regrouped rules most from to Ended b) lines

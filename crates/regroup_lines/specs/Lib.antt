@@ -14,4 +14,5 @@ pub mod Messages
 pub mod Numbers
 pub mod Places
 pub mod Quoting
+pub mod Records
 pub mod Sending

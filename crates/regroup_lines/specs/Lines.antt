@@ -1,6 +1,6 @@
 -- What regrouping the lines of an input writes and returns.
-use Rattle.std.specs.Prelude.{ℕ, ◌+◌, ◌==◌, nat_eq, nat_le, nat_lt, Bool, false, true, ◌&&◌, ◌||◌, not, ℤ, if◌then◌else◌, List, [], ◌∷◌, ◌++◌, length, take, drop, slice_range, Option, None, Some, Result, Ok, Err}
-use Rattle.std.specs.List.{join_with_byte, list_any, slice_split, starts_with}
+use Rattle.std.specs.Prelude.{ℕ, ◌+◌, ◌==◌, nat_eq, nat_le, nat_lt, Bool, false, true, ◌&&◌, not, ℤ, if◌then◌else◌, List, [], ◌∷◌, ◌++◌, length, take, drop, slice_range, Option, None, Some, Result, Ok, Err}
+use Rattle.std.specs.List.{join_with_byte, list_any, starts_with}
 use Rattle.std.specs.Option.{ok_or, option_map}
 use Rattle.std.specs.Result.{result_map_both}
 use Rattle.std.specs.Str.{is_utf8}
@@ -10,24 +10,23 @@ use Rattle.num_format.specs.Refusal.{ParseNumber}
 use Rattle.num_format.specs.Text.{text_of}
 use Rattle.num_format_decimal.specs.Text.{decimal_text}
 use Rattle.num_format.specs.Readable.{number_read}
-use Rattle.regroup_lines.specs.Ended.{ended_by}
-use Rattle.regroup_lines.specs.Csv.{after_text, csv_place, csv_split, field_with, is_inside_after, is_quote, next_number}
+use Rattle.regroup_lines.specs.Ended.{ended_by, without_end}
+use Rattle.regroup_lines.specs.Csv.{field_with, is_barred, number_place}
 use Rattle.regroup_lines.specs.Decimals.{decimal_read}
 use Rattle.regroup_lines.specs.Fault.{Fault, in_field}
 use Rattle.regroup_lines.specs.Fault.Fault.{TooMany, TooLong, FewFields, Flush, Read, NotText, Line, Unclosed}
 use Rattle.regroup_lines.specs.LineFaults.{text_fault}
 use Rattle.regroup_lines.specs.Places.{are_enough, field_count, is_chosen, trimmed}
-use Rattle.regroup_lines.specs.declared.rules.FieldRange.{FieldRange}
+use Rattle.regroup_lines.specs.Records.{is_open, is_quote, line_reached, next_line, split_at}
+use Rattle.regroup_lines.specs.declared.records.Within.TheVariants.{Start}
 use Rattle.regroup_lines.specs.declared.rules.Fields.{Fields}
 use Rattle.regroup_lines.specs.declared.rules.Invalid.{Invalid}
 use Rattle.regroup_lines.specs.declared.rules.Invalid.TheVariants.{Abort, Fail, Warn, Ignore}
 use Rattle.regroup_lines.specs.declared.rules.Reading.{Reading}
 use Rattle.regroup_lines.specs.declared.rules.Reading.TheVariants.{Lenient, Strict}
-use Rattle.regroup_lines.specs.declared.rules.Records.{Records}
 use Rattle.regroup_lines.specs.declared.rules.Rules.{Rules}
 use Rattle.regroup_lines.specs.declared.rules.Span.{Span}
 use Rattle.regroup_lines.specs.declared.rules.Span.TheVariants as span
-use Rattle.regroup_lines.specs.declared.TheConstants.{MAX_LINE_LEN}
 
 -- how a reader stopped: at its end, by a failed read, by a flush that failed before a read, or not at all, where no more was read, or no
 -- more of a line that is too long and is passed on, since 2^64 - 1 bytes were
@@ -82,10 +81,22 @@ place_written rules from to number text place =
 abbrev pub number_replaced : Rules → FormatData → FormatData → ℕ → List ℕ → Result (List ℕ) Fault
 number_replaced rules from to number text = place_written rules from to number text (trimmed text (0, length text))
 
+-- the text that is written in place of that of a number in a field, or the fault of that text: where there may be quotes, no number has one
+abbrev pub number_in_field : Rules → (quotes : Bool) → FormatData → FormatData → ℕ → List ℕ → Result (Option (List ℕ)) Fault
+number_in_field rules quotes from to number text =
+    if quotes && list_any (is_barred rules.line_end) text then Err (text_fault number text) else
+    result_map_both Some (λ fault. fault) (number_written rules.reading from to number text)
+
+-- the same of a field, or nothing where the number has no byte and that is no fault
+abbrev pub field_read : Rules → (quotes : Bool) → FormatData → FormatData → ℕ → (field : List ℕ) → Result (Option (List ℕ)) Fault
+field_read rules quotes from to number field =
+    let place = number_place quotes field in
+    if rules.passes_empty && (place.0 == place.1) then Ok None else number_in_field rules quotes from to number (slice_range field place.0 place.1)
+
 -- the field of the last number, which may be chosen: its fault names it
-abbrev pub field_written : Rules → FormatData → FormatData → ℕ → ℕ → (chosen : Bool) → List ℕ → Result (List ℕ) Fault
-field_written rules from to number n chosen field =
-    if chosen then result_map_both (λ text. text) (in_field n) (number_replaced rules from to number field) else Ok field
+abbrev pub field_written : Rules → Fields → FormatData → FormatData → ℕ → ℕ → (chosen : Bool) → List ℕ → Result (List ℕ) Fault
+field_written rules fields from to number n chosen field =
+    if chosen then result_map_both (field_with fields rules.line_end field) (in_field n) (field_read rules fields.quotes from to number field) else Ok field
 
 -- a text before others, or the first fault
 abbrev pub with_first : Result (List ℕ) Fault → Result (List (List ℕ)) Fault → Result (List (List ℕ)) Fault
@@ -94,59 +105,41 @@ with_first (Ok text) (Err fault) = Err fault
 with_first (Err fault) texts = Err fault
 
 -- the fields of a line that so many others are before, or the first fault; where they end, the line may have too few
-abbrev pub fields_written : Rules → (delimiter : ℕ) → List FieldRange → FormatData → FormatData → ℕ → (before : ℕ) → List (List ℕ) → Result (List (List ℕ)) Fault
-fields_written rules delimiter list from to number before [] =
-    if are_enough list before then Ok [] else Err (FewFields number (field_count delimiter list before))
-fields_written rules delimiter list from to number before (field ∷ fields) =
-    with_first (field_written rules from to number (before + 1) (is_chosen list (before + 1)) field) (fields_written rules delimiter list from to number (before + 1) fields)
+abbrev pub fields_written : Rules → Fields → FormatData → FormatData → ℕ → (before : ℕ) → List (List ℕ) → Result (List (List ℕ)) Fault
+fields_written rules fields from to number before [] =
+    if are_enough fields.list.now before then Ok [] else Err (FewFields number (field_count fields.delimiter fields.list.now before))
+fields_written rules fields from to number before (text ∷ texts) =
+    with_first (field_written rules fields from to number (before + 1) (is_chosen fields.list.now (before + 1)) text) (fields_written rules fields from to number (before + 1) texts)
 
--- a line split at the delimiter, with the number in each chosen field replaced, and joined again
+-- the delimiter of the fields that may be in quotes, if they may, and if it is no quote
+abbrev pub quotes_of : Fields → Option ℕ
+quotes_of fields = if fields.quotes && not (is_quote fields.delimiter) then Some fields.delimiter else None
+
+-- the fields of a line
+abbrev pub fields_of : Fields → List ℕ → List (List ℕ)
+fields_of fields text = split_at (quotes_of fields) fields.delimiter Start text
+
+-- a line with the number in each chosen field replaced
 abbrev pub fields_replaced : Fields → Rules → FormatData → FormatData → ℕ → List ℕ → Result (List ℕ) Fault
 fields_replaced fields rules from to number text =
-    result_map_both (join_with_byte fields.delimiter) (λ fault. fault)
-    (fields_written rules fields.delimiter fields.list.now from to number 0 (slice_split (λ b. b == fields.delimiter) text))
+    result_map_both (join_with_byte fields.delimiter) (λ fault. fault) (fields_written rules fields from to number 0 (fields_of fields text))
 
--- the text that is written in place of that of a number, or the fault of that text: no number has a quote
-abbrev pub csv_number : Rules → FormatData → FormatData → ℕ → List ℕ → Result (Option (List ℕ)) Fault
-csv_number rules from to number text =
-    if list_any is_quote text then Err (text_fault number text) else
-    result_map_both Some (λ fault. fault) (number_written rules.reading from to number text)
-
--- the same of a field that begins outside quotes and has to end there, or nothing where the number has no byte and that is no fault
-abbrev pub csv_read : Rules → FormatData → FormatData → ℕ → (field : List ℕ) → Result (Option (List ℕ)) Fault
-csv_read rules from to number field =
-    if is_inside_after false field then Err (text_fault number field) else
-    let place = csv_place field in
-    if rules.passes_empty && (place.0 == place.1) then Ok None else csv_number rules from to number (slice_range field place.0 place.1)
-
--- the field of the last number, which may be chosen: its fault names it
-abbrev pub csv_field_written : Rules → (delimiter : ℕ) → FormatData → FormatData → ℕ → ℕ → (chosen : Bool) → List ℕ → Result (List ℕ) Fault
-csv_field_written rules delimiter from to number n chosen field =
-    if chosen then result_map_both (field_with delimiter rules.line_end field) (in_field n) (csv_read rules from to number field) else Ok field
-
--- the fields of a line that so many others of the record are before, or the first fault: the rest of a field that an earlier line began is
--- passed on, and where the record ends, it may have too few
-abbrev pub csv_written : Rules → (delimiter : ℕ) → List FieldRange → FormatData → FormatData → ℕ → (before : ℕ) → (inside : Bool) → List (List ℕ) → Result (List (List ℕ)) Fault
-csv_written rules delimiter list from to number before inside [] =
-    if inside || are_enough list before then Ok [] else Err (FewFields number (field_count delimiter list before))
-csv_written rules delimiter list from to number before inside (field ∷ fields) =
-    with_first (csv_field_written rules delimiter from to number (next_number before) (is_chosen list (next_number before) && not inside) field)
-    (csv_written rules delimiter list from to number (next_number before) (is_inside_after inside field) fields)
-
--- a line split at the delimiters outside quotes, with the number in each chosen field replaced, and joined again
-abbrev pub csv_replaced : Records → Rules → FormatData → FormatData → ℕ → List ℕ → Result (List ℕ) Fault
-csv_replaced records rules from to number text =
-    let delimiter = records.fields.delimiter in
-    let inside = records.within.inside in
-    result_map_both (join_with_byte delimiter) (λ fault. fault)
-    (csv_written rules delimiter records.fields.list.now from to number records.within.before inside (csv_split delimiter inside text))
+-- a line with one chosen field, which is at this place
+abbrev pub one_replaced : Fields → Rules → FormatData → FormatData → ℕ → (one : ℕ) → List ℕ → ℕ × ℕ → Result (List ℕ) Fault
+one_replaced fields rules from to number one text place =
+    result_map_both (λ field. take place.0 text ++ (field ++ drop place.1 text)) (λ fault. fault) (field_written rules fields from to number one true (slice_range text place.0 place.1))
 
 -- a line with the numbers where the rules say replaced
 abbrev pub numbers_replaced : Span → Rules → FormatData → FormatData → ℕ → List ℕ → Result (List ℕ) Fault
 numbers_replaced span.Line rules from to number text = place_written rules from to number text (0, length text)
 numbers_replaced span.Trimmed rules from to number text = number_replaced rules from to number text
 numbers_replaced (span.Fields fields) rules from to number text = fields_replaced fields rules from to number text
-numbers_replaced (span.Csv records) rules from to number text = csv_replaced records rules from to number text
+
+-- the delimiter of the fields that may be in quotes, if there are such
+abbrev pub quotes_in : Span → Option ℕ
+quotes_in span.Line = None
+quotes_in span.Trimmed = None
+quotes_in (span.Fields fields) = quotes_of fields
 
 -- the bytes of a byte order mark
 abbrev pub MARK : List ℕ
@@ -161,7 +154,6 @@ abbrev pub passes_mark : Span → ℕ → List ℕ → Bool
 passes_mark span.Line number text = false
 passes_mark span.Trimmed number text = (number == 1) && begins_with_mark text
 passes_mark (span.Fields fields) number text = (number == 1) && begins_with_mark text
-passes_mark (span.Csv records) number text = (number == 1) && begins_with_mark text
 
 -- a text after a mark
 abbrev pub after_mark : Result (List ℕ) Fault → Result (List ℕ) Fault
@@ -216,50 +208,36 @@ text_named rules from to number text =
 
 -- the rules that read the whole of each line leniently
 abbrev pub lenient : Rules
-lenient = record { span = span.Line; reading = Lenient; header_lines = 0; passes_empty = false; invalid = Abort; line_end = 10; max_line_len = MAX_LINE_LEN; flushes = false }
+lenient = record { span = span.Line; reading = Lenient; header_lines = 0; passes_empty = false; invalid = Abort; line_end = 10; max_line_len = 4096; flushes = false }
 
--- where the numbers are of what follows a text: with CSV, where in a record it begins
-abbrev pub span_after : (line_end : ℕ) → Span → List ℕ → Span
-span_after line_end span.Line text = span.Line
-span_after line_end span.Trimmed text = span.Trimmed
-span_after line_end (span.Fields fields) text = span.Fields fields
-span_after line_end (span.Csv records) text = span.Csv (record { fields = records.fields; within = after_text records.fields.delimiter line_end records.within text })
+-- what is written in place of a record that has no byte too many, or its fault: at the end of an input it may end inside quotes, and with the
+-- byte that ends lines
+abbrev pub record_written : Rules → FormatData → FormatData → ℕ → List ℕ → Result (List ℕ) Fault
+record_written rules from to number text =
+    if is_open (quotes_in rules.span) text then fault_written rules.invalid (without_end rules.line_end text) (Unclosed number) else text_written rules from to number text
 
--- the rules with the numbers there
-abbrev pub with_span : Rules → Span → Rules
-with_span rules span = record rules { span = span }
+-- the faults of the record that are named
+abbrev pub record_named : Rules → FormatData → FormatData → ℕ → List ℕ → List Fault
+record_named rules from to number text =
+    if is_open (quotes_in rules.span) text then fault_named rules.invalid (Unclosed number) else text_named rules from to number text
 
--- the rules for what follows a line
-abbrev pub rules_after : Rules → List ℕ → Rules
-rules_after rules text = with_span rules (span_after rules.line_end rules.span (ended_by rules.line_end text))
+-- the fault of a line or a record that is too long: quotes that its first bytes do not close
+abbrev pub long_fault : Rules → ℕ → List ℕ → Fault
+long_fault rules number text = if is_open (quotes_in rules.span) (take (rules.max_line_len + 1) text) then Unclosed number else TooLong number rules.max_line_len
 
--- whether it begins inside quotes
-abbrev pub is_inside : Span → Bool
-is_inside span.Line = false
-is_inside span.Trimmed = false
-is_inside (span.Fields fields) = false
-is_inside (span.Csv records) = records.within.inside
+-- what is written in place of the record that so many are before, and that begins in the line of this number, or its first fault: it may be one
+-- too many, or too long
+abbrev pub line_written : Rules → (most : ℕ) → FormatData → FormatData → (count number : ℕ) → List ℕ → Result (List ℕ) Fault
+line_written rules most from to count number text =
+    if nat_lt most (count + 1) then Err TooMany else
+    if nat_lt rules.max_line_len (length text) then fault_written rules.invalid text (long_fault rules number text) else record_written rules from to number text
 
--- the end of an input of so many lines: a quote that no other one closes is at fault
-abbrev pub input_end : Rules → ℕ → Regrouped
-input_end rules count = record {
-  written = [];
-  named = if is_inside rules.span then fault_named rules.invalid (Unclosed count) else [];
-  returned = Some (if is_inside rules.span && not (passes rules.invalid) then Err (Unclosed count) else Ok count);
-}
-
--- what is written in place of the line of this number, without the byte that ends it, or the line's first fault: it may be one too many, or too long
-abbrev pub line_written : Rules → ℕ → FormatData → FormatData → ℕ → List ℕ → Result (List ℕ) Fault
-line_written rules most from to number text =
-    if nat_lt most number then Err TooMany else
-    if nat_lt rules.max_line_len (length text) then fault_written rules.invalid text (TooLong number rules.max_line_len) else text_written rules from to number text
-
--- the faults of the line that are named
+-- the faults of the record that are named
 abbrev pub line_named : Rules → FormatData → FormatData → ℕ → List ℕ → List Fault
 line_named rules from to number text =
-    if nat_lt rules.max_line_len (length text) then fault_named rules.invalid (TooLong number rules.max_line_len) else text_named rules from to number text
+    if nat_lt rules.max_line_len (length text) then fault_named rules.invalid (long_fault rules number text) else record_named rules from to number text
 
--- what a stop returns in a line that is not too long: the fault of a failed read or flush
+-- what a stop returns in a record that is not too long: the fault of a failed read or flush
 abbrev pub stop_returned : Stop → Option (Result ℕ Fault)
 stop_returned Failed = Some (Err Read)
 stop_returned Unflushed = Some (Err Flush)
@@ -275,38 +253,46 @@ long_returned Endless = Some (Err TooMany)
 long_returned Ended = None
 long_returned Unread = None
 
--- the beginning of a line that is too long, by what is written in place of it, and its faults that are named
+-- the beginning of a record that is too long, by what is written in place of it, and its faults that are named
 abbrev pub long_begun : Result (List ℕ) Fault → List Fault → Stop → Regrouped
 long_begun (Ok text) named stop = record { written = text; named = named; returned = long_returned stop }
 long_begun (Err fault) named stop = returning (Some (Err fault))
 
--- the beginning of the line of this number: nothing is written unless it is too long
-abbrev pub line_begun : Rules → ℕ → Stop → ℕ → List ℕ → Regrouped
-line_begun rules most stop number text =
+-- the beginning of the record that so many are before: nothing is written unless it is too long
+abbrev pub line_begun : Rules → (most : ℕ) → Stop → (count number : ℕ) → List ℕ → Regrouped
+line_begun rules most stop count number text =
     if length text == 0 then returning (stop_returned stop) else
-    if nat_lt most number then returning (Some (Err TooMany)) else
-    if nat_lt rules.max_line_len (length text) then long_begun (fault_written rules.invalid text (TooLong number rules.max_line_len)) (fault_named rules.invalid (TooLong number rules.max_line_len)) stop else
+    if nat_lt most (count + 1) then returning (Some (Err TooMany)) else
+    if nat_lt rules.max_line_len (length text) then long_begun (fault_written rules.invalid text (long_fault rules number text)) (fault_named rules.invalid (long_fault rules number text)) stop else
     returning (stop_returned stop)
 
--- what stands after the last byte that ends a line, with so many lines before it: at the end it is a line unless it is empty
-abbrev pub regrouped_rest : Rules → ℕ → FormatData → FormatData → Stop → ℕ → List ℕ → Regrouped
-regrouped_rest rules most from to Ended count rest =
-    if length rest == 0 then input_end rules count else
-    writing_line rules.line_end (line_written rules most from to (count + 1) rest) (line_named rules from to (count + 1) rest) (input_end (rules_after rules rest) (count + 1))
-regrouped_rest rules most from to stop count rest = line_begun rules most stop (count + 1) rest
+-- what stands after the last byte that ends a record, with so many records before it: at the end it is one unless it is empty
+abbrev pub regrouped_rest : Rules → (most : ℕ) → FormatData → FormatData → Stop → (count number : ℕ) → List ℕ → Regrouped
+regrouped_rest rules most from to Ended count number rest =
+    if length rest == 0 then returning (Some (Ok count)) else
+    writing_line rules.line_end (line_written rules most from to count number rest) (line_named rules from to number rest) (returning (Some (Ok (count + 1))))
+regrouped_rest rules most from to stop count number rest = line_begun rules most stop count number rest
 
--- the parts between the bytes that end lines, with so many lines before them: each but the last is a line
-abbrev pub regrouped_parts : Rules → ℕ → FormatData → FormatData → Stop → ℕ → List (List ℕ) → Regrouped
-regrouped_parts rules most from to stop count [] = returning None
-regrouped_parts rules most from to stop count (rest ∷ []) = regrouped_rest rules most from to stop count rest
-regrouped_parts rules most from to stop count (text ∷ next ∷ parts) =
-    writing_line rules.line_end (line_written rules most from to (count + 1) text) (line_named rules from to (count + 1) text)
-    (regrouped_parts (rules_after rules text) most from to stop (count + 1) (next ∷ parts))
+-- the number of the line after a record
+abbrev pub line_after : Rules → ℕ → List ℕ → ℕ
+line_after rules number text = next_line (line_reached (quotes_in rules.span) rules.line_end number text)
 
--- the bytes of an input, with so many lines before them
-abbrev pub regrouped_after : Rules → ℕ → FormatData → FormatData → Stop → ℕ → List ℕ → Regrouped
-regrouped_after rules most from to stop count bytes = regrouped_parts rules most from to stop count (slice_split (λ b. b == rules.line_end) bytes)
+-- the parts between the bytes that end records, with so many records before them: each but the last is a record
+abbrev pub regrouped_parts : Rules → (most : ℕ) → FormatData → FormatData → Stop → (count number : ℕ) → List (List ℕ) → Regrouped
+regrouped_parts rules most from to stop count number [] = returning None
+regrouped_parts rules most from to stop count number (rest ∷ []) = regrouped_rest rules most from to stop count number rest
+regrouped_parts rules most from to stop count number (text ∷ next ∷ parts) =
+    writing_line rules.line_end (line_written rules most from to count number text) (line_named rules from to number text)
+    (regrouped_parts rules most from to stop (count + 1) (line_after rules number text) (next ∷ parts))
 
--- an input that may have this many lines: the bytes that a reader gave, and how it stopped
-abbrev pub regrouped : Rules → ℕ → FormatData → FormatData → Stop → List ℕ → Regrouped
-regrouped rules most from to stop bytes = regrouped_after rules most from to stop 0 bytes
+-- the lines or records of a text
+abbrev pub records_of : Rules → List ℕ → List (List ℕ)
+records_of rules bytes = split_at (quotes_in rules.span) rules.line_end Start bytes
+
+-- the bytes of an input, with so many records before them, of which the first begins in the line of this number
+abbrev pub regrouped_after : Rules → (most : ℕ) → FormatData → FormatData → Stop → (count number : ℕ) → List ℕ → Regrouped
+regrouped_after rules most from to stop count number bytes = regrouped_parts rules most from to stop count number (records_of rules bytes)
+
+-- an input that may have this many lines, or records: the bytes that a reader gave, and how it stopped
+abbrev pub regrouped : Rules → (most : ℕ) → FormatData → FormatData → Stop → List ℕ → Regrouped
+regrouped rules most from to stop bytes = regrouped_after rules most from to stop 0 1 bytes

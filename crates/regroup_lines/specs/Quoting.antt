@@ -3,7 +3,6 @@ use Rattle.std.specs.Prelude.{ℕ, ◌+◌, ◌/◌, ◌%◌, ◌==◌, nat_lt, 
 use Rattle.std.specs.Char.{is_ascii_graphic}
 use Rattle.std.specs.List.{flat_map}
 use Rattle.std.specs.Str.{byte}
-use Rattle.regroup_lines.specs.declared.quoting.TheConstants.{MAX_SHOWN_LEN}
 
 -- the backslash
 abbrev pub BACKSLASH : ℕ
@@ -25,6 +24,6 @@ shown_byte b = if is_shown b then b ∷ [] else BACKSLASH ∷ byte "x" ∷ hex_d
 abbrev pub shown : ℕ → List ℕ → List ℕ
 shown most text = flat_map shown_byte (take most text)
 
--- the first bytes of an input, shown, in quotes
+-- the first 64 bytes of an input, shown, in quotes
 abbrev pub quoted : List ℕ → List ℕ
-quoted text = byte "'" ∷ (shown MAX_SHOWN_LEN text ++ byte "'" ∷ [])
+quoted text = byte "'" ∷ (shown 64 text ++ byte "'" ∷ [])

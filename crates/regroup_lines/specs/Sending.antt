@@ -1,10 +1,10 @@
 -- What writers received of the lines and of the messages that name their faults.
-use Rattle.std.specs.Prelude.{◌≡◌, ◌≢◌, ℕ, ◌-◌, ◌^◌, ◌≤◌, ◌⊎◌, ◌||◌, Bool, false, true, List, length, Option, Some, Result, Ok, Err}
+use Rattle.std.specs.Prelude.{◌≡◌, ◌≢◌, ℕ, ◌-◌, ◌^◌, ◌≤◌, Bool, true, List, length, Option, Some, Result, Ok, Err}
 use Rattle.std.specs.Io.KnownBytes.{Appends, Consumes, IsAtEnd}
 use Rattle.num_format.specs.Format.{FormatData}
 use Rattle.num_format.specs.Writing.{HasReceivedUpTo, StopsWithin}
 use Rattle.regroup_lines.specs.Ended.{ended_by}
-use Rattle.regroup_lines.specs.Fault.{Fault, are_any, is_unsent}
+use Rattle.regroup_lines.specs.Fault.{Fault, are_any}
 use Rattle.regroup_lines.specs.Fault.Fault.{Report, Write}
 use Rattle.regroup_lines.specs.Lines.{Regrouped, Stop, regrouped}
 use Rattle.regroup_lines.specs.Lines.Stop.{Ended, Endless, Unflushed}
@@ -49,14 +49,6 @@ Sends all told sent_old sent_new told_old told_new (Err Write) = StopsWithin sen
 Sends all told sent_old sent_new told_old told_new (Err Report) = ReceivesPrefix sent_old sent_new all.written × StopsWithin told_old told_new told
 Sends all told sent_old sent_new told_old told_new (Err fault) =
     (all.returned ≡ Some (Err fault)) × Appends sent_old sent_new all.written × Appends told_old told_new told
-
--- what a call at the end of an input does, which it sends the messages `told` of: it returns what the input does
-abbrev pub EndsInput : Regrouped → (has_faults : Bool) → (told : List ℕ) → (told_old told_new : Option (List ℕ)) → Result Summary Fault → Type 0
-EndsInput all has_faults told told_old told_new (Ok summary) =
-    (all.returned ≡ Some (Ok summary.lines)) × (summary.has_faults ≡ (has_faults || are_any all.named)) × Appends told_old told_new told
-EndsInput all has_faults told told_old told_new (Err fault) =
-    ((all.returned ≡ Some (Err fault)) × (is_unsent fault ≡ false) × Appends told_old told_new told)
-    ⊎ ((fault ≡ Report) × StopsWithin told_old told_new told)
 
 -- what a call that regroups this many lines at most of an input of this name does: the result, and what the writers received, are those
 -- of the bytes that the reader gave, by how it stopped

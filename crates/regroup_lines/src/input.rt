@@ -2,9 +2,12 @@
 ghost use Rattle.std.specs.Prelude.{◌≡◌, ◌+◌, ◌≤◌, ◌<◌, [], ◌∷◌, length, take, drop, IfErr, IfOk, OnErr, IsNone, MatchOption};
 ghost use Rattle.std.specs.Io.KnownBytes.{Consumes, IsAtEnd, Keeps};
 ghost use Rattle.regroup_lines.specs.Halt.{IsHalt, halt_fault};
+ghost use Rattle.regroup_lines.specs.Lines.{quotes_in};
 
+use crate::ends::find_end;
 use crate::halt::{Halt, flush_before_read};
-use memchr::memchr;
+use crate::records::Within;
+use crate::rules::Rules;
 use std::io;
 use std::io::{Read, Write};
 use std::ops::Range;
@@ -14,11 +17,11 @@ const MAX_READ_LEN: usize = 65536;
 
 /// A piece of the input, by its place in the array.
 pub(crate) enum Piece {
-    /// A line, without the byte that ends it.
+    /// A line, or a record, without the byte that ends it.
     Line(Range<usize>),
     /// What stands after the last line, where the reader ended.
     Rest(Range<usize>),
-    /// The bytes that are held: as many as the array has, and none of them ends a line.
+    /// The bytes that are held: as many as the array has, and none of them ends a line or its record.
     TooLong,
 }
 
@@ -36,7 +39,8 @@ pub(crate) struct Input<'a> {
 }
 
 impl<'a> Input<'a> {
-    ghost use Rattle.regroup_lines.specs.Input.{EndsOrGoesOn, FindsLineEnd, FindsPiece, HasNoLineEnd, IsInArray, Reads, array_len, bytes_at, held};
+    ghost use Rattle.regroup_lines.specs.Input.{EndsOrGoesOn, FindsEnd, FindsPiece, HasNoEnd, IsInArray, Reads, array_len, bytes_at, held};
+    ghost use Rattle.regroup_lines.specs.Lines.{quotes_in};
 
     /// Returns an input of which nothing was read.
     pub(crate) fn new(array: &'a mut [u8]) -> Input<'a>
@@ -59,30 +63,30 @@ impl<'a> Input<'a> {
         &self.array[place]
     }
 
-    /// Returns the next piece, reading as much as it takes. The byte `line_end` ends a line. The writer is flushed before
-    /// each read, if `flushes` says so.
+    /// Returns the next piece, reading as much as it takes. Its first byte is `within` a record. The writer is flushed before
+    /// each read, if the rules say so.
     ///
     /// # Errors
     ///
     /// Returns whether the first call that fails is a read or a flush. What was read is held.
     pub(crate) fn next_piece<R: Read, W: Write>(
         &mut self,
-        line_end: u8,
-        flushes: bool,
+        rules: &Rules,
+        within: Within,
         reader: &mut R,
         writer: &mut W,
     ) -> Result<Piece, Halt>
-        ensures piece { IfOk result (FindsPiece line_end (held self.old) self.new
+        ensures piece { IfOk result (FindsPiece (quotes_in rules.now.span) rules.now.line_end within (held self.old) self.new
             (R.remaining reader.old) (R.remaining reader.new)) }
         ensures place { IfOk result (IsInArray self.new) }
         ensures len { array_len self.new ≡ array_len self.old }
         ensures failed { OnErr result (Reads (held self.old) (held self.new)
-            (R.remaining reader.old) (R.remaining reader.new) × HasNoLineEnd line_end (held self.new)
+            (R.remaining reader.old) (R.remaining reader.new) × HasNoEnd (quotes_in rules.now.span) rules.now.line_end within (held self.new)
             × (length (held self.new) < array_len self.new)) }
-        ensures halt { IfErr result (λ halt. IsHalt flushes (halt_fault halt)) }
+        ensures halt { IfErr result (λ halt. IsHalt rules.now.flushes (halt_fault halt)) }
         ensures flushed { Keeps (W.contents writer.old) (W.contents writer.new) }
     {
-        let found = self.find_line_end(line_end, flushes, reader, writer)?;
+        let found = self.find_line_end(rules, within, reader, writer)?;
         let len = self.held().len();
         match found {
             Some(len) => {
@@ -145,39 +149,44 @@ impl<'a> Input<'a> {
         start..self.start
     }
 
-    /// Reads until a byte that ends a line is held, and returns how many bytes stand before it. Returns `None` if
-    /// the array is full or the reader ends before that.
+    /// Reads until a byte that ends a line is held, and with it the record, and returns how many bytes stand before it. Returns
+    /// `None` if the array is full or the reader ends before that.
     ///
     /// # Errors
     ///
     /// Returns whether the first call that fails is a read or a flush. What was read before is held.
     fn find_line_end<R: Read, W: Write>(
         &mut self,
-        line_end: u8,
-        flushes: bool,
+        rules: &Rules,
+        within: Within,
         reader: &mut R,
         writer: &mut W,
     ) -> Result<Option<usize>, Halt>
         ensures read { Reads (held self.old) (held self.new)
             (R.remaining reader.old) (R.remaining reader.new) }
-        ensures found { IfOk result (FindsLineEnd line_end (held self.new)) }
+        ensures found { IfOk result (FindsEnd (quotes_in rules.now.span) rules.now.line_end within (held self.new)) }
         ensures end { IfOk result (λ found. IsNone found → length (held self.new) < array_len self.new
             → IsAtEnd (R.remaining reader.new)) }
-        ensures failed { OnErr result (HasNoLineEnd line_end (held self.new) × (length (held self.new) < array_len self.new)) }
+        ensures failed { OnErr result (HasNoEnd (quotes_in rules.now.span) rules.now.line_end within (held self.new)
+            × (length (held self.new) < array_len self.new)) }
         ensures len { array_len self.new ≡ array_len self.old }
-        ensures halt { IfErr result (λ halt. IsHalt flushes (halt_fault halt)) }
+        ensures halt { IfErr result (λ halt. IsHalt rules.now.flushes (halt_fault halt)) }
         ensures flushed { Keeps (W.contents writer.old) (W.contents writer.new) }
     {
+        let mut here = within;
         let mut searched = 0;
         'reads: loop {
-            match memchr(line_end, &self.held()[searched..]) {
-                Some(index) => return Ok(Some(searched + index)),
-                None => searched = self.held().len(),
+            let bytes = self.held();
+            let (end, after) = find_end(rules.quotes(), rules.line_end, here, bytes, searched);
+            if end < bytes.len() {
+                return Ok(Some(end));
             }
+            here = after;
+            searched = end;
             if searched == self.array.len() {
                 return Ok(None);
             }
-            flush_before_read(flushes, writer)?;
+            flush_before_read(rules.flushes, writer)?;
             let Ok(count) = self.read_more(reader) else {
                 return Err(Halt::Read);
             };

@@ -17,7 +17,7 @@
 #![tactic(auto)]
 
 mod capacities;
-mod csv;
+mod ends;
 mod fault;
 mod fields;
 mod halt;
@@ -28,6 +28,7 @@ mod list;
 mod message;
 mod number;
 mod quoting;
+mod records;
 pub mod rules;
 
 ghost use Rattle.std.specs.Prelude.{◌≡◌, ◌+◌, [], ◌<◌, ◌≤◌, length, true};
@@ -38,13 +39,14 @@ ghost use Rattle.regroup_lines.specs.Fault.{are_any, fault_of};
 ghost use Rattle.regroup_lines.specs.Fields.{SendsIfOk};
 ghost use Rattle.regroup_lines.specs.Input.{IsLong, PassesLong, array_len, held};
 ghost use Rattle.regroup_lines.specs.LineFaults.{line_fault_of};
-ghost use Rattle.regroup_lines.specs.Lines.{body_written, fault_named, fault_written, input_end, lenient, numbers_replaced, passes_mark, place_written, span_after, text_named, text_written, with_span};
+ghost use Rattle.regroup_lines.specs.Lines.{body_written, fault_named, fault_written, lenient, line_after, long_fault, numbers_replaced, passes_mark, place_written, quotes_in, record_named, record_written, text_named, text_written};
+ghost use Rattle.regroup_lines.specs.Records.{after_text, line_reached};
 ghost use Rattle.regroup_lines.specs.Messages.{fault_message, messages};
 ghost use Rattle.regroup_lines.specs.Places.{place_of};
 ghost use Rattle.regroup_lines.specs.declared.rules.Span.TheVariants.{Trimmed};
-ghost use Rattle.regroup_lines.specs.Sending.{EndsInput, Names, Regroups, RegroupsNaming, SendsLine, SendsTold};
+ghost use Rattle.regroup_lines.specs.Sending.{Names, Regroups, RegroupsNaming, SendsLine, SendsTold};
 
-use crate::csv::regroup_csv;
+use crate::ends::without_end;
 pub use crate::fault::{FieldCount, RegroupFault};
 use crate::fields::{regroup_fields, send_bytes};
 use crate::input::{Input, Piece};
@@ -53,8 +55,9 @@ pub use crate::list::field_list;
 pub use crate::message::{MAX_FAULT_MESSAGE_LEN, MAX_NAME_LEN, fault_message};
 use crate::number::{Around, Number};
 pub use crate::quoting::{MAX_QUOTED_LEN, quoted, shown};
+use crate::records::{Within, is_open, line_reached, next_line};
 use crate::rules::{MARK, trim};
-pub use crate::rules::{FieldRange, Fields, Invalid, Reading, Records, Rules, Span, Within};
+pub use crate::rules::{FieldRange, Fields, Invalid, Reading, Rules, Span};
 use num_format::Format;
 use num_format::to_formatted_string::write_whole;
 use std::io;
@@ -82,7 +85,7 @@ const LENIENT: Rules = Rules {
 /// What was regrouped, where no fault was returned.
 #[derive(Clone, Copy, Debug, PartialEq, Eq)]
 pub struct Summary {
-    /// The number of lines.
+    /// The number of lines, or of records.
     pub lines: u64,
     /// Whether a message named the fault of a line.
     pub has_faults: bool,
@@ -123,7 +126,7 @@ pub fn regroup_lines<R: Read, W: Write, F: Format, G: Format>(
     from: &F,
     to: &G,
 ) -> Result<u64, RegroupFault>
-    ensures { Regroups lenient MAX_LINES (F.answers from.now) (G.answers to.now)
+    ensures { Regroups lenient 1000000 (F.answers from.now) (G.answers to.now)
         (R.remaining r.old) (R.remaining r.new) (W.contents w.old) (W.contents w.new)
         (result_map_both (λ count. count) fault_of result) }
 {
@@ -170,7 +173,8 @@ pub fn regroup_lines<R: Read, W: Write, F: Format, G: Format>(
 /// Returns the first fault, of those of [`regroup_lines`], that is not passed on.
 /// [`TooMany`](RegroupFault::TooMany) is that a byte follows the last of these lines, and
 /// [`Report`](RegroupFault::Report) that a write to `e` failed. The line of that message is not sent.
-/// [`Unclosed`](RegroupFault::Unclosed) is that the input ends inside quotes: all lines were sent, since only the end shows it.
+/// [`Unclosed`](RegroupFault::Unclosed) is that a record has quotes that are not closed where the input ends, or in as many bytes as a record
+/// may have.
 /// [`Flush`](RegroupFault::Flush) is that a flush of `w` before a read failed, if the rules ask for flushes: as on `Read`,
 /// `w` received exactly the lines before, and what was read of a long line that is passed on.
 /// Where fields are chosen, [`FewFields`](RegroupFault::FewFields) is that a line has too few, and
@@ -193,69 +197,95 @@ pub fn regroup_at_most<R: Read, W: Write, E: Write, F: Format, G: Format>(
 {
     let mut input = Input::new(buffer);
     let mut has_faults = false;
-    let mut span = rules.span;
+    let mut number = 1;
     for count in 0..most {
-        let lines = count + 1;
-        let now = Rules { span, ..*rules };
-        match input.next_piece(rules.line_end, rules.flushes, r, w)? {
+        match input.next_piece(rules, Within::Start, r, w)? {
             Piece::Line(place) => {
                 let text = input.bytes(place);
-                has_faults |= regroup_line(&now, name, text, lines, w, e, from, to)?;
-                span.pass_line(rules.line_end, text);
+                has_faults |= regroup_line(rules, name, text, number, w, e, from, to)?;
+                number = line_after(rules, number, text);
             }
             Piece::Rest(place) => {
                 let rest = input.bytes(place);
                 if rest.is_empty() {
-                    return finish(rules, span, name, count, has_faults, e, from);
+                    return Ok(Summary {
+                        lines: count,
+                        has_faults,
+                    });
                 }
-                has_faults |= regroup_line(&now, name, rest, lines, w, e, from, to)?;
-                span.pass_line(rules.line_end, rest);
-                return finish(rules, span, name, lines, has_faults, e, from);
+                has_faults |= regroup_last(rules, name, rest, number, w, e, from, to)?;
+                let lines = count + 1;
+                return Ok(Summary { lines, has_faults });
             }
             Piece::TooLong => {
-                let fault = RegroupFault::TooLong(lines, rules.max_line_len);
+                let fault = long_fault(rules, number, &input);
                 if !rules.invalid.passes() {
                     return Err(fault);
                 }
                 has_faults |= name_fault(rules, name, &fault, e, from)?;
-                if pass_long(rules, &mut input, &mut span, r, w)? {
-                    return finish(rules, span, name, lines, has_faults, e, from);
+                if pass_long(rules, &mut number, &mut input, r, w)? {
+                    let lines = count + 1;
+                    return Ok(Summary { lines, has_faults });
                 }
             }
         }
     }
     if input.is_at_end(rules.flushes, r, w)? {
-        finish(rules, span, name, most, has_faults, e, from)
+        Ok(Summary {
+            lines: most,
+            has_faults,
+        })
     } else {
         Err(RegroupFault::TooMany)
     }
 }
 
-/// Returns what was regrouped, where an input of so many lines ends. A quote that no other one closes is at fault, and the
-/// message that names it is sent if the rules say so.
-fn finish<'a, E: Write, F: Format>(
-    rules: &Rules<'a>,
-    span: Span<'a>,
+/// Returns the number of the line after a record that begins in the line of this number.
+#[inline]
+fn line_after(rules: &Rules, number: u64, text: &[u8]) -> u64
+    ensures { result ≡ line_after rules.now number text.now }
+{
+    next_line(line_reached(rules, number, text))
+}
+
+/// Returns the fault of a line or a record that is too long: quotes that its first bytes do not close.
+#[cold]
+fn long_fault(rules: &Rules, number: u64, input: &Input<'_>) -> RegroupFault
+    requires { length (held input.now) ≤ rules.now.max_line_len + 1 }
+    ensures { fault_of result ≡ long_fault rules.now number (held input.now) }
+{
+    if is_open(rules, input.held()) {
+        RegroupFault::Unclosed(number)
+    } else {
+        RegroupFault::TooLong(number, rules.max_line_len)
+    }
+}
+
+/// Sends what is written in place of the last bytes of an input, as [`regroup_line`] does. It is a fault that they end inside quotes: then
+/// the last of them may be the byte that ends a line.
+#[cold]
+#[inline(never)]
+fn regroup_last<'a, W: Write, E: Write, F: Format, G: Format>(
+    rules: &Rules,
     name: &str,
-    lines: u64,
-    has_faults: bool,
+    text: &'a [u8],
+    number: u64,
+    w: &mut W,
     e: &mut E,
     from: &F,
-) -> Result<Summary, RegroupFault>
-    ensures { EndsInput (input_end (with_span rules.now span.entry) lines) has_faults
-        (messages name.now rules.now.reading (F.answers from.now) (input_end (with_span rules.now span.entry) lines).named)
-        (E.contents e.old) (E.contents e.new) (result_map_both (λ summary. summary) fault_of result) }
+    to: &G,
+) -> Result<bool, LineFault<'a>>
+    ensures { SendsTold rules.now.line_end (record_written rules.now (F.answers from.now) (G.answers to.now) number text.now)
+        (messages name.now rules.now.reading (F.answers from.now) (record_named rules.now (F.answers from.now) (G.answers to.now) number text.now))
+        (are_any (record_named rules.now (F.answers from.now) (G.answers to.now) number text.now))
+        (W.contents w.old) (W.contents w.new) (E.contents e.old) (E.contents e.new) (result_map_both (λ told. told) line_fault_of result) }
 {
-    if !span.is_inside() {
-        return Ok(Summary { lines, has_faults });
+    if is_open(rules, text) {
+        let fault = LineFault::Unclosed(number);
+        let text = without_end(rules.line_end, text);
+        return pass_fault(rules, name, fault, text, w, e, from);
     }
-    let fault = RegroupFault::Unclosed(lines);
-    if !rules.invalid.passes() {
-        return Err(fault);
-    }
-    let is_named = name_fault(rules, name, &fault, e, from)?;
-    let has_faults = has_faults || is_named;
-    Ok(Summary { lines, has_faults })
+    regroup_line(rules, name, text, number, w, e, from, to)
 }
 
 /// Sends what is written in place of the text of a line, and the byte that ends it, and before them the message that names
@@ -338,39 +368,40 @@ fn name_fault<E: Write, F: Format>(
     }
 }
 
-/// Sends a line that is too long, piece by piece: the bytes that are held, which it begins with, and those up to the byte
-/// that ends it or the end of the input, and that byte. Returns whether the input ended.
-fn pass_long<'a, R: Read, W: Write>(
+/// Sends a record that is too long, piece by piece: the bytes that are held, which it begins with, and those up to the byte
+/// that ends it or the end of the input, and that byte. Returns whether the input ended. The number of its line goes on to that
+/// of the next record.
+fn pass_long<R: Read, W: Write>(
     rules: &Rules,
+    number: &mut u64,
     input: &mut Input<'_>,
-    span: &mut Span<'a>,
     r: &mut R,
     w: &mut W,
 ) -> Result<bool, RegroupFault>
-    requires long { IsLong rules.now.line_end (array_len input.old) (held input.old) }
+    requires long { IsLong (quotes_in rules.now.span) rules.now.line_end (array_len input.old) (held input.old) }
     requires some { 0 < array_len input.old }
-    ensures passes { PassesLong span.old span.new rules.now.line_end (array_len input.old) rules.now.flushes (held input.old) (held input.new) (R.remaining r.old) (R.remaining r.new)
+    ensures passes { PassesLong number.old number.new (quotes_in rules.now.span) rules.now.line_end (array_len input.old) rules.now.flushes (held input.old) (held input.new) (R.remaining r.old) (R.remaining r.new)
         (W.contents w.old) (W.contents w.new) (result_map_both (λ ended. ended) fault_of result) }
     ensures len { array_len input.new ≡ array_len input.old }
 {
-    send_held(rules.line_end, input, span, w)?;
+    let mut within = Within::Start;
+    send_held(rules, &mut within, number, input, w)?;
     for _ in 0..u64::MAX {
-        match input.next_piece(rules.line_end, rules.flushes, r, w) {
+        match input.next_piece(rules, within, r, w) {
             Ok(Piece::Line(place)) => {
                 let text = input.bytes(place);
                 pass_on(text, rules.line_end, w).or(Err(RegroupFault::Write))?;
-                span.pass_line(rules.line_end, text);
+                *number = line_after(rules, *number, text);
                 return Ok(false);
             }
             Ok(Piece::Rest(place)) => {
                 let text = input.bytes(place);
                 pass_on(text, rules.line_end, w).or(Err(RegroupFault::Write))?;
-                span.pass_line(rules.line_end, text);
                 return Ok(true);
             }
-            Ok(Piece::TooLong) => send_held(rules.line_end, input, span, w)?,
+            Ok(Piece::TooLong) => send_held(rules, &mut within, number, input, w)?,
             Err(halt) => {
-                send_held(rules.line_end, input, span, w)?;
+                send_held(rules, &mut within, number, input, w)?;
                 return Err(halt.into());
             }
         }
@@ -378,23 +409,27 @@ fn pass_long<'a, R: Read, W: Write>(
     Err(RegroupFault::TooMany)
 }
 
-/// Sends the bytes that are held.
-fn send_held<'a, W: Write>(
-    line_end: u8,
+/// Sends the bytes that are held. Where the next byte is `within` a record goes on to the byte after them, and the number of the line to
+/// that in which they end.
+fn send_held<W: Write>(
+    rules: &Rules,
+    within: &mut Within,
+    number: &mut u64,
     input: &mut Input<'_>,
-    span: &mut Span<'a>,
     w: &mut W,
 ) -> Result<(), RegroupFault>
     ensures sent { SendsIfOk (Ok (held input.old)) (W.contents w.old) (W.contents w.new)
         (result_map_both (λ sent. sent) fault_of result) }
     ensures none_left { held input.new ≡ [] }
     ensures len { array_len input.new ≡ array_len input.old }
-    ensures span { span.new ≡ span_after line_end span.old (held input.old) }
+    ensures within { within.new ≡ after_text (quotes_in rules.now.span) within.old (held input.old) }
+    ensures number { number.new ≡ line_reached (quotes_in rules.now.span) rules.now.line_end number.old (held input.old) }
 {
     let len = input.held().len();
     let place = input.take(len);
     let bytes = input.bytes(place);
-    *span = span.after(line_end, bytes);
+    *within = within.after(rules, bytes);
+    *number = line_reached(rules, *number, bytes);
     match write_whole(bytes, w) {
         Ok(_) => Ok(()),
         Err(_) => Err(RegroupFault::Write),
@@ -482,7 +517,6 @@ fn regroup_span<'a, W: Write, F: Format, G: Format>(
 {
     match &rules.span {
         Span::Fields(fields) => regroup_fields(rules, fields, text, number, w, from, to),
-        Span::Csv(records) => regroup_csv(rules, records, text, number, w, from, to),
         _ => regroup_place(rules, text, 0..text.len(), number, w, from, to),
     }
 }

@@ -19,6 +19,8 @@ pub(crate) enum LineFault<'a> {
     NotAField(u64, u64, &'a [u8]),
     /// The line of this number has too few fields.
     FewFields(u64, FieldCount),
+    /// In the record that begins in the line of this number, a quote is not closed.
+    Unclosed(u64),
     /// A write failed.
     Write,
     /// A write of a message that names a fault failed.
@@ -36,6 +38,7 @@ impl<'a> LineFault<'a> {
             LineFault::NotANumber(number, text) => LineFault::NotAField(number, field, text),
             LineFault::NotAField(..)
             | LineFault::FewFields(..)
+            | LineFault::Unclosed(_)
             | LineFault::Write
             | LineFault::Report => self,
         }
@@ -54,6 +57,7 @@ impl<'a> From<LineFault<'a>> for RegroupFault {
             LineFault::NotANumber(number, text) => text_fault(number, text),
             LineFault::NotAField(number, field, text) => field_fault(number, field, text),
             LineFault::FewFields(number, count) => RegroupFault::FewFields(number, count),
+            LineFault::Unclosed(number) => RegroupFault::Unclosed(number),
             LineFault::Write => RegroupFault::Write,
             LineFault::Report => RegroupFault::Report,
         }

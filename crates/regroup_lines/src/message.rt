@@ -69,13 +69,11 @@ pub fn fault_message<F: Format>(
             field_message(name, *number, *field, "not UTF-8")
         }
         RegroupFault::Line(number, error) => {
-            let text = kept_in(error);
-            let refused = refused_text(reading, text, from);
+            let refused = refused_text(reading, kept_in(error), from);
             line_message(name, *number, refused.as_str())
         }
         RegroupFault::Field(number, field, error) => {
-            let text = kept_in(error);
-            let refused = refused_text(reading, text, from);
+            let refused = refused_text(reading, kept_in(error), from);
             field_message(name, *number, *field, refused.as_str())
         }
         RegroupFault::Unclosed(number) => line_message(name, *number, "unclosed quote"),

@@ -75,30 +75,6 @@ impl Number {
         }
     }
 
-    /// Sends the bytes of a field around the number, and its text between them.
-    ///
-    /// # Errors
-    ///
-    /// Returns an error if a write fails, also where it was interrupted, or writes no bytes.
-    pub(crate) fn send<W: Write, G: Format>(
-        &self,
-        around: &Around<'_>,
-        w: &mut W,
-        to: &G,
-    ) -> Result<(), Unsent>
-        ensures { Sends result (W.contents w.old) (W.contents w.new)
-            (around.now.before.now ++ (number_text (G.answers to.now) self.now ++ around.now.after.now)) }
-    {
-        match self {
-            Number::Whole(value) => send_between(around, Buffer::of(value, to).as_str(), w),
-            Number::Decimal(value) => send_between(
-                around,
-                DecimalBuffer::of(value, to).as_str(),
-                w,
-            ),
-        }
-    }
-
     /// Sends the bytes of a line around the number, its text between them, and the byte that ends it.
     ///
     /// # Errors

@@ -1,11 +1,11 @@
 //! How the lines of an input are regrouped, and where the numbers of a line are.
 ghost use Rattle.std.specs.Prelude.{◌≡◌, ◌<◌, ◌≤◌, [], ◌∷◌, length, IfSome};
-ghost use Rattle.regroup_lines.specs.Ended.{ended_by};
-ghost use Rattle.regroup_lines.specs.Lines.{is_inside, passes, passes_mark, span_after};
+ghost use Rattle.regroup_lines.specs.Lines.{passes, passes_mark, quotes_in, quotes_of};
 ghost use Rattle.regroup_lines.specs.Lists.{one_field};
 ghost use Rattle.regroup_lines.specs.Places.{are_enough, field_count, is_at_most, is_chosen, is_chosen_from, is_enough, is_in_range, place_of, trimmed, wanted, wanted_of};
 
 use crate::fault::FieldCount;
+use crate::records::QUOTE;
 use std::ops::Range;
 
 /// The bytes of a byte order mark, the character U+FEFF.
@@ -46,36 +46,16 @@ pub struct FieldRange {
     pub last: Option<u64>,
 }
 
-/// The fields of a line that have a number: those that are in any of the ranges, in any order.
+/// The fields of a line, or of a record of RFC 4180, that have a number: those that are in any of the ranges, in any order.
 #[derive(Clone, Copy, Debug, PartialEq, Eq)]
 pub struct Fields<'a> {
     /// The ranges.
     pub list: &'a [FieldRange],
     /// The byte between two fields.
     pub delimiter: u8,
-}
-
-/// Where a line begins in a record of RFC 4180: a record has more than one line where a byte that ends lines is in quotes.
-#[derive(Clone, Copy, Debug, PartialEq, Eq)]
-pub struct Within {
-    /// Whether the line begins inside quotes.
-    pub inside: bool,
-    /// How many fields of the record end before the line.
-    pub before: u64,
-}
-
-/// The records of RFC 4180 in which some fields have a number. A field may be in quotes, and have delimiters, newlines and doubled
-/// quotes there. The number is read between the quotes, and has none. It is written in quotes if it was in quotes, or if a field with
-/// its text has to be: all other bytes are passed on.
-///
-/// A chosen field that begins in a line and does not end in it is at fault. The rest of a field that an earlier line began is
-/// passed on. A record needs the fields that are chosen.
-#[derive(Clone, Copy, Debug, PartialEq, Eq)]
-pub struct Records<'a> {
-    /// The fields.
-    pub fields: Fields<'a>,
-    /// Where the first line begins.
-    pub within: Within,
+    /// Whether fields may be in quotes, as RFC 4180 has them, and have delimiters, line ends and doubled quotes there. A quote that is
+    /// not the first byte of a field opens none.
+    pub quotes: bool,
 }
 
 /// Where the numbers of a line are. ASCII whitespace around a number, as a carriage return, is not part of it, nor is a
@@ -86,10 +66,8 @@ pub enum Span<'a> {
     Line,
     /// The line without the ASCII whitespace at its ends.
     Trimmed,
-    /// Each of these fields without the ASCII whitespace at its ends.
+    /// Each of these fields without the quotes around it and the ASCII whitespace at its ends.
     Fields(Fields<'a>),
-    /// Each of these fields of records of RFC 4180, without the quotes around it and the ASCII whitespace at its ends.
-    Csv(Records<'a>),
 }
 
 /// How the lines of an input are regrouped.
@@ -99,7 +77,7 @@ pub struct Rules<'a> {
     pub span: Span<'a>,
     /// How the numbers are read.
     pub reading: Reading,
-    /// How many lines at the start are passed on as they are.
+    /// How many lines at the start are passed on as they are, and each record that begins in one of them.
     pub header_lines: u64,
     /// Whether a place is passed on as it is where a number has no byte.
     pub passes_empty: bool,
@@ -107,7 +85,7 @@ pub struct Rules<'a> {
     pub invalid: Invalid,
     /// The byte that ends a line, as a newline or NUL.
     pub line_end: u8,
-    /// The most bytes of a line, without the byte that ends it.
+    /// The most bytes of a line, or of a record, without the byte that ends it.
     pub max_line_len: u32,
     /// Whether the writer is flushed before each read of the input.
     pub flushes: bool,
@@ -132,45 +110,20 @@ impl Span<'_> {
     {
         match self {
             Span::Line => false,
-            Span::Trimmed | Span::Fields(_) | Span::Csv(_) => number == 1
-                && text.starts_with(&MARK),
+            Span::Trimmed | Span::Fields(_) => number == 1 && text.starts_with(&MARK),
         }
     }
 }
 
-impl<'a> Span<'a> {
-    /// Returns where the numbers are of what follows a text.
-    pub(crate) fn after(self, line_end: u8, text: &[u8]) -> Span<'a>
-        ensures { result ≡ span_after line_end self.entry text.now }
-    {
-        match self {
-            Span::Csv(records) => {
-                let Records { fields, within } = records;
-                let within = within.after(fields.delimiter, line_end, text);
-                Span::Csv(Records { fields, within })
-            }
-            Span::Line | Span::Trimmed | Span::Fields(_) => self,
-        }
-    }
-
-    /// Goes on to what follows a text and the byte that ends its line.
+impl Rules<'_> {
+    /// Returns the delimiter of the fields that may be in quotes, if they may.
     #[inline]
-    pub(crate) fn pass_line(&mut self, line_end: u8, text: &[u8])
-        ensures { self.new ≡ span_after line_end self.old (ended_by line_end text.now) }
+    pub(crate) fn quotes(&self) -> Option<u8>
+        ensures { result ≡ quotes_in self.now.span }
     {
-        match self {
-            Span::Csv(_) => *self = self.after(line_end, text).after(line_end, &[line_end]),
-            Span::Line | Span::Trimmed | Span::Fields(_) => {}
-        }
-    }
-
-    /// Returns whether a line begins inside quotes.
-    pub(crate) fn is_inside(self) -> bool
-        ensures { result ≡ is_inside self.entry }
-    {
-        match self {
-            Span::Csv(records) => records.within.inside,
-            Span::Line | Span::Trimmed | Span::Fields(_) => false,
+        match &self.span {
+            Span::Fields(fields) => fields.quotes(),
+            Span::Line | Span::Trimmed => None,
         }
     }
 }
@@ -209,6 +162,14 @@ impl FieldRange {
 }
 
 impl Fields<'_> {
+    /// Returns the delimiter, if fields may be in quotes and it is no quote.
+    #[inline]
+    pub(crate) fn quotes(&self) -> Option<u8>
+        ensures { result ≡ quotes_of self.now }
+    {
+        (self.quotes && self.delimiter != QUOTE).then_some(self.delimiter)
+    }
+
     /// Returns the number of the field, if exactly one has a number.
     pub(crate) fn only(&self) -> Option<u64>
         ensures { IfSome result (λ number. (0 < number) × (self.now.list.now ≡ one_field number ∷ [])) }

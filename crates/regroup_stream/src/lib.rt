@@ -6,7 +6,7 @@
 //! | Status | Standard output | Standard error |
 //! |---|---|---|
 //! | 0 | each line, or one at fault as it is | nothing, or with [`Invalid::Warn`] the message of each line at fault |
-//! | 1 | the lines before the one at fault, or all where a quote is not closed; or nothing of an input that cannot be opened, or is the output | its message |
+//! | 1 | the lines before the one at fault; or nothing of an input that cannot be opened, or is the output | its message |
 //! | 1 | with [`Invalid::Fail`] each line, or one at fault as it is | the message of each line at fault |
 //! | 2 | nothing | what is wrong with the words |
 //! | 3 | the lines before a read or a write failed | which, and why if it is known, after the messages of those lines |
@@ -33,9 +33,7 @@ pub use crate::files::FileFault;
 use crate::watched::Watched;
 pub use crate::words::{Ambiguity, Formats, Misuse, Source, TRY_HELP, formats_named};
 use num_format::CustomFormat;
-pub use regroup_lines::{
-    FieldRange, Fields, Invalid, Reading, Records, Rules, Span, Within, field_list,
-};
+pub use regroup_lines::{FieldRange, Fields, Invalid, Reading, Rules, Span, field_list};
 use regroup_lines::{RegroupFault, Summary, fault_message, regroup_at_most};
 use std::io::{BufWriter, ErrorKind, Read, Write};
 
@@ -62,7 +60,6 @@ pub const CLOSED: u8 = 141;
 ///   is passed on as it is.
 /// - [`FAULTY`] (1): `out` received the lines before the first one at fault, and `err` its message and
 ///   a newline. Lines are numbered from 1. Or else, with [`Invalid::Fail`], as with `Warn` where a line is at fault.
-///   A quote that is not closed is at fault too: then `out` received each line.
 /// - [`FAILED`] (3): a read failed, also one that was interrupted, a write to `out` or a flush of it, and `err` received
 ///   a message with the kind of the error if it is known, after those of lines that were passed on. `out` received the
 ///   lines before that, and what was read of a long line that is passed on, or a prefix of these where a write failed. So

@@ -1,15 +1,13 @@
 //! Fields of records of RFC 4180, as the kit's `csv` reads them of what is regrouped and of what is written.
 //!
 //! That library loses empty lines, a byte order mark and which fields were in quotes, so all of these may be there: it
-//! reads both texts alike. It ends a record at a carriage return without a newline after it, and takes a quote as a byte of
-//! its field where the field has a byte before it. RFC 4180 has neither, and no text here has.
+//! reads both texts alike. It ends a record at a carriage return without a newline after it, as RFC 4180 does not, and no
+//! text here has one outside quotes. A quote that is not the first byte of a field is a byte like others.
 
 use csv::{ByteRecord, ReaderBuilder};
 use num_format::Locale;
 use num_format::parsing::FromFormattedStr;
-use regroup_lines::{
-    FieldRange, Fields, Invalid, Reading, Records, Rules, Span, Within, regroup_at_most,
-};
+use regroup_lines::{FieldRange, Fields, Invalid, Reading, Rules, Span, regroup_at_most};
 use std::alloc::{AllocError, Global};
 use std::io;
 use std::process::Abort;
@@ -29,15 +27,10 @@ const CHOSEN: &[FieldRange] = &[
 
 /// The rules for these fields. Lines at fault, as empty ones, are passed on.
 const RULES: Rules = Rules {
-    span: Span::Csv(Records {
-        fields: Fields {
-            list: CHOSEN,
-            delimiter: b',',
-        },
-        within: Within {
-            inside: false,
-            before: 0,
-        },
+    span: Span::Fields(Fields {
+        list: CHOSEN,
+        delimiter: b',',
+        quotes: true,
     }),
     reading: Reading::Strict,
     header_lines: 0,
@@ -60,6 +53,7 @@ const TEXTS: &[&str] = &[
     "\"\"\"\",\"-1,000\",\"\"\"a\"\",\"\"b\"\"\",\"2,000\"\n",
     "\"\n\",1000,\"\r\n,\n\n\",2000,\"\n\",9,9\n",
     "\",\",1000,\"\"\"\n\"\"\",2000\n\na,3000,\n",
+    "5\" disk,1000,6\" disk,2000\na \"b,\"1,000\",c\"d,9\n",
     "a\n1000,1000\n\"\",1000,\"\",2000,\"3,000\",\"a\n\"\n",
 ];
 
@@ -76,7 +70,7 @@ const QUOTED: &[&[u8]] = &[
 ];
 
 /// What a field without quotes has.
-const BARE: &[&[u8]] = &[b"a", b";", b" ", b"7", b"\xE2\x82\xAC"];
+const BARE: &[&[u8]] = &[b"a", b";", b" ", b"7", b"\xE2\x82\xAC", b"a\""];
 
 /// The chosen fields.
 const NUMBERS: &[&[u8]] = &[

@@ -1,13 +1,12 @@
 use Rattle.std.proofs.Common.{◌≡◌, ◌+◌}
 use Rattle.regroup_lines.specs.Input.{array_len, held}
-use Rattle.regroup_lines.specs.Lines.{with_span}
 use Rattle.regroup_lines.proofs.ProgressLemmas.{Progress}
 use Rattle.regroup_lines.proofs.regroup_at_most.Given as goal
 
 -- so many lines were sent, and the array has one byte more than a line may have
 abbrev pub invariant-loop-count : goal.invariant-loop-count
 invariant-loop-count g l =
-    Progress l.rules.span (with_span l.rules l.span) l.name l.most (g.F.Format.answers l.from) (g.G.Format.answers l.to) l.count l.has_faults (held l.input)
+    Progress l.rules l.name l.most (g.F.Format.answers l.from) (g.G.Format.answers l.to) l.count l.number l.has_faults (held l.input)
     (g.R.Read.remaining l.fn.r) (g.R.Read.remaining l.r) (g.W.Write.contents l.fn.w) (g.W.Write.contents l.w)
     (g.E.Write.contents l.fn.e) (g.E.Write.contents l.e)
     × (array_len l.input ≡ l.rules.max_line_len + 1)

@@ -1,14 +1,13 @@
-use Rattle.std.proofs.Common.{arith}
-use Rattle.regroup_lines.proofs.PlaceLemmas.{end-bound, end-found, end-last}
+use Rattle.regroup_lines.specs.Lines.{quotes_of}
+use Rattle.regroup_lines.proofs.RecordLemmas.{split-last, split-next}
 use Rattle.regroup_lines.proofs.fields.field_end.Goals as goal
 
-pub returns-in-Some-clause-more : goal.returns-in-Some-clause-more
-returns-in-Some-clause-more c more = end-found c.args.delimiter c.args.text.now c.args.start c.memchr.result c.requires c.memchr.ensures c.in-Some.len c.in-Some.is
+pub returns-clause-more : goal.returns-clause-more
+returns-clause-more c low =
+    split-next (quotes_of c.args.fields.now) c.args.fields.now.delimiter c.quotes.result c.quotes.ensures c.args.text.now c.args.start c.find_end.result.0 c.find_end.result.1
+    c.find_end.ensures.ordered c.find_end.ensures.none c.find_end.ensures.after low (c.find_end.ensures.found low)
 
-pub returns-in-Some-clause-last : goal.returns-in-Some-clause-last
-returns-in-Some-clause-last c last =
-    let bound = end-bound c.args.delimiter c.args.text.now c.args.start c.memchr.result c.requires c.memchr.ensures c.in-Some.len c.in-Some.is in
-    absurd (omega (arith, bound, last))
-
-pub returns-in-None-clause-last : goal.returns-in-None-clause-last
-returns-in-None-clause-last c last = end-last c.args.delimiter c.args.text.now c.args.start c.memchr.result c.requires c.memchr.ensures c.in-None.is
+pub returns-clause-last : goal.returns-clause-last
+returns-clause-last c last =
+    split-last (quotes_of c.args.fields.now) c.args.fields.now.delimiter c.quotes.result c.quotes.ensures c.args.text.now c.args.start c.find_end.result.0 c.find_end.result.1
+    c.find_end.ensures.ordered c.find_end.ensures.none c.find_end.ensures.after last

@@ -23,7 +23,7 @@ returns-in-Line g c =
     rw c.in-Line.is
     (c.line_message-in-Line.ensures
     ∙ ap (λ (t : List ℕ). line_message c.args.name.now c.in-Line.number t) (c.as_str-in-Line.ensures.value ∙ c.refused_text-refused.ensures)
-    ∙ ap (λ (t : List ℕ). line_message c.args.name.now c.in-Line.number (refused_text c.args.reading from t)) c.kept_in-text.ensures)
+    ∙ ap (λ (t : List ℕ). line_message c.args.name.now c.in-Line.number (refused_text c.args.reading from t)) c.kept_in.ensures)
 
 pub returns-in-Field : goal.returns-in-Field
 returns-in-Field g c =
@@ -31,4 +31,4 @@ returns-in-Field g c =
     rw c.in-Field.is
     (c.field_message-in-Field.ensures
     ∙ ap (λ (t : List ℕ). field_message c.args.name.now c.in-Field.number c.in-Field.field t) (c.as_str-in-Field.ensures.value ∙ c.refused_text-refused-in-Field.ensures)
-    ∙ ap (λ (t : List ℕ). field_message c.args.name.now c.in-Field.number c.in-Field.field (refused_text c.args.reading from t)) c.kept_in-text-in-Field.ensures)
+    ∙ ap (λ (t : List ℕ). field_message c.args.name.now c.in-Field.number c.in-Field.field (refused_text c.args.reading from t)) c.kept_in-in-Field.ensures)

@@ -1,7 +1,7 @@
 use Rattle.std.proofs.Common.{◌≡◌, ◌≤◌, ◌+◌, take}
 use Rattle.arrayvec.specs.ArrayVec.{array_vec_len}
 use Rattle.regroup_lines.specs.Csv.{doubled}
-use Rattle.regroup_lines.proofs.csv.doubled.Given as goal
+use Rattle.regroup_lines.proofs.fields.doubled.Given as goal
 
 -- the bytes so far
 abbrev pub invariant-loop-byte : goal.invariant-loop-byte

@@ -1,7 +1,7 @@
 use Rattle.std.proofs.Common.{take}
 use Rattle.std.specs.List.{flat_map}
 use Rattle.std.specs.Io.KnownBytes.{Appends}
-use Rattle.regroup_lines.proofs.csv.send_all.Given as goal
+use Rattle.regroup_lines.proofs.fields.send_all.Given as goal
 
 -- the parts so far were sent
 abbrev pub invariant-loop-part : goal.invariant-loop-part

@@ -1,7 +1,7 @@
 use Rattle.std.proofs.Common.{ℕ, ◌<◌, Bor, List, arith, length}
 use Rattle.std.proofs.lemmas.Result.{err_from_is_err_and}
 use Rattle.regroup_lines.proofs.CsvLemmas.{parts-unsent}
-use Rattle.regroup_lines.proofs.csv.send_all.Goals as goal
+use Rattle.regroup_lines.proofs.fields.send_all.Goals as goal
 
 pub returns-in_err-write_whole : goal.returns-in_err-write_whole
 returns-in_err-write_whole g c =

@@ -1,0 +1,8 @@
+use Rattle.std.proofs.Common.{◌≡◌, slice_range}
+use Rattle.regroup_lines.specs.Input.{HasNoEnd}
+use Rattle.regroup_lines.specs.Records.{after_text}
+use Rattle.regroup_lines.proofs.ends.find_past_quotes.Given as goal
+
+-- no byte so far ends the part
+abbrev pub invariant-loop-at : goal.invariant-loop-at
+invariant-loop-at l = HasNoEnd l.quotes l.end l.fn.within (slice_range l.bytes l.fn.start l.at) × (l.here ≡ after_text l.quotes l.fn.within (slice_range l.bytes l.fn.start l.at))

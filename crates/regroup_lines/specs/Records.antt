@@ -1,0 +1,73 @@
+-- Where lines, records of RFC 4180 and their fields end. A byte inside quotes ends none.
+use Rattle.std.specs.Prelude.{ℕ, ◌+◌, ◌-◌, ◌^◌, ◌==◌, min, Bool, false, true, ◌&&◌, ◌||◌, not, if◌then◌else◌, List, [], ◌∷◌, Option, None, Some}
+use Rattle.std.specs.List.{count_by, fold, onto_first}
+use Rattle.regroup_lines.specs.declared.records.Within.{Within}
+use Rattle.regroup_lines.specs.declared.records.Within.TheVariants.{Start, Bare, Quoted, Closing}
+
+-- whether a byte is a quote
+abbrev pub is_quote : ℕ → Bool
+is_quote b = b == 34
+
+-- whether the next byte is inside quotes
+abbrev pub is_inside : Within → Bool
+is_inside Start = false
+is_inside Bare = false
+is_inside Quoted = true
+is_inside Closing = false
+
+-- what follows a byte outside quotes that opens none
+abbrev pub after_bare : (delimiter : ℕ) → ℕ → Within
+after_bare delimiter b = if b == delimiter then Start else Bare
+
+-- what follows a byte: a quote opens a field only as its first byte, and closes it unless another quote follows
+abbrev pub after_byte : (delimiter : ℕ) → Within → ℕ → Within
+after_byte delimiter Start b = if is_quote b then Quoted else after_bare delimiter b
+after_byte delimiter Bare b = after_bare delimiter b
+after_byte delimiter Quoted b = if is_quote b then Closing else Quoted
+after_byte delimiter Closing b = if is_quote b then Quoted else after_bare delimiter b
+
+-- the same, by the delimiter of the fields that may be in quotes, if they may
+abbrev pub after_next : (quotes : Option ℕ) → Within → ℕ → Within
+after_next None within b = within
+after_next (Some delimiter) within b = after_byte delimiter within b
+
+-- what follows a text
+abbrev pub after_text : (quotes : Option ℕ) → Within → List ℕ → Within
+after_text None within text = within
+after_text (Some delimiter) within text = fold (after_byte delimiter) within text
+
+-- the parts of a text between bytes of this value that are not inside quotes
+abbrev pub split_at : (quotes : Option ℕ) → (end : ℕ) → Within → List ℕ → List (List ℕ)
+split_at quotes end within [] = [] ∷ []
+split_at quotes end within (b ∷ text) =
+    if (b == end) && not (is_inside within) then [] ∷ split_at quotes end Start text else onto_first b (split_at quotes end (after_next quotes within b) text)
+
+-- whether there is such a byte
+abbrev pub has_end : (quotes : Option ℕ) → (end : ℕ) → Within → List ℕ → Bool
+has_end quotes end within [] = false
+has_end quotes end within (b ∷ text) = ((b == end) && not (is_inside within)) || has_end quotes end (after_next quotes within b) text
+
+-- what follows a byte of several records
+abbrev pub after_record_byte : (quotes : Option ℕ) → (end : ℕ) → Within → ℕ → Within
+after_record_byte quotes end within b = if (b == end) && not (is_inside within) then Start else after_next quotes within b
+
+-- whether records end inside quotes
+abbrev pub is_left_open : (quotes : Option ℕ) → (end : ℕ) → List ℕ → Bool
+is_left_open quotes end text = is_inside (fold (after_record_byte quotes end) Start text)
+
+-- whether one record does
+abbrev pub is_open : (quotes : Option ℕ) → List ℕ → Bool
+is_open quotes text = is_inside (after_text quotes Start text)
+
+-- how many lines end inside a part of a record
+abbrev pub lines_ended : (quotes : Option ℕ) → (line_end : ℕ) → List ℕ → ℕ
+lines_ended None line_end text = 0
+lines_ended (Some delimiter) line_end text = count_by (λ b. b == line_end) text
+
+-- the number of the line in which a part of a record ends, by that of the line in which it begins: the numbers stop at the highest of a `u64`
+abbrev pub line_reached : (quotes : Option ℕ) → (line_end : ℕ) → ℕ → List ℕ → ℕ
+line_reached quotes line_end number text = min (number + lines_ended quotes line_end text) (2 ^ 64 - 1)
+
+-- the number of the next line
+abbrev pub next_line : ℕ → ℕ
+next_line number = min (number + 1) (2 ^ 64 - 1)

@@ -1,0 +1,137 @@
+//! Where records of RFC 4180 end: a byte in quotes ends no field and no record.
+ghost use Rattle.std.specs.Prelude.{◌≡◌, ◌==◌, ◌&&◌, not};
+ghost use Rattle.std.specs.List.{count_by};
+ghost use Rattle.regroup_lines.specs.Lines.{quotes_in};
+ghost use Rattle.regroup_lines.specs.Records.{after_bare, after_byte, after_next, after_text, is_inside, is_open, line_reached, next_line};
+
+use crate::rules::Rules;
+
+/// The byte around a field that has a delimiter, a newline or this byte.
+pub(crate) const QUOTE: u8 = b'"';
+
+/// Where the next byte of a record is. A quote opens a field only as its first byte.
+#[derive(Clone, Copy, Debug, PartialEq, Eq)]
+pub(crate) enum Within {
+    /// At the start of a field.
+    Start,
+    /// In a field, and not in quotes.
+    Bare,
+    /// In quotes.
+    Quoted,
+    /// After a quote in quotes. It closes the field, unless it is followed by another quote.
+    Closing,
+}
+
+impl Within {
+    /// Returns where the byte after a text is.
+    #[inline]
+    pub(crate) fn after(self, rules: &Rules, text: &[u8]) -> Within
+        ensures { result ≡ after_text (quotes_in rules.now.span) self text.now }
+    {
+        match rules.quotes() {
+            Some(delimiter) => self.after_bytes(delimiter, text),
+            None => self,
+        }
+    }
+
+    /// Returns the same where the fields between these delimiters may be in quotes.
+    fn after_bytes(self, delimiter: u8, text: &[u8]) -> Within
+        ensures { result ≡ after_text (Some delimiter) self text.now }
+    {
+        let mut within = self;
+        for byte in text {
+            within = within.after_byte(delimiter, *byte);
+        }
+        within
+    }
+
+    /// Returns where the byte after this one is, if the fields between these delimiters may be in quotes.
+    #[inline]
+    pub(crate) fn after_next(self, quotes: Option<u8>, byte: u8) -> Within
+        ensures { result ≡ after_next quotes self byte }
+    {
+        match quotes {
+            Some(delimiter) => self.after_byte(delimiter, byte),
+            None => self,
+        }
+    }
+
+    /// Returns whether this byte ends the field or the record.
+    #[inline]
+    pub(crate) fn is_end(self, end: u8, byte: u8) -> bool
+        ensures { result ≡ ((byte == end) && not (is_inside self)) }
+    {
+        byte == end && !self.is_inside()
+    }
+
+    /// Returns where the byte after this one is.
+    #[inline]
+    fn after_byte(self, delimiter: u8, byte: u8) -> Within
+        ensures { result ≡ after_byte delimiter self byte }
+    {
+        match self {
+            Within::Start if byte == QUOTE => Within::Quoted,
+            Within::Start | Within::Bare => after_bare(delimiter, byte),
+            Within::Quoted if byte == QUOTE => Within::Closing,
+            Within::Quoted => Within::Quoted,
+            Within::Closing if byte == QUOTE => Within::Quoted,
+            Within::Closing => after_bare(delimiter, byte),
+        }
+    }
+
+    /// Returns whether the byte is in quotes.
+    #[inline]
+    pub(crate) fn is_inside(self) -> bool
+        ensures { result ≡ is_inside self }
+    {
+        match self {
+            Within::Quoted => true,
+            Within::Start | Within::Bare | Within::Closing => false,
+        }
+    }
+}
+
+/// Returns where the byte after this one is, which opens no quotes.
+#[inline]
+fn after_bare(delimiter: u8, byte: u8) -> Within
+    ensures { result ≡ after_bare delimiter byte }
+{
+    if byte == delimiter {
+        Within::Start
+    } else {
+        Within::Bare
+    }
+}
+
+/// Returns whether a record has quotes that are not closed.
+pub(crate) fn is_open(rules: &Rules, text: &[u8]) -> bool
+    ensures { result ≡ is_open (quotes_in rules.now.span) text.now }
+{
+    Within::Start.after(rules, text).is_inside()
+}
+
+/// Returns the number of the line in which a part of a record ends, by that of the line in which it begins.
+#[inline]
+pub(crate) fn line_reached(rules: &Rules, number: u64, text: &[u8]) -> u64
+    ensures { result ≡ line_reached (quotes_in rules.now.span) rules.now.line_end number text.now }
+{
+    match rules.quotes() {
+        Some(_) => number.saturating_add(count_bytes(rules.line_end, text)),
+        None => number,
+    }
+}
+
+/// Returns how many bytes of a text have this value.
+fn count_bytes(value: u8, text: &[u8]) -> u64
+    ensures { result ≡ count_by (λ b. b == value) text.now }
+{
+    text.iter().filter(|byte| **byte == value).count() as u64
+}
+
+/// Returns the number of the next line.
+#[inline]
+pub(crate) fn next_line(number: u64) -> u64
+    ensures { result ≡ next_line number }
+{
+    number.saturating_add(1)
+}
