@@ -84,10 +84,10 @@ const USAGE: &str = "usage: regroup COMMAND ARGUMENT...";
 /// str::from_utf8(&out)                                    // Ok("1,000,000\n")
 /// ```
 pub fn run<O: Write, E: Write>(args: &[&str], out: &mut O, err: &mut E) -> u8
-    ensures status { result ≢ FAILED → result ≡ (output_of (texts args.now)).status }
-    ensures sent { result ≢ FAILED → IsSent (output_of (texts args.now))
+    ensures status { result ≢ 3 → result ≡ (output_of (texts args.now)).status }
+    ensures sent { result ≢ 3 → IsSent (output_of (texts args.now))
         (O.contents out.old) (O.contents out.new) (E.contents err.old) (E.contents err.new) }
-    ensures failed { result ≡ FAILED → StopsShort (output_of (texts args.now))
+    ensures failed { result ≡ 3 → StopsShort (output_of (texts args.now))
         (O.contents out.old) (O.contents out.new) (E.contents err.old) (E.contents err.new) }
 {
     try_run(args, out, err).unwrap_or(FAILED)

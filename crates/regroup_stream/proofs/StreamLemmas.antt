@@ -1,20 +1,18 @@
 -- What the program wrote, after a flush of standard output.
 use Rattle.std.proofs.Common.{◌≡◌, ℕ, true, List, [], Result, Ok, Err, refl, subst}
-use Rattle.std.specs.Prelude.{◌≢◌, Option}
+use Rattle.std.specs.Prelude.{Option}
 use Rattle.std.specs.Io.KnownBytes.{Keeps}
 use Rattle.std.proofs.KnownBytes.{Appends-kept}
 use Rattle.num_format.specs.Format.{FormatData}
 use Rattle.num_format.specs.Writing.{StopsWithin}
-use Rattle.regroup_lines.specs.Fault.{Fault, fault_of}
+use Rattle.regroup_lines.specs.Fault.{Fault}
 use Rattle.regroup_lines.specs.Fault.Fault.{TooMany, TooLong, FewFields, Read, NotText, FieldNotText, Line, Field, Unclosed, Write, Report, Flush}
 use Rattle.regroup_lines.specs.Lines.{Regrouped}
 use Rattle.regroup_lines.specs.Sending.{ReceivesPrefix, RegroupsNaming, Sends}
 use Rattle.regroup_lines.specs.declared.Summary.{Summary}
-use Rattle.regroup_lines.specs.declared.fault.RegroupFault.{RegroupFault}
-use Rattle.regroup_lines.specs.declared.fault.RegroupFault.TheVariants as fault
 use Rattle.regroup_lines.specs.declared.rules.Rules.{Rules}
 use Rattle.regroup_stream.specs.Ending.{End}
-use Rattle.regroup_stream.specs.Stream.{IsEndOf, RegroupsAll, is_of_line, is_written, most_lines}
+use Rattle.regroup_stream.specs.Stream.{IsEndOf, RegroupsAll, is_written, most_lines}
 
 -- what a writer received, after a flush
 StopsWithin-kept : (a b c : Option (List ℕ)) (text : List ℕ) → StopsWithin a b text → Keeps b c → StopsWithin a c text
@@ -76,18 +74,3 @@ module _ (rules : Rules) (name : List ℕ) (from to : FormatData) (q r s a b c d
     is = is;
     flushed = empty;
   }
-
--- a fault that is none of the others is that of a line
-pub of_line : (f : RegroupFault) → f ≢ fault.Read → f ≢ fault.Write → f ≢ fault.Flush → f ≢ fault.Report → f ≢ fault.TooMany → is_of_line (fault_of f) ≡ true
-of_line fault.TooMany read write flush report many = absurd (many refl)
-of_line (fault.TooLong number max_line_len) read write flush report many = refl
-of_line (fault.FewFields number count) read write flush report many = refl
-of_line fault.Read read write flush report many = absurd (read refl)
-of_line (fault.NotText number) read write flush report many = refl
-of_line (fault.FieldNotText number field) read write flush report many = refl
-of_line (fault.Line number error) read write flush report many = refl
-of_line (fault.Field number field error) read write flush report many = refl
-of_line (fault.Unclosed number) read write flush report many = refl
-of_line fault.Write read write flush report many = absurd (write refl)
-of_line fault.Flush read write flush report many = absurd (flush refl)
-of_line fault.Report read write flush report many = absurd (report refl)

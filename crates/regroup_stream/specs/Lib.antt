@@ -1,5 +1,6 @@
 -- The definitions that the contracts of this crate use.
 pub mod Ending
 pub mod Files
+pub mod Inputs
 pub mod Stream
 pub mod Words

@@ -1,9 +1,9 @@
 -- What the program writes of the lines of an input.
-use Rattle.std.specs.Prelude.{◌≡◌, ℕ, ◌-◌, ◌^◌, Bool, true, false, List, [], Option, Result, Ok, Err}
+use Rattle.std.specs.Prelude.{◌≡◌, ℕ, ◌-◌, ◌^◌, Bool, true, false, List, [], Option, None, Some, Result, Ok, Err}
 use Rattle.std.specs.declared.io.ErrorKind.{ErrorKind}
 use Rattle.num_format.specs.Format.{FormatData}
 use Rattle.regroup_lines.specs.Fault.{Fault}
-use Rattle.regroup_lines.specs.Fault.Fault.{TooMany, TooLong, FewFields, Read, NotText, FieldNotText, Line, Field, Unclosed, Write, Report, Flush}
+use Rattle.regroup_lines.specs.Fault.Fault.{TooMany, Read, Write, Report, Flush}
 use Rattle.regroup_lines.specs.Messages.{fault_message}
 use Rattle.regroup_lines.specs.Sending.{RegroupsNaming}
 use Rattle.regroup_lines.specs.declared.Summary.{Summary}
@@ -15,29 +15,20 @@ use Rattle.regroup_stream.specs.Ending.End.{Faulty, ReadFailed, TooManyLines, Un
 abbrev pub most_lines : ℕ
 most_lines = 2 ^ 64 - 1
 
--- whether it is the fault of a line
-abbrev pub is_of_line : Fault → Bool
-is_of_line TooMany = false
-is_of_line (TooLong number max_line_len) = true
-is_of_line (FewFields number count) = true
-is_of_line Read = false
-is_of_line (NotText number) = true
-is_of_line (FieldNotText number field) = true
-is_of_line (Line number refusal) = true
-is_of_line (Field number field refusal) = true
-is_of_line (Unclosed number) = true
-is_of_line Write = false
-is_of_line Report = false
-is_of_line Flush = false
+-- how a run with this result ends, in an input of this name, if its last flush succeeds and a read that failed did so for this reason
+abbrev pub end_of_result : Rules → (name : List ℕ) → FormatData → Result Summary Fault → (failure : Option ErrorKind) → End
+end_of_result rules name from (Ok summary) failure = end_of_lines rules.invalid summary.has_faults
+end_of_result rules name from (Err Read) failure = ReadFailed failure
+end_of_result rules name from (Err Write) failure = WriteFailed None
+end_of_result rules name from (Err Flush) failure = WriteFailed None
+end_of_result rules name from (Err Report) failure = Untold
+end_of_result rules name from (Err TooMany) failure = TooManyLines
+end_of_result rules name from (Err fault) failure = Faulty (fault_message name rules.reading from fault)
 
--- how a run with this result ends, in an input of this name: a write fails, or a flush after any result
-pub data IsEndOf (rules : Rules) (name : List ℕ) (from : FormatData) : Result Summary Fault → End → Type 0 where
-  regrouped : (summary : Summary) → IsEndOf rules name from (Ok summary) (end_of_lines rules.invalid summary.has_faults)
-  faulty : (fault : Fault) → is_of_line fault ≡ true → IsEndOf rules name from (Err fault) (Faulty (fault_message name rules.reading from fault))
-  untold : IsEndOf rules name from (Err Report) Untold
-  read_failed : (kind : Option ErrorKind) → IsEndOf rules name from (Err Read) (ReadFailed kind)
-  write_failed : (result : Result Summary Fault) (kind : Option ErrorKind) → IsEndOf rules name from result (WriteFailed kind)
-  too_many : IsEndOf rules name from (Err TooMany) TooManyLines
+-- how a run with this result ends: as the result says, or by its last flush, which fails for a reason that is known
+pub data IsEndOf (rules : Rules) (name : List ℕ) (from : FormatData) (result : Result Summary Fault) : End → Type 0 where
+  of_result : (failure : Option ErrorKind) → IsEndOf rules name from result (end_of_result rules name from result failure)
+  of_flush : (kind : ErrorKind) → IsEndOf rules name from result (WriteFailed (Some kind))
 
 -- whether all that was to be written was written
 abbrev pub is_written : End → Bool

@@ -17,6 +17,7 @@
 
 mod ending;
 mod files;
+mod inputs;
 mod watched;
 mod words;
 
@@ -26,10 +27,11 @@ ghost use Rattle.std.specs.Result.{result_map_both};
 ghost use Rattle.regroup_lines.specs.Fault.{fault_of};
 ghost use Rattle.regroup_stream.specs.Ending.{Finishes, end_of, end_of_lines};
 ghost use Rattle.regroup_stream.specs.Ending.End.{IsOutput, Unopened};
-ghost use Rattle.regroup_stream.specs.Stream.{IsEndOf, RegroupsAll, Runs};
+ghost use Rattle.regroup_stream.specs.Stream.{RegroupsAll, Runs, end_of_result};
 
 use crate::ending::Ending;
 pub use crate::files::FileFault;
+pub use crate::inputs::{Open, Unread, run_all};
 use crate::watched::Watched;
 pub use crate::words::{Ambiguity, Formats, Misuse, Source, TRY_HELP, formats_named};
 use num_format::CustomFormat;
@@ -171,17 +173,25 @@ fn ending_of(
     regrouped: Result<Summary, RegroupFault>,
     failure: Option<ErrorKind>,
 ) -> Ending
-    ensures { IsEndOf rules.now name.now from.now (result_map_both (λ summary. summary) fault_of regrouped) (end_of result) }
+    ensures { end_of result
+        ≡ end_of_result rules.now name.now from.now (result_map_both (λ summary. summary) fault_of regrouped) failure }
 {
     match regrouped {
         Ok(summary) => ending_of_lines(rules.invalid, summary.has_faults),
         Err(fault) => match fault {
             RegroupFault::Read => Ending::ReadFailed(failure),
-            RegroupFault::Write => Ending::WriteFailed(None),
-            RegroupFault::Flush => Ending::WriteFailed(None),
+            RegroupFault::Write | RegroupFault::Flush => Ending::WriteFailed(None),
             RegroupFault::Report => Ending::Untold,
             RegroupFault::TooMany => Ending::TooManyLines,
-            _ => Ending::Faulty(fault_message(name, rules.reading, &fault, from)),
+            RegroupFault::TooLong(..)
+            | RegroupFault::FewFields(..)
+            | RegroupFault::NotText(_)
+            | RegroupFault::FieldNotText(..)
+            | RegroupFault::Line(..)
+            | RegroupFault::Field(..)
+            | RegroupFault::Unclosed(_) => {
+                Ending::Faulty(fault_message(name, rules.reading, &fault, from))
+            }
         },
     }
 }

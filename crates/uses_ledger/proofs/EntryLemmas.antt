@@ -1,5 +1,6 @@
 -- Lines and their entries.
-use Rattle.std.proofs.Common.{◌≡◌, ℕ, List, [], ◌∷◌, ◌++◌, ap}
+use Rattle.std.proofs.Common.{◌≡◌, ℕ, ◌<◌, ◌+◌, List, [], ◌∷◌, ◌++◌, length, take, drop, get_or, ap, sym, ◌∙◌, take-append-drop}
+use Rattle.std.proofs.lemmas.List.{drop_more}
 use Rattle.std.proofs.lemmas.List.Elements.{All-cons, All-nil}
 use Rattle.std.specs.List.{AllZip}
 use Rattle.num_format.specs.Format.{FormatData}
@@ -13,6 +14,12 @@ all_zip_push R [] [] x y all last = (last, tt)
 all_zip_push R [] (b ∷ ys) x y all last = absurd all
 all_zip_push R (a ∷ xs) [] x y all last = absurd all
 all_zip_push R (a ∷ xs) (b ∷ ys) x y all last = (all.0, all_zip_push R xs ys x y all.1 last)
+
+-- the lines before one, that line, and those after it
+pub split_at : (lines before : List (List ℕ)) (k : ℕ) (line : List ℕ) → before ≡ take k lines → k < length lines → line ≡ get_or lines k line →
+    lines ≡ before ++ line ∷ drop (k + 1) lines
+split_at lines before k line taken below is =
+    rw taken (sym (take-append-drop k lines) ∙ ap (λ rest. take k lines ++ rest) (drop_more lines k line below ∙ ap (λ x. x ∷ drop (k + 1) lines) (sym is)))
 
 -- the entries of lines are of one scale
 pub one_scale : (f : FormatData) (lines : List (List ℕ)) (es : List Entry) → AllZip (IsLineOf f) lines es → IsOfOneScale es

@@ -1,12 +1,13 @@
 -- The entry of a line, and why a line is refused.
-use Rattle.std.specs.Prelude.{◌≡◌, ◌<◌, ℕ, ◌==◌, List, length}
-use Rattle.std.specs.List.{All, after_first, before_first, position_or_len}
+use Rattle.std.specs.Prelude.{◌≡◌, ◌<◌, ℕ, ◌==◌, List, [], ◌∷◌, ◌++◌, length}
+use Rattle.std.specs.List.{All, AllZip, after_first, before_first, position_or_len}
 use Rattle.num_format.specs.Format.{FormatData}
+use Rattle.num_format_decimal.specs.Marks.{MarksDecimals}
 use Rattle.num_format_decimal.specs.Parsing.{IsAtScaleCause, ParsesAtScale}
 use Rattle.uses_ledger.specs.declared.entry.TheConstants.{SCALE}
 use Rattle.uses_ledger.specs.declared.entry.Entry.{Entry}
 use Rattle.uses_ledger.specs.declared.entry.LedgerError.{LedgerError}
-use Rattle.uses_ledger.specs.declared.entry.LedgerError.TheVariants.{Amount, NoTab}
+use Rattle.uses_ledger.specs.declared.entry.LedgerError.TheVariants.{AmbiguousFormat, Amount, NoMemory, NoTab}
 
 -- what stands before the first tab of a line, which is the byte 9
 abbrev pub name_in : List ℕ → List ℕ
@@ -31,3 +32,12 @@ abbrev pub Refuses : FormatData → List ℕ → LedgerError → Type 0
 Refuses f line NoTab = position_or_len (λ b. b == 9) line ≡ length line
 Refuses f line (Amount e) = IsAtScaleCause f (amount_in line) SCALE e
 Refuses f line _ = ⊥
+
+-- a ledger of these lines is refused with that error: not every decimal reads back under the format; or a line is refused, and those
+-- before it are of entries; or a line is of an entry too, for which there is no memory
+pub data IsRefused (f : FormatData) (lines : List (List ℕ)) : LedgerError → Type 0 where
+  ambiguous : ¬ MarksDecimals f → IsRefused f lines AmbiguousFormat
+  at_line : (before after : List (List ℕ)) (line : List ℕ) (entries : List Entry) (e : LedgerError) → MarksDecimals f → lines ≡ before ++ line ∷ after →
+      AllZip (IsLineOf f) before entries → Refuses f line e → IsRefused f lines e
+  no_memory : (before after : List (List ℕ)) (line : List ℕ) (entries : List Entry) → MarksDecimals f → lines ≡ before ++ line ∷ after →
+      AllZip (IsLineOf f) (before ++ line ∷ []) entries → IsRefused f lines NoMemory

@@ -1,13 +1,12 @@
 //! The entries of a ledger, and how they are read from its lines.
-ghost use Rattle.std.specs.Prelude.{◌≡◌, ◌↔◌, ◌⊎◌, Any, Ok, Err, IfOk, IfErr, OnOk};
+ghost use Rattle.std.specs.Prelude.{◌≡◌, ◌↔◌, Ok, Err, IfOk, IfErr, OnOk};
 ghost use Rattle.std.specs.List.{AllZip};
 ghost use Rattle.std.specs.Str.Lines.{lines};
 ghost use Rattle.num_format_decimal.specs.FixedPoint.{FixedPoint};
 ghost use Rattle.num_format_decimal.specs.Marks.{MarksDecimals};
 ghost use Rattle.num_format_decimal.specs.Parsing.{IsAtScaleCause, ParsesAtScale};
 ghost use Rattle.num_format_decimal.specs.declared.parsing.ParseAtScaleError.{ParseAtScaleError};
-ghost use Rattle.uses_ledger.specs.Entry.{IsLineOf, IsOfOneScale, Refuses};
-ghost use Rattle.uses_ledger.specs.declared.entry.LedgerError.TheVariants.{AmbiguousFormat, NoMemory};
+ghost use Rattle.uses_ledger.specs.Entry.{IsLineOf, IsOfOneScale, IsRefused, Refuses};
 
 use num_format::Format;
 use num_format_decimal::{Decimal, DecimalParser, ParseAtScaleError};
@@ -80,7 +79,7 @@ pub fn parse_entry<'a, 'b, F: Format>(
 /// # Errors
 ///
 /// Returns [`LedgerError::AmbiguousFormat`] where not every decimal reads back under the format, else the
-/// error of a line that is refused, or [`LedgerError::NoMemory`].
+/// error of the first line that is refused, or [`LedgerError::NoMemory`] where there is none for the lines before it.
 pub fn read_entries<'a, F: Format>(
     alloc: Global,
     text: &'a str,
@@ -90,9 +89,7 @@ pub fn read_entries<'a, F: Format>(
         AllZip (IsLineOf (F.answers format.now)) (lines text.now) entries.items) }
     ensures one_scale { IfOk result (λ entries. IsOfOneScale entries.items) }
     ensures reads_back { OnOk result (MarksDecimals (F.answers format.now)) }
-    ensures refused { IfErr result (λ e. (e ≡ NoMemory)
-        ⊎ (((e ≡ AmbiguousFormat) × ¬ (MarksDecimals (F.answers format.now)))
-        ⊎ Any (λ line. Refuses (F.answers format.now) line e) (lines text.now))) }
+    ensures refused { IfErr result (IsRefused (F.answers format.now) (lines text.now)) }
 {
     let Ok(parser) = DecimalParser::new(format) else {
         return Err(LedgerError::AmbiguousFormat);

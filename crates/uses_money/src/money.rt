@@ -15,6 +15,7 @@ use crate::currency::Currency;
 use num_format::Format;
 use num_format_decimal::{Decimal, DecimalError, ParseAtScaleError, Rounding};
 use std::fmt;
+use std::marker::Model;
 
 /// An amount of money in minor units of its currency, as cents.
 ///
@@ -103,8 +104,7 @@ impl Money {
     /// println!(rt; "{:>12} {}", price.formatted(&Locale::de), price.currency)    // "    1.234,50 EUR"
     /// ```
     pub fn formatted<'a, F: Format>(&self, format: &'a F) -> FormattedMoney<'a, F>
-        ensures amount { result.amount ≡ amount_of self.now }
-        ensures format { result.format.now ≡ format.now }
+        ensures { result ≡ decimal_text (F.answers format.now) (amount_of self.now) }
     {
         FormattedMoney {
             amount: self.amount(),
@@ -113,31 +113,32 @@ impl Money {
     }
 }
 
-/// An amount of money to be displayed under a format. [`Money::formatted`] returns it.
+/// An amount of money to be displayed under a format. A contract sees its text. [`Money::formatted`] returns it.
+#[derive(Drop)]
 pub struct FormattedMoney<'a, F: Format> {
     amount: Decimal,
     format: &'a F,
 }
 
+impl<'a, F: Format> Model for FormattedMoney<'a, F> {
+    ghost use Rattle.std.specs.Prelude.{ℕ, List};
+    ghost use Rattle.num_format_decimal.specs.Text.{decimal_text};
+
+    ghost Value = { List ℕ };
+
+    ghost view = { λ m. decimal_text (F.answers m.format.now) m.amount };
+}
+
 impl<'a, F: Format> fmt::Display for FormattedMoney<'a, F> {
     ghost use Rattle.num_format_writers.specs.Columns.{filled};
 
-    ghost output = { λ m. Some (decimal_text (F.answers m.format.now) m.amount) };
+    ghost output = { λ text. Some text };
 
-    ghost styled_output = { λ m spec. Some (filled (spec_width spec) (spec_align spec)
-        (spec_fill spec) (decimal_text (F.answers m.format.now) m.amount)) };
+    ghost styled_output = { λ text spec. Some (filled (spec_width spec) (spec_align spec)
+        (spec_fill spec) text) };
 
     /// Writes the text of the amount, filled up to the width.
     fn fmt<W: fmt::Write>(&self, f: &mut fmt::Formatter<W>) -> fmt::Result {
         fmt::Display::fmt(&self.amount.formatted(self.format), f)
-    }
-}
-
-impl<'a, F: Format> Drop for FormattedMoney<'a, F> {
-    fn drop(self) {
-        let FormattedMoney {
-            amount: _,
-            format: _,
-        } = self;
     }
 }

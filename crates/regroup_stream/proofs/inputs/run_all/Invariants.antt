@@ -1,0 +1,11 @@
+use Rattle.std.proofs.Common.{◌≡◌, ◌+◌, length, map, take, true}
+use Rattle.std.specs.Io.Buffered.{writer_buffer, writer_contents}
+use Rattle.regroup_stream.specs.Inputs.{RunsEach}
+use Rattle.regroup_stream.proofs.inputs.run_all.Given as goal
+
+-- the inputs so far were run over, and the buffer is as long as it was
+abbrev pub invariant-loop-name : goal.invariant-loop-name
+invariant-loop-name g l =
+    RunsEach l.rules l.formats.from l.formats.to (map (λ name. name.now) (take l.name-index l.names)) l.status true
+    (writer_contents g.O.Write.contents l.initial.out) (writer_contents g.O.Write.contents l.out) (writer_buffer l.initial.out) (writer_buffer l.out)
+    (g.E.Write.contents l.initial.err) (g.E.Write.contents l.err) × (length l.buffer ≡ l.rules.max_line_len + 1)

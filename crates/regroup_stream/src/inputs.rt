@@ -1,0 +1,104 @@
+//! Several inputs, one after the other.
+ghost use Rattle.std.specs.Prelude.{◌≡◌, ◌+◌, length, map};
+ghost use Rattle.std.specs.Io.Buffered.{writer_buffer, writer_contents};
+ghost use Rattle.regroup_stream.specs.Inputs.{RunsAll, RunsOne, reads_on};
+
+use crate::{FAULTY, Formats, REGROUPED, refuse, refuse_output, run};
+use regroup_lines::{Invalid, Rules};
+use std::io;
+use std::io::{BufWriter, ErrorKind, Read, Write};
+
+/// What opens inputs by their names.
+pub trait Open {
+    /// What is read.
+    type Input: Read + Drop;
+
+    /// Opens the input of that name.
+    ///
+    /// # Errors
+    ///
+    /// Returns why it is not read.
+    fn open(&self, name: &str) -> Result<Self::Input, Unread>;
+}
+
+/// Why an input is not read.
+#[derive(Clone, Copy)]
+pub enum Unread {
+    /// It cannot be opened, or is a directory.
+    CannotOpen(ErrorKind),
+    /// It is the output, whose lines would be read without end.
+    IsOutput,
+}
+
+impl From<io::Error> for Unread {
+    fn from(error: io::Error) -> Unread {
+        Unread::CannotOpen(error.kind())
+    }
+}
+
+/// Regroups the lines of the inputs of these names in turn, up to the first whose lines are not all written, and returns
+/// the highest status. Of an input that is not read it sends the message alone. The inputs are read into `buffer`, which
+/// has one byte more than a line may have.
+///
+/// Of each input `out` and `err` receive what [`run`], [`refuse`] or [`refuse_output`] sends.
+#[tactic(auto, using(crate::proofs::InputLemmas::RunsEach_more, crate::proofs::InputLemmas::RunsAll_stopped, crate::proofs::InputLemmas::RunsAll_done))]
+pub fn run_all<I: Open, O: Write + Drop, E: Write>(
+    rules: &Rules,
+    formats: &Formats,
+    names: &[&str],
+    buffer: &mut [u8],
+    inputs: &I,
+    out: &mut BufWriter<O>,
+    err: &mut E,
+) -> u8
+    requires { length buffer.old ≡ rules.now.max_line_len + 1 }
+    ensures { RunsAll rules.now formats.now.from formats.now.to (map (λ name. name.now) names.now) result
+        (writer_contents O.contents out.old) (writer_contents O.contents out.new) (writer_buffer out.old) (writer_buffer out.new)
+        (E.contents err.old) (E.contents err.new) }
+{
+    let mut status = REGROUPED;
+    for name in names {
+        let (ended, goes_on) = run_one(rules, formats, name, buffer, inputs, out, err);
+        status = status.max(ended);
+        if !goes_on {
+            return status;
+        }
+    }
+    status
+}
+
+/// Regroups the lines of the input of that name, or sends the message of why it is not read. Returns its status, and
+/// whether the next input is read.
+fn run_one<I: Open, O: Write + Drop, E: Write>(
+    rules: &Rules,
+    formats: &Formats,
+    name: &str,
+    buffer: &mut [u8],
+    inputs: &I,
+    out: &mut BufWriter<O>,
+    err: &mut E,
+) -> (u8, bool)
+    requires { length buffer.old ≡ rules.now.max_line_len + 1 }
+    ensures { RunsOne rules.now formats.now.from formats.now.to name.now result.0 result.1
+        (writer_contents O.contents out.old) (writer_contents O.contents out.new) (writer_buffer out.old) (writer_buffer out.new)
+        (E.contents err.old) (E.contents err.new) }
+{
+    match inputs.open(name) {
+        Ok(input) => {
+            let status = run(rules, formats, name, buffer, input, out, err);
+            (status, reads_on(rules.invalid, status))
+        }
+        Err(Unread::CannotOpen(kind)) => (refuse(name, kind, err), true),
+        Err(Unread::IsOutput) => (refuse_output(name, err), true),
+    }
+}
+
+/// Returns whether the next input is read after one with this status: each of its lines was written.
+fn reads_on(invalid: Invalid, status: u8) -> bool
+    ensures { result ≡ reads_on invalid status }
+{
+    match invalid {
+        Invalid::Fail => status == REGROUPED || status == FAULTY,
+        Invalid::Abort | Invalid::Warn | Invalid::Ignore => status == REGROUPED,
+    }
+}
