@@ -1,4 +1,4 @@
-/* Makes each call but those for columns at least once, also with structs that no call filled, and prints what it returns. */
+/* Makes each call at least once, also with structs that no call filled, and prints what it returns. */
 #include "num_format.h"
 
 #include <stdio.h>
@@ -21,6 +21,34 @@ static void show_strict(const char *text) {
     size_t at = 7;
     int result = num_format_parse_strict_i64(&en, 64, text, strlen(text), &number, &at);
     printf("parse strictly \"%s\": %d, %lld, at %zu\n", text, result, (long long)number, at);
+}
+
+/* Three numbers, of which the second is null, and two decimals with units of 128 bits. */
+static void show_columns(void) {
+    const int16_t values[] = {1000, 7, -5};
+    const uint64_t units[] = {123450, 0, UINT64_MAX - 4, UINT64_MAX};
+    const uint8_t valid[] = {5};
+    int16_t parsed[3] = {0, 0, 0};
+    uint64_t parsed_units[4];
+    int32_t offsets[4], statuses[3];
+    size_t length = 0;
+    int result = num_format_print_column_len(&de, NUM_FORMAT_I16, values, sizeof values, valid, 1, 0, &length);
+    printf("length of a column: %d, %zu\n", result, length);
+    result = num_format_print_column(&de, NUM_FORMAT_I16, values, sizeof values, valid, 1, 0, offsets, sizeof offsets,
+                                     NUM_FORMAT_I32, text, sizeof text, &length);
+    printf("column: %d, %.*s, %d %d %d %d\n", result, (int)length, text, offsets[0], offsets[1], offsets[2], offsets[3]);
+    text[0] = 'x';
+    result = num_format_parse_column(&de, NUM_FORMAT_I16, 0, offsets, sizeof offsets, NUM_FORMAT_I32, text, length, parsed,
+                                     sizeof parsed, valid, 1, 0, statuses, 3);
+    printf("parse a column: %d, %d %d %d, %d %d %d\n", result, statuses[0], statuses[1], statuses[2], parsed[0], parsed[1], parsed[2]);
+    result = num_format_print_decimal_column_len(&de, units, sizeof units, 2, NULL, 0, 0, &length);
+    printf("length of decimals: %d, %zu\n", result, length);
+    result = num_format_print_decimal_column(&de, units, sizeof units, 2, NULL, 0, 0, offsets, 12, NUM_FORMAT_I32, text,
+                                             sizeof text, &length);
+    printf("decimals: %d, %.*s, %d %d %d\n", result, (int)length, text, offsets[0], offsets[1], offsets[2]);
+    result = num_format_parse_decimal_column(&de, 3, offsets, 12, NUM_FORMAT_I32, text, length, parsed_units,
+                                             sizeof parsed_units, NULL, 0, 0, statuses, 2);
+    printf("parse decimals: %d, %lld %lld\n", result, (long long)parsed_units[0], (long long)parsed_units[2]);
 }
 
 int main(void) {
@@ -91,5 +119,9 @@ int main(void) {
     show("lookup en-us", num_format_lookup(&format, "en-us", 5));
     show("lookup english", num_format_lookup(&format, "english", 7));
     show("name 542", num_format_names(NUM_FORMAT_LOCALES, text, sizeof text));
+    show_columns();
+    printf("width: %zu\n", num_format_text_width("1\u202f234", 7));
+    printf("version: %u\n", (unsigned)num_format_version());
+    printf("-20: %s\n", num_format_strerror(-20));
     return 0;
 }

@@ -43,7 +43,12 @@ def _bytes(text):
 class Format(ctypes.Structure):
     """The format of a locale."""
 
-    _fields_ = [("_texts", ctypes.c_uint8 * 24), ("_lengths", ctypes.c_uint8 * 3), ("_grouping", ctypes.c_uint8)]
+    _fields_ = [
+        ("_texts", ctypes.c_uint8 * 24),
+        ("_lengths", ctypes.c_uint8 * 3),
+        ("_grouping", ctypes.c_uint8),
+        ("_reserved", ctypes.c_uint8 * 4),
+    ]
 
     def __init__(self, locale):
         super().__init__()

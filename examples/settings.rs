@@ -8,6 +8,7 @@ struct NumFormat {
     texts: [u8; 24],
     lengths: [u8; 3],
     grouping: u8,
+    reserved: [u8; 4],
 }
 
 extern "C" {

@@ -1,10 +1,10 @@
 #!/usr/bin/env python3
-"""Runs the programs of examples/ in C, Python and Rust, and packages/c/tests/header.c, over the library for C.
+"""Runs the programs of examples/ in C, Python and Rust, and two of packages/c/tests, over the library for C.
 
     python3 tools/library_checks.py [LIBRARY]    # crates/num_format_c/out/libnum_format_c.a
 
-Each has to print what its file `.expected` has, and packages/c/tests/header.c nothing. C programs are built
-twice: as they are delivered, and to stop at an access outside an object. packages/c/tests/header.c makes each
+Each has to print what its file `.expected` has, and header.c and columns.c of packages/c/tests nothing. C programs are
+built twice: as they are delivered, and to stop at an access outside an object. header.c and columns.c make each
 call, and no request for memory. A program whose compiler is missing is skipped. The last lines name it,
 and say how many passed and failed. The exit status is 1 where one failed.
 """
@@ -17,7 +17,7 @@ import memory_checks
 from tally import CC, ROOT, Tally, heading, run
 
 EXAMPLES = ROOT / "examples"
-HEADER_CHECKS = ROOT / "packages" / "c" / "tests" / "header.c"
+CHECKS = [ROOT / "packages" / "c" / "tests" / name for name in ("header.c", "columns.c")]
 CRATE = ROOT / "crates" / "num_format_c"
 LIBRARY = CRATE / "out" / "libnum_format_c.a"
 
@@ -37,11 +37,12 @@ def check_all(tally, library):
         return
     with tempfile.TemporaryDirectory() as folder:
         made = Path(folder) / "made"
-        for source in [EXAMPLES / "prices.c", EXAMPLES / "every_call.c", HEADER_CHECKS]:
+        for source in [EXAMPLES / "prices.c", EXAMPLES / "every_call.c", *CHECKS]:
             if not tally.lacks(CC, source.name):
                 check_c(tally, source, library, made)
-        if not tally.lacks(CC, "memory of the library for C"):
-            check_memory(tally, library, made)
+        for source in CHECKS:
+            if not tally.lacks(CC, f"{source.name}, memory"):
+                check_memory(tally, source, library, made)
         if not tally.lacks(CC, "column.py"):
             # The shared library, from the static one.
             build = [CC, "-shared", "-o", made, "-Wl,--whole-archive", library, "-Wl,--no-whole-archive"]
@@ -56,20 +57,20 @@ def check_all(tally, library):
 
 def check_c(tally, source, library, made):
     """Checks each build of a C program."""
-    wanted = b"" if source == HEADER_CHECKS else expected(source)
+    wanted = b"" if source in CHECKS else expected(source)
     for ending, flags in BUILDS.items():
         build = [*COMPILE, *flags, source, library, "-o", made]
         check(tally, source.name + ending, build, [made], wanted)
 
 
-def check_memory(tally, library, made):
+def check_memory(tally, source, library, made):
     """No call makes a request for memory."""
     refusing = memory_checks.refusing_library(tally, made.parent)
-    built = run([*COMPILE, "-O2", HEADER_CHECKS, library, "-o", made])
+    built = run([*COMPILE, "-O2", source, library, "-o", made])
     if refusing is None or built.returncode:
-        tally.add(f"{HEADER_CHECKS.name}, memory", "not built")
+        tally.add(f"{source.name}, memory", "not built")
         return
-    memory_checks.count(tally, refusing, HEADER_CHECKS.name, [made], (0, b"", b""), 0)
+    memory_checks.count(tally, refusing, source.name, [made], (0, b"", b""), 0)
 
 
 def check(tally, name, build, words, wanted):

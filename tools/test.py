@@ -59,7 +59,6 @@ def has_tests(crate):
 
 def start_documents(jobs):
     jobs.script("the code in README.md and docs/", "readme_code.py")
-    jobs.script("the calls for columns", "column_calls.py", "--check", is_counted=False)
     jobs.script("the page of public calls", "api_page.py", "--check", is_counted=False)
 
 

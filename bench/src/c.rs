@@ -12,6 +12,10 @@ const BITS: u32 = 64;
 /// The number that stands for the grouping `Indian`.
 const INDIAN: u32 = 2;
 
+/// The numbers of the types of a column's values and offsets.
+const I64: u32 = b'l' as u32;
+const I32: u32 = b'i' as u32;
+
 /// A format that the caller owns, as the header has it.
 #[repr(C)]
 #[derive(Default)]
@@ -23,6 +27,7 @@ pub struct Format {
     minus_sign_len: u8,
     decimal_mark_len: u8,
     grouping: u8,
+    reserved: [u8; 4],
 }
 
 unsafe extern "C" {
@@ -48,25 +53,37 @@ unsafe extern "C" {
         text_len: usize,
         number: *mut i64,
     ) -> i32;
-    fn num_format_print_i64_column(
+    fn num_format_print_column(
         format: *const Format,
-        numbers: *const i64,
-        numbers_len: usize,
+        value_type: u32,
+        values: *const i64,
+        values_size: usize,
+        validity: *const u8,
+        validity_size: usize,
+        bit_offset: usize,
         offsets: *mut i32,
-        offsets_len: usize,
+        offsets_size: usize,
+        offset_type: u32,
         bytes: *mut u8,
-        bytes_len: usize,
+        capacity: usize,
+        length: *mut usize,
     ) -> i32;
-    fn num_format_call_parse_strict_i64_column(
+    fn num_format_parse_column(
         format: *const Format,
+        value_type: u32,
+        lenient: u32,
         offsets: *const i32,
-        offsets_len: usize,
+        offsets_size: usize,
+        offset_type: u32,
         bytes: *const u8,
-        bytes_len: usize,
-        numbers: *mut i64,
-        numbers_len: usize,
+        bytes_size: usize,
+        values: *mut i64,
+        values_size: usize,
+        validity: *const u8,
+        validity_size: usize,
+        bit_offset: usize,
         statuses: *mut i32,
-        statuses_len: usize,
+        statuses_length: usize,
     ) -> i32;
 }
 
@@ -160,15 +177,22 @@ pub fn read(texts: &str, lengths: &[usize], format: &Format, numbers: &mut [i64]
 
 /// Prints numbers as a column.
 pub fn print_column(numbers: &[i64], format: &Format, offsets: &mut [i32], bytes: &mut [u8]) {
+    let (validity, mut length) = ([], 0);
     let status = unsafe {
-        num_format_print_i64_column(
+        num_format_print_column(
             format,
+            I64,
             numbers.as_ptr(),
-            numbers.len(),
+            size_of_val(numbers),
+            validity.as_ptr(),
+            validity.len(),
+            0,
             offsets.as_mut_ptr(),
-            offsets.len(),
+            size_of_val(offsets),
+            I32,
             bytes.as_mut_ptr(),
             bytes.len(),
+            &mut length,
         )
     };
     assert_eq!(status, 0);
@@ -181,15 +205,22 @@ pub fn read_column_strictly(
     numbers: &mut [i64],
     statuses: &mut [i32],
 ) {
+    let validity = [];
     let status = unsafe {
-        num_format_call_parse_strict_i64_column(
+        num_format_parse_column(
             format,
+            I64,
+            0,
             column.offsets.as_ptr(),
-            column.offsets.len(),
+            size_of_val(&column.offsets[..]),
+            I32,
             column.bytes.as_ptr(),
             column.bytes.len(),
             numbers.as_mut_ptr(),
-            numbers.len(),
+            size_of_val(numbers),
+            validity.as_ptr(),
+            validity.len(),
+            0,
             statuses.as_mut_ptr(),
             statuses.len(),
         )

@@ -60,11 +60,13 @@ static void parse_one_by_one(void) {
 }
 
 static void print_column(void) {
-    sum += (uint64_t)num_format_print_i64_large_column(&en, numbers, n, offsets, n + 1, bytes, size);
+    sum += (uint64_t)num_format_print_column(&en, NUM_FORMAT_I64, numbers, n * 8, NULL, 0, 0, offsets, (n + 1) * 8,
+                                             NUM_FORMAT_I64, bytes, size, &size);
 }
 
 static void parse_column(void) {
-    sum += (uint64_t)num_format_parse_strict_i64_large_column(&en, offsets, n + 1, bytes, size, parsed, statuses, n);
+    sum += (uint64_t)num_format_parse_column(&en, NUM_FORMAT_I64, 0, offsets, (n + 1) * 8, NUM_FORMAT_I64, bytes, size,
+                                             parsed, n * 8, NULL, 0, 0, statuses, n);
 }
 
 static void print_by_printf(void) {
@@ -85,7 +87,7 @@ static const struct {
     void (*parse)(void);
 } rows[] = {
     {"`num_format_print_i64`", "`num_format_parse_strict_i64`", print_one_by_one, parse_one_by_one},
-    {"`num_format_print_i64_large_column`", "`num_format_parse_strict_i64_large_column`", print_column, parse_column},
+    {"`num_format_print_column`", "`num_format_parse_column`", print_column, parse_column},
     {"`snprintf` with `%'ld`", "`sscanf` with `%'ld`", print_by_printf, parse_by_scanf},
 };
 #define ROWS (sizeof rows / sizeof *rows)
@@ -106,7 +108,7 @@ static void read_numbers(const char *path) {
 }
 
 static void make_texts(void) {
-    expect(num_format_print_i64_column_len(&en, numbers, n, &size) == 0, "num_format_print_i64_column_len");
+    expect(num_format_print_column_len(&en, NUM_FORMAT_I64, numbers, n * 8, NULL, 0, 0, &size) == 0, "the length");
     texts = need(size + n, 1);
     starts = need(n, sizeof *starts);
     lengths = need(n, sizeof *lengths);

@@ -10,65 +10,6 @@
 #include <stdio.h>
 #include <string.h>
 
-/* Each call once more: this file does not compile with a header where one has another type. */
-int32_t num_format_locale(num_format *, const char *, size_t);
-int32_t num_format_lookup(num_format *, const char *, size_t);
-int32_t num_format_custom(num_format *, const char *, size_t, uint32_t, const char *, size_t);
-int32_t num_format_custom_decimal(num_format *, const char *, size_t, uint32_t, const char *, size_t, const char *, size_t);
-int32_t num_format_print_i64(const num_format *, int64_t, char *, size_t);
-int32_t num_format_print_u64(const num_format *, uint64_t, char *, size_t);
-int32_t num_format_print_u128(const num_format *, uint64_t, uint64_t, char *, size_t);
-int32_t num_format_print_i128(const num_format *, uint64_t, uint64_t, char *, size_t);
-int32_t num_format_print_decimal(const num_format *, uint64_t, uint64_t, uint32_t, char *, size_t);
-int32_t num_format_print_i64_len(const num_format *, int64_t);
-int32_t num_format_print_u64_len(const num_format *, uint64_t);
-int32_t num_format_print_u128_len(const num_format *, uint64_t, uint64_t);
-int32_t num_format_print_i128_len(const num_format *, uint64_t, uint64_t);
-int32_t num_format_print_decimal_len(const num_format *, uint64_t, uint64_t, uint32_t);
-int32_t num_format_parse_i64(const num_format *, uint32_t, const char *, size_t, int64_t *);
-int32_t num_format_parse_u64(const num_format *, uint32_t, const char *, size_t, uint64_t *);
-int32_t num_format_parse_u128(const num_format *, const char *, size_t, uint64_t *, uint64_t *);
-int32_t num_format_parse_i128(const num_format *, const char *, size_t, uint64_t *, uint64_t *);
-int32_t num_format_parse_strict_i64(const num_format *, uint32_t, const char *, size_t, int64_t *, size_t *);
-int32_t num_format_parse_strict_u64(const num_format *, uint32_t, const char *, size_t, uint64_t *, size_t *);
-int32_t num_format_parse_strict_u128(const num_format *, const char *, size_t, uint64_t *, uint64_t *, size_t *);
-int32_t num_format_parse_strict_i128(const num_format *, const char *, size_t, uint64_t *, uint64_t *, size_t *);
-int32_t num_format_parse_decimal(const num_format *, const char *, size_t, uint64_t *, uint64_t *, uint32_t *, size_t *);
-int32_t num_format_reads_back(const num_format *);
-int32_t num_format_prints_alike(const num_format *, const num_format *);
-int32_t num_format_names(size_t, char *, size_t);
-int32_t num_format_lookup_name(const char *, size_t, char *, size_t);
-uint32_t num_format_version(void);
-size_t num_format_text_width(const char *, size_t);
-
-/* The calls for columns of a type: how they are named, the type of a value, and the parameters after the values. */
-#define COLUMN_CALLS(name, type, ...) \
-    int32_t num_format_print_##name##_column(const num_format *, const type *, size_t __VA_ARGS__, int32_t *, size_t, char *, size_t); \
-    int32_t num_format_print_##name##_large_column(const num_format *, const type *, size_t __VA_ARGS__, int64_t *, size_t, char *, size_t); \
-    int32_t num_format_print_##name##_column_len(const num_format *, const type *, size_t __VA_ARGS__, size_t *); \
-    PARSE_CALLS(name, type, __VA_ARGS__)
-#define PARSE_CALLS(name, type, ...) \
-    static inline int32_t num_format_parse_##name##_column(const num_format *, const int32_t *, size_t, const char *, size_t, type *, int32_t *, size_t __VA_ARGS__); \
-    static inline int32_t num_format_parse_##name##_large_column(const num_format *, const int64_t *, size_t, const char *, size_t, type *, int32_t *, size_t __VA_ARGS__)
-#define NULLABLE , const uint8_t *, size_t
-#define NUMBER_CALLS(name, type) \
-    COLUMN_CALLS(name, type, ); \
-    PARSE_CALLS(strict_##name, type, ); \
-    COLUMN_CALLS(nullable_##name, type, NULLABLE); \
-    PARSE_CALLS(strict_nullable_##name, type, NULLABLE)
-NUMBER_CALLS(i8, int8_t);
-NUMBER_CALLS(i16, int16_t);
-NUMBER_CALLS(i32, int32_t);
-NUMBER_CALLS(i64, int64_t);
-NUMBER_CALLS(u8, uint8_t);
-NUMBER_CALLS(u16, uint16_t);
-NUMBER_CALLS(u32, uint32_t);
-NUMBER_CALLS(u64, uint64_t);
-NUMBER_CALLS(i128, num_format_wide);
-NUMBER_CALLS(u128, num_format_wide);
-COLUMN_CALLS(decimal, num_format_wide, , uint32_t);
-COLUMN_CALLS(nullable_decimal, num_format_wide, , uint32_t NULLABLE);
-
 /* The longest text: -2^127 under Indian, with a separator and a minus sign of 8 bytes. */
 static const char longest[] =
     "abcdefgh17" "1234567801" "1234567841" "1234567818" "1234567834" "1234567860" "1234567846"
@@ -110,41 +51,38 @@ static void check_constants(void) {
     CHECK(NUM_FORMAT_MAX, 191);
     CHECK(NUM_FORMAT_DECIMAL_MAX, 199);
     CHECK(NUM_FORMAT_LOCALES, 542);
-    CHECK(NUM_FORMAT_BAD_FORMAT, -1);
-    CHECK(NUM_FORMAT_TOO_SMALL, -2);
-    CHECK(NUM_FORMAT_NOT_UTF8, -3);
-    CHECK(NUM_FORMAT_NOT_A_NUMBER, -4);
-    CHECK(NUM_FORMAT_UNKNOWN_LOCALE, -5);
-    CHECK(NUM_FORMAT_TOO_LONG, -6);
-    CHECK(NUM_FORMAT_BAD_GROUPING, -7);
-    CHECK(NUM_FORMAT_BAD_BITS, -8);
-    CHECK(NUM_FORMAT_UNEXPECTED, -9);
-    CHECK(NUM_FORMAT_NO_DIGIT, -10);
-    CHECK(NUM_FORMAT_MISSPELLED, -11);
-    CHECK(NUM_FORMAT_OUT_OF_RANGE, -12);
-    CHECK(NUM_FORMAT_BAD_SCALE, -13);
-    CHECK(NUM_FORMAT_TOO_MANY_DECIMALS, -14);
-    CHECK(NUM_FORMAT_BAD_LENGTH, -15);
-    CHECK(NUM_FORMAT_BAD_OFFSETS, -16);
-    CHECK(NUM_FORMAT_TOO_MANY_BYTES, -17);
-    CHECK(NUM_FORMAT_DIGITS_LOST, -18);
-    CHECK(NUM_FORMAT_AMBIGUOUS_FORMAT, -19);
-    CHECK(num_format_version(), NUM_FORMAT_VERSION);
-    check_bytes("strerror", num_format_strerror(-1), "the struct has no format");
-    check_bytes("strerror of no error", num_format_strerror(0), "ok");
-    for (int32_t code = -19; code < 0; code++) {
-        CHECK(strcmp(num_format_strerror(code), "unknown status") != 0, 1);
+    static const int errors[] = {
+        NUM_FORMAT_BAD_FORMAT,    NUM_FORMAT_TOO_SMALL,        NUM_FORMAT_NOT_UTF8,    NUM_FORMAT_NOT_A_NUMBER,
+        NUM_FORMAT_UNKNOWN_LOCALE, NUM_FORMAT_TOO_LONG,        NUM_FORMAT_BAD_GROUPING, NUM_FORMAT_BAD_BITS,
+        NUM_FORMAT_UNEXPECTED,    NUM_FORMAT_NO_DIGIT,         NUM_FORMAT_MISSPELLED,  NUM_FORMAT_OUT_OF_RANGE,
+        NUM_FORMAT_BAD_SCALE,     NUM_FORMAT_TOO_MANY_DECIMALS, NUM_FORMAT_BAD_LENGTH, NUM_FORMAT_BAD_OFFSETS,
+        NUM_FORMAT_TOO_MANY_BYTES, NUM_FORMAT_DIGITS_LOST,     NUM_FORMAT_AMBIGUOUS_FORMAT, NUM_FORMAT_BAD_TYPE,
+    };
+    for (int i = 0; i < 20; i++) {
+        CHECK(errors[i], -1 - i);
+        CHECK(strcmp(num_format_strerror(errors[i]), "unknown status") != 0, 1);
     }
-    check_bytes("strerror of another", num_format_strerror(-20), "unknown status");
-    CHECK(NUM_FORMAT_STANDARD, 1);
-    CHECK(NUM_FORMAT_INDIAN, 2);
-    CHECK(NUM_FORMAT_POSIX, 3);
-    CHECK(NUM_FORMAT_MYRIAD, 4);
-    CHECK(NUM_FORMAT_SPARSE, 5);
+    check_bytes("strerror", num_format_strerror(-1), "the struct has no format");
+    CHECK(strcmp(num_format_strerror(-21), "unknown status"), 0);
+    CHECK(strcmp(num_format_strerror(INT32_MIN), "unknown status"), 0);
+    CHECK(strcmp(num_format_strerror(0), "ok"), 0);
+    CHECK(strcmp(num_format_strerror(INT32_MAX), "ok"), 0);
+    CHECK(num_format_version(), NUM_FORMAT_VERSION);
+    static const int groupings[] = {
+        NUM_FORMAT_STANDARD, NUM_FORMAT_INDIAN, NUM_FORMAT_POSIX, NUM_FORMAT_MYRIAD, NUM_FORMAT_SPARSE,
+    };
+    for (int i = 0; i < 5; i++)
+        CHECK(groupings[i], i + 1);
+    static const num_format_type types[] = {
+        NUM_FORMAT_I8,  NUM_FORMAT_U8,  NUM_FORMAT_I16, NUM_FORMAT_U16,  NUM_FORMAT_I32,
+        NUM_FORMAT_U32, NUM_FORMAT_I64, NUM_FORMAT_U64, NUM_FORMAT_I128, NUM_FORMAT_U128,
+    };
+    for (int i = 0; i < 10; i++)
+        CHECK(types[i], "cCsSiIlLqQ"[i]);
 }
 
 static void check_layout(void) {
-    CHECK(sizeof(num_format), 28);
+    CHECK(sizeof(num_format), 32);
     CHECK(_Alignof(num_format), 1);
     CHECK(offsetof(num_format, separator), 0);
     CHECK(offsetof(num_format, minus_sign), 8);
@@ -153,6 +91,7 @@ static void check_layout(void) {
     CHECK(offsetof(num_format, minus_sign_length), 25);
     CHECK(offsetof(num_format, decimal_mark_length), 26);
     CHECK(offsetof(num_format, grouping), 27);
+    CHECK(offsetof(num_format, reserved), 28);
 }
 
 /* What a call writes into a struct, and nothing past it. */
@@ -171,6 +110,7 @@ static void check_filled(void) {
     CHECK(held.format.minus_sign_length, 3);
     CHECK(held.format.decimal_mark_length, 1);
     CHECK(held.format.grouping, 4);
+    CHECK(memcmp(held.format.reserved, "\0\0\0", 4), 0);
     check_text(&held.format, -12345678, "\xe2\x88\x92" "1234'5678");
     CHECK(num_format_locale(&held.format, "en-IN", 5), 0);
     check_bytes("separator of en-IN", held.format.separator, ",");
@@ -191,7 +131,7 @@ static void check_filled(void) {
 
 /* How a call reads a struct whose fields were written here. */
 static void check_read(void) {
-    num_format format = {"::", "~~~", "..", 2, 3, 2, 1};
+    num_format format = {"::", "~~~", "..", 2, 3, 2, 1, "any"};
     static const struct {
         const char *four_digits, *seven_digits;
     } texts[] = {
@@ -236,7 +176,7 @@ static void check_groupings(void) {
 
 /* Each error, by its number. */
 static void check_errors(void) {
-    const num_format zeros = {{0}, {0}, {0}, 0, 0, 0, 0};
+    const num_format zeros = {0};
     num_format en;
     char text[NUM_FORMAT_MAX];
     int64_t number;
@@ -397,7 +337,7 @@ static void check_ambiguous(void) {
     for (size_t i = 0; i < sizeof cases / sizeof *cases; i++) {
         const char *separator = cases[i].separator, *minus_sign = cases[i].minus_sign, *mark = cases[i].decimal_mark;
         num_format format = {0};
-        num_format_wide units[2] = {{7, 0}, {7, 0}};
+        uint64_t units[4] = {7, 0, 7, 0};
         int64_t number = 7, numbers[2] = {7, 7};
         uint64_t low = 7, high = 7;
         uint32_t scale = 7;
@@ -412,17 +352,17 @@ static void check_ambiguous(void) {
         CHECK(num_format_parse_strict_i128(&format, "5", 1, &low, &high, &at), cases[i].number);
         CHECK(num_format_parse_strict_u128(&format, "5", 1, &low, &high, &at), cases[i].number);
         CHECK(low == (cases[i].number ? 7 : 5) && at == 7, 1);
-        CHECK(num_format_parse_strict_i64_column(&format, offsets, 3, "56", 2, numbers, statuses, 2), cases[i].number);
+        CHECK(num_format_parse_column(&format, NUM_FORMAT_I64, 0, offsets, sizeof offsets, NUM_FORMAT_I32, "56", 2,
+                                      numbers, sizeof numbers, NULL, 0, 0, statuses, 2), cases[i].number);
         CHECK(numbers[1] == (cases[i].number ? 7 : 6) && statuses[1] == (cases[i].number ? 7 : 0), 1);
-        CHECK(num_format_parse_strict_i64_column(&format, offsets, 2, "56", 2, numbers, statuses, 2),
-              cases[i].number ? -19 : -15);
+        CHECK(num_format_parse_column(&format, NUM_FORMAT_I64, 1, offsets, sizeof offsets, NUM_FORMAT_I32, "56", 2,
+                                      numbers, sizeof numbers, NULL, 0, 0, statuses, 2), 0);
         statuses[1] = 7;
         CHECK(num_format_parse_decimal(&format, "5", 1, &low, &high, &scale, &at), cases[i].decimal);
         CHECK(scale, cases[i].decimal ? 7 : 0);
-        CHECK(num_format_parse_decimal_column(&format, offsets, 3, "56", 2, units, statuses, 2, 0), cases[i].decimal);
-        CHECK(units[1].low == (cases[i].decimal ? 7 : 6) && statuses[1] == (cases[i].decimal ? 7 : 0), 1);
-        CHECK(num_format_parse_decimal_column(&format, offsets, 3, "56", 2, units, statuses, 2, 39), -13);
-        CHECK(num_format_parse_i64_column(&format, offsets, 3, "56", 2, numbers, statuses, 2), 0);
+        CHECK(num_format_parse_decimal_column(&format, 0, offsets, sizeof offsets, NUM_FORMAT_I32, "56", 2, units,
+                                              sizeof units, NULL, 0, 0, statuses, 2), cases[i].decimal);
+        CHECK(units[2] == (cases[i].decimal ? 7 : 6) && statuses[1] == (cases[i].decimal ? 7 : 0), 1);
     }
 }
 
@@ -475,141 +415,6 @@ static void check_longest(void) {
     CHECK(num_format_print_decimal(&format, 0, (uint64_t)1 << 63, 1, decimal, NUM_FORMAT_DECIMAL_MAX),
           NUM_FORMAT_DECIMAL_MAX);
     check_bytes("the longest decimal", decimal, longest_decimal);
-}
-
-/* Three values of which the second is null, with offsets of either size. */
-#define CHECK_NULLABLE(name, parse, type, numbers, texts) do { \
-        static const uint8_t first_and_last = 0xfd; \
-        const int32_t wanted[] = {0, 1, 1, sizeof texts - 1}; \
-        type found[3]; \
-        int32_t ends[4], row_statuses[3] = {9, 9, 9}; \
-        int64_t large_ends[4]; \
-        char room[sizeof texts]; \
-        size_t needed = 0; \
-        memset(room, 'x', sizeof room); \
-        CHECK(num_format_print_nullable_##name##_column_len(&de, numbers, 3, &first_and_last, 1, &needed), 0); \
-        compare("length with a null for " #name, (long long)needed, sizeof texts - 1); \
-        CHECK(num_format_print_nullable_##name##_column(&de, numbers, 3, &first_and_last, 1, ends, 4, room, needed), 0); \
-        check_bytes("texts with a null of " #name, room, texts "x"); \
-        compare("offsets with a null for " #name, memcmp(ends, wanted, sizeof ends), 0); \
-        CHECK(num_format_print_nullable_##name##_large_column(&de, numbers, 3, &first_and_last, 1, large_ends, 4, room, needed), 0); \
-        compare("large offsets with a null for " #name, large_ends[1] == 1 && large_ends[2] == 1 && large_ends[3] == wanted[3], 1); \
-        memset(found, 0x55, sizeof found); \
-        const type before = found[1]; \
-        CHECK(num_format_parse_nullable_##name##_column(&de, ends, 4, room, needed, found, row_statuses, 3, &first_and_last, 1), 0); \
-        compare("parsed with a null for " #name, memcmp(found, numbers, sizeof *found) == 0 && memcmp(found + 2, numbers + 2, sizeof *found) == 0, 1); \
-        compare("a null as it was for " #name, memcmp(found + 1, &before, sizeof before) == 0 && row_statuses[1] == 0, 1); \
-        CHECK(num_format_parse_##parse##_large_column(&de, large_ends, 4, room, needed, found, row_statuses, 3, &first_and_last, 1), 0); \
-        compare("statuses with a null for " #name, row_statuses[0] == 0 && row_statuses[1] == 0 && row_statuses[2] == 0, 1); \
-        CHECK(num_format_print_nullable_##name##_column(&de, numbers, 3, &first_and_last, 0, ends, 4, room, needed), NUM_FORMAT_BAD_LENGTH); \
-        CHECK(num_format_print_nullable_##name##_column_len(&de, numbers, 3, &first_and_last, 0, &needed), NUM_FORMAT_BAD_LENGTH); \
-        CHECK(num_format_parse_nullable_##name##_column(&de, ends, 4, room, needed, found, row_statuses, 3, &first_and_last, 0), NUM_FORMAT_BAD_LENGTH); \
-    } while (0)
-
-/* Columns of 7, a number at an end of the type and 100, printed and parsed with offsets of either size. */
-#define CHECK_COLUMNS(name, type, seven, end, hundred, end_text) do { \
-        static const type numbers[] = {seven, end, hundred}; \
-        static const char texts[] = "7" end_text "100"; \
-        const size_t size = sizeof texts - 1; \
-        type parsed[3]; \
-        int32_t offsets[4], statuses[3]; \
-        int64_t large[4]; \
-        char bytes[64]; \
-        size_t length = 0; \
-        CHECK(num_format_print_##name##_column_len(&de, numbers, 3, &length), 0); \
-        compare("length for " #name, (long long)length, (long long)size); \
-        CHECK(num_format_print_##name##_column(&de, numbers, 3, offsets, 4, bytes, size), 0); \
-        check_bytes("texts of " #name, bytes, texts); \
-        compare("offsets for " #name, offsets[0] == 0 && offsets[1] == 1 && offsets[2] == (int32_t)size - 3 && offsets[3] == (int32_t)size, 1); \
-        CHECK(num_format_print_##name##_large_column(&de, numbers, 3, large, 4, bytes, size), 0); \
-        compare("large offsets for " #name, large[0] == 0 && large[1] == 1 && large[2] == (int64_t)size - 3 && large[3] == (int64_t)size, 1); \
-        CHECK(num_format_parse_##name##_column(&de, offsets, 4, bytes, size, parsed, statuses, 3), 0); \
-        compare("parsed for " #name, memcmp(parsed, numbers, sizeof numbers) == 0 && statuses[0] == 0 && statuses[1] == 0 && statuses[2] == 0, 1); \
-        memset(parsed, 0, sizeof parsed); \
-        CHECK(num_format_parse_##name##_large_column(&de, large, 4, bytes, size, parsed, statuses, 3), 0); \
-        compare("parsed, large, for " #name, memcmp(parsed, numbers, sizeof numbers), 0); \
-        bytes[0] = 'x'; \
-        memset(parsed, 0x55, sizeof parsed); \
-        const type kept = parsed[0]; \
-        CHECK(num_format_parse_strict_##name##_column(&de, offsets, 4, bytes, size, parsed, statuses, 3), 0); \
-        compare("refused for " #name, statuses[0] == NUM_FORMAT_UNEXPECTED && memcmp(&kept, parsed, sizeof kept) == 0 && statuses[1] == 0, 1); \
-        CHECK(num_format_parse_strict_##name##_large_column(&de, large, 4, bytes, size, parsed, statuses, 3), 0); \
-        CHECK(num_format_print_##name##_column(&de, numbers, 3, offsets, 3, bytes, size), NUM_FORMAT_BAD_LENGTH); \
-        CHECK_NULLABLE(name, strict_nullable_##name, type, numbers, "7100"); \
-        CHECK(num_format_print_##name##_column(&de, numbers, 3, offsets, 4, bytes, size - 1), NUM_FORMAT_TOO_SMALL); \
-        CHECK(num_format_parse_##name##_column(&de, offsets, 4, bytes, size - 1, parsed, statuses, 3), NUM_FORMAT_BAD_OFFSETS); \
-    } while (0)
-
-/* A number of 128 bits in a column. */
-#define WIDE(low, high) {low, high}
-
-static void check_columns(void) {
-    num_format de;
-    CHECK(num_format_locale(&de, "de", 2), 0);
-    CHECK_COLUMNS(i8, int8_t, 7, INT8_MIN, 100, "-128");
-    CHECK_COLUMNS(i16, int16_t, 7, INT16_MIN, 100, "-32.768");
-    CHECK_COLUMNS(i32, int32_t, 7, INT32_MIN, 100, "-2.147.483.648");
-    CHECK_COLUMNS(i64, int64_t, 7, INT64_MIN, 100, "-9.223.372.036.854.775.808");
-    CHECK_COLUMNS(u8, uint8_t, 7, UINT8_MAX, 100, "255");
-    CHECK_COLUMNS(u16, uint16_t, 7, UINT16_MAX, 100, "65.535");
-    CHECK_COLUMNS(u32, uint32_t, 7, UINT32_MAX, 100, "4.294.967.295");
-    CHECK_COLUMNS(u64, uint64_t, 7, UINT64_MAX, 100, "18.446.744.073.709.551.615");
-    CHECK_COLUMNS(i128, num_format_wide, WIDE(7, 0), WIDE(0, (uint64_t)1 << 63), WIDE(100, 0),
-                  "-170.141.183.460.469.231.731.687.303.715.884.105.728");
-    CHECK_COLUMNS(u128, num_format_wide, WIDE(7, 0), WIDE(0, 1), WIDE(100, 0), "18.446.744.073.709.551.616");
-}
-
-/* Columns of decimals at scale 2: 7.05, -0.50, 1234.00. */
-static void check_decimal_columns(void) {
-    static const num_format_wide units[] = {{705, 0}, {(uint64_t)-50, UINT64_MAX}, {123400, 0}};
-    static const char texts[] = "7,05-0,501.234,00", others[] = "7,051,234,5";
-    static const int32_t other_offsets[] = {0, 1, 3, 5, 11};
-    static const uint8_t first_and_last = 5;
-    const size_t size = sizeof texts - 1;
-    num_format de;
-    num_format_wide parsed[4];
-    int32_t offsets[4], statuses[4];
-    int64_t large[4];
-    char bytes[sizeof texts];
-    size_t length = 0;
-    CHECK(num_format_locale(&de, "de", 2), 0);
-    CHECK(num_format_print_decimal_column_len(&de, units, 3, 2, &length), 0);
-    CHECK(length, (long long)size);
-    CHECK(num_format_print_decimal_column(&de, units, 3, 2, offsets, 4, bytes, size), 0);
-    check_bytes("decimals", bytes, texts);
-    CHECK(offsets[0] == 0 && offsets[1] == 4 && offsets[2] == 9 && offsets[3] == 17, 1);
-    CHECK(num_format_print_decimal_large_column(&de, units, 3, 2, large, 4, bytes, size), 0);
-    CHECK(large[0] == 0 && large[1] == 4 && large[2] == 9 && large[3] == 17, 1);
-    memset(parsed, 0x55, sizeof parsed);
-    CHECK(num_format_parse_decimal_column(&de, offsets, 4, bytes, size, parsed, statuses, 3, 2), 0);
-    CHECK(memcmp(parsed, units, sizeof units) == 0 && statuses[0] == 0 && statuses[1] == 0 && statuses[2] == 0, 1);
-    CHECK(num_format_parse_decimal_large_column(&de, large, 4, bytes, size, parsed, statuses, 3, 3), 0);
-    CHECK(parsed[0].low == 7050 && parsed[1].low == (uint64_t)-500 && parsed[2].low == 1234000, 1);
-    /* "7", ",0", "51" and ",234,5" at scale 0, and at a scale that the last does not have. */
-    memset(parsed, 0x55, sizeof parsed);
-    CHECK(num_format_parse_decimal_column(&de, other_offsets, 5, others, sizeof others - 1, parsed, statuses, 4, 0), 0);
-    CHECK(statuses[0] == 0 && statuses[1] == NUM_FORMAT_MISSPELLED && statuses[2] == 0 && statuses[3] == NUM_FORMAT_UNEXPECTED, 1);
-    CHECK(parsed[0].low == 7 && parsed[0].high == 0 && parsed[1].low == 0x5555555555555555 && parsed[2].low == 51, 1);
-    CHECK(num_format_parse_decimal_column(&de, offsets, 4, bytes, size, parsed, statuses, 3, 1), 0);
-    CHECK(statuses[0] == NUM_FORMAT_DIGITS_LOST && statuses[1] == 0 && statuses[2] == 0 && parsed[1].low == (uint64_t)-5, 1);
-    CHECK(num_format_parse_decimal_column(&de, offsets, 4, bytes, size, parsed, statuses, 3, 38), 0);
-    CHECK(statuses[0] == NUM_FORMAT_OUT_OF_RANGE && statuses[1] == 0 && statuses[2] == NUM_FORMAT_OUT_OF_RANGE, 1);
-    CHECK(num_format_print_decimal_column(&de, units, 3, 39, offsets, 4, bytes, size), NUM_FORMAT_BAD_SCALE);
-    CHECK(num_format_print_decimal_column_len(&de, units, 3, 39, &length), NUM_FORMAT_BAD_SCALE);
-    CHECK(num_format_parse_decimal_column(&de, offsets, 4, bytes, size, parsed, statuses, 3, 39), NUM_FORMAT_BAD_SCALE);
-    CHECK(num_format_print_decimal_column(&de, units, 3, 2, offsets, 4, bytes, size - 1), NUM_FORMAT_TOO_SMALL);
-    memset(bytes, 'x', sizeof bytes);
-    memset(parsed, 0x55, sizeof parsed);
-    CHECK(num_format_print_nullable_decimal_column_len(&de, units, 3, 2, &first_and_last, 1, &length), 0);
-    CHECK(length, 12);
-    CHECK(num_format_print_nullable_decimal_column(&de, units, 3, 2, &first_and_last, 1, offsets, 4, bytes, 12), 0);
-    check_bytes("decimals and a null", bytes, "7,051.234,00x");
-    CHECK(offsets[1] == 4 && offsets[2] == 4 && offsets[3] == 12, 1);
-    CHECK(num_format_print_nullable_decimal_large_column(&de, units, 3, 2, &first_and_last, 1, large, 4, bytes, 12), 0);
-    CHECK(large[1] == 4 && large[2] == 4 && large[3] == 12, 1);
-    CHECK(num_format_parse_nullable_decimal_column(&de, offsets, 4, bytes, 12, parsed, statuses, 3, 2, &first_and_last, 1), 0);
-    CHECK(parsed[0].low == 705 && parsed[1].low == 0x5555555555555555 && parsed[2].low == 123400 && statuses[1] == 0, 1);
-    CHECK(num_format_parse_nullable_decimal_large_column(&de, large, 4, bytes, 12, parsed, statuses, 3, 2, &first_and_last, 0), NUM_FORMAT_BAD_LENGTH);
 }
 
 static void check_names(void) {
@@ -697,7 +502,5 @@ int main(void) {
     check_longest();
     check_names();
     check_lookup();
-    check_columns();
-    check_decimal_columns();
     return status;
 }

@@ -16,9 +16,12 @@ static int is_column_kept(int64_t first) {
     int64_t numbers[ROWS], parsed[ROWS];
     int32_t offsets[ROWS + 1], statuses[ROWS];
     char bytes[ROWS * 27];
+    size_t length;
     for (int64_t k = 0; k < ROWS; k++) numbers[k] = first * k;
-    return num_format_print_i64_column(&format, numbers, ROWS, offsets, ROWS + 1, bytes, sizeof bytes) == 0
-        && num_format_parse_strict_i64_column(&format, offsets, ROWS + 1, bytes, sizeof bytes, parsed, statuses, ROWS) == 0
+    return num_format_print_column(&format, NUM_FORMAT_I64, numbers, sizeof numbers, NULL, 0, 0, offsets, sizeof offsets,
+                                   NUM_FORMAT_I32, bytes, sizeof bytes, &length) == 0
+        && num_format_parse_column(&format, NUM_FORMAT_I64, 0, offsets, sizeof offsets, NUM_FORMAT_I32, bytes, length,
+                                   parsed, sizeof parsed, NULL, 0, 0, statuses, ROWS) == 0
         && memcmp(numbers, parsed, sizeof numbers) == 0;
 }
 

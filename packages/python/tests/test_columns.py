@@ -9,6 +9,7 @@ import pytest
 
 import num_format
 from num_format import Cause, Format, FormatError, ParseError
+from num_format._native import ffi, lib
 
 np = pytest.importorskip("numpy")
 columns = pytest.importorskip("num_format.columns")
@@ -393,6 +394,14 @@ def test_more_bytes_than_offsets_of_32_bits_say():
     form = Format(separator="12345678", minus_sign="12345678", grouping="Indian")
     width = len(num_format.format(-(2**63), form))
     assert width == 91
-    numbers = np.full(2**31 // width + 1, -(2**63))
+    # The texts have 2**31 bytes together.
+    numbers = np.full(2**31 // width + 2**31 % width, -(2**63))
+    numbers[2**31 // width :] = 0
     with pytest.raises(OverflowError, match="large=True"):
         columns.format_column(numbers, form)
+    for given, status in [(numbers, lib.NUM_FORMAT_TOO_MANY_BYTES), (numbers[:-1], lib.NUM_FORMAT_TOO_SMALL)]:
+        offsets, data, length = np.full(len(given) + 1, 7, dtype=np.int32), bytearray(b"7"), ffi.new("size_t *", 7)
+        values = lib.NUM_FORMAT_I64, ffi.from_buffer(given), given.nbytes, ffi.NULL, 0, 0
+        texts = ffi.from_buffer(offsets), offsets.nbytes, lib.NUM_FORMAT_I32, ffi.from_buffer(data), len(data), length
+        assert lib.num_format_print_column(form._struct, *values, *texts) == status
+        assert (offsets == 7).all() and (data, length[0]) == (b"7", 7)

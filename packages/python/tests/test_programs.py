@@ -50,8 +50,7 @@ def test_library_by_pkg_config(tmp_path):
         pytest.skip("there is no `pkg-config`")
     (tmp_path / "libnum_format.a").touch()
     (tmp_path / "include").mkdir()
-    columns = "/* The calls for columns, none. */\n/* The end of the calls for columns. */\n"
-    (tmp_path / "include" / "num_format.h").write_text(columns)
+    (tmp_path / "include" / "num_format.h").touch()
     places = f"libdir={tmp_path}\nincludedir={tmp_path}/include\n"
     (tmp_path / "num_format.pc").write_text(f"{places}Name: num_format\nDescription: -\nVersion: 0.1.0\n")
     status, output, errors = run("-c", HOW, PKG_CONFIG_PATH=str(tmp_path))

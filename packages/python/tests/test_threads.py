@@ -42,8 +42,8 @@ def test_columns_release_the_gil():
     from num_format._native import ffi, lib
 
     numbers = np.full(10**7, 2**62)
-    struct, length = Format()._struct, ffi.new("size_t *")
-    pointer = ffi.from_buffer("int64_t[]", numbers)
+    length = ffi.new("size_t *")
+    given = Format()._struct, lib.NUM_FORMAT_I64, ffi.from_buffer(numbers), numbers.nbytes, ffi.NULL, 0, 0, length
 
     def goes_on():
         """Whether this thread had a turn in the middle half of a call in another one."""
@@ -51,7 +51,7 @@ def test_columns_release_the_gil():
 
         def work():
             times.append(time.monotonic())
-            lib.num_format_print_i64_column_len(struct, pointer, len(numbers), length)
+            lib.num_format_print_column_len(*given)
             times.append(time.monotonic())
 
         thread = threading.Thread(target=work)

@@ -45,6 +45,7 @@ pub(crate) struct RawFormat {
     minus_sign_length: u8,
     decimal_mark_length: u8,
     grouping: u8,
+    reserved: [u8; 4],
 }
 
 extern "C" {
@@ -69,33 +70,6 @@ extern "C" {
         name: *mut u8,
         capacity: usize,
     ) -> i32;
-
-    fn num_format_print_i64(
-        format: *const RawFormat,
-        number: i64,
-        text: *mut u8,
-        capacity: usize,
-    ) -> i32;
-    fn num_format_print_u64(
-        format: *const RawFormat,
-        number: u64,
-        text: *mut u8,
-        capacity: usize,
-    ) -> i32;
-    fn num_format_print_i128(
-        format: *const RawFormat,
-        low: u64,
-        high: u64,
-        text: *mut u8,
-        capacity: usize,
-    ) -> i32;
-    fn num_format_print_u128(
-        format: *const RawFormat,
-        low: u64,
-        high: u64,
-        text: *mut u8,
-        capacity: usize,
-    ) -> i32;
     fn num_format_print_decimal(
         format: *const RawFormat,
         low: u64,
@@ -103,68 +77,6 @@ extern "C" {
         scale: u32,
         text: *mut u8,
         capacity: usize,
-    ) -> i32;
-
-    fn num_format_parse_i64(
-        format: *const RawFormat,
-        bits: u32,
-        text: *const u8,
-        length: usize,
-        number: *mut i64,
-    ) -> i32;
-    fn num_format_parse_u64(
-        format: *const RawFormat,
-        bits: u32,
-        text: *const u8,
-        length: usize,
-        number: *mut u64,
-    ) -> i32;
-    fn num_format_parse_i128(
-        format: *const RawFormat,
-        text: *const u8,
-        length: usize,
-        low: *mut u64,
-        high: *mut u64,
-    ) -> i32;
-    fn num_format_parse_u128(
-        format: *const RawFormat,
-        text: *const u8,
-        length: usize,
-        low: *mut u64,
-        high: *mut u64,
-    ) -> i32;
-
-    fn num_format_parse_strict_i64(
-        format: *const RawFormat,
-        bits: u32,
-        text: *const u8,
-        length: usize,
-        number: *mut i64,
-        at: *mut usize,
-    ) -> i32;
-    fn num_format_parse_strict_u64(
-        format: *const RawFormat,
-        bits: u32,
-        text: *const u8,
-        length: usize,
-        number: *mut u64,
-        at: *mut usize,
-    ) -> i32;
-    fn num_format_parse_strict_i128(
-        format: *const RawFormat,
-        text: *const u8,
-        length: usize,
-        low: *mut u64,
-        high: *mut u64,
-        at: *mut usize,
-    ) -> i32;
-    fn num_format_parse_strict_u128(
-        format: *const RawFormat,
-        text: *const u8,
-        length: usize,
-        low: *mut u64,
-        high: *mut u64,
-        at: *mut usize,
     ) -> i32;
     fn num_format_parse_decimal(
         format: *const RawFormat,
@@ -175,7 +87,6 @@ extern "C" {
         scale: *mut u32,
         at: *mut usize,
     ) -> i32;
-
     fn num_format_reads_back(format: *const RawFormat) -> i32;
     fn num_format_prints_alike(first: *const RawFormat, second: *const RawFormat) -> i32;
 }
@@ -190,6 +101,7 @@ impl RawFormat {
         minus_sign_length: 1,
         decimal_mark_length: 1,
         grouping: 3,
+        reserved: [0; 4],
     };
 
     /// Returns what whole numbers need of a format. Its decimal mark is not asked for.
@@ -219,6 +131,7 @@ impl RawFormat {
             minus_sign_length,
             decimal_mark_length,
             grouping: code(format.grouping()),
+            reserved: [0; 4],
         }
     }
 
@@ -418,6 +331,30 @@ pub(crate) trait Number: Sized {
 
 macro_rules! impl_number {
     ($type:ty, $print:ident, $parse:ident, $parse_strict:ident) => {
+        extern "C" {
+            fn $print(
+                format: *const RawFormat,
+                number: $type,
+                text: *mut u8,
+                capacity: usize,
+            ) -> i32;
+            fn $parse(
+                format: *const RawFormat,
+                bits: u32,
+                text: *const u8,
+                length: usize,
+                number: *mut $type,
+            ) -> i32;
+            fn $parse_strict(
+                format: *const RawFormat,
+                bits: u32,
+                text: *const u8,
+                length: usize,
+                number: *mut $type,
+                at: *mut usize,
+            ) -> i32;
+        }
+
         impl Number for $type {
             #[inline]
             fn print<const N: usize>(self, format: &RawFormat, text: &mut Text<N>) {
@@ -470,6 +407,31 @@ impl_number!(
 /// Numbers of 128 bits are given and returned by their halves.
 macro_rules! impl_wide_number {
     ($type:ty, $print:ident, $parse:ident, $parse_strict:ident) => {
+        extern "C" {
+            fn $print(
+                format: *const RawFormat,
+                low: u64,
+                high: u64,
+                text: *mut u8,
+                capacity: usize,
+            ) -> i32;
+            fn $parse(
+                format: *const RawFormat,
+                text: *const u8,
+                length: usize,
+                low: *mut u64,
+                high: *mut u64,
+            ) -> i32;
+            fn $parse_strict(
+                format: *const RawFormat,
+                text: *const u8,
+                length: usize,
+                low: *mut u64,
+                high: *mut u64,
+                at: *mut usize,
+            ) -> i32;
+        }
+
         impl Number for $type {
             #[inline]
             fn print<const N: usize>(self, format: &RawFormat, text: &mut Text<N>) {

@@ -48,11 +48,8 @@ __all__ = [
     "try_parse_decimal_column",
 ]
 
-# The dtypes of offsets, and the part of a call's name that says which.
-_OFFSETS = {np.dtype(np.int32): "", np.dtype(np.int64): "_large"}
-
-# The dtypes of numbers, and the part of a call's name that says which.
-_NUMBERS = {np.dtype(f"{kind}{bits // 8}"): f"{kind}{bits}" for kind in "iu" for bits in (8, 16, 32, 64)}
+# The dtypes of numbers, and the library's number of each.
+_TYPES = {np.dtype(f"{k}{n}"): getattr(lib, f"NUM_FORMAT_{k.upper()}{8 * n}") for k in "iu" for n in (1, 2, 4, 8)}
 
 #: The dtype of the units of decimals of 128 bits, in two's complement: that of Apache Arrow's type decimal128.
 WIDE = np.dtype([("low", np.uint64), ("high", np.int64)])
@@ -105,7 +102,7 @@ class StringColumn(Sequence["str | None"]):
     def __init__(self, offsets: npt.ArrayLike, data: Any, validity: Any = None) -> None:
         given = _one_dimension(np.asarray(offsets), "the offsets")
         native = given.dtype.newbyteorder("=")
-        if native not in _OFFSETS:
+        if native not in (np.int32, np.int64):
             raise TypeError(f"the offsets must be int32 or int64, not {given.dtype}")
         self.offsets = np.ascontiguousarray(given, dtype=native)
         self.data = np.frombuffer(data, dtype=np.uint8)
@@ -309,9 +306,9 @@ def format_column(
     """
     struct = to_format(format)._struct
     given, valid = _not_null(values, "the numbers")
-    dtype, name = _number(given.dtype)
-    numbers = np.ascontiguousarray(given, dtype=dtype)
-    column = _printed(name, large, struct, ffi.from_buffer(f"{dtype}_t[]", numbers), len(numbers))
+    numbers = np.ascontiguousarray(given, dtype=_integers(given.dtype))
+    passed = struct, _TYPES[numbers.dtype], *_buffer(numbers)
+    column = _printed(lib.num_format_print_column, lib.num_format_print_column_len, passed, len(numbers), large)
     return column if valid is None else _with_nulls(column, valid)
 
 
@@ -372,12 +369,10 @@ def try_parse_column(
     >>> [Cause(cause) for cause in causes[causes != 0]]
     [Cause.MISSPELLED, Cause.UNEXPECTED]
     """
-    form = to_format(format)
-    native, name = _number(np.dtype(dtype))
+    form, native = to_format(format), _integers(np.dtype(dtype))
     texts = _to_column(column)
     values = np.zeros(len(texts), dtype=native)
-    way = "" if lenient else "strict_"
-    causes = _parse_into(ffi.from_buffer(f"{native}_t[]", values), f"{way}{name}", form, texts)
+    causes = _parse_into(values, lib.num_format_parse_column, form, (_TYPES[native], bool(lenient)), texts)
     return _parsed(values, causes, texts)
 
 
@@ -412,7 +407,8 @@ def format_decimal_column(
     struct, scale = to_format(format)._struct, _to_scale(scale)
     given, valid = _not_null(units, "the units")
     wide = _to_wide(given, scale)
-    column = _printed("decimal", large, struct, ffi.from_buffer("num_format_wide[]", wide), len(wide), scale)
+    calls = lib.num_format_print_decimal_column, lib.num_format_print_decimal_column_len
+    column = _printed(*calls, (struct, *_buffer(wide), scale), len(wide), large)
     return column if valid is None else _with_nulls(column, valid)
 
 
@@ -468,47 +464,55 @@ def try_parse_decimal_column(
     ([150, None, None], array([False,  True,  True]))
     """
     form, scale = to_format(format), _to_scale(scale)
-    native = np.dtype(dtype) if np.dtype(dtype) in (WIDE, object) else _number(np.dtype(dtype))[0]
+    native = np.dtype(dtype) if np.dtype(dtype) in (WIDE, object) else _integers(np.dtype(dtype))
     texts = _to_column(column)
     units = np.zeros(len(texts), dtype=WIDE)
-    causes = _parse_into(ffi.from_buffer("num_format_wide[]", units), "decimal", form, texts, scale)
+    causes = _parse_into(units, lib.num_format_parse_decimal_column, form, (scale,), texts)
     return _parsed(_narrowed(units, causes, native, scale), causes, texts)
 
 
-def _printed(name: str, large: bool, struct: Any, numbers: Any, count: int, *scale: int) -> StringColumn:
-    """Returns the texts that the calls of the library of that name print."""
-    length = ffi.new("size_t *")
-    _check(getattr(lib, f"num_format_print_{name}_column_len")(struct, numbers, count, *scale, length))
+def _buffer(array: npt.NDArray[Any], item: str = "uint8_t") -> tuple[Any, int]:
+    """Returns what a call is passed of an array: where its bytes are, and how many."""
+    return ffi.from_buffer(f"{item}[]", array), array.nbytes
+
+
+def _printed(
+    call: Callable[..., int], measure: Callable[..., int], passed: tuple[Any, ...], count: int, large: bool
+) -> StringColumn:
+    """Returns the texts of numbers, which are passed to a call that prints them and to one that measures the texts."""
+    length, no_nulls = ffi.new("size_t *"), (ffi.NULL, 0, 0)
+    _check(measure(*passed, *no_nulls, length))
     offsets = np.empty(count + 1, dtype=np.int64 if large else np.int32)
     if length[0] > np.iinfo(offsets.dtype).max:
         _check(lib.NUM_FORMAT_TOO_MANY_BYTES)
     data = np.empty(length[0], dtype=np.uint8)
-    call = getattr(lib, f"num_format_print_{name}{_OFFSETS[offsets.dtype]}_column")
-    outputs = ffi.from_buffer(f"{offsets.dtype}_t[]", offsets), ffi.from_buffer("char[]", data)
-    _check(call(struct, numbers, count, *scale, outputs[0], len(offsets), outputs[1], len(data)))
+    outputs = *_buffer(offsets), _TYPES[offsets.dtype], *_buffer(data, "char")
+    _check(call(*passed, *no_nulls, *outputs, length))
     return _unchecked(offsets, data)
 
 
-def _parse_into(numbers: Any, name: str, form: Format, texts: StringColumn, *scale: int) -> npt.NDArray[np.int32]:
-    """Parses texts by the call of the library of that name, and returns the status of each row."""
-    offsets, data, causes = texts.offsets, texts.data, np.zeros(len(texts), dtype=np.int32)
-    call = getattr(lib, f"num_format_parse_{name}{_OFFSETS[offsets.dtype]}_column")
-    inputs = ffi.from_buffer(f"{offsets.dtype}_t[]", offsets), len(offsets), ffi.from_buffer("char[]", data), len(data)
-    statuses = ffi.from_buffer("int32_t[]", causes)
-    status = call(form._struct, *inputs, numbers, statuses, len(texts), *scale)
+def _parse_into(
+    values: npt.NDArray[Any], call: Callable[..., int], form: Format, how: tuple[int, ...], texts: StringColumn
+) -> npt.NDArray[np.int32]:
+    """Parses texts by a call, which writes values but of rows that are null or refused, and returns the statuses."""
+    offsets, causes = texts.offsets, np.zeros(len(texts), dtype=np.int32)
+    inputs = *_buffer(offsets), _TYPES[offsets.dtype], *_buffer(texts.data, "char")
+    validity = (ffi.NULL, 0) if texts.validity is None else _buffer(texts.validity)
+    outputs = *_buffer(values), *validity, 0, ffi.from_buffer("int32_t[]", causes), len(causes)
+    status = call(form._struct, *how, *inputs, *outputs)
     if status == lib.NUM_FORMAT_AMBIGUOUS_FORMAT:
         raise FormatError("format", repr(form), Cause(status))
     _check(status)
     return causes
 
 
-def _number(dtype: np.dtype[Any]) -> tuple[np.dtype[Any], str]:
-    """Returns the dtype of integers in the processor's byte order, and its part of a call's name."""
+def _integers(dtype: np.dtype[Any]) -> np.dtype[Any]:
+    """Returns the dtype of integers in the processor's byte order."""
     native = dtype.newbyteorder("=")
-    if native not in _NUMBERS:
+    if native not in _TYPES:
         inexact = ": a float is not exact" if dtype.kind == "f" else ""
         raise TypeError(f"the dtype must be one of integers of 8 to 64 bits, not {dtype}{inexact}")
-    return native, _NUMBERS[native]
+    return native
 
 
 def _one_dimension(array: npt.NDArray[Any], what: str) -> npt.NDArray[Any]:
@@ -563,11 +567,8 @@ def _with_nulls(column: StringColumn, valid: npt.NDArray[np.bool_]) -> StringCol
 
 
 def _parsed(values: npt.NDArray[Any], causes: npt.NDArray[np.int32], column: StringColumn) -> ParsedColumn:
-    """Returns what was parsed of a column, without what its nulls have."""
-    nulls = ~column.valid()
-    values[nulls] = 0
-    causes[nulls] = 0
-    return ParsedColumn(np.ma.array(values, mask=nulls | (causes != 0)), causes)
+    """Returns what was parsed of a column, in which its nulls are masked too."""
+    return ParsedColumn(np.ma.array(values, mask=~column.valid() | (causes != 0)), causes)
 
 
 def _accepted(found: ParsedColumn, texts: StringColumn, parse: Callable[[str], object]) -> npt.NDArray[Any]:
@@ -595,11 +596,9 @@ def _to_wide(units: npt.NDArray[Any], scale: int) -> npt.NDArray[Any]:
     if units.dtype == object:
         whole = [_units_at(number, scale) for number in units]
         return np.array([(number & 2**64 - 1, number >> 64) for number in whole], dtype=WIDE)
-    numbers = units.astype(_number(units.dtype)[0])
+    numbers = units.astype(_integers(units.dtype))
     wide = np.zeros(len(numbers), dtype=WIDE)
-    wide["low"] = numbers.astype(np.int64).view(np.uint64) if numbers.dtype.kind == "i" else numbers
-    wide["high"] = numbers < 0
-    np.negative(wide["high"], out=wide["high"])
+    wide["low"], wide["high"] = numbers.astype(np.uint64), -(numbers < 0).astype(np.int64)
     return wide
 
 
