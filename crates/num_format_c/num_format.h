@@ -12,7 +12,7 @@
  * Lengths, capacities and sizes are in bytes. Texts are UTF-8 with no zero byte after them. No call
  * allocates, and none keeps a pointer or has a state, so calls may be made from any thread.
  *
- * A call that fails returns a negative number, one of the errors at the end, and everything that it would
+ * A call that fails returns a negative number, one of the errors below, and everything that it would
  * have written is as it was, but for `at` with NUM_FORMAT_UNEXPECTED. Where several errors apply, each
  * call says which one it returns.
  *
@@ -293,6 +293,7 @@ typedef enum num_format_type {
  *   offset k + 1 says. Offsets are of NUM_FORMAT_I32 or NUM_FORMAT_I64, at any address, and none is below 0.
  * - Row k is null if bit bit_offset + k of the validity bitmap is 0. Bit b is bit b % 8, from the lowest, of byte
  *   b / 8. If validity_size is 0, no row is null.
+ * - Statuses are aligned as C aligns them, and statuses_length is how many there are, and no size in bytes.
  *
  * After any error all is as it was. What two of the errors are in each call:
  *

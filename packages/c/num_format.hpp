@@ -155,12 +155,12 @@ class format {
 public:
     /// The format of a locale. Throws not_utf8 or unknown_locale.
     static format locale(std::string_view name) {
-        return format([=](num_format *held) { return num_format_locale(held, name.data(), name.size()); });
+        return format([=](num_format *to) { return num_format_locale(to, name.data(), name.size()); });
     }
 
     /// The format of the locale for a language tag, such as "de_DE.UTF-8". Throws not_utf8 or unknown_locale.
     static format lookup(std::string_view tag) {
-        return format([=](num_format *held) { return num_format_lookup(held, tag.data(), tag.size()); });
+        return format([=](num_format *to) { return num_format_lookup(to, tag.data(), tag.size()); });
     }
 
     /// The name of that locale. Throws not_utf8 or unknown_locale.
@@ -172,8 +172,8 @@ public:
     /// A format of your own. Throws not_utf8, too_long or bad_grouping.
     static format custom(std::string_view separator, std::uint32_t grouping, std::string_view minus_sign = "-",
                          std::string_view decimal_mark = ".") {
-        return format([=](num_format *held) {
-            return num_format_custom_decimal(held, separator.data(), separator.size(), grouping, minus_sign.data(),
+        return format([=](num_format *to) {
+            return num_format_custom_decimal(to, separator.data(), separator.size(), grouping, minus_sign.data(),
                                              minus_sign.size(), decimal_mark.data(), decimal_mark.size());
         });
     }
