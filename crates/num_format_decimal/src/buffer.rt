@@ -119,7 +119,7 @@ impl DecimalBuffer {
         // Most numbers fit 64 bits, which take less time than 128.
         if n <= u64::MAX as u128 && scale < NINETEEN_DIGITS {
             let whole = self.put_decimals(n as u64, scale, format);
-            put_body::<u64, F, DecimalBuffer>(whole as u128, self, format);
+            put_body(whole as u128, self, format);
             return;
         }
         self.put_wide(n, scale, format);
@@ -136,7 +136,7 @@ impl DecimalBuffer {
     {
         let (whole, rest) = split(n, scale);
         self.put_wide_decimals(rest, scale, format);
-        put_body::<u128, F, DecimalBuffer>(whole, self, format);
+        put_body(whole, self, format);
     }
 
     /// Prepends the decimal mark and the last `count` digits of `n` to the empty text, or nothing if they are none.
