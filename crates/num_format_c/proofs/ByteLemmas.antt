@@ -1,21 +1,13 @@
--- Rows of bytes.
-use Rattle.std.proofs.Common.{◌≡◌, ◌≢◌, inl, inr, ℕ, ◌+◌, ◌-◌, ◌*◌, ◌<◌, ◌≤◌, List, length, take, drop, ap, sym, ◌∙◌, arith}
+-- Rows of bytes, of which one is written.
+use Rattle.std.proofs.Common.{◌≡◌, ◌≢◌, inl, inr, ℕ, ◌+◌, ◌-◌, ◌*◌, ◌≤◌, List, length, take, drop, ap, sym, ◌∙◌, arith}
 use Rattle.std.proofs.lemmas.Nat.{row_fits}
-use Rattle.std.proofs.lemmas.Slice.{between_is, between-put_mid, take-put_mid_below, drop-put_mid}
+use Rattle.std.proofs.lemmas.Slice.{between_is, take-put_mid_below, drop-put_mid}
 use Rattle.std.proofs.lemmas.Bool.{cases_lt}
 use borrow.Rule.Slice.PartMut.{put_mid}
 use Rattle.num_format_c.specs.Layout.{row_bytes}
 
--- a row of n lies in the bytes of all
-pub row_within : (row n size len : ℕ) → row < n → len ≡ n * size → row * size + size ≤ len
-row_within row n size len under is = omega (arith, row_fits row size n size under (omega arith), is)
-
 module _ (size row k : ℕ) (old new : List ℕ) (fits : row * size + size ≤ length old) (long : length new ≡ size) (whole : k ≡ size) where
-  -- a row that is written
-  pub row_written : row_bytes size (put_mid (row * size) k old new) row ≡ new
-  row_written = between-put_mid (row * size) k old new (row * size + size) (omega arith) (omega arith)
-
-  -- and each other row
+  -- each other row stays
   pub row_left : (j : ℕ) → j ≢ row → row_bytes size (put_mid (row * size) k old new) j ≡ row_bytes size old j
   row_left j other =
       elim (cases_lt j row) [

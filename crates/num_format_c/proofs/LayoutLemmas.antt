@@ -4,11 +4,8 @@ use Rattle.std.proofs.Math.Nat.{eq-or-lt_of_le}
 use Rattle.std.proofs.lemmas.List.{take_at, drop_at, drop-drop}
 use Rattle.std.proofs.lemmas.Bool.{cases_eq, eqb-true}
 use Rattle.std.proofs.lemmas.Nat.{div-add-mod'}
-use Rattle.std.specs.Prelude.{Option, Some, None, ◌==◌, ◌&&◌, ◌/◌, ◌%◌, Bool, true, false, if◌then◌else◌}
-use Rattle.std.specs.Int.{byte_len}
-use Rattle.num_format_c.specs.Layout.{IsEnough, Representation, covers, row_count, texts_of, width}
-use Rattle.num_format_c.specs.declared.layout.offset.OffsetType.{OffsetType}
-use Rattle.num_format_c.specs.declared.layout.offset.OffsetType.TheVariants.{I32, I64}
+use Rattle.std.specs.Prelude.{Some, None, ◌==◌, ◌&&◌, ◌/◌, ◌%◌, Bool, true, false, if◌then◌else◌}
+use Rattle.num_format_c.specs.Layout.{Representation, covers, row_count, texts_of}
 
 module _ (text : ℕ → List ℕ) where
   -- one more text
@@ -65,11 +62,6 @@ row_more P a b c d n before here same alike k below =
       | inl is ↦ rw is here
       | inr other ↦ rw (same k other, alike k other) (before k (omega arith))
     ]
-
--- an offset lies in the bytes of all
-pub offset_within : (t : OffsetType) (n len k : ℕ) → IsEnough t n len → k ≤ n → (k + 1) * byte_len (width t) ≤ len
-offset_within I32 n len k enough le = omega arith
-offset_within I64 n len k enough le = omega arith
 
 -- values that are whole
 whole_if : (b c : Bool) (len size n : ℕ) → (b ≡ true → len % size ≡ 0) → (if b && c then Some (len / size) else None) ≡ Some n → len ≡ n * size

@@ -103,13 +103,13 @@ abbrev pub row_value : Representation → (values bits : List ℕ) → (bit_offs
 row_value t values bits bit_offset k = if is_valid bits bit_offset k then Some (number_at t values k) else None
 
 -- the text of a row, where that of a number is given; that of a null row is empty
-abbrev pub text_or_none : (ℤ → List ℕ) → Option ℤ → List ℕ
-text_or_none text None = []
-text_or_none text (Some z) = text z
+abbrev pub text_or_empty : (ℤ → List ℕ) → Option ℤ → List ℕ
+text_or_empty text None = []
+text_or_empty text (Some z) = text z
 
 -- the text of row k
 abbrev pub row_text : Representation → (ℤ → List ℕ) → (values bits : List ℕ) → (bit_offset k : ℕ) → List ℕ
-row_text t text values bits bit_offset k = text_or_none text (row_value t values bits bit_offset k)
+row_text t text values bits bit_offset k = text_or_empty text (row_value t values bits bit_offset k)
 
 -- the texts of the first n rows, one after another
 abbrev pub texts_of : (ℕ → List ℕ) → ℕ → List ℕ

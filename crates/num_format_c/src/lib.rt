@@ -434,7 +434,7 @@ pub extern "C" fn num_format_parse_decimal(
 ///
 /// The types are numbers, as [`ValueType`](layout::ValueType) and [`OffsetType`](layout::OffsetType) say, and the
 /// values and the offsets are bytes, in the machine's order. There is one offset more than rows, and the first is 0.
-/// Where there are no bits in `validity`, no row is null; else row k is null if bit `bit_offset + k` is not set.
+/// Where there are no bits, no row is null; else row k is null if bit `bit_offset + k` is not set.
 ///
 /// Errors, in this order: a number of no type, a struct that has no format, values that are not those of whole
 /// rows, another number of offsets or fewer bits than the rows need, more bytes than the last offset can say, an
@@ -444,25 +444,21 @@ pub extern "C" fn num_format_print_column(
     format: &NumFormat,
     value_type: u32,
     values: &[u8],
-    validity: &[u8],
+    bits: &[u8],
     bit_offset: usize,
     offsets: &mut [u8],
     offset_type: u32,
     bytes: &mut [u8],
     len: &mut usize,
 ) -> i32
-    ensures { PrintsNumbers value_type offset_type format.now values.now validity.now bit_offset
+    ensures { PrintsNumbers value_type offset_type format.now values.now bits.now bit_offset
         (to_printed offsets.old bytes.old len.old) (to_printed offsets.new bytes.new len.new) result }
 {
-    let validity = Validity {
-        bits: validity,
-        bit_offset,
-    };
     returned(columns::print(
         format,
         value_type,
         values,
-        &validity,
+        &Validity { bits, bit_offset },
         offsets,
         offset_type,
         bytes,
@@ -479,17 +475,19 @@ pub extern "C" fn num_format_print_column_len(
     format: &NumFormat,
     value_type: u32,
     values: &[u8],
-    validity: &[u8],
+    bits: &[u8],
     bit_offset: usize,
     len: &mut usize,
 ) -> i32
-    ensures { MeasuresNumbers value_type format.now values.now validity.now bit_offset len.old len.new result }
+    ensures { MeasuresNumbers value_type format.now values.now bits.now bit_offset len.old len.new result }
 {
-    let validity = Validity {
-        bits: validity,
-        bit_offset,
-    };
-    returned(columns::measure(format, value_type, values, &validity, len))
+    returned(columns::measure(
+        format,
+        value_type,
+        values,
+        &Validity { bits, bit_offset },
+        len,
+    ))
 }
 
 /// Parses the texts of a column strictly, or leniently if `lenient` is not 0, and returns 0. Writes the number and
@@ -508,17 +506,13 @@ pub extern "C" fn num_format_parse_column(
     offset_type: u32,
     bytes: &[u8],
     values: &mut [u8],
-    validity: &[u8],
+    bits: &[u8],
     bit_offset: usize,
     statuses: &mut [i32],
 ) -> i32
-    ensures { ParsesNumbers value_type offset_type lenient format.now (to_texts offsets.now bytes.now validity.now bit_offset)
+    ensures { ParsesNumbers value_type offset_type lenient format.now (to_texts offsets.now bytes.now bits.now bit_offset)
         (to_parsed values.old statuses.old) (to_parsed values.new statuses.new) result }
 {
-    let validity = Validity {
-        bits: validity,
-        bit_offset,
-    };
     returned(columns::parse(
         format,
         value_type,
@@ -527,7 +521,7 @@ pub extern "C" fn num_format_parse_column(
         offset_type,
         bytes,
         values,
-        &validity,
+        &Validity { bits, bit_offset },
         statuses,
     ))
 }
@@ -541,25 +535,21 @@ pub extern "C" fn num_format_print_decimal_column(
     format: &NumFormat,
     units: &[u8],
     scale: u32,
-    validity: &[u8],
+    bits: &[u8],
     bit_offset: usize,
     offsets: &mut [u8],
     offset_type: u32,
     bytes: &mut [u8],
     len: &mut usize,
 ) -> i32
-    ensures { PrintsDecimals scale offset_type format.now units.now validity.now bit_offset
+    ensures { PrintsDecimals scale offset_type format.now units.now bits.now bit_offset
         (to_printed offsets.old bytes.old len.old) (to_printed offsets.new bytes.new len.new) result }
 {
-    let validity = Validity {
-        bits: validity,
-        bit_offset,
-    };
     returned(columns::print_decimals(
         format,
         units,
         scale,
-        &validity,
+        &Validity { bits, bit_offset },
         offsets,
         offset_type,
         bytes,
@@ -576,17 +566,13 @@ pub extern "C" fn num_format_print_decimal_column_len(
     format: &NumFormat,
     units: &[u8],
     scale: u32,
-    validity: &[u8],
+    bits: &[u8],
     bit_offset: usize,
     len: &mut usize,
 ) -> i32
-    ensures { MeasuresDecimals scale format.now units.now validity.now bit_offset len.old len.new result }
+    ensures { MeasuresDecimals scale format.now units.now bits.now bit_offset len.old len.new result }
 {
-    let validity = Validity {
-        bits: validity,
-        bit_offset,
-    };
-    returned(columns::measure_decimals(format, units, scale, &validity, len))
+    returned(columns::measure_decimals(format, units, scale, &Validity { bits, bit_offset }, len))
 }
 
 /// Parses the texts of a column strictly as decimals, writes their units at this scale, and else does as
@@ -601,17 +587,13 @@ pub extern "C" fn num_format_parse_decimal_column(
     offset_type: u32,
     bytes: &[u8],
     units: &mut [u8],
-    validity: &[u8],
+    bits: &[u8],
     bit_offset: usize,
     statuses: &mut [i32],
 ) -> i32
-    ensures { ParsesDecimals scale offset_type format.now (to_texts offsets.now bytes.now validity.now bit_offset)
+    ensures { ParsesDecimals scale offset_type format.now (to_texts offsets.now bytes.now bits.now bit_offset)
         (to_parsed units.old statuses.old) (to_parsed units.new statuses.new) result }
 {
-    let validity = Validity {
-        bits: validity,
-        bit_offset,
-    };
     returned(columns::parse_decimals(
         format,
         scale,
@@ -619,7 +601,7 @@ pub extern "C" fn num_format_parse_decimal_column(
         offset_type,
         bytes,
         units,
-        &validity,
+        &Validity { bits, bit_offset },
         statuses,
     ))
 }

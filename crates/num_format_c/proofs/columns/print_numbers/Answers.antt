@@ -1,4 +1,3 @@
-use Rattle.std.proofs.Common.{◌≡◌}
 use Rattle.num_format_c.proofs.columns.print_numbers.Goals as goal
 
 pub returns : goal.returns

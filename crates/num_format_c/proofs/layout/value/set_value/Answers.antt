@@ -1,4 +1,4 @@
-use Rattle.std.proofs.Common.{◌≡◌, ◌+◌, ◌-◌, ◌*◌, ◌≤◌, length, arith}
+use Rattle.std.proofs.Common.{◌≡◌, ◌+◌, ◌-◌, ◌*◌, length, arith}
 use Rattle.num_format_c.proofs.ByteLemmas.{row_left}
 use Rattle.num_format_c.proofs.layout.value.set_value.Goals as goal
 
