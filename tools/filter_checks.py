@@ -35,6 +35,17 @@ FAILURES = [
     (["en", "de"], b"1000\nx\n", "stderr", 2 * [b"1.000\n"]),
     (["--invalid=fail", "en", "de"], b"1000\nx\n", "stderr", 2 * [b"1.000\n"]),
     (["en", "xx"], b"", "stderr", 2 * [b""]),
+    (["en", "de", "missing", "-"], b"1000\n", "stderr", 2 * [b"1.000\n"]),
+    (["--invalid=fail", "en", "de", "missing", "-"], b"1000\nx\n", "stderr", 2 * [b"1.000\n"]),
+    (["en", "de", "/", "-"], b"1000\n", "stderr", 2 * [b"1.000\n"]),
+    (["en", "@missing"], b"", "stderr", 2 * [b""]),
+    (["en"], b"", "stderr", 2 * [b""]),
+    (["--nope", "en", "de"], b"", "stderr", 2 * [b""]),
+    (["--field", "0", "en", "de"], b"", "stderr", 2 * [b""]),
+    (["--field", "1", "-d", "ab", "en", "de"], b"", "stderr", 2 * [b""]),
+    (["--csv", "--field", "1", "-d", '"', "en", "de"], b"", "stderr", 2 * [b""]),
+    (["--help"], b"", "stdout", 2 * [b""]),
+    (["--version"], b"", "stdout", 2 * [b""]),
 ]
 
 # What is said of the format `xx`.

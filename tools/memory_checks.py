@@ -41,6 +41,7 @@ FAILED = (3, b"", b"")
 FILTER_CASES = [
     Case("en de", [b"en", b"de"]),
     Case("en custom", [b"en", b"custom:,:Indian:-"]),
+    Case("--field 1,3- en de", [b"--field", b"1,3-", b"en", b"de"]),
     Case("en xx", [b"en", b"xx"], status=2, err=filter_checks.UNKNOWN),
 ]
 

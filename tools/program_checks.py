@@ -21,7 +21,11 @@ CRATES = ROOT / "crates"
 REGROUP = [
     (["print", "en", "1"], "stdout"),
     (["names"], "stdout"),
+    (["read", "en", "1"], "stdout"),
+    (["check", "en"], "stdout"),
+    (["alike", "en", "de"], "stdout"),
     (["print", "xx", "1"], "stderr"),
+    (["print", "en", "one"], "stderr"),
     (["custom"], "stderr"),
 ]
 

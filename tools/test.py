@@ -15,7 +15,7 @@ With --prove, side by side:
   With --edits that has all; else it has no must-fail edits, not the library that bench/ measures nor that for C, and not
   the crates of tests that trials.py names: those run unproved meanwhile, as do the examples of the doc comments.
 - Once a program is proved, the cases of cases.py run on it as each compiler built it, and what no case can say:
-  program_checks.py, filter_checks.py, memory_checks.py, which refuses memory, and the commands of the READMEs.
+  program_checks.py, filter_checks.py, stream_checks.py, memory_checks.py, which refuses memory, and the READMEs' commands.
 - `rt lib` proves and builds the library for C in this repository. Over it run the tests of each package, the programs of
   examples/ and packages/c/tests/header.c (library_checks.py), the counts of instructions (work_checks.py), with the
   programs those of a release (packages/release/checks), and own_project.py, which proves a crate in a repository of its
@@ -39,10 +39,10 @@ from tally import ROOT, Tally, heading
 # How the name of a program ends as each of the two compilers builds it.
 COMPILERS = ["", ".by-rattle"]
 
-# The programs that cases.py, program_checks.py and filter_checks.py run once they are proved, by their crates.
+# The scripts that run programs once they are proved, by their crates.
 BUILT = {
     "regroup": ["cases.py", "program_checks.py"],
-    "regroup_filter": ["cases.py", "filter_checks.py"],
+    "regroup_filter": ["cases.py", "filter_checks.py", "stream_checks.py"],
     "uses_ledger": ["cases.py", "program_checks.py"],
     "test_readme": ["cases.py", "program_checks.py"],
     "test_oracle": ["program_checks.py"],

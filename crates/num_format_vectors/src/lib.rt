@@ -22,6 +22,7 @@
 //! | `alike` | pairs of formats that print all numbers alike, and pairs that do not |
 //! | `constants` | the name of each constant of `Locale` |
 //! | `users` | the crates `uses_money` and `uses_settings` |
+//! | `widths` | whole numbers, decimals and amounts of money filled up to each width, and the longest texts |
 //!
 //! `asserting` and `texts` serve these tests.
 #![tactic(auto)]
@@ -52,3 +53,5 @@ mod shown;
 mod texts;
 #[cfg(test)]
 mod users;
+#[cfg(test)]
+mod widths;

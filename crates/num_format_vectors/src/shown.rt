@@ -5,13 +5,15 @@
 
 use crate::asserting::assert_equal;
 use num_format::json::JsonFault;
-use num_format::parsing::ParseBytesError;
+use num_format::parsing::{ParseBytesError, StrictError};
 use num_format::utils::{InfinityStr, SeparatorStr};
 use num_format::{Buffer, Error, Locale};
+use num_format_decimal::{DecimalError, ParseAtScaleError, ParseDecimalError};
 use std::alloc::Global;
 use std::fmt::{Debug, Display};
 use std::process::Abort;
 use std::test::Fail;
+use uses_money::Currency;
 
 /// Asserts what `{}` writes of a value.
 fn assert_displayed<T: Display>(
@@ -119,6 +121,107 @@ fn errors_of_bytes(rt: HostRuntime) -> Result<(), Fail> {
     assert_displayed(&rt, rt.alloc(), &bytes, "The bytes are not UTF-8.")?;
     let message = "The text is no number of the type.";
     assert_displayed(&rt, rt.alloc(), &number, message)
+}
+
+#[test]
+fn errors_of_strict_parsing(rt: HostRuntime) -> Result<(), Fail> {
+    for (error, message) in [
+        (StrictError::AmbiguousFormat, "The format is ambiguous."),
+        (StrictError::NotUtf8, "The bytes are not UTF-8."),
+        (
+            StrictError::Unexpected { at: usize::MAX },
+            "The text has an unexpected byte.",
+        ),
+        (StrictError::NoDigit, "The text has no digit."),
+        (
+            StrictError::Misspelled,
+            "The text is not as the number is printed.",
+        ),
+        (
+            StrictError::OutOfRange,
+            "The number is no value of the type.",
+        ),
+    ] {
+        assert_displayed(&rt, rt.alloc(), &error, message)?;
+    }
+    Ok(())
+}
+
+#[test]
+fn errors_of_decimals(rt: HostRuntime) -> Result<(), Fail> {
+    for (error, message) in [
+        (DecimalError::ScaleTooLarge, "The scale is larger than 38."),
+        (
+            DecimalError::DigitsLost,
+            "Digits would be lost at that scale.",
+        ),
+        (DecimalError::OutOfRange, "The units are out of range."),
+    ] {
+        assert_displayed(&rt, rt.alloc(), &error, message)?;
+        let at_scale = ParseAtScaleError::Rescale(error);
+        assert_displayed(&rt, rt.alloc(), &at_scale, message)?;
+    }
+    Ok(())
+}
+
+#[test]
+fn errors_of_parsing_decimals(rt: HostRuntime) -> Result<(), Fail> {
+    for (error, message) in [
+        (
+            ParseDecimalError::AmbiguousFormat,
+            "The format is ambiguous.",
+        ),
+        (ParseDecimalError::NotUtf8, "The bytes are not UTF-8."),
+        (
+            ParseDecimalError::Unexpected { at: usize::MAX },
+            "The text has an unexpected byte.",
+        ),
+        (ParseDecimalError::NoDigit, "The text has no digit."),
+        (
+            ParseDecimalError::TooManyDecimals,
+            "The text has more than 38 decimals.",
+        ),
+        (
+            ParseDecimalError::Misspelled,
+            "The text is not as the number is printed.",
+        ),
+        (ParseDecimalError::OutOfRange, "The units are out of range."),
+    ] {
+        assert_displayed(&rt, rt.alloc(), &error, message)?;
+        let at_scale = ParseAtScaleError::Parse(error);
+        assert_displayed(&rt, rt.alloc(), &at_scale, message)?;
+    }
+    Ok(())
+}
+
+/// A currency shows its code. The codes are those of ISO 4217.
+#[test]
+fn currencies(rt: HostRuntime) -> Result<(), Fail> {
+    for (currency, code) in [
+        (Currency::Usd, "USD"),
+        (Currency::Eur, "EUR"),
+        (Currency::Jpy, "JPY"),
+        (Currency::Gbp, "GBP"),
+        (Currency::Cny, "CNY"),
+        (Currency::Aud, "AUD"),
+        (Currency::Cad, "CAD"),
+        (Currency::Chf, "CHF"),
+        (Currency::Hkd, "HKD"),
+        (Currency::Sgd, "SGD"),
+        (Currency::Sek, "SEK"),
+        (Currency::Krw, "KRW"),
+        (Currency::Nok, "NOK"),
+        (Currency::Nzd, "NZD"),
+        (Currency::Inr, "INR"),
+        (Currency::Mxn, "MXN"),
+        (Currency::Twd, "TWD"),
+        (Currency::Zar, "ZAR"),
+        (Currency::Brl, "BRL"),
+        (Currency::Dkk, "DKK"),
+    ] {
+        assert_displayed(&rt, rt.alloc(), &currency, code)?;
+    }
+    Ok(())
 }
 
 #[test]

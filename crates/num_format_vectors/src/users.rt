@@ -8,7 +8,7 @@ use num_format_decimal::{DecimalError, ParseAtScaleError, ParseDecimalError};
 use std::alloc::Global;
 use std::process::Abort;
 use std::test::Fail;
-use uses_money::{Currency, Money};
+use uses_money::{Currency, Money, format_price};
 use uses_settings::parse_format;
 
 /// Minor units of a currency, a locale, and the text of the amount.
@@ -68,6 +68,17 @@ fn refused_amounts(rt: HostRuntime) {
     for refused in &REFUSED {
         assert_no_money(&rt, refused);
     }
+}
+
+#[test]
+fn the_longest_prices(rt: HostRuntime) -> Result<(), Fail> {
+    let least = format_price(rt.alloc(), i64::MIN, Locale::en)?;
+    assert_equal(&rt, least.as_str(), "-92,233,720,368,547,758.08");
+    let most = format_price(rt.alloc(), i64::MAX, Locale::de)?;
+    assert_equal(&rt, most.as_str(), "92.233.720.368.547.758,07");
+    let none = format_price(rt.alloc(), 0, Locale::en)?;
+    assert_equal(&rt, none.as_str(), "0.00");
+    Ok(())
 }
 
 /// Asserts the text of a number under the format of these settings.

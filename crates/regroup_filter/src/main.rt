@@ -14,15 +14,14 @@ mod output;
 mod words;
 
 use crate::command_line::matches;
-use crate::files::{FileId, Input};
+use crate::files::Files;
 use crate::misuse::{refuse_arguments, refuse_words};
 use crate::options::{capacity_of, files_of, is_quote_between, list_of, rules_of, words_of};
 use crate::output::Output;
 use crate::words::Word;
+use clap::ArgMatches;
 use clap::error::ErrorKind;
-use regroup_stream::{
-    FAILED, FAULTY, Formats, Invalid, MISUSED, REGROUPED, Rules, formats_named, run,
-};
+use regroup_stream::{FAILED, REGROUPED, Rules, formats_named, run_all};
 use std::io::BufWriter;
 use std::process::ExitCode;
 use std::{env, io};
@@ -46,77 +45,54 @@ fn try_main(rt: &HostRuntime) -> io::Result<u8> {
     let args: Vec<String> = match env::args(rt) {
         Ok(args) => args.skip(1).collect(rt.alloc())?,
         Err(error) if error.kind() == io::ErrorKind::InvalidData => {
-            refuse_words(rt, "an argument is not UTF-8")?;
-            return Ok(MISUSED);
+            return refuse_words(rt, "an argument is not UTF-8");
         }
         Err(error) => return Err(error),
     };
     let matches = match matches(rt.alloc(), args.as_slice()) {
         Ok(matches) => matches,
         Err(error) if error.kind() == ErrorKind::OutOfMemory => return Ok(FAILED),
-        Err(error) if error.use_stderr() => {
-            refuse_arguments(rt, &error)?;
-            return Ok(MISUSED);
-        }
+        Err(error) if error.use_stderr() => return refuse_arguments(rt, &error),
         Err(error) => {
             error.print(rt)?;
             return Ok(REGROUPED);
         }
     };
     let Some(list) = list_of(rt.alloc(), &matches)? else {
-        refuse_words(rt, "the fields are no list, as 1,3-5 or 2-")?;
-        return Ok(MISUSED);
+        return refuse_words(rt, "the fields are no list, as 1,3-5 or 2-");
     };
     if is_quote_between(&matches) {
-        refuse_words(rt, "the delimiter is a quote")?;
-        return Ok(MISUSED);
+        return refuse_words(rt, "the delimiter is a quote");
     }
     let Some(rules) = rules_of(&matches, &list) else {
-        refuse_words(rt, "the delimiter is not one ASCII character")?;
-        return Ok(MISUSED);
+        return refuse_words(rt, "the delimiter is not one ASCII character");
     };
-    let [from, to] = words_of(&matches);
+    regroup_files(rt, &matches, &rules)
+}
+
+/// Regroups the lines of the files, and returns the status. The buffer of the input has one byte more than a line may have.
+///
+/// # Errors
+///
+/// Returns an error if there is no memory for the buffers.
+fn regroup_files(rt: &HostRuntime, matches: &ArgMatches<'_>, rules: &Rules) -> io::Result<u8> {
+    let [from, to] = words_of(matches);
     let (from, to) = (Word::read(rt, from), Word::read(rt, to));
     let formats = match formats_named(rt.alloc(), rules.reading, from.source(), to.source()) {
         Ok(formats) => formats,
         Err(misuse) => return Ok(misuse.send(&mut rt.stderr())),
     };
-    let capacity = capacity_of(&matches, CAPACITY);
-    regroup_files(rt, &rules, &formats, capacity, files_of(&matches))
-}
-
-/// Regroups the lines of the files in turn, up to the first whose lines are not all written, and returns the highest
-/// status. A file that cannot be opened, or is the output, is left out. The buffer of the output has this capacity, and that of the input one
-/// byte more than a line may have.
-///
-/// # Errors
-///
-/// Returns an error if there is no memory for the buffers.
-fn regroup_files(
-    rt: &HostRuntime,
-    rules: &Rules,
-    formats: &Formats,
-    capacity: usize,
-    names: &[&str],
-) -> io::Result<u8> {
+    let capacity = capacity_of(matches, CAPACITY);
     let mut out = BufWriter::with_capacity(rt.alloc(), capacity, Output::new(rt.stdout()))?;
     let mut buffer = vec![in rt.alloc(); 0; rules.max_line_len as usize + 1]?;
-    let mut err = rt.stderr();
-    let output = FileId::of_output(rt);
-    let mut status = REGROUPED;
-    for name in names {
-        let ended = match Input::open(rt, name, output) {
-            Ok(input) => run(rules, formats, name, &mut buffer, input, &mut out, &mut err),
-            Err(unread) => {
-                status = status.max(unread.refuse(name, &mut err));
-                continue;
-            }
-        };
-        match ended {
-            REGROUPED => {}
-            FAULTY if rules.invalid == Invalid::Fail => status = FAULTY,
-            _ => return Ok(status.max(ended)),
-        }
-    }
-    Ok(status)
+    let (names, inputs, mut err) = (files_of(matches), Files::new(rt), rt.stderr());
+    Ok(run_all(
+        rules,
+        &formats,
+        names,
+        &mut buffer,
+        &inputs,
+        &mut out,
+        &mut err,
+    ))
 }

@@ -2,25 +2,26 @@
 
 use clap::error::ErrorKind;
 use regroup_lines::quoted;
-use regroup_stream::TRY_HELP;
+use regroup_stream::{MISUSED, TRY_HELP};
 use std::alloc::{AllocError, Global};
 use std::io;
 
-/// Prints the message of a cause.
+/// Prints the message of a cause, and returns the status.
 ///
 /// # Errors
 ///
 /// Returns the error of a write that fails.
-pub(crate) fn refuse_words(rt: &HostRuntime, cause: &str) -> io::Result<()> {
-    eprint!(rt; "regroup-lines: {cause}\n{TRY_HELP}")
+pub(crate) fn refuse_words(rt: &HostRuntime, cause: &str) -> io::Result<u8> {
+    eprint!(rt; "regroup-lines: {cause}\n{TRY_HELP}")?;
+    Ok(MISUSED)
 }
 
-/// Prints the message of an error of the command line.
+/// Prints the message of an error of the command line, and returns the status.
 ///
 /// # Errors
 ///
 /// Returns an error if there is no memory for it, or of a write that fails.
-pub(crate) fn refuse_arguments(rt: &HostRuntime, error: &clap::Error) -> io::Result<()> {
+pub(crate) fn refuse_arguments(rt: &HostRuntime, error: &clap::Error) -> io::Result<u8> {
     let text = format!(in rt.alloc(); "{error}")?;
     let cause = cause_of(rt.alloc(), error.kind(), text.as_str())?;
     refuse_words(rt, cause.as_str())

@@ -1,8 +1,10 @@
 //! Inputs of lines, and what is written of them. No reader fails here.
 
+use crate::{ReadStep, Scripted, ScriptedReader};
 use num_format::error::cut;
 use num_format::{CustomFormat, Error, ErrorKind, Format, Grouping, Locale};
 use regroup_lines::{Invalid, Reading, RegroupFault, Rules, Span, regroup_at_most, regroup_lines};
+use std::alloc::Global;
 use std::io;
 use std::process::Abort;
 use std::test::Fail;
@@ -201,6 +203,57 @@ fn two_lines_at_most(rt: HostRuntime) -> Result<(), Fail> {
     Ok(())
 }
 
+/// After the last line that is allowed, too, the writer is flushed before it is read whether a byte follows.
+#[test]
+fn one_line_at_most_is_flushed(rt: HostRuntime) -> Result<(), Fail> {
+    let rules = Rules {
+        span: Span::Line,
+        reading: Reading::Lenient,
+        header_lines: 0,
+        passes_empty: false,
+        invalid: Invalid::Abort,
+        line_end: b'\n',
+        max_line_len: 4,
+        flushes: true,
+    };
+    for (input, returned) in [("1\n", Ok(1)), ("1\n2", Err(RegroupFault::TooMany))] {
+        let mut reader = ScriptedReader {
+            rest: input.as_bytes(),
+            steps: &[ReadStep::Give(2)],
+            calls: 0,
+        };
+        let mut out = Scripted::new(rt.alloc(), 8, &[])?;
+        let mut buffer = [0; 5];
+        let result = regroup_at_most(
+            1,
+            &rules,
+            "-",
+            &mut buffer,
+            &mut reader,
+            &mut out,
+            &mut io::sink(),
+            &Locale::en,
+            &Locale::en_IN,
+        );
+        assert_eq!(rt; result.map(|summary| summary.lines), returned);
+        assert_eq!(rt; out.received.as_slice(), b"1\n".as_slice());
+        assert_eq!(rt; [reader.calls, out.flushes], [2, 2]);
+    }
+    Ok(())
+}
+
+/// Asserts what a fault displays.
+fn assert_message(
+    rt: &impl Abort,
+    alloc: Global,
+    fault: &RegroupFault,
+    message: &str,
+) -> Result<(), Fail> {
+    let displayed = format!(in alloc; "{fault}")?;
+    assert_eq!(rt; displayed.as_str(), message);
+    Ok(())
+}
+
 #[test]
 fn messages(rt: HostRuntime) -> Result<(), Fail> {
     for (fault, message) in [
@@ -222,8 +275,11 @@ fn messages(rt: HostRuntime) -> Result<(), Fail> {
         (RegroupFault::Report, "Failed to write a message."),
         (RegroupFault::Flush, "Failed to flush."),
     ] {
-        let displayed = format!(in rt.alloc(); "{fault}")?;
-        assert_eq!(rt; displayed.as_str(), message);
+        assert_message(&rt, rt.alloc(), &fault, message)?;
     }
-    Ok(())
+    let long = "x".repeat(rt.alloc(), 256)?;
+    let message = format!(in rt.alloc();
+        "line 18446744073709551615: Failed to parse {long} into a number."
+    )?;
+    assert_message(&rt, rt.alloc(), &not_a_number(u64::MAX, &long), &message)
 }

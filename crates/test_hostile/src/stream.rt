@@ -5,7 +5,8 @@ use crate::Step::{Interrupt, Take, Zero};
 use crate::{Scripted, ScriptedReader, Step};
 use num_format::{CustomFormat, Grouping, Locale};
 use regroup_stream::{
-    CLOSED, FAILED, FAULTY, Formats, Invalid, MISUSED, Misuse, REGROUPED, Reading, Rules, Span, run,
+    CLOSED, FAILED, FAULTY, Formats, Invalid, MISUSED, Misuse, Open, REGROUPED, Reading, Rules,
+    Span, Unread, refuse, run, run_all,
 };
 use std::alloc::Global;
 use std::io::{BufWriter, ErrorKind, Write};
@@ -37,10 +38,11 @@ fn to_de() -> Formats {
     to(CustomFormat::from(Locale::de))
 }
 
-/// Accepts all bytes, and fails whenever it is flushed, for this cause.
+/// Accepts all bytes, and fails as often as it says when it is flushed, for this cause.
 #[derive(Drop)]
 struct Unflushed {
     cause: ErrorKind,
+    failures: usize,
     flushes: usize,
 }
 
@@ -51,7 +53,20 @@ impl Write for Unflushed {
 
     fn flush(&mut self) -> io::Result<()> {
         self.flushes = self.flushes.saturating_add(1);
+        if self.flushes > self.failures {
+            return Ok(());
+        }
         Err(io::Error::from(self.cause))
+    }
+}
+
+impl Unflushed {
+    fn new(cause: ErrorKind, failures: usize) -> Unflushed {
+        Unflushed {
+            cause,
+            failures,
+            flushes: 0,
+        }
     }
 }
 
@@ -96,7 +111,7 @@ fn a_flush_fails(rt: HostRuntime) -> Result<(), test::Fail> {
             (ErrorKind::BrokenPipe, CLOSED, b"".as_slice()),
             (ErrorKind::StorageFull, FAILED, full),
         ] {
-            let writer = Unflushed { cause, flushes: 0 };
+            let writer = Unflushed::new(cause, 2);
             let mut out = BufWriter::new(rt.alloc(), writer)?;
             let mut err = Vec::new(rt.alloc());
             let mut buffer = [0; 100];
@@ -116,6 +131,146 @@ fn a_flush_fails(rt: HostRuntime) -> Result<(), test::Fail> {
             assert_eq!(rt; err.as_slice(), message);
         }
     }
+    Ok(())
+}
+
+/// Where the last flush succeeds, the cause of one that failed before it is not known, so a message is sent.
+#[test]
+fn a_flush_fails_once(rt: HostRuntime) -> Result<(), test::Fail> {
+    for cause in [ErrorKind::BrokenPipe, ErrorKind::StorageFull] {
+        let mut out = BufWriter::new(rt.alloc(), Unflushed::new(cause, 1))?;
+        let mut err = Vec::new(rt.alloc());
+        let mut buffer = [0; 100];
+        let status = run(
+            &STRICT,
+            &to_de(),
+            "-",
+            &mut buffer,
+            b"1,000\n".as_slice(),
+            &mut out,
+            &mut err,
+        );
+        assert_eq!(rt; status, FAILED);
+        assert_eq!(rt; out.get_ref().flushes, 2);
+        assert_eq!(rt; err.as_slice(), b"regroup-lines: write error\n".as_slice());
+    }
+    Ok(())
+}
+
+/// Inputs by their names: `bad` has a line at fault, and `none` and `output` are not read.
+#[derive(Clone, Copy)]
+struct ByName;
+
+impl Open for ByName {
+    type Input = &'static [u8];
+
+    fn open(&self, name: &str) -> Result<&'static [u8], Unread> {
+        match name {
+            "none" => Err(Unread::CannotOpen(ErrorKind::NotFound)),
+            "output" => Err(Unread::IsOutput),
+            "bad" => Ok(b"1,000\nx\n".as_slice()),
+            _ => Ok(b"1\n2,000\n".as_slice()),
+        }
+    }
+}
+
+/// Asserts the status of inputs, what standard output received, and how many messages standard error was sent, of which the
+/// first may fail.
+fn assert_inputs(
+    rt: &impl Abort,
+    alloc: Global,
+    invalid: Invalid,
+    names: &[&str],
+    fails_first: bool,
+    expected: (u8, &str, usize),
+) -> Result<(), test::Fail> {
+    let rules = Rules { invalid, ..STRICT };
+    let mut out = BufWriter::new(alloc, Vec::new(alloc))?;
+    let steps = [Step::Fail];
+    let steps = if fails_first { steps.as_slice() } else { &[] };
+    let mut err = Scripted::new(alloc, 512, steps)?;
+    let mut buffer = [0; 100];
+    let status = run_all(
+        &rules,
+        &to_de(),
+        names,
+        &mut buffer,
+        &ByName,
+        &mut out,
+        &mut err,
+    );
+    let (expected_status, written, messages) = expected;
+    assert_eq!(rt; status, expected_status);
+    assert_eq!(rt; out.get_ref().as_slice(), written.as_bytes());
+    assert_eq!(rt; err.calls, messages);
+    Ok(())
+}
+
+/// The status of several inputs is the highest, and none is read after one whose lines are not all written.
+#[test]
+fn several_inputs(rt: HostRuntime) -> Result<(), test::Fail> {
+    let (good, bad) = ("1\n2.000\n", "1.000\nx\n");
+    let both = format!(in rt.alloc(); "{bad}{good}")?;
+    let both = both.as_str();
+    for (invalid, names, fails_first, expected) in [
+        (
+            Invalid::Abort,
+            ["good", "none", "output"],
+            false,
+            (FAULTY, good, 2),
+        ),
+        (
+            Invalid::Abort,
+            ["none", "bad", "good"],
+            false,
+            (FAULTY, "1.000\n", 2),
+        ),
+        (
+            Invalid::Fail,
+            ["none", "bad", "good"],
+            false,
+            (FAULTY, both, 2),
+        ),
+        (
+            Invalid::Warn,
+            ["bad", "good", "none"],
+            false,
+            (FAULTY, both, 2),
+        ),
+        (
+            Invalid::Fail,
+            ["none", "bad", "good"],
+            true,
+            (FAILED, both, 2),
+        ),
+        (
+            Invalid::Fail,
+            ["bad", "none", "good"],
+            true,
+            (FAILED, "1.000\n", 1),
+        ),
+    ] {
+        assert_inputs(&rt, rt.alloc(), invalid, &names, fails_first, expected)?;
+    }
+    Ok(())
+}
+
+/// A message shows four bytes for each byte of a name that is not printable, and 256 of a name, or 64 of a word.
+#[test]
+fn the_longest_messages(rt: HostRuntime) -> Result<(), test::Fail> {
+    let (alloc, mut err) = (rt.alloc(), Vec::new(rt.alloc()));
+    let name = "\u{1}".repeat(alloc, 300)?;
+    assert_eq!(rt; refuse(&name, ErrorKind::FilesystemLoop, &mut err), FAULTY);
+    let shown = "\\x01".repeat(alloc, 256)?;
+    let cause = "cannot open: Too many levels of symbolic links";
+    let message = format!(in alloc; "regroup-lines: {shown}: {cause}\n")?;
+    assert_eq!(rt; err.as_slice(), message.as_bytes());
+    err.clear();
+    assert_eq!(rt; Misuse::NoFormat(name.as_str()).send(&mut err), MISUSED);
+    let shown = "\\x01".repeat(alloc, 64)?;
+    let help = "Try 'regroup-lines --help' for more information.";
+    let message = format!(in alloc; "regroup-lines: '{shown}' names no format\n{help}\n")?;
+    assert_eq!(rt; err.as_slice(), message.as_bytes());
     Ok(())
 }
 

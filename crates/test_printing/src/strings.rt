@@ -1,6 +1,8 @@
 //! Numbers into strings and formatters.
 
 use crate::asserting::assert_equal;
+use crate::every_way;
+use crate::longest::{LONGEST, longest_format};
 use crate::numbers::{append_numbers, assert_numbers};
 use num_format::{CustomFormat, ToFormattedString, WriteFormatted};
 use std::fmt;
@@ -13,6 +15,11 @@ fn after_a_text(rt: HostRuntime) -> Result<(), Fail> {
     append_numbers(&rt, &mut text)?;
     assert_numbers(&rt, text.as_bytes(), "x", "");
     Ok(())
+}
+
+#[test]
+fn the_longest_text(rt: HostRuntime) -> Result<(), Fail> {
+    every_way::prints(&rt, rt.alloc(), &i128::MIN, &longest_format()?, LONGEST)
 }
 
 #[test]

@@ -4,6 +4,7 @@ use crate::asserting::assert_equal;
 use crate::longest::longest_format;
 use crate::numbers::{LEN, append_numbers, append_thousand, assert_numbers, write_thousand};
 use num_format::WriteFormatted;
+use num_format::to_formatted_string::write_whole;
 use std::io;
 use std::io::{BufWriter, Cursor, LineWriter, Lock, Write};
 use std::test::Fail;
@@ -108,6 +109,20 @@ fn small_buffers(rt: HostRuntime) -> Result<(), Fail> {
     append_numbers(&rt, &mut buffered)?;
     buffered.flush()?;
     assert_numbers(&rt, buffered.get_ref(), "", "");
+    Ok(())
+}
+
+/// A long text is written whole, also by a buffer that it does not fit.
+#[test]
+fn long_texts(rt: HostRuntime) -> Result<(), Fail> {
+    let text = "0123456789abcdef".repeat(rt.alloc(), 65_536)?;
+    let mut bytes = Vec::new(rt.alloc());
+    assert_equal(&rt, write_whole(text.as_bytes(), &mut bytes)?, 1_048_576);
+    assert_equal(&rt, bytes.as_slice(), text.as_bytes());
+    let mut buffered = BufWriter::new(rt.alloc(), Vec::new(rt.alloc()))?;
+    assert_equal(&rt, write_whole(text.as_bytes(), &mut buffered)?, 1_048_576);
+    buffered.flush()?;
+    assert_equal(&rt, buffered.get_ref().as_slice(), text.as_bytes());
     Ok(())
 }
 
