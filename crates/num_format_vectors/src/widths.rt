@@ -5,7 +5,7 @@
 
 use crate::asserting::assert_equal;
 use num_format::{CustomFormat, Error, Grouping, Locale, ToFormattedString};
-use num_format_decimal::Decimal;
+use num_format_decimal::{Decimal, DecimalBuffer};
 use std::alloc::Global;
 use std::fmt::{Display, Style};
 use std::process::Abort;
@@ -121,6 +121,17 @@ fn decimals(rt: HostRuntime) -> Result<(), Fail> {
     let small = Decimal::new(5, 38)?;
     let text = format!(in alloc; "0.{}5", "0".repeat(alloc, 37)?)?;
     assert_filled(&rt, alloc, &small.formatted(&Locale::en), &text)
+}
+
+/// In the debug form a width counts for a decimal under a format, and not for its buffer.
+#[test]
+fn decimals_to_debug(rt: HostRuntime) -> Result<(), Fail> {
+    let price = Decimal::new(-123_450, 2)?;
+    let buffer = DecimalBuffer::of(&price, &Locale::en);
+    let shown = price.formatted(&Locale::en);
+    let text = format!(in rt.alloc(); "{shown:>12?}|{buffer:>12?}")?;
+    assert_equal(&rt, text.as_str(), "   -1,234.50|-1,234.50");
+    Ok(())
 }
 
 #[test]
