@@ -42,12 +42,11 @@ def copied(is_whole):
         yield copy
 
 
-def prove(tally, copy, is_whole):
+def prove(tally, copy):
     """Runs `rt ci`, and adds what its last line counts. Gives the name of each crate once it is proved and its program
     built, and `NAME: tests` once its tests are."""
     heading("rt ci")
-    lanes = edit_lanes() if is_whole else {}
-    how = {"env": {**lanes, **os.environ, "PYTHONUNBUFFERED": "1"}, "errors": "replace"}
+    how = {"env": {**lanes(), **os.environ, "PYTHONUNBUFFERED": "1"}, "errors": "replace"}
     line = ""
     with subprocess.Popen(["rt", "ci"], cwd=copy, stdout=subprocess.PIPE, text=True, **how) as ci:
         for line in ci.stdout:
@@ -62,9 +61,8 @@ def prove(tally, copy, is_whole):
         tally.add("rt ci", f"status {ci.returncode} after the line {line!r}")
 
 
-def edit_lanes():
-    """Has `rt ci` try as many edits at once as there are processors, where there is memory for them. Without this it gives a
-    crate on the longest way several processors, but starts fewer checks than memory holds."""
+def lanes():
+    """Has `rt ci` use all processors, where there is memory for so many checks."""
     processors = len(os.sched_getaffinity(0))
     memory = os.sysconf("SC_PHYS_PAGES") * os.sysconf("SC_PAGE_SIZE")
     return {"RT_JOBS": str(processors)} if processors * CHECK_SIZE <= memory else {}

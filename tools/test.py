@@ -49,8 +49,11 @@ BUILT = {
     "test_properties": ["program_checks.py"],
 }
 
-# How nice to `rt ci` are the library for C, and what can wait.
-SOON, LATER = 10, 19
+# How nice to `rt ci`, which has the longer way to go, is all else.
+SOON = 10
+
+# The crate after which few others are left to prove, one after the other.
+IDLE_AFTER = "regroup_lines"
 
 
 def has_tests(crate):
@@ -79,6 +82,15 @@ def start_unproved(jobs):
     start_documents(jobs)
 
 
+def unproved(is_whole):
+    """The commands that need no proof, as `waiting` gives those that do. They wait for a crate after which processors are idle."""
+    for name in [] if is_whole else trials.TESTS:
+        yield {IDLE_AFTER}, f"tests of {name}", "trials.py", name
+    for name in [] if is_whole else trials.PROGRAMS:
+        yield {IDLE_AFTER}, f"cases of {name}", "cases.py", "--try", name
+    yield {IDLE_AFTER}, "the examples of the doc comments", "doc_examples.py"
+
+
 def waiting(top):
     """The commands that wait for crates of that copy of the repository, and for the library for C: these, a name, words."""
     programs = {"regroup", "regroup_filter"}
@@ -103,7 +115,7 @@ def waiting(top):
 def test(tally, is_whole):
     """Proves all, or what users need, and runs every test and program."""
     with copied(is_whole) as copy, Jobs(tally, shows_all=True, beside=4) as jobs:
-        left, there, lock = list(waiting(copy)), set(), threading.Lock()
+        left, there, lock = [*unproved(is_whole), *waiting(copy)], set(), threading.Lock()
 
         def start(*names):
             """Starts what waits for these, and for nothing that is not there."""
@@ -111,19 +123,13 @@ def test(tally, is_whole):
                 there.update(names)
                 for due in [one for one in left if one[0] <= there]:
                     left.remove(due)
-                    jobs.script(*due[1:])
+                    jobs.script(*due[1:], nice=SOON)
 
         start_documents(jobs)
         jobs.script("numfmt", "numfmt_rows.py")
         built = {"is_counted": False, "then": lambda: start("library"), "cwd": library_checks.CRATE}
-        # `rt ci` has the longer way to go.
         jobs.start("rt lib", ["nice", "-n", str(SOON), "rt", "lib"], **built)
-        for name in [] if is_whole else trials.TESTS:
-            jobs.script(f"tests of {name}", "trials.py", name, nice=LATER)
-        for name in [] if is_whole else trials.PROGRAMS:
-            jobs.script(f"cases of {name}", "cases.py", "--try", name, nice=LATER)
-        jobs.script("the examples of the doc comments", "doc_examples.py", nice=LATER)
-        for name in prove(tally, copy, is_whole):
+        for name in prove(tally, copy):
             start(name)
         # What waits for a crate that is not proved says what is missing.
         start(*(name for needed, *_ in left for name in needed - {"library"}))
