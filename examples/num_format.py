@@ -16,7 +16,7 @@ ERRORS = {
     -9: "a byte is not expected",
     -10: "no digit",
     -11: "not as the number is printed",
-    -12: "the number has more bits",
+    -12: "the number is out of range",
     -13: "the scale is above 38",
     -14: "more than 38 decimals",
 }
@@ -57,7 +57,7 @@ class Format(ctypes.Structure):
     def print(self, number):
         """Returns the text of a number of 64 bits, and raises OverflowError for a larger one."""
         if not -(2**63) <= number < 2**63:
-            raise OverflowError(f"{number} has more than 64 bits")
+            raise OverflowError(f"{number} is no signed number of 64 bits")
         text = ctypes.create_string_buffer(191)
         length = _call("print_i64", ctypes.byref(self), ctypes.c_int64(number), text, ctypes.c_size_t(191))
         return text.raw[:length].decode()

@@ -44,7 +44,7 @@
 //! caller imports the definitions that the contracts use from `Rattle.num_format.specs`, as
 //! `Rattle.num_format.specs.Text.{text_of}`.
 //!
-//! Where the Rust crate `num-format` 0.4.4 has an item, its name is the same here.
+//! What the Rust crate `num-format` 0.4.4 has too has its name.
 #![tactic(auto)]
 
 pub mod json;

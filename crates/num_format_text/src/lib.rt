@@ -7,7 +7,7 @@
 //! [`strings::BoundedStr`], which has at most its capacity in bytes. So the text of a number has a
 //! greatest length too. An [`Error`] says by its [`ErrorKind`] why an input was refused.
 //!
-//! The names are those of the Rust crate `num-format` 0.4.4.
+//! What the Rust crate `num-format` 0.4.4 has too has its name.
 #![tactic(auto)]
 
 pub mod bounded_string;

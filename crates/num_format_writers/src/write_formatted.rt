@@ -68,7 +68,7 @@ pub trait WriteFormatted {
     ///
     /// Returns the error of the first write that fails. A write of no bytes is an error of kind
     /// [`WriteZero`](io::ErrorKind::WriteZero). The writer then received a prefix of the text, and
-    /// not all of it.
+    /// not all of it, if its contract says what it received.
     fn write_formatted<F: Format, N: ToFormattedString>(
         &mut self,
         n: &N,
