@@ -2,8 +2,8 @@
 //!
 //! Lengths are mixed, as those of numbers that people have are.
 
-use crate::table::{Cell, GROUPS, ORIGINAL, Ratio, Table, Times, short};
-use crate::{C_PRINTING, PRINT_COLUMN, READ_COLUMN};
+use crate::table::{Cell, GROUPS, ITOA, ORIGINAL, PARSE, RUST_DECIMAL, Ratio, Table, Times, short};
+use crate::{C_PRINTING, PRINT_COLUMN, PRINT_DECIMALS, READ_COLUMN, READ_DECIMALS};
 
 /// A goal of some cells.
 struct Goal {
@@ -13,8 +13,18 @@ struct Goal {
     has: fn(&Cell) -> bool,
     over: &'static str,
     ratio: Ratio,
-    /// The ratio that no cell is to be above.
+    /// What is not to be above the goal.
+    of: Of,
     most: f64,
+}
+
+/// What a goal is for.
+#[derive(Clone, Copy, PartialEq)]
+enum Of {
+    /// The ratio of each cell.
+    Each,
+    /// The median of the ratios.
+    Median,
 }
 
 impl Goal {
@@ -31,6 +41,7 @@ impl Goal {
             has,
             over: ORIGINAL,
             ratio: Times::ratio,
+            of: Of::Each,
             most,
         }
     }
@@ -49,40 +60,57 @@ impl Goal {
             has,
             over,
             ratio: Times::ratio_to_reference,
+            of: Of::Each,
             most,
         }
     }
 
-    /// A goal of a column beside plain digits.
-    const fn column(operation: &'static str, over: &'static str) -> Goal {
+    /// A goal of the median beside what others do of plain digits, or of decimals.
+    const fn plain(
+        operation: &'static str,
+        cells: &'static str,
+        has: fn(&Cell) -> bool,
+        over: &'static str,
+        most: f64,
+    ) -> Goal {
         Goal {
             operation,
-            cells: "all lengths",
-            has: |_| true,
+            cells,
+            has,
             over,
             ratio: Times::ratio_to_floor,
-            most: 1.5,
+            of: Of::Median,
+            most,
         }
     }
 }
 
 /// The goals, in order.
-const GOALS: [Goal; 19] = [
-    Goal::original("read", "1 to 3 digits", is_short, 0.7),
-    Goal::original("read", "7 digits and more", has_seven_digits, 0.45),
-    Goal::original("refuse", "no digit", |cell| cell.group == "no digit", 1.0),
-    Goal::original(
-        "refuse",
-        "another numeral, out of range",
-        |cell| cell.group != "no digit",
-        1.0,
-    ),
-    Goal::port(
-        "read strictly",
+const GOALS: [Goal; 23] = [
+    Goal::plain(
+        "used Buffer",
         "7 digits and more",
         has_seven_digits,
-        "read",
-        1.0,
+        ITOA,
+        1.25,
+    ),
+    Goal::plain(
+        "read by a parser",
+        "7 digits and more",
+        has_seven_digits,
+        PARSE,
+        1.3,
+    ),
+    Goal::plain(PRINT_COLUMN, "all lengths", |_| true, ITOA, 1.15),
+    Goal::plain(READ_COLUMN, "all lengths", |_| true, PARSE, 1.0),
+    Goal::plain(PRINT_DECIMALS, "every mixture", is_mixed, RUST_DECIMAL, 1.0),
+    Goal::plain(READ_DECIMALS, "every mixture", is_mixed, RUST_DECIMAL, 1.0),
+    Goal::port(
+        C_PRINTING[1].0,
+        "every mixture",
+        is_mixed,
+        "used Buffer",
+        1.1,
     ),
     Goal::port(
         "read by a parser",
@@ -90,6 +118,13 @@ const GOALS: [Goal; 19] = [
         is_mixed,
         "read strictly",
         0.9,
+    ),
+    Goal::port(
+        "read strictly",
+        "7 digits and more",
+        has_seven_digits,
+        "read",
+        1.0,
     ),
     Goal::original("used Buffer", "every mixture", is_mixed, 1.0),
     Goal::original(
@@ -104,6 +139,7 @@ const GOALS: [Goal; 19] = [
         is_short_i128,
         1.0,
     ),
+    Goal::original("to_formatted_string", "1 to 3 digits", is_short, 1.0),
     Goal::original("to_formatted_string", "every mixture", is_mixed, 1.0),
     Goal::original(
         "to_formatted_string",
@@ -118,11 +154,20 @@ const GOALS: [Goal; 19] = [
         has_seven_digits,
         0.6,
     ),
+    Goal::original("read", "1 to 3 digits", is_short, 0.7),
+    Goal::original("read", "7 digits and more", has_seven_digits, 0.45),
+    Goal::original("refuse", "no digit", |cell| cell.group == "no digit", 1.0),
+    Goal::original(
+        "refuse",
+        "another numeral, out of range",
+        |cell| cell.group != "no digit",
+        1.0,
+    ),
     Goal::original(
         "look up",
         "refused: 64 letters",
         |cell| cell.group == "refused: 64 letters",
-        0.5,
+        0.6,
     ),
     Goal::original(
         "look up",
@@ -130,22 +175,6 @@ const GOALS: [Goal; 19] = [
         |cell| cell.group == "refused: NAME-ZZ in turn",
         0.3,
     ),
-    Goal::port(
-        C_PRINTING[1].0,
-        "all lengths",
-        |cell| cell.group == GROUPS[6],
-        "used Buffer",
-        1.0,
-    ),
-    Goal::port(
-        C_PRINTING[1].0,
-        "1 to 3 digits",
-        is_short,
-        "used Buffer",
-        1.4,
-    ),
-    Goal::column(PRINT_COLUMN, "`itoa`, plain digits"),
-    Goal::column(READ_COLUMN, "std's `parse`, plain digits"),
 ];
 
 /// Whether numbers of several lengths are in a cell.
@@ -186,8 +215,12 @@ pub fn table(measured: &Table) -> String {
         let above = ratios
             .iter()
             .filter(|(ratio, _)| *ratio >= goal.most + 0.005);
+        let of = match goal.of {
+            Of::Each => "",
+            Of::Median => ", median",
+        };
         table += &format!(
-            "| {} | {} | {} | {} | {} | {} | {} of {} |\n",
+            "| {} | {} | {} | {}{of} | {} | {} | {} of {} |\n",
             goal.operation,
             goal.cells,
             goal.over,

@@ -1,5 +1,6 @@
 //! Measures a program that regroups lines beside the same program over the original crate, and
-//! beside what people use in its place: `numfmt` and `cut` of coreutils, `sed` and Python.
+//! beside what people use in its place: `numfmt` and `cut` of coreutils, `sed` and Python. Two bound it: one that finds the
+//! lines, and `cat`, which reads and writes.
 //!
 //! Each is started anew for each run, with a file as its input and an output that is thrown away. They
 //! take turns, and the best run of each counts.
@@ -66,6 +67,9 @@ for fields in csv.reader(sys.stdin):
 /// The option of this program that makes it the tool over the original crate.
 pub const LINE_TOOL: &str = "--line-tool";
 
+/// The option of this program that makes it find lines, and no more.
+pub const FIND_LINES: &str = "--find-lines";
+
 /// The locales of the input and the output.
 const LOCALES: [&str; 2] = ["en", "de"];
 
@@ -86,6 +90,24 @@ impl Program {
             path: PathBuf::from(path),
             words: words.to_vec(),
             is_compared: true,
+        }
+    }
+
+    /// This program, with an option that makes it another one.
+    fn own(name: &'static str, words: Vec<&'static str>) -> io::Result<Program> {
+        Ok(Program {
+            name,
+            path: std::env::current_exe()?,
+            words,
+            is_compared: true,
+        })
+    }
+
+    /// The program, where what it writes is not that of the first one.
+    fn not_compared(self) -> Program {
+        Program {
+            is_compared: false,
+            ..self
         }
     }
 
@@ -127,12 +149,9 @@ pub fn measure(path: &str) -> Result<(), Box<dyn Error>> {
         words: [options, &LOCALES[..]].concat(),
         is_compared: true,
     };
-    let original = Program {
-        name: "original",
-        path: std::env::current_exe()?,
-        words: [&[LINE_TOOL], &LOCALES[..]].concat(),
-        is_compared: true,
-    };
+    let original = Program::own("original", [&[LINE_TOOL], &LOCALES[..]].concat())?;
+    let find_lines = Program::own("`memchr` finds the lines", vec![FIND_LINES])?.not_compared();
+    let cat = Program::of_system("cat", "cat", &[]).not_compared();
     let mut table = String::from(
         "| Numbers | Program | Seconds | Million lines a second | Port / program |\n|---|---|---|---|---|\n",
     );
@@ -154,16 +173,15 @@ pub fn measure(path: &str) -> Result<(), Box<dyn Error>> {
         &plain,
         &[
             port("port", &[]),
+            find_lines,
+            cat,
             Program::of_system("numfmt --grouping", "numfmt", &["--grouping"]),
             Program::of_system("sed", "sed", &[SED]),
             Program::of_system("python3, locale", "python3", &["-c", PYTHON]),
         ],
     )?;
     let grouped = original::texts(&numbers, 0, 0);
-    let cut = Program {
-        is_compared: false,
-        ..Program::of_system("cut -f3", "cut", &["-f3"])
-    };
+    let cut = Program::of_system("cut -f3", "cut", &["-f3"]).not_compared();
     table += &compare(
         "field 3 of 10, 1 to 18 digits",
         &with_fields("\t", &grouped),

@@ -9,6 +9,7 @@ mod c;
 mod columns;
 mod decimals;
 mod documents;
+mod find_lines;
 mod floor;
 mod goals;
 mod groupings;
@@ -620,12 +621,15 @@ fn measure_strict_reading<N: Number>(
     }
 }
 
-/// Measures strict reading by one parser for all texts beside strict reading that receives the format with each.
+/// Measures strict reading by one parser for all texts beside strict reading that receives the format with each, and
+/// beside std's parsing of the same numbers in plain digits.
 fn measure_reading_by_parser<N: Number>(name: &str, numbers: &[N], format: u8) -> Times {
     let Texts { text, lengths } = Texts::formatted(numbers, format);
+    let plain = Texts::plain(numbers);
     let mut by_parser = vec![N::default(); numbers.len()];
     let mut strictly = by_parser.clone();
-    let [port, reference] = best(
+    let mut of_plain = by_parser.clone();
+    let [port, reference, floor] = best(
         numbers.len(),
         [
             &mut || {
@@ -640,16 +644,20 @@ fn measure_reading_by_parser<N: Number>(name: &str, numbers: &[N], format: u8) -
                     rattle::read_strictly(black_box(&text), &lengths, format, &mut strictly);
                 assert_eq!(accepted, BATCH as u64, "{name}");
             },
+            &mut || {
+                let accepted = floor::read(black_box(&plain.text), &plain.lengths, &mut of_plain);
+                assert_eq!(accepted, BATCH as u64, "{name}");
+            },
         ],
     );
-    for read in [by_parser, strictly] {
+    for read in [by_parser, strictly, of_plain] {
         assert!(read == numbers, "{name}");
     }
     Times {
         port,
         original: None,
         reference: Some(reference),
-        floor: None,
+        floor: Some(floor),
     }
 }
 
@@ -868,6 +876,7 @@ fn main() -> Result<(), Box<dyn Error>> {
             "--to" => options.file = Some(next()?),
             "--beside" => options.layouts.push(next()?),
             "--lines" => return lines::measure(&next()?),
+            lines::FIND_LINES => return find_lines::run(),
             lines::LINE_TOOL => return line_tool::run(&next()?, &next()?),
             _ => return Err(format!("no such option: {argument}").into()),
         }

@@ -41,7 +41,7 @@ pub type Ratio = fn(&Times) -> Option<f64>;
 type Comparison = (&'static str, &'static str, Ratio);
 
 /// The comparisons, in the order of the tables.
-const COMPARISONS: [Comparison; 27] = [
+const COMPARISONS: [Comparison; 28] = [
     ("used Buffer", ORIGINAL, Times::ratio),
     ("new Buffer", ORIGINAL, Times::ratio),
     ("to_formatted_string", ORIGINAL, Times::ratio),
@@ -51,8 +51,9 @@ const COMPARISONS: [Comparison; 27] = [
     ("read plain digits strictly", ORIGINAL, Times::ratio),
     ("refuse", ORIGINAL, Times::ratio),
     ("look up", ORIGINAL, Times::ratio),
-    ("used Buffer", "`itoa`, plain digits", Times::ratio_to_floor),
-    ("read", "std's `parse`, plain digits", Times::ratio_to_floor),
+    ("used Buffer", ITOA, Times::ratio_to_floor),
+    ("read", PARSE, Times::ratio_to_floor),
+    ("read by a parser", PARSE, Times::ratio_to_floor),
     ("read strictly", "read", Times::ratio_to_reference),
     (
         "read by a parser",
@@ -75,27 +76,26 @@ const COMPARISONS: [Comparison; 27] = [
     (C_PRINTING[1].0, "used Buffer", Times::ratio_to_reference),
     (C_PRINTING[2].0, "new Buffer", Times::ratio_to_reference),
     (C_READING, "read", Times::ratio_to_reference),
-    (PRINT_COLUMN, "`itoa`, plain digits", Times::ratio_to_floor),
-    (
-        READ_COLUMN,
-        "std's `parse`, plain digits",
-        Times::ratio_to_floor,
-    ),
+    (PRINT_COLUMN, ITOA, Times::ratio_to_floor),
+    (READ_COLUMN, PARSE, Times::ratio_to_floor),
     (PRINT_DECIMALS, "a whole number", Times::ratio_to_reference),
     (READ_DECIMALS, "a whole number", Times::ratio_to_reference),
-    (PRINT_DECIMALS, "`rust_decimal`", Times::ratio_to_floor),
-    (READ_DECIMALS, "`rust_decimal`", Times::ratio_to_floor),
+    (PRINT_DECIMALS, RUST_DECIMAL, Times::ratio_to_floor),
+    (READ_DECIMALS, RUST_DECIMAL, Times::ratio_to_floor),
 ];
 
-/// The name of the original in the tables.
+/// The names in the tables of what the port is compared with.
 pub const ORIGINAL: &str = "num-format";
+pub const ITOA: &str = "`itoa`, plain digits";
+pub const PARSE: &str = "std's `parse`, plain digits";
+pub const RUST_DECIMAL: &str = "`rust_decimal`";
 
 /// The comparisons of the table in the README of the repository.
 const SUMMARY: [(&str, &str); 4] = [
     ("used Buffer", ORIGINAL),
     ("read strictly", ORIGINAL),
-    (PRINT_DECIMALS, "`rust_decimal`"),
-    (READ_DECIMALS, "`rust_decimal`"),
+    (PRINT_DECIMALS, RUST_DECIMAL),
+    (READ_DECIMALS, RUST_DECIMAL),
 ];
 
 /// The rows that are by digits, in order.
