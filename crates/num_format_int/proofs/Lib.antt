@@ -2,6 +2,6 @@ pub mod BufferLemmas
 pub mod DigitLemmas
 pub mod GroupLemmas
 pub mod GroupedLemmas
-pub mod PairLemmas
+pub mod TripleLemmas
 mod TextExamples
 pub mod TextLemmas

@@ -3,7 +3,8 @@
 //! A [`Buffer`] is an array of [`MAX_BUF_LEN`] bytes, which no number outgrows under any format. Its
 //! text ends where the array ends and grows to the left, since the digits of a number are found from
 //! the last to the first.
-ghost use Rattle.std.specs.Prelude.{◌≡◌, ℕ, List, ◌+◌, ◌*◌, ◌<◌, ◌≤◌, ◌==◌, [], ◌∷◌, ◌++◌, length, Some};
+ghost use Rattle.std.specs.Prelude.{◌≡◌, ℕ, List, ◌+◌, ◌*◌, ◌<◌, ◌≤◌, ◌==◌, [], ◌∷◌, ◌++◌, length, drop, Some};
+ghost use Rattle.std.specs.Str.{IsCharBoundary};
 ghost use Rattle.num_format_int.specs.declared.buffer.TheConstants.{MAX_BUF_LEN};
 ghost use Rattle.std.specs.Fmt.{WritesOnOk, WritesStyledOnOk};
 
@@ -180,6 +181,16 @@ pub trait PutFront {
     fn put_front(&mut self, text: &str)
         requires { length text.now + length (held self.old) ≤ CAPACITY }
         ensures { held self.new ≡ text.now ++ held self.old };
+
+    /// Prepends a text without its first `skipped` bytes, of which there are at most two.
+    fn put_end(&mut self, text: &str, skipped: usize)
+        requires few { skipped ≤ 2 }
+        requires boundary { (skipped ≤ length text.now) × IsCharBoundary text.now skipped }
+        requires fits { length text.now + length (held self.old) + 2 ≤ CAPACITY }
+        ensures { held self.new ≡ drop skipped text.now ++ held self.old }
+    {
+        self.put_front(&text[skipped..]);
+    }
 }
 
 impl PutFront for Buffer {
@@ -190,6 +201,17 @@ impl PutFront for Buffer {
     #[inline(always)]
     fn put_front(&mut self, text: &str) {
         Buffer::put_front(self, text);
+    }
+
+    /// Prepends the whole text, and sets what was to be skipped to zero again: two bytes, whatever their
+    /// number, so that there is no branch on it.
+    #[inline(always)]
+    fn put_end(&mut self, text: &str, skipped: usize) {
+        let whole = self.start - text.len();
+        copy_bytes(text.as_bytes(), &mut self.inner[whole..self.start]);
+        let end = whole + skipped;
+        self.inner[end - 2..end].copy_from_slice(&[0; 2]);
+        self.start = end;
     }
 }
 

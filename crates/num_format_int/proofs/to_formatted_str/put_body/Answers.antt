@@ -7,8 +7,6 @@ use Rattle.num_format_int.proofs.DigitLemmas.{digits_given, length-digits-le, le
 use Rattle.num_format_int.proofs.GroupedLemmas.{grouped-short, length-grouped-le183}
 use Rattle.num_format_int.proofs.to_formatted_str.put_body.Goals as goal
 
-pub put_first_group-requires-clause-fits : goal.put_first_group-requires-clause-fits
-put_first_group-requires-clause-fits g c = omega (arith, c.requires, digits_given c.args.n)
 
 pub returns-then-n-lt-FOUR_DIGITS-clause-text : goal.returns-then-n-lt-FOUR_DIGITS-clause-text
 returns-then-n-lt-FOUR_DIGITS-clause-text g c =

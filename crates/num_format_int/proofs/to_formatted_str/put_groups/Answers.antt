@@ -1,4 +1,5 @@
 use Rattle.std.proofs.Common.{◌≡◌, ℕ, ◌^◌, ◌<◌, ◌⊎◌, inl, inr, arith}
+use Rattle.num_format_int.proofs.DigitLemmas.{digits_given}
 use Rattle.num_format_int.proofs.GroupLemmas.{anywhere_all, size_bounds}
 use Rattle.num_format_int.proofs.to_formatted_str.put_groups.Goals as goal
 
@@ -14,6 +15,9 @@ at_most_four size base first sizes power within =
 pub put_first_group-requires-clause-group : goal.put_first_group-requires-clause-group
 put_first_group-requires-clause-group g c =
     at_most_four g.G.Groups.SIZE g.G.Groups.BASE c.put_full_groups-first.result g.met.G.Groups.size g.met.G.Groups.base c.put_full_groups-first.ensures.first
+
+pub put_first_group-requires-clause-fits : goal.put_first_group-requires-clause-fits
+put_first_group-requires-clause-fits g c = omega (arith, c.requires.fits, c.put_full_groups-first.ensures.fits, digits_given c.put_full_groups-first.result)
 
 pub returns : goal.returns
 returns g c = λ is_due right text after groups begins same.

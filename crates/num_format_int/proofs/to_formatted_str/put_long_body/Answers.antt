@@ -36,7 +36,7 @@ returns-then-is_empty-clause-text g c =
     ∙ ap (λ t. t ++ (g.B.PutFront.held c.args.buffer.now)) (sym (grouped-empty format.grouping format.separator (digits c.args.n) (ap length (sym (c.into_str-separator.ensures.same ∙ c.separator.ensures)) ∙ none)))
 
 pub put_first_group-requires-clause-fits : goal.put_first_group-requires-clause-fits
-put_first_group-requires-clause-fits g c = omega (arith, c.requires.fits, digits_given c.args.n)
+put_first_group-requires-clause-fits g c = omega (arith, c.requires.fits, length-digits-gt 3 c.args.n c.requires.many)
 
 pub returns-then-n-lt-FIVE_DIGITS-clause-text : goal.returns-then-n-lt-FIVE_DIGITS-clause-text
 returns-then-n-lt-FIVE_DIGITS-clause-text g c =

@@ -5,8 +5,8 @@ use Rattle.num_format_decimal.specs.Text.{unsigned_text}
 use Rattle.num_format_decimal.proofs.TextLemmas.{unsigned_text-length}
 use Rattle.num_format_decimal.proofs.buffer.DecimalBuffer.put_unsigned.Goals as goal
 
-pub put_body-requires : goal.put_body-requires
-put_body-requires g c = omega (arith, c.put_decimals-whole.ensures.room, length-digits-le 20 c.put_decimals-whole.result (omega arith) (omega arith))
+pub put_body-requires-clause-fits : goal.put_body-requires-clause-fits
+put_body-requires-clause-fits g c = omega (arith, c.put_decimals-whole.ensures.room, length-digits-le 20 c.put_decimals-whole.result (omega arith) (omega arith))
 
 pub returns-then-scale-lt-NINETEEN_DIGITS-clause-text : goal.returns-then-scale-lt-NINETEEN_DIGITS-clause-text
 returns-then-scale-lt-NINETEEN_DIGITS-clause-text g c =

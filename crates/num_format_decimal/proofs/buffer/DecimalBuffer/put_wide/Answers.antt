@@ -8,8 +8,8 @@ use Rattle.num_format_decimal.proofs.buffer.DecimalBuffer.put_wide.Goals as goal
 pub put_wide_decimals-requires-clause-below : goal.put_wide_decimals-requires-clause-below
 put_wide_decimals-requires-clause-below g c = omega (arith, c.split-whole.ensures.rest, mod-lt c.args.n (power_positive c.args.scale))
 
-pub put_body-requires : goal.put_body-requires
-put_body-requires g c =
+pub put_body-requires-clause-fits : goal.put_body-requires-clause-fits
+put_body-requires-clause-fits g c =
     omega (
       arith,
       whole_digits c.args.n c.args.scale (omega (arith, c.requires.below)) c.requires.scale,
