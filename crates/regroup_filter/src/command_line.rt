@@ -144,8 +144,7 @@ fn with_fault_options<'a>(alloc: Global, command: Command<'a>) -> Result<Command
                 .long("invalid")
                 .value_name("MODE")
                 .value_parser(["abort", "fail", "warn", "ignore"].as_slice())
-                .default_value("abort")
-                .help("What to do at a line at fault"),
+                .help("What to do at a line at fault [default: abort]"),
         )?
         .arg(flag(
             alloc,

@@ -15,13 +15,13 @@ mod words;
 
 use crate::command_line::matches;
 use crate::files::Files;
-use crate::misuse::{refuse_arguments, refuse_words};
-use crate::options::{capacity_of, files_of, is_quote_between, list_of, rules_of, words_of};
+use crate::misuse::cause_of;
+use crate::options::{capacity_of, files_of, list_of, options_of, words_of};
 use crate::output::Output;
 use crate::words::Word;
 use clap::ArgMatches;
 use clap::error::ErrorKind;
-use regroup_stream::{FAILED, REGROUPED, Rules, formats_named, run_all};
+use regroup_stream::{FAILED, REGROUPED, Rules, formats_named, refuse_arguments, run_all};
 use std::io::BufWriter;
 use std::process::ExitCode;
 use std::{env, io};
@@ -39,35 +39,37 @@ fn main(rt: HostRuntime) -> ExitCode {
 ///
 /// # Errors
 ///
-/// Returns an error if there is no memory for the arguments and the buffers, or if a message about the arguments
-/// cannot be printed.
+/// Returns an error if there is no memory for the arguments and the buffers, or if the help or the version cannot be
+/// printed.
 fn try_main(rt: &HostRuntime) -> io::Result<u8> {
     let args: Vec<String> = match env::args(rt) {
         Ok(args) => args.skip(1).collect(rt.alloc())?,
         Err(error) if error.kind() == io::ErrorKind::InvalidData => {
-            return refuse_words(rt, "an argument is not UTF-8");
+            return Ok(refuse(rt, "an argument is not UTF-8"));
         }
         Err(error) => return Err(error),
     };
     let matches = match matches(rt.alloc(), args.as_slice()) {
         Ok(matches) => matches,
         Err(error) if error.kind() == ErrorKind::OutOfMemory => return Ok(FAILED),
-        Err(error) if error.use_stderr() => return refuse_arguments(rt, &error),
+        Err(error) if error.use_stderr() => {
+            return Ok(refuse(rt, cause_of(rt.alloc(), &error)?.as_str()));
+        }
         Err(error) => {
             error.print(rt)?;
             return Ok(REGROUPED);
         }
     };
-    let Some(list) = list_of(rt.alloc(), &matches)? else {
-        return refuse_words(rt, "the fields are no list, as 1,3-5 or 2-");
-    };
-    if is_quote_between(&matches) {
-        return refuse_words(rt, "the delimiter is a quote");
+    let list = list_of(rt.alloc(), &matches)?;
+    match options_of(&matches, list.as_deref()).rules() {
+        Ok(rules) => regroup_files(rt, &matches, &rules),
+        Err(fault) => Ok(refuse(rt, fault.cause())),
     }
-    let Some(rules) = rules_of(&matches, &list) else {
-        return refuse_words(rt, "the delimiter is not one ASCII character");
-    };
-    regroup_files(rt, &matches, &rules)
+}
+
+/// Sends the message of arguments that are refused for this cause, and returns the status.
+fn refuse(rt: &HostRuntime, cause: &str) -> u8 {
+    refuse_arguments(rt.alloc(), cause, &mut rt.stderr())
 }
 
 /// Regroups the lines of the files, and returns the status. The buffer of the input has one byte more than a line may have.

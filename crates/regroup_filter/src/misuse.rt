@@ -2,37 +2,24 @@
 
 use clap::error::ErrorKind;
 use regroup_lines::quoted;
-use regroup_stream::{MISUSED, TRY_HELP};
 use std::alloc::{AllocError, Global};
-use std::io;
 
-/// Prints the message of a cause, and returns the status.
-///
-/// # Errors
-///
-/// Returns the error of a write that fails.
-pub(crate) fn refuse_words(rt: &HostRuntime, cause: &str) -> io::Result<u8> {
-    eprint!(rt; "regroup-lines: {cause}\n{TRY_HELP}")?;
-    Ok(MISUSED)
-}
-
-/// Prints the message of an error of the command line, and returns the status.
-///
-/// # Errors
-///
-/// Returns an error if there is no memory for it, or of a write that fails.
-pub(crate) fn refuse_arguments(rt: &HostRuntime, error: &clap::Error) -> io::Result<u8> {
-    let text = format!(in rt.alloc(); "{error}")?;
-    let cause = cause_of(rt.alloc(), error.kind(), text.as_str())?;
-    refuse_words(rt, cause.as_str())
-}
-
-/// Returns what is wrong with the arguments, by the kind and the text of an error.
+/// Returns what is wrong with the arguments, by an error of the command line.
 ///
 /// # Errors
 ///
 /// Returns an error if there is no memory for it.
-fn cause_of(alloc: Global, kind: ErrorKind, text: &str) -> Result<String, AllocError> {
+pub(crate) fn cause_of(alloc: Global, error: &clap::Error) -> Result<String, AllocError> {
+    let text = format!(in alloc; "{error}")?;
+    cause_in(alloc, error.kind(), text.as_str())
+}
+
+/// Returns the same by the kind and the text of the error.
+///
+/// # Errors
+///
+/// Returns an error if there is no memory for it.
+fn cause_in(alloc: Global, kind: ErrorKind, text: &str) -> Result<String, AllocError> {
     match kind {
         ErrorKind::UnknownArgument => {
             unknown_option(alloc, between(text, "unexpected argument '", "' found\n"))

@@ -1,11 +1,8 @@
 //! What the options and words of the command line ask for.
 
 use clap::ArgMatches;
-use regroup_stream::{FieldRange, Fields, Invalid, Reading, Rules, Span, field_list};
+use regroup_stream::{FieldRange, Invalid, Options, Reading, field_list};
 use std::alloc::{AllocError, Global};
-
-/// The most bytes of a line, without the byte that ends it.
-const MAX_LINE_LEN: u32 = 1_048_576;
 
 /// Returns the fields that are chosen: none without `--field`. Returns `None` if its value is no list.
 ///
@@ -22,8 +19,11 @@ pub(crate) fn list_of(
     }
 }
 
-/// Returns how the lines are regrouped, or `None` if the delimiter is not one ASCII character.
-pub(crate) fn rules_of<'a>(matches: &ArgMatches<'_>, list: &'a [FieldRange]) -> Option<Rules<'a>> {
+/// Returns what the options say of lines, where these fields are chosen.
+pub(crate) fn options_of<'a>(
+    matches: &ArgMatches<'a>,
+    list: Option<&'a [FieldRange]>,
+) -> Options<'a> {
     let reading = if matches.get_flag("lenient") {
         Reading::Lenient
     } else {
@@ -34,59 +34,26 @@ pub(crate) fn rules_of<'a>(matches: &ArgMatches<'_>, list: &'a [FieldRange]) -> 
     } else {
         matches.get_one::<u64>("header-lines").unwrap_or(0)
     };
-    Some(Rules {
-        span: span_of(matches, list)?,
+    Options {
+        list,
+        delimiter: matches.get_str("delimiter"),
+        csv: matches.get_flag("csv"),
         reading,
         header_lines,
         passes_empty: matches.get_flag("empty"),
         invalid: invalid_of(matches),
-        line_end: line_end_of(matches),
-        max_line_len: MAX_LINE_LEN,
-        flushes: true,
-    })
-}
-
-/// Returns whether fields that may be in quotes have a quote between them.
-pub(crate) fn is_quote_between(matches: &ArgMatches<'_>) -> bool {
-    matches.get_flag("csv") && matches.get_str("delimiter") == Some("\"")
-}
-
-/// Returns what is done with a line at fault.
-fn invalid_of(matches: &ArgMatches<'_>) -> Invalid {
-    match matches.get_str("invalid") {
-        Some("fail") => Invalid::Fail,
-        Some("warn") => Invalid::Warn,
-        Some("ignore") => Invalid::Ignore,
-        _ => Invalid::Abort,
+        zero_terminated: matches.get_flag("zero-terminated"),
     }
 }
 
-/// Returns the byte that ends a line.
-fn line_end_of(matches: &ArgMatches<'_>) -> u8 {
-    if matches.get_flag("zero-terminated") {
-        b'\0'
-    } else {
-        b'\n'
+/// Returns what is done with a line at fault, if that is given.
+fn invalid_of(matches: &ArgMatches<'_>) -> Option<Invalid> {
+    match matches.get_str("invalid")? {
+        "fail" => Some(Invalid::Fail),
+        "warn" => Some(Invalid::Warn),
+        "ignore" => Some(Invalid::Ignore),
+        _ => Some(Invalid::Abort),
     }
-}
-
-/// Returns where the numbers of a line are, or `None` if the delimiter is not one ASCII character.
-fn span_of<'a>(matches: &ArgMatches<'_>, list: &'a [FieldRange]) -> Option<Span<'a>> {
-    if list.is_empty() {
-        return Some(Span::Trimmed);
-    }
-    let is_csv = matches.get_flag("csv");
-    let usual = if is_csv { "," } else { "\t" };
-    let delimiter = match matches.get_str("delimiter").unwrap_or(usual).as_bytes() {
-        b"\\t" => b'\t',
-        [byte] if byte.is_ascii() => *byte,
-        _ => return None,
-    };
-    Some(Span::Fields(Fields {
-        list,
-        delimiter,
-        quotes: is_csv,
-    }))
 }
 
 /// Returns the capacity of the output's buffer in bytes: that of a block, or none where each line is written at once.

@@ -102,8 +102,11 @@ message_of_end name TooManyLines = failure_message name (codes ": too many lines
 message_of_end name (Unopened kind) = failure_message name (codes ": cannot open") (Some kind)
 message_of_end name IsOutput = failure_message name (codes ": input file is output file") None
 
--- standard error received the message and the status is that of the end, or not all of the message could be sent and it is 3
-abbrev pub Finishes : (name : List ℕ) → End → ℕ → (err_old err_new : Option (List ℕ)) → Type 0
-Finishes name end status err_old err_new =
-    ((status ≡ status_of end) × Appends err_old err_new (message_of_end name end))
-    ⊎ ((status ≡ 3) × StopsWithin err_old err_new (message_of_end name end))
+-- standard error received the message, and the status is this one, or not all of the message could be sent, and it is 3
+abbrev pub SendsMessage : (message : List ℕ) → (usual status : ℕ) → (err_old err_new : Option (List ℕ)) → Type 0
+SendsMessage message usual status err_old err_new =
+    ((status ≡ usual) × Appends err_old err_new message) ⊎ ((status ≡ 3) × StopsWithin err_old err_new message)
+
+-- the same of the message and the status of an end
+abbrev pub Finishes : (name : List ℕ) → End → (status : ℕ) → (err_old err_new : Option (List ℕ)) → Type 0
+Finishes name end status err_old err_new = SendsMessage (message_of_end name end) (status_of end) status err_old err_new

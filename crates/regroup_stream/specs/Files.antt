@@ -1,9 +1,11 @@
 -- The format that a file holds as a JSON object.
-use Rattle.std.specs.Prelude.{◌≡◌, ℕ, List, ◌++◌, codes, Option, None, Some, Result, Ok, Err, IsUtf8}
+use Rattle.std.specs.Prelude.{◌≡◌, ℕ, List, ◌++◌, codes, if◌then◌else◌, Option, None, Some, is_some, Result, Ok, Err, IsUtf8}
 use Rattle.std.specs.declared.io.ErrorKind.{ErrorKind}
 use Rattle.std.specs.declared.io.ErrorKind.TheVariants.{OutOfMemory}
-use Rattle.serde_json.specs.Data.{Data}
+use Rattle.serde_json.specs.Data.{Data, object, put, string}
+use Rattle.serde_json.specs.Find.{get}
 use Rattle.serde_json.specs.Read.{read}
+use Rattle.num_format.specs.English.{english}
 use Rattle.num_format.specs.Format.{FormatData}
 use Rattle.num_format.specs.Json.{Fault, fault_of, format_in}
 use Rattle.num_format.specs.Json.Fault.{Missing, TooLong, WrongKind}
@@ -29,10 +31,24 @@ abbrev pub IsJson : List ℕ → Option Data → Type 0
 IsJson bytes (Some value) = IsUtf8 bytes × (read bytes ≡ Some value)
 IsJson bytes None = IsUtf8 bytes → read bytes ≡ None
 
+-- an object with this text at a key; any other value as it is
+abbrev pub with_text : (key text : List ℕ) → Data → Data
+with_text key text (object members) = object (put key (string text) members)
+with_text key text value = value
+
+-- the same of an object that lacks the key
+abbrev pub with_text_at : (key text : List ℕ) → Data → Data
+with_text_at key text value = if is_some (get key value) then value else with_text key text value
+
+-- a value with the texts of en's format that no decimal needs, where it lacks them
+abbrev pub completed : Data → Data
+completed value =
+    with_text_at (codes "plus") english.plus_sign (with_text_at (codes "nan") english.nan (with_text_at (codes "inf") english.infinity value))
+
 -- the format that the bytes hold, or why they hold none: there may be no memory to read them
 abbrev pub HoldsFormat : List ℕ → Result FormatData Unfit → Type 0
-HoldsFormat bytes (Ok format) = (value : Data) × IsJson bytes (Some value) × (format_in value ≡ Ok format)
-HoldsFormat bytes (Err (NotFormat fault)) = (value : Data) × IsJson bytes (Some value) × (format_in value ≡ Err fault)
+HoldsFormat bytes (Ok format) = (value : Data) × IsJson bytes (Some value) × (format_in (completed value) ≡ Ok format)
+HoldsFormat bytes (Err (NotFormat fault)) = (value : Data) × IsJson bytes (Some value) × (format_in (completed value) ≡ Err fault)
 HoldsFormat bytes (Err NotJson) = IsJson bytes None
 HoldsFormat bytes (Err (Unread kind)) = kind ≡ OutOfMemory
 

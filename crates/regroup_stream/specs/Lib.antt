@@ -2,5 +2,6 @@
 pub mod Ending
 pub mod Files
 pub mod Inputs
+pub mod Options
 pub mod Stream
 pub mod Words

@@ -1,7 +1,6 @@
 -- The formats that words and files name, and what is wrong with those that name none.
-use Rattle.std.specs.Prelude.{◌≡◌, ◌⊎◌, ℕ, ◌==◌, Bool, true, false, if◌then◌else◌, nat_eq, List, [], ◌∷◌, ◌++◌, length, drop, codes, Option, None, Some, option_and_then, Result, Ok, Err, ⊤}
+use Rattle.std.specs.Prelude.{◌≡◌, ℕ, ◌==◌, Bool, true, false, if◌then◌else◌, nat_eq, List, [], ◌∷◌, ◌++◌, length, drop, codes, Option, None, Some, option_and_then, Result, Ok, Err, ⊤}
 use Rattle.std.specs.List.{starts_with}
-use Rattle.std.specs.Io.KnownBytes.{Appends}
 use Rattle.std.specs.Option.{option_map}
 use Rattle.std.specs.Result.{result_map_both, result_ok}
 use Rattle.std.specs.Str.{bytes_eq}
@@ -13,7 +12,6 @@ use Rattle.num_format.specs.Grouping.{Grouping}
 use Rattle.num_format.specs.Grouping.TheVariants.{Posix}
 use Rattle.num_format.specs.GroupingNames.{grouping_named}
 use Rattle.num_format.specs.Lookup.{LooksUpTag}
-use Rattle.num_format.specs.Writing.{StopsWithin}
 use Rattle.num_format_decimal.specs.Marks.{MarksDecimals}
 use Rattle.regroup_lines.specs.declared.rules.Reading.{Reading}
 use Rattle.regroup_lines.specs.declared.rules.Reading.TheVariants.{Lenient, Strict}
@@ -175,17 +173,16 @@ abbrev pub NamesFormats : Reading → (from to : Named) → Result (FormatData �
 NamesFormats reading from to (Ok formats) = NamesBoth reading from to formats
 NamesFormats reading from to (Err wrong) = IsWrong reading from to wrong
 
+-- the message of arguments that are refused for this cause
+abbrev pub arguments_message : (cause : List ℕ) → List ℕ
+arguments_message cause = line (codes "regroup-lines: " ++ cause) ++ line (codes "Try 'regroup-lines --help' for more information.")
+
 -- the message that shows a word with what is wrong with it
 abbrev pub misuse_message : (word cause : List ℕ) → List ℕ
-misuse_message word cause = line (codes "regroup-lines: " ++ (quoted word ++ cause)) ++ line (codes "Try 'regroup-lines --help' for more information.")
+misuse_message word cause = arguments_message (quoted word ++ cause)
 
 -- the message of what is wrong
 abbrev pub message_of_wrong : Wrong → List ℕ
 message_of_wrong (NoFormat word) = misuse_message word (codes " names no format")
 message_of_wrong (Ambiguous word ambiguity) = misuse_message word (cause_of ambiguity)
 message_of_wrong (BadFile name unfit) = unfit_message name unfit
-
--- standard error received the message and the status is 2, or not all of the message, and it is 3
-abbrev pub SendsMisuse : Wrong → ℕ → (err_old err_new : Option (List ℕ)) → Type 0
-SendsMisuse wrong status err_old err_new =
-    ((status ≡ 2) × Appends err_old err_new (message_of_wrong wrong)) ⊎ ((status ≡ 3) × StopsWithin err_old err_new (message_of_wrong wrong))

@@ -1,6 +1,6 @@
 //! How a run ends: the status, and the message on standard error.
 ghost use Rattle.std.specs.Prelude.{◌≡◌, ◌≤◌, length};
-ghost use Rattle.regroup_stream.specs.Ending.{Finishes, end_of, failure_message, known_reason, message_of_end, reason_of, status_of};
+ghost use Rattle.regroup_stream.specs.Ending.{Finishes, SendsMessage, end_of, failure_message, known_reason, message_of_end, reason_of, status_of};
 
 use crate::files::MAX_CAUSE_LEN;
 use crate::{CLOSED, FAILED, FAULTY, REGROUPED};
@@ -38,10 +38,7 @@ impl Ending {
     pub(crate) fn finish<E: Write>(&self, name: &str, err: &mut E) -> u8
         ensures { Finishes name.now (end_of self.now) result (E.contents err.old) (E.contents err.new) }
     {
-        match write_whole(self.message(name).as_str().as_bytes(), err) {
-            Ok(_) => self.status(),
-            Err(_) => FAILED,
-        }
+        send(self.message(name).as_str(), self.status(), err)
     }
 
     /// Returns the status.
@@ -75,6 +72,16 @@ impl Ending {
             Ending::Unopened(kind) => failure_message(name, ": cannot open", Some(*kind)),
             Ending::IsOutput => failure_message(name, ": input file is output file", None),
         }
+    }
+}
+
+/// Sends a message, and returns the status, which is [`FAILED`] if not all of the message could be sent.
+pub(crate) fn send<E: Write>(message: &str, status: u8, err: &mut E) -> u8
+    ensures { SendsMessage message.now status result (E.contents err.old) (E.contents err.new) }
+{
+    match write_whole(message.as_bytes(), err) {
+        Ok(_) => status,
+        Err(_) => FAILED,
     }
 }
 

@@ -1,9 +1,10 @@
 //! The format that a file holds as a JSON object.
-ghost use Rattle.std.specs.Prelude.{◌≡◌, ◌≤◌, ◌++◌, length};
+ghost use Rattle.std.specs.Prelude.{◌≡◌, ◌≤◌, ◌++◌, length, OnOk};
 ghost use Rattle.std.specs.Result.{result_map_both};
 ghost use Rattle.num_format.specs.Json.{fault_of};
 ghost use Rattle.regroup_lines.specs.Quoting.{quoted};
-ghost use Rattle.regroup_stream.specs.Files.{HoldsFormat, json_cause, unfit_message, unfit_of};
+ghost use Rattle.regroup_stream.specs.Files.{HoldsFormat, completed, json_cause, unfit_message, unfit_of, with_text_at};
+ghost use Rattle.serde_json.specs.View.{view};
 
 use crate::ending::failure_message;
 use arrayvec::ArrayString;
@@ -11,7 +12,7 @@ use num_format::CustomFormat;
 use num_format::json::{JsonFault, format_from_value};
 use regroup_lines::{MAX_FAULT_MESSAGE_LEN, MAX_QUOTED_LEN, quoted};
 use serde_json::Value;
-use std::alloc::Global;
+use std::alloc::{AllocError, Global};
 use std::io::ErrorKind;
 
 /// The most bytes of what is said of a JSON value that holds no format.
@@ -70,7 +71,8 @@ fn key_cause(text: &str, key: &str) -> ArrayString<MAX_CAUSE_LEN>
     cause
 }
 
-/// Returns the format that the bytes of a file hold, as a JSON object with its seven fields.
+/// Returns the format that the bytes of a file hold, as a JSON object with its seven fields. Of these `inf`, `nan` and
+/// `plus`, which no decimal needs, may be missing, and are those of `en` then.
 ///
 /// # Errors
 ///
@@ -78,9 +80,49 @@ fn key_cause(text: &str, key: &str) -> ArrayString<MAX_CAUSE_LEN>
 pub(crate) fn format_held(alloc: Global, bytes: &[u8]) -> Result<CustomFormat, FileFault>
     ensures { HoldsFormat bytes.now (result_map_both (λ format. format) unfit_of result) }
 {
-    match Value::from_slice(alloc, bytes) {
-        Ok(value) => format_from_value(&value).map_err(FileFault::NotFormat),
-        Err(error) if error.is_memory() => Err(FileFault::Unread(ErrorKind::OutOfMemory)),
-        Err(_) => Err(FileFault::NotJson),
+    let mut value = match Value::from_slice(alloc, bytes) {
+        Ok(value) => value,
+        Err(error) if error.is_memory() => {
+            return Err(FileFault::Unread(ErrorKind::OutOfMemory));
+        }
+        Err(_) => return Err(FileFault::NotJson),
+    };
+    match complete(alloc, &mut value) {
+        Ok(()) => format_from_value(&value).map_err(FileFault::NotFormat),
+        Err(_) => Err(FileFault::Unread(ErrorKind::OutOfMemory)),
     }
+}
+
+/// Inserts the texts of `en` that an object lacks and no decimal needs.
+///
+/// # Errors
+///
+/// Returns an error if there is no memory for them.
+fn complete(alloc: Global, value: &mut Value) -> Result<(), AllocError>
+    ensures { OnOk result (view value.new ≡ completed (view value.old)) }
+{
+    let en = CustomFormat::default();
+    insert_missing(alloc, value, "inf", en.infinity())?;
+    insert_missing(alloc, value, "nan", en.nan())?;
+    insert_missing(alloc, value, "plus", en.plus_sign())
+}
+
+/// Inserts a text at a key that an object lacks.
+///
+/// # Errors
+///
+/// Returns an error if there is no memory for it.
+fn insert_missing(alloc: Global, value: &mut Value, key: &str, text: &str) -> Result<(), AllocError>
+    ensures { OnOk result (view value.new ≡ with_text_at key.now text.now (view value.old)) }
+{
+    if value.get(key).is_some() {
+        return Ok(());
+    }
+    if let Some(members) = value.as_object_mut() {
+        members.insert(
+            String::from_str(alloc, key)?,
+            Value::try_from_str(alloc, text)?,
+        )?;
+    }
+    Ok(())
 }

@@ -18,6 +18,7 @@
 mod ending;
 mod files;
 mod inputs;
+mod options;
 mod watched;
 mod words;
 
@@ -32,8 +33,9 @@ ghost use Rattle.regroup_stream.specs.Stream.{RegroupsAll, Runs, end_of_result};
 use crate::ending::Ending;
 pub use crate::files::FileFault;
 pub use crate::inputs::{Open, Unread, run_all};
+pub use crate::options::{OptionFault, Options};
 use crate::watched::Watched;
-pub use crate::words::{Ambiguity, Formats, Misuse, Source, TRY_HELP, formats_named};
+pub use crate::words::{Ambiguity, Formats, Misuse, Source, formats_named, refuse_arguments};
 use num_format::CustomFormat;
 pub use regroup_lines::{FieldRange, Fields, Invalid, Reading, Rules, Span, field_list};
 use regroup_lines::{RegroupFault, Summary, fault_message, regroup_at_most};

@@ -1,23 +1,24 @@
 //! The formats that words and files name.
-ghost use Rattle.std.specs.Prelude.{◌≡◌, ◌≤◌, nat_eq, codes, length, IsTrue, ◌↔◌};
+ghost use Rattle.std.specs.Prelude.{◌≡◌, ◌≤◌, nat_eq, codes, length, IfOk, IsTrue, ◌↔◌, string_bytes};
 ghost use Rattle.std.specs.List.{starts_with};
 ghost use Rattle.std.specs.Option.{option_map};
 ghost use Rattle.std.specs.Result.{result_map_both};
 ghost use Rattle.num_format.specs.Grouped.{printed_separator};
-ghost use Rattle.regroup_stream.specs.Words.{IsFormatOf, IsHeld, IsNamed, IsReadUnder, LooksUpFormat, NamesCustomOrLocale, NamesFormat, NamesFormats, SendsMisuse, ambiguity_of, cause_of, custom_format_named, marked_format_named, message_of_wrong, misuse_message, named_of, split_last, text_of_named, wrong_of};
+ghost use Rattle.regroup_stream.specs.Ending.{SendsMessage};
+ghost use Rattle.regroup_stream.specs.Words.{IsFormatOf, IsHeld, IsNamed, IsReadUnder, LooksUpFormat, NamesCustomOrLocale, NamesFormat, NamesFormats, ambiguity_of, arguments_message, cause_of, custom_format_named, marked_format_named, message_of_wrong, misuse_message, named_of, split_last, text_of_named, wrong_of};
 
+use crate::ending::send;
 use crate::files::{FileFault, format_held};
 use crate::{FAILED, MISUSED};
 use arrayvec::ArrayString;
-use num_format::to_formatted_string::write_whole;
 use num_format::{CustomFormat, Grouping, Locale};
 use num_format_decimal::marks_decimals;
 use regroup_lines::{MAX_FAULT_MESSAGE_LEN, Reading, quoted};
-use std::alloc::Global;
+use std::alloc::{AllocError, Global};
 use std::io::{ErrorKind, Write};
 
 /// The second line of each message about arguments.
-pub const TRY_HELP: &str = "Try 'regroup-lines --help' for more information.\n";
+const TRY_HELP: &str = "Try 'regroup-lines --help' for more information.\n";
 
 /// The formats of the numbers that are read, and of those that are written.
 #[derive(Drop)]
@@ -34,7 +35,8 @@ pub enum Source<'a> {
     /// A word: `plain`, `custom:SEP:GROUPING:MINUS[:MARK]` or a locale.
     Word(&'a str),
     /// A file of this name, with its bytes or why it cannot be read. It has the format as a JSON object with its
-    /// seven fields, as [`format_to_value`](num_format::json::format_to_value) returns it.
+    /// seven fields, as [`format_to_value`](num_format::json::format_to_value) returns it. Of these `inf`, `nan` and `plus`
+    /// may be missing, and are those of `en` then.
     File(&'a str, Result<&'a [u8], ErrorKind>),
 }
 
@@ -83,12 +85,9 @@ impl Misuse<'_> {
     /// err.starts_with(b"regroup-lines: 'xx' names no format\nTry 'regroup-")    // true
     /// ```
     pub fn send<E: Write>(&self, err: &mut E) -> u8
-        ensures { SendsMisuse (wrong_of self.now) result (E.contents err.old) (E.contents err.new) }
+        ensures { SendsMessage (message_of_wrong (wrong_of self.now)) 2 result (E.contents err.old) (E.contents err.new) }
     {
-        match write_whole(self.message().as_str().as_bytes(), err) {
-            Ok(_) => MISUSED,
-            Err(_) => FAILED,
-        }
+        send(self.message().as_str(), MISUSED, err)
     }
 
     /// Returns the message.
@@ -168,6 +167,38 @@ fn misuse_message(word: &str, cause: &str) -> ArrayString<MAX_FAULT_MESSAGE_LEN>
     message.push('\n');
     message.push_str(TRY_HELP);
     message
+}
+
+/// Sends the message of arguments that are refused for this cause, and returns the status: [`MISUSED`], or [`FAILED`] if there
+/// is no memory for the message, or not all of it could be sent.
+///
+/// ```rust
+/// let mut err = Vec::new(alloc);
+/// refuse_arguments(alloc, "missing operand", &mut err)              // 2
+/// err.starts_with(b"regroup-lines: missing operand\nTry 'regroup-")    // true
+/// ```
+pub fn refuse_arguments<E: Write>(alloc: Global, cause: &str, err: &mut E) -> u8
+    ensures { SendsMessage (arguments_message cause.now) 2 result (E.contents err.old) (E.contents err.new) }
+{
+    match arguments_message(alloc, cause) {
+        Ok(message) => send(message.as_str(), MISUSED, err),
+        Err(_) => FAILED,
+    }
+}
+
+/// Returns the message of arguments that are refused for this cause.
+///
+/// # Errors
+///
+/// Returns an error if there is no memory for it.
+fn arguments_message(alloc: Global, cause: &str) -> Result<String, AllocError>
+    ensures { IfOk result (λ message. string_bytes message ≡ arguments_message cause.now) }
+{
+    let mut message = String::from_str(alloc, "regroup-lines: ")?;
+    message.push_str(cause)?;
+    message.push_str("\n")?;
+    message.push_str(TRY_HELP)?;
+    Ok(message)
 }
 
 /// Returns the formats that two words or files name.

@@ -1,0 +1,133 @@
+//! The rules that options of the command line ask for.
+ghost use Rattle.std.specs.Prelude.{◌≡◌};
+ghost use Rattle.regroup_stream.specs.Options.{cause_of_option, delimiter_named, delimiter_of, rules_of, span_of};
+
+use regroup_lines::{FieldRange, Fields, Invalid, Reading, Rules, Span};
+
+/// The most bytes of a line, without the byte that ends it.
+const MAX_LINE_LEN: u32 = 1_048_576;
+
+/// What the options say of lines.
+///
+/// ```rust
+/// let list = field_list(alloc, "3")?;
+/// let options = Options {
+///     list: list.as_deref(),
+///     delimiter: Some(";"),
+///     csv: false,
+///     reading: Reading::Strict,
+///     header_lines: 0,
+///     passes_empty: false,
+///     invalid: None,
+///     zero_terminated: false,
+/// };
+/// options.rules().unwrap().invalid                                // Abort
+/// Options { delimiter: Some("\t\t"), ..options }.rules().err()    // Some(LongDelimiter)
+/// Options { list: None, ..options }.rules().err()                 // Some(NoList)
+/// ```
+#[derive(Clone, Copy, Debug)]
+pub struct Options<'a> {
+    /// The fields that are chosen, none where each line has one number, or `None` if they are no list.
+    pub list: Option<&'a [FieldRange]>,
+    /// The delimiter, if one is given.
+    pub delimiter: Option<&'a str>,
+    /// Whether fields may be in quotes.
+    pub csv: bool,
+    /// How the numbers are read.
+    pub reading: Reading,
+    /// How many lines at the start are passed on.
+    pub header_lines: u64,
+    /// Whether a place is passed on where a number has no byte.
+    pub passes_empty: bool,
+    /// What is done with a line at fault, if that is given.
+    pub invalid: Option<Invalid>,
+    /// Whether lines end with NUL.
+    pub zero_terminated: bool,
+}
+
+/// What is wrong with options.
+#[derive(Clone, Copy, Debug, PartialEq, Eq)]
+pub enum OptionFault {
+    /// The fields are no list.
+    NoList,
+    /// The delimiter is not one ASCII character.
+    LongDelimiter,
+    /// The delimiter is a quote, and fields may be in quotes.
+    QuoteDelimiter,
+}
+
+impl<'a> Options<'a> {
+    /// Returns how lines are regrouped.
+    ///
+    /// # Errors
+    ///
+    /// Returns the first fault of the options, in the order of [`OptionFault`].
+    pub fn rules(&self) -> Result<Rules<'a>, OptionFault>
+        ensures { result ≡ rules_of self.now }
+    {
+        Ok(Rules {
+            span: self.span()?,
+            reading: self.reading,
+            header_lines: self.header_lines,
+            passes_empty: self.passes_empty,
+            invalid: self.invalid.unwrap_or(Invalid::Abort),
+            line_end: if self.zero_terminated { b'\0' } else { b'\n' },
+            max_line_len: MAX_LINE_LEN,
+            flushes: true,
+        })
+    }
+
+    /// Returns where the numbers of a line are.
+    fn span(&self) -> Result<Span<'a>, OptionFault>
+        ensures { result ≡ span_of self.now self.now.list }
+    {
+        let list = self.list.ok_or(OptionFault::NoList)?;
+        if list.is_empty() {
+            return Ok(Span::Trimmed);
+        }
+        Ok(Span::Fields(Fields {
+            list,
+            delimiter: self.delimiter()?,
+            quotes: self.csv,
+        }))
+    }
+
+    /// Returns the byte between two fields.
+    fn delimiter(&self) -> Result<u8, OptionFault>
+        ensures { result ≡ delimiter_of self.now.csv self.now.delimiter }
+    {
+        match self.delimiter {
+            None => Ok(if self.csv { b',' } else { b'\t' }),
+            Some("\"") if self.csv => Err(OptionFault::QuoteDelimiter),
+            Some(text) => delimiter_named(text).ok_or(OptionFault::LongDelimiter),
+        }
+    }
+}
+
+/// Returns the byte that a text names as a delimiter, if it names one.
+fn delimiter_named(text: &str) -> Option<u8>
+    ensures { result ≡ delimiter_named text.now }
+{
+    match text.as_bytes() {
+        b"\\t" => Some(b'\t'),
+        [byte] if byte.is_ascii() => Some(*byte),
+        _ => None,
+    }
+}
+
+impl OptionFault {
+    /// Returns what is said of it.
+    ///
+    /// ```rust
+    /// OptionFault::QuoteDelimiter.cause()    // "the delimiter is a quote"
+    /// ```
+    pub fn cause(self) -> &'static str
+        ensures { result.now ≡ cause_of_option self }
+    {
+        match self {
+            OptionFault::NoList => "the fields are no list, as 1,3-5 or 2-",
+            OptionFault::LongDelimiter => "the delimiter is not one ASCII character",
+            OptionFault::QuoteDelimiter => "the delimiter is a quote",
+        }
+    }
+}
