@@ -15,25 +15,36 @@ use uses_money::{Currency, Money};
 /// The largest width, more than the columns of the longest text.
 const WIDEST: usize = 300;
 
-/// Asserts what is displayed of a value that has this text, at each width, with spaces and with a fill of three bytes.
+/// Asserts what is displayed of a value that has this text, at each width and at one that is far larger.
 fn assert_filled<T: Display>(
     rt: &impl Abort,
     alloc: Global,
     value: &T,
     text: &str,
 ) -> Result<(), Fail> {
-    let columns = text.chars().count();
     for width in 0..=WIDEST {
-        let missing = width.saturating_sub(columns);
-        let spaces = " ".repeat(alloc, missing)?;
-        let right = format!(in alloc; "{}", value.width(width))?;
-        let expected = format!(in alloc; "{spaces}{text}")?;
-        assert_equal(rt, right.as_str(), expected.as_str());
-        let fill = "€".repeat(alloc, missing)?;
-        let left = format!(in alloc; "{}", value.left().fill('€').width(width))?;
-        let expected = format!(in alloc; "{text}{fill}")?;
-        assert_equal(rt, left.as_str(), expected.as_str());
+        assert_filled_to(rt, alloc, value, text, width)?;
     }
+    assert_filled_to(rt, alloc, value, text, 65_535)
+}
+
+/// Asserts the same at one width, with spaces and with a fill of three bytes.
+fn assert_filled_to<T: Display>(
+    rt: &impl Abort,
+    alloc: Global,
+    value: &T,
+    text: &str,
+    width: usize,
+) -> Result<(), Fail> {
+    let missing = width.saturating_sub(text.chars().count());
+    let spaces = " ".repeat(alloc, missing)?;
+    let right = format!(in alloc; "{}", value.width(width))?;
+    let expected = format!(in alloc; "{spaces}{text}")?;
+    assert_equal(rt, right.as_str(), expected.as_str());
+    let fill = "€".repeat(alloc, missing)?;
+    let left = format!(in alloc; "{}", value.left().fill('€').width(width))?;
+    let expected = format!(in alloc; "{text}{fill}")?;
+    assert_equal(rt, left.as_str(), expected.as_str());
     Ok(())
 }
 
@@ -110,6 +121,10 @@ fn assert_written(
     let mut bytes = Vec::new(alloc);
     decimal.read_to_io_writer(&mut bytes, format)?;
     assert_equal(rt, bytes.as_slice(), text.as_bytes());
+    let buffer = DecimalBuffer::of(decimal, format);
+    let shown = format!(in alloc; "{buffer}|{buffer:?}")?;
+    let expected = format!(in alloc; "{text}|{text}")?;
+    assert_equal(rt, shown.as_str(), expected.as_str());
     Ok(())
 }
 
