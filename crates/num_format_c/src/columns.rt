@@ -12,13 +12,15 @@ ghost use Rattle.num_format_c.specs.Layout.{IsEnough, MatchType, number_at, row_
 use crate::calls;
 use crate::format::{Held, NumFormat};
 use crate::layout::{
-    OffsetType, Printer, Validity, Value, ValueType, Values, append, print_texts, row_count,
+    Block, OffsetType, Printer, Validity, Value, ValueType, Values, print_texts, row_count,
     set_value, texts_len,
 };
 use crate::status::Status;
+use num_format::Format;
 use num_format::parsing::StrictParser;
-use num_format::{Buffer, Format, ToFormattedStr};
 use num_format_decimal::{Decimal, DecimalBuffer, DecimalParser, MAX_SCALE};
+use num_format_int::buffer::PutFront;
+use num_format_int::to_formatted_str::put_body;
 
 /// Calls a function for the integer type that a type of values is.
 macro_rules! for_type {
@@ -61,13 +63,12 @@ impl<'a, N: Value, F: Format> Printer for NumberPrinter<'a, N, F> {
         }
     }
 
-    fn print(&self, row: usize, buffer: &mut Buffer, start: usize, bytes: &mut [u8]) -> usize {
-        match self.values.get(row) {
-            Some(number) => {
-                number.read_to_buffer(buffer, self.format);
-                append(buffer.as_bytes(), start, bytes)
+    fn print(&self, row: usize, block: &mut Block) {
+        if let Some(number) = self.values.get(row) {
+            put_body(number.magnitude(), block, self.format);
+            if number.is_below_zero() {
+                block.put_front(self.format.minus_sign().into_str());
             }
-            None => start,
         }
     }
 }
@@ -109,13 +110,9 @@ impl<'a, F: Format> Printer for DecimalPrinter<'a, F> {
         }
     }
 
-    fn print(&self, row: usize, _buffer: &mut Buffer, start: usize, bytes: &mut [u8]) -> usize {
-        match self.units.get(row) {
-            Some(units) => {
-                let text = DecimalBuffer::of(&self.number(units), self.format);
-                append(text.as_bytes(), start, bytes)
-            }
-            None => start,
+    fn print(&self, row: usize, block: &mut Block) {
+        if let Some(units) = self.units.get(row) {
+            block.put_front(DecimalBuffer::of(&self.number(units), self.format).as_str());
         }
     }
 }
@@ -272,7 +269,7 @@ fn print_rows<P: Printer>(
     if total > bytes.len() {
         return Err(Status::TooSmall);
     }
-    print_texts(printer, offset_type, offsets, bytes);
+    print_texts(printer, total, offset_type, offsets, bytes);
     *len = total;
     Ok(0)
 }
