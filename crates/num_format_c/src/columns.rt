@@ -131,12 +131,8 @@ pub fn print(
     ensures { PrintsNumbers value_code offset_code format.now values.now validity.now.bits.now validity.now.bit_offset
         (to_printed offsets.old bytes.old len.old) (to_printed offsets.new bytes.new len.new) (returned result) }
 {
-    let Some(value_type) = ValueType::from_code(value_code) else {
-        return Err(Status::BadType);
-    };
-    let Some(offset_type) = OffsetType::from_code(offset_code) else {
-        return Err(Status::BadType);
-    };
+    let value_type = ValueType::from_code(value_code).ok_or(Status::BadType)?;
+    let offset_type = OffsetType::from_code(offset_code).ok_or(Status::BadType)?;
     let Some(format) = Held::new(format) else {
         return Err(Status::BadFormat);
     };
@@ -215,12 +211,8 @@ pub fn print_decimals(
     ensures { PrintsDecimals scale offset_code format.now units.now validity.now.bits.now validity.now.bit_offset
         (to_printed offsets.old bytes.old len.old) (to_printed offsets.new bytes.new len.new) (returned result) }
 {
-    let Some(scale) = scale_of(scale) else {
-        return Err(Status::BadScale);
-    };
-    let Some(offset_type) = OffsetType::from_code(offset_code) else {
-        return Err(Status::BadType);
-    };
+    let scale = scale_of(scale).ok_or(Status::BadScale)?;
+    let offset_type = OffsetType::from_code(offset_code).ok_or(Status::BadType)?;
     let Some(format) = Held::new(format) else {
         return Err(Status::BadFormat);
     };
@@ -260,9 +252,7 @@ fn print_rows<P: Printer>(
     if !offset_type.is_enough(printer.len(), offsets) {
         return Err(Status::BadLength);
     }
-    let Some(total) = texts_len(printer) else {
-        return Err(Status::TooManyBytes);
-    };
+    let total = texts_len(printer).ok_or(Status::TooManyBytes)?;
     if total > offset_type.limit() {
         return Err(Status::TooManyBytes);
     }
@@ -284,9 +274,7 @@ pub fn measure(
 ) -> Result<i32, Status>
     ensures { MeasuresNumbers value_code format.now values.now validity.now.bits.now validity.now.bit_offset len.old len.new (returned result) }
 {
-    let Some(value_type) = ValueType::from_code(value_code) else {
-        return Err(Status::BadType);
-    };
+    let value_type = ValueType::from_code(value_code).ok_or(Status::BadType)?;
     let Some(format) = Held::new(format) else {
         return Err(Status::BadFormat);
     };
@@ -335,9 +323,7 @@ pub fn measure_decimals(
 ) -> Result<i32, Status>
     ensures { MeasuresDecimals scale format.now units.now validity.now.bits.now validity.now.bit_offset len.old len.new (returned result) }
 {
-    let Some(scale) = scale_of(scale) else {
-        return Err(Status::BadScale);
-    };
+    let scale = scale_of(scale).ok_or(Status::BadScale)?;
     let Some(format) = Held::new(format) else {
         return Err(Status::BadFormat);
     };
@@ -356,9 +342,7 @@ pub fn measure_decimals(
 fn measure_rows<P: Printer>(printer: &P, len: &mut usize) -> Result<i32, Status>
     ensures { Measures (length (texts_of (P.text printer.now) (P.rows printer.now))) len.old len.new (returned result) }
 {
-    let Some(total) = texts_len(printer) else {
-        return Err(Status::TooManyBytes);
-    };
+    let total = texts_len(printer).ok_or(Status::TooManyBytes)?;
     *len = total;
     Ok(0)
 }
@@ -438,12 +422,8 @@ pub fn parse(
         (to_texts offsets.now bytes.now validity.now.bits.now validity.now.bit_offset)
         (to_parsed values.old statuses.old) (to_parsed values.new statuses.new) (returned result) }
 {
-    let Some(value_type) = ValueType::from_code(value_code) else {
-        return Err(Status::BadType);
-    };
-    let Some(offset_type) = OffsetType::from_code(offset_code) else {
-        return Err(Status::BadType);
-    };
+    let value_type = ValueType::from_code(value_code).ok_or(Status::BadType)?;
+    let offset_type = OffsetType::from_code(offset_code).ok_or(Status::BadType)?;
     let Some(format) = Held::new(format) else {
         return Err(Status::BadFormat);
     };
@@ -550,12 +530,8 @@ pub fn parse_decimals(
         (to_texts offsets.now bytes.now validity.now.bits.now validity.now.bit_offset)
         (to_parsed units.old statuses.old) (to_parsed units.new statuses.new) (returned result) }
 {
-    let Some(scale) = scale_of(scale) else {
-        return Err(Status::BadScale);
-    };
-    let Some(offset_type) = OffsetType::from_code(offset_code) else {
-        return Err(Status::BadType);
-    };
+    let scale = scale_of(scale).ok_or(Status::BadScale)?;
+    let offset_type = OffsetType::from_code(offset_code).ok_or(Status::BadType)?;
     let Some(format) = Held::new(format) else {
         return Err(Status::BadFormat);
     };
