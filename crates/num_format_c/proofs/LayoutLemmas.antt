@@ -31,28 +31,14 @@ module _ (text : ℕ → List ℕ) where
   pub length_texts_fit : (i n : ℕ) → i < n → length (texts_of text i) + length (text i) ≤ length (texts_of text n)
   length_texts_fit i n under = omega (arith, length_texts_more i, length_texts_le (i + 1) n (omega arith))
 
-  -- one more offset
-  pub ends_more : (old new : ℕ → ℕ) (i : ℕ) → ((j : ℕ) → j ≤ i → old j ≡ length (texts_of text j)) → new (i + 1) ≡ length (texts_of text (i + 1)) →
-      ((j : ℕ) → j ≢ i + 1 → new j ≡ old j) → (j : ℕ) → j ≤ i + 1 → new j ≡ length (texts_of text j)
-  ends_more old new i before here others j most =
-      elim (cases_eq j (i + 1)) as (λ _. new j ≡ length (texts_of text j)) [
+  -- one more offset, before others
+  pub ends_more : (old new : ℕ → ℕ) (n i : ℕ) → ((j : ℕ) → i < j → j ≤ n → old j ≡ length (texts_of text j)) → new i ≡ length (texts_of text i) →
+      ((j : ℕ) → j ≢ i → new j ≡ old j) → (j : ℕ) → i ≤ j → j ≤ n → new j ≡ length (texts_of text j)
+  ends_more old new n i after here others j from most =
+      elim (cases_eq j i) as (λ _. new j ≡ length (texts_of text j)) [
         | inl same ↦ rw same here
-        | inr other ↦ others j other ∙ before j (omega arith)
+        | inr other ↦ others j other ∙ after j (omega arith) most
       ]
-
--- a text written after others
-pub written : (old done text bytes : List ℕ) (end : ℕ) → end ≡ length done → bytes ≡ done ++ drop (length done) old →
-    take end bytes ++ text ++ drop (end + length text) bytes ≡ done ++ text ++ drop (length (done ++ text)) old
-written old done text bytes end at is =
-    rw (
-      at,
-      is,
-      take_at done (drop (length done) old) (length done) refl,
-      ← drop-drop (length text) (length done) (done ++ drop (length done) old),
-      drop_at done (drop (length done) old) (length done) refl,
-      drop-drop (length text) (length done) old,
-      length-append done text,
-    ) refl
 
 -- one row more has a property that each before it has, where nothing else changed
 pub row_more : {A B : Type 0} (P : ℕ → A → B → Type 0) (a b : ℕ → A) (c d : ℕ → B) (n : ℕ) → ((k : ℕ) → k < n → P k (a k) (c k)) → P n (b n) (d n) →

@@ -1,5 +1,5 @@
 //! What the calls do, with Rust's types.
-ghost use Rattle.std.specs.Prelude.{◌≡◌, ◌≢◌, ◌<◌, ◌≤◌, length, pos, Err, MatchOption, if◌then◌else◌};
+ghost use Rattle.std.specs.Prelude.{◌≡◌, ◌<◌, ◌≤◌, length, pos, Err, MatchOption, if◌then◌else◌};
 ghost use Rattle.std.specs.Fmt.{is_char_start};
 ghost use Rattle.num_format.specs.Alike.{Alike};
 ghost use Rattle.num_format.specs.Data.{locale_data};
@@ -176,25 +176,11 @@ pub fn parse_signed(format: &NumFormat, bits: u32, text: &[u8]) -> Result<i64, S
     ensures { MatchOption (signed_kind bits) (result ≡ Err BadBits)
         (λ k. Parses k (λ n. n) format.now text.now result) }
 {
-    if bits == 64 {
-        parse::<i64>(format, text)
-    } else {
-        parse_narrow_signed(format, bits, text)
-    }
-}
-
-/// Parses the text as a signed number of fewer than 64 bits. It is not inlined, so that the code for
-/// 64 bits stands alone where it is called.
-#[inline(never)]
-fn parse_narrow_signed(format: &NumFormat, bits: u32, text: &[u8]) -> Result<i64, Status>
-    requires { bits ≢ 64 }
-    ensures { MatchOption (signed_kind bits) (result ≡ Err BadBits)
-        (λ k. Parses k (λ n. n) format.now text.now result) }
-{
     match bits {
         8 => Ok(parse::<i8>(format, text)? as i64),
         16 => Ok(parse::<i16>(format, text)? as i64),
         32 => Ok(parse::<i32>(format, text)? as i64),
+        64 => parse::<i64>(format, text),
         _ => Err(Status::BadBits),
     }
 }
@@ -204,25 +190,11 @@ pub fn parse_unsigned(format: &NumFormat, bits: u32, text: &[u8]) -> Result<u64,
     ensures { MatchOption (unsigned_kind bits) (result ≡ Err BadBits)
         (λ k. Parses k (λ n. pos n) format.now text.now result) }
 {
-    if bits == 64 {
-        parse::<u64>(format, text)
-    } else {
-        parse_narrow_unsigned(format, bits, text)
-    }
-}
-
-/// Parses the text as an unsigned number of fewer than 64 bits, as [`parse_narrow_signed`] does a
-/// signed one.
-#[inline(never)]
-fn parse_narrow_unsigned(format: &NumFormat, bits: u32, text: &[u8]) -> Result<u64, Status>
-    requires { bits ≢ 64 }
-    ensures { MatchOption (unsigned_kind bits) (result ≡ Err BadBits)
-        (λ k. Parses k (λ n. pos n) format.now text.now result) }
-{
     match bits {
         8 => Ok(parse::<u8>(format, text)? as u64),
         16 => Ok(parse::<u16>(format, text)? as u64),
         32 => Ok(parse::<u32>(format, text)? as u64),
+        64 => parse::<u64>(format, text),
         _ => Err(Status::BadBits),
     }
 }

@@ -12,13 +12,15 @@ ghost use Rattle.num_format_c.specs.Layout.{IsEnough, MatchType, number_at, row_
 use crate::calls;
 use crate::format::{Held, NumFormat};
 use crate::layout::{
-    OffsetType, Printer, Validity, Value, ValueType, Values, append, print_texts, row_count,
+    Block, OffsetType, Printer, Validity, Value, ValueType, Values, print_texts, row_count,
     set_value, texts_len,
 };
 use crate::status::Status;
+use num_format::Format;
 use num_format::parsing::StrictParser;
-use num_format::{Buffer, Format, ToFormattedStr};
 use num_format_decimal::{Decimal, DecimalBuffer, DecimalParser, MAX_SCALE};
+use num_format_int::buffer::PutFront;
+use num_format_int::to_formatted_str::put_body;
 
 /// Calls a function for the integer type that a type of values is.
 macro_rules! for_type {
@@ -61,13 +63,12 @@ impl<'a, N: Value, F: Format> Printer for NumberPrinter<'a, N, F> {
         }
     }
 
-    fn print(&self, row: usize, buffer: &mut Buffer, start: usize, bytes: &mut [u8]) -> usize {
-        match self.values.get(row) {
-            Some(number) => {
-                number.read_to_buffer(buffer, self.format);
-                append(buffer.as_bytes(), start, bytes)
+    fn print(&self, row: usize, block: &mut Block) {
+        if let Some(number) = self.values.get(row) {
+            put_body(number.magnitude(), block, self.format);
+            if number.is_below_zero() {
+                block.put_front(self.format.minus_sign().into_str());
             }
-            None => start,
         }
     }
 }
@@ -109,13 +110,9 @@ impl<'a, F: Format> Printer for DecimalPrinter<'a, F> {
         }
     }
 
-    fn print(&self, row: usize, _buffer: &mut Buffer, start: usize, bytes: &mut [u8]) -> usize {
-        match self.units.get(row) {
-            Some(units) => {
-                let text = DecimalBuffer::of(&self.number(units), self.format);
-                append(text.as_bytes(), start, bytes)
-            }
-            None => start,
+    fn print(&self, row: usize, block: &mut Block) {
+        if let Some(units) = self.units.get(row) {
+            block.put_front(DecimalBuffer::of(&self.number(units), self.format).as_str());
         }
     }
 }
@@ -134,12 +131,8 @@ pub fn print(
     ensures { PrintsNumbers value_code offset_code format.now values.now validity.now.bits.now validity.now.bit_offset
         (to_printed offsets.old bytes.old len.old) (to_printed offsets.new bytes.new len.new) (returned result) }
 {
-    let Some(value_type) = ValueType::from_code(value_code) else {
-        return Err(Status::BadType);
-    };
-    let Some(offset_type) = OffsetType::from_code(offset_code) else {
-        return Err(Status::BadType);
-    };
+    let value_type = ValueType::from_code(value_code).ok_or(Status::BadType)?;
+    let offset_type = OffsetType::from_code(offset_code).ok_or(Status::BadType)?;
     let Some(format) = Held::new(format) else {
         return Err(Status::BadFormat);
     };
@@ -218,12 +211,8 @@ pub fn print_decimals(
     ensures { PrintsDecimals scale offset_code format.now units.now validity.now.bits.now validity.now.bit_offset
         (to_printed offsets.old bytes.old len.old) (to_printed offsets.new bytes.new len.new) (returned result) }
 {
-    let Some(scale) = scale_of(scale) else {
-        return Err(Status::BadScale);
-    };
-    let Some(offset_type) = OffsetType::from_code(offset_code) else {
-        return Err(Status::BadType);
-    };
+    let scale = scale_of(scale).ok_or(Status::BadScale)?;
+    let offset_type = OffsetType::from_code(offset_code).ok_or(Status::BadType)?;
     let Some(format) = Held::new(format) else {
         return Err(Status::BadFormat);
     };
@@ -263,16 +252,14 @@ fn print_rows<P: Printer>(
     if !offset_type.is_enough(printer.len(), offsets) {
         return Err(Status::BadLength);
     }
-    let Some(total) = texts_len(printer) else {
-        return Err(Status::TooManyBytes);
-    };
+    let total = texts_len(printer).ok_or(Status::TooManyBytes)?;
     if total > offset_type.limit() {
         return Err(Status::TooManyBytes);
     }
     if total > bytes.len() {
         return Err(Status::TooSmall);
     }
-    print_texts(printer, offset_type, offsets, bytes);
+    print_texts(printer, total, offset_type, offsets, bytes);
     *len = total;
     Ok(0)
 }
@@ -287,9 +274,7 @@ pub fn measure(
 ) -> Result<i32, Status>
     ensures { MeasuresNumbers value_code format.now values.now validity.now.bits.now validity.now.bit_offset len.old len.new (returned result) }
 {
-    let Some(value_type) = ValueType::from_code(value_code) else {
-        return Err(Status::BadType);
-    };
+    let value_type = ValueType::from_code(value_code).ok_or(Status::BadType)?;
     let Some(format) = Held::new(format) else {
         return Err(Status::BadFormat);
     };
@@ -338,9 +323,7 @@ pub fn measure_decimals(
 ) -> Result<i32, Status>
     ensures { MeasuresDecimals scale format.now units.now validity.now.bits.now validity.now.bit_offset len.old len.new (returned result) }
 {
-    let Some(scale) = scale_of(scale) else {
-        return Err(Status::BadScale);
-    };
+    let scale = scale_of(scale).ok_or(Status::BadScale)?;
     let Some(format) = Held::new(format) else {
         return Err(Status::BadFormat);
     };
@@ -359,9 +342,7 @@ pub fn measure_decimals(
 fn measure_rows<P: Printer>(printer: &P, len: &mut usize) -> Result<i32, Status>
     ensures { Measures (length (texts_of (P.text printer.now) (P.rows printer.now))) len.old len.new (returned result) }
 {
-    let Some(total) = texts_len(printer) else {
-        return Err(Status::TooManyBytes);
-    };
+    let total = texts_len(printer).ok_or(Status::TooManyBytes)?;
     *len = total;
     Ok(0)
 }
@@ -441,12 +422,8 @@ pub fn parse(
         (to_texts offsets.now bytes.now validity.now.bits.now validity.now.bit_offset)
         (to_parsed values.old statuses.old) (to_parsed values.new statuses.new) (returned result) }
 {
-    let Some(value_type) = ValueType::from_code(value_code) else {
-        return Err(Status::BadType);
-    };
-    let Some(offset_type) = OffsetType::from_code(offset_code) else {
-        return Err(Status::BadType);
-    };
+    let value_type = ValueType::from_code(value_code).ok_or(Status::BadType)?;
+    let offset_type = OffsetType::from_code(offset_code).ok_or(Status::BadType)?;
     let Some(format) = Held::new(format) else {
         return Err(Status::BadFormat);
     };
@@ -553,12 +530,8 @@ pub fn parse_decimals(
         (to_texts offsets.now bytes.now validity.now.bits.now validity.now.bit_offset)
         (to_parsed units.old statuses.old) (to_parsed units.new statuses.new) (returned result) }
 {
-    let Some(scale) = scale_of(scale) else {
-        return Err(Status::BadScale);
-    };
-    let Some(offset_type) = OffsetType::from_code(offset_code) else {
-        return Err(Status::BadType);
-    };
+    let scale = scale_of(scale).ok_or(Status::BadScale)?;
+    let offset_type = OffsetType::from_code(offset_code).ok_or(Status::BadType)?;
     let Some(format) = Held::new(format) else {
         return Err(Status::BadFormat);
     };

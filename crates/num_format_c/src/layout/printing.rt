@@ -1,10 +1,11 @@
 //! Printing a column.
-ghost use Rattle.std.specs.Prelude.{◌≡◌, ℕ, List, ◌+◌, ◌^◌, ◌<◌, ◌≤◌, length, take, drop, ◌++◌, MatchOption};
+ghost use Rattle.std.specs.Prelude.{◌≡◌, ℕ, List, ◌+◌, ◌^◌, ◌<◌, ◌≤◌, length, ◌++◌, MatchOption};
+ghost use Rattle.num_format_decimal.specs.declared.buffer.TheConstants.{MAX_DECIMAL_LEN};
+ghost use Rattle.num_format_c.specs.declared.layout.block.TheConstants.{BLOCK_LEN};
 ghost use Rattle.num_format_c.specs.Layout.{AreAtStart, AreEnds, IsEnough, largest_offset, offset_at, texts_of};
 
+use super::block::Block;
 use super::offset::OffsetType;
-use num_format::Buffer;
-use num_format_int::buffer::copy_bytes;
 
 /// What prints the rows of a column.
 pub trait Printer {
@@ -21,12 +22,11 @@ pub trait Printer {
         requires { row < rows self.now }
         ensures { result ≡ length (text self.now row) };
 
-    /// Writes the text of a row at a place of the bytes, and returns where it ends. It may use the buffer.
-    fn print(&self, row: usize, buffer: &mut Buffer, start: usize, bytes: &mut [u8]) -> usize
+    /// Prepends the text of a row to the block.
+    fn print(&self, row: usize, block: &mut Block)
         requires row { row < rows self.now }
-        requires fits { start + length (text self.now row) ≤ length bytes.old }
-        ensures end { result ≡ start + length (text self.now row) }
-        ensures bytes { bytes.new ≡ take start bytes.old ++ text self.now row ++ drop (start + length (text self.now row)) bytes.old };
+        requires fits { length block.old + MAX_DECIMAL_LEN ≤ BLOCK_LEN }
+        ensures { block.new ≡ text self.now row ++ block.old };
 }
 
 /// Returns how many bytes the texts of the rows have together, or `None` if a `usize` does not hold it.
@@ -41,38 +41,34 @@ pub fn texts_len<P: Printer>(printer: &P) -> Option<usize>
     Some(len)
 }
 
-/// Prints the rows one after another at the start of the bytes, and writes where each text ends.
+/// Prints the rows one after another at the start of the bytes, where they have so many, and writes where each text
+/// ends.
 ///
-/// There is one offset more than rows, and the first is 0.
+/// There is one offset more than rows, and the first is 0. Rows are printed from the last to the first, as digits are:
+/// the texts of some of them at once are copied in less time than each.
 pub fn print_texts<P: Printer>(
     printer: &P,
+    total: usize,
     offset_type: OffsetType,
     offsets: &mut [u8],
     bytes: &mut [u8],
 )
+    requires total { total ≡ length (texts_of (P.text printer.now) (P.rows printer.now)) }
     requires offsets { IsEnough offset_type (P.rows printer.now) (length offsets.old) }
-    requires fits { length (texts_of (P.text printer.now) (P.rows printer.now)) ≤ length bytes.old }
-    requires within { length (texts_of (P.text printer.now) (P.rows printer.now)) ≤ largest_offset offset_type }
+    requires fits { total ≤ length bytes.old }
+    requires within { total ≤ largest_offset offset_type }
     ensures bytes { AreAtStart (P.text printer.now) (P.rows printer.now) bytes.old bytes.new }
     ensures ends { AreEnds (P.text printer.now) (P.rows printer.now) (offset_at offset_type offsets.new) }
 {
-    let mut buffer = Buffer::new();
-    let mut end = 0;
-    offset_type.set(offsets, 0, end);
-    for row in 0..printer.len() {
-        end = printer.print(row, &mut buffer, end, bytes);
-        offset_type.set(offsets, row + 1, end);
+    let mut block = Block::new();
+    let mut end = total;
+    let mut row = printer.len();
+    while row > 0 {
+        end = block.make_room(end, bytes);
+        offset_type.set(offsets, row, end - block.len());
+        row -= 1;
+        printer.print(row, &mut block);
     }
-}
-
-/// Writes a text at a place of the bytes, and returns where it ends.
-#[inline(always)]
-pub fn append(text: &[u8], start: usize, bytes: &mut [u8]) -> usize
-    requires { start + length text.now ≤ length bytes.old }
-    ensures end { result ≡ start + length text.now }
-    ensures bytes { bytes.new ≡ take start bytes.old ++ text.now ++ drop (start + length text.now) bytes.old }
-{
-    let end = start + text.len();
-    copy_bytes(text, &mut bytes[start..end]);
-    end
+    block.move_into(end, bytes);
+    offset_type.set(offsets, 0, 0);
 }
