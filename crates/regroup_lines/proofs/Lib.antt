@@ -20,3 +20,4 @@ pub mod SplitLemmas
 mod TextLemmas
 mod ToldLemmas
 mod UnnamedLemmas
+mod WriterLemmas

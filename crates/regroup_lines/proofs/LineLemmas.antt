@@ -10,11 +10,10 @@ use Rattle.regroup_lines.specs.Ended.{ended_by}
 use Rattle.regroup_lines.specs.Fault.{Fault}
 use Rattle.regroup_lines.specs.Fault.Fault.{TooLong, TooMany, Unclosed}
 use Rattle.regroup_lines.specs.Input.{HasNoEnd, IsLong, IsRecord, Reads}
-use Rattle.regroup_lines.specs.Lines.{Regrouped, Stop, line_after, line_begun, line_named, line_written, long_begun, long_fault, long_returned, quotes_in, record_named, record_written, stop_returned, fault_named, fault_written, regrouped_after, regrouped_parts, regrouped_rest, returning, writing, writing_line}
+use Rattle.regroup_lines.specs.Lines.{Regrouped, Sent, Stop, fault_named, fault_sent, line_after, line_begun, line_sent, long_begun, long_fault, long_returned, passed, passes, quotes_in, record_sent, regrouped_after, regrouped_parts, regrouped_rest, returning, sending, sending_line, stop_returned}
 use Rattle.regroup_lines.specs.Lines.Stop.{Ended, Unread}
 use Rattle.regroup_lines.specs.Records.{after_next, is_inside, is_open, split_at}
 use Rattle.regroup_lines.specs.declared.records.Within.TheVariants.{Start}
-use Rattle.regroup_lines.specs.declared.rules.Invalid.TheVariants.{Abort}
 use Rattle.regroup_lines.specs.declared.rules.Rules.{Rules}
 use Rattle.regroup_lines.proofs.RecordLemmas.{split-first, split-none, split-some}
 
@@ -28,6 +27,13 @@ not_zero n some = false_from_ne_true (n == 0) (λ yes. let none = eqb-true n 0 y
 either_empty : (empty : Bool) (a b : Regrouped) → b ≡ a → (if empty then a else b) ≡ a
 either_empty true a b same = refl
 either_empty false a b same = same
+
+-- a fault that ends the run, and one that does not
+pub aborts-fault : (rules : Rules) (fault : Fault) (bytes : List ℕ) → passes rules.invalid ≡ false → fault_sent rules fault bytes ≡ Err fault
+aborts-fault rules fault bytes aborts = ap (λ (b : Bool). if b then Ok (passed rules.rejects (fault_named rules.invalid fault) bytes) else Err fault) aborts
+
+pub passes-fault : (rules : Rules) (fault : Fault) (bytes : List ℕ) → passes rules.invalid ≡ true → fault_sent rules fault bytes ≡ Ok (passed rules.rejects (fault_named rules.invalid fault) bytes)
+passes-fault rules fault bytes does = ap (λ (b : Bool). if b then Ok (passed rules.rejects (fault_named rules.invalid fault) bytes) else Err fault) does
 
 -- the fault of bytes that are too long is that of their beginning
 pub long_fault-begun : (rules : Rules) (number : ℕ) (begun text : List ℕ) (old new : Option (List ℕ)) → rules.max_line_len + 1 ≤ length begun → Reads begun text old new →
@@ -49,39 +55,32 @@ module _ (rules : Rules) (most : ℕ) (from to : FormatData) where
   e = rules.line_end
 
   -- a record that is within both bounds
-  line_written-text : (count number : ℕ) (text : List ℕ) → count + 1 ≤ most → length text ≤ rules.max_line_len → line_written rules most from to count number text ≡ record_written rules from to number text
-  line_written-text count number text few short = rw (not_less most (count + 1) few, not_less rules.max_line_len (length text) short) refl
-
-  line_named-text : (number : ℕ) (text : List ℕ) → length text ≤ rules.max_line_len → line_named rules from to number text ≡ record_named rules from to number text
-  line_named-text number text short = rw (not_less rules.max_line_len (length text) short) refl
+  line_sent-text : (count number : ℕ) (text : List ℕ) → count + 1 ≤ most → length text ≤ rules.max_line_len → line_sent rules most from to count number text ≡ record_sent rules from to number text
+  line_sent-text count number text few short = rw (not_less most (count + 1) few, not_less rules.max_line_len (length text) short) refl
 
   line_begun-short : (stop : Stop) (count number : ℕ) (text : List ℕ) → count + 1 ≤ most → length text ≤ rules.max_line_len → line_begun rules most stop count number text ≡ returning (stop_returned stop)
   line_begun-short stop count number text few short =
       either_empty (length text == 0) (returning (stop_returned stop)) _ (rw (not_less most (count + 1) few, not_less rules.max_line_len (length text) short) refl)
 
   -- one that is too long
-  line_written-long : (count number : ℕ) (text : List ℕ) → count + 1 ≤ most → rules.max_line_len < length text → line_written rules most from to count number text ≡ fault_written rules.invalid text (long_fault rules number text)
-  line_written-long count number text few long = rw (not_less most (count + 1) few, (Decides-ltb rules.max_line_len (length text)).1 long) refl
-
-  line_named-long : (number : ℕ) (text : List ℕ) → rules.max_line_len < length text → line_named rules from to number text ≡ fault_named rules.invalid (long_fault rules number text)
-  line_named-long number text long = rw ((Decides-ltb rules.max_line_len (length text)).1 long) refl
+  line_sent-long : (count number : ℕ) (text : List ℕ) → count + 1 ≤ most → rules.max_line_len < length text →
+      line_sent rules most from to count number text ≡ fault_sent rules (long_fault rules number text) (ended_by e text)
+  line_sent-long count number text few long = rw (not_less most (count + 1) few, (Decides-ltb rules.max_line_len (length text)).1 long) refl
 
   line_begun-long : (stop : Stop) (count number : ℕ) (text : List ℕ) → count + 1 ≤ most → rules.max_line_len < length text →
-      line_begun rules most stop count number text ≡ long_begun (fault_written rules.invalid text (long_fault rules number text)) (fault_named rules.invalid (long_fault rules number text)) stop
+      line_begun rules most stop count number text ≡ long_begun (fault_sent rules (long_fault rules number text) text) stop
   line_begun-long stop count number text few long =
       rw (not_zero (length text) (omega arith), not_less most (count + 1) few, (Decides-ltb rules.max_line_len (length text)).1 long) refl
 
   -- a part that others follow is a record
   abbrev line_and : ℕ → ℕ → List ℕ → Regrouped → Regrouped
-  line_and count number text rest = writing_line e (line_written rules most from to count number text) (line_named rules from to number text) rest
+  line_and count number text rest = sending_line (line_sent rules most from to count number text) rest
 
   abbrev text_and : ℕ → List ℕ → Regrouped → Regrouped
-  text_and number text rest = writing_line e (record_written rules from to number text) (record_named rules from to number text) rest
+  text_and number text rest = sending_line (record_sent rules from to number text) rest
 
   line_and-text : (count number : ℕ) (text : List ℕ) (rest : Regrouped) → count + 1 ≤ most → length text ≤ rules.max_line_len → line_and count number text rest ≡ text_and number text rest
-  line_and-text count number text rest few short =
-      ap (λ written. writing_line e written (line_named rules from to number text) rest) (line_written-text count number text few short)
-      ∙ ap (λ named. writing_line e (record_written rules from to number text) named rest) (line_named-text number text short)
+  line_and-text count number text rest few short = ap (λ sent. sending_line sent rest) (line_sent-text count number text few short)
 
   parts-line : (stop : Stop) (count number : ℕ) (text : List ℕ) (parts : List (List ℕ)) → 0 < length parts →
       regrouped_parts rules most from to stop count number (text ∷ parts) ≡ line_and count number text (regrouped_parts rules most from to stop (count + 1) (line_after rules number text) parts)
@@ -127,37 +126,35 @@ module _ (rules : Rules) (most : ℕ) (from to : FormatData) where
     long : rules.max_line_len < length text
     long = let full = is.long in omega (arith, full)
 
-    pub rest-long : rules.invalid ≡ Abort → regrouped_after rules most from to Unread count number text ≡ returning (Some (Err (long_fault rules number text)))
+    pub rest-long : passes rules.invalid ≡ false → regrouped_after rules most from to Unread count number text ≡ returning (Some (Err (long_fault rules number text)))
     rest-long aborts =
         after-rest Unread count number text is.no_end ∙ line_begun-long Unread count number text few long
-        ∙ ap (λ invalid. long_begun (fault_written invalid text (long_fault rules number text)) (fault_named invalid (long_fault rules number text)) Unread) aborts
+        ∙ ap (λ sent. long_begun sent Unread) (aborts-fault rules (long_fault rules number text) text aborts)
 
-    module _ (fault : Fault) (same : long_fault rules number text ≡ fault) (itself : fault_written rules.invalid text fault ≡ Ok text) where
-      abbrev named_long : List Fault
-      named_long = fault_named rules.invalid fault
+    module _ (fault : Fault) (same : long_fault rules number text ≡ fault) (does : passes rules.invalid ≡ true) where
+      abbrev sent_long : List ℕ → Sent
+      sent_long bytes = passed rules.rejects (fault_named rules.invalid fault) bytes
 
-      line_and-long : (rest : Regrouped) → line_and count number text rest ≡ writing (ended_by e text) named_long rest
+      line_and-long : (rest : Regrouped) → line_and count number text rest ≡ sending (sent_long (ended_by e text)) rest
       line_and-long rest =
-          ap (λ written. writing_line e written (line_named rules from to number text) rest)
-          (line_written-long count number text few long ∙ ap (fault_written rules.invalid text) same ∙ itself)
-          ∙ ap (λ named. writing (ended_by e text) named rest) (line_named-long number text long ∙ ap (fault_named rules.invalid) same)
+          ap (λ sent. sending_line sent rest)
+          (line_sent-long count number text few long ∙ ap (λ f. fault_sent rules f (ended_by e text)) same ∙ passes-fault rules fault (ended_by e text) does)
 
       -- that is passed on: its beginning, the last one, and one that others follow
       pub long-begun : (stop : Stop) → regrouped_rest rules most from to stop count number text ≡ line_begun rules most stop count number text →
-          regrouped_after rules most from to stop count number text ≡ record { written = text; named = named_long; returned = long_returned stop }
+          regrouped_after rules most from to stop count number text ≡ record { sent = sent_long text; returned = long_returned stop }
       long-begun stop rest =
           after-rest stop count number text is.no_end ∙ rest ∙ line_begun-long stop count number text few long
-          ∙ ap (λ f. long_begun (fault_written rules.invalid text f) (fault_named rules.invalid f) stop) same
-          ∙ ap (λ written. long_begun written named_long stop) itself
+          ∙ ap (λ sent. long_begun sent stop) (ap (λ f. fault_sent rules f text) same ∙ passes-fault rules fault text does)
 
-      pub long-last : regrouped_after rules most from to Ended count number text ≡ writing (ended_by e text) named_long (last (count + 1))
+      pub long-last : regrouped_after rules most from to Ended count number text ≡ sending (sent_long (ended_by e text)) (last (count + 1))
       long-last =
           after-rest Ended count number text is.no_end
           ∙ ap (λ b. if b then last count else line_and count number text (last (count + 1))) (not_zero (length text) (omega (arith, long)))
           ∙ line_and-long (last (count + 1))
 
       pub long-next : (stop : Stop) (bytes : List ℕ) → is_open q text ≡ false →
-          regrouped_after rules most from to stop count number (text ++ e ∷ bytes) ≡ writing (ended_by e text) named_long (regrouped_after rules most from to stop (count + 1) (line_after rules number text) bytes)
+          regrouped_after rules most from to stop count number (text ++ e ∷ bytes) ≡ sending (sent_long (ended_by e text)) (regrouped_after rules most from to stop (count + 1) (line_after rules number text) bytes)
       long-next stop bytes closed =
           after-line stop count number text bytes (is.no_end, closed)
           ∙ line_and-long (regrouped_after rules most from to stop (count + 1) (line_after rules number text) bytes)
@@ -168,13 +165,12 @@ module _ (rules : Rules) (most : ℕ) (from to : FormatData) where
 
   line_many : (number : ℕ) (text : List ℕ) (rest : Regrouped) → line_and most number text rest ≡ returning (Some (Err TooMany))
   line_many number text rest =
-      ap (λ (m : Bool). writing_line e (if m then Err TooMany else (if nat_lt rules.max_line_len (length text) then fault_written rules.invalid text (long_fault rules number text) else record_written rules from to number text))
-      (line_named rules from to number text) rest) many
+      ap (λ (m : Bool). sending_line (if m then Err TooMany else (if nat_lt rules.max_line_len (length text) then fault_sent rules (long_fault rules number text) (ended_by e text) else record_sent rules from to number text)) rest) many
 
   rest_many : (number b : ℕ) (text : List ℕ) → line_begun rules most Unread most number (b ∷ text) ≡ returning (Some (Err TooMany))
   rest_many number b text =
       let short : Regrouped =
-      if nat_lt rules.max_line_len (length (b ∷ text)) then long_begun (fault_written rules.invalid (b ∷ text) (long_fault rules number (b ∷ text))) (fault_named rules.invalid (long_fault rules number (b ∷ text))) Unread else
+      if nat_lt rules.max_line_len (length (b ∷ text)) then long_begun (fault_sent rules (long_fault rules number (b ∷ text)) (b ∷ text)) Unread else
       returning (stop_returned Unread) in
       ap (λ (empty : Bool). if empty then returning (stop_returned Unread) else (if nat_lt most (most + 1) then returning (Some (Err TooMany)) else short)) (not_zero (length (b ∷ text)) (omega arith))
       ∙ ap (λ (m : Bool). if m then returning (Some (Err TooMany)) else short) many

@@ -1,16 +1,18 @@
 -- A record that is too long, piece by piece.
-use Rattle.std.proofs.Common.{◌≡◌, ℕ, Bool, ◌+◌, ◌<◌, ◌≤◌, true, false, List, [], ◌∷◌, ◌++◌, length, Option, Ok, Err, sym, ap, subst, ◌∙◌, arith, append_assoc}
+use Rattle.std.proofs.Common.{◌≡◌, ◌≢◌, ℕ, Bool, ◌+◌, ◌<◌, ◌≤◌, true, false, List, [], ◌∷◌, ◌++◌, length, Option, Ok, Err, refl, sym, ap, subst, ◌∙◌, arith, append_assoc}
 use Rattle.std.specs.Io.KnownBytes.{Appends, IsAtEnd, Keeps}
 use Rattle.std.proofs.KnownBytes.{Appends-kept, Appends-trans}
 use Rattle.std.proofs.lemmas.List.{length-append}
 use Rattle.num_format.specs.Writing.{StopsWithin}
 use Rattle.regroup_lines.specs.Ended.{ended_by}
 use Rattle.num_format.proofs.WritingLemmas.{StopsWithin_suffix}
-use Rattle.regroup_lines.specs.Fault.{Fault}
-use Rattle.regroup_lines.specs.Fault.Fault.{Flush, Read, Write}
+use Rattle.regroup_lines.specs.Fault.{Fault, fault_of}
+use Rattle.regroup_lines.specs.Fault.Fault.{Flush, Read, TooMany, Write}
 use Rattle.regroup_lines.specs.Halt.{IsHalt}
 use Rattle.regroup_lines.specs.Input.{HasNoEnd, IsLong, IsLongRecord, IsRecord, PassesLong, Reads, StopsInLong}
 use Rattle.regroup_lines.specs.Records.{after_text, is_inside, line_reached, next_line}
+use Rattle.regroup_lines.specs.declared.fault.RegroupFault.{RegroupFault}
+use Rattle.regroup_lines.specs.declared.fault.RegroupFault.TheVariants as kept
 use Rattle.regroup_lines.specs.declared.records.Within.{Within}
 use Rattle.regroup_lines.specs.declared.records.Within.TheVariants.{Start}
 use Rattle.regroup_lines.proofs.InputLemmas.{Reads-more, Reads-none}
@@ -49,10 +51,10 @@ SentLong-kept n0 n1 within q line_end len begun held r0 r1 s0 s1 s2 count so_far
 }
 
 -- a write that fails
-failed : (n0 n2 : ℕ) (q : Option ℕ) (line_end len : ℕ) (flushes : Bool) (begun left : List ℕ) (r0 r1 s0 s1 : Option (List ℕ)) (fault : Fault) → fault ≡ Write → StopsInLong q line_end len begun left r0 r1 s0 s1 → PassesLong n0 n2 q line_end len flushes begun left r0 r1 s0 s1 (Err fault)
-failed n0 n2 q line_end len flushes begun left r0 r1 s0 s1 fault is stops = subst (λ f. PassesLong n0 n2 q line_end len flushes begun left r0 r1 s0 s1 (Err f)) (sym is) stops
+failed : (n0 n2 : ℕ) (q : Option ℕ) (line_end len : ℕ) (flushes : Bool) (begun left : List ℕ) (r0 r1 s0 s1 : Option (List ℕ)) (fault : Fault) → fault ≡ Write → StopsInLong q line_end len begun left r0 r1 s0 s1 → PassesLong false n0 n2 q line_end len flushes begun left r0 r1 s0 s1 (Err fault)
+failed n0 n2 q line_end len flushes begun left r0 r1 s0 s1 fault is stops = subst (λ f. PassesLong false n0 n2 q line_end len flushes begun left r0 r1 s0 s1 (Err f)) (sym is) stops
 
-pub PassesLong-first : (n0 n2 : ℕ) (q : Option ℕ) (line_end len : ℕ) (flushes : Bool) (begun left : List ℕ) (r s t : Option (List ℕ)) (fault : Fault) → IsLong q line_end len begun → (fault ≡ Write) × StopsWithin s t begun → PassesLong n0 n2 q line_end len flushes begun left r r s t (Err fault)
+pub PassesLong-first : (n0 n2 : ℕ) (q : Option ℕ) (line_end len : ℕ) (flushes : Bool) (begun left : List ℕ) (r s t : Option (List ℕ)) (fault : Fault) → IsLong q line_end len begun → (fault ≡ Write) × StopsWithin s t begun → PassesLong false n0 n2 q line_end len flushes begun left r r s t (Err fault)
 PassesLong-first n0 n2 q line_end len flushes begun left r s t fault is sends = failed n0 n2 q line_end len flushes begun left r r s t fault sends.0 (StopsInLong.within begun (Reads-none begun r) is sends.1)
 
 module _ (n0 n1 n2 : ℕ) (within : Within) (q : Option ℕ) (line_end len : ℕ) (flushes : Bool) (begun held : List ℕ) (r0 r1 r2 s0 s1 s2 : Option (List ℕ)) (count : ℕ) (so_far : SentLong n0 n1 within q line_end len begun r0 r1 s0 s1 count held) where
@@ -98,21 +100,21 @@ module _ (n0 n1 n2 : ℕ) (within : Within) (q : Option ℕ) (line_end len : ℕ
       }
 
       -- what is held is sent, or not all of it
-      pub PassesLong-halted : (left : List ℕ) (fault : Fault) → IsHalt flushes fault → Appends s1 s2 text → PassesLong n0 n2 q line_end len flushes begun left r0 r2 s0 s2 (Err fault)
+      pub PassesLong-halted : (left : List ℕ) (fault : Fault) → IsHalt flushes fault → Appends s1 s2 text → PassesLong false n0 n2 q line_end len flushes begun left r0 r2 s0 s2 (Err fault)
       PassesLong-halted left Read is sent = (so_far.text ++ text, more, longer, sent_more sent)
       PassesLong-halted left Flush is sent = (so_far.text ++ text, more, longer, sent_more sent, is)
       PassesLong-halted left fault is sent = absurd is
 
-      pub PassesLong-write : (left : List ℕ) (fault : Fault) → (fault ≡ Write) × StopsWithin s1 s2 text → PassesLong n0 n2 q line_end len flushes begun left r0 r2 s0 s2 (Err fault)
+      pub PassesLong-write : (left : List ℕ) (fault : Fault) → (fault ≡ Write) × StopsWithin s1 s2 text → PassesLong false n0 n2 q line_end len flushes begun left r0 r2 s0 s2 (Err fault)
       PassesLong-write left fault sends =
           failed n0 n2 q line_end len flushes begun left r0 r2 s0 s2 fault sends.0 (StopsInLong.within (so_far.text ++ text) more longer (StopsWithin_suffix s0 s1 s2 so_far.text text so_far.sent sends.1))
 
       -- the end of the input
-      pub PassesLong-end : (left : List ℕ) → IsAtEnd r2 → Appends s1 s2 (ended_by line_end text) → PassesLong n0 n2 q line_end len flushes begun left r0 r2 s0 s2 (Ok true)
+      pub PassesLong-end : (left : List ℕ) → IsAtEnd r2 → Appends s1 s2 (ended_by line_end text) → PassesLong false n0 n2 q line_end len flushes begun left r0 r2 s0 s2 (Ok true)
       PassesLong-end left end sent =
           (so_far.text ++ text, more, longer, subst (Appends s0 s2) (sym (append_assoc so_far.text text (line_end ∷ []))) (Appends-trans s0 s1 s2 so_far.text (ended_by line_end text) so_far.sent sent), end)
 
-      pub PassesLong-end_write : (left : List ℕ) (fault : Fault) → IsAtEnd r2 → fault ≡ Write → StopsWithin s1 s2 (ended_by line_end text) → PassesLong n0 n2 q line_end len flushes begun left r0 r2 s0 s2 (Err fault)
+      pub PassesLong-end_write : (left : List ℕ) (fault : Fault) → IsAtEnd r2 → fault ≡ Write → StopsWithin s1 s2 (ended_by line_end text) → PassesLong false n0 n2 q line_end len flushes begun left r0 r2 s0 s2 (Err fault)
       PassesLong-end_write left fault end is stops =
           failed n0 n2 q line_end len flushes begun left r0 r2 s0 s2 fault is (StopsInLong.at_end (so_far.text ++ text) more longer end
           (subst (StopsWithin s0 s2) (sym (append_assoc so_far.text text (line_end ∷ []))) (StopsWithin_suffix s0 s1 s2 so_far.text (ended_by line_end text) so_far.sent stops)))
@@ -131,11 +133,24 @@ module _ (n0 n1 n2 : ℕ) (within : Within) (q : Option ℕ) (line_end len : ℕ
     whole_record : IsLongRecord q line_end len (so_far.text ++ text)
     whole_record = (whole_long, ap is_inside (sym (after_more text)) ∙ is_record.1)
 
-    pub PassesLong-line : Appends s1 s2 (ended_by line_end text) → n2 ≡ next_line (line_reached q line_end n1 text) → PassesLong n0 n2 q line_end len flushes begun left r0 r2 s0 s2 (Ok false)
+    pub PassesLong-line : Appends s1 s2 (ended_by line_end text) → n2 ≡ next_line (line_reached q line_end n1 text) → PassesLong false n0 n2 q line_end len flushes begun left r0 r2 s0 s2 (Ok false)
     PassesLong-line sent is =
         (so_far.text ++ text, whole, whole_record, subst (Appends s0 s2) (sym (append_assoc so_far.text text (line_end ∷ []))) (Appends-trans s0 s1 s2 so_far.text (ended_by line_end text) so_far.sent sent), is ∙ ap next_line (reached_more text))
 
-    pub PassesLong-line_write : (fault : Fault) → fault ≡ Write → StopsWithin s1 s2 (ended_by line_end text) → PassesLong n0 n2 q line_end len flushes begun left r0 r2 s0 s2 (Err fault)
+    pub PassesLong-line_write : (fault : Fault) → fault ≡ Write → StopsWithin s1 s2 (ended_by line_end text) → PassesLong false n0 n2 q line_end len flushes begun left r0 r2 s0 s2 (Err fault)
     PassesLong-line_write fault is stops =
         failed n0 n2 q line_end len flushes begun left r0 r2 s0 s2 fault is (StopsInLong.at_line_end (so_far.text ++ text) whole whole_record
         (subst (StopsWithin s0 s2) (sym (append_assoc so_far.text text (line_end ∷ []))) (StopsWithin_suffix s0 s1 s2 so_far.text (ended_by line_end text) so_far.sent stops)))
+
+-- sent to the writer of rejected lines, with no flush
+pub PassesLong-rejects : (n0 n2 : ℕ) (q : Option ℕ) (line_end len : ℕ) (flushes : Bool) (begun left : List ℕ) (r0 r1 s0 s1 : Option (List ℕ)) (fault : Fault) → fault ≢ Write →
+    PassesLong false n0 n2 q line_end len false begun left r0 r1 s0 s1 (Err fault) → PassesLong true n0 n2 q line_end len flushes begun left r0 r1 s0 s1 (Err fault)
+PassesLong-rejects n0 n2 q line_end len flushes begun left r0 r1 s0 s1 Read other passed = passed
+PassesLong-rejects n0 n2 q line_end len flushes begun left r0 r1 s0 s1 TooMany other passed = passed
+PassesLong-rejects n0 n2 q line_end len flushes begun left r0 r1 s0 s1 Flush other passed = let not = passed.4 in absurd (cc)
+PassesLong-rejects n0 n2 q line_end len flushes begun left r0 r1 s0 s1 Write other passed = absurd (other refl)
+PassesLong-rejects n0 n2 q line_end len flushes begun left r0 r1 s0 s1 fault other passed = absurd passed
+
+pub kept-other : (fault : RegroupFault) → fault ≢ kept.Write → fault_of fault ≢ Write
+kept-other kept.Write other is = other refl
+kept-other fault other is = cc

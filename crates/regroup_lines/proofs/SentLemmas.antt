@@ -12,16 +12,14 @@ use Rattle.num_format.specs.Text.{text_of}
 use Rattle.num_format.specs.Readable.{number_read}
 use Rattle.regroup_lines.specs.Fault.{Fault, in_field, is_unsent}
 use Rattle.regroup_lines.specs.Fault.Fault.{FewFields, NotText, Line, Unclosed}
-use Rattle.regroup_lines.specs.Ended.{without_end}
+use Rattle.regroup_lines.specs.Ended.{ended_by}
 use Rattle.regroup_lines.specs.Csv.{field_with, is_barred, number_place}
 use Rattle.regroup_lines.specs.LineFaults.{text_fault}
-use Rattle.regroup_lines.specs.Lines.{after_mark, between, body_or_itself, body_written, fault_written, field_read, field_written, fields_of, fields_written, number_in_field, number_in_text, number_written, numbers_replaced, passes_mark, place_written, quotes_in, record_written, text_written, with_first}
+use Rattle.regroup_lines.specs.Lines.{after_mark, between, body_sent, body_written, fault_named, fault_sent, field_read, field_written, fields_of, fields_written, number_in_field, number_in_text, number_written, numbers_replaced, passed, passes, passes_mark, place_written, quotes_in, record_sent, text_sent, with_first}
 use Rattle.regroup_lines.specs.Places.{are_enough, field_count, is_chosen, trimmed}
 use Rattle.regroup_lines.specs.Records.{is_open}
 use Rattle.regroup_lines.specs.declared.fault.FieldCount.{FieldCount}
 use Rattle.regroup_lines.specs.declared.rules.Fields.{Fields}
-use Rattle.regroup_lines.specs.declared.rules.Invalid.{Invalid}
-use Rattle.regroup_lines.specs.declared.rules.Invalid.TheVariants.{Abort, Fail, Ignore, Warn}
 use Rattle.regroup_lines.specs.declared.rules.Reading.{Reading}
 use Rattle.regroup_lines.specs.declared.rules.Reading.TheVariants.{Lenient, Strict}
 use Rattle.regroup_lines.specs.declared.rules.Rules.{Rules}
@@ -135,7 +133,7 @@ mark-sent : (written : Result (List ℕ) Fault) → IsSent written → IsSent (a
 mark-sent (Ok text) sent = tt
 mark-sent (Err fault) sent = sent
 
-either-sent : (marked : Bool) (x y : Result (List ℕ) Fault) → IsSent x → IsSent y → IsSent (if marked then x else y)
+either-sent : {T : Type 0} (marked : Bool) (x y : Result T Fault) → IsSent x → IsSent y → IsSent (if marked then x else y)
 either-sent true x y first second = first
 either-sent false x y first second = second
 
@@ -144,26 +142,21 @@ body_written-sent rules from to number text =
     either-sent (passes_mark rules.span number text) _ _ (mark-sent _ (numbers-sent rules.span rules from to number (drop 3 text)))
     (numbers-sent rules.span rules from to number text)
 
--- nor is the line itself
-fault-sent : (invalid : Invalid) (text : List ℕ) (fault : Fault) → is_unsent fault ≡ false → IsSent (fault_written invalid text fault)
-fault-sent Abort text fault sent = sent
-fault-sent Fail text fault sent = tt
-fault-sent Warn text fault sent = tt
-fault-sent Ignore text fault sent = tt
+-- nor is what is sent of it
+fault-sent : (rules : Rules) (fault : Fault) (bytes : List ℕ) → is_unsent fault ≡ false → IsSent (fault_sent rules fault bytes)
+fault-sent rules fault bytes sent = either_fault (passes rules.invalid)
+  where
+    either_fault : (does : Bool) → IsSent (if does then Ok (passed rules.rejects (fault_named rules.invalid fault) bytes) else Err fault)
+    either_fault true = tt
+    either_fault false = sent
 
-itself-sent : (invalid : Invalid) (text : List ℕ) (body : Result (List ℕ) Fault) → IsSent body → IsSent (body_or_itself invalid text body)
-itself-sent invalid text (Ok body) sent = tt
-itself-sent invalid text (Err fault) sent = fault-sent invalid text fault sent
+body-sent : (rules : Rules) (text : List ℕ) (body : Result (List ℕ) Fault) → IsSent body → IsSent (body_sent rules text body)
+body-sent rules text (Ok body) sent = tt
+body-sent rules text (Err fault) sent = fault-sent rules fault (ended_by rules.line_end text) sent
 
-pub text_written-sent : (rules : Rules) (from to : FormatData) (number : ℕ) (text : List ℕ) → IsSent (text_written rules from to number text)
-text_written-sent rules from to number text =
-    empty-sent (nat_le number rules.header_lines) text _ (itself-sent rules.invalid text _ (body_written-sent rules from to number text))
+pub text-sent : (rules : Rules) (from to : FormatData) (number : ℕ) (text : List ℕ) → IsSent (text_sent rules from to number text)
+text-sent rules from to number text = either-sent (nat_le number rules.header_lines) _ _ tt (body-sent rules text _ (body_written-sent rules from to number text))
 
-either_fault-sent : (is : Bool) (invalid : Invalid) (text : List ℕ) (fault : Fault) (written : Result (List ℕ) Fault) → is_unsent fault ≡ false → IsSent written →
-    IsSent (if is then fault_written invalid text fault else written)
-either_fault-sent true invalid text fault written other sent = fault-sent invalid text fault other
-either_fault-sent false invalid text fault written other sent = sent
-
-pub record_written-sent : (rules : Rules) (from to : FormatData) (number : ℕ) (text : List ℕ) → IsSent (record_written rules from to number text)
-record_written-sent rules from to number text =
-    either_fault-sent (is_open (quotes_in rules.span) text) rules.invalid (without_end rules.line_end text) (Unclosed number) _ refl (text_written-sent rules from to number text)
+pub record-sent : (rules : Rules) (from to : FormatData) (number : ℕ) (text : List ℕ) → IsSent (record_sent rules from to number text)
+record-sent rules from to number text =
+    either-sent (is_open (quotes_in rules.span) text) _ _ (fault-sent rules (Unclosed number) _ refl) (text-sent rules from to number text)

@@ -21,7 +21,7 @@ use Rattle.regroup_lines.specs.Fault.{Fault, are_any, in_field}
 use Rattle.regroup_lines.specs.Fault.Fault.{TooMany, FewFields, NotText, Line, Unclosed}
 use Rattle.regroup_lines.specs.LineFaults.{text_fault}
 use Rattle.regroup_lines.specs.Laws.{SplitLaw, SplitsInto}
-use Rattle.regroup_lines.specs.Lines.{field_read, fields_of, line_after, long_fault, number_in_field, quotes_in, MARK, Regrouped, after_mark, begins_with_mark, between, body_named, body_or_itself, body_written, fault_named, fault_written, field_written, fields_written, line_named, line_written, number_written, numbers_replaced, passes_mark, place_written, regrouped, regrouped_parts, returning, text_named, text_written, with_first, writing_line}
+use Rattle.regroup_lines.specs.Lines.{MARK, Regrouped, Sent, after_mark, begins_with_mark, between, body_sent, body_written, fault_named, fault_sent, field_read, field_written, fields_of, fields_written, line_after, line_sent, long_fault, number_in_field, number_written, numbers_replaced, passed, passes, passes_mark, place_written, quotes_in, regrouped, regrouped_parts, returning, sending_line, text_sent, with_first}
 use Rattle.regroup_lines.specs.Lines.Stop.{Ended}
 use Rattle.regroup_lines.specs.Places.{are_enough, field_count, is_chosen, trimmed}
 use Rattle.regroup_lines.specs.Records.{is_open, split_at}
@@ -37,6 +37,7 @@ use Rattle.regroup_lines.specs.declared.rules.Span.{Span}
 use Rattle.regroup_lines.specs.declared.rules.Span.TheVariants as span
 use Rattle.regroup_lines.proofs.RecordLemmas.{split-append, split-joined, split-some}
 use Rattle.regroup_lines.proofs.FieldLemmas.{and_false, joined-first}
+use Rattle.regroup_lines.proofs.WriterLemmas.{are_any-append}
 
 -- the text before others, if there is each
 joined : Option (List ℕ) → Option (List (List ℕ)) → Option (List (List ℕ))
@@ -78,10 +79,16 @@ none-same false x y same = same
 abbrev ended : Bool → ℕ → FieldCount → Result (List (List ℕ)) Fault
 ended is number count = if is then Ok [] else Err (FewFields number count)
 
--- one line has the text of the other, if it has one, and faults are named of both or of none
-record SameLine (x y : Result (List ℕ) Fault) (named_x named_y : List Fault) : Type 0 where
-  written : (text : List ℕ) → x ≡ Ok text → y ≡ Ok text
-  named : are_any named_x ≡ are_any named_y
+-- of one line the same is sent as of the other, with faults named of both or of none, unless its fault is returned
+record SameSent (s t : Sent) : Type 0 where
+  written : s.written ≡ t.written
+  rejected : s.rejected ≡ t.rejected
+  named : are_any s.named ≡ are_any t.named
+
+abbrev SameLine : Result Sent Fault → Result Sent Fault → Type 0
+SameLine (Ok s) (Ok t) = SameSent s t
+SameLine (Ok s) (Err g) = ⊥
+SameLine (Err f) y = ⊤
 
 -- what is written in place of a line does not depend on its number
 module _ (rules : Rules) (from to : FormatData) (n m : ℕ) where
@@ -173,33 +180,37 @@ module _ (rules : Rules) (from to : FormatData) (n m : ℕ) where
       (mark-map (replaced n (drop 3 text)) ∙ ap (option_map (λ l. MARK ++ l)) (numbers-same rules.span (drop 3 text)) ∙ sym (mark-map (replaced m (drop 3 text))))
       (numbers-same rules.span text)
 
-  fault-same : (invalid : Invalid) (text : List ℕ) (f g : Fault) → SameLine (fault_written invalid text f) (fault_written invalid text g) (fault_named invalid f) (fault_named invalid g)
-  fault-same Abort text f g = record { written = λ other is. absurd (cc); named = refl }
-  fault-same Fail text f g = record { written = λ other is. is; named = refl }
-  fault-same Warn text f g = record { written = λ other is. is; named = refl }
-  fault-same Ignore text f g = record { written = λ other is. is; named = refl }
+  named-same : (invalid : Invalid) (f g : Fault) → are_any (fault_named invalid f) ≡ are_any (fault_named invalid g)
+  named-same Abort f g = refl
+  named-same Fail f g = refl
+  named-same Warn f g = refl
+  named-same Ignore f g = refl
 
-  body-same : (invalid : Invalid) (text : List ℕ) (x y : Result (List ℕ) Fault) → result_ok x ≡ result_ok y →
-      SameLine (body_or_itself invalid text x) (body_or_itself invalid text y) (body_named invalid x) (body_named invalid y)
-  body-same invalid text (Ok t) (Ok u) same = record { written = λ other is. cc; named = refl }
-  body-same invalid text (Ok t) (Err g) same = absurd (cc)
-  body-same invalid text (Err f) (Ok u) same = absurd (cc)
-  body-same invalid text (Err f) (Err g) same = fault-same invalid text f g
+  fault-same : (f g : Fault) (bytes : List ℕ) → SameLine (fault_sent rules f bytes) (fault_sent rules g bytes)
+  fault-same f g bytes = by (passes rules.invalid)
+    where
+      by : (does : Bool) → SameLine (if does then Ok (passed rules.rejects (fault_named rules.invalid f) bytes) else Err f) (if does then Ok (passed rules.rejects (fault_named rules.invalid g) bytes) else Err g)
+      by true = record { written = refl; rejected = refl; named = named-same rules.invalid f g }
+      by false = tt
+
+  body-same : (text : List ℕ) (x y : Result (List ℕ) Fault) → result_ok x ≡ result_ok y → SameLine (body_sent rules text x) (body_sent rules text y)
+  body-same text (Ok t) (Ok u) same = let is : t ≡ u = cc in record { written = ap (ended_by rules.line_end) is; rejected = refl; named = refl }
+  body-same text (Ok t) (Err g) same = absurd (cc)
+  body-same text (Err f) (Ok u) same = absurd (cc)
+  body-same text (Err f) (Err g) same = fault-same f g (ended_by rules.line_end text)
 
   text-same : (text : List ℕ) → nat_le n rules.header_lines ≡ false → nat_le m rules.header_lines ≡ false → passes_mark rules.span n text ≡ passes_mark rules.span m text →
-      SameLine (text_written rules from to n text) (text_written rules from to m text) (text_named rules from to n text) (text_named rules from to m text)
-  text-same text at_n at_m marks = rw (at_n, at_m) (body-same rules.invalid text _ _ (marked-same text marks))
+      SameLine (text_sent rules from to n text) (text_sent rules from to m text)
+  text-same text at_n at_m marks = rw (at_n, at_m) (body-same text (body_written rules from to n text) (body_written rules from to m text) (marked-same text marks))
 
-  faulty-same : (is : Bool) (text : List ℕ) (f g : Fault) (x y : Result (List ℕ) Fault) (named_x named_y : List Fault) → SameLine x y named_x named_y →
-      SameLine (if is then fault_written rules.invalid text f else x) (if is then fault_written rules.invalid text g else y)
-      (if is then fault_named rules.invalid f else named_x) (if is then fault_named rules.invalid g else named_y)
-  faulty-same true text f g x y named_x named_y same = fault-same rules.invalid text f g
-  faulty-same false text f g x y named_x named_y same = same
+  faulty-same : (is : Bool) (f g : Fault) (bytes : List ℕ) (x y : Result Sent Fault) → SameLine x y → SameLine (if is then fault_sent rules f bytes else x) (if is then fault_sent rules g bytes else y)
+  faulty-same true f g bytes x y same = fault-same f g bytes
+  faulty-same false f g bytes x y same = same
 
-  many-case : (most count k : ℕ) (is : Bool) (x y : Result (List ℕ) Fault) (named_x named_y : List Fault) → nat_lt most count ≡ is → (nat_lt most count ≡ false → nat_lt most k ≡ false) →
-      SameLine x y named_x named_y → SameLine (if is then Err TooMany else x) (if nat_lt most k then Err TooMany else y) named_x named_y
-  many-case most count k true x y named_x named_y at few same = record { written = λ text is. absurd (cc); named = same.named }
-  many-case most count k false x y named_x named_y at few same = rw (few at) same
+  many-case : (most count k : ℕ) (is : Bool) (x y : Result Sent Fault) → nat_lt most count ≡ is → (nat_lt most count ≡ false → nat_lt most k ≡ false) →
+      SameLine x y → SameLine (if is then Err TooMany else x) (if nat_lt most k then Err TooMany else y)
+  many-case most count k true x y at few same = tt
+  many-case most count k false x y at few same = rw (few at) same
 
 -- a lower number is not too high where a higher one is not
 fewer : (most n m : ℕ) → m ≤ n → nat_lt most n ≡ false → nat_lt most m ≡ false
@@ -244,65 +255,63 @@ plain-parts end bytes (text ∷ parts) whole plain =
     false_from_ne_true (begins_with_mark text)
     (λ yes. both_ways (begins_with_mark bytes) plain (ap begins_with_mark (sym whole ∙ first.1) ∙ mark-more text first.0 yes))
 
-any-append : (xs ys : List Fault) → are_any (xs ++ ys) ≡ (are_any xs || are_any ys)
-any-append [] ys = refl
-any-append (x ∷ xs) ys = refl
-
 -- a run over some lines, and the same run with a number of lines before it
 record Shifts (all part : Regrouped) (before total : ℕ) : Type 0 where
   lines : ℕ
   returned : part.returned ≡ Some (Ok lines)
   counted : total ≡ before + lines
-  written : all.written ≡ part.written
-  named : are_any all.named ≡ are_any part.named
+  written : all.sent.written ≡ part.sent.written
+  rejected : all.sent.rejected ≡ part.sent.rejected
+  named : are_any all.sent.named ≡ are_any part.sent.named
 
-shift-line : (line_end : ℕ) (x y : Result (List ℕ) Fault) (fx fy : List Fault) (all part : Regrouped) (before total : ℕ) → SameLine x y fx fy →
-    (writing_line line_end x fx all).returned ≡ Some (Ok total) → (all.returned ≡ Some (Ok total) → Shifts all part before total) →
-    Shifts (writing_line line_end x fx all) (writing_line line_end y fy part) before total
-shift-line line_end (Ok text) y fx fy all part before total same is rest =
+shift-line : (x y : Result Sent Fault) (all part : Regrouped) (before total : ℕ) → SameLine x y → (sending_line x all).returned ≡ Some (Ok total) → (all.returned ≡ Some (Ok total) → Shifts all part before total) →
+    Shifts (sending_line x all) (sending_line y part) before total
+shift-line (Ok s) (Ok t) all part before total same is rest =
     let after = rest is in
-    rw (same.written text refl) (record {
+    record {
       lines = after.lines;
       returned = after.returned;
       counted = after.counted;
-      written = ap (λ l. ended_by line_end text ++ l) after.written;
-      named = any-append fx all.named ∙ ap (λ b. b || are_any all.named) same.named ∙ ap (λ b. are_any fy || b) after.named ∙ sym (any-append fy part.named);
-    })
-shift-line line_end (Err fault) y fx fy all part before total same is rest = absurd (cc)
+      written = ap (λ l. s.written ++ l) after.written ∙ ap (λ l. l ++ part.sent.written) same.written;
+      rejected = ap (λ l. s.rejected ++ l) after.rejected ∙ ap (λ l. l ++ part.sent.rejected) same.rejected;
+      named = are_any-append s.named all.sent.named ∙ ap (λ b. b || are_any all.sent.named) same.named ∙ ap (λ b. are_any t.named || b) after.named ∙ sym (are_any-append t.named part.sent.named);
+    }
+shift-line (Ok s) (Err g) all part before total same is rest = absurd same
+shift-line (Err f) y all part before total same is rest = absurd (cc)
 
 -- a run over lines and what follows them, over the lines alone, and over what follows
 record Prefixed (all first second : Regrouped) (middle total : ℕ) : Type 0 where
   first_returned : first.returned ≡ Some (Ok middle)
   second_returned : second.returned ≡ Some (Ok total)
-  written : all.written ≡ first.written ++ second.written
-  named : are_any all.named ≡ (are_any first.named || are_any second.named)
+  written : all.sent.written ≡ first.sent.written ++ second.sent.written
+  rejected : all.sent.rejected ≡ first.sent.rejected ++ second.sent.rejected
+  named : are_any all.sent.named ≡ (are_any first.sent.named || are_any second.sent.named)
 
 or-assoc : (a b c : Bool) → (a || (b || c)) ≡ ((a || b) || c)
 or-assoc true b c = refl
 or-assoc false b c = refl
 
-prefix-line : (line_end : ℕ) (x : Result (List ℕ) Fault) (fx : List Fault) (all first second : Regrouped) (middle total : ℕ) → (writing_line line_end x fx all).returned ≡ Some (Ok total) →
-    (all.returned ≡ Some (Ok total) → Prefixed all first second middle total) → Prefixed (writing_line line_end x fx all) (writing_line line_end x fx first) second middle total
-prefix-line line_end (Ok text) fx all first second middle total is rest =
+prefix-line : (x : Result Sent Fault) (all first second : Regrouped) (middle total : ℕ) → (sending_line x all).returned ≡ Some (Ok total) → (all.returned ≡ Some (Ok total) → Prefixed all first second middle total) →
+    Prefixed (sending_line x all) (sending_line x first) second middle total
+prefix-line (Ok s) all first second middle total is rest =
     let after = rest is in
     record {
       first_returned = after.first_returned;
       second_returned = after.second_returned;
-      written = ap (λ l. ended_by line_end text ++ l) after.written ∙ sym (append_assoc (ended_by line_end text) first.written second.written);
-      named = any-append fx all.named ∙ ap (λ b. are_any fx || b) after.named ∙ or-assoc (are_any fx) (are_any first.named) (are_any second.named)
-          ∙ ap (λ b. b || are_any second.named) (sym (any-append fx first.named));
+      written = ap (λ l. s.written ++ l) after.written ∙ sym (append_assoc s.written first.sent.written second.sent.written);
+      rejected = ap (λ l. s.rejected ++ l) after.rejected ∙ sym (append_assoc s.rejected first.sent.rejected second.sent.rejected);
+      named = are_any-append s.named all.sent.named ∙ ap (λ b. are_any s.named || b) after.named ∙ or-assoc (are_any s.named) (are_any first.sent.named) (are_any second.sent.named)
+          ∙ ap (λ b. b || are_any second.sent.named) (sym (are_any-append s.named first.sent.named));
     }
-prefix-line line_end (Err fault) fx all first second middle total is rest = absurd (cc)
+prefix-line (Err fault) all first second middle total is rest = absurd (cc)
 
-rest-shifts : (line_end : ℕ) (is : Bool) (n k before total : ℕ) (x y : Result (List ℕ) Fault) (fx fy : List Fault) → n ≡ before + k → SameLine x y fx fy →
-    (if is then returning (Some (Ok n)) else writing_line line_end x fx (returning (Some (Ok (n + 1))))).returned ≡ Some (Ok total) →
-    Shifts (if is then returning (Some (Ok n)) else writing_line line_end x fx (returning (Some (Ok (n + 1)))))
-    (if is then returning (Some (Ok k)) else writing_line line_end y fy (returning (Some (Ok (k + 1))))) before total
-rest-shifts line_end true n k before total x y fx fy sum same is =
-    record { lines = k; returned = refl; counted = let e : n ≡ total = cc in omega arith; written = refl; named = refl }
-rest-shifts line_end false n k before total x y fx fy sum same is =
-    shift-line line_end x y fx fy (returning (Some (Ok (n + 1)))) (returning (Some (Ok (k + 1)))) before total same is
-    (λ ended. record { lines = k + 1; returned = refl; counted = let e : n + 1 ≡ total = cc in omega arith; written = refl; named = refl })
+rest-shifts : (is : Bool) (n k before total : ℕ) (x y : Result Sent Fault) → n ≡ before + k → SameLine x y →
+    (if is then returning (Some (Ok n)) else sending_line x (returning (Some (Ok (n + 1))))).returned ≡ Some (Ok total) →
+    Shifts (if is then returning (Some (Ok n)) else sending_line x (returning (Some (Ok (n + 1))))) (if is then returning (Some (Ok k)) else sending_line y (returning (Some (Ok (k + 1))))) before total
+rest-shifts true n k before total x y sum same is = record { lines = k; returned = refl; counted = let e : n ≡ total = cc in omega arith; written = refl; rejected = refl; named = refl }
+rest-shifts false n k before total x y sum same is =
+    shift-line x y (returning (Some (Ok (n + 1)))) (returning (Some (Ok (k + 1)))) before total same is
+    (λ ended. record { lines = k + 1; returned = refl; counted = let e : n + 1 ≡ total = cc in omega arith; written = refl; rejected = refl; named = refl })
 
 -- the number of the line after several records
 line_over : Rules → ℕ → List (List ℕ) → ℕ
@@ -320,30 +329,25 @@ module _ (rules : Rules) (most : ℕ) (from to : FormatData) where
   run : ℕ → ℕ → List (List ℕ) → Regrouped
   run count number parts = regrouped_parts rules most from to Ended count number parts
 
-  at_line : ℕ → ℕ → List ℕ → Result (List ℕ) Fault
-  at_line count number text = line_written rules most from to count number text
+  at_line : ℕ → ℕ → List ℕ → Result Sent Fault
+  at_line count number text = line_sent rules most from to count number text
 
-  faults_at : ℕ → List ℕ → List Fault
-  faults_at number text = line_named rules from to number text
-
-  line-same : (none : rules.header_lines ≡ 0) (n k p q : ℕ) (text : List ℕ) → k ≤ n → q ≤ p → 0 < q → (q ≡ 1 → begins_with_mark text ≡ false) → SameLine (at_line n p text) (at_line k q text) (faults_at p text) (faults_at q text)
-  unfolding at_line faults_at
-  line-same none n k p q text fewer_lines below some plain = many-case rules from to p q most (n + 1) (k + 1) (nat_lt most (n + 1)) _ _ _ _ refl (fewer most (n + 1) (k + 1) (omega (arith, fewer_lines)))
-      (faulty-same rules from to p q (nat_lt rules.max_line_len (length text)) text (long_fault rules p text) (long_fault rules q text) _ _ _ _
-      (faulty-same rules from to p q (is_open (quotes_in rules.span) text) (without_end rules.line_end text) (Unclosed p) (Unclosed q) _ _ _ _
+  line-same : (none : rules.header_lines ≡ 0) (n k p q : ℕ) (text : List ℕ) → k ≤ n → q ≤ p → 0 < q → (q ≡ 1 → begins_with_mark text ≡ false) → SameLine (at_line n p text) (at_line k q text)
+  unfolding at_line
+  line-same none n k p q text fewer_lines below some plain = many-case rules from to p q most (n + 1) (k + 1) (nat_lt most (n + 1)) _ _ refl (fewer most (n + 1) (k + 1) (omega (arith, fewer_lines)))
+      (faulty-same rules from to p q (nat_lt rules.max_line_len (length text)) (long_fault rules p text) (long_fault rules q text) (ended_by rules.line_end text) _ _
+      (faulty-same rules from to p q (is_open (quotes_in rules.span) text) (Unclosed p) (Unclosed q) (ended_by rules.line_end (without_end rules.line_end text)) _ _
       (text-same rules from to p q text (past-header p rules.header_lines none (omega (arith, some, below))) (past-header q rules.header_lines none some)
       (same-mark rules.span p q text below some plain))))
 
   shifts : (none : rules.header_lines ≡ 0) (n k p q before total : ℕ) (parts : List (List ℕ)) → n ≡ before + k → q ≤ p → 0 < q → (q ≡ 1 → IsPlain parts) → (run n p parts).returned ≡ Some (Ok total) →
       Shifts (run n p parts) (run k q parts) before total
-  unfolding run at_line faults_at
+  unfolding run at_line
   shifts none n k p q before total [] sum below some plain is = absurd (cc)
   shifts none n k p q before total (rest ∷ []) sum below some plain is =
-      rest-shifts rules.line_end (length rest == 0) n k before total (at_line n p rest) (at_line k q rest)
-      (faults_at p rest) (faults_at q rest) sum (line-same none n k p q rest (omega (arith, sum)) below some plain) is
+      rest-shifts (length rest == 0) n k before total (at_line n p rest) (at_line k q rest) sum (line-same none n k p q rest (omega (arith, sum)) below some plain) is
   shifts none n k p q before total (text ∷ next ∷ parts) sum below some plain is =
-      shift-line rules.line_end (at_line n p text) (at_line k q text) (faults_at p text) (faults_at q text)
-      (run (n + 1) (line_after rules p text) (next ∷ parts)) (run (k + 1) (line_after rules q text) (next ∷ parts)) before total
+      shift-line (at_line n p text) (at_line k q text) (run (n + 1) (line_after rules p text) (next ∷ parts)) (run (k + 1) (line_after rules q text) (next ∷ parts)) before total
       (line-same none n k p q text (omega (arith, sum)) below some plain) is
       (λ after. shifts none (n + 1) (k + 1) (line_after rules p text) (line_after rules q text) before total (next ∷ parts) (omega (arith, sum)) (omega (arith, below)) (omega arith)
       (λ one. absurd (omega (arith, one, some))) after)
@@ -351,8 +355,8 @@ module _ (rules : Rules) (most : ℕ) (from to : FormatData) where
   -- a line before others
   run-line : (n p : ℕ) (text : List ℕ) (texts : List (List ℕ)) (next : List ℕ) (parts : List (List ℕ)) →
       run n p (text ∷ (texts ++ next ∷ parts))
-      ≡ writing_line rules.line_end (at_line n p text) (faults_at p text) (run (n + 1) (line_after rules p text) (texts ++ next ∷ parts))
-  unfolding run at_line faults_at
+      ≡ sending_line (at_line n p text) (run (n + 1) (line_after rules p text) (texts ++ next ∷ parts))
+  unfolding run at_line
   run-line n p text [] next parts = refl
   run-line n p text (other ∷ texts) next parts = refl
 
@@ -363,11 +367,11 @@ module _ (rules : Rules) (most : ℕ) (from to : FormatData) where
   prefixed n p middle total [] next parts sum is =
       let same : n ≡ middle = omega (arith, sum) in
       subst (λ k. Prefixed (run n p (next ∷ parts)) (run n p ([] ∷ [])) (run k p (next ∷ parts)) k total) same
-      (record { first_returned = refl; second_returned = is; written = refl; named = refl })
+      (record { first_returned = refl; second_returned = is; written = refl; rejected = refl; named = refl })
   prefixed n p middle total (text ∷ texts) next parts sum is =
       let whole = run-line n p text texts next parts in
       let alone = run-line n p text texts [] [] in
-      rw (whole, alone) (prefix-line rules.line_end (at_line n p text) (faults_at p text) (run (n + 1) (line_after rules p text) (texts ++ next ∷ parts))
+      rw (whole, alone) (prefix-line (at_line n p text) (run (n + 1) (line_after rules p text) (texts ++ next ∷ parts))
       (run (n + 1) (line_after rules p text) (texts ++ [] ∷ [])) (run middle (line_over rules (line_after rules p text) texts) (next ∷ parts)) middle total
       (ap (λ r. r.returned) (sym whole) ∙ is) (λ after. prefixed (n + 1) (line_after rules p text) middle total texts next parts (omega (arith, sum)) after))
 
@@ -384,8 +388,9 @@ module _ (rules : Rules) (most : ℕ) (from to : FormatData) where
         first_returned = first.first_returned;
         second_returned = second.returned;
         counted = second.counted;
-        written = first.written ∙ ap (λ l. (run 0 1 (texts ++ [] ∷ [])).written ++ l) second.written;
-        named = first.named ∙ ap (λ b. are_any (run 0 1 (texts ++ [] ∷ [])).named || b) second.named;
+        written = first.written ∙ ap (λ l. (run 0 1 (texts ++ [] ∷ [])).sent.written ++ l) second.written;
+        rejected = first.rejected ∙ ap (λ l. (run 0 1 (texts ++ [] ∷ [])).sent.rejected ++ l) second.rejected;
+        named = first.named ∙ ap (λ b. are_any (run 0 1 (texts ++ [] ∷ [])).sent.named || b) second.named;
       }
 
 pub split_law : SplitLaw

@@ -1,77 +1,149 @@
 -- What is sent of one line and told of it.
-use Rattle.std.proofs.Common.{◌≡◌, ◌≢◌, ℕ, ◌<◌, Bool, true, false, List, [], Option, Result, Ok, Err, if◌then◌else◌, refl, sym, ap, subst}
+use Rattle.std.proofs.Common.{◌≡◌, ◌≢◌, ℕ, ◌<◌, ◌≤◌, Bool, true, false, List, [], Option, None, Some, Result, Ok, Err, if◌then◌else◌, refl, sym, ap, subst}
+use Rattle.std.specs.Prelude.{is_some}
+use Rattle.std.specs.Io.KnownBytes.{Appends}
+use Rattle.std.specs.Result.{result_or}
 use Rattle.std.specs.Str.{is_utf8}
 use Rattle.std.proofs.KnownBytes.{Appends-nil}
-use Rattle.std.proofs.lemmas.Bool.{both_ways, lt-leb}
+use Rattle.std.proofs.lemmas.Bool.{both_ways, le-leb, lt-leb}
 use Rattle.num_format.specs.Format.{FormatData}
+use Rattle.num_format.specs.Writing.{Sends, StopsWithin}
+use Rattle.regroup_lines.specs.Ended.{ended_by, without_end}
 use Rattle.regroup_lines.specs.Fault.{Fault, are_any, in_field, is_unsent}
-use Rattle.regroup_lines.specs.Fault.Fault.{NotText, Line, Write}
+use Rattle.regroup_lines.specs.Fault.Fault.{Line, NotText, Report, Unclosed, Write}
+use Rattle.regroup_lines.specs.Input.{rejects_or}
 use Rattle.regroup_lines.specs.LineFaults.{line_fault_of}
-use Rattle.regroup_lines.specs.Lines.{body_named, body_or_itself, body_written, fault_named, fault_written, passes, text_named, text_written}
+use Rattle.regroup_lines.specs.Lines.{Sent, body_sent, body_written, fault_named, fault_sent, only_written, passed, passes, quotes_in, record_sent, text_sent}
 use Rattle.regroup_lines.specs.Messages.{messages}
-use Rattle.regroup_lines.specs.Sending.{SendsLine, SendsTold}
+use Rattle.regroup_lines.specs.Records.{is_open}
+use Rattle.regroup_lines.specs.Sending.{Names, ReceivesEach, SendsEach, SendsLine, Writer, by_writer, failed_writer, text_to}
+use Rattle.regroup_lines.specs.Sending.Writer.{Messages, Output, Rejects}
 use Rattle.regroup_lines.specs.declared.line_fault.LineFault.{LineFault}
 use Rattle.regroup_lines.specs.declared.line_fault.LineFault.TheVariants as fault
-use Rattle.regroup_lines.specs.declared.rules.Invalid.{Invalid}
-use Rattle.regroup_lines.specs.declared.rules.Invalid.TheVariants.{Abort, Fail, Ignore, Warn}
 use Rattle.regroup_lines.specs.declared.rules.Rules.{Rules}
-use Rattle.regroup_lines.proofs.SentLemmas.{IsSent, body_written-sent}
+use Rattle.regroup_lines.proofs.LineLemmas.{aborts-fault, passes-fault}
+use Rattle.regroup_lines.proofs.SentLemmas.{IsSent}
+use Rattle.regroup_lines.proofs.WriterLemmas.{passed-received, passed-stopped, prefix-none, unnamed-stopped}
 
--- what is sent of a line and told of it
-module _ (rules : Rules) (name : List ℕ) (from to : FormatData) (number : ℕ) (text : List ℕ) where
-  abbrev pub SendsText : (a b d e : Option (List ℕ)) → Result Bool Fault → Type 0
-  SendsText a b d e result =
-      SendsTold rules.line_end (text_written rules from to number text) (messages name rules.reading from (text_named rules from to number text)) (are_any (text_named rules from to number text)) a b d e result
+-- a write that fails, or does not, and what is returned in place of its error
+module _ {E F : Type 0} (call : Result (Unit {0}) E) (result : Result (Unit {0}) F) (failed : F) (is : result ≡ result_or call (Err failed)) (a b : Option (List ℕ)) (text : List ℕ) (sends : Sends call a b text) where
+  pub or-failed : (f : F) → result ≡ Err f → (f ≡ failed) × StopsWithin a b text
+  or-failed f was = by call is sends
+    where
+      by : (r : Result (Unit {0}) E) → result ≡ result_or r (Err failed) → Sends r a b text → (f ≡ failed) × StopsWithin a b text
+      by (Ok done) is sends = absurd (cc)
+      by (Err e) is sends = (cc, sends.prefix)
 
-  abbrev SendsIf : Bool → (a b d e : Option (List ℕ)) → Result Bool Fault → Type 0
-  SendsIf header a b d e result =
-      SendsTold rules.line_end (if header then Ok text else body_or_itself rules.invalid text (body_written rules from to number text))
-      (messages name rules.reading from (if header then [] else body_named rules.invalid (body_written rules from to number text)))
-      (are_any (if header then [] else body_named rules.invalid (body_written rules from to number text))) a b d e result
+  pub or-sent : (done : Unit {0}) → result ≡ Ok done → Appends a b text
+  or-sent done was = by call is sends
+    where
+      by : (r : Result (Unit {0}) E) → result ≡ result_or r (Err failed) → Sends r a b text → Appends a b text
+      by (Ok done) is sends = sends.whole
+      by (Err e) is sends = absurd (cc)
 
-  module _ (a b d : Option (List ℕ)) (below : rules.header_lines < number) where
-    no_header : (c e : Option (List ℕ)) (result : Result Bool Fault) → SendsIf false a c d e result → SendsText a c d e result
-    no_header c e result sends = subst (λ (header : Bool). SendsIf header a c d e result) (sym (lt-leb number rules.header_lines below)) sends
+module _ (rules : Rules) (name : List ℕ) (from : FormatData) where
+  abbrev Sends_each : Result Sent Fault → (old new : Writer → Option (List ℕ)) → Result Bool Fault → Type 0
+  Sends_each sent old new result = SendsEach name rules.reading from sent old new result
 
-    -- a line of which not all is sent
-    body_unsent : (body : Result (List ℕ) Fault) → IsSent body → SendsLine {T = Unit {0}} rules.line_end body a b (Err Write) →
-        SendsTold rules.line_end (body_or_itself rules.invalid text body) (messages name rules.reading from (body_named rules.invalid body)) (are_any (body_named rules.invalid body)) a b d d (Err Write)
-    body_unsent (Ok written) none sends = (sends.1, Appends-nil d)
-    body_unsent (Err fault) none sends = absurd (both_ways _ none (ap is_unsent (sym sends.0)))
+  -- a line that is sent to the output alone
+  module _ (a b d x : Option (List ℕ)) where
+    pub written-each : (bytes : List ℕ) → Appends a b bytes → Sends_each (Ok (only_written bytes)) (by_writer a d x) (by_writer b d x) (Ok false)
+    written-each bytes sent = (refl, by)
+      where
+        by : ReceivesEach None (by_writer a d x) (by_writer b d x) (text_to name rules.reading from (only_written bytes))
+        by Output = sent
+        by Messages = Appends-nil d
+        by Rejects = Appends-nil x
 
-    pub text_unsent : SendsLine {T = Unit {0}} rules.line_end (body_written rules from to number text) a b (Err Write) → SendsText a b d d (Err Write)
-    text_unsent sends = no_header b d (Err Write) (body_unsent (body_written rules from to number text) (body_written-sent rules from to number text) sends)
+    pub stopped-each : (bytes : List ℕ) → StopsWithin a b bytes → Sends_each (Ok (only_written bytes)) (by_writer a d x) (by_writer b d x) (Err Write)
+    stopped-each bytes stops = (refl, by)
+      where
+        by : ReceivesEach (Some Output) (by_writer a d x) (by_writer b d x) (text_to name rules.reading from (only_written bytes))
+        by Output = stops
+        by Messages = prefix-none d []
+        by Rejects = prefix-none x []
 
-    -- a line at fault, of which nothing was sent before
-    body_passed : (body : Result (List ℕ) Fault) (fault : Fault) (c e : Option (List ℕ)) (result : Result Bool Fault) → fault ≢ Write → SendsLine {T = Unit {0}} rules.line_end body a b (Err fault) →
-        SendsTold rules.line_end (fault_written rules.invalid text fault) (messages name rules.reading from (fault_named rules.invalid fault)) (are_any (fault_named rules.invalid fault)) b c d e result →
-        SendsTold rules.line_end (body_or_itself rules.invalid text body) (messages name rules.reading from (body_named rules.invalid body)) (are_any (body_named rules.invalid body)) a c d e result
-    body_passed (Ok written) fault c e result other sends passed = absurd (other sends.0)
-    body_passed (Err f) fault c e result other sends passed =
-        subst (λ g. SendsTold rules.line_end (fault_written rules.invalid text g) (messages name rules.reading from (fault_named rules.invalid g)) (are_any (fault_named rules.invalid g)) a c d e result) sends.0
-        (subst (λ s. SendsTold rules.line_end (fault_written rules.invalid text fault) (messages name rules.reading from (fault_named rules.invalid fault)) (are_any (fault_named rules.invalid fault)) s c d e result)
-        sends.1 passed)
+    -- by what is written in place of it
+    module _ (text : List ℕ) where
+      pub body-each : (body : Result (List ℕ) Fault) → SendsLine {T = Unit {0}} rules.line_end body a b (Ok tt) → Sends_each (body_sent rules text body) (by_writer a d x) (by_writer b d x) (Ok false)
+      body-each (Ok written) sends = written-each (ended_by rules.line_end written) sends
+      body-each (Err f) sends = absurd sends
 
-    pub text_passed : (fault : Fault) (c e : Option (List ℕ)) (result : Result Bool Fault) → fault ≢ Write →
-        SendsLine {T = Unit {0}} rules.line_end (body_written rules from to number text) a b (Err fault) →
-        SendsTold rules.line_end (fault_written rules.invalid text fault) (messages name rules.reading from (fault_named rules.invalid fault)) (are_any (fault_named rules.invalid fault)) b c d e result →
-        SendsText a c d e result
-    text_passed fault c e result other sends passed =
-        no_header c e result (body_passed (body_written rules from to number text) fault c e result other sends passed)
+      pub body-unsent : (body : Result (List ℕ) Fault) → IsSent body → SendsLine {T = Unit {0}} rules.line_end body a b (Err Write) → Sends_each (body_sent rules text body) (by_writer a d x) (by_writer b d x) (Err Write)
+      body-unsent (Ok written) none sends = stopped-each (ended_by rules.line_end written) sends.1
+      body-unsent (Err f) none sends = absurd (both_ways _ none (ap is_unsent (sym sends.0)))
 
--- a line at fault that is passed on
-pub passes-itself : (invalid : Invalid) (text : List ℕ) (fault : Fault) → passes invalid ≡ true → fault_written invalid text fault ≡ Ok text
-passes-itself Abort text fault is = absurd (cc)
-passes-itself Fail text fault is = refl
-passes-itself Warn text fault is = refl
-passes-itself Ignore text fault is = refl
+      -- a line at fault, of which nothing was sent before
+      pub body-passed : (body : Result (List ℕ) Fault) (f : Fault) (c : Writer → Option (List ℕ)) (result : Result Bool Fault) → f ≢ Write → SendsLine {T = Unit {0}} rules.line_end body a b (Err f) →
+          Sends_each (fault_sent rules f (ended_by rules.line_end text)) (by_writer b d x) c result → Sends_each (body_sent rules text body) (by_writer a d x) c result
+      body-passed (Ok written) f c result other sends passed = absurd (other sends.0)
+      body-passed (Err g) f c result other sends passed =
+          subst (λ h. Sends_each (fault_sent rules h (ended_by rules.line_end text)) (by_writer a d x) c result) sends.0
+          (subst (λ s. Sends_each (fault_sent rules f (ended_by rules.line_end text)) (by_writer s d x) c result) sends.1 passed)
 
--- one that is not
-pub aborts-itself : (invalid : Invalid) → passes invalid ≡ false → invalid ≡ Abort
-aborts-itself Abort is = refl
-aborts-itself Fail is = absurd (cc)
-aborts-itself Warn is = absurd (cc)
-aborts-itself Ignore is = absurd (cc)
+  -- a line at fault: the fault is returned
+  module _ (f : Fault) (bytes : List ℕ) where
+    pub fault-returned : passes rules.invalid ≡ false → (c : Writer → Option (List ℕ)) → Sends_each (fault_sent rules f bytes) c c (Err f)
+    fault-returned aborts c = subst (λ s. Sends_each s c c (Err f)) (sym (aborts-fault rules f bytes aborts)) (refl, λ w. refl)
+
+    -- or its message is sent, and then its bytes
+    module _ (does : passes rules.invalid ≡ true) (named : Fault) (same : named ≡ f) (s t t2 x : Option (List ℕ)) where
+      abbrev old : Writer → Option (List ℕ)
+      old = by_writer s t x
+
+      abbrev faults : List Fault
+      faults = fault_named rules.invalid f
+
+      abbrev Named : Fault → Result Bool Fault → Type 0
+      Named g result = Names (messages name rules.reading from (fault_named rules.invalid g)) (are_any (fault_named rules.invalid g)) t t2 result
+
+      by_passing : (c : Writer → Option (List ℕ)) (result : Result Bool Fault) → Sends_each (Ok (passed rules.rejects faults bytes)) old c result → Sends_each (fault_sent rules f bytes) old c result
+      by_passing c result sends = subst (λ sent. Sends_each sent old c result) (sym (passes-fault rules f bytes does)) sends
+
+      pub fault-unnamed : (g : Fault) → Named named (Err g) → Sends_each (fault_sent rules f bytes) old (by_writer s t2 x) (Err Report)
+      fault-unnamed g names =
+          by_passing (by_writer s t2 x) (Err Report) (refl, unnamed-stopped name rules.reading from s t t2 x (passed rules.rejects faults bytes) (subst (λ h. Named h (Err g)) same names).1)
+
+      module _ (any : Bool) (names : Named named (Ok any)) (rejects : Bool) (is : rules.rejects ≡ rejects) (s2 x2 : Option (List ℕ)) (other : rejects_or rejects s2 x2 ≡ rejects_or rejects s x) where
+        tells : Named f (Ok any)
+        tells = subst (λ h. Named h (Ok any)) same names
+
+        pub fault-passed : Appends (rejects_or rejects x s) (rejects_or rejects x2 s2) bytes → Sends_each (fault_sent rules f bytes) old (by_writer s2 t2 x2) (Ok any)
+        fault-passed sent =
+            by_passing (by_writer s2 t2 x2) (Ok any)
+            (subst (λ b. Sends_each (Ok (passed b faults bytes)) old (by_writer s2 t2 x2) (Ok any)) (sym is)
+            (tells.0, passed-received name rules.reading from rejects s s2 t t2 x x2 faults bytes sent other tells.1))
+
+        pub fault-unpassed : (g : Fault) → failed_writer g ≡ Some (if rejects then Rejects else Output) → StopsWithin (rejects_or rejects x s) (rejects_or rejects x2 s2) bytes →
+            Sends_each (fault_sent rules f bytes) old (by_writer s2 t2 x2) (Err g)
+        fault-unpassed g unsent stops =
+            by_passing (by_writer s2 t2 x2) (Err g)
+            (subst (λ b. Sends_each (Ok (passed b faults bytes)) old (by_writer s2 t2 x2) (Err g)) (sym is) (
+              ap is_some unsent,
+              subst (λ w. ReceivesEach w old (by_writer s2 t2 x2) (text_to name rules.reading from (passed rejects faults bytes))) (sym unsent)
+                  (passed-stopped name rules.reading from rejects s s2 t t2 x x2 faults bytes stops other tells.1),
+            ))
+
+-- a header, and a line that is none
+module _ (rules : Rules) (from to : FormatData) (number : ℕ) (text : List ℕ) where
+  abbrev by_header : Bool → Result Sent Fault
+  by_header header = if header then Ok (only_written (ended_by rules.line_end text)) else body_sent rules text (body_written rules from to number text)
+
+  pub header-sent : number ≤ rules.header_lines → text_sent rules from to number text ≡ Ok (only_written (ended_by rules.line_end text))
+  header-sent within = ap by_header (le-leb number rules.header_lines within)
+
+  pub text-body : rules.header_lines < number → text_sent rules from to number text ≡ body_sent rules text (body_written rules from to number text)
+  text-body below = ap by_header (lt-leb number rules.header_lines below)
+
+  -- a record with quotes that are closed, or not
+  abbrev by_quotes : Bool → Result Sent Fault
+  by_quotes unclosed = if unclosed then fault_sent rules (Unclosed number) (ended_by rules.line_end (without_end rules.line_end text)) else text_sent rules from to number text
+
+  pub closed-record : is_open (quotes_in rules.span) text ≡ false → record_sent rules from to number text ≡ text_sent rules from to number text
+  closed-record closed = ap by_quotes closed
+
+  pub open-record : is_open (quotes_in rules.span) text ≡ true → record_sent rules from to number text ≡ fault_sent rules (Unclosed number) (ended_by rules.line_end (without_end rules.line_end text))
+  open-record unclosed = ap by_quotes unclosed
 
 -- a fault that is no failed write
 either_other : (utf8 : Bool) (a b : Fault) → a ≢ Write → b ≢ Write → (if utf8 then a else b) ≢ Write

@@ -21,6 +21,7 @@ pub data Fault : Type 0 where
   Unclosed : ℕ → Fault
   Write : Fault
   Report : Fault
+  Reject : Fault
   Flush : Fault
 
 -- the `Fault` of a `RegroupFault`
@@ -36,12 +37,14 @@ fault_of (fault.Field number field error) = Field number field (refusal_of error
 fault_of (fault.Unclosed number) = Unclosed number
 fault_of fault.Write = Write
 fault_of fault.Report = Report
+fault_of fault.Reject = Reject
 fault_of fault.Flush = Flush
 
--- whether it is that of a write that failed, to one of the two writers
+-- whether it is that of a write that failed, to one of the three writers
 abbrev pub is_unsent : Fault → Bool
 is_unsent Write = true
 is_unsent Report = true
+is_unsent Reject = true
 is_unsent _ = false
 
 -- the fault of a text in the field of this number
@@ -76,4 +79,5 @@ message_of_fault (Field number field refusal) = line_prefix number ++ message_of
 message_of_fault (Unclosed number) = line_prefix number ++ codes "Unclosed quote."
 message_of_fault Write = codes "Failed to write."
 message_of_fault Report = codes "Failed to write a message."
+message_of_fault Reject = codes "Failed to write a rejected line."
 message_of_fault Flush = codes "Failed to flush."

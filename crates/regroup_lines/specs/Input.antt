@@ -1,11 +1,11 @@
 -- What is read from the input, piece by piece.
-use Rattle.std.specs.Prelude.{◌≡◌, ℕ, ◌+◌, ◌<◌, ◌≤◌, Bool, true, false, List, [], ◌∷◌, ◌++◌, length, take, drop, slice_range, Option, None, Some, Result, Ok, Err, ⊤, ◌^◌, ◌-◌}
+use Rattle.std.specs.Prelude.{◌≡◌, ℕ, ◌+◌, ◌<◌, ◌≤◌, Bool, true, false, if◌then◌else◌, List, [], ◌∷◌, ◌++◌, length, take, drop, slice_range, Option, None, Some, Result, Ok, Err, ⊤, ◌^◌, ◌-◌}
 use Rattle.std.specs.Io.KnownBytes.{Appends, Consumes, IsAtEnd}
 use Rattle.std.specs.declared.ops.Range.{Range}
 use Rattle.num_format.specs.Writing.{StopsWithin}
 use Rattle.regroup_lines.specs.Ended.{ended_by}
 use Rattle.regroup_lines.specs.Fault.{Fault}
-use Rattle.regroup_lines.specs.Fault.Fault.{Flush, Read, TooMany, Write}
+use Rattle.regroup_lines.specs.Fault.Fault.{Flush, Read, Reject, TooMany, Write}
 use Rattle.regroup_lines.specs.Records.{after_text, has_end, is_inside, line_reached, next_line}
 use Rattle.regroup_lines.specs.declared.input.Input.{Input}
 use Rattle.regroup_lines.specs.declared.input.Piece.{Piece}
@@ -83,19 +83,24 @@ pub data StopsInLong (quotes : Option ℕ) (line_end len : ℕ) (begun left : Li
   at_end : (text : List ℕ) → Reads begun text read_old read_new → IsLong quotes line_end len text → IsAtEnd read_new → StopsWithin sent_old sent_new (ended_by line_end text) →
       StopsInLong quotes line_end len begun left read_old read_new sent_old sent_new
 
--- what a call that sends the rest of such a record does, and then these bytes are left: it returns whether the input ended, and the
--- number of its line goes on to that of the next record
-abbrev pub PassesLong : (number_old number_new : ℕ) → (quotes : Option ℕ) → (line_end len : ℕ) → (flushes : Bool) → (begun left : List ℕ) → (read_old read_new sent_old sent_new : Option (List ℕ)) → Result Bool Fault → Type 0
-PassesLong number_old number_new quotes line_end len flushes begun left read_old read_new sent_old sent_new (Ok false) =
+-- what belongs to the writer of rejected lines, or to the output
+abbrev pub rejects_or : (rejects : Bool) → (rejected written : Option (List ℕ)) → Option (List ℕ)
+rejects_or rejects rejected written = if rejects then rejected else written
+
+-- what a call that sends the rest of such a record does, to the writer of rejected lines or to the output, and then these bytes are left: it
+-- returns whether the input ended, and the number of its line goes on to that of the next record
+abbrev pub PassesLong : (rejects : Bool) → (number_old number_new : ℕ) → (quotes : Option ℕ) → (line_end len : ℕ) → (flushes : Bool) → (begun left : List ℕ) → (read_old read_new sent_old sent_new : Option (List ℕ)) → Result Bool Fault → Type 0
+PassesLong rejects number_old number_new quotes line_end len flushes begun left read_old read_new sent_old sent_new (Ok false) =
     (text : List ℕ) × Reads begun (text ++ line_end ∷ left) read_old read_new × IsLongRecord quotes line_end len text × Appends sent_old sent_new (ended_by line_end text)
     × (number_new ≡ next_line (line_reached quotes line_end number_old text))
-PassesLong number_old number_new quotes line_end len flushes begun left read_old read_new sent_old sent_new (Ok true) =
+PassesLong rejects number_old number_new quotes line_end len flushes begun left read_old read_new sent_old sent_new (Ok true) =
     (text : List ℕ) × Reads begun text read_old read_new × IsLong quotes line_end len text × Appends sent_old sent_new (ended_by line_end text) × IsAtEnd read_new
-PassesLong number_old number_new quotes line_end len flushes begun left read_old read_new sent_old sent_new (Err Read) =
+PassesLong rejects number_old number_new quotes line_end len flushes begun left read_old read_new sent_old sent_new (Err Read) =
     (text : List ℕ) × Reads begun text read_old read_new × IsLong quotes line_end len text × Appends sent_old sent_new text
-PassesLong number_old number_new quotes line_end len flushes begun left read_old read_new sent_old sent_new (Err Flush) =
+PassesLong rejects number_old number_new quotes line_end len flushes begun left read_old read_new sent_old sent_new (Err Flush) =
     (text : List ℕ) × Reads begun text read_old read_new × IsLong quotes line_end len text × Appends sent_old sent_new text × (flushes ≡ true)
-PassesLong number_old number_new quotes line_end len flushes begun left read_old read_new sent_old sent_new (Err TooMany) =
+PassesLong rejects number_old number_new quotes line_end len flushes begun left read_old read_new sent_old sent_new (Err TooMany) =
     (text : List ℕ) × Reads begun text read_old read_new × IsLong quotes line_end len text × Appends sent_old sent_new text × (2 ^ 64 - 1 ≤ length text)
-PassesLong number_old number_new quotes line_end len flushes begun left read_old read_new sent_old sent_new (Err Write) = StopsInLong quotes line_end len begun left read_old read_new sent_old sent_new
-PassesLong number_old number_new quotes line_end len flushes begun left read_old read_new sent_old sent_new (Err fault) = ⊥
+PassesLong false number_old number_new quotes line_end len flushes begun left read_old read_new sent_old sent_new (Err Write) = StopsInLong quotes line_end len begun left read_old read_new sent_old sent_new
+PassesLong true number_old number_new quotes line_end len flushes begun left read_old read_new sent_old sent_new (Err Reject) = StopsInLong quotes line_end len begun left read_old read_new sent_old sent_new
+PassesLong rejects number_old number_new quotes line_end len flushes begun left read_old read_new sent_old sent_new (Err fault) = ⊥

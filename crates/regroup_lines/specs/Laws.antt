@@ -8,15 +8,16 @@ use Rattle.regroup_lines.specs.Lines.Stop.{Ended}
 use Rattle.regroup_lines.specs.Records.{is_left_open}
 use Rattle.regroup_lines.specs.declared.rules.Rules.{Rules}
 
--- the whole has this many lines: each part returns its lines, writes its part of the bytes, and the whole names a fault exactly if a part does
+-- the whole has this many lines: each part returns its lines, and sends its part of the bytes to each writer, and the whole names a fault exactly if a part does
 pub record SplitsInto (all first second : Regrouped) (lines : ℕ) : Type 0 where
   pub first_lines : ℕ
   pub second_lines : ℕ
   pub first_returned : first.returned ≡ Some (Ok first_lines)
   pub second_returned : second.returned ≡ Some (Ok second_lines)
   pub counted : lines ≡ first_lines + second_lines
-  pub written : all.written ≡ first.written ++ second.written
-  pub named : are_any all.named ≡ (are_any first.named || are_any second.named)
+  pub written : all.sent.written ≡ first.sent.written ++ second.sent.written
+  pub rejected : all.sent.rejected ≡ first.sent.rejected ++ second.sent.rejected
+  pub named : are_any all.sent.named ≡ (are_any first.sent.named || are_any second.sent.named)
 
 -- where no line is at fault, or none ends the run, and there is no header, an input may be split after a byte that ends a line, and not
 -- before a byte order mark, if the first part does not end inside quotes

@@ -4,7 +4,7 @@ use Rattle.std.specs.Str.{is_utf8}
 use Rattle.num_format.specs.Cut.{cut_text}
 use Rattle.num_format.specs.Refusal.{ParseNumber}
 use Rattle.regroup_lines.specs.Fault.{Fault, in_field}
-use Rattle.regroup_lines.specs.Fault.Fault.{FewFields, Line, NotText, Report, Unclosed, Write}
+use Rattle.regroup_lines.specs.Fault.Fault.{FewFields, Line, NotText, Reject, Report, Unclosed, Write}
 use Rattle.regroup_lines.specs.declared.line_fault.LineFault.{LineFault}
 use Rattle.regroup_lines.specs.declared.line_fault.LineFault.TheVariants as fault
 
@@ -20,3 +20,4 @@ line_fault_of (fault.FewFields number count) = FewFields number count
 line_fault_of (fault.Unclosed number) = Unclosed number
 line_fault_of fault.Write = Write
 line_fault_of fault.Report = Report
+line_fault_of fault.Reject = Reject

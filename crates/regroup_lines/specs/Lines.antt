@@ -37,24 +37,37 @@ pub data Stop : Type 0 where
   Unread : Stop
   Endless : Stop
 
--- the bytes that are written, the faults that are named, and what is returned, or nothing where that depends on bytes that were not read
-pub record Regrouped : Type 0 where
+-- what is sent of lines: bytes to the output, the faults that messages name, and bytes to the writer of rejected lines
+pub record Sent : Type 0 where
   pub written : List ℕ
   pub named : List Fault
+  pub rejected : List ℕ
+
+-- bytes of the output alone
+abbrev pub only_written : List ℕ → Sent
+only_written bytes = record { written = bytes; named = []; rejected = [] }
+
+-- what is sent of some lines, and of those after them
+abbrev pub joined : Sent → Sent → Sent
+joined first rest = record { written = first.written ++ rest.written; named = first.named ++ rest.named; rejected = first.rejected ++ rest.rejected }
+
+-- what is sent, and what is returned, or nothing where that depends on bytes that were not read
+pub record Regrouped : Type 0 where
+  pub sent : Sent
   pub returned : Option (Result ℕ Fault)
 
--- nothing more is written or named
+-- nothing more is sent
 abbrev pub returning : Option (Result ℕ Fault) → Regrouped
-returning returned = record { written = []; named = []; returned = returned }
+returning returned = record { sent = only_written []; returned = returned }
 
--- the bytes and the faults, and after them what is written and named
-abbrev pub writing : List ℕ → List Fault → Regrouped → Regrouped
-writing bytes faults rest = record { written = bytes ++ rest.written; named = faults ++ rest.named; returned = rest.returned }
+-- what is sent of a line, and after it of others
+abbrev pub sending : Sent → Regrouped → Regrouped
+sending sent rest = record { sent = joined sent rest.sent; returned = rest.returned }
 
--- a line and its faults, and after them what is written and named; a fault in place of the line is returned
-abbrev pub writing_line : (line_end : ℕ) → Result (List ℕ) Fault → List Fault → Regrouped → Regrouped
-writing_line line_end (Ok text) named rest = writing (ended_by line_end text) named rest
-writing_line line_end (Err fault) named rest = returning (Some (Err fault))
+-- the same, or the fault that is returned in place of the line
+abbrev pub sending_line : Result Sent Fault → Regrouped → Regrouped
+sending_line (Ok sent) rest = sending sent rest
+sending_line (Err fault) rest = returning (Some (Err fault))
 
 -- the number that the text of a line parses as, or the fault of the text
 abbrev pub number_in_text : FormatData → ℕ → List ℕ → Result ℤ Fault
@@ -172,70 +185,51 @@ passes Fail = true
 passes Warn = true
 passes Ignore = true
 
--- what is written in place of a line at fault: the line itself, unless the fault is returned
-abbrev pub fault_written : Invalid → List ℕ → Fault → Result (List ℕ) Fault
-fault_written Abort text fault = Err fault
-fault_written Fail text fault = Ok text
-fault_written Warn text fault = Ok text
-fault_written Ignore text fault = Ok text
-
--- the faults of such a line that are named
+-- the faults that are named of a line at fault that does not end the run
 abbrev pub fault_named : Invalid → Fault → List Fault
 fault_named Abort fault = []
 fault_named Fail fault = fault ∷ []
 fault_named Warn fault = fault ∷ []
 fault_named Ignore fault = []
 
--- what is written in place of a line, which may be at fault
-abbrev pub body_or_itself : Invalid → List ℕ → Result (List ℕ) Fault → Result (List ℕ) Fault
-body_or_itself invalid text (Ok body) = Ok body
-body_or_itself invalid text (Err fault) = fault_written invalid text fault
+-- its bytes, which are rejected or else written, after the faults that are named
+abbrev pub passed : (rejects : Bool) → List Fault → List ℕ → Sent
+passed rejects named bytes = record { written = if rejects then [] else bytes; named = named; rejected = if rejects then bytes else [] }
 
--- the faults of such a line that are named
-abbrev pub body_named : Invalid → Result (List ℕ) Fault → List Fault
-body_named invalid (Ok body) = []
-body_named invalid (Err fault) = fault_named invalid fault
+-- what is sent of bytes at fault, or the fault, which is returned
+abbrev pub fault_sent : Rules → Fault → List ℕ → Result Sent Fault
+fault_sent rules fault bytes = if passes rules.invalid then Ok (passed rules.rejects (fault_named rules.invalid fault) bytes) else Err fault
 
--- what is written in place of the text of a line, or the fault of the text
-abbrev pub text_written : Rules → FormatData → FormatData → ℕ → List ℕ → Result (List ℕ) Fault
-text_written rules from to number text =
-    if nat_le number rules.header_lines then Ok text else body_or_itself rules.invalid text (body_written rules from to number text)
+-- what is sent of a line, by what is written in place of it or its fault
+abbrev pub body_sent : Rules → List ℕ → Result (List ℕ) Fault → Result Sent Fault
+body_sent rules text (Ok body) = Ok (only_written (ended_by rules.line_end body))
+body_sent rules text (Err fault) = fault_sent rules fault (ended_by rules.line_end text)
 
--- the faults of the text that are named
-abbrev pub text_named : Rules → FormatData → FormatData → ℕ → List ℕ → List Fault
-text_named rules from to number text =
-    if nat_le number rules.header_lines then [] else body_named rules.invalid (body_written rules from to number text)
+-- what is sent of the text of a line, or its fault
+abbrev pub text_sent : Rules → FormatData → FormatData → ℕ → List ℕ → Result Sent Fault
+text_sent rules from to number text =
+    if nat_le number rules.header_lines then Ok (only_written (ended_by rules.line_end text)) else body_sent rules text (body_written rules from to number text)
 
 -- the rules that read the whole of each line leniently
 abbrev pub lenient : Rules
-lenient = record { span = span.Line; reading = Lenient; header_lines = 0; passes_empty = false; invalid = Abort; line_end = 10; max_line_len = 4096; flushes = false }
+lenient = record { span = span.Line; reading = Lenient; header_lines = 0; passes_empty = false; invalid = Abort; rejects = false; line_end = 10; max_line_len = 4096; flushes = false }
 
--- what is written in place of a record that has no byte too many, or its fault: at the end of an input it may end inside quotes, and with the
--- byte that ends lines
-abbrev pub record_written : Rules → FormatData → FormatData → ℕ → List ℕ → Result (List ℕ) Fault
-record_written rules from to number text =
-    if is_open (quotes_in rules.span) text then fault_written rules.invalid (without_end rules.line_end text) (Unclosed number) else text_written rules from to number text
-
--- the faults of the record that are named
-abbrev pub record_named : Rules → FormatData → FormatData → ℕ → List ℕ → List Fault
-record_named rules from to number text =
-    if is_open (quotes_in rules.span) text then fault_named rules.invalid (Unclosed number) else text_named rules from to number text
+-- what is sent of a record that has no byte too many, or its fault: at the end of an input it may end inside quotes, and with the byte that
+-- ends lines
+abbrev pub record_sent : Rules → FormatData → FormatData → ℕ → List ℕ → Result Sent Fault
+record_sent rules from to number text =
+    if is_open (quotes_in rules.span) text then fault_sent rules (Unclosed number) (ended_by rules.line_end (without_end rules.line_end text)) else text_sent rules from to number text
 
 -- the fault of a line or a record that is too long: quotes that its first bytes do not close
 abbrev pub long_fault : Rules → ℕ → List ℕ → Fault
 long_fault rules number text = if is_open (quotes_in rules.span) (take (rules.max_line_len + 1) text) then Unclosed number else TooLong number rules.max_line_len
 
--- what is written in place of the record that so many are before, and that begins in the line of this number, or its first fault: it may be one
--- too many, or too long
-abbrev pub line_written : Rules → (most : ℕ) → FormatData → FormatData → (count number : ℕ) → List ℕ → Result (List ℕ) Fault
-line_written rules most from to count number text =
+-- what is sent of the record that so many are before, and that begins in the line of this number, or its first fault: it may be one too many,
+-- or too long
+abbrev pub line_sent : Rules → (most : ℕ) → FormatData → FormatData → (count number : ℕ) → List ℕ → Result Sent Fault
+line_sent rules most from to count number text =
     if nat_lt most (count + 1) then Err TooMany else
-    if nat_lt rules.max_line_len (length text) then fault_written rules.invalid text (long_fault rules number text) else record_written rules from to number text
-
--- the faults of the record that are named
-abbrev pub line_named : Rules → FormatData → FormatData → ℕ → List ℕ → List Fault
-line_named rules from to number text =
-    if nat_lt rules.max_line_len (length text) then fault_named rules.invalid (long_fault rules number text) else record_named rules from to number text
+    if nat_lt rules.max_line_len (length text) then fault_sent rules (long_fault rules number text) (ended_by rules.line_end text) else record_sent rules from to number text
 
 -- what a stop returns in a record that is not too long: the fault of a failed read or flush
 abbrev pub stop_returned : Stop → Option (Result ℕ Fault)
@@ -253,24 +247,24 @@ long_returned Endless = Some (Err TooMany)
 long_returned Ended = None
 long_returned Unread = None
 
--- the beginning of a record that is too long, by what is written in place of it, and its faults that are named
-abbrev pub long_begun : Result (List ℕ) Fault → List Fault → Stop → Regrouped
-long_begun (Ok text) named stop = record { written = text; named = named; returned = long_returned stop }
-long_begun (Err fault) named stop = returning (Some (Err fault))
+-- the beginning of a record that is too long, by what is sent of it
+abbrev pub long_begun : Result Sent Fault → Stop → Regrouped
+long_begun (Ok sent) stop = record { sent = sent; returned = long_returned stop }
+long_begun (Err fault) stop = returning (Some (Err fault))
 
--- the beginning of the record that so many are before: nothing is written unless it is too long
+-- the beginning of the record that so many are before: nothing is sent unless it is too long
 abbrev pub line_begun : Rules → (most : ℕ) → Stop → (count number : ℕ) → List ℕ → Regrouped
 line_begun rules most stop count number text =
     if length text == 0 then returning (stop_returned stop) else
     if nat_lt most (count + 1) then returning (Some (Err TooMany)) else
-    if nat_lt rules.max_line_len (length text) then long_begun (fault_written rules.invalid text (long_fault rules number text)) (fault_named rules.invalid (long_fault rules number text)) stop else
+    if nat_lt rules.max_line_len (length text) then long_begun (fault_sent rules (long_fault rules number text) text) stop else
     returning (stop_returned stop)
 
 -- what stands after the last byte that ends a record, with so many records before it: at the end it is one unless it is empty
 abbrev pub regrouped_rest : Rules → (most : ℕ) → FormatData → FormatData → Stop → (count number : ℕ) → List ℕ → Regrouped
 regrouped_rest rules most from to Ended count number rest =
     if length rest == 0 then returning (Some (Ok count)) else
-    writing_line rules.line_end (line_written rules most from to count number rest) (line_named rules from to number rest) (returning (Some (Ok (count + 1))))
+    sending_line (line_sent rules most from to count number rest) (returning (Some (Ok (count + 1))))
 regrouped_rest rules most from to stop count number rest = line_begun rules most stop count number rest
 
 -- the number of the line after a record
@@ -282,8 +276,7 @@ abbrev pub regrouped_parts : Rules → (most : ℕ) → FormatData → FormatDat
 regrouped_parts rules most from to stop count number [] = returning None
 regrouped_parts rules most from to stop count number (rest ∷ []) = regrouped_rest rules most from to stop count number rest
 regrouped_parts rules most from to stop count number (text ∷ next ∷ parts) =
-    writing_line rules.line_end (line_written rules most from to count number text) (line_named rules from to number text)
-    (regrouped_parts rules most from to stop (count + 1) (line_after rules number text) (next ∷ parts))
+    sending_line (line_sent rules most from to count number text) (regrouped_parts rules most from to stop (count + 1) (line_after rules number text) (next ∷ parts))
 
 -- the lines or records of a text
 abbrev pub records_of : Rules → List ℕ → List (List ℕ)

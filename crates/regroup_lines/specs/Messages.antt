@@ -12,7 +12,7 @@ use Rattle.regroup_lines.specs.Quoting.{quoted, shown}
 use Rattle.regroup_lines.specs.Ended.{line}
 use Rattle.regroup_lines.specs.Decimals.{marks_decimals, scale_below}
 use Rattle.regroup_lines.specs.Fault.{Fault}
-use Rattle.regroup_lines.specs.Fault.Fault.{TooMany, TooLong, FewFields, Read, NotText, FieldNotText, Line, Field, Unclosed, Write, Report, Flush}
+use Rattle.regroup_lines.specs.Fault.Fault.{TooMany, TooLong, FewFields, Read, NotText, FieldNotText, Line, Field, Unclosed, Write, Report, Reject, Flush}
 use Rattle.regroup_lines.specs.declared.fault.FieldCount.{FieldCount}
 use Rattle.regroup_lines.specs.declared.rules.Reading.{Reading}
 use Rattle.regroup_lines.specs.declared.rules.Reading.TheVariants.{Lenient, Strict}
@@ -93,6 +93,7 @@ fault_message name reading from TooMany = []
 fault_message name reading from Read = []
 fault_message name reading from Write = []
 fault_message name reading from Report = []
+fault_message name reading from Reject = []
 fault_message name reading from Flush = []
 
 -- the messages that name faults, one after the other

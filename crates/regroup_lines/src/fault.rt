@@ -37,6 +37,8 @@ pub enum RegroupFault {
     Write,
     /// A write of a message that names a fault failed, also one that was interrupted, or wrote no bytes.
     Report,
+    /// A write of a rejected line failed, also one that was interrupted, or wrote no bytes.
+    Reject,
     /// A flush before a read failed, where the rules ask for flushes.
     Flush,
 }
@@ -77,6 +79,7 @@ impl RegroupFault {
             RegroupFault::Unclosed(number) => line_message(*number, "Unclosed quote."),
             RegroupFault::Write => whole_message("Failed to write."),
             RegroupFault::Report => whole_message("Failed to write a message."),
+            RegroupFault::Reject => whole_message("Failed to write a rejected line."),
             RegroupFault::Flush => whole_message("Failed to flush."),
         }
     }

@@ -31,20 +31,20 @@ mod quoting;
 mod records;
 pub mod rules;
 
-ghost use Rattle.std.specs.Prelude.{◌≡◌, ◌+◌, [], ◌<◌, ◌≤◌, length, true};
+ghost use Rattle.std.specs.Prelude.{◌≡◌, ◌+◌, [], ◌<◌, ◌≤◌, false, length, true};
 ghost use Rattle.std.specs.Result.{result_map_both};
 ghost use Rattle.num_format.specs.Writing.{Sends};
 ghost use Rattle.regroup_lines.specs.Ended.{ended_by};
 ghost use Rattle.regroup_lines.specs.Fault.{are_any, fault_of};
 ghost use Rattle.regroup_lines.specs.Fields.{SendsIfOk};
-ghost use Rattle.regroup_lines.specs.Input.{IsLong, PassesLong, array_len, held};
+ghost use Rattle.regroup_lines.specs.Input.{IsLong, PassesLong, array_len, held, rejects_or};
 ghost use Rattle.regroup_lines.specs.LineFaults.{line_fault_of};
-ghost use Rattle.regroup_lines.specs.Lines.{body_written, fault_named, fault_written, lenient, line_after, long_fault, numbers_replaced, passes_mark, place_written, quotes_in, record_named, record_written, text_named, text_written};
+ghost use Rattle.regroup_lines.specs.Lines.{body_written, fault_named, fault_sent, lenient, line_after, long_fault, numbers_replaced, passes_mark, place_written, quotes_in, record_sent, text_sent};
 ghost use Rattle.regroup_lines.specs.Records.{after_text, line_reached};
 ghost use Rattle.regroup_lines.specs.Messages.{fault_message, messages};
 ghost use Rattle.regroup_lines.specs.Places.{place_of};
 ghost use Rattle.regroup_lines.specs.declared.rules.Span.TheVariants.{Trimmed};
-ghost use Rattle.regroup_lines.specs.Sending.{Names, Regroups, RegroupsNaming, SendsLine, SendsTold};
+ghost use Rattle.regroup_lines.specs.Sending.{Names, Regroups, RegroupsNaming, SendsEach, SendsLine, by_writer};
 
 use crate::ends::without_end;
 pub use crate::fault::{FieldCount, RegroupFault};
@@ -77,6 +77,7 @@ const LENIENT: Rules = Rules {
     header_lines: 0,
     passes_empty: false,
     invalid: Invalid::Abort,
+    rejects: false,
     line_end: b'\n',
     max_line_len: MAX_LINE_LEN as u32,
     flushes: false,
@@ -130,7 +131,6 @@ pub fn regroup_lines<R: Read, W: Write, F: Format, G: Format>(
         (R.remaining r.old) (R.remaining r.new) (W.contents w.old) (W.contents w.new)
         (result_map_both (λ count. count) fault_of result) }
 {
-    let mut sink = io::sink();
     let mut buffer = [0; MAX_LINE_LEN + 1];
     let summary = regroup_at_most(
         MAX_LINES,
@@ -139,7 +139,8 @@ pub fn regroup_lines<R: Read, W: Write, F: Format, G: Format>(
         &mut buffer,
         r,
         w,
-        &mut sink,
+        &mut io::sink(),
+        &mut io::sink(),
         from,
         to,
     )?;
@@ -147,7 +148,8 @@ pub fn regroup_lines<R: Read, W: Write, F: Format, G: Format>(
 }
 
 /// Regroups the lines of `r`, at most this many, as the rules say. The messages that name faults are sent to `e`, and have
-/// the name of the input. It is read into `buffer`, which has one byte more than a line may have.
+/// the name of the input. Lines at fault are sent to `x` in place of `w` if the rules say so. The input is read into `buffer`, which has one
+/// byte more than a line may have.
 ///
 /// ```rust
 /// let rules = Rules {
@@ -156,16 +158,29 @@ pub fn regroup_lines<R: Read, W: Write, F: Format, G: Format>(
 ///     header_lines: 1,
 ///     passes_empty: false,
 ///     invalid: Invalid::Warn,
+///     rejects: true,
 ///     line_end: b'\n',
 ///     max_line_len: 4096,
 ///     flushes: true,
 /// };
 /// let mut buffer = [0; 4097];
 /// let (mut reader, mut out) = ("amount\n1,000\n12x\n".as_bytes(), Vec::new(alloc));
-/// let mut err = Vec::new(alloc);
-/// let summary = regroup_at_most(9, &rules, "-", &mut buffer, &mut reader, &mut out, &mut err, &Locale::en, &Locale::de);
-/// summary                 // Ok(Summary { lines: 3, has_faults: true })
-/// str::from_utf8(&out)    // Ok("amount\n1.000\n12x\n")
+/// let (mut err, mut rejects) = (Vec::new(alloc), Vec::new(alloc));
+/// let summary = regroup_at_most(
+///     9,
+///     &rules,
+///     "-",
+///     &mut buffer,
+///     &mut reader,
+///     &mut out,
+///     &mut err,
+///     &mut rejects,
+///     &Locale::en,
+///     &Locale::de,
+/// );
+/// summary                     // Ok(Summary { lines: 3, has_faults: true })
+/// str::from_utf8(&out)        // Ok("amount\n1.000\n")
+/// str::from_utf8(&rejects)    // Ok("12x\n")
 /// ```
 ///
 /// # Errors
@@ -173,13 +188,14 @@ pub fn regroup_lines<R: Read, W: Write, F: Format, G: Format>(
 /// Returns the first fault, of those of [`regroup_lines`], that is not passed on.
 /// [`TooMany`](RegroupFault::TooMany) is that a byte follows the last of these lines, and
 /// [`Report`](RegroupFault::Report) that a write to `e` failed. The line of that message is not sent.
+/// [`Reject`](RegroupFault::Reject) is that a write to `x` failed.
 /// [`Unclosed`](RegroupFault::Unclosed) is that a record has quotes that are not closed where the input ends, or in as many bytes as a record
 /// may have.
 /// [`Flush`](RegroupFault::Flush) is that a flush of `w` before a read failed, if the rules ask for flushes: as on `Read`,
-/// `w` received exactly the lines before, and what was read of a long line that is passed on.
+/// the writers received exactly the lines before, and what was read of a long line that is passed on. `x` is not flushed.
 /// Where fields are chosen, [`FewFields`](RegroupFault::FewFields) is that a line has too few, and
 /// [`FieldNotText`](RegroupFault::FieldNotText) and [`Field`](RegroupFault::Field) are in place of `NotText` and `Line`.
-pub fn regroup_at_most<R: Read, W: Write, E: Write, F: Format, G: Format>(
+pub fn regroup_at_most<R: Read, W: Write, E: Write, X: Write, F: Format, G: Format>(
     most: u64,
     rules: &Rules,
     name: &str,
@@ -187,12 +203,14 @@ pub fn regroup_at_most<R: Read, W: Write, E: Write, F: Format, G: Format>(
     r: &mut R,
     w: &mut W,
     e: &mut E,
+    x: &mut X,
     from: &F,
     to: &G,
 ) -> Result<Summary, RegroupFault>
     requires { length buffer.old ≡ rules.now.max_line_len + 1 }
     ensures { RegroupsNaming rules.now name.now most (F.answers from.now) (G.answers to.now)
-        (R.remaining r.old) (R.remaining r.new) (W.contents w.old) (W.contents w.new) (E.contents e.old) (E.contents e.new)
+        (R.remaining r.old) (R.remaining r.new)
+        (by_writer (W.contents w.old) (E.contents e.old) (X.contents x.old)) (by_writer (W.contents w.new) (E.contents e.new) (X.contents x.new))
         (result_map_both (λ summary. summary) fault_of result) }
 {
     let mut input = Input::new(buffer);
@@ -202,7 +220,7 @@ pub fn regroup_at_most<R: Read, W: Write, E: Write, F: Format, G: Format>(
         match input.next_piece(rules, Within::Start, r, w)? {
             Piece::Line(place) => {
                 let text = input.bytes(place);
-                has_faults |= regroup_line(rules, name, text, number, w, e, from, to)?;
+                has_faults |= regroup_line(rules, name, text, number, w, e, x, from, to)?;
                 number = line_after(rules, number, text);
             }
             Piece::Rest(place) => {
@@ -213,7 +231,7 @@ pub fn regroup_at_most<R: Read, W: Write, E: Write, F: Format, G: Format>(
                         has_faults,
                     });
                 }
-                has_faults |= regroup_last(rules, name, rest, number, w, e, from, to)?;
+                has_faults |= regroup_last(rules, name, rest, number, w, e, x, from, to)?;
                 let lines = count + 1;
                 return Ok(Summary { lines, has_faults });
             }
@@ -223,7 +241,7 @@ pub fn regroup_at_most<R: Read, W: Write, E: Write, F: Format, G: Format>(
                     return Err(fault);
                 }
                 has_faults |= name_fault(rules, name, &fault, e, from)?;
-                if pass_long(rules, &mut number, &mut input, r, w)? {
+                if pass_long(rules, &mut number, &mut input, r, w, x)? {
                     let lines = count + 1;
                     return Ok(Summary { lines, has_faults });
                 }
@@ -265,45 +283,45 @@ fn long_fault(rules: &Rules, number: u64, input: &Input<'_>) -> RegroupFault
 /// the last of them may be the byte that ends a line.
 #[cold]
 #[inline(never)]
-fn regroup_last<'a, W: Write, E: Write, F: Format, G: Format>(
+fn regroup_last<'a, W: Write, E: Write, X: Write, F: Format, G: Format>(
     rules: &Rules,
     name: &str,
     text: &'a [u8],
     number: u64,
     w: &mut W,
     e: &mut E,
+    x: &mut X,
     from: &F,
     to: &G,
 ) -> Result<bool, LineFault<'a>>
-    ensures { SendsTold rules.now.line_end (record_written rules.now (F.answers from.now) (G.answers to.now) number text.now)
-        (messages name.now rules.now.reading (F.answers from.now) (record_named rules.now (F.answers from.now) (G.answers to.now) number text.now))
-        (are_any (record_named rules.now (F.answers from.now) (G.answers to.now) number text.now))
-        (W.contents w.old) (W.contents w.new) (E.contents e.old) (E.contents e.new) (result_map_both (λ told. told) line_fault_of result) }
+    ensures { SendsEach name.now rules.now.reading (F.answers from.now) (record_sent rules.now (F.answers from.now) (G.answers to.now) number text.now)
+        (by_writer (W.contents w.old) (E.contents e.old) (X.contents x.old)) (by_writer (W.contents w.new) (E.contents e.new) (X.contents x.new))
+        (result_map_both (λ told. told) line_fault_of result) }
 {
     if is_open(rules, text) {
         let fault = LineFault::Unclosed(number);
         let text = without_end(rules.line_end, text);
-        return pass_fault(rules, name, fault, text, w, e, from);
+        return pass_fault(rules, name, fault, text, w, e, x, from);
     }
-    regroup_line(rules, name, text, number, w, e, from, to)
+    regroup_line(rules, name, text, number, w, e, x, from, to)
 }
 
 /// Sends what is written in place of the text of a line, and the byte that ends it, and before them the message that names
 /// its fault, if there is one. Returns whether there is.
-fn regroup_line<'a, W: Write, E: Write, F: Format, G: Format>(
+fn regroup_line<'a, W: Write, E: Write, X: Write, F: Format, G: Format>(
     rules: &Rules,
     name: &str,
     text: &'a [u8],
     number: u64,
     w: &mut W,
     e: &mut E,
+    x: &mut X,
     from: &F,
     to: &G,
 ) -> Result<bool, LineFault<'a>>
-    ensures { SendsTold rules.now.line_end (text_written rules.now (F.answers from.now) (G.answers to.now) number text.now)
-        (messages name.now rules.now.reading (F.answers from.now) (text_named rules.now (F.answers from.now) (G.answers to.now) number text.now))
-        (are_any (text_named rules.now (F.answers from.now) (G.answers to.now) number text.now))
-        (W.contents w.old) (W.contents w.new) (E.contents e.old) (E.contents e.new) (result_map_both (λ told. told) line_fault_of result) }
+    ensures { SendsEach name.now rules.now.reading (F.answers from.now) (text_sent rules.now (F.answers from.now) (G.answers to.now) number text.now)
+        (by_writer (W.contents w.old) (E.contents e.old) (X.contents x.old)) (by_writer (W.contents w.new) (E.contents e.new) (X.contents x.new))
+        (result_map_both (λ told. told) line_fault_of result) }
 {
     if number <= rules.header_lines {
         pass_on(text, rules.line_end, w).or(Err(LineFault::Write))?;
@@ -313,28 +331,28 @@ fn regroup_line<'a, W: Write, E: Write, F: Format, G: Format>(
         Ok(()) => Ok(false),
         Err(fault) => match fault {
             LineFault::Write => Err(LineFault::Write),
-            _ => pass_fault(rules, name, fault, text, w, e, from),
+            _ => pass_fault(rules, name, fault, text, w, e, x, from),
         },
     }
 }
 
-/// Sends a line at fault as it is, and the byte that ends it, and before them the message that names the fault, if the
-/// rules say so. Returns whether there is a message.
+/// Sends a line at fault as it is, and the byte that ends it, to the output or, if the rules say so, to the writer of rejected lines, and before
+/// them the message that names the fault. Returns whether there is a message.
 #[cold]
 #[inline(never)]
-fn pass_fault<'a, W: Write, E: Write, F: Format>(
+fn pass_fault<'a, W: Write, E: Write, X: Write, F: Format>(
     rules: &Rules,
     name: &str,
     fault: LineFault<'a>,
     text: &[u8],
     w: &mut W,
     e: &mut E,
+    x: &mut X,
     from: &F,
 ) -> Result<bool, LineFault<'a>>
-    ensures { SendsTold rules.now.line_end (fault_written rules.now.invalid text.now (line_fault_of fault.entry))
-        (messages name.now rules.now.reading (F.answers from.now) (fault_named rules.now.invalid (line_fault_of fault.entry)))
-        (are_any (fault_named rules.now.invalid (line_fault_of fault.entry)))
-        (W.contents w.old) (W.contents w.new) (E.contents e.old) (E.contents e.new) (result_map_both (λ told. told) line_fault_of result) }
+    ensures { SendsEach name.now rules.now.reading (F.answers from.now) (fault_sent rules.now (line_fault_of fault.entry) (ended_by rules.now.line_end text.now))
+        (by_writer (W.contents w.old) (E.contents e.old) (X.contents x.old)) (by_writer (W.contents w.new) (E.contents e.new) (X.contents x.new))
+        (result_map_both (λ told. told) line_fault_of result) }
 {
     if !rules.invalid.passes() {
         return Err(fault);
@@ -342,6 +360,10 @@ fn pass_fault<'a, W: Write, E: Write, F: Format>(
     let Ok(is_named) = name_fault(rules, name, &RegroupFault::from(fault), e, from) else {
         return Err(LineFault::Report);
     };
+    if rules.rejects {
+        pass_on(text, rules.line_end, x).or(Err(LineFault::Reject))?;
+        return Ok(is_named);
+    }
     pass_on(text, rules.line_end, w).or(Err(LineFault::Write))?;
     Ok(is_named)
 }
@@ -368,10 +390,44 @@ fn name_fault<E: Write, F: Format>(
     }
 }
 
+/// Sends a record that is too long as [`send_long`] does: to the output or, if the rules say so, to the writer of rejected lines. Then nothing is
+/// sent to the output, so that it needs no flush.
+#[cold]
+fn pass_long<R: Read, W: Write, X: Write>(
+    rules: &Rules,
+    number: &mut u64,
+    input: &mut Input<'_>,
+    r: &mut R,
+    w: &mut W,
+    x: &mut X,
+) -> Result<bool, RegroupFault>
+    requires long { IsLong (quotes_in rules.now.span) rules.now.line_end (array_len input.old) (held input.old) }
+    requires some { 0 < array_len input.old }
+    ensures passes { PassesLong rules.now.rejects number.old number.new (quotes_in rules.now.span) rules.now.line_end (array_len input.old) rules.now.flushes (held input.old) (held input.new) (R.remaining r.old) (R.remaining r.new)
+        (rejects_or rules.now.rejects (X.contents x.old) (W.contents w.old)) (rejects_or rules.now.rejects (X.contents x.new) (W.contents w.new)) (result_map_both (λ ended. ended) fault_of result) }
+    ensures other { rejects_or rules.now.rejects (W.contents w.new) (X.contents x.new) ≡ rejects_or rules.now.rejects (W.contents w.old) (X.contents x.old) }
+    ensures len { array_len input.new ≡ array_len input.old }
+{
+    if !rules.rejects {
+        return send_long(rules, number, input, r, w);
+    }
+    let rules = Rules {
+        flushes: false,
+        ..*rules
+    };
+    match send_long(&rules, number, input, r, x) {
+        Ok(has_ended) => Ok(has_ended),
+        Err(fault) => match fault {
+            RegroupFault::Write => Err(RegroupFault::Reject),
+            _ => Err(fault),
+        },
+    }
+}
+
 /// Sends a record that is too long, piece by piece: the bytes that are held, which it begins with, and those up to the byte
 /// that ends it or the end of the input, and that byte. Returns whether the input ended. The number of its line goes on to that
 /// of the next record.
-fn pass_long<R: Read, W: Write>(
+fn send_long<R: Read, W: Write>(
     rules: &Rules,
     number: &mut u64,
     input: &mut Input<'_>,
@@ -380,7 +436,7 @@ fn pass_long<R: Read, W: Write>(
 ) -> Result<bool, RegroupFault>
     requires long { IsLong (quotes_in rules.now.span) rules.now.line_end (array_len input.old) (held input.old) }
     requires some { 0 < array_len input.old }
-    ensures passes { PassesLong number.old number.new (quotes_in rules.now.span) rules.now.line_end (array_len input.old) rules.now.flushes (held input.old) (held input.new) (R.remaining r.old) (R.remaining r.new)
+    ensures passes { PassesLong false number.old number.new (quotes_in rules.now.span) rules.now.line_end (array_len input.old) rules.now.flushes (held input.old) (held input.new) (R.remaining r.old) (R.remaining r.new)
         (W.contents w.old) (W.contents w.new) (result_map_both (λ ended. ended) fault_of result) }
     ensures len { array_len input.new ≡ array_len input.old }
 {

@@ -25,6 +25,8 @@ pub(crate) enum LineFault<'a> {
     Write,
     /// A write of a message that names a fault failed.
     Report,
+    /// A write of a rejected line failed.
+    Reject,
 }
 
 impl<'a> LineFault<'a> {
@@ -40,7 +42,8 @@ impl<'a> LineFault<'a> {
             | LineFault::FewFields(..)
             | LineFault::Unclosed(_)
             | LineFault::Write
-            | LineFault::Report => self,
+            | LineFault::Report
+            | LineFault::Reject => self,
         }
     }
 }
@@ -60,6 +63,7 @@ impl<'a> From<LineFault<'a>> for RegroupFault {
             LineFault::Unclosed(number) => RegroupFault::Unclosed(number),
             LineFault::Write => RegroupFault::Write,
             LineFault::Report => RegroupFault::Report,
+            LineFault::Reject => RegroupFault::Reject,
         }
     }
 }

@@ -81,6 +81,7 @@ pub fn fault_message<F: Format>(
         | RegroupFault::Read
         | RegroupFault::Write
         | RegroupFault::Report
+        | RegroupFault::Reject
         | RegroupFault::Flush => ArrayString::new(),
     }
 }

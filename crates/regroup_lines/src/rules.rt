@@ -21,7 +21,8 @@ pub enum Reading {
     Lenient,
 }
 
-/// What is done with a line at fault. It is passed on as it is, but for [`Invalid::Abort`].
+/// What is done with a line at fault. It is sent as it is, but for [`Invalid::Abort`]: to the output, or to the writer of
+/// rejected lines.
 #[derive(Clone, Copy, Debug, PartialEq, Eq)]
 pub enum Invalid {
     /// Its fault is returned, and no line after it is read.
@@ -83,6 +84,8 @@ pub struct Rules<'a> {
     pub passes_empty: bool,
     /// What is done with a line at fault.
     pub invalid: Invalid,
+    /// Whether invalid lines are sent to the writer for them, and not to the output.
+    pub rejects: bool,
     /// The byte that ends a line, as a newline or NUL.
     pub line_end: u8,
     /// The most bytes of a line, or of a record, without the byte that ends it.

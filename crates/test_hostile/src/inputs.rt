@@ -174,6 +174,7 @@ fn two_lines_at_most(rt: HostRuntime) -> Result<(), Fail> {
         header_lines: 0,
         passes_empty: false,
         invalid: Invalid::Abort,
+        rejects: false,
         line_end: b'\n',
         max_line_len: 4,
         flushes: false,
@@ -195,6 +196,7 @@ fn two_lines_at_most(rt: HostRuntime) -> Result<(), Fail> {
             &mut reader,
             &mut out,
             &mut io::sink(),
+            &mut io::sink(),
             &Locale::en,
             &Locale::en_IN,
         );
@@ -212,6 +214,7 @@ fn one_line_at_most_is_flushed(rt: HostRuntime) -> Result<(), Fail> {
         header_lines: 0,
         passes_empty: false,
         invalid: Invalid::Abort,
+        rejects: false,
         line_end: b'\n',
         max_line_len: 4,
         flushes: true,
@@ -231,6 +234,7 @@ fn one_line_at_most_is_flushed(rt: HostRuntime) -> Result<(), Fail> {
             &mut buffer,
             &mut reader,
             &mut out,
+            &mut io::sink(),
             &mut io::sink(),
             &Locale::en,
             &Locale::en_IN,
@@ -273,6 +277,7 @@ fn messages(rt: HostRuntime) -> Result<(), Fail> {
         ),
         (RegroupFault::Write, "Failed to write."),
         (RegroupFault::Report, "Failed to write a message."),
+        (RegroupFault::Reject, "Failed to write a rejected line."),
         (RegroupFault::Flush, "Failed to flush."),
     ] {
         assert_message(&rt, rt.alloc(), &fault, message)?;

@@ -16,6 +16,7 @@
 //! | `text` | numbers into writers of text that fail |
 //! | `inputs` | lines that are regrouped, and those at fault |
 //! | `lines` | lines from readers that give them in pieces, are interrupted or fail |
+//! | `rejects` | lines at fault that go to a writer of their own, where it or another one fails |
 //! | `outputs` | lines from readers to writers that both do what a list says |
 //! | `stream` | the program `regroup-lines` where its input, an output or a flush fails |
 //! | `program` | commands of `regroup` whose outputs fail at each of their writes |
@@ -35,6 +36,8 @@ mod outputs;
 mod program;
 #[cfg(test)]
 mod records;
+#[cfg(test)]
+mod rejects;
 mod scripted;
 mod scripted_reader;
 #[cfg(test)]

@@ -20,6 +20,7 @@ const STRICT: Rules = Rules {
     header_lines: 0,
     passes_empty: false,
     invalid: Invalid::Abort,
+    rejects: false,
     line_end: b'\n',
     max_line_len: 99,
     flushes: true,

@@ -1,5 +1,6 @@
 use Rattle.std.proofs.Common.{◌≡◌, ◌+◌}
 use Rattle.regroup_lines.specs.Input.{array_len, held}
+use Rattle.regroup_lines.specs.Sending.{by_writer}
 use Rattle.regroup_lines.proofs.ProgressLemmas.{Progress}
 use Rattle.regroup_lines.proofs.regroup_at_most.Given as goal
 
@@ -7,6 +8,6 @@ use Rattle.regroup_lines.proofs.regroup_at_most.Given as goal
 abbrev pub invariant-loop-count : goal.invariant-loop-count
 invariant-loop-count g l =
     Progress l.rules l.name l.most (g.F.Format.answers l.from) (g.G.Format.answers l.to) l.count l.number l.has_faults (held l.input)
-    (g.R.Read.remaining l.fn.r) (g.R.Read.remaining l.r) (g.W.Write.contents l.fn.w) (g.W.Write.contents l.w)
-    (g.E.Write.contents l.fn.e) (g.E.Write.contents l.e)
+    (g.R.Read.remaining l.fn.r) (g.R.Read.remaining l.r)
+    (by_writer (g.W.Write.contents l.fn.w) (g.E.Write.contents l.fn.e) (g.X.Write.contents l.fn.x)) (by_writer (g.W.Write.contents l.w) (g.E.Write.contents l.e) (g.X.Write.contents l.x))
     × (array_len l.input ≡ l.rules.max_line_len + 1)

@@ -2,7 +2,7 @@ use Rattle.std.proofs.Common.{◌≡◌}
 use Rattle.regroup_lines.specs.Input.{array_len, held}
 use Rattle.regroup_lines.specs.Lines.{quotes_in}
 use Rattle.regroup_lines.proofs.LongLemmas.{SentLong}
-use Rattle.regroup_lines.proofs.pass_long.Given as goal
+use Rattle.regroup_lines.proofs.send_long.Given as goal
 
 -- so many pieces were sent after the first
 abbrev pub invariant-loop : goal.invariant-loop

@@ -1,0 +1,174 @@
+//! Lines at fault that are rejected: to a writer of their own, where each of the three writers may fail.
+
+use crate::Step::{Fail as Fails, Take, Zero};
+use crate::{Scripted, Step};
+use num_format::Locale;
+use regroup_lines::{Invalid, Reading, RegroupFault, Rules, Span, Summary, regroup_at_most};
+use std::alloc::Global;
+use std::process::Abort;
+use std::test::Fail;
+
+/// The second line is not a number, and the fourth has a byte too many.
+const INPUT: &[u8] = b"1,000\n12x\n5\n123456789\n7";
+
+/// The messages of the second and of the fourth line.
+const MESSAGES: &[u8] = b"regroup-lines: -:2: '12x': not a number at byte 3\n\
+regroup-lines: -:4: more than 8 bytes\n";
+
+/// The message of the second line.
+const FIRST_MESSAGE: &[u8] = b"regroup-lines: -:2: '12x': not a number at byte 3\n";
+
+const RULES: Rules = Rules {
+    span: Span::Line,
+    reading: Reading::Strict,
+    header_lines: 0,
+    passes_empty: false,
+    invalid: Invalid::Fail,
+    rejects: true,
+    line_end: b'\n',
+    max_line_len: 8,
+    flushes: false,
+};
+
+/// What is returned, and what the output, the messages and the rejected lines are.
+type Ended<'a> = (Result<Summary, RegroupFault>, &'a [u8], &'a [u8], &'a [u8]);
+
+/// Asserts how the lines end where the writers do these steps.
+fn assert_ended(
+    rt: &impl Abort,
+    alloc: Global,
+    rules: &Rules,
+    steps: [&[Step]; 3],
+    ended: &Ended<'_>,
+) -> Result<(), Fail> {
+    let mut out = Scripted::new(alloc, 64, steps[0])?;
+    let mut err = Scripted::new(alloc, 128, steps[1])?;
+    let mut rejects = Scripted::new(alloc, 64, steps[2])?;
+    let mut buffer = [0; 9];
+    let mut reader = INPUT;
+    let result = regroup_at_most(
+        9,
+        rules,
+        "-",
+        &mut buffer,
+        &mut reader,
+        &mut out,
+        &mut err,
+        &mut rejects,
+        &Locale::en,
+        &Locale::de,
+    );
+    assert_eq!(rt; result, ended.0);
+    assert_eq!(rt; out.received.as_slice(), ended.1);
+    assert_eq!(rt; err.received.as_slice(), ended.2);
+    assert_eq!(rt; rejects.received.as_slice(), ended.3);
+    Ok(())
+}
+
+/// What is returned where all lines were sent, and some are at fault.
+fn all_lines(has_faults: bool) -> Result<Summary, RegroupFault> {
+    let lines = 5;
+    Ok(Summary { lines, has_faults })
+}
+
+#[test]
+fn lines_are_rejected(rt: HostRuntime) -> Result<(), Fail> {
+    let (out, rejected) = (b"1.000\n5\n7\n".as_slice(), b"12x\n123456789\n".as_slice());
+    let ended: Ended<'_> = (all_lines(true), out, MESSAGES, rejected);
+    assert_ended(&rt, rt.alloc(), &RULES, [&[], &[], &[]], &ended)?;
+    let warned = Rules {
+        invalid: Invalid::Warn,
+        ..RULES
+    };
+    assert_ended(&rt, rt.alloc(), &warned, [&[], &[], &[]], &ended)?;
+    let unnamed = Rules {
+        invalid: Invalid::Ignore,
+        ..RULES
+    };
+    let ended: Ended<'_> = (all_lines(false), out, b"", rejected);
+    assert_ended(&rt, rt.alloc(), &unnamed, [&[], &[], &[]], &ended)
+}
+
+#[test]
+fn no_line_is_rejected(rt: HostRuntime) -> Result<(), Fail> {
+    let passed = Rules {
+        rejects: false,
+        ..RULES
+    };
+    let out = b"1.000\n12x\n5\n123456789\n7\n".as_slice();
+    let ended: Ended<'_> = (all_lines(true), out, MESSAGES, b"");
+    assert_ended(&rt, rt.alloc(), &passed, [&[], &[], &[Fails]], &ended)
+}
+
+#[test]
+fn a_writer_fails(rt: HostRuntime) -> Result<(), Fail> {
+    let rejected = || Err(RegroupFault::Reject);
+    let (first, two) = (b"1.000\n".as_slice(), b"1.000\n5\n".as_slice());
+    let cases: [([&[Step]; 3], Ended<'_>); 8] = [
+        (
+            [&[], &[], &[Fails]],
+            (rejected(), first, FIRST_MESSAGE, b""),
+        ),
+        (
+            [&[], &[], &[Take(2), Zero]],
+            (rejected(), first, FIRST_MESSAGE, b"12"),
+        ),
+        (
+            [&[], &[], &[Take(3), Fails]],
+            (rejected(), first, FIRST_MESSAGE, b"12x"),
+        ),
+        (
+            [&[], &[], &[Take(3), Take(1), Zero]],
+            (rejected(), two, MESSAGES, b"12x\n"),
+        ),
+        (
+            [&[], &[], &[Take(3), Take(1), Take(9), Fails]],
+            (rejected(), two, MESSAGES, b"12x\n123456789"),
+        ),
+        (
+            [&[], &[Fails], &[]],
+            (Err(RegroupFault::Report), first, b"", b""),
+        ),
+        (
+            [&[], &[Take(9), Zero], &[]],
+            (Err(RegroupFault::Report), first, b"regroup-l", b""),
+        ),
+        (
+            [&[Fails], &[], &[]],
+            (Err(RegroupFault::Write), b"", b"", b""),
+        ),
+    ];
+    for (steps, ended) in &cases {
+        assert_ended(&rt, rt.alloc(), &RULES, *steps, ended)?;
+    }
+    Ok(())
+}
+
+/// The first line at fault ends the run, and is sent nowhere.
+#[test]
+fn a_line_at_fault_ends_the_run(rt: HostRuntime) -> Result<(), Fail> {
+    let rules = Rules {
+        invalid: Invalid::Abort,
+        max_line_len: 2,
+        ..RULES
+    };
+    let mut buffer = [0; 3];
+    let (mut reader, mut out) = (INPUT, Scripted::new(rt.alloc(), 64, &[])?);
+    let mut err = Scripted::new(rt.alloc(), 64, &[])?;
+    let mut rejects = Scripted::new(rt.alloc(), 64, &[])?;
+    let result = regroup_at_most(
+        9,
+        &rules,
+        "-",
+        &mut buffer,
+        &mut reader,
+        &mut out,
+        &mut err,
+        &mut rejects,
+        &Locale::en,
+        &Locale::de,
+    );
+    assert_eq!(rt; result, Err(RegroupFault::TooLong(1, 2)));
+    assert_eq!(rt; [out.calls, err.calls, rejects.calls], [0, 0, 0]);
+    Ok(())
+}
