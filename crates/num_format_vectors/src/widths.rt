@@ -149,6 +149,23 @@ fn decimals_to_debug(rt: HostRuntime) -> Result<(), Fail> {
     Ok(())
 }
 
+/// A side counts for decimals and amounts of money. Other options are ignored, and nothing is cut.
+#[test]
+fn other_options(rt: HostRuntime) -> Result<(), Fail> {
+    let price = Money {
+        minor_units: -123_450,
+        currency: Currency::Eur,
+    };
+    let amount = price.amount();
+    let (n, m) = (amount.formatted(&Locale::de), price.formatted(&Locale::de));
+    let decimal = format!(in rt.alloc(); "[{n:^12}] [{n:.1}] [{n:+#012.1}]")?;
+    let money = format!(in rt.alloc(); "[{m:^12}] [{m:.1}] [{m:+#012.1}]")?;
+    let expected = "[ -1.234,50  ] [-1.234,50] [   -1.234,50]";
+    assert_equal(&rt, decimal.as_str(), expected);
+    assert_equal(&rt, money.as_str(), expected);
+    Ok(())
+}
+
 #[test]
 fn money(rt: HostRuntime) -> Result<(), Fail> {
     let price = Money {
