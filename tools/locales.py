@@ -124,8 +124,8 @@ def piece_source(number, piece):
 
 def dispatch_source(modules):
     declarations = "".join(f"mod {module};\n" for module in modules)
-    arms = "".join(f"        {number} => {module}::rows(),\n" for number, module in enumerate(modules[:-1]))
-    return text("dispatch", piece=PIECE, declarations=declarations, count=len(modules), arms=arms, final=modules[-1])
+    arms = "".join(f"        {number} => {module}::rows(),\n" for number, module in enumerate(modules))
+    return text("dispatch", piece=PIECE, declarations=declarations, count=len(modules), arms=arms)
 
 
 def constant_name(name):

@@ -32,6 +32,7 @@ pub fn rows_of_piece(number: usize) -> &'static [Row]
         5 => from_is::rows(),
         6 => from_mua::rows(),
         7 => from_sah::rows(),
-        _ => from_uz_arab::rows(),
+        8 => from_uz_arab::rows(),
+        _ => unreachable!(),
     }
 }
