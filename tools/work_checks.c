@@ -53,6 +53,17 @@ static uint64_t low, high;
 static uint32_t scale;
 static size_t at;
 
+/* A column. */
+enum { ROWS = 4 };
+static const int64_t values[ROWS] = {0, -234, 1234567, INT64_MIN};
+static int64_t parsed[ROWS];
+static int32_t offsets[ROWS + 1], statuses[ROWS];
+static char texts[64];
+static size_t texts_length;
+
+#define NO_NULLS NULL, 0, 0
+#define TEXTS offsets, sizeof offsets, NUM_FORMAT_I32, texts, sizeof texts
+
 static int print_short(void) { return num_format_print_i64(&en, -234, text, sizeof text); }
 static int print_long(void) { return num_format_print_i64(&en, INT64_MIN, text, sizeof text); }
 static int print_built(void) { return num_format_print_i64(&built, INT64_MIN, text, sizeof text); }
@@ -66,6 +77,15 @@ static int strict_short(void) { return num_format_parse_strict_i64(&en, 64, TEXT
 static int strict_long(void) { return num_format_parse_strict_i64(&en, 64, LONG, &number, &at); }
 static int strict_refused(void) { return num_format_parse_strict_i64(&en, 64, TEXT("1,23"), &number, &at); }
 static int parse_decimal(void) { return num_format_parse_decimal(&en, TEXT("1,234.50"), &low, &high, &scale, &at); }
+static int print_column(void) {
+    return num_format_print_column(&en, NUM_FORMAT_I64, values, sizeof values, NO_NULLS, TEXTS, &texts_length);
+}
+static int measure_column(void) {
+    return num_format_print_column_len(&en, NUM_FORMAT_I64, values, sizeof values, NO_NULLS, &texts_length);
+}
+static int parse_column(void) {
+    return num_format_parse_column(&en, NUM_FORMAT_I64, 0, TEXTS, parsed, sizeof parsed, NO_NULLS, statuses, ROWS);
+}
 static int locale(void) { return num_format_locale(&filled, TEXT("de-AT")); }
 static int custom(void) { return num_format_custom(&filled, TEXT("'"), NUM_FORMAT_INDIAN, TEXT("-")); }
 
@@ -88,6 +108,9 @@ static const struct {
     {"parse strictly i64 INT64_MIN", strict_long, 0},
     {"parse strictly i64 1,23, refused", strict_refused, NUM_FORMAT_MISSPELLED},
     {"parse decimal 1,234.50", parse_decimal, 0},
+    {"print a column, i64, 4 rows", print_column, 0},
+    {"measure a column, i64, 4 rows", measure_column, 0},
+    {"parse a column strictly, i64, 4 rows", parse_column, 0},
     {"fill with the locale de-AT", locale, 0},
     {"fill with a custom format", custom, 0},
 };
@@ -102,7 +125,7 @@ static int make(int (*call)(void), long times, int returned) {
 
 int main(int count, char **words) {
     if (num_format_locale(&en, TEXT("en")) != 0 ||
-        num_format_custom(&built, TEXT("’’·"), NUM_FORMAT_INDIAN, TEXT("−")) != 0)
+        num_format_custom(&built, TEXT("’’·"), NUM_FORMAT_INDIAN, TEXT("−")) != 0 || print_column() != 0)
         return 1;
     for (size_t i = 0; i < sizeof calls / sizeof *calls; i++) {
         if (count == 1)

@@ -1,4 +1,4 @@
-use Rattle.std.proofs.Common.{◌≡◌, ◌∙◌, ◌+◌, ◌-◌, ◌++◌, arith, length, sym, ap, append_assoc, length-append, drop}
+use Rattle.std.proofs.Common.{◌≡◌, ◌∙◌, ◌+◌, ◌-◌, ◌++◌, arith, length, ap, append_assoc, length-append, drop}
 use Rattle.std.proofs.lemmas.List.{length-drop}
 use Rattle.num_format_c.specs.Layout.{offset_at, texts_of}
 use Rattle.num_format_c.proofs.LayoutLemmas.{length_texts_le, texts_more, ends_more}
