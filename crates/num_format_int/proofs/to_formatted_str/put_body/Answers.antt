@@ -7,7 +7,6 @@ use Rattle.num_format_int.proofs.DigitLemmas.{digits_given, length-digits-le, le
 use Rattle.num_format_int.proofs.GroupedLemmas.{grouped-short, length-grouped-le183}
 use Rattle.num_format_int.proofs.to_formatted_str.put_body.Goals as goal
 
-
 pub returns-then-n-lt-FOUR_DIGITS-clause-text : goal.returns-then-n-lt-FOUR_DIGITS-clause-text
 returns-then-n-lt-FOUR_DIGITS-clause-text g c =
     let f = g.F.Format.answers c.args.format.now in
