@@ -15,11 +15,11 @@ ghost use Rattle.num_format_text.specs.Refusal.{ParseLocale, refusal_of};
 use crate::cldr::{self, LEN, Row};
 use crate::lookup::{language, longest_match};
 use crate::search::{find, find_hyphened, search};
-use arrayvec::{ArrayString, ArrayVec};
+use arrayvec::ArrayVec;
 use num_format_text::capacities::{
     MAX_DEC_LEN, MAX_INF_LEN, MAX_MIN_LEN, MAX_NAN_LEN, MAX_PLUS_LEN, MAX_SEP_LEN,
 };
-use num_format_text::error::keep;
+use num_format_text::error::cut;
 use num_format_text::strings::{
     DecimalStr, InfinityStr, MinusSignStr, NanStr, PlusSignStr, SeparatorStr,
 };
@@ -62,7 +62,7 @@ impl Locale {
     /// Returns the locale of a name, written with hyphens or with an underscore for every hyphen.
     ///
     /// Any other text is refused with [`ErrorKind::ParseLocale`], which keeps the text, truncated
-    /// as [`cut`](num_format_text::error::cut) says. Letters have to be of the right case.
+    /// as [`cut`] says. Letters have to be of the right case.
     ///
     /// ```rust
     /// Locale::from_name("ca-ES-VALENCIA")    // Ok(Locale::ca_ES_VALENCIA)
@@ -331,16 +331,12 @@ fn variant_names() -> &'static [&'static str]
 
 /// Returns the error for a text that is no name.
 ///
-/// The text is written where the error is: a string that is moved into it would be copied.
-#[inline(always)]
+/// It is `#[inline]` and not `#[inline(always)]`: the compiler then drops a copy of the error.
+#[inline]
 fn unknown_name(text: &str) -> Error
     ensures { refusal_of result ≡ ParseLocale (cut_text text.now) }
 {
-    let mut kind = ErrorKind::ParseLocale(ArrayString::new());
-    if let ErrorKind::ParseLocale(kept) = &mut kind {
-        keep(text, kept);
-    }
-    Error::from(kind)
+    Error::from(ErrorKind::ParseLocale(cut(text)))
 }
 
 impl FromStr for Locale {

@@ -3,10 +3,9 @@ use Rattle.std.proofs.lemmas.List.{length-map}
 use Rattle.num_format_int.specs.Digits.{digits}
 use Rattle.num_format_int.specs.Groups.{plain}
 use Rattle.num_format_int.specs.Text.{body_of}
-use Rattle.num_format_int.proofs.DigitLemmas.{digits_given, length-digits-le, length-digits-le39}
+use Rattle.num_format_int.proofs.DigitLemmas.{length-digits-le, length-digits-le39}
 use Rattle.num_format_int.proofs.GroupedLemmas.{grouped-short, length-grouped-le183}
 use Rattle.num_format_int.proofs.to_formatted_str.put_body.Goals as goal
-
 
 pub returns-then-n-lt-FOUR_DIGITS-clause-text : goal.returns-then-n-lt-FOUR_DIGITS-clause-text
 returns-then-n-lt-FOUR_DIGITS-clause-text g c =

@@ -6,7 +6,7 @@ use Rattle.num_format_text.specs.Separators.{GroupsBy, separates}
 use Rattle.num_format_int.specs.Digits.{digits}
 use Rattle.num_format_int.specs.Grouped.{grouped}
 use Rattle.num_format_int.specs.Groups.{plain, IsGroupedBefore}
-use Rattle.num_format_int.proofs.DigitLemmas.{digits_given, length-digits-gt, length-digits-le}
+use Rattle.num_format_int.proofs.DigitLemmas.{length-digits-gt, length-digits-le}
 use Rattle.num_format_int.proofs.GroupedLemmas.{grouped-by, grouped-empty, grouped-few, grouped-none}
 use Rattle.num_format_int.proofs.GroupLemmas.{groups-by, last_group-by}
 use Rattle.num_format_int.proofs.to_formatted_str.put_long_body.Goals as goal

@@ -1,4 +1,4 @@
-use Rattle.std.proofs.Common.{◌≡◌, ℕ, ◌+◌, ◌-◌, ◌≤◌, List, ◌++◌, ◌∙◌, length, drop, ap, arith, rules, length-drop, refl}
+use Rattle.std.proofs.Common.{◌≡◌, ◌+◌, ◌-◌, ◌≤◌, ◌++◌, ◌∙◌, length, drop, ap, arith, rules, length-drop, refl}
 use Rattle.std.specs.Prelude.{replicate}
 use Rattle.std.proofs.lemmas.Slice.{overwrites}
 use Rattle.std.proofs.lemmas.Str.{IsUtf8-append, IsUtf8-drop, IsUtf8-had}
@@ -23,7 +23,7 @@ invariant_of-self c =
       search (rules, overwrites, long),
       zeros_skipped xs text start skipped within fits c.requires.few c.self.invariant.2 inside,
       ∣ rw (text_skipped xs text (replicate 2 0) start skipped within fits c.requires.boundary.0 refl inside)
-      (IsUtf8-append _ _ (IsUtf8-drop text skipped c.utf8.text c.requires.boundary.1) (IsUtf8-had _ c.self.invariant.3)) ∣₁,
+          (IsUtf8-append _ _ (IsUtf8-drop text skipped c.utf8.text c.requires.boundary.1) (IsUtf8-had _ c.self.invariant.3)) ∣₁,
     )
 
 pub returns : goal.returns
