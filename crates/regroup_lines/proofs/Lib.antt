@@ -10,7 +10,7 @@ mod LineLemmas
 mod ListLemmas
 mod LongLemmas
 mod MarkLemmas
-mod MessageLemmas
+mod NumberedLemmas
 mod OneFieldLemmas
 mod PlaceLemmas
 mod ProgressLemmas

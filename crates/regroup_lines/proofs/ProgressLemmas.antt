@@ -10,7 +10,7 @@ use Rattle.num_format.specs.Writing.{StopsWithin}
 use Rattle.regroup_lines.specs.Ended.{ended_by}
 use Rattle.regroup_lines.specs.Fault.{Fault, are_any, is_unsent}
 use Rattle.regroup_lines.specs.Fault.Fault.{Flush, Read, Reject, Report, TooLong, TooMany, Unclosed, Write}
-use Rattle.regroup_lines.specs.Halt.{IsHalt}
+use Rattle.regroup_lines.specs.LineFaults.{IsHalt}
 use Rattle.regroup_lines.specs.Input.{EndsOrGoesOn, FindsPiece, HasNoEnd, IsLong, IsLongRecord, IsRecord, PassesLong, Reads, StopsInLong, array_len, bytes_at, held, rejects_or}
 use Rattle.regroup_lines.specs.Lines.{Regrouped, Sent, Stop, fault_named, line_after, line_begun, long_fault, long_returned, only_written, passed, passes, quotes_in, record_sent, regrouped, regrouped_after, regrouped_rest, returning, sending, sending_line, text_sent}
 use Rattle.regroup_lines.specs.Lines.Stop.{Ended, Endless, Failed, Unflushed, Unread}

@@ -1,89 +1,41 @@
 -- An input that is split after a byte that ends a line: the output of each part.
-use Rattle.std.proofs.Common.{◌≡◌, ℕ, ◌+◌, ◌<◌, ◌≤◌, Bool, true, false, List, [], ◌∷◌, ◌++◌, length, Option, Some, None, Result, Ok, Err, if◌then◌else◌, refl, sym, ap, subst, ◌∙◌, arith, append_assoc, eq-eqb}
-use Rattle.std.specs.Prelude.{◌==◌, ◌&&◌, ◌||◌, nat_eq, ⊤, ℤ, nat_le, nat_lt, take, drop, slice_range}
-use Rattle.std.specs.List.{join_with_byte, list_any}
-use Rattle.std.specs.Option.{ok_or, option_map}
-use Rattle.std.specs.Result.{result_map_both, result_ok}
-use Rattle.std.specs.Str.{is_utf8}
+use Rattle.std.proofs.Common.{◌≡◌, ℕ, ◌+◌, ◌<◌, ◌≤◌, Bool, true, false, List, [], ◌∷◌, ◌++◌, length, Some, Result, Ok, Err, if◌then◌else◌, refl, sym, ap, subst, ◌∙◌, arith, append_assoc, eq-eqb}
+use Rattle.std.specs.Prelude.{◌==◌, ◌&&◌, ◌||◌, nat_eq, ⊤, nat_le, nat_lt, take}
+use Rattle.std.specs.List.{join_with_byte}
 use Rattle.std.proofs.lemmas.Bool.{both_ways, eqb-true, false_from_ne_true, le-ltb, lt-leb, ltb-false}
 use Rattle.std.proofs.lemmas.List.{length-take, take-append-le}
 use lib.Pointwise.{pointwise, pointwise_long}
-use Rattle.num_format.specs.Cut.{cut_text}
 use Rattle.num_format.specs.Format.{FormatData}
-use Rattle.num_format.specs.Refusal.{ParseNumber, Refusal}
-use Rattle.num_format.specs.Text.{text_of}
-use Rattle.num_format_decimal.specs.Text.{decimal_text}
-use Rattle.num_format.specs.Readable.{number_read}
 use Rattle.regroup_lines.specs.Ended.{ended_by, without_end}
-use Rattle.regroup_lines.specs.Csv.{field_with, is_barred, number_place}
-use Rattle.regroup_lines.specs.Decimals.{decimal_read}
-use Rattle.regroup_lines.specs.Fault.{Fault, are_any, in_field}
-use Rattle.regroup_lines.specs.Fault.Fault.{TooMany, FewFields, NotText, Line, Unclosed}
-use Rattle.regroup_lines.specs.LineFaults.{text_fault}
+use Rattle.regroup_lines.specs.Fault.{Fault, are_any}
+use Rattle.regroup_lines.specs.Fault.Fault.{TooMany, Unclosed}
 use Rattle.regroup_lines.specs.Laws.{SplitLaw, SplitsInto}
-use Rattle.regroup_lines.specs.Lines.{MARK, Regrouped, Sent, after_mark, begins_with_mark, between, body_sent, body_written, fault_named, fault_sent, field_read, field_written, fields_of, fields_written, line_after, line_sent, long_fault, number_in_field, number_written, numbers_replaced, passed, passes, passes_mark, place_written, quotes_in, regrouped, regrouped_parts, returning, sending_line, text_sent, with_first}
+use Rattle.regroup_lines.specs.Lines.{MARK, Regrouped, Sent, begins_with_mark, body_sent, body_written, fault_named, fault_sent, joined, line_after, line_sent, long_fault, only_written, passed, passes, passes_mark, quotes_in, regrouped, regrouped_parts, returning, sending_line, text_sent}
 use Rattle.regroup_lines.specs.Lines.Stop.{Ended}
-use Rattle.regroup_lines.specs.Places.{are_enough, field_count, is_chosen, trimmed}
 use Rattle.regroup_lines.specs.Records.{is_open, split_at}
 use Rattle.regroup_lines.specs.declared.records.Within.TheVariants.{Start}
-use Rattle.regroup_lines.specs.declared.fault.FieldCount.{FieldCount}
-use Rattle.regroup_lines.specs.declared.rules.Fields.{Fields}
 use Rattle.regroup_lines.specs.declared.rules.Invalid.{Invalid}
 use Rattle.regroup_lines.specs.declared.rules.Invalid.TheVariants.{Abort, Fail, Warn, Ignore}
-use Rattle.regroup_lines.specs.declared.rules.Reading.{Reading}
-use Rattle.regroup_lines.specs.declared.rules.Reading.TheVariants.{Lenient, Strict}
 use Rattle.regroup_lines.specs.declared.rules.Rules.{Rules}
 use Rattle.regroup_lines.specs.declared.rules.Span.{Span}
 use Rattle.regroup_lines.specs.declared.rules.Span.TheVariants as span
 use Rattle.regroup_lines.proofs.RecordLemmas.{split-append, split-joined, split-some}
 use Rattle.regroup_lines.proofs.FieldLemmas.{and_false, joined-first}
-use Rattle.regroup_lines.proofs.WriterLemmas.{are_any-append}
-
--- the text before others, if there is each
-joined : Option (List ℕ) → Option (List (List ℕ)) → Option (List (List ℕ))
-joined (Some text) (Some texts) = Some (text ∷ texts)
-joined (Some text) None = None
-joined None texts = None
-
-with_first-joined : (x : Result (List ℕ) Fault) (xs : Result (List (List ℕ)) Fault) → result_ok (with_first x xs) ≡ joined (result_ok x) (result_ok xs)
-unfolding joined
-with_first-joined (Ok text) (Ok texts) = refl
-with_first-joined (Ok text) (Err fault) = refl
-with_first-joined (Err fault) xs = refl
-
-between-map : (before after : List ℕ) (x : Result (List ℕ) Fault) → result_ok (between before after x) ≡ option_map (λ text. before ++ (text ++ after)) (result_ok x)
-between-map before after (Ok text) = refl
-between-map before after (Err fault) = refl
-
-join-map : (d : ℕ) (x : Result (List (List ℕ)) Fault) → result_ok (result_map_both (join_with_byte d) (λ fault. fault) x) ≡ option_map (join_with_byte d) (result_ok x)
-join-map d (Ok texts) = refl
-join-map d (Err fault) = refl
-
-mapped-ok : {T : Type 0} (f : T → List ℕ) (name : Fault → Fault) (x : Result T Fault) → result_ok (result_map_both f name x) ≡ option_map f (result_ok x)
-mapped-ok f name (Ok value) = refl
-mapped-ok f name (Err fault) = refl
-
-some-ok : (x : Result (List ℕ) Fault) → result_ok (result_map_both Some (λ fault. fault) x) ≡ option_map Some (result_ok x)
-some-ok (Ok text) = refl
-some-ok (Err fault) = refl
-
-refused-same : {T : Type 0} (is : Bool) (f g : Fault) (x y : Result T Fault) → result_ok x ≡ result_ok y → result_ok (if is then Err f else x) ≡ result_ok (if is then Err g else y)
-refused-same true f g x y same = refl
-refused-same false f g x y same = same
-
-none-same : {T : Type 0} (is : Bool) (x y : Result (Option T) Fault) → result_ok x ≡ result_ok y → result_ok (if is then Ok None else x) ≡ result_ok (if is then Ok None else y)
-none-same true x y same = refl
-none-same false x y same = same
-
--- what is left of a line after its fields, by whether they are enough
-abbrev ended : Bool → ℕ → FieldCount → Result (List (List ℕ)) Fault
-ended is number count = if is then Ok [] else Err (FewFields number count)
+use Rattle.regroup_lines.proofs.WriterLemmas.{are_any-append, joined-assoc}
+use Rattle.regroup_lines.proofs.NumberedLemmas.{body-numbered, numbered, with_number}
 
 -- of one line the same is sent as of the other, with faults named of both or of none, unless its fault is returned
 record SameSent (s t : Sent) : Type 0 where
   written : s.written ≡ t.written
   rejected : s.rejected ≡ t.rejected
   named : are_any s.named ≡ are_any t.named
+
+same-joined : (s t a b : Sent) → SameSent s t → SameSent a b → SameSent (joined s a) (joined t b)
+same-joined s t a b first rest = record {
+  written = ap (λ l. l ++ a.written) first.written ∙ ap (λ l. t.written ++ l) rest.written;
+  rejected = ap (λ l. l ++ a.rejected) first.rejected ∙ ap (λ l. t.rejected ++ l) rest.rejected;
+  named = are_any-append s.named a.named ∙ ap (λ c. c || are_any a.named) first.named ∙ ap (λ c. are_any t.named || c) rest.named ∙ sym (are_any-append t.named b.named);
+}
 
 abbrev SameLine : Result Sent Fault → Result Sent Fault → Type 0
 SameLine (Ok s) (Ok t) = SameSent s t
@@ -92,94 +44,6 @@ SameLine (Err f) y = ⊤
 
 -- what is written in place of a line does not depend on its number
 module _ (rules : Rules) (from to : FormatData) (n m : ℕ) where
-  lenient-same : (is : Bool) (r : Result ℤ Refusal) →
-      result_ok (result_map_both (text_of to) (λ fault. fault) (if is then result_map_both (λ value. value) (Line n) r else Err (NotText n)))
-      ≡ result_ok (result_map_both (text_of to) (λ fault. fault) (if is then result_map_both (λ value. value) (Line m) r else Err (NotText m)))
-  lenient-same true (Ok value) = refl
-  lenient-same true (Err refusal) = refl
-  lenient-same false r = refl
-
-  strict-same : (is : Bool) (o : Option (List ℕ)) (refusal : Refusal) →
-      result_ok (if is then ok_or o (Line n refusal) else Err (NotText n)) ≡ result_ok (if is then ok_or o (Line m refusal) else Err (NotText m))
-  strict-same true (Some text) refusal = refl
-  strict-same true None refusal = refl
-  strict-same false o refusal = refl
-
-  number-same : (reading : Reading) (text : List ℕ) → result_ok (number_written reading from to n text) ≡ result_ok (number_written reading from to m text)
-  number-same Lenient text = lenient-same (is_utf8 text) (number_read from text)
-  number-same Strict text = strict-same (is_utf8 text) (option_map (decimal_text to) (decimal_read from text)) (ParseNumber (cut_text text))
-
-  either-same : (is : Bool) (text : List ℕ) (x y : Result (List ℕ) Fault) → result_ok x ≡ result_ok y →
-      result_ok (if is then Ok text else x) ≡ result_ok (if is then Ok text else y)
-  either-same true text x y same = refl
-  either-same false text x y same = same
-
-  place-same : (text : List ℕ) (place : ℕ × ℕ) → result_ok (place_written rules from to n text place) ≡ result_ok (place_written rules from to m text place)
-  place-same text place =
-      let at = slice_range text place.0 place.1 in
-      either-same _ text _ _ (between-map (take place.0 text) (drop place.1 text) (number_written rules.reading from to n at)
-      ∙ ap (option_map (λ number. take place.0 text ++ (number ++ drop place.1 text))) (number-same rules.reading at)
-      ∙ sym (between-map (take place.0 text) (drop place.1 text) (number_written rules.reading from to m at)))
-
-  enough-same : (is : Bool) (count : FieldCount) → result_ok (ended is n count) ≡ result_ok (ended is m count)
-  enough-same true count = refl
-  enough-same false count = refl
-
-  in_field-same : (quotes : Bool) (text : List ℕ) → result_ok (number_in_field rules quotes from to n text) ≡ result_ok (number_in_field rules quotes from to m text)
-  in_field-same quotes text =
-      refused-same (quotes && list_any (is_barred rules.line_end) text) (text_fault n text) (text_fault m text) _ _
-      (some-ok (number_written rules.reading from to n text) ∙ ap (option_map Some) (number-same rules.reading text) ∙ sym (some-ok (number_written rules.reading from to m text)))
-
-  read-same : (quotes : Bool) (field : List ℕ) → result_ok (field_read rules quotes from to n field) ≡ result_ok (field_read rules quotes from to m field)
-  read-same quotes field =
-      let place = number_place quotes field in
-      let text = slice_range field place.0 place.1 in
-      none-same (rules.passes_empty && (place.0 == place.1)) (number_in_field rules quotes from to n text) (number_in_field rules quotes from to m text) (in_field-same quotes text)
-
-  field-same : (cs : Fields) (k : ℕ) (chosen : Bool) (field : List ℕ) → result_ok (field_written rules cs from to n k chosen field) ≡ result_ok (field_written rules cs from to m k chosen field)
-  field-same cs k true field =
-      mapped-ok (field_with cs rules.line_end field) (in_field k) (field_read rules cs.quotes from to n field)
-      ∙ ap (option_map (field_with cs rules.line_end field)) (read-same cs.quotes field)
-      ∙ sym (mapped-ok (field_with cs rules.line_end field) (in_field k) (field_read rules cs.quotes from to m field))
-  field-same cs k false field = refl
-
-  fields-same : (cs : Fields) (before : ℕ) (fields : List (List ℕ)) →
-      result_ok (fields_written rules cs from to n before fields) ≡ result_ok (fields_written rules cs from to m before fields)
-  fields-same cs before [] = enough-same (are_enough cs.list.now before) (field_count cs.delimiter cs.list.now before)
-  fields-same cs before (field ∷ fields) =
-      let chosen = is_chosen cs.list.now (before + 1) in
-      with_first-joined (field_written rules cs from to n (before + 1) chosen field) (fields_written rules cs from to n (before + 1) fields)
-      ∙ ap (λ text. joined text (result_ok (fields_written rules cs from to n (before + 1) fields))) (field-same cs (before + 1) chosen field)
-      ∙ ap (joined (result_ok (field_written rules cs from to m (before + 1) chosen field))) (fields-same cs (before + 1) fields)
-      ∙ sym (with_first-joined (field_written rules cs from to m (before + 1) chosen field) (fields_written rules cs from to m (before + 1) fields))
-
-  numbers-same : (where_is : Span) (text : List ℕ) → result_ok (numbers_replaced where_is rules from to n text) ≡ result_ok (numbers_replaced where_is rules from to m text)
-  numbers-same span.Line text = place-same text (0, length text)
-  numbers-same span.Trimmed text = place-same text (trimmed text (0, length text))
-  numbers-same (span.Fields cs) text =
-      let parts = fields_of cs text in
-      join-map cs.delimiter (fields_written rules cs from to n 0 parts)
-      ∙ ap (option_map (join_with_byte cs.delimiter)) (fields-same cs 0 parts)
-      ∙ sym (join-map cs.delimiter (fields_written rules cs from to m 0 parts))
-
-  mark-map : (x : Result (List ℕ) Fault) → result_ok (after_mark x) ≡ option_map (λ text. MARK ++ text) (result_ok x)
-  mark-map (Ok text) = refl
-  mark-map (Err fault) = refl
-
-  which-same : (marked : Bool) (x y u v : Result (List ℕ) Fault) → result_ok x ≡ result_ok u → result_ok y ≡ result_ok v →
-      result_ok (if marked then x else y) ≡ result_ok (if marked then u else v)
-  which-same true x y u v first second = first
-  which-same false x y u v first second = second
-
-  -- but a byte order mark
-  marked-same : (text : List ℕ) → passes_mark rules.span n text ≡ passes_mark rules.span m text → result_ok (body_written rules from to n text) ≡ result_ok (body_written rules from to m text)
-  marked-same text marks =
-      let replaced : ℕ → List ℕ → Result (List ℕ) Fault = λ k l. numbers_replaced rules.span rules from to k l in
-      ap (λ (marked : Bool). result_ok (if marked then after_mark (replaced n (drop 3 text)) else replaced n text)) marks
-      ∙ which-same (passes_mark rules.span m text) (after_mark (replaced n (drop 3 text))) (replaced n text) (after_mark (replaced m (drop 3 text))) (replaced m text)
-      (mark-map (replaced n (drop 3 text)) ∙ ap (option_map (λ l. MARK ++ l)) (numbers-same rules.span (drop 3 text)) ∙ sym (mark-map (replaced m (drop 3 text))))
-      (numbers-same rules.span text)
-
   named-same : (invalid : Invalid) (f g : Fault) → are_any (fault_named invalid f) ≡ are_any (fault_named invalid g)
   named-same Abort f g = refl
   named-same Fail f g = refl
@@ -193,15 +57,13 @@ module _ (rules : Rules) (from to : FormatData) (n m : ℕ) where
       by true = record { written = refl; rejected = refl; named = named-same rules.invalid f g }
       by false = tt
 
-  body-same : (text : List ℕ) (x y : Result (List ℕ) Fault) → result_ok x ≡ result_ok y → SameLine (body_sent rules text x) (body_sent rules text y)
-  body-same text (Ok t) (Ok u) same = let is : t ≡ u = cc in record { written = ap (ended_by rules.line_end) is; rejected = refl; named = refl }
-  body-same text (Ok t) (Err g) same = absurd (cc)
-  body-same text (Err f) (Ok u) same = absurd (cc)
-  body-same text (Err f) (Err g) same = fault-same f g (ended_by rules.line_end text)
+  body-same : (text : List ℕ) (written : Result (List ℕ) Fault) → SameLine (body_sent rules text (numbered n written)) (body_sent rules text written)
+  body-same text (Ok t) = record { written = refl; rejected = refl; named = refl }
+  body-same text (Err f) = fault-same (with_number n f) f (ended_by rules.line_end text)
 
   text-same : (text : List ℕ) → nat_le n rules.header_lines ≡ false → nat_le m rules.header_lines ≡ false → passes_mark rules.span n text ≡ passes_mark rules.span m text →
       SameLine (text_sent rules from to n text) (text_sent rules from to m text)
-  text-same text at_n at_m marks = rw (at_n, at_m) (body-same text (body_written rules from to n text) (body_written rules from to m text) (marked-same text marks))
+  text-same text at_n at_m marks = rw (at_n, at_m, body-numbered rules from to n m text marks) (body-same text (body_written rules from to m text))
 
   faulty-same : (is : Bool) (f g : Fault) (bytes : List ℕ) (x y : Result Sent Fault) → SameLine x y → SameLine (if is then fault_sent rules f bytes else x) (if is then fault_sent rules g bytes else y)
   faulty-same true f g bytes x y same = fault-same f g bytes
@@ -260,69 +122,48 @@ record Shifts (all part : Regrouped) (before total : ℕ) : Type 0 where
   lines : ℕ
   returned : part.returned ≡ Some (Ok lines)
   counted : total ≡ before + lines
-  written : all.sent.written ≡ part.sent.written
-  rejected : all.sent.rejected ≡ part.sent.rejected
-  named : are_any all.sent.named ≡ are_any part.sent.named
+  same : SameSent all.sent part.sent
 
 shift-line : (x y : Result Sent Fault) (all part : Regrouped) (before total : ℕ) → SameLine x y → (sending_line x all).returned ≡ Some (Ok total) → (all.returned ≡ Some (Ok total) → Shifts all part before total) →
     Shifts (sending_line x all) (sending_line y part) before total
 shift-line (Ok s) (Ok t) all part before total same is rest =
     let after = rest is in
-    record {
-      lines = after.lines;
-      returned = after.returned;
-      counted = after.counted;
-      written = ap (λ l. s.written ++ l) after.written ∙ ap (λ l. l ++ part.sent.written) same.written;
-      rejected = ap (λ l. s.rejected ++ l) after.rejected ∙ ap (λ l. l ++ part.sent.rejected) same.rejected;
-      named = are_any-append s.named all.sent.named ∙ ap (λ b. b || are_any all.sent.named) same.named ∙ ap (λ b. are_any t.named || b) after.named ∙ sym (are_any-append t.named part.sent.named);
-    }
+    record { lines = after.lines; returned = after.returned; counted = after.counted; same = same-joined s t all.sent part.sent same after.same }
 shift-line (Ok s) (Err g) all part before total same is rest = absurd same
 shift-line (Err f) y all part before total same is rest = absurd (cc)
 
--- a run over lines and what follows them, over the lines alone, and over what follows
-record Prefixed (all first second : Regrouped) (middle total : ℕ) : Type 0 where
-  first_returned : first.returned ≡ Some (Ok middle)
-  second_returned : second.returned ≡ Some (Ok total)
-  written : all.sent.written ≡ first.sent.written ++ second.sent.written
-  rejected : all.sent.rejected ≡ first.sent.rejected ++ second.sent.rejected
-  named : are_any all.sent.named ≡ (are_any first.sent.named || are_any second.sent.named)
-
-or-assoc : (a b c : Bool) → (a || (b || c)) ≡ ((a || b) || c)
-or-assoc true b c = refl
-or-assoc false b c = refl
-
-prefix-line : (x : Result Sent Fault) (all first second : Regrouped) (middle total : ℕ) → (sending_line x all).returned ≡ Some (Ok total) → (all.returned ≡ Some (Ok total) → Prefixed all first second middle total) →
-    Prefixed (sending_line x all) (sending_line x first) second middle total
-prefix-line (Ok s) all first second middle total is rest =
-    let after = rest is in
-    record {
-      first_returned = after.first_returned;
-      second_returned = after.second_returned;
-      written = ap (λ l. s.written ++ l) after.written ∙ sym (append_assoc s.written first.sent.written second.sent.written);
-      rejected = ap (λ l. s.rejected ++ l) after.rejected ∙ sym (append_assoc s.rejected first.sent.rejected second.sent.rejected);
-      named = are_any-append s.named all.sent.named ∙ ap (λ b. are_any s.named || b) after.named ∙ or-assoc (are_any s.named) (are_any first.sent.named) (are_any second.sent.named)
-          ∙ ap (λ b. b || are_any second.sent.named) (sym (are_any-append s.named first.sent.named));
-    }
-prefix-line (Err fault) all first second middle total is rest = absurd (cc)
+same-nothing : SameSent (only_written []) (only_written [])
+same-nothing = record { written = refl; rejected = refl; named = refl }
 
 rest-shifts : (is : Bool) (n k before total : ℕ) (x y : Result Sent Fault) → n ≡ before + k → SameLine x y →
     (if is then returning (Some (Ok n)) else sending_line x (returning (Some (Ok (n + 1))))).returned ≡ Some (Ok total) →
     Shifts (if is then returning (Some (Ok n)) else sending_line x (returning (Some (Ok (n + 1))))) (if is then returning (Some (Ok k)) else sending_line y (returning (Some (Ok (k + 1))))) before total
-rest-shifts true n k before total x y sum same is = record { lines = k; returned = refl; counted = let e : n ≡ total = cc in omega arith; written = refl; rejected = refl; named = refl }
+rest-shifts true n k before total x y sum same is = record { lines = k; returned = refl; counted = let e : n ≡ total = cc in omega arith; same = same-nothing }
 rest-shifts false n k before total x y sum same is =
     shift-line x y (returning (Some (Ok (n + 1)))) (returning (Some (Ok (k + 1)))) before total same is
-    (λ ended. record { lines = k + 1; returned = refl; counted = let e : n + 1 ≡ total = cc in omega arith; written = refl; rejected = refl; named = refl })
+    (λ ended. record { lines = k + 1; returned = refl; counted = let e : n + 1 ≡ total = cc in omega arith; same = same-nothing })
 
--- the number of the line after several records
-line_over : Rules → ℕ → List (List ℕ) → ℕ
-line_over rules number [] = number
-line_over rules number (text ∷ texts) = line_over rules (line_after rules number text) texts
+-- a run over lines and what follows them, over the lines alone, and over what follows
+record Splits (all first second : Regrouped) (middle total : ℕ) : Type 0 where
+  lines : ℕ
+  first_returned : first.returned ≡ Some (Ok middle)
+  second_returned : second.returned ≡ Some (Ok lines)
+  counted : total ≡ middle + lines
+  same : SameSent all.sent (joined first.sent second.sent)
 
-line_over-some : (rules : Rules) (number : ℕ) (texts : List (List ℕ)) → 1 ≤ number → 1 ≤ line_over rules number texts
-unfolding line_over
-line_over-some rules number [] some = some
-line_over-some rules number (text ∷ texts) some =
-    line_over-some rules (line_after rules number text) texts (omega arith)
+split-line : (x : Result Sent Fault) (all first second : Regrouped) (middle total : ℕ) → (sending_line x all).returned ≡ Some (Ok total) → (all.returned ≡ Some (Ok total) → Splits all first second middle total) →
+    Splits (sending_line x all) (sending_line x first) second middle total
+split-line (Ok s) all first second middle total is rest =
+    let after = rest is in
+    record {
+      lines = after.lines;
+      first_returned = after.first_returned;
+      second_returned = after.second_returned;
+      counted = after.counted;
+      same = subst (SameSent (joined s all.sent)) (joined-assoc s first.sent second.sent)
+          (same-joined s s all.sent (joined first.sent second.sent) (record { written = refl; rejected = refl; named = refl }) after.same);
+    }
+split-line (Err fault) all first second middle total is rest = absurd (cc)
 
 -- an input in parts, read to its end
 module _ (rules : Rules) (most : ℕ) (from to : FormatData) where
@@ -360,37 +201,39 @@ module _ (rules : Rules) (most : ℕ) (from to : FormatData) where
   run-line n p text [] next parts = refl
   run-line n p text (other ∷ texts) next parts = refl
 
-  prefixed : (n p middle total : ℕ) (texts : List (List ℕ)) (next : List ℕ) (parts : List (List ℕ)) → middle ≡ n + length texts →
-      (run n p (texts ++ next ∷ parts)).returned ≡ Some (Ok total) →
-      Prefixed (run n p (texts ++ next ∷ parts)) (run n p (texts ++ [] ∷ [])) (run middle (line_over rules p texts) (next ∷ parts)) middle total
-  unfolding line_over run
-  prefixed n p middle total [] next parts sum is =
+  splits : (none : rules.header_lines ≡ 0) (n p middle total : ℕ) (texts : List (List ℕ)) (next : List ℕ) (parts : List (List ℕ)) → middle ≡ n + length texts → 1 ≤ p → IsPlain (next ∷ parts) →
+      (run n p (texts ++ next ∷ parts)).returned ≡ Some (Ok total) → Splits (run n p (texts ++ next ∷ parts)) (run n p (texts ++ [] ∷ [])) (run 0 1 (next ∷ parts)) middle total
+  unfolding run
+  splits none n p middle total [] next parts sum some plain is =
+      let after = shifts none n 0 p 1 n total (next ∷ parts) (omega arith) some (omega arith) (λ _. plain) is in
       let same : n ≡ middle = omega (arith, sum) in
-      subst (λ k. Prefixed (run n p (next ∷ parts)) (run n p ([] ∷ [])) (run k p (next ∷ parts)) k total) same
-      (record { first_returned = refl; second_returned = is; written = refl; rejected = refl; named = refl })
-  prefixed n p middle total (text ∷ texts) next parts sum is =
+      record {
+        lines = after.lines;
+        first_returned = ap (λ k. Some (Ok k)) same;
+        second_returned = after.returned;
+        counted = let counted = after.counted in omega (arith, counted, same);
+        same = after.same;
+      }
+  splits none n p middle total (text ∷ texts) next parts sum some plain is =
       let whole = run-line n p text texts next parts in
       let alone = run-line n p text texts [] [] in
-      rw (whole, alone) (prefix-line (at_line n p text) (run (n + 1) (line_after rules p text) (texts ++ next ∷ parts))
-      (run (n + 1) (line_after rules p text) (texts ++ [] ∷ [])) (run middle (line_over rules (line_after rules p text) texts) (next ∷ parts)) middle total
-      (ap (λ r. r.returned) (sym whole) ∙ is) (λ after. prefixed (n + 1) (line_after rules p text) middle total texts next parts (omega (arith, sum)) after))
+      rw (whole, alone) (split-line (at_line n p text) (run (n + 1) (line_after rules p text) (texts ++ next ∷ parts)) (run (n + 1) (line_after rules p text) (texts ++ [] ∷ [])) (run 0 1 (next ∷ parts)) middle total
+      (ap (λ r. r.returned) (sym whole) ∙ is) (λ after. splits none (n + 1) (line_after rules p text) middle total texts next parts (omega (arith, sum)) (omega arith) plain after))
 
   both : (none : rules.header_lines ≡ 0) (texts parts : List (List ℕ)) (total : ℕ) → 0 < length parts → IsPlain parts →
       (run 0 1 (texts ++ parts)).returned ≡ Some (Ok total) → SplitsInto (run 0 1 (texts ++ parts)) (run 0 1 (texts ++ [] ∷ [])) (run 0 1 parts) total
   both none texts [] total some plain is = absurd (omega arith)
   both none texts (next ∷ parts) total some plain is =
-      let reached = line_over rules 1 texts in
-      let first = prefixed 0 1 (length texts) total texts next parts (omega arith) is in
-      let second = shifts none (length texts) 0 reached 1 (length texts) total (next ∷ parts) (omega arith) (line_over-some rules 1 texts (omega arith)) (omega arith) (λ _. plain) first.second_returned in
+      let all = splits none 0 1 (length texts) total texts next parts (omega arith) (omega arith) plain is in
       record {
         first_lines = length texts;
-        second_lines = second.lines;
-        first_returned = first.first_returned;
-        second_returned = second.returned;
-        counted = second.counted;
-        written = first.written ∙ ap (λ l. (run 0 1 (texts ++ [] ∷ [])).sent.written ++ l) second.written;
-        rejected = first.rejected ∙ ap (λ l. (run 0 1 (texts ++ [] ∷ [])).sent.rejected ++ l) second.rejected;
-        named = first.named ∙ ap (λ b. are_any (run 0 1 (texts ++ [] ∷ [])).sent.named || b) second.named;
+        second_lines = all.lines;
+        first_returned = all.first_returned;
+        second_returned = all.second_returned;
+        counted = all.counted;
+        written = all.same.written;
+        rejected = all.same.rejected;
+        named = all.same.named ∙ are_any-append (run 0 1 (texts ++ [] ∷ [])).sent.named (run 0 1 (next ∷ parts)).sent.named;
       }
 
 pub split_law : SplitLaw

@@ -16,13 +16,15 @@ use Rattle.regroup_lines.specs.Sending.{ReceivesEach, ReceivesPrefix, Receives, 
 use Rattle.regroup_lines.specs.Sending.Writer.{Messages, Output, Rejects}
 use Rattle.regroup_lines.specs.declared.rules.Reading.{Reading}
 
-pub sending-sending : (a b : Sent) (rest : Regrouped) → sending a (sending b rest) ≡ sending (joined a b) rest
-sending-sending a b rest =
-    let make : List ℕ → List Fault → List ℕ → Regrouped = λ w n r. record { sent = record { written = w; named = n; rejected = r }; returned = rest.returned } in
-    let c = rest.sent in
+pub joined-assoc : (a b c : Sent) → joined a (joined b c) ≡ joined (joined a b) c
+joined-assoc a b c =
+    let make : List ℕ → List Fault → List ℕ → Sent = λ w n r. record { written = w; named = n; rejected = r } in
     ap (λ w. make w (a.named ++ (b.named ++ c.named)) (a.rejected ++ (b.rejected ++ c.rejected))) (sym (append_assoc a.written b.written c.written))
     ∙ ap (λ n. make ((a.written ++ b.written) ++ c.written) n (a.rejected ++ (b.rejected ++ c.rejected))) (sym (append_assoc a.named b.named c.named))
     ∙ ap (make ((a.written ++ b.written) ++ c.written) ((a.named ++ b.named) ++ c.named)) (sym (append_assoc a.rejected b.rejected c.rejected))
+
+pub sending-sending : (a b : Sent) (rest : Regrouped) → sending a (sending b rest) ≡ sending (joined a b) rest
+sending-sending a b rest = ap (λ sent. record { sent = sent; returned = rest.returned }) (joined-assoc a b rest.sent)
 
 pub are_any-append : (f g : List Fault) → are_any (f ++ g) ≡ (are_any f || are_any g)
 are_any-append [] g = refl

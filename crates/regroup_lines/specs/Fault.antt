@@ -1,7 +1,6 @@
--- Faults as clauses compare them, and their messages.
-use Rattle.std.specs.Prelude.{ℕ, Bool, true, false, List, [], ◌∷◌, ◌++◌, codes}
-use Rattle.std.specs.Fmt.{decimal}
-use Rattle.num_format.specs.Refusal.{Refusal, message_of, refusal_of}
+-- Faults as clauses compare them.
+use Rattle.std.specs.Prelude.{ℕ, Bool, true, false, List, [], ◌∷◌, Option, None, Some}
+use Rattle.num_format.specs.Refusal.{Refusal, refusal_of}
 use Rattle.regroup_lines.specs.declared.fault.FieldCount.{FieldCount}
 use Rattle.regroup_lines.specs.declared.fault.RegroupFault.{RegroupFault}
 use Rattle.regroup_lines.specs.declared.fault.RegroupFault.TheVariants as fault
@@ -58,26 +57,13 @@ abbrev pub are_any : List Fault → Bool
 are_any [] = false
 are_any (fault ∷ faults) = true
 
--- what stands before the message of a fault in the line of this number, which is in decimal
-abbrev pub line_prefix : ℕ → List ℕ
-line_prefix number = codes "line " ++ (decimal number ++ codes ": ")
-
--- what is said of a line that may have this many bytes and has more
-abbrev pub long_text : (max_line_len : ℕ) → List ℕ
-long_text max_line_len = codes "More than " ++ (decimal max_line_len ++ codes " bytes.")
-
--- the message of a fault
-abbrev pub message_of_fault : Fault → List ℕ
-message_of_fault TooMany = codes "The input has more lines than are allowed."
-message_of_fault (TooLong number max_line_len) = line_prefix number ++ long_text max_line_len
-message_of_fault (FewFields number count) = line_prefix number ++ codes "Too few fields."
-message_of_fault Read = codes "Failed to read."
-message_of_fault (NotText number) = line_prefix number ++ codes "Not UTF-8."
-message_of_fault (FieldNotText number field) = line_prefix number ++ codes "Not UTF-8."
-message_of_fault (Line number refusal) = line_prefix number ++ message_of refusal
-message_of_fault (Field number field refusal) = line_prefix number ++ message_of refusal
-message_of_fault (Unclosed number) = line_prefix number ++ codes "Unclosed quote."
-message_of_fault Write = codes "Failed to write."
-message_of_fault Report = codes "Failed to write a message."
-message_of_fault Reject = codes "Failed to write a rejected line."
-message_of_fault Flush = codes "Failed to flush."
+-- the number of the line that is at fault, if a line is
+abbrev pub line_of : Fault → Option ℕ
+line_of (TooLong number max_line_len) = Some number
+line_of (FewFields number count) = Some number
+line_of (NotText number) = Some number
+line_of (FieldNotText number field) = Some number
+line_of (Line number refusal) = Some number
+line_of (Field number field refusal) = Some number
+line_of (Unclosed number) = Some number
+line_of fault = None

@@ -4,7 +4,6 @@ pub mod Decimals
 pub mod Ended
 pub mod Fault
 pub mod Fields
-pub mod Halt
 pub mod Input
 pub mod Laws
 pub mod LineFaults

@@ -1,10 +1,10 @@
--- The fault of a line, while its text is at hand.
-use Rattle.std.specs.Prelude.{ℕ, if◌then◌else◌, List}
+-- Faults while the text of a line is at hand.
+use Rattle.std.specs.Prelude.{◌≡◌, ℕ, Bool, true, if◌then◌else◌, List, ⊤}
 use Rattle.std.specs.Str.{is_utf8}
 use Rattle.num_format.specs.Cut.{cut_text}
 use Rattle.num_format.specs.Refusal.{ParseNumber}
 use Rattle.regroup_lines.specs.Fault.{Fault, in_field}
-use Rattle.regroup_lines.specs.Fault.Fault.{FewFields, Line, NotText, Reject, Report, Unclosed, Write}
+use Rattle.regroup_lines.specs.Fault.Fault.{FewFields, Flush, Line, NotText, Read, Reject, Report, Unclosed, Write}
 use Rattle.regroup_lines.specs.declared.line_fault.LineFault.{LineFault}
 use Rattle.regroup_lines.specs.declared.line_fault.LineFault.TheVariants as fault
 
@@ -21,3 +21,11 @@ line_fault_of (fault.Unclosed number) = Unclosed number
 line_fault_of fault.Write = Write
 line_fault_of fault.Report = Report
 line_fault_of fault.Reject = Reject
+line_fault_of fault.Read = Read
+line_fault_of fault.Flush = Flush
+
+-- a read failed, or a flush before it where there is one
+abbrev pub IsHalt : (flushes : Bool) → Fault → Type 0
+IsHalt flushes Read = ⊤
+IsHalt flushes Flush = flushes ≡ true
+IsHalt flushes fault = ⊥

@@ -1,5 +1,5 @@
 -- The messages that name faults.
-use Rattle.std.specs.Prelude.{ℕ, ◌+◌, ◌-◌, if◌then◌else◌, List, [], ◌∷◌, ◌++◌, length, codes, Option, None, Some}
+use Rattle.std.specs.Prelude.{ℕ, ◌+◌, ◌-◌, nat_lt, if◌then◌else◌, List, [], ◌∷◌, ◌++◌, length, codes, Option, None, Some}
 use Rattle.std.specs.Fmt.{decimal}
 use Rattle.std.specs.List.{flat_map}
 use Rattle.num_format.specs.Format.{FormatData}
@@ -11,7 +11,7 @@ use Rattle.num_format_decimal.specs.declared.parsing.ParseDecimalError.TheVarian
 use Rattle.regroup_lines.specs.Quoting.{quoted, shown}
 use Rattle.regroup_lines.specs.Ended.{line}
 use Rattle.regroup_lines.specs.Decimals.{marks_decimals, scale_below}
-use Rattle.regroup_lines.specs.Fault.{Fault}
+use Rattle.regroup_lines.specs.Fault.{Fault, line_of}
 use Rattle.regroup_lines.specs.Fault.Fault.{TooMany, TooLong, FewFields, Read, NotText, FieldNotText, Line, Field, Unclosed, Write, Report, Reject, Flush}
 use Rattle.regroup_lines.specs.declared.fault.FieldCount.{FieldCount}
 use Rattle.regroup_lines.specs.declared.rules.Reading.{Reading}
@@ -45,9 +45,13 @@ unfoldable pub before_unexpected : FormatData → List ℕ → Option ℕ
 before_unexpected from text =
     if marks_decimals from then unless_spelled (scale_below from text (MAX_SCALE + 1)) (before_rest text (unexpected_in_decimal from text)) else None
 
+-- the same of a text with less than 253 bytes: a longer one may have been cut, since an error keeps 256 bytes at most, and whole characters
+abbrev pub before_if_whole : FormatData → List ℕ → Option ℕ
+before_if_whole from text = if nat_lt (length text) 253 then before_unexpected from text else None
+
 -- the same by how the text is read: lenient reading names no byte
 abbrev pub before_fault : Reading → FormatData → List ℕ → Option ℕ
-before_fault Strict from text = before_unexpected from text
+before_fault Strict from text = before_if_whole from text
 before_fault Lenient from text = None
 
 -- which byte it is that so many others are before, counted from 1
@@ -59,18 +63,6 @@ byte_text None = []
 abbrev pub shown_name : List ℕ → List ℕ
 shown_name name = shown 256 name
 
--- a message about the line of this number, which is in decimal
-abbrev pub line_message : (name : List ℕ) → ℕ → List ℕ → List ℕ
-line_message name number text = line (codes "regroup-lines: " ++ (shown_name name ++ (codes ":" ++ (decimal number ++ (codes ": " ++ text)))))
-
--- a message about the field of the second number in this line
-abbrev pub field_message : (name : List ℕ) → ℕ → ℕ → List ℕ → List ℕ
-field_message name number field text = line_message name number (codes "field " ++ (decimal field ++ (codes ": " ++ text)))
-
--- what is said of a text that is not a number
-abbrev pub refused_text : Reading → FormatData → List ℕ → List ℕ
-refused_text reading from text = quoted text ++ (codes ": not a number" ++ byte_text (before_fault reading from text))
-
 -- what is said of a line with too few fields
 abbrev pub few_text : FieldCount → List ℕ
 few_text count =
@@ -80,21 +72,52 @@ few_text count =
 abbrev pub long_cause : (max_line_len : ℕ) → List ℕ
 long_cause max_line_len = codes "more than " ++ (decimal max_line_len ++ codes " bytes")
 
+-- what is said of a text that is not a number, with so many bytes before the unexpected one if one is named
+abbrev pub refused_text : (before : Option ℕ) → List ℕ → List ℕ
+refused_text before text = quoted text ++ (codes ": not a number" ++ byte_text before)
+
+-- what is said of the field of this number
+abbrev pub field_cause : ℕ → List ℕ → List ℕ
+field_cause field cause = codes "field " ++ (decimal field ++ (codes ": " ++ cause))
+
+-- what is said of a fault
+abbrev pub cause : (before : Option ℕ) → Fault → List ℕ
+cause before TooMany = codes "more lines than are allowed"
+cause before (TooLong number max_line_len) = long_cause max_line_len
+cause before (FewFields number count) = few_text count
+cause before Read = codes "failed to read"
+cause before (NotText number) = codes "not UTF-8"
+cause before (FieldNotText number field) = field_cause field (codes "not UTF-8")
+cause before (Line number refusal) = refused_text before (kept_in refusal)
+cause before (Field number field refusal) = field_cause field (refused_text before (kept_in refusal))
+cause before (Unclosed number) = codes "unclosed quote"
+cause before Write = codes "failed to write"
+cause before Report = codes "failed to write a message"
+cause before Reject = codes "failed to write a rejected line"
+cause before Flush = codes "failed to flush"
+
+-- the text that is not a number, if that is the fault
+abbrev pub refused_in : Fault → List ℕ
+refused_in (Line number refusal) = kept_in refusal
+refused_in (Field number field refusal) = kept_in refusal
+refused_in fault = []
+
+-- what is displayed of a fault, with the number of its line, which is in decimal
+abbrev pub displayed : (line : Option ℕ) → List ℕ → List ℕ
+displayed None cause = cause
+displayed (Some number) cause = codes "line " ++ (decimal number ++ (codes ": " ++ cause))
+
+abbrev pub message_of_fault : Fault → List ℕ
+message_of_fault fault = displayed (line_of fault) (cause None fault)
+
+-- a message about the line of this number, if a line is at fault
+abbrev pub line_message : (name : List ℕ) → (line : Option ℕ) → List ℕ → List ℕ
+line_message name None cause = []
+line_message name (Some number) cause = line (codes "regroup-lines: " ++ (shown_name name ++ (codes ":" ++ (decimal number ++ (codes ": " ++ cause)))))
+
 -- the message that names the fault of a line, in an input of this name that is read under the format; other faults have none
 abbrev pub fault_message : (name : List ℕ) → Reading → FormatData → Fault → List ℕ
-fault_message name reading from (TooLong number max_line_len) = line_message name number (long_cause max_line_len)
-fault_message name reading from (FewFields number count) = line_message name number (few_text count)
-fault_message name reading from (NotText number) = line_message name number (codes "not UTF-8")
-fault_message name reading from (FieldNotText number field) = field_message name number field (codes "not UTF-8")
-fault_message name reading from (Line number refusal) = line_message name number (refused_text reading from (kept_in refusal))
-fault_message name reading from (Field number field refusal) = field_message name number field (refused_text reading from (kept_in refusal))
-fault_message name reading from (Unclosed number) = line_message name number (codes "unclosed quote")
-fault_message name reading from TooMany = []
-fault_message name reading from Read = []
-fault_message name reading from Write = []
-fault_message name reading from Report = []
-fault_message name reading from Reject = []
-fault_message name reading from Flush = []
+fault_message name reading from fault = line_message name (line_of fault) (cause (before_fault reading from (refused_in fault)) fault)
 
 -- the messages that name faults, one after the other
 abbrev pub messages : (name : List ℕ) → Reading → FormatData → List Fault → List ℕ

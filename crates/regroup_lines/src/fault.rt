@@ -1,17 +1,18 @@
 //! Why lines were not regrouped to the end.
-ghost use Rattle.std.specs.Prelude.{◌≡◌, ◌≤◌, ◌++◌, Some, length};
-ghost use Rattle.regroup_lines.specs.Fault.{fault_of, line_prefix, long_text, message_of_fault};
+ghost use Rattle.std.specs.Prelude.{◌≡◌, Some};
+ghost use Rattle.regroup_lines.specs.Fault.{fault_of, line_of};
+ghost use Rattle.regroup_lines.specs.Messages.{message_of_fault};
 
-use crate::capacities::MAX_SENT_LEN;
+use crate::message::{MAX_DISPLAYED_LEN, cause, displayed};
 use arrayvec::ArrayString;
-use num_format::{Error, MAX_MESSAGE_LEN};
+use num_format::Error;
 use std::fmt;
 
 /// Why [`regroup_lines`](crate::regroup_lines) or [`regroup_at_most`](crate::regroup_at_most) stopped.
 /// Lines are numbered from 1, and so are the fields of a line, or of a record of RFC 4180.
 ///
 /// ```rust
-/// println!(rt; "{}", RegroupFault::TooLong(2, 4096))    // line 2: More than 4096 bytes.
+/// println!(rt; "{}", RegroupFault::TooLong(2, 4096))    // line 2: more than 4096 bytes
 /// ```
 #[derive(Clone, Debug, Drop, PartialEq, Eq)]
 pub enum RegroupFault {
@@ -55,70 +56,37 @@ pub struct FieldCount {
 }
 
 impl RegroupFault {
+    /// Returns the number of the line that is at fault, if a line is.
+    pub(crate) fn line(&self) -> Option<u64>
+        ensures { result ≡ line_of (fault_of self.now) }
+    {
+        match self {
+            RegroupFault::TooLong(number, _)
+            | RegroupFault::FewFields(number, _)
+            | RegroupFault::NotText(number)
+            | RegroupFault::FieldNotText(number, _)
+            | RegroupFault::Line(number, _)
+            | RegroupFault::Field(number, _, _)
+            | RegroupFault::Unclosed(number) => Some(*number),
+            RegroupFault::TooMany
+            | RegroupFault::Read
+            | RegroupFault::Write
+            | RegroupFault::Report
+            | RegroupFault::Reject
+            | RegroupFault::Flush => None,
+        }
+    }
+
     /// Returns the message, which needs no memory and cannot fail.
     ///
     /// ```rust
-    /// RegroupFault::TooLong(2, 4096).message()    // "line 2: More than 4096 bytes."
+    /// RegroupFault::TooLong(2, 4096).message()    // "line 2: more than 4096 bytes"
     /// ```
-    pub fn message(&self) -> ArrayString<MAX_SENT_LEN>
+    pub fn message(&self) -> ArrayString<MAX_DISPLAYED_LEN>
         ensures { result.bytes ≡ message_of_fault (fault_of self.now) }
     {
-        match self {
-            RegroupFault::TooMany => whole_message("The input has more lines than are allowed."),
-            RegroupFault::TooLong(number, max_line_len) => {
-                line_message(*number, long_text(*max_line_len).as_str())
-            }
-            RegroupFault::FewFields(number, _) => line_message(*number, "Too few fields."),
-            RegroupFault::Read => whole_message("Failed to read."),
-            RegroupFault::NotText(number) | RegroupFault::FieldNotText(number, _) => {
-                line_message(*number, "Not UTF-8.")
-            }
-            RegroupFault::Line(number, error) | RegroupFault::Field(number, _, error) => {
-                line_message(*number, error.kind().message().as_str())
-            }
-            RegroupFault::Unclosed(number) => line_message(*number, "Unclosed quote."),
-            RegroupFault::Write => whole_message("Failed to write."),
-            RegroupFault::Report => whole_message("Failed to write a message."),
-            RegroupFault::Reject => whole_message("Failed to write a rejected line."),
-            RegroupFault::Flush => whole_message("Failed to flush."),
-        }
+        displayed(self.line(), cause(self, None).as_str())
     }
-}
-
-/// Returns what is said of a line that may have this many bytes and has more.
-fn long_text(max_line_len: u32) -> ArrayString<MAX_MESSAGE_LEN>
-    ensures { result.bytes ≡ long_text max_line_len }
-{
-    let mut digits = itoa::Buffer::new();
-    let mut text = ArrayString::new();
-    text.push_str("More than ");
-    text.push_str(digits.format(max_line_len));
-    text.push_str(" bytes.");
-    text
-}
-
-/// Returns the message of a fault that no line has.
-fn whole_message(text: &str) -> ArrayString<MAX_SENT_LEN>
-    requires { length text.now ≤ MAX_MESSAGE_LEN }
-    ensures { result.bytes ≡ text.now }
-{
-    let mut message = ArrayString::new();
-    message.push_str(text);
-    message
-}
-
-/// Returns the message of a line: its number, and then the text.
-fn line_message(number: u64, text: &str) -> ArrayString<MAX_SENT_LEN>
-    requires { length text.now ≤ MAX_MESSAGE_LEN }
-    ensures { result.bytes ≡ line_prefix number ++ text.now }
-{
-    let mut digits = itoa::Buffer::new();
-    let mut message = ArrayString::new();
-    message.push_str("line ");
-    message.push_str(digits.format(number));
-    message.push_str(": ");
-    message.push_str(text);
-    message
 }
 
 impl fmt::Display for RegroupFault {

@@ -1,11 +1,11 @@
 //! The input, piece by piece.
 ghost use Rattle.std.specs.Prelude.{◌≡◌, ◌+◌, ◌≤◌, ◌<◌, [], ◌∷◌, length, take, drop, IfErr, IfOk, OnErr, IsNone, MatchOption};
 ghost use Rattle.std.specs.Io.KnownBytes.{Consumes, IsAtEnd, Keeps};
-ghost use Rattle.regroup_lines.specs.Halt.{IsHalt, halt_fault};
+ghost use Rattle.regroup_lines.specs.LineFaults.{IsHalt, line_fault_of};
 ghost use Rattle.regroup_lines.specs.Lines.{quotes_in};
 
 use crate::ends::find_end;
-use crate::halt::{Halt, flush_before_read};
+use crate::line_fault::LineFault;
 use crate::records::Within;
 use crate::rules::Rules;
 use std::io;
@@ -75,7 +75,7 @@ impl<'a> Input<'a> {
         within: Within,
         reader: &mut R,
         writer: &mut W,
-    ) -> Result<Piece, Halt>
+    ) -> Result<Piece, LineFault<'static>>
         ensures piece { IfOk result (FindsPiece (quotes_in rules.now.span) rules.now.line_end within (held self.old) self.new
             (R.remaining reader.old) (R.remaining reader.new)) }
         ensures place { IfOk result (IsInArray self.new) }
@@ -83,7 +83,7 @@ impl<'a> Input<'a> {
         ensures failed { OnErr result (Reads (held self.old) (held self.new)
             (R.remaining reader.old) (R.remaining reader.new) × HasNoEnd (quotes_in rules.now.span) rules.now.line_end within (held self.new)
             × (length (held self.new) < array_len self.new)) }
-        ensures halt { IfErr result (λ halt. IsHalt rules.now.flushes (halt_fault halt)) }
+        ensures halt { IfErr result (λ fault. IsHalt rules.now.flushes (line_fault_of fault)) }
         ensures flushed { Keeps (W.contents writer.old) (W.contents writer.new) }
     {
         let found = self.find_line_end(rules, within, reader, writer)?;
@@ -109,12 +109,12 @@ impl<'a> Input<'a> {
         flushes: bool,
         reader: &mut R,
         writer: &mut W,
-    ) -> Result<bool, Halt>
+    ) -> Result<bool, LineFault<'static>>
         ensures end { IfOk result (EndsOrGoesOn (held self.now)
             (R.remaining reader.old) (R.remaining reader.new)) }
         ensures failed { OnErr result ((held self.now ≡ [])
             × Keeps (R.remaining reader.old) (R.remaining reader.new)) }
-        ensures halt { IfErr result (λ halt. IsHalt flushes (halt_fault halt)) }
+        ensures halt { IfErr result (λ fault. IsHalt flushes (line_fault_of fault)) }
         ensures flushed { Keeps (W.contents writer.old) (W.contents writer.new) }
     {
         if !self.held().is_empty() {
@@ -122,7 +122,7 @@ impl<'a> Input<'a> {
         }
         flush_before_read(flushes, writer)?;
         let Ok(byte) = read_byte(reader) else {
-            return Err(Halt::Read);
+            return Err(LineFault::Read);
         };
         Ok(byte.is_none())
     }
@@ -161,7 +161,7 @@ impl<'a> Input<'a> {
         within: Within,
         reader: &mut R,
         writer: &mut W,
-    ) -> Result<Option<usize>, Halt>
+    ) -> Result<Option<usize>, LineFault<'static>>
         ensures read { Reads (held self.old) (held self.new)
             (R.remaining reader.old) (R.remaining reader.new) }
         ensures found { IfOk result (FindsEnd (quotes_in rules.now.span) rules.now.line_end within (held self.new)) }
@@ -170,7 +170,7 @@ impl<'a> Input<'a> {
         ensures failed { OnErr result (HasNoEnd (quotes_in rules.now.span) rules.now.line_end within (held self.new)
             × (length (held self.new) < array_len self.new)) }
         ensures len { array_len self.new ≡ array_len self.old }
-        ensures halt { IfErr result (λ halt. IsHalt rules.now.flushes (halt_fault halt)) }
+        ensures halt { IfErr result (λ fault. IsHalt rules.now.flushes (line_fault_of fault)) }
         ensures flushed { Keeps (W.contents writer.old) (W.contents writer.new) }
     {
         let mut here = within;
@@ -188,7 +188,7 @@ impl<'a> Input<'a> {
             }
             flush_before_read(rules.flushes, writer)?;
             let Ok(count) = self.read_more(reader) else {
-                return Err(Halt::Read);
+                return Err(LineFault::Read);
             };
             if count == 0 {
                 return Ok(None);
@@ -231,6 +231,21 @@ impl<'a> Input<'a> {
             self.end = end - start;
         }
     }
+}
+
+/// Flushes the writer, if it is flushed before each read.
+///
+/// # Errors
+///
+/// Returns an error if the flush fails.
+fn flush_before_read<W: Write>(flushes: bool, writer: &mut W) -> Result<(), LineFault<'static>>
+    ensures halt { IfErr result (λ fault. IsHalt flushes (line_fault_of fault)) }
+    ensures flushed { Keeps (W.contents writer.old) (W.contents writer.new) }
+{
+    if !flushes {
+        return Ok(());
+    }
+    writer.flush().or(Err(LineFault::Flush))
 }
 
 /// Reads one byte. Returns `None` if the reader ends.

@@ -15,8 +15,8 @@ pub fn faults()
 
 /// An input that is read to its end may be split after a byte that ends a line, with CSV outside quotes, and not before a
 /// byte order mark, if it has no header and no line is at fault, or each such line is passed on: its output is that of the first part and then
-/// that of the second. Its lines are as many as theirs together, and messages name faults of it exactly if they name some
-/// of a part.
+/// that of the second, and so are its rejected lines. Its lines are as many as theirs together, and messages name faults of it exactly if they
+/// name some of a part.
 pub fn split()
     ensures { SplitLaw }
 {}

@@ -1,4 +1,4 @@
-//! Faults of a line while its text is at hand.
+//! Faults while the text of a line is at hand.
 ghost use Rattle.std.specs.Prelude.{◌≡◌};
 ghost use Rattle.num_format.specs.Cut.{cut_text};
 ghost use Rattle.num_format.specs.Refusal.{ParseNumber, refusal_of};
@@ -10,7 +10,7 @@ use num_format::error::cut;
 use num_format::{Error, ErrorKind};
 use std::str;
 
-/// Why a line was not sent. It borrows the text, and so has a few bytes, where a [`RegroupFault`] keeps a copy.
+/// Why a line was not read or not sent. It borrows the text, and so has a few bytes, where a [`RegroupFault`] keeps a copy.
 #[derive(Clone, Copy)]
 pub(crate) enum LineFault<'a> {
     /// This text in the line of this number is not a number.
@@ -27,6 +27,10 @@ pub(crate) enum LineFault<'a> {
     Report,
     /// A write of a rejected line failed.
     Reject,
+    /// A read failed.
+    Read,
+    /// A flush before a read failed.
+    Flush,
 }
 
 impl<'a> LineFault<'a> {
@@ -43,7 +47,9 @@ impl<'a> LineFault<'a> {
             | LineFault::Unclosed(_)
             | LineFault::Write
             | LineFault::Report
-            | LineFault::Reject => self,
+            | LineFault::Reject
+            | LineFault::Read
+            | LineFault::Flush => self,
         }
     }
 }
@@ -64,6 +70,8 @@ impl<'a> From<LineFault<'a>> for RegroupFault {
             LineFault::Write => RegroupFault::Write,
             LineFault::Report => RegroupFault::Report,
             LineFault::Reject => RegroupFault::Reject,
+            LineFault::Read => RegroupFault::Read,
+            LineFault::Flush => RegroupFault::Flush,
         }
     }
 }

@@ -2,7 +2,7 @@
 ghost use Rattle.std.specs.Prelude.{◌≡◌, ◌≤◌, length};
 ghost use Rattle.num_format.specs.Refusal.{refusal_of};
 ghost use Rattle.regroup_lines.specs.Fault.{fault_of};
-ghost use Rattle.regroup_lines.specs.Messages.{before_fault, before_in, byte_text, fault_message, few_text, field_message, kept_in, line_message, long_cause, refused_text};
+ghost use Rattle.regroup_lines.specs.Messages.{before_fault, before_if_whole, before_in, byte_text, cause, displayed, fault_message, few_text, field_cause, kept_in, line_message, long_cause, refused_in, refused_text};
 
 use crate::fault::{FieldCount, RegroupFault};
 use crate::quoting::{MAX_QUOTED_LEN, quoted, shown};
@@ -15,32 +15,26 @@ use num_format_decimal::{Decimal, ParseDecimalError};
 /// The most bytes of what is shown of a name: four for each of its bytes.
 pub const MAX_NAME_LEN: usize = 1024;
 
-/// The most bytes of what is said of a line that is too long.
-const MAX_LONG_CAUSE_LEN: usize = 40;
-
 /// The most bytes of ` at byte ` and a number.
 const MAX_BYTE_TEXT_LEN: usize = 50;
 
-/// The most bytes of `: not a number` and what follows it.
-const MAX_CAUSE_LEN: usize = 14 + MAX_BYTE_TEXT_LEN;
-
 /// The most bytes of what is said of a text that is not a number.
-const MAX_REFUSED_TEXT_LEN: usize = MAX_QUOTED_LEN + MAX_CAUSE_LEN;
+const MAX_REFUSED_TEXT_LEN: usize = MAX_QUOTED_LEN + 14 + MAX_BYTE_TEXT_LEN;
 
-/// The most bytes of `field `, a number and `: `.
-const MAX_FIELD_PREFIX_LEN: usize = 30;
+/// The most bytes of what is said of a fault: `field `, a number and `: ` may be before what is said of a text.
+pub(crate) const MAX_CAUSE_LEN: usize = 30 + MAX_REFUSED_TEXT_LEN;
 
-/// The most bytes of what is said of a line with too few fields.
-const MAX_FEW_TEXT_LEN: usize = MAX_QUOTED_LEN + 80;
+/// The most bytes of a cause after the number of its line.
+pub const MAX_DISPLAYED_LEN: usize = MAX_CAUSE_LEN + 30;
 
-/// The most bytes of what is said of a line.
-const MAX_LINE_TEXT_LEN: usize = MAX_FIELD_PREFIX_LEN + MAX_REFUSED_TEXT_LEN;
-
-/// The most bytes that a message has besides a name and what is said of a line.
+/// The most bytes that a message has besides a name and a cause.
 const MAX_ADDED_LEN: usize = 64;
 
+/// The fewest bytes that an error keeps of a text that it cuts: at most 256, and a character has at most four.
+const MIN_CUT_LEN: usize = 253;
+
 /// The most bytes of a message that names a fault.
-pub const MAX_FAULT_MESSAGE_LEN: usize = MAX_NAME_LEN + MAX_LINE_TEXT_LEN + MAX_ADDED_LEN;
+pub const MAX_FAULT_MESSAGE_LEN: usize = MAX_NAME_LEN + MAX_CAUSE_LEN + MAX_ADDED_LEN;
 
 /// Returns the message that names the fault of a line, with a newline, in an input of this name that is read under the
 /// format. It is empty for a fault that no line has.
@@ -57,37 +51,83 @@ pub fn fault_message<F: Format>(
 ) -> ArrayString<MAX_FAULT_MESSAGE_LEN>
     ensures { result.bytes ≡ fault_message name.now reading (F.answers from.now) (fault_of fault.now) }
 {
+    let before = before_fault(reading, refused_in(fault), from);
+    line_message(name, fault.line(), cause(fault, before).as_str())
+}
+
+/// Returns what is said of a fault: of a text that is not a number also which byte is unexpected, if so many others are before it.
+pub(crate) fn cause(fault: &RegroupFault, before: Option<usize>) -> ArrayString<MAX_CAUSE_LEN>
+    ensures { result.bytes ≡ cause before (fault_of fault.now) }
+{
     match fault {
-        RegroupFault::TooLong(number, max_line_len) => {
-            line_message(name, *number, long_cause(*max_line_len).as_str())
+        RegroupFault::TooMany => text_of("more lines than are allowed"),
+        RegroupFault::TooLong(_, max_line_len) => long_cause(*max_line_len),
+        RegroupFault::FewFields(_, count) => few_text(*count),
+        RegroupFault::Read => text_of("failed to read"),
+        RegroupFault::NotText(_) => text_of("not UTF-8"),
+        RegroupFault::FieldNotText(_, field) => field_cause(*field, "not UTF-8"),
+        RegroupFault::Line(_, error) => text_of(refused_text(kept_in(error), before).as_str()),
+        RegroupFault::Field(_, field, error) => {
+            field_cause(*field, refused_text(kept_in(error), before).as_str())
         }
-        RegroupFault::FewFields(number, count) => {
-            line_message(name, *number, few_text(*count).as_str())
-        }
-        RegroupFault::NotText(number) => line_message(name, *number, "not UTF-8"),
-        RegroupFault::FieldNotText(number, field) => {
-            field_message(name, *number, *field, "not UTF-8")
-        }
-        RegroupFault::Line(number, error) => {
-            let refused = refused_text(reading, kept_in(error), from);
-            line_message(name, *number, refused.as_str())
-        }
-        RegroupFault::Field(number, field, error) => {
-            let refused = refused_text(reading, kept_in(error), from);
-            field_message(name, *number, *field, refused.as_str())
-        }
-        RegroupFault::Unclosed(number) => line_message(name, *number, "unclosed quote"),
-        RegroupFault::TooMany
-        | RegroupFault::Read
-        | RegroupFault::Write
-        | RegroupFault::Report
-        | RegroupFault::Reject
-        | RegroupFault::Flush => ArrayString::new(),
+        RegroupFault::Unclosed(_) => text_of("unclosed quote"),
+        RegroupFault::Write => text_of("failed to write"),
+        RegroupFault::Report => text_of("failed to write a message"),
+        RegroupFault::Reject => text_of("failed to write a rejected line"),
+        RegroupFault::Flush => text_of("failed to flush"),
     }
 }
 
+/// Returns the text, which fits.
+fn text_of(text: &str) -> ArrayString<MAX_CAUSE_LEN>
+    requires { length text.now ≤ MAX_CAUSE_LEN }
+    ensures { result.bytes ≡ text.now }
+{
+    let mut cause = ArrayString::new();
+    cause.push_str(text);
+    cause
+}
+
+/// Returns the text that is not a number, if that is the fault.
+fn refused_in(fault: &RegroupFault) -> &str
+    ensures { result.now ≡ refused_in (fault_of fault.now) }
+{
+    match fault {
+        RegroupFault::Line(_, error) | RegroupFault::Field(_, _, error) => kept_in(error),
+        RegroupFault::TooMany
+        | RegroupFault::TooLong(..)
+        | RegroupFault::FewFields(..)
+        | RegroupFault::Read
+        | RegroupFault::NotText(_)
+        | RegroupFault::FieldNotText(..)
+        | RegroupFault::Unclosed(_)
+        | RegroupFault::Write
+        | RegroupFault::Report
+        | RegroupFault::Reject
+        | RegroupFault::Flush => "",
+    }
+}
+
+/// Returns a cause after the number of its line, if there is one.
+pub(crate) fn displayed(line: Option<u64>, cause: &str) -> ArrayString<MAX_DISPLAYED_LEN>
+    requires { length cause.now ≤ MAX_CAUSE_LEN }
+    ensures { result.bytes ≡ displayed line cause.now }
+{
+    let mut message = ArrayString::new();
+    let Some(number) = line else {
+        message.push_str(cause);
+        return message;
+    };
+    let mut digits = itoa::Buffer::new();
+    message.push_str("line ");
+    message.push_str(digits.format(number));
+    message.push_str(": ");
+    message.push_str(cause);
+    message
+}
+
 /// Returns what is said of a line that may have this many bytes and has more.
-fn long_cause(max_line_len: u32) -> ArrayString<MAX_LONG_CAUSE_LEN>
+fn long_cause(max_line_len: u32) -> ArrayString<MAX_CAUSE_LEN>
     ensures { result.bytes ≡ long_cause max_line_len }
 {
     let mut digits = itoa::Buffer::new();
@@ -99,7 +139,7 @@ fn long_cause(max_line_len: u32) -> ArrayString<MAX_LONG_CAUSE_LEN>
 }
 
 /// Returns what is said of a line with too few fields.
-fn few_text(count: FieldCount) -> ArrayString<MAX_FEW_TEXT_LEN>
+fn few_text(count: FieldCount) -> ArrayString<MAX_CAUSE_LEN>
     ensures { result.bytes ≡ few_text count }
 {
     let mut digits = itoa::Buffer::new();
@@ -113,54 +153,48 @@ fn few_text(count: FieldCount) -> ArrayString<MAX_FEW_TEXT_LEN>
     text
 }
 
-/// Returns a message with the name of the input and the number of a line before the text.
-fn line_message(name: &str, number: u64, text: &str) -> ArrayString<MAX_FAULT_MESSAGE_LEN>
-    requires { length text.now ≤ MAX_LINE_TEXT_LEN }
-    ensures { result.bytes ≡ line_message name.now number text.now }
+/// Returns a message with the name of the input and the number of a line before the cause, or nothing where no line is at fault.
+fn line_message(name: &str, line: Option<u64>, cause: &str) -> ArrayString<MAX_FAULT_MESSAGE_LEN>
+    requires { length cause.now ≤ MAX_CAUSE_LEN }
+    ensures { result.bytes ≡ line_message name.now line cause.now }
 {
-    let mut digits = itoa::Buffer::new();
     let mut message = ArrayString::new();
+    let Some(number) = line else {
+        return message;
+    };
+    let mut digits = itoa::Buffer::new();
     message.push_str("regroup-lines: ");
     message.push_str(shown::<MAX_NAME_LEN>(name.as_bytes()).as_str());
     message.push(':');
     message.push_str(digits.format(number));
     message.push_str(": ");
-    message.push_str(text);
+    message.push_str(cause);
     message.push('\n');
     message
 }
 
-/// Returns a message with the number of a field, too, before the text.
-fn field_message(
-    name: &str,
-    number: u64,
-    field: u64,
-    text: &str,
-) -> ArrayString<MAX_FAULT_MESSAGE_LEN>
+/// Returns what is said of the field of this number.
+fn field_cause(field: u64, text: &str) -> ArrayString<MAX_CAUSE_LEN>
     requires { length text.now ≤ MAX_REFUSED_TEXT_LEN }
-    ensures { result.bytes ≡ field_message name.now number field text.now }
+    ensures { result.bytes ≡ field_cause field text.now }
 {
     let mut digits = itoa::Buffer::new();
-    let mut message: ArrayString<MAX_LINE_TEXT_LEN> = ArrayString::new();
-    message.push_str("field ");
-    message.push_str(digits.format(field));
-    message.push_str(": ");
-    message.push_str(text);
-    line_message(name, number, message.as_str())
+    let mut cause = ArrayString::new();
+    cause.push_str("field ");
+    cause.push_str(digits.format(field));
+    cause.push_str(": ");
+    cause.push_str(text);
+    cause
 }
 
 /// Returns what is said of a text that is not a number.
-fn refused_text<F: Format>(
-    reading: Reading,
-    text: &str,
-    from: &F,
-) -> ArrayString<MAX_REFUSED_TEXT_LEN>
-    ensures { result.bytes ≡ refused_text reading (F.answers from.now) text.now }
+fn refused_text(text: &str, before: Option<usize>) -> ArrayString<MAX_REFUSED_TEXT_LEN>
+    ensures { result.bytes ≡ refused_text before text.now }
 {
     let mut message = ArrayString::new();
     message.push_str(quoted(text.as_bytes()).as_str());
     message.push_str(": not a number");
-    message.push_str(byte_text(before_fault(reading, text, from)).as_str());
+    message.push_str(byte_text(before).as_str());
     message
 }
 
@@ -190,19 +224,27 @@ fn kept_in(error: &Error) -> &str
 }
 
 /// Returns how many bytes of a text are before the one for which strict parsing refuses it, if it does so for one.
-/// Returns `None` of a text that is read leniently.
+/// Returns `None` of a text that is read leniently, and of one that may have been cut.
 fn before_fault<F: Format>(reading: Reading, text: &str, from: &F) -> Option<usize>
     ensures { result ≡ before_fault reading (F.answers from.now) text.now }
 {
     match reading {
         Reading::Lenient => None,
-        Reading::Strict => {
-            format_data(from);
-            match Decimal::from_strict_str(text, from) {
-                Ok(_) => None,
-                Err(error) => before_in(error),
-            }
-        }
+        Reading::Strict => before_unexpected(text, from),
+    }
+}
+
+/// Returns the same of a text that is read strictly.
+fn before_unexpected<F: Format>(text: &str, from: &F) -> Option<usize>
+    ensures { result ≡ before_if_whole (F.answers from.now) text.now }
+{
+    if text.len() >= MIN_CUT_LEN {
+        return None;
+    }
+    format_data(from);
+    match Decimal::from_strict_str(text, from) {
+        Ok(_) => None,
+        Err(error) => before_in(error),
     }
 }
 

@@ -3,7 +3,9 @@
 use crate::{ReadStep, Scripted, ScriptedReader};
 use num_format::error::cut;
 use num_format::{CustomFormat, Error, ErrorKind, Format, Grouping, Locale};
-use regroup_lines::{Invalid, Reading, RegroupFault, Rules, Span, regroup_at_most, regroup_lines};
+use regroup_lines::{
+    Invalid, Reading, RegroupFault, Rules, Span, fault_message, regroup_at_most, regroup_lines,
+};
 use std::alloc::Global;
 use std::io;
 use std::process::Abort;
@@ -261,30 +263,39 @@ fn assert_message(
 #[test]
 fn messages(rt: HostRuntime) -> Result<(), Fail> {
     for (fault, message) in [
-        (
-            RegroupFault::TooMany,
-            "The input has more lines than are allowed.",
-        ),
+        (RegroupFault::TooMany, "more lines than are allowed"),
         (
             RegroupFault::TooLong(2, 4096),
-            "line 2: More than 4096 bytes.",
+            "line 2: more than 4096 bytes",
         ),
-        (RegroupFault::Read, "Failed to read."),
-        (RegroupFault::NotText(2), "line 2: Not UTF-8."),
-        (
-            not_a_number(3, ""),
-            "line 3: Failed to parse  into a number.",
-        ),
-        (RegroupFault::Write, "Failed to write."),
-        (RegroupFault::Report, "Failed to write a message."),
-        (RegroupFault::Reject, "Failed to write a rejected line."),
-        (RegroupFault::Flush, "Failed to flush."),
+        (RegroupFault::Read, "failed to read"),
+        (RegroupFault::NotText(2), "line 2: not UTF-8"),
+        (not_a_number(3, ""), "line 3: '': not a number"),
+        (RegroupFault::Write, "failed to write"),
+        (RegroupFault::Report, "failed to write a message"),
+        (RegroupFault::Reject, "failed to write a rejected line"),
+        (RegroupFault::Flush, "failed to flush"),
     ] {
         assert_message(&rt, rt.alloc(), &fault, message)?;
     }
     let long = "x".repeat(rt.alloc(), 256)?;
-    let message = format!(in rt.alloc();
-        "line 18446744073709551615: Failed to parse {long} into a number."
-    )?;
+    let shown = "x".repeat(rt.alloc(), 64)?;
+    let message = format!(in rt.alloc(); "line 18446744073709551615: '{shown}': not a number")?;
     assert_message(&rt, rt.alloc(), &not_a_number(u64::MAX, &long), &message)
+}
+
+/// Of a text with 253 bytes or more no byte is named, since an error keeps 256 at most, and whole characters.
+#[test]
+fn the_unexpected_byte_of_a_long_text(rt: HostRuntime) -> Result<(), Fail> {
+    let alloc = rt.alloc();
+    let shown = "1".repeat(alloc, 64)?;
+    for (digits, named) in [(251, " at byte 252"), (252, ""), (300, "")] {
+        let mut text = "1".repeat(alloc, digits)?;
+        text.push('x')?;
+        let fault = not_a_number(7, &text);
+        let message = fault_message("-", Reading::Strict, &fault, &Locale::en);
+        let expected = format!(in alloc; "regroup-lines: -:7: '{shown}': not a number{named}\n")?;
+        assert_eq!(rt; message.as_str(), expected.as_str());
+    }
+    Ok(())
 }

@@ -1,0 +1,141 @@
+-- What is written in place of a line depends on the line's number in the fault alone.
+use Rattle.std.proofs.Common.{◌≡◌, ℕ, ◌+◌, ◌==◌, Bool, true, false, List, [], ◌∷◌, ◌++◌, length, Option, Some, None, Result, Ok, Err, if◌then◌else◌, refl, ap, ◌∙◌}
+use Rattle.std.specs.Prelude.{ℤ, ◌&&◌, take, drop, slice_range}
+use Rattle.std.specs.List.{join_with_byte, list_any}
+use Rattle.std.specs.Option.{ok_or, option_map}
+use Rattle.std.specs.Result.{result_map_both}
+use Rattle.std.specs.Str.{is_utf8}
+use Rattle.num_format.specs.Cut.{cut_text}
+use Rattle.num_format.specs.Format.{FormatData}
+use Rattle.num_format.specs.Readable.{number_read}
+use Rattle.num_format.specs.Refusal.{ParseNumber, Refusal}
+use Rattle.num_format.specs.Text.{text_of}
+use Rattle.num_format_decimal.specs.Text.{decimal_text}
+use Rattle.regroup_lines.specs.Csv.{field_with, is_barred, number_place}
+use Rattle.regroup_lines.specs.Decimals.{decimal_read}
+use Rattle.regroup_lines.specs.Fault.{Fault, in_field, is_unsent}
+use Rattle.regroup_lines.specs.Fault.Fault.{FewFields, Field, FieldNotText, Line, NotText, TooMany}
+use Rattle.regroup_lines.specs.LineFaults.{text_fault}
+use Rattle.regroup_lines.specs.Lines.{MARK, after_mark, between, body_written, field_read, field_written, fields_of, fields_written, number_in_field, number_in_text, number_written, numbers_replaced, passes_mark, place_written, with_first}
+use Rattle.regroup_lines.specs.Places.{are_enough, field_count, is_chosen, trimmed}
+use Rattle.regroup_lines.specs.declared.rules.Fields.{Fields}
+use Rattle.regroup_lines.specs.declared.rules.Reading.{Reading}
+use Rattle.regroup_lines.specs.declared.rules.Reading.TheVariants.{Lenient, Strict}
+use Rattle.regroup_lines.specs.declared.rules.Rules.{Rules}
+use Rattle.regroup_lines.specs.declared.rules.Span.{Span}
+use Rattle.regroup_lines.specs.declared.rules.Span.TheVariants as span
+
+-- the same fault of a text, in the line of this number
+pub with_number : ℕ → Fault → Fault
+with_number n (NotText m) = NotText n
+with_number n (FieldNotText m k) = FieldNotText n k
+with_number n (Line m refusal) = Line n refusal
+with_number n (Field m k refusal) = Field n k refusal
+with_number n (FewFields m count) = FewFields n count
+with_number n fault = TooMany
+
+abbrev pub numbered : {T : Type 0} → ℕ → Result T Fault → Result T Fault
+numbered n written = result_map_both (λ text. text) (with_number n) written
+
+-- it is no failed write
+pub with_number-sent : (n : ℕ) (fault : Fault) → is_unsent (with_number n fault) ≡ false
+unfolding with_number
+with_number-sent n (NotText m) = refl
+with_number-sent n (FieldNotText m k) = refl
+with_number-sent n (Line m refusal) = refl
+with_number-sent n (Field m k refusal) = refl
+with_number-sent n (FewFields m count) = refl
+with_number-sent n fault = refl
+
+in_field-numbered : (n k : ℕ) (fault : Fault) → in_field k (with_number n fault) ≡ with_number n (in_field k fault)
+unfolding with_number
+in_field-numbered n k (NotText m) = refl
+in_field-numbered n k (FieldNotText m j) = refl
+in_field-numbered n k (Line m refusal) = refl
+in_field-numbered n k (Field m j refusal) = refl
+in_field-numbered n k (FewFields m count) = refl
+in_field-numbered n k fault = refl
+
+mapped : {T U : Type 0} (n : ℕ) (f : T → U) (written : Result T Fault) → result_map_both f (λ fault. fault) (numbered n written) ≡ numbered n (result_map_both f (λ fault. fault) written)
+mapped n f (Ok text) = refl
+mapped n f (Err fault) = refl
+
+in_field_mapped : {T U : Type 0} (n k : ℕ) (f : T → U) (written : Result T Fault) → result_map_both f (in_field k) (numbered n written) ≡ numbered n (result_map_both f (in_field k) written)
+in_field_mapped n k f (Ok text) = refl
+in_field_mapped n k f (Err fault) = ap Err (in_field-numbered n k fault)
+
+first : (n : ℕ) (x : Result (List ℕ) Fault) (xs : Result (List (List ℕ)) Fault) → with_first (numbered n x) (numbered n xs) ≡ numbered n (with_first x xs)
+first n (Ok text) (Ok texts) = refl
+first n (Ok text) (Err fault) = refl
+first n (Err fault) xs = refl
+
+-- either of two
+either : {T : Type 0} (n : ℕ) (is : Bool) (a b c d : Result T Fault) → a ≡ numbered n b → c ≡ numbered n d → (if is then a else c) ≡ numbered n (if is then b else d)
+either n true a b c d one other = one
+either n false a b c d one other = other
+
+module _ (rules : Rules) (from to : FormatData) (n m : ℕ) where
+  lenient : (is : Bool) (r : Result ℤ Refusal) → (if is then result_map_both (λ value. value) (Line n) r else Err (NotText n)) ≡ numbered n (if is then result_map_both (λ value. value) (Line m) r else Err (NotText m))
+  unfolding with_number
+  lenient true (Ok value) = refl
+  lenient true (Err refusal) = refl
+  lenient false r = refl
+
+  strict : (is : Bool) (o : Option (List ℕ)) (refusal : Refusal) → (if is then ok_or o (Line n refusal) else Err (NotText n)) ≡ numbered n (if is then ok_or o (Line m refusal) else Err (NotText m))
+  unfolding with_number
+  strict true (Some text) refusal = refl
+  strict true None refusal = refl
+  strict false o refusal = refl
+
+  fault : (is : Bool) (refusal : Refusal) → (if is then Line n refusal else NotText n) ≡ with_number n (if is then Line m refusal else NotText m)
+  unfolding with_number
+  fault true refusal = refl
+  fault false refusal = refl
+
+  number : (reading : Reading) (text : List ℕ) → number_written reading from to n text ≡ numbered n (number_written reading from to m text)
+  number Lenient text = ap (result_map_both (text_of to) (λ fault. fault)) (lenient (is_utf8 text) (number_read from text)) ∙ mapped n (text_of to) (number_in_text from m text)
+  number Strict text = strict (is_utf8 text) (option_map (decimal_text to) (decimal_read from text)) (ParseNumber (cut_text text))
+
+  place : (text : List ℕ) (at : ℕ × ℕ) → place_written rules from to n text at ≡ numbered n (place_written rules from to m text at)
+  place text at =
+      let bytes = slice_range text at.0 at.1 in
+      either n (rules.passes_empty && (at.0 == at.1)) (Ok text) (Ok text) _ _ refl
+      (ap (between (take at.0 text) (drop at.1 text)) (number rules.reading bytes) ∙ mapped n (λ number. take at.0 text ++ (number ++ drop at.1 text)) (number_written rules.reading from to m bytes))
+
+  field_number : (quotes : Bool) (text : List ℕ) → number_in_field rules quotes from to n text ≡ numbered n (number_in_field rules quotes from to m text)
+  field_number quotes text =
+      either n (quotes && list_any (is_barred rules.line_end) text) (Err (text_fault n text)) (Err (text_fault m text)) _ _ (ap Err (fault (is_utf8 text) (ParseNumber (cut_text text))))
+      (ap (result_map_both Some (λ fault. fault)) (number rules.reading text) ∙ mapped n Some (number_written rules.reading from to m text))
+
+  read : (quotes : Bool) (field : List ℕ) → field_read rules quotes from to n field ≡ numbered n (field_read rules quotes from to m field)
+  read quotes field =
+      let at = number_place quotes field in
+      either n (rules.passes_empty && (at.0 == at.1)) (Ok None) (Ok None) _ _ refl (field_number quotes (slice_range field at.0 at.1))
+
+  one_field : (fields : Fields) (k : ℕ) (chosen : Bool) (field : List ℕ) → field_written rules fields from to n k chosen field ≡ numbered n (field_written rules fields from to m k chosen field)
+  one_field fields k true field =
+      ap (result_map_both (field_with fields rules.line_end field) (in_field k)) (read fields.quotes field) ∙ in_field_mapped n k (field_with fields rules.line_end field) (field_read rules fields.quotes from to m field)
+  one_field fields k false field = refl
+
+  all_fields : (fields : Fields) (before : ℕ) (texts : List (List ℕ)) → fields_written rules fields from to n before texts ≡ numbered n (fields_written rules fields from to m before texts)
+  unfolding with_number
+  all_fields fields before [] = either n (are_enough fields.list.now before) (Ok []) (Ok []) (Err (FewFields n (field_count fields.delimiter fields.list.now before))) (Err (FewFields m (field_count fields.delimiter fields.list.now before))) refl refl
+  all_fields fields before (text ∷ texts) =
+      let chosen = is_chosen fields.list.now (before + 1) in
+      ap (λ x. with_first x (fields_written rules fields from to n (before + 1) texts)) (one_field fields (before + 1) chosen text)
+      ∙ ap (with_first (numbered n (field_written rules fields from to m (before + 1) chosen text))) (all_fields fields (before + 1) texts)
+      ∙ first n (field_written rules fields from to m (before + 1) chosen text) (fields_written rules fields from to m (before + 1) texts)
+
+  numbers : (where_is : Span) (text : List ℕ) → numbers_replaced where_is rules from to n text ≡ numbered n (numbers_replaced where_is rules from to m text)
+  numbers span.Line text = place text (0, length text)
+  numbers span.Trimmed text = place text (trimmed text (0, length text))
+  numbers (span.Fields fields) text =
+      ap (result_map_both (join_with_byte fields.delimiter) (λ fault. fault)) (all_fields fields 0 (fields_of fields text)) ∙ mapped n (join_with_byte fields.delimiter) (fields_written rules fields from to m 0 (fields_of fields text))
+
+  -- but a byte order mark
+  pub body-numbered : (text : List ℕ) → passes_mark rules.span n text ≡ passes_mark rules.span m text → body_written rules from to n text ≡ numbered n (body_written rules from to m text)
+  body-numbered text marks =
+      let rest = drop (length MARK) text in
+      ap (λ (marked : Bool). if marked then after_mark (numbers_replaced rules.span rules from to n rest) else numbers_replaced rules.span rules from to n text) marks
+      ∙ either n (passes_mark rules.span m text) _ _ _ _
+      (ap after_mark (numbers rules.span rest) ∙ mapped n (λ written. MARK ++ written) (numbers_replaced rules.span rules from to m rest)) (numbers rules.span text)
