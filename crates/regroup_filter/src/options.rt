@@ -86,6 +86,7 @@ fn span_of<'a>(matches: &ArgMatches<'_>, list: &'a [FieldRange]) -> Option<Span<
         list,
         delimiter,
         quotes: is_csv,
+        output: None,
     }))
 }
 

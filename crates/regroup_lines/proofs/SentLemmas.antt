@@ -13,7 +13,7 @@ use Rattle.num_format.specs.Readable.{number_read}
 use Rattle.regroup_lines.specs.Fault.{Fault, in_field, is_unsent}
 use Rattle.regroup_lines.specs.Fault.Fault.{FewFields, NotText, Line, Unclosed}
 use Rattle.regroup_lines.specs.Ended.{without_end}
-use Rattle.regroup_lines.specs.Csv.{field_with, is_barred, number_place}
+use Rattle.regroup_lines.specs.Csv.{field_with, is_barred, number_place, output_delimiter}
 use Rattle.regroup_lines.specs.LineFaults.{text_fault}
 use Rattle.regroup_lines.specs.Lines.{after_mark, between, body_or_itself, body_written, fault_written, field_read, field_written, fields_of, fields_written, number_in_field, number_in_text, number_written, numbers_replaced, passes_mark, place_written, quotes_in, record_written, text_written, with_first}
 use Rattle.regroup_lines.specs.Places.{are_enough, field_count, is_chosen, trimmed}
@@ -129,7 +129,7 @@ numbers-sent : (span : Span) (rules : Rules) (from to : FormatData) (number : �
 numbers-sent span.Line rules from to number text = place-sent rules from to number text (0, length text)
 numbers-sent span.Trimmed rules from to number text = place-sent rules from to number text (trimmed text (0, length text))
 numbers-sent (span.Fields cs) rules from to number text =
-    joined-sent cs.delimiter _ (fields-sent rules cs from to number 0 (fields_of cs text))
+    joined-sent (output_delimiter cs) _ (fields-sent rules cs from to number 0 (fields_of cs text))
 
 mark-sent : (written : Result (List ℕ) Fault) → IsSent written → IsSent (after_mark written)
 mark-sent (Ok text) sent = tt

@@ -15,7 +15,7 @@ use Rattle.num_format.specs.Text.{text_of}
 use Rattle.num_format_decimal.specs.Text.{decimal_text}
 use Rattle.num_format.specs.Readable.{number_read}
 use Rattle.regroup_lines.specs.Ended.{ended_by, without_end}
-use Rattle.regroup_lines.specs.Csv.{field_with, is_barred, number_place}
+use Rattle.regroup_lines.specs.Csv.{field_with, is_barred, number_place, output_delimiter}
 use Rattle.regroup_lines.specs.Decimals.{decimal_read}
 use Rattle.regroup_lines.specs.Fault.{Fault, are_any, in_field}
 use Rattle.regroup_lines.specs.Fault.Fault.{TooMany, FewFields, NotText, Line, Unclosed}
@@ -151,9 +151,9 @@ module _ (rules : Rules) (from to : FormatData) (n m : ℕ) where
   numbers-same span.Trimmed text = place-same text (trimmed text (0, length text))
   numbers-same (span.Fields cs) text =
       let parts = fields_of cs text in
-      join-map cs.delimiter (fields_written rules cs from to n 0 parts)
-      ∙ ap (option_map (join_with_byte cs.delimiter)) (fields-same cs 0 parts)
-      ∙ sym (join-map cs.delimiter (fields_written rules cs from to m 0 parts))
+      join-map (output_delimiter cs) (fields_written rules cs from to n 0 parts)
+      ∙ ap (option_map (join_with_byte (output_delimiter cs))) (fields-same cs 0 parts)
+      ∙ sym (join-map (output_delimiter cs) (fields_written rules cs from to m 0 parts))
 
   mark-map : (x : Result (List ℕ) Fault) → result_ok (after_mark x) ≡ option_map (λ text. MARK ++ text) (result_ok x)
   mark-map (Ok text) = refl
