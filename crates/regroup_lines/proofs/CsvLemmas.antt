@@ -1,22 +1,23 @@
 -- Fields that may be in quotes.
-use Rattle.std.proofs.Common.{◌≡◌, ℕ, ◌+◌, ◌<◌, Bool, true, false, List, [], ◌∷◌, ◌++◌, length, take, drop, get_or, Option, Some, Ok, Err, if◌then◌else◌, refl, sym, ap, subst, ◌∙◌, append-nil, take-append-drop}
-use Rattle.std.specs.Prelude.{◌&&◌, not}
+use Rattle.std.proofs.Common.{◌≡◌, ◌≢◌, ℕ, ◌+◌, ◌<◌, Bool, true, false, List, [], ◌∷◌, ◌++◌, length, take, drop, get_or, Option, Some, None, Ok, Err, refl, sym, ap, subst, ◌∙◌, arith, take-append-drop}
+use Rattle.std.specs.Prelude.{◌&&◌, map}
 use Rattle.std.specs.List.{flat_map, list_any}
 use Rattle.std.specs.Io.KnownBytes.{Appends}
+use Rattle.std.specs.Option.{option_map, unwrap_or}
 use Rattle.std.specs.Result.{result_map_both}
-use Rattle.std.proofs.lemmas.Bool.{or_parts}
+use Rattle.std.proofs.lemmas.Bool.{ne_eqb}
 use Rattle.std.proofs.lemmas.Grind.{flat_map-append}
-use Rattle.std.proofs.lemmas.List.{drop_more}
+use Rattle.std.proofs.lemmas.List.{drop-drop, drop_more}
 use Rattle.num_format.specs.Format.{FormatData}
 use Rattle.num_format.specs.Writing.{StopsWithin}
 use Rattle.num_format.proofs.WritingLemmas.{StopsWithin_prefix, StopsWithin_suffix}
-use Rattle.regroup_lines.specs.Csv.{doubled, enclosed, field_with, is_barred, is_quoted, needs_quotes, number_place, placed}
-use Rattle.regroup_lines.specs.Ended.{len_without}
+use Rattle.regroup_lines.specs.Csv.{field_with, is_barred, is_opened, is_quoted, number_place, output_delimiter, passed_as, placed, quoted_len}
 use Rattle.regroup_lines.specs.Fault.{Fault, in_field}
 use Rattle.regroup_lines.specs.Lines.{field_read, field_written, number_in_field, number_written}
 use Rattle.regroup_lines.specs.Places.{trimmed}
 use Rattle.regroup_lines.specs.Records.{is_quote}
 use Rattle.regroup_lines.specs.declared.rules.Fields.{Fields}
+use Rattle.regroup_lines.specs.declared.rules.Output.{Output}
 use Rattle.regroup_lines.specs.declared.rules.Rules.{Rules}
 
 -- a number that was read
@@ -34,52 +35,55 @@ module _ (rules : Rules) (cs : Fields) (from to : FormatData) (number n : ℕ) (
   field-err fault is = ap (result_map_both (field_with cs rules.line_end field) (in_field n)) is
 
 -- a text with what is around the number in a field
-placed-same : (may : Bool) (d e : ℕ) (quoted other : Bool) (before after text : List ℕ) → (may ≡ true → quoted ≡ other) →
-    (if may then enclosed d e quoted before after text else before ++ (text ++ after)) ≡ (if may then enclosed d e other before after text else before ++ (text ++ after))
-placed-same true d e quoted other before after text same = ap (λ b. enclosed d e b before after text) (same refl)
-placed-same false d e quoted other before after text same = refl
-
 pub placed-there : (cs : Fields) (e : ℕ) (field : List ℕ) (start end : ℕ) (quoted : Bool) (before after text : List ℕ) → (start, end) ≡ number_place cs.quotes field →
-    (cs.quotes ≡ true → quoted ≡ is_quoted field (trimmed field (0, length field))) → before ≡ take start field → after ≡ drop end field →
+    quoted ≡ (cs.quotes && is_quoted field (trimmed field (0, length field))) → before ≡ take start field → after ≡ drop end field →
     placed cs e quoted before after text ≡ field_with cs e field (Some text)
 placed-there cs e field start end quoted before after text place same is_before is_after =
-    placed-same cs.quotes cs.delimiter e quoted (is_quoted field (trimmed field (0, length field))) before after text same
-    ∙ ap (λ l. placed cs e (is_quoted field (trimmed field (0, length field))) l after text) is_before
-    ∙ ap (λ l. placed cs e (is_quoted field (trimmed field (0, length field))) (take start field) l text) is_after
-    ∙ ap (λ p. placed cs e (is_quoted field (trimmed field (0, length field))) (take p.0 field) (drop p.1 field) text) place
+    ap (λ b. placed cs e b before after text) same
+    ∙ ap (λ l. placed cs e (cs.quotes && is_quoted field (trimmed field (0, length field))) l after text) is_before
+    ∙ ap (λ l. placed cs e (cs.quotes && is_quoted field (trimmed field (0, length field))) (take start field) l text) is_after
+    ∙ ap (λ p. placed cs e (cs.quotes && is_quoted field (trimmed field (0, length field))) (take p.0 field) (drop p.1 field) text) place
 
--- a text that needs no quotes has none to double
-doubled-none : (d e : ℕ) (text : List ℕ) → list_any (needs_quotes d e) text ≡ false → doubled text ≡ text
-doubled-none d e [] none = refl
-doubled-none d e (b ∷ text) none =
-    let parts = or_parts (needs_quotes d e b) (list_any (needs_quotes d e) text) none in
-    let plain = or_parts (is_quote b) _ parts.0 in
-    ap (λ (q : Bool). (if q then b ∷ b ∷ [] else b ∷ []) ++ doubled text) plain.0 ∙ ap (λ l. b ∷ l) (doubled-none d e text parts.1)
+-- fields that are passed on as they are, and the byte between two
+pub delimiter-passed : (cs : Fields) → cs.output ≡ None → output_delimiter cs ≡ cs.delimiter
+delimiter-passed cs none = ap (λ o. unwrap_or (option_map (λ (output : Output). output.delimiter) o) cs.delimiter) none
 
-and-false : (x y : Bool) → y ≡ false → (x && y) ≡ false
-and-false true y is = is
-and-false false y is = refl
+pub passed-none : (cs : Fields) (e : ℕ) (fields : List (List ℕ)) → cs.output ≡ None → map (λ field. field_with cs e field None) fields ≡ fields
+passed-none cs e [] none = refl
+passed-none cs e (field ∷ fields) none =
+    ap (λ o. passed_as o cs e field ∷ map (λ field. field_with cs e field None) fields) none ∙ ap (λ l. field ∷ l) (passed-none cs e fields none)
 
-module _ (d e : ℕ) (quoted : Bool) (before after text : List ℕ) where
-  abbrev in_quotes : List ℕ
-  in_quotes = 34 ∷ (before ++ (doubled text ++ (take (len_without 13 after) after ++ 34 ∷ drop (len_without 13 after) after)))
+-- how many bytes from a place on are before the quote that closes the field, by the next byte
+len-plain : (b : ℕ) (text : List ℕ) → is_quote b ≡ false → quoted_len (b ∷ text) ≡ 1 + quoted_len text
+len-plain b [] plain = rw plain refl
+len-plain b (c ∷ text) plain = rw plain refl
 
-  abbrev as_it_is : List ℕ
-  as_it_is = before ++ (doubled text ++ after)
+len-closed : (b : ℕ) (text : List ℕ) → is_quote b ≡ true → is_opened text ≡ false → quoted_len (b ∷ text) ≡ 0
+len-closed b [] closes other = rw closes refl
+len-closed b (c ∷ text) closes other = rw (closes, other) refl
 
-  pub enclosed-plain : list_any (needs_quotes d e) text ≡ false → (shown : List ℕ) → shown ≡ text → before ++ (shown ++ (after ++ [])) ≡ enclosed d e quoted before after text
-  enclosed-plain none shown is =
-      ap (λ l. before ++ (l ++ (after ++ []))) (is ∙ sym (doubled-none d e text none)) ∙ ap (λ l. before ++ (doubled text ++ l)) (append-nil after)
-      ∙ sym (ap (λ (b : Bool). if b then in_quotes else as_it_is) (and-false (not quoted) (list_any (needs_quotes d e) text) none))
+len-pair : (b c : ℕ) (text : List ℕ) → is_quote b ≡ true → is_quote c ≡ true → quoted_len (b ∷ c ∷ text) ≡ 2 + quoted_len text
+len-pair b c text first second = rw (first, second) refl
 
-  pub enclosed-quoted : quoted ≡ false → list_any (needs_quotes d e) text ≡ true → (shown blanks end : List ℕ) (k : ℕ) → shown ≡ doubled text → k ≡ len_without 13 after →
-      blanks ≡ take k after → end ≡ drop k after → 34 ∷ (before ++ (shown ++ (blanks ++ 34 ∷ (end ++ [])))) ≡ enclosed d e quoted before after text
-  enclosed-quoted outside some shown blanks end k is_shown is_k is_blanks is_end =
-      let both : (not quoted && list_any (needs_quotes d e) text) ≡ true = rw (outside, some) refl in
-      ap (λ l. 34 ∷ (before ++ (l ++ (blanks ++ 34 ∷ (end ++ []))))) is_shown
-      ∙ ap (λ l. 34 ∷ (before ++ (doubled text ++ (l ++ 34 ∷ (end ++ []))))) (is_blanks ∙ ap (λ n. take n after) is_k)
-      ∙ ap (λ l. 34 ∷ (before ++ (doubled text ++ (take (len_without 13 after) after ++ 34 ∷ l)))) (append-nil end ∙ is_end ∙ ap (λ n. drop n after) is_k)
-      ∙ sym (ap (λ (b : Bool). if b then in_quotes else as_it_is) both)
+module _ (text : List ℕ) (at : ℕ) (low : at < length text) where
+  cut : drop at text ≡ get_or text at 0 ∷ drop (at + 1) text
+  cut = drop_more text at 0 low
+
+  pub quoted-plain : get_or text at 0 ≢ 34 → quoted_len (drop at text) ≡ 1 + quoted_len (drop (at + 1) text)
+  quoted-plain other = ap quoted_len cut ∙ len-plain _ _ (ne_eqb (get_or text at 0) 34 other)
+
+  pub quoted-closed : get_or text at 0 ≡ 34 → is_opened (drop (at + 1) text) ≡ false → quoted_len (drop at text) ≡ 0
+  quoted-closed closes other = ap quoted_len cut ∙ len-closed _ _ (ap is_quote closes) other
+
+  pub quoted-pair : get_or text at 0 ≡ 34 → is_opened (drop (at + 1) text) ≡ true → quoted_len (drop at text) ≡ 2 + quoted_len (drop (at + 2) text)
+  quoted-pair first second =
+      let sum : at + 1 + 1 ≡ at + 2 = omega arith in
+      ap quoted_len cut ∙ by (drop (at + 1) text) second
+      ∙ ap (λ l. 2 + quoted_len l) (drop-drop 1 (at + 1) text ∙ ap (λ n. drop n text) sum)
+    where
+      by : (rest : List ℕ) → is_opened rest ≡ true → quoted_len (get_or text at 0 ∷ rest) ≡ 2 + quoted_len (drop 1 rest)
+      by [] opened = absurd (cc)
+      by (c ∷ rest) opened = len-pair _ c rest (ap is_quote first) opened
 
 -- parts of a text, of which one is not all sent
 pub parts-unsent : {X : Type 0} (f : X → List ℕ) (parts : List X) (i : ℕ) (x : X) (a b c : Option (List ℕ)) → i < length parts → Appends a b (flat_map f (take i parts)) →

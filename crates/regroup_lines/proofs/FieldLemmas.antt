@@ -1,7 +1,8 @@
 -- What becomes of the fields of a line, field after field.
 use Rattle.std.proofs.Common.{◌≡◌, ℕ, ◌+◌, ◌<◌, ◌≤◌, Bool, true, false, List, [], ◌∷◌, ◌++◌, length, Option, Some, None, Result, Ok, Err, if◌then◌else◌, refl, sym, ap, subst, ◌∙◌, arith, append_assoc, append-nil}
-use Rattle.std.specs.Prelude.{nat_le, nat_lt, ◌&&◌}
+use Rattle.std.specs.Prelude.{nat_le, nat_lt, ◌&&◌, ◌||◌, map}
 use Rattle.std.specs.List.{join_with_byte}
+use Rattle.std.specs.Option.{is_some}
 use Rattle.std.specs.Result.{result_map_both, result_or}
 use Rattle.std.specs.Io.KnownBytes.{Appends}
 use Rattle.std.proofs.KnownBytes.{Appends-nil, Appends-trans}
@@ -11,6 +12,7 @@ use Rattle.num_format.specs.Format.{FormatData}
 use Rattle.num_format.specs.Writing.{Sends, StopsWithin}
 use Rattle.regroup_lines.specs.Ended.{ended_by}
 use Rattle.num_format.proofs.WritingLemmas.{StopsWithin_prefix, StopsWithin_suffix}
+use Rattle.regroup_lines.specs.Csv.{field_with}
 use Rattle.regroup_lines.specs.Fault.{Fault}
 use Rattle.regroup_lines.specs.Fault.Fault.{FewFields, Write}
 use Rattle.regroup_lines.specs.Fields.{SendsIfOk, checked}
@@ -22,6 +24,7 @@ use Rattle.regroup_lines.specs.declared.line_fault.LineFault.TheVariants as faul
 use Rattle.regroup_lines.specs.declared.rules.FieldRange.{FieldRange}
 use Rattle.regroup_lines.specs.declared.rules.Fields.{Fields}
 use Rattle.regroup_lines.specs.declared.rules.Rules.{Rules}
+use Rattle.regroup_lines.proofs.CsvLemmas.{passed-none}
 
 -- a test that fails of a number fails of those above it
 at_most-later : (last : Option ℕ) (m n : ℕ) → m ≤ n → is_at_most m last ≡ false → is_at_most n last ≡ false
@@ -36,7 +39,7 @@ and_true : (x y : Bool) → x ≡ true → y ≡ true → (x && y) ≡ true
 and_true true y here there = there
 and_true false y here there = here
 
--- where past range reaches a field, neither it nor one after it is chosen, and the line has enough of them
+-- where no range reaches a field, neither it nor one after it is chosen, and the line has enough of them
 pub chosen_from-later : (list : List FieldRange) (m n : ℕ) → m ≤ n → is_chosen_from list m ≡ false → is_chosen_from list n ≡ false
 chosen_from-later [] m n later past = refl
 chosen_from-later (range ∷ list) m n later past =
@@ -59,14 +62,19 @@ enough-all (range ∷ list) count past =
     let parts = or_parts (is_at_most (count + 1) range.last) (is_chosen_from list (count + 1)) past in
     and_true _ _ (enough-one range.first range.last count parts.0) (enough-all list count parts.1)
 
+-- where nothing is written in another way
+pub unchanged : {T : Type 0} (o : Option T) (chosen : Bool) → (is_some o || chosen) ≡ false → (o ≡ None) × (chosen ≡ false)
+unchanged None chosen is = (refl, is)
+unchanged (Some x) chosen is = absurd (cc)
+
 module _ (rules : Rules) (cs : Fields) (from to : FormatData) (number : ℕ) where
-  -- so the fields from there on are passed on
+  -- so the fields from there on have no number
   pub fields-passed : (count : ℕ) (fields : List (List ℕ)) → is_chosen_from cs.list.now (count + 1) ≡ false →
-      fields_written rules cs from to number count fields ≡ Ok fields
+      fields_written rules cs from to number count fields ≡ Ok (map (λ field. field_with cs rules.line_end field None) fields)
   fields-passed count [] past = ap (λ enough. if enough then Ok [] else Err (FewFields number (field_count cs.delimiter cs.list.now count))) (enough-all cs.list.now count past)
   fields-passed count (field ∷ fields) past =
       ap (λ chosen. with_first (field_written rules cs from to number (count + 1) chosen field) (fields_written rules cs from to number (count + 1) fields)) (chosen-none cs.list.now (count + 1) past)
-      ∙ ap (with_first (Ok field)) (fields-passed (count + 1) fields (chosen_from-later cs.list.now (count + 1) (count + 1 + 1) (omega arith) past))
+      ∙ ap (with_first (Ok (field_with cs rules.line_end field None))) (fields-passed (count + 1) fields (chosen_from-later cs.list.now (count + 1) (count + 1 + 1) (omega arith) past))
 
 -- a fault, or none, before others
 pub checked-later : (first : Result (List ℕ) Fault) (rest : Result (List (List ℕ)) Fault) → Ok tt ≡ checked first → checked (with_first first rest) ≡ checked rest
@@ -185,10 +193,10 @@ module _ (rules : Rules) (cs : Fields) (from to : FormatData) (number d : ℕ) (
         (sends.0, subst (StopsWithin a c) (whole text is) (StopsWithin_suffix a b c so_far.sent text so_far.appended sends.1))
 
     -- all other fields are passed on
-    pub sent-rest : {T : Type 0} (c : Option (List ℕ)) (text : List ℕ) (result : Result T Fault) → is_chosen_from cs.list.now (count + 1) ≡ false →
+    pub sent-rest : {T : Type 0} (c : Option (List ℕ)) (text : List ℕ) (result : Result T Fault) → cs.output ≡ None → is_chosen_from cs.list.now (count + 1) ≡ false →
         join_with_byte d fields ≡ text → SendsIfOk (Ok (ended_by rules.line_end text)) b c result → SendsIfOk (Ok (ended_by rules.line_end (join_with_byte d texts))) a c result
-    sent-rest c text result past split sends =
-        let left : so_far.left ≡ fields = ap texts_of (sym so_far.left_is ∙ fields-passed rules cs from to number count fields past) in
+    sent-rest c text result none past split sends =
+        let left : so_far.left ≡ fields = ap texts_of (sym so_far.left_is ∙ fields-passed rules cs from to number count fields past) ∙ passed-none cs rules.line_end fields none in
         sent-last c (ended_by rules.line_end text) result
         (ap (ended_by rules.line_end) (ap (join_with_byte d) left ∙ split)) sends
 

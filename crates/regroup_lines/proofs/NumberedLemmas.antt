@@ -11,7 +11,7 @@ use Rattle.num_format.specs.Readable.{number_read}
 use Rattle.num_format.specs.Refusal.{ParseNumber, Refusal}
 use Rattle.num_format.specs.Text.{text_of}
 use Rattle.num_format_decimal.specs.Text.{decimal_text}
-use Rattle.regroup_lines.specs.Csv.{field_with, is_barred, number_place}
+use Rattle.regroup_lines.specs.Csv.{field_with, is_barred, number_place, output_delimiter}
 use Rattle.regroup_lines.specs.Decimals.{decimal_read}
 use Rattle.regroup_lines.specs.Fault.{Fault, in_field, is_unsent}
 use Rattle.regroup_lines.specs.Fault.Fault.{FewFields, Field, FieldNotText, Line, NotText, TooMany}
@@ -130,7 +130,7 @@ module _ (rules : Rules) (from to : FormatData) (n m : ℕ) where
   numbers span.Line text = place text (0, length text)
   numbers span.Trimmed text = place text (trimmed text (0, length text))
   numbers (span.Fields fields) text =
-      ap (result_map_both (join_with_byte fields.delimiter) (λ fault. fault)) (all_fields fields 0 (fields_of fields text)) ∙ mapped n (join_with_byte fields.delimiter) (fields_written rules fields from to m 0 (fields_of fields text))
+      ap (result_map_both (join_with_byte (output_delimiter fields)) (λ fault. fault)) (all_fields fields 0 (fields_of fields text)) ∙ mapped n (join_with_byte (output_delimiter fields)) (fields_written rules fields from to m 0 (fields_of fields text))
 
   -- but a byte order mark
   pub body-numbered : (text : List ℕ) → passes_mark rules.span n text ≡ passes_mark rules.span m text → body_written rules from to n text ≡ numbered n (body_written rules from to m text)

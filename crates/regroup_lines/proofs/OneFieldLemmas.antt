@@ -9,7 +9,7 @@ use Rattle.std.proofs.lemmas.List.{drop-drop, drop_at, length-append, length-dro
 use lib.Seq.{take-add}
 use Rattle.num_format.specs.Format.{FormatData}
 use Rattle.regroup_lines.specs.Ended.{ended_by}
-use Rattle.regroup_lines.specs.Csv.{field_with}
+use Rattle.regroup_lines.specs.Csv.{field_with, passed_as}
 use Rattle.regroup_lines.specs.Fault.{Fault, in_field}
 use Rattle.regroup_lines.specs.Lines.{field_read, field_written, fields_of, fields_replaced, fields_written, one_replaced, quotes_of, with_first}
 use Rattle.regroup_lines.specs.Lists.{one_field}
@@ -17,7 +17,7 @@ use Rattle.regroup_lines.specs.Places.{field_place, is_chosen, is_chosen_from}
 use Rattle.regroup_lines.specs.declared.records.Within.TheVariants.{Start}
 use Rattle.regroup_lines.specs.declared.rules.Fields.{Fields}
 use Rattle.regroup_lines.specs.declared.rules.Rules.{Rules}
-use Rattle.regroup_lines.proofs.CsvLemmas.{field-err, field-ok}
+use Rattle.regroup_lines.proofs.CsvLemmas.{delimiter-passed, field-err, field-ok, passed-none}
 use Rattle.regroup_lines.proofs.FieldLemmas.{fields-passed}
 use Rattle.regroup_lines.proofs.RecordLemmas.{split-joined}
 
@@ -94,7 +94,7 @@ rest-written d field next fields (Ok text) (Ok texts) = ap Ok (sym (append_assoc
 rest-written d field next fields (Ok text) (Err fault) = refl
 rest-written d field next fields (Err fault) rest = refl
 
-module _ (rules : Rules) (cs : Fields) (from to : FormatData) (number one : ℕ) (is_one : cs.list.now ≡ one_field one ∷ []) where
+module _ (rules : Rules) (cs : Fields) (from to : FormatData) (number one : ℕ) (is_one : cs.list.now ≡ one_field one ∷ []) (none : cs.output ≡ None) where
   abbrev d : ℕ
   d = cs.delimiter
 
@@ -129,7 +129,7 @@ module _ (rules : Rules) (cs : Fields) (from to : FormatData) (number one : ℕ)
       ap (λ chosen. result_map_both (join_with_byte d) (λ fault. fault) (with_first (field_written rules cs from to number (count + 1) chosen field) later)) (one-chosen count is)
       ∙ ap (λ n. result_map_both (join_with_byte d) (λ fault. fault) (with_first (field_written rules cs from to number n true field) later)) (sym is)
       ∙ ap (λ rest. result_map_both (join_with_byte d) (λ fault. fault) (with_first (field_written rules cs from to number one true field) rest))
-      (fields-passed rules cs from to number (count + 1) fields (one-past count is))
+      (fields-passed rules cs from to number (count + 1) fields (one-past count is) ∙ ap Ok (passed-none cs rules.line_end fields none))
       ∙ first-passed d (field_written rules cs from to number one true field) fields
       ∙ ap (λ l. result_map_both (λ f. f ++ more) (λ fault. fault) (field_written rules cs from to number one true l)) (sym there)
       ∙ ap (λ l. result_map_both (λ f. f ++ l) (λ fault. fault) (field_written rules cs from to number one true (slice_range text 0 end))) (sym back)
@@ -149,6 +149,7 @@ module _ (rules : Rules) (cs : Fields) (from to : FormatData) (number one : ℕ)
       let step : written count (field ∷ rest) ≡ result_map_both (λ t. pre ++ t) (λ fault. fault) later =
       ap (λ chosen. result_map_both (join_with_byte d) (λ fault. fault)
       (with_first (field_written rules cs from to number (count + 1) chosen field) (fields_written rules cs from to number (count + 1) rest))) (one-before count low)
+      ∙ ap (λ o. result_map_both (join_with_byte d) (λ fault. fault) (with_first (Ok (passed_as o cs rules.line_end field)) (fields_written rules cs from to number (count + 1) rest))) none
       ∙ rest-written d field next fields (field_written rules cs from to number (count + 1 + 1) (is_chosen cs.list.now (count + 1 + 1)) next) (fields_written rules cs from to number (count + 1 + 1) fields) in
       step
       ∙ ap (result_map_both (λ t. pre ++ t) (λ fault. fault)) same
@@ -171,13 +172,17 @@ module _ (rules : Rules) (cs : Fields) (from to : FormatData) (number one : ℕ)
       fields_replaced cs rules from to number text ≡ at_place rules cs from to number one (fields_replaced cs rules from to number text) text place
   one-replaced text place some there =
       let parts = fields_of cs text in
-      let whole = fields_replaced cs rules from to number text in
-      one-written 0 parts (one - 1) (omega (arith, some))
+      let joined : fields_replaced cs rules from to number text ≡ written 0 parts =
+      ap (λ b. result_map_both (join_with_byte b) (λ fault. fault) (fields_written rules cs from to number 0 parts)) (delimiter-passed cs none) in
+      let whole = written 0 parts in
+      joined
+      ∙ one-written 0 parts (one - 1) (omega (arith, some))
       ∙ ap (λ l. at_place rules cs from to number one whole l (field_place 0 parts (one - 1))) (split-joined (quotes_of cs) d Start text)
       ∙ ap (at_place rules cs from to number one whole text) (sym there)
+      ∙ ap (λ other. at_place rules cs from to number one other text place) (sym joined)
 
 -- such a line by what was read of the field
-module _ (rules : Rules) (cs : Fields) (from to : FormatData) (number one : ℕ) (text : List ℕ) (start end : ℕ) where
+module _ (rules : Rules) (cs : Fields) (from to : FormatData) (number one : ℕ) (text : List ℕ) (start end : ℕ) (none : cs.output ≡ None) where
   abbrev field : List ℕ
   field = slice_range text start end
 
@@ -189,6 +194,7 @@ module _ (rules : Rules) (cs : Fields) (from to : FormatData) (number one : ℕ)
   one-empty ordered is =
       let sum : start + (end - start) ≡ end = omega (arith, ordered) in
       ap (result_map_both (λ l. take start text ++ (l ++ drop end text)) (λ fault. fault)) (field-ok rules cs from to number one field None is)
+      ∙ ap (λ o. Ok (take start text ++ (passed_as o cs rules.line_end field ++ drop end text))) none
       ∙ ap (λ l. Ok (take start text ++ (field ++ l))) (ap (λ n. drop n text) (sym sum) ∙ sym (drop-drop (end - start) start text))
       ∙ ap (λ l. Ok (take start text ++ l)) (take-append-drop (end - start) (drop start text)) ∙ ap Ok (take-append-drop start text)
 

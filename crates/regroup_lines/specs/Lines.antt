@@ -11,7 +11,7 @@ use Rattle.num_format.specs.Text.{text_of}
 use Rattle.num_format_decimal.specs.Text.{decimal_text}
 use Rattle.num_format.specs.Readable.{number_read}
 use Rattle.regroup_lines.specs.Ended.{ended_by, without_end}
-use Rattle.regroup_lines.specs.Csv.{field_with, is_barred, number_place}
+use Rattle.regroup_lines.specs.Csv.{field_with, is_barred, number_place, output_delimiter}
 use Rattle.regroup_lines.specs.Decimals.{decimal_read}
 use Rattle.regroup_lines.specs.Fault.{Fault, in_field}
 use Rattle.regroup_lines.specs.Fault.Fault.{TooMany, TooLong, FewFields, Flush, Read, NotText, Line, Unclosed}
@@ -109,7 +109,7 @@ field_read rules quotes from to number field =
 -- the field of the last number, which may be chosen: its fault names it
 abbrev pub field_written : Rules → Fields → FormatData → FormatData → ℕ → ℕ → (chosen : Bool) → List ℕ → Result (List ℕ) Fault
 field_written rules fields from to number n chosen field =
-    if chosen then result_map_both (field_with fields rules.line_end field) (in_field n) (field_read rules fields.quotes from to number field) else Ok field
+    if chosen then result_map_both (field_with fields rules.line_end field) (in_field n) (field_read rules fields.quotes from to number field) else Ok (field_with fields rules.line_end field None)
 
 -- a text before others, or the first fault
 abbrev pub with_first : Result (List ℕ) Fault → Result (List (List ℕ)) Fault → Result (List (List ℕ)) Fault
@@ -135,7 +135,7 @@ fields_of fields text = split_at (quotes_of fields) fields.delimiter Start text
 -- a line with the number in each chosen field replaced
 abbrev pub fields_replaced : Fields → Rules → FormatData → FormatData → ℕ → List ℕ → Result (List ℕ) Fault
 fields_replaced fields rules from to number text =
-    result_map_both (join_with_byte fields.delimiter) (λ fault. fault) (fields_written rules fields from to number 0 (fields_of fields text))
+    result_map_both (join_with_byte (output_delimiter fields)) (λ fault. fault) (fields_written rules fields from to number 0 (fields_of fields text))
 
 -- a line with one chosen field, which is at this place
 abbrev pub one_replaced : Fields → Rules → FormatData → FormatData → ℕ → (one : ℕ) → List ℕ → ℕ × ℕ → Result (List ℕ) Fault

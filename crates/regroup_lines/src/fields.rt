@@ -1,12 +1,12 @@
 //! The fields of a line, or of a record of RFC 4180: those that are chosen have a number each, which may be in quotes.
-ghost use Rattle.std.specs.Prelude.{◌≡◌, ◌≤◌, ◌<◌, ◌+◌, true, [], ◌∷◌, ◌++◌, drop, length, slice_range, take, IfSome};
+ghost use Rattle.std.specs.Prelude.{◌≡◌, ◌≤◌, ◌<◌, ◌+◌, ◌&&◌, cond, true, [], ◌∷◌, ◌++◌, drop, length, slice_range, take, None, IfSome};
 ghost use Rattle.std.specs.List.{flat_map, list_any};
 ghost use Rattle.std.specs.Option.{option_map};
 ghost use Rattle.std.specs.Result.{result_map_both};
 ghost use Rattle.num_format.specs.Format.{FormatData};
 ghost use Rattle.num_format.specs.Writing.{Sends};
 ghost use Rattle.regroup_lines.specs.Ended.{ended_by};
-ghost use Rattle.regroup_lines.specs.Csv.{doubled, enclosed, is_barred, is_quoted, needs_quotes, number_place, placed};
+ghost use Rattle.regroup_lines.specs.Csv.{bare_of, doubled, enclosed, field_with, front_of, is_barred, is_opened, is_quoted, needs_quotes, number_place, output_as, part_text, placed, quoted_len, quoted_of};
 ghost use Rattle.regroup_lines.specs.Fields.{SendsIfOk, checked};
 ghost use Rattle.regroup_lines.specs.LineFaults.{line_fault_of};
 ghost use Rattle.regroup_lines.specs.Lines.{field_read, field_written, fields_of, fields_replaced, fields_written, number_in_field, one_replaced};
@@ -15,23 +15,19 @@ ghost use Rattle.regroup_lines.specs.Places.{field_place, place_of, trimmed};
 ghost use Rattle.regroup_lines.specs.Sending.{SendsLine};
 ghost use Rattle.regroup_lines.specs.declared.rules.Rules.{Rules};
 
-use crate::capacities::MAX_SENT_LINE_LEN;
 use crate::ends::{find_end, len_without};
+use crate::fields::Quotes::{Doubled, Plain};
 use crate::line_fault::LineFault;
 use crate::number::{Around, Number, send_whole};
 use crate::pass_on;
 use crate::records::{QUOTE, Within};
-use crate::rules::{Fields, Rules, trim};
-use arrayvec::ArrayVec;
+use crate::rules::{Fields, Output, Rules, trim};
 use num_format::to_formatted_string::write_whole;
 use num_format::{Buffer, Format};
 use num_format_decimal::DecimalBuffer;
 use std::io;
 use std::io::Write;
 use std::ops::Range;
-
-/// The most bytes of the text of a number with each quote doubled.
-const MAX_DOUBLED_LEN: usize = 2 * MAX_SENT_LINE_LEN;
 
 /// Where the number is in a field, and whether quotes are around it.
 #[derive(Clone, Copy)]
@@ -49,6 +45,26 @@ struct Frame<'f, 'a> {
     is_quoted: bool,
     before: &'a [u8],
     after: &'a [u8],
+}
+
+/// The text of a field around its number, without the quotes around it.
+#[derive(Clone, Copy)]
+struct Inner<'a> {
+    /// What is before the number.
+    front: &'a [u8],
+    /// What is after it in the quotes, where each quote is doubled.
+    quoted: &'a [u8],
+    /// What is after these.
+    bare: &'a [u8],
+}
+
+/// How the quotes of a text are sent.
+#[derive(Clone, Copy)]
+enum Quotes {
+    /// As they are.
+    Plain,
+    /// Each one twice.
+    Doubled,
 }
 
 /// Sends a line with the number in each chosen field regrouped, and the byte that ends it.
@@ -71,7 +87,7 @@ pub(crate) fn regroup_fields<'a, W: Write, F: Format, G: Format>(
             Some(place) => regroup_one(rules, fields, field, place, text, number, w, from, to),
             None => regroup_each(rules, fields, text, number, w, from, to),
         },
-        None => regroup_each(rules, fields, text, number, w, from, to),
+        _ => regroup_each(rules, fields, text, number, w, from, to),
     }
 }
 
@@ -89,6 +105,7 @@ fn regroup_one<'a, W: Write, F: Format, G: Format>(
 ) -> Result<(), LineFault<'a>>
     requires ordered { place.start ≤ place.end }
     requires within { place.end ≤ length text.now }
+    requires passed { fields.now.output ≡ None }
     ensures { SendsLine rules.now.line_end (one_replaced fields.now rules.now (F.answers from.now) (G.answers to.now) number one text.now (place_of place))
         (W.contents w.old) (W.contents w.new) (result_map_both (λ sent. sent) line_fault_of result) }
 {
@@ -193,9 +210,10 @@ fn send_fields<'a, W: Write, F: Format, G: Format>(
         (fields_replaced fields.now rules.now (F.answers from.now) (G.answers to.now) number text.now))
         (W.contents w.old) (W.contents w.new) (result_map_both (λ sent. sent) line_fault_of result) }
 {
+    let delimiter = fields.output_delimiter();
     let mut start = 0;
     let mut count = 0;
-    'fields: while fields.reach(count + 1) {
+    'fields: while fields.change(count + 1) {
         let end = field_end(fields, text, start);
         count += 1;
         let is_chosen = fields.contain(count);
@@ -204,7 +222,7 @@ fn send_fields<'a, W: Write, F: Format, G: Format>(
         if end == text.len() {
             return send_bytes(&[rules.line_end], w);
         }
-        send_bytes(&[fields.delimiter], w)?;
+        send_bytes(&[delimiter], w)?;
         start = end + 1;
     }
     pass_on(&text[start..], rules.line_end, w).or(Err(LineFault::Write))
@@ -285,21 +303,67 @@ fn send_field<'a, W: Write, F: Format, G: Format>(
         (W.contents w.old) (W.contents w.new) (result_map_both (λ sent. sent) line_fault_of result) }
 {
     if !is_chosen {
-        return send_bytes(field, w);
+        return send_unchanged(rules, fields, field, w);
     }
     let place = place_in(fields.quotes, field);
     let frame = frame_of(rules, fields, place, field);
     match read_field(rules, fields.quotes, place, field, number, from) {
         Ok(Some(value)) => send_value(&value, &frame, w, to).or(Err(LineFault::Write)),
-        Ok(None) => send_bytes(field, w),
+        Ok(None) => send_unchanged(rules, fields, field, w),
         Err(fault) => Err(fault.in_field(count)),
+    }
+}
+
+/// Sends a field whose text has no number.
+fn send_unchanged<W: Write>(
+    rules: &Rules,
+    fields: &Fields,
+    field: &[u8],
+    w: &mut W,
+) -> Result<(), LineFault<'static>>
+    ensures { SendsIfOk (Ok (field_with fields.now rules.now.line_end field.now None)) (W.contents w.old) (W.contents w.new)
+        (result_map_both (λ sent. sent) line_fault_of result) }
+{
+    if fields.output.is_none() {
+        return send_bytes(field, w);
+    }
+    let place = text_start(fields.quotes, field);
+    let frame = frame_of(rules, fields, place, field);
+    let sent = send_text(&frame, "", w);
+    sent.or(Err(LineFault::Write))
+}
+
+/// Returns where the text of a field begins: after the quote that opens the field, if there is one.
+fn text_start(quotes: bool, field: &[u8]) -> Place
+    ensures quoted { result.is_quoted ≡ (quotes && is_opened field.now) }
+    ensures start { result.start ≡ cond (quotes && is_opened field.now) 1 0 }
+    ensures end { result.end ≡ result.start }
+    ensures within { result.end ≤ length field.now }
+{
+    let is_quoted = quotes && is_opened(field);
+    let start = is_quoted as usize;
+    Place {
+        start,
+        end: start,
+        is_quoted,
+    }
+}
+
+/// Returns whether a field begins with a quote.
+fn is_opened(field: &[u8]) -> bool
+    ensures value { result ≡ is_opened field.now }
+    ensures some { result ≡ true → 1 ≤ length field.now }
+{
+    match field {
+        [byte, ..] => *byte == QUOTE,
+        [] => false,
     }
 }
 
 /// Returns where the number is in a field, which may be in quotes.
 fn place_in(quotes: bool, field: &[u8]) -> Place
     ensures place { (result.start, result.end) ≡ number_place quotes field.now }
-    ensures quoted { quotes ≡ true → result.is_quoted ≡ is_quoted field.now (trimmed field.now (0, length field.now)) }
+    ensures quoted { result.is_quoted ≡ (quotes && is_quoted field.now (trimmed field.now (0, length field.now))) }
     ensures ordered { result.start ≤ result.end }
     ensures within { result.end ≤ length field.now }
 {
@@ -455,35 +519,156 @@ fn send_value<W: Write, G: Format>(
 
 /// Sends a text, and what is around it.
 fn send_text<W: Write>(frame: &Frame<'_, '_>, text: &str, w: &mut W) -> io::Result<()>
-    requires { length text.now < MAX_SENT_LINE_LEN }
     ensures { Sends result (W.contents w.old) (W.contents w.new)
         (placed frame.now.fields frame.now.line_end frame.now.is_quoted frame.now.before.now frame.now.after.now text.now) }
 {
-    if frame.fields.quotes {
-        send_enclosed(frame, text, w)
-    } else {
-        send_all(&[frame.before, text.as_bytes(), frame.after], w)
+    match &frame.fields.output {
+        Some(output) => send_output(output, frame, text, w),
+        None => send_enclosed(frame, text, w),
     }
 }
 
-/// Sends a text of a field that may be in quotes, and what is around it.
-fn send_enclosed<W: Write>(frame: &Frame<'_, '_>, text: &str, w: &mut W) -> io::Result<()>
-    requires { length text.now < MAX_SENT_LINE_LEN }
+/// Sends a text of a field that is passed on but for its number, and what is around it.
+fn send_enclosed<'a, W: Write>(frame: &Frame<'_, 'a>, text: &'a str, w: &mut W) -> io::Result<()>
     ensures { Sends result (W.contents w.old) (W.contents w.new)
-        (enclosed frame.now.fields.delimiter frame.now.line_end frame.now.is_quoted frame.now.before.now frame.now.after.now text.now) }
+        (enclosed frame.now.fields frame.now.line_end frame.now.is_quoted frame.now.before.now frame.now.after.now text.now) }
 {
     let text = text.as_bytes();
-    if !any_needs_quotes(frame.fields.delimiter, frame.line_end, text) {
-        return send_all(&[frame.before, text, frame.after], w);
+    let delimiter = frame.fields.delimiter;
+    if !frame.fields.quotes || !any_needs_quotes(delimiter, frame.line_end, text) {
+        return send_all(
+            &[(Plain, frame.before), (Plain, text), (Plain, frame.after)],
+            w,
+        );
     }
-    let text = doubled(text);
-    let text = text.as_slice();
     if frame.is_quoted {
-        return send_all(&[frame.before, text, frame.after], w);
+        return send_all(
+            &[(Plain, frame.before), (Doubled, text), (Plain, frame.after)],
+            w,
+        );
     }
     // A last carriage return may end the line.
     let (blanks, end) = frame.after.split_at(len_without(b'\r', frame.after));
-    send_all(&[b"\"", frame.before, text, blanks, b"\"", end], w)
+    send_all(
+        &[
+            (Plain, b"\""),
+            (Plain, frame.before),
+            (Doubled, text),
+            (Plain, blanks),
+            (Plain, b"\""),
+            (Plain, end),
+        ],
+        w,
+    )
+}
+
+/// Sends a text of a field as an output has it, and what is around it.
+fn send_output<W: Write>(
+    output: &Output,
+    frame: &Frame<'_, '_>,
+    text: &str,
+    w: &mut W,
+) -> io::Result<()>
+    ensures { Sends result (W.contents w.old) (W.contents w.new)
+        (output_as output.now frame.now.line_end frame.now.is_quoted frame.now.before.now frame.now.after.now text.now) }
+{
+    let text = text.as_bytes();
+    let (after, end) = frame.after.split_at(len_without(b'\r', frame.after));
+    let Inner {
+        front,
+        quoted,
+        bare,
+    } = text_around(frame.is_quoted, frame.before, after);
+    let is_kept = frame.is_quoted && output.quoting.keeps();
+    if is_kept
+        || any_part_needs_quotes(
+            output.delimiter,
+            frame.line_end,
+            &[front, text, quoted, bare],
+        )
+    {
+        send_all(
+            &[
+                (Plain, b"\""),
+                (Doubled, front),
+                (Doubled, text),
+                (Plain, quoted),
+                (Doubled, bare),
+                (Plain, b"\""),
+                (Plain, end),
+            ],
+            w,
+        )
+    } else {
+        send_all(
+            &[
+                (Plain, front),
+                (Plain, text),
+                (Plain, quoted),
+                (Plain, bare),
+                (Plain, end),
+            ],
+            w,
+        )
+    }
+}
+
+/// Returns the text of a field around its number, of which these bytes are before it and after it.
+fn text_around<'a>(is_quoted: bool, before: &'a [u8], after: &'a [u8]) -> Inner<'a>
+    ensures front { result.front.now ≡ front_of is_quoted before.now }
+    ensures quoted { result.quoted.now ≡ quoted_of is_quoted after.now }
+    ensures bare { result.bare.now ≡ bare_of is_quoted after.now }
+{
+    if !is_quoted {
+        return Inner {
+            front: before,
+            quoted: &[],
+            bare: after,
+        };
+    }
+    let (quoted, rest) = after.split_at(quoted_len(after));
+    Inner {
+        front: without_first(before),
+        quoted,
+        bare: without_first(rest),
+    }
+}
+
+/// Returns how many bytes are before the quote that closes a field, of those after the one that opens it.
+fn quoted_len(text: &[u8]) -> usize
+    ensures value { result ≡ quoted_len text.now }
+    ensures within { result ≤ length text.now }
+{
+    let mut at = 0;
+    'bytes: while at < text.len() {
+        if text[at] != QUOTE {
+            at += 1;
+        } else if is_opened(&text[at + 1..]) {
+            at += 2;
+        } else {
+            return at;
+        }
+    }
+    at
+}
+
+/// Returns a text without its first byte.
+fn without_first(text: &[u8]) -> &[u8]
+    ensures { result.now ≡ drop 1 text.now }
+{
+    match text {
+        [_, rest @ ..] => rest,
+        [] => text,
+    }
+}
+
+/// Returns whether a field of these parts has to be in quotes.
+fn any_part_needs_quotes(delimiter: u8, line_end: u8, parts: &[&[u8]]) -> bool
+    ensures { result ≡ list_any (λ part. list_any (needs_quotes delimiter line_end) part.now) parts.now }
+{
+    parts
+        .iter()
+        .any(|part| any_needs_quotes(delimiter, line_end, part))
 }
 
 /// Returns whether a field with one of these bytes has to be in quotes.
@@ -501,33 +686,43 @@ fn needs_quotes(delimiter: u8, line_end: u8, byte: u8) -> bool
     byte == QUOTE || byte == delimiter || byte == line_end || byte == b'\r' || byte == b'\n'
 }
 
-/// Returns a text with each quote doubled.
-fn doubled(text: &[u8]) -> ArrayVec<u8, MAX_DOUBLED_LEN>
-    requires { length text.now < MAX_SENT_LINE_LEN }
-    ensures { result.items ≡ doubled text.now }
-{
-    let mut bytes = ArrayVec::new();
-    for byte in text {
-        if *byte == QUOTE {
-            bytes.push(QUOTE);
-            bytes.push(QUOTE);
-        } else {
-            bytes.push(*byte);
-        }
-    }
-    bytes
-}
-
 /// Sends the parts of a text in turn.
 ///
 /// # Errors
 ///
 /// Returns the error of the first write that fails, also of one that was interrupted, or that writes no bytes.
-fn send_all<W: Write>(parts: &[&[u8]], w: &mut W) -> io::Result<()>
-    ensures { Sends result (W.contents w.old) (W.contents w.new) (flat_map (λ part. part.now) parts.now) }
+fn send_all<W: Write>(parts: &[(Quotes, &[u8])], w: &mut W) -> io::Result<()>
+    ensures { Sends result (W.contents w.old) (W.contents w.new) (flat_map part_text parts.now) }
 {
     for part in parts {
-        write_whole(part, w)?;
+        send_part(part, w)?;
+    }
+    Ok(())
+}
+
+/// Sends a part of a text.
+fn send_part<W: Write>(part: &(Quotes, &[u8]), w: &mut W) -> io::Result<()>
+    ensures { Sends result (W.contents w.old) (W.contents w.new) (part_text part.now) }
+{
+    match part {
+        (Plain, text) => {
+            write_whole(text, w)?;
+            Ok(())
+        }
+        (Doubled, text) => send_doubled(text, w),
+    }
+}
+
+/// Sends a text with each quote doubled.
+fn send_doubled<W: Write>(text: &[u8], w: &mut W) -> io::Result<()>
+    ensures { Sends result (W.contents w.old) (W.contents w.new) (doubled text.now) }
+{
+    for byte in text {
+        if *byte == QUOTE {
+            write_whole(&[QUOTE, QUOTE], w)?;
+        } else {
+            write_whole(&[*byte], w)?;
+        }
     }
     Ok(())
 }

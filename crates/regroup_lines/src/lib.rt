@@ -56,7 +56,7 @@ use crate::number::{Around, Number};
 pub use crate::quoting::{MAX_QUOTED_LEN, quoted, shown};
 use crate::records::{Within, is_open, line_reached, next_line};
 use crate::rules::{MARK, trim};
-pub use crate::rules::{FieldRange, Fields, Invalid, Reading, Rules, Span};
+pub use crate::rules::{FieldRange, Fields, Invalid, Output, Quoting, Reading, Rules, Span};
 use num_format::Format;
 use num_format::to_formatted_string::write_whole;
 use std::io;

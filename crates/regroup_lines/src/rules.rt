@@ -1,5 +1,7 @@
 //! How the lines of an input are regrouped, and where the numbers of a line are.
-ghost use Rattle.std.specs.Prelude.{◌≡◌, ◌<◌, ◌≤◌, [], ◌∷◌, length, IfSome};
+ghost use Rattle.std.specs.Prelude.{◌≡◌, ◌<◌, ◌≤◌, ◌||◌, [], ◌∷◌, length, None, IfSome};
+ghost use Rattle.std.specs.Option.{is_some};
+ghost use Rattle.regroup_lines.specs.Csv.{keeps, output_delimiter};
 ghost use Rattle.regroup_lines.specs.Lines.{passes, passes_mark, quotes_in, quotes_of};
 ghost use Rattle.regroup_lines.specs.Lists.{one_field};
 ghost use Rattle.regroup_lines.specs.Places.{are_enough, field_count, is_at_most, is_chosen, is_chosen_from, is_enough, is_in_range, place_of, trimmed, wanted, wanted_of};
@@ -47,6 +49,37 @@ pub struct FieldRange {
     pub last: Option<u64>,
 }
 
+/// Which fields are written in quotes.
+#[derive(Clone, Copy, Debug, PartialEq, Eq)]
+pub enum Quoting {
+    /// Those that were in quotes, and those that need them.
+    Keep,
+    /// Only those that need them.
+    Necessary,
+}
+
+/// How fields are written.
+///
+/// A field needs quotes if it has the delimiter, a quote, a carriage return, a newline, or the byte that ends a line. In
+/// quotes, each of its quotes is doubled. The text of a field that begins with a quote is what is in quotes, with each doubled quote
+/// as one, and what follows the quote that closes it: that of `"12"3` is `123`. A carriage return at the end of a field that is not in
+/// quotes stays where it is, since it may end the line. Header lines, and lines at fault that are passed on, are as they were read.
+///
+/// ```rust
+/// let output = Output {
+///     delimiter: b';',
+///     quoting: Quoting::Necessary,
+/// };
+/// // `a,"1,000","b;c"` is written as `a;1.000;"b;c"`, where field 2 is from `en` to `de`, and `5" disk` as `"5"" disk"`.
+/// ```
+#[derive(Clone, Copy, Debug, PartialEq, Eq)]
+pub struct Output {
+    /// The byte between two fields.
+    pub delimiter: u8,
+    /// Which fields are in quotes.
+    pub quoting: Quoting,
+}
+
 /// The fields of a line, or of a record of RFC 4180, that have a number: those that are in any of the ranges, in any order.
 #[derive(Clone, Copy, Debug, PartialEq, Eq)]
 pub struct Fields<'a> {
@@ -57,6 +90,8 @@ pub struct Fields<'a> {
     /// Whether fields may be in quotes, as RFC 4180 has them, and have delimiters, line ends and doubled quotes there. A quote that is
     /// not the first byte of a field opens none.
     pub quotes: bool,
+    /// How all fields are written, or `None` if the bytes that are not those of a number are passed on as they are.
+    pub output: Option<Output>,
 }
 
 /// Where the numbers of a line are. ASCII whitespace around a number, as a carriage return, is not part of it, nor is a
@@ -164,7 +199,36 @@ impl FieldRange {
     }
 }
 
+impl Quoting {
+    /// Returns whether a field that was in quotes is written in quotes.
+    pub(crate) fn keeps(self) -> bool
+        ensures { result ≡ keeps self }
+    {
+        match self {
+            Quoting::Keep => true,
+            Quoting::Necessary => false,
+        }
+    }
+}
+
 impl Fields<'_> {
+    /// Returns the byte between two fields that are written.
+    pub(crate) fn output_delimiter(&self) -> u8
+        ensures { result ≡ output_delimiter self.now }
+    {
+        match self.output {
+            Some(output) => output.delimiter,
+            None => self.delimiter,
+        }
+    }
+
+    /// Returns whether the field of this number, or one after it, may be written in another way than it was read.
+    pub(crate) fn change(&self, number: u64) -> bool
+        ensures { result ≡ (is_some self.now.output || is_chosen_from self.now.list.now number) }
+    {
+        self.output.is_some() || self.reach(number)
+    }
+
     /// Returns the delimiter, if fields may be in quotes and it is no quote.
     #[inline]
     pub(crate) fn quotes(&self) -> Option<u8>
@@ -173,17 +237,20 @@ impl Fields<'_> {
         (self.quotes && self.delimiter != QUOTE).then_some(self.delimiter)
     }
 
-    /// Returns the number of the field, if exactly one has a number.
+    /// Returns the number of the field, if exactly one has a number, and all other bytes are passed on.
     pub(crate) fn only(&self) -> Option<u64>
-        ensures { IfSome result (λ number. (0 < number) × (self.now.list.now ≡ one_field number ∷ [])) }
+        ensures { IfSome result (λ number. (0 < number) × (self.now.list.now ≡ one_field number ∷ []) × (self.now.output ≡ None)) }
     {
-        match self.list {
-            [
-                FieldRange {
-                    first,
-                    last: Some(last),
-                },
-            ] if first == last && *first > 0 => Some(*first),
+        match (self.list, &self.output) {
+            (
+                [
+                    FieldRange {
+                        first,
+                        last: Some(last),
+                    },
+                ],
+                None,
+            ) if first == last && *first > 0 => Some(*first),
             _ => None,
         }
     }

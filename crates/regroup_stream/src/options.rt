@@ -89,6 +89,7 @@ impl<'a> Options<'a> {
             list,
             delimiter: self.delimiter()?,
             quotes: self.csv,
+            output: None,
         }))
     }
 

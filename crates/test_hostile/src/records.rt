@@ -7,7 +7,9 @@
 use csv::{ByteRecord, ReaderBuilder};
 use num_format::Locale;
 use num_format::parsing::FromFormattedStr;
-use regroup_lines::{FieldRange, Fields, Invalid, Reading, Rules, Span, regroup_at_most};
+use regroup_lines::{
+    FieldRange, Fields, Invalid, Output, Quoting, Reading, Rules, Span, regroup_at_most,
+};
 use std::alloc::{AllocError, Global};
 use std::io;
 use std::process::Abort;
@@ -31,6 +33,7 @@ const RULES: Rules = Rules {
         list: CHOSEN,
         delimiter: b',',
         quotes: true,
+        output: None,
     }),
     reading: Reading::Strict,
     header_lines: 0,
@@ -41,6 +44,43 @@ const RULES: Rules = Rules {
     max_line_len: 999,
     flushes: false,
 };
+
+/// Records, what is written of them where quotes are kept, and where they are only those that are needed.
+///
+/// The fields of each text with semicolons are those that Python's `csv` reads of the first, but for the numbers, and the third
+/// is what its writer makes of them with `QUOTE_MINIMAL`, but for the end of the line.
+const WRITTEN: &[(&str, &str, &str)] = &[
+    (
+        "a,\"1,000\",b,2000.5\n",
+        "a;\"1.000\";b;2.000,5\n",
+        "a;1.000;b;2.000,5\n",
+    ),
+    (
+        "\"a;b\",1000,c;d,\"\"\r\n",
+        "\"a;b\";1.000;\"c;d\";\"\"\r\n",
+        "\"a;b\";1.000;\"c;d\";\r\n",
+    ),
+    (
+        "\"x,y\",\" 1,000 \",5\" disk,2000,\"say \"\"hi\"\"\"\n",
+        "\"x,y\";\" 1.000 \";\"5\"\" disk\";2.000;\"say \"\"hi\"\"\"\n",
+        "x,y; 1.000 ;\"5\"\" disk\";2.000;\"say \"\"hi\"\"\"\n",
+    ),
+    (
+        "\"p\nq\",1000,\"12\"3,2000,z\r\n",
+        "\"p\nq\";1.000;\"123\";2.000;z\r\n",
+        "\"p\nq\";1.000;123;2.000;z\r\n",
+    ),
+    (
+        "\"a\"\"b\"c\"d,1000,\"e\";f,\"2,000\" \n",
+        "\"a\"\"bc\"\"d\";1.000;\"e;f\";\"2.000 \"\n",
+        "\"a\"\"bc\"\"d\";1.000;\"e;f\";2.000 \n",
+    ),
+    (
+        "a,x,b,1000\na,1000\n",
+        "a,x,b,1000\na,1000\n",
+        "a,x,b,1000\na,1000\n",
+    ),
+];
 
 /// Records with numbers of `en` in the chosen fields. Each number is another text under `de`.
 const TEXTS: &[&str] = &[
@@ -143,14 +183,30 @@ fn push_record(text: &mut Vec<u8>, numbers: &mut Numbers) -> Result<(), AllocErr
     Ok(())
 }
 
-/// Returns what is written of a text from `en` to `de`.
-fn regrouped(rt: &impl Abort, alloc: Global, text: &[u8]) -> Vec<u8> {
+/// Returns the rules for these fields, written with a semicolon between two.
+fn rules_with(quoting: Quoting) -> Rules<'static> {
+    Rules {
+        span: Span::Fields(Fields {
+            list: CHOSEN,
+            delimiter: b',',
+            quotes: true,
+            output: Some(Output {
+                delimiter: b';',
+                quoting,
+            }),
+        }),
+        ..RULES
+    }
+}
+
+/// Returns what is written of a text from `en` to `de`, by these rules.
+fn regrouped(rt: &impl Abort, alloc: Global, rules: &Rules, text: &[u8]) -> Vec<u8> {
     let mut out = Vec::new(alloc);
     let mut buffer = [0; 1000];
     let mut reader = text;
     let result = regroup_at_most(
         u64::MAX,
-        &RULES,
+        rules,
         "-",
         &mut buffer,
         &mut reader,
@@ -164,10 +220,13 @@ fn regrouped(rt: &impl Abort, alloc: Global, text: &[u8]) -> Vec<u8> {
     out
 }
 
-/// Returns the records that the kit's `csv` reads of a text.
-fn records(alloc: Global, text: &[u8]) -> Result<Vec<ByteRecord>, Fail> {
+/// Returns the records that the kit's `csv` reads of a text with this byte between two fields.
+fn records(alloc: Global, delimiter: u8, text: &[u8]) -> Result<Vec<ByteRecord>, Fail> {
     let mut builder = ReaderBuilder::new();
-    builder.has_headers(false).flexible(true);
+    builder
+        .has_headers(false)
+        .flexible(true)
+        .delimiter(delimiter);
     let mut records = Vec::new(alloc);
     for record in builder.from_reader(alloc, text).into_byte_records() {
         records.push(record?)?;
@@ -175,11 +234,17 @@ fn records(alloc: Global, text: &[u8]) -> Result<Vec<ByteRecord>, Fail> {
     Ok(records)
 }
 
-/// Asserts that the fields of what is written are those of the text, but for the numbers in chosen fields. A record with
-/// too few fields is passed on.
-fn assert_fields(rt: &impl Abort, alloc: Global, text: &[u8]) -> Result<(), Fail> {
-    let given = records(alloc, text)?;
-    let written = records(alloc, &regrouped(rt, alloc, text))?;
+/// Asserts that the fields of what is written by these rules, with this byte between two, are those of the text, but for the numbers in
+/// chosen fields. A record with too few fields is passed on.
+fn assert_fields(
+    rt: &impl Abort,
+    alloc: Global,
+    rules: &Rules,
+    delimiter: u8,
+    text: &[u8],
+) -> Result<(), Fail> {
+    let given = records(alloc, b',', text)?;
+    let written = records(alloc, delimiter, &regrouped(rt, alloc, rules, text))?;
     assert_eq!(rt; written.len(), given.len());
     for (given, written) in given.iter().zip(written.iter()) {
         assert_eq!(rt; written.len(), given.len());
@@ -207,9 +272,20 @@ fn assert_number(rt: &impl Abort, given: &[u8], written: &[u8]) {
 #[test]
 fn fields_of_texts_by_hand(rt: HostRuntime) -> Result<(), Fail> {
     for text in TEXTS {
-        assert_fields(&rt, rt.alloc(), text.as_bytes())?;
+        assert_fields(&rt, rt.alloc(), &RULES, b',', text.as_bytes())?;
     }
     Ok(())
+}
+
+#[test]
+fn fields_that_are_written(rt: HostRuntime) {
+    for (text, kept, necessary) in WRITTEN {
+        let alloc = rt.alloc();
+        let written = regrouped(&rt, alloc, &rules_with(Quoting::Keep), text.as_bytes());
+        assert_eq!(rt; written.as_slice(), kept.as_bytes());
+        let written = regrouped(&rt, alloc, &rules_with(Quoting::Necessary), text.as_bytes());
+        assert_eq!(rt; written.as_slice(), necessary.as_bytes());
+    }
 }
 
 #[test]
@@ -220,7 +296,11 @@ fn fields_of_texts_that_are_made(rt: HostRuntime) -> Result<(), Fail> {
         for _ in 0..RECORD_COUNT {
             push_record(&mut text, &mut numbers)?;
         }
-        assert_fields(&rt, rt.alloc(), &text)?;
+        assert_fields(&rt, rt.alloc(), &RULES, b',', &text)?;
+        let keeping = rules_with(Quoting::Keep);
+        assert_fields(&rt, rt.alloc(), &keeping, b';', &text)?;
+        let necessary = rules_with(Quoting::Necessary);
+        assert_fields(&rt, rt.alloc(), &necessary, b';', &text)?;
     }
     Ok(())
 }

@@ -42,7 +42,7 @@ returns-in-Ok-Some g c =
     ∙ ap (λ e. take start text ++ (field_with cs rules.line_end field (Some value) ++ ended_by e (drop end text))) c.frame_of-frame.ensures.line_end
     ∙ in_parts rules.line_end (take start text) (field_with cs rules.line_end field (Some value)) (drop end text) in
     sends-line rules.line_end (g.W.Write.contents c.args.w.now) (g.W.Write.contents c.send_line_with.new.w) (one_replaced cs rules from to c.args.number c.args.one text (start, end)) _
-    (one-read rules cs from to c.args.number c.args.one text start end value (sym read)) c.send_line_with.result
+    (one-read rules cs from to c.args.number c.args.one text start end c.requires.passed value (sym read)) c.send_line_with.result
     (subst (Sends c.send_line_with.result (g.W.Write.contents c.args.w.now) (g.W.Write.contents c.send_line_with.new.w)) sent c.send_line_with.ensures) c.or.result c.or.ensures
 
 pub returns-in-Ok-None : goal.returns-in-Ok-None
@@ -56,7 +56,7 @@ returns-in-Ok-None g c =
     let read : Ok None ≡ field_read rules cs.quotes from to c.args.number field =
     ap (λ o. Ok (option_map (number_text to) o)) (sym c.in-Ok-None.field-0-is) ∙ c.in-Ok-None.ensures to in
     sends-line rules.line_end (g.W.Write.contents c.args.w.now) (g.W.Write.contents c.pass_on.new.w) (one_replaced cs rules from to c.args.number c.args.one text (c.args.place.start, c.args.place.end)) text
-    (one-empty rules cs from to c.args.number c.args.one text c.args.place.start c.args.place.end c.requires.ordered (sym read)) c.pass_on.result c.pass_on.ensures c.or-in-Ok-None.result c.or-in-Ok-None.ensures
+    (one-empty rules cs from to c.args.number c.args.one text c.args.place.start c.args.place.end c.requires.passed c.requires.ordered (sym read)) c.pass_on.result c.pass_on.ensures c.or-in-Ok-None.result c.or-in-Ok-None.ensures
 
 pub returns-in-Err : goal.returns-in-Err
 returns-in-Err g c =
@@ -68,4 +68,4 @@ returns-in-Err g c =
     subst (λ f. SendsLine {T = Unit {0}} rules.line_end (one_replaced cs rules from to c.args.number c.args.one text (c.args.place.start, c.args.place.end))
     (g.W.Write.contents c.args.w.now) (g.W.Write.contents c.args.w.now) (Err f)) (sym c.in_field.ensures)
     (sends-fault from c.args.number text rules.line_end _ (g.W.Write.contents c.args.w.now) _
-    (one-fault rules cs from to c.args.number c.args.one text c.args.place.start c.args.place.end (line_fault_of c.in-Err.fault) (sym (c.in-Err.ensures to))))
+    (one-fault rules cs from to c.args.number c.args.one text c.args.place.start c.args.place.end c.requires.passed (line_fault_of c.in-Err.fault) (sym (c.in-Err.ensures to))))

@@ -1,0 +1,10 @@
+use Rattle.std.proofs.Common.{◌≡◌, ◌+◌, ◌-◌, ◌≤◌, drop, length}
+use Rattle.regroup_lines.specs.Csv.{quoted_len}
+use Rattle.regroup_lines.proofs.fields.quoted_len.Given as goal
+
+-- no quote so far closes the field
+abbrev pub invariant-bytes : goal.invariant-bytes
+invariant-bytes l = (l.at ≤ length l.text) × (quoted_len l.text ≡ l.at + quoted_len (drop l.at l.text))
+
+abbrev pub decreases-bytes : goal.decreases-bytes
+decreases-bytes l = length l.text - l.at

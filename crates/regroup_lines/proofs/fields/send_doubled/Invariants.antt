@@ -1,0 +1,8 @@
+use Rattle.std.proofs.Common.{take}
+use Rattle.std.specs.Io.KnownBytes.{Appends}
+use Rattle.regroup_lines.specs.Csv.{doubled}
+use Rattle.regroup_lines.proofs.fields.send_doubled.Given as goal
+
+-- the bytes so far were sent
+abbrev pub invariant-loop-byte : goal.invariant-loop-byte
+invariant-loop-byte g l = Appends (g.W.Write.contents l.fn.w) (g.W.Write.contents l.w) (doubled (take l.byte-index l.text))
