@@ -43,7 +43,7 @@ impl Ending {
         unflushed: Option<io::ErrorKind>,
         rejects_unflushed: Option<io::ErrorKind>,
     ) -> Ending
-        ensures { end_of result ≡ end_after unflushed rejects_unflushed (end_of self.entry) }
+        ensures { end_of result ≡ end_after unflushed rejects_unflushed (end_of self) }
     {
         match (unflushed, rejects_unflushed) {
             (Some(kind), _) => Ending::WriteFailed(Some(kind)),
