@@ -1,6 +1,7 @@
 #!/usr/bin/env python3
-"""Runs `regroup-lines` where a case cannot say it: records that Python's csv writes and reads, outputs and inputs that
-fail, a closed pipe, a slow input, long input in little memory, and the engines of examples/engines.
+"""Runs `regroup-lines` where a case cannot say it: records that Python's csv writes and reads, rejected lines in a file,
+outputs and inputs that fail, a closed pipe, a slow input, long input in little memory, and the engines of
+examples/engines.
 
     python3 tools/filter_checks.py [PROGRAM]    # crates/regroup_filter/out/regroup_filter
 """
@@ -135,6 +136,47 @@ def check_random_records(tally, program):
     named = [int(message.split(":")[2]) for message in ended.stderr.decode().splitlines()]
     tally.compare("fields", (ended.returncode, len(found), differ), (0, RANDOM_RECORDS, None))
     tally.compare("lines at fault", named, lines_at_fault)
+
+
+def check_random_rejects(tally, program):
+    """Writes random records, and those at fault to a file: as they were read, and the others as Python's `csv` reads them."""
+    heading("random records, and those at fault in a file")
+    randomly = random.Random(4711)
+    text = "".join(random_record(randomly) for _ in range(RANDOM_RECORDS))
+    expected, rejected = [], []
+    for _, raw, fields in records_of(text):
+        converted = with_german(fields)
+        if converted is None:
+            rejected.append(raw)
+        else:
+            expected.append(converted)
+    with tempfile.TemporaryDirectory() as folder:
+        words = ["--csv", "--field", "2,4", "--empty", "--invalid", "ignore", "--rejects", "rejected.csv", "en", "de"]
+        ended = regroup(program, words, text.encode(), cwd=folder)
+        found = (Path(folder) / "rejected.csv").read_bytes()
+    compare_records(tally, "records", ended, expected)
+    tally.compare("records at fault", found == "".join(rejected).encode(), True)
+
+
+def check_rejects(tally, program):
+    """The file of rejected lines is emptied, and is none of those that are read or written."""
+    heading("the file of rejected lines")
+    with tempfile.TemporaryDirectory() as folder:
+        given, rejects = Path(folder, "given"), Path(folder, "rejects")
+        given.write_bytes(b"1,000\nx\n")
+        rejects.write_bytes(100 * b"before\n")
+        message = b"regroup-lines: given:2: 'x': not a number at byte 1\n"
+        for count in range(1, 3):
+            ended = run([program, "en", "de", *(count * ["given"]), "--rejects=rejects"], capture_output=True, cwd=folder)
+            found = (ended.returncode, ended.stdout, ended.stderr, rejects.read_bytes())
+            tally.compare(f"{count} inputs", found, (1, count * b"1.000\n", count * message, count * b"x\n"))
+        in_use = b"regroup-lines: given: rejects file is input or output file\n"
+        with given.open("r+b") as stream:
+            for way in ["stdin", "stdout"]:
+                streams = {"stdin": subprocess.DEVNULL, "stdout": subprocess.DEVNULL, way: stream}
+                ended = run([program, "en", "de", "--rejects=given"], stderr=subprocess.PIPE, cwd=folder, **streams)
+                found = (ended.returncode, ended.stderr, given.read_bytes())
+                tally.compare(f"the file of {way}", found, (2, in_use, b"1,000\nx\n"))
 
 
 def random_record(randomly):
@@ -334,8 +376,9 @@ def check_help(tally, program):
 def main():
     program = Path(sys.argv[1]).resolve() if len(sys.argv) > 1 else PROGRAM
     tally = Tally()
-    checks = check_help, check_open_input, check_records, check_random_records, check_failures, check_closed_pipe
-    for check in *checks, check_slow_input, check_output_is_input, check_long, check_engines, check_header:
+    checks = [check_help, check_open_input, check_records, check_random_records, check_random_rejects, check_rejects]
+    checks += [check_failures, check_closed_pipe, check_slow_input, check_output_is_input, check_long, check_engines]
+    for check in *checks, check_header:
         check(tally, program)
     tally.end()
 

@@ -1,10 +1,10 @@
 # Completes the options of regroup-lines, and the values of --invalid.
 _regroup_lines() {
     local word=${COMP_WORDS[COMP_CWORD]} before=${COMP_WORDS[COMP_CWORD - 1]}
-    local words="--field --delimiter --csv --header --header-lines --empty --invalid --lenient --line-buffered --zero-terminated --help --version"
+    local words="--field --delimiter --csv --header --header-lines --empty --invalid --rejects --lenient --line-buffered --zero-terminated --help --version"
     case $before in
     --invalid) words="abort fail warn ignore" ;;
-    --field | -f | --delimiter | -d | --header-lines) return ;;
+    --field | -f | --delimiter | -d | --header-lines | --rejects) return ;;
     esac
     mapfile -t COMPREPLY < <(compgen -W "$words" -- "$word")
 }

@@ -25,15 +25,16 @@ FROM, has to parse back from its text: they need a minus sign, and a decimal mar
 print.
 
 A line is at fault if its number is none, or if it has too few fields or more than 1,048,576 bytes. With MODE
-abort no line after it is written. With fail, warn and ignore it is passed on as it is. With fail and warn a
-message names it, and with fail the status is 1.
+abort no line after it is written. With fail, warn and ignore it is passed on as it is, or written to the FILE of
+--rejects. With fail and warn a message names it, and with fail the status is 1.
 
 Lines are written before more of a file is read, so that they come out as they go in.
 
 Lines are numbered in each file, and each has its header. A file that cannot be opened, a directory or the output
 itself is left out. The status is 0 if all lines were written; 1 if a file was left out, or with abort or fail a line
-is at fault; 2 for other arguments, also such that are not UTF-8 or whose FILE has no format, and for a format under
-which decimals do not parse back; 3 if a read or a write failed; and 141 if standard output was closed.";
+is at fault; 2 for other arguments, also such that are not UTF-8, whose FILE has no format or cannot be written, and
+for a format under which decimals do not parse back; 3 if a read or a write failed; and 141 if standard output was
+closed.";
 
 /// Returns what the arguments say.
 ///
@@ -144,7 +145,15 @@ fn with_fault_options<'a>(alloc: Global, command: Command<'a>) -> Result<Command
                 .long("invalid")
                 .value_name("MODE")
                 .value_parser(["abort", "fail", "warn", "ignore"].as_slice())
-                .help("What to do at a line at fault [default: abort]"),
+                .help("What to do at a line at fault [default: abort, or fail with --rejects]"),
+        )?
+        .arg(
+            Arg::new(alloc, "rejects")
+                .long("rejects")
+                .value_name("FILE")
+                .help(
+                    "Write lines at fault to this file, as they were read, and not to standard output",
+                ),
         )?
         .arg(flag(
             alloc,

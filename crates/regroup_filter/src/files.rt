@@ -1,8 +1,8 @@
-//! The files that are read, and the one that is written.
+//! The files that are read, and those that are written.
 
-use regroup_stream::{Open, Unread};
+use regroup_stream::{FileFault, Misuse, Open, Unread};
 use std::fs::{File, Metadata};
-use std::io::{ErrorKind, Read, Stdin};
+use std::io::{ErrorKind, Read, Sink, Stdin, Write};
 use std::os::unix::fs::MetadataExt;
 use std::{fs, io};
 
@@ -22,6 +22,30 @@ impl Read for Input {
     }
 }
 
+/// What rejected lines are written to.
+#[derive(Drop)]
+pub(crate) enum Rejects {
+    /// Nothing, since there are none.
+    Nowhere(Sink),
+    File(File),
+}
+
+impl Write for Rejects {
+    fn write(&mut self, buf: &[u8]) -> io::Result<usize> {
+        match self {
+            Rejects::Nowhere(output) => output.write(buf),
+            Rejects::File(output) => output.write(buf),
+        }
+    }
+
+    fn flush(&mut self) -> io::Result<()> {
+        match self {
+            Rejects::Nowhere(output) => output.flush(),
+            Rejects::File(output) => output.flush(),
+        }
+    }
+}
+
 /// The files, and standard input, which is named `-`. None of them is the output.
 #[derive(Drop)]
 pub(crate) struct Files<'a> {
@@ -36,6 +60,40 @@ impl<'a> Files<'a> {
             rt,
             output: FileId::named(rt, "/dev/stdout"),
         }
+    }
+
+    /// Creates the file of rejected lines, if it has a name.
+    ///
+    /// # Errors
+    ///
+    /// Returns why it is not created: it cannot be, or is one of the inputs or the output.
+    pub(crate) fn create<'n>(
+        &self,
+        name: Option<&'n str>,
+        inputs: &[&str],
+    ) -> Result<Rejects, Misuse<'n>> {
+        let Some(name) = name else {
+            return Ok(Rejects::Nowhere(io::sink()));
+        };
+        if self.uses(name, inputs) {
+            return Err(Misuse::BadFile(name, FileFault::InUse));
+        }
+        match File::create(self.rt, name) {
+            Ok(file) => Ok(Rejects::File(file)),
+            Err(error) => Err(Misuse::BadFile(name, FileFault::Uncreated(error.kind()))),
+        }
+    }
+
+    /// Returns whether the file of this name is the output or one of the inputs.
+    fn uses(&self, name: &str, inputs: &[&str]) -> bool {
+        let Some(id) = FileId::named(self.rt, name) else {
+            return false;
+        };
+        self.output == Some(id)
+            || inputs.iter().any(|input| {
+                let path = if *input == "-" { "/dev/stdin" } else { *input };
+                FileId::named(self.rt, path) == Some(id)
+            })
     }
 }
 

@@ -60,8 +60,10 @@ fn try_main(rt: &HostRuntime) -> io::Result<u8> {
             return Ok(REGROUPED);
         }
     };
-    let list = list_of(rt.alloc(), &matches)?;
-    match options_of(&matches, list.as_deref()).rules() {
+    let Some(list) = list_of(rt.alloc(), &matches)? else {
+        return Ok(refuse(rt, "the fields are no list, as 1,3-5 or 2-"));
+    };
+    match options_of(&matches, &list).rules() {
         Ok(rules) => regroup_files(rt, &matches, &rules),
         Err(fault) => Ok(refuse(rt, fault.cause())),
     }
@@ -84,10 +86,15 @@ fn regroup_files(rt: &HostRuntime, matches: &ArgMatches<'_>, rules: &Rules) -> i
         Ok(formats) => formats,
         Err(misuse) => return Ok(misuse.send(&mut rt.stderr())),
     };
-    let capacity = capacity_of(matches, CAPACITY);
-    let mut out = BufWriter::with_capacity(rt.alloc(), capacity, Output::new(rt.stdout()))?;
-    let mut buffer = vec![in rt.alloc(); 0; rules.max_line_len as usize + 1]?;
     let (names, inputs, mut err) = (files_of(matches), Files::new(rt), rt.stderr());
+    let capacity = capacity_of(matches, CAPACITY);
+    let mut buffer = vec![in rt.alloc(); 0; rules.max_line_len as usize + 1]?;
+    let rejects = match inputs.create(matches.get_str("rejects"), names) {
+        Ok(rejects) => rejects,
+        Err(misuse) => return Ok(misuse.send(&mut err)),
+    };
+    let mut rejects = BufWriter::with_capacity(rt.alloc(), capacity, Output::new(rejects))?;
+    let mut out = BufWriter::with_capacity(rt.alloc(), capacity, Output::new(rt.stdout()))?;
     Ok(run_all(
         rules,
         &formats,
@@ -96,5 +103,6 @@ fn regroup_files(rt: &HostRuntime, matches: &ArgMatches<'_>, rules: &Rules) -> i
         &inputs,
         &mut out,
         &mut err,
+        &mut rejects,
     ))
 }

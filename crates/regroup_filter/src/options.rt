@@ -20,10 +20,7 @@ pub(crate) fn list_of(
 }
 
 /// Returns what the options say of lines, where these fields are chosen.
-pub(crate) fn options_of<'a>(
-    matches: &ArgMatches<'a>,
-    list: Option<&'a [FieldRange]>,
-) -> Options<'a> {
+pub(crate) fn options_of<'a>(matches: &ArgMatches<'a>, list: &'a [FieldRange]) -> Options<'a> {
     let reading = if matches.get_flag("lenient") {
         Reading::Lenient
     } else {
@@ -42,6 +39,7 @@ pub(crate) fn options_of<'a>(
         header_lines,
         passes_empty: matches.get_flag("empty"),
         invalid: invalid_of(matches),
+        rejects: matches.get_str("rejects").is_some(),
         zero_terminated: matches.get_flag("zero-terminated"),
     }
 }

@@ -1,76 +1,66 @@
--- What the program wrote, after a flush of standard output.
-use Rattle.std.proofs.Common.{◌≡◌, ℕ, true, List, [], Result, Ok, Err, refl, subst}
+-- What the program wrote, after a flush of standard output and of rejected lines.
+use Rattle.std.proofs.Common.{◌≡◌, ℕ, List, [], None, Some, Result, subst}
 use Rattle.std.specs.Prelude.{Option}
 use Rattle.std.specs.Io.KnownBytes.{Keeps}
+use Rattle.std.specs.declared.io.ErrorKind.{ErrorKind}
 use Rattle.std.proofs.KnownBytes.{Appends-kept}
 use Rattle.num_format.specs.Format.{FormatData}
-use Rattle.num_format.specs.Writing.{StopsWithin}
+use Rattle.num_format.specs.Writing.{HasReceivedUpTo}
 use Rattle.regroup_lines.specs.Fault.{Fault}
-use Rattle.regroup_lines.specs.Fault.Fault.{TooMany, TooLong, FewFields, Read, NotText, FieldNotText, Line, Field, Unclosed, Write, Report, Flush}
-use Rattle.regroup_lines.specs.Lines.{Regrouped}
-use Rattle.regroup_lines.specs.Sending.{ReceivesPrefix, RegroupsNaming, Sends}
+use Rattle.regroup_lines.specs.Lines.{regrouped}
+use Rattle.regroup_lines.specs.Sending.{Receives, RegroupsNaming, Writer, by_writer, failed_by, text_to}
+use Rattle.regroup_lines.specs.Sending.Writer.{Messages, Output, Rejects}
 use Rattle.regroup_lines.specs.declared.Summary.{Summary}
 use Rattle.regroup_lines.specs.declared.rules.Rules.{Rules}
-use Rattle.regroup_stream.specs.Ending.{End}
-use Rattle.regroup_stream.specs.Stream.{IsEndOf, RegroupsAll, is_written, most_lines}
+use Rattle.regroup_stream.specs.Ending.{End, end_after}
+use Rattle.regroup_stream.specs.Stream.{RegroupsAll, end_of_result, most_lines}
 
 -- what a writer received, after a flush
-StopsWithin-kept : (a b c : Option (List ℕ)) (text : List ℕ) → StopsWithin a b text → Keeps b c → StopsWithin a c text
-StopsWithin-kept a b c text stops kept = record {
-  rest = stops.rest;
-  unfinished = stops.unfinished;
-  received = record {
-    received = stops.received.received;
-    split = stops.received.split;
-    appended = Appends-kept a b c _ stops.received.appended kept;
-  };
-}
+module _ (a b c : Option (List ℕ)) (text : List ℕ) (kept : Keeps b c) where
+  HasReceivedUpTo-kept : (rest : List ℕ) → HasReceivedUpTo a b text rest → HasReceivedUpTo a c text rest
+  HasReceivedUpTo-kept rest up = record { received = up.received; split = up.split; appended = Appends-kept a b c _ up.appended kept }
 
-module _ (rules : Rules) (name : List ℕ) (from to : FormatData) (q r s a b c d e : Option (List ℕ)) (result : Result Summary Fault) (same : q ≡ r)
-    (lines : RegroupsNaming rules name most_lines from to q s a b d e result) (kept : Keeps b c) where
-  ReceivesPrefix-kept : (text : List ℕ) → ReceivesPrefix a b text → ReceivesPrefix a c text
-  ReceivesPrefix-kept text prefix = record {
-    rest = prefix.rest;
-    received = record {
-      received = prefix.received.received;
-      split = prefix.received.split;
-      appended = Appends-kept a b c _ prefix.received.appended kept;
-    };
-  }
+  Receives-kept : (failed : Option Writer) (writer : Writer) → Receives failed writer a b text → Receives failed writer a c text
+  Receives-kept None writer all = Appends-kept a b c _ all kept
+  Receives-kept (Some Output) Output part = record { rest = part.rest; unfinished = part.unfinished; received = HasReceivedUpTo-kept part.rest part.received }
+  Receives-kept (Some Messages) Messages part = record { rest = part.rest; unfinished = part.unfinished; received = HasReceivedUpTo-kept part.rest part.received }
+  Receives-kept (Some Rejects) Rejects part = record { rest = part.rest; unfinished = part.unfinished; received = HasReceivedUpTo-kept part.rest part.received }
+  Receives-kept (Some Output) Messages part = record { rest = part.rest; received = HasReceivedUpTo-kept part.rest part.received }
+  Receives-kept (Some Output) Rejects part = record { rest = part.rest; received = HasReceivedUpTo-kept part.rest part.received }
+  Receives-kept (Some Messages) Output part = record { rest = part.rest; received = HasReceivedUpTo-kept part.rest part.received }
+  Receives-kept (Some Messages) Rejects part = record { rest = part.rest; received = HasReceivedUpTo-kept part.rest part.received }
+  Receives-kept (Some Rejects) Output part = record { rest = part.rest; received = HasReceivedUpTo-kept part.rest part.received }
+  Receives-kept (Some Rejects) Messages part = record { rest = part.rest; received = HasReceivedUpTo-kept part.rest part.received }
 
-  Sends-kept : (all : Regrouped) (told : List ℕ) (result : Result Summary Fault) → Sends all told a b d e result → Sends all told a c d e result
-  Sends-kept all told (Ok summary) sends = (sends.0, sends.1, Appends-kept a b c _ sends.2 kept, sends.3)
-  Sends-kept all told (Err Write) sends = (StopsWithin-kept a b c _ sends.0 kept, sends.1)
-  Sends-kept all told (Err Report) sends = (ReceivesPrefix-kept _ sends.0, sends.1)
-  Sends-kept all told (Err Flush) sends = (sends.0, Appends-kept a b c _ sends.1 kept, sends.2)
-  Sends-kept all told (Err TooMany) sends = (sends.0, Appends-kept a b c _ sends.1 kept, sends.2)
-  Sends-kept all told (Err (TooLong number max_line_len)) sends = (sends.0, Appends-kept a b c _ sends.1 kept, sends.2)
-  Sends-kept all told (Err (FewFields number count)) sends = (sends.0, Appends-kept a b c _ sends.1 kept, sends.2)
-  Sends-kept all told (Err Read) sends = (sends.0, Appends-kept a b c _ sends.1 kept, sends.2)
-  Sends-kept all told (Err (NotText number)) sends = (sends.0, Appends-kept a b c _ sends.1 kept, sends.2)
-  Sends-kept all told (Err (FieldNotText number field)) sends = (sends.0, Appends-kept a b c _ sends.1 kept, sends.2)
-  Sends-kept all told (Err (Line number refusal)) sends = (sends.0, Appends-kept a b c _ sends.1 kept, sends.2)
-  Sends-kept all told (Err (Field number field refusal)) sends = (sends.0, Appends-kept a b c _ sends.1 kept, sends.2)
-  Sends-kept all told (Err (Unclosed number)) sends = (sends.0, Appends-kept a b c _ sends.1 kept, sends.2)
+module _ (rules : Rules) (name : List ℕ) (from to : FormatData) (q r s out out_new err rejects rejects_new : Option (List ℕ)) (old : Writer → Option (List ℕ)) (result : Result Summary Fault) (same : q ≡ r)
+    (lines : RegroupsNaming rules name most_lines from to q s old (by_writer out err rejects) result) (kept : Keeps out out_new) (rejects_kept : Keeps rejects rejects_new) where
+  received : (writer : Writer) → Receives (failed_by result) writer (old writer) (by_writer out_new err rejects_new writer)
+      (text_to name rules.reading from (regrouped rules most_lines from to lines.stop lines.given).sent writer)
+  received Output = Receives-kept (old Output) out out_new _ kept (failed_by result) Output (lines.received Output)
+  received Messages = lines.received Messages
+  received Rejects = Receives-kept (old Rejects) rejects rejects_new _ rejects_kept (failed_by result) Rejects (lines.received Rejects)
 
-  flushed : RegroupsNaming rules name most_lines from to r s a c d e result
-  flushed = subst (λ o. RegroupsNaming rules name most_lines from to o s a c d e result) same (record {
-    given = lines.given;
-    stop = lines.stop;
-    consumed = lines.consumed;
-    at_end = lines.at_end;
-    endless = lines.endless;
-    unflushed = lines.unflushed;
-    sent = Sends-kept _ _ result lines.sent;
-  })
-
-  -- the run has the end of the result
-  pub RegroupsAll-flushed : (end : End) (buffer : List ℕ) → IsEndOf rules name from result end → (is_written end ≡ true → buffer ≡ []) →
-      RegroupsAll rules name from to end r a c buffer d e
-  RegroupsAll-flushed end buffer is empty = record {
+  -- the run has the end of the result and the flushes
+  pub RegroupsAll-flushed : (end : End) (held : Writer → List ℕ) (failure unflushed rejects_unflushed : Option ErrorKind) →
+      end ≡ end_after unflushed rejects_unflushed (end_of_result rules name from result failure) → (unflushed ≡ None → held Output ≡ []) →
+      (rejects_unflushed ≡ None → held Rejects ≡ []) → RegroupsAll rules name from to end r old (by_writer out_new err rejects_new) held
+  RegroupsAll-flushed end held failure unflushed rejects_unflushed is empty rejects_empty = record {
     result = result;
     read_new = s;
-    lines = flushed;
+    failure = failure;
+    unflushed = unflushed;
+    rejects_unflushed = rejects_unflushed;
+    lines = subst (λ o. RegroupsNaming rules name most_lines from to o s old (by_writer out_new err rejects_new) result) same (record {
+      given = lines.given;
+      stop = lines.stop;
+      consumed = lines.consumed;
+      at_end = lines.at_end;
+      endless = lines.endless;
+      unflushed = lines.unflushed;
+      returned = lines.returned;
+      received = received;
+    });
     is = is;
     flushed = empty;
+    rejects_flushed = rejects_empty;
   }

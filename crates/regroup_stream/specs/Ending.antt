@@ -12,8 +12,8 @@ use Rattle.regroup_stream.specs.declared.ending.Ending.{Ending}
 use Rattle.regroup_stream.specs.declared.ending.Ending.TheVariants as ending
 
 -- how a run ends: each line was regrouped or passed on, and messages may have named faults for which the input is at fault; a line is at
--- fault, which a message names; a read or a write failed, for this reason if it is known, or that of a message; there are more lines than
--- are counted, or the input cannot be opened, or is the output
+-- fault, which a message names; a read or a write failed, for this reason if it is known, as one of rejected lines, or that of a message;
+-- there are more lines than are counted, or the input cannot be opened, or is the output
 pub data End : Type 0 where
   Regrouped : End
   Named : End
@@ -21,6 +21,7 @@ pub data End : Type 0 where
   Untold : End
   ReadFailed : Option ErrorKind → End
   WriteFailed : Option ErrorKind → End
+  RejectFailed : Option ErrorKind → End
   TooManyLines : End
   Unopened : ErrorKind → End
   IsOutput : End
@@ -33,9 +34,16 @@ end_of (ending.Faulty message) = Faulty message.bytes
 end_of ending.Untold = Untold
 end_of (ending.ReadFailed kind) = ReadFailed kind
 end_of (ending.WriteFailed kind) = WriteFailed kind
+end_of (ending.RejectFailed kind) = RejectFailed kind
 end_of ending.TooManyLines = TooManyLines
 end_of (ending.Unopened kind) = Unopened kind
 end_of ending.IsOutput = IsOutput
+
+-- how a run ends after flushes of the output and of rejected lines: as before, or by the first one that failed for this reason
+abbrev pub end_after : (unflushed rejects_unflushed : Option ErrorKind) → End → End
+end_after (Some kind) rejects_unflushed end = WriteFailed (Some kind)
+end_after None (Some kind) end = RejectFailed (Some kind)
+end_after None None end = end
 
 -- how a run ends where each line was regrouped or passed on, by whether messages named faults
 abbrev pub end_of_lines : Invalid → (has_faults : Bool) → End
@@ -53,6 +61,7 @@ status_of (Faulty message) = 1
 status_of Untold = 3
 status_of (WriteFailed (Some BrokenPipe)) = 141
 status_of (WriteFailed kind) = 3
+status_of (RejectFailed kind) = 3
 status_of (ReadFailed kind) = 3
 status_of TooManyLines = 3
 status_of (Unopened kind) = 1
@@ -97,6 +106,7 @@ message_of_end name (Faulty message) = message
 message_of_end name Untold = []
 message_of_end name (WriteFailed (Some BrokenPipe)) = []
 message_of_end name (WriteFailed kind) = failure_message [] (codes "write error") kind
+message_of_end name (RejectFailed kind) = failure_message [] (codes "write error of rejected lines") kind
 message_of_end name (ReadFailed kind) = failure_message name (codes ": read error") kind
 message_of_end name TooManyLines = failure_message name (codes ": too many lines") None
 message_of_end name (Unopened kind) = failure_message name (codes ": cannot open") (Some kind)

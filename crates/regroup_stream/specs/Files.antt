@@ -14,17 +14,22 @@ use Rattle.regroup_stream.specs.Ending.{failure_message}
 use Rattle.regroup_stream.specs.declared.files.FileFault.{FileFault}
 use Rattle.regroup_stream.specs.declared.files.FileFault.TheVariants as fault
 
--- why a file holds no format: it cannot be read, is no JSON text, or holds another value
+-- why a file holds no format: it cannot be read, is no JSON text, or holds another value; or why it is not that of rejected lines: it cannot be
+-- created, or is an input or the output
 pub data Unfit : Type 0 where
   Unread : ErrorKind → Unfit
   NotJson : Unfit
   NotFormat : Fault → Unfit
+  Uncreated : ErrorKind → Unfit
+  InUse : Unfit
 
 -- the `Unfit` of a `FileFault`
 abbrev pub unfit_of : FileFault → Unfit
 unfit_of (fault.Unread kind) = Unread kind
 unfit_of fault.NotJson = NotJson
 unfit_of (fault.NotFormat fault) = NotFormat (fault_of fault)
+unfit_of (fault.Uncreated kind) = Uncreated kind
+unfit_of fault.InUse = InUse
 
 -- the bytes are the text of this JSON value, or of none
 abbrev pub IsJson : List ℕ → Option Data → Type 0
@@ -51,6 +56,8 @@ HoldsFormat bytes (Ok format) = (value : Data) × IsJson bytes (Some value) × (
 HoldsFormat bytes (Err (NotFormat fault)) = (value : Data) × IsJson bytes (Some value) × (format_in (completed value) ≡ Err fault)
 HoldsFormat bytes (Err NotJson) = IsJson bytes None
 HoldsFormat bytes (Err (Unread kind)) = kind ≡ OutOfMemory
+HoldsFormat bytes (Err (Uncreated kind)) = ⊥
+HoldsFormat bytes (Err InUse) = ⊥
 
 -- what is said of a JSON value that holds no format, which names the key that is at fault
 abbrev pub json_cause : Fault → List ℕ
@@ -64,3 +71,5 @@ abbrev pub unfit_message : (name : List ℕ) → Unfit → List ℕ
 unfit_message name (Unread kind) = failure_message name (codes ": cannot read") (Some kind)
 unfit_message name NotJson = failure_message name (codes ": not JSON") None
 unfit_message name (NotFormat fault) = failure_message name (json_cause fault) None
+unfit_message name (Uncreated kind) = failure_message name (codes ": cannot create") (Some kind)
+unfit_message name InUse = failure_message name (codes ": rejects file is input or output file") None

@@ -5,7 +5,8 @@ use Rattle.num_format.specs.Format.{FormatData}
 use Rattle.regroup_lines.specs.declared.rules.Invalid.{Invalid}
 use Rattle.regroup_lines.specs.declared.rules.Invalid.TheVariants.{Abort, Fail, Warn, Ignore}
 use Rattle.regroup_lines.specs.declared.rules.Rules.{Rules}
-use Rattle.regroup_stream.specs.Ending.{Finishes}
+use Rattle.regroup_lines.specs.Sending.{Writer, by_writer}
+use Rattle.regroup_stream.specs.Ending.{End, Finishes}
 use Rattle.regroup_stream.specs.Ending.End.{IsOutput, Unopened}
 use Rattle.regroup_stream.specs.Stream.{Runs}
 
@@ -16,30 +17,31 @@ reads_on Abort status = status == 0
 reads_on Warn status = status == 0
 reads_on Ignore status = status == 0
 
+-- whether it is the end of an input that is not read
+pub data IsUnread : End → Type 0 where
+  unopened : (kind : ErrorKind) → IsUnread (Unopened kind)
+  is_output : IsUnread IsOutput
+
 -- what the program does with the input of this name, with which status, and whether the next one is read: it regroups its lines, or says
 -- why it does not read it
-pub data RunsOne (rules : Rules) (from to : FormatData) (name : List ℕ) : (status : ℕ) → (goes_on : Bool) → (out_old out_new : Option (List ℕ)) → (held_old held_new : List ℕ) → (err_old err_new : Option (List ℕ)) → Type 0 where
-  read : (status : ℕ) (bytes out_old out_new : Option (List ℕ)) (held_old held_new : List ℕ) (err_old err_new : Option (List ℕ)) →
-      Runs rules from to name status bytes out_old out_new held_new err_old err_new →
-      RunsOne rules from to name status (reads_on rules.invalid status) out_old out_new held_old held_new err_old err_new
-  unopened : (kind : ErrorKind) (status : ℕ) (out : Option (List ℕ)) (held : List ℕ) (err_old err_new : Option (List ℕ)) →
-      Finishes name (Unopened kind) status err_old err_new → RunsOne rules from to name status true out out held held err_old err_new
-  is_output : (status : ℕ) (out : Option (List ℕ)) (held : List ℕ) (err_old err_new : Option (List ℕ)) →
-      Finishes name IsOutput status err_old err_new → RunsOne rules from to name status true out out held held err_old err_new
+pub data RunsOne (rules : Rules) (from to : FormatData) (name : List ℕ) : (status : ℕ) → (goes_on : Bool) → (old new : Writer → Option (List ℕ)) → (held_old held_new : Writer → List ℕ) → Type 0 where
+  read : (status : ℕ) (bytes : Option (List ℕ)) (old new : Writer → Option (List ℕ)) (held_old held_new : Writer → List ℕ) →
+      Runs rules from to name status bytes old new held_new → RunsOne rules from to name status (reads_on rules.invalid status) old new held_old held_new
+  unread : (end : End) (status : ℕ) (out err_old err_new rejects : Option (List ℕ)) (held : Writer → List ℕ) → IsUnread end →
+      Finishes name end status err_old err_new → RunsOne rules from to name status true (by_writer out err_old rejects) (by_writer out err_new rejects) held held
 
 -- the same of inputs in turn: the status is the highest of theirs, and only the last one may be such that the next one is not read
-pub data RunsEach (rules : Rules) (from to : FormatData) : (names : List (List ℕ)) → (status : ℕ) → (goes_on : Bool) → (out_old out_new : Option (List ℕ)) → (held_old held_new : List ℕ) → (err_old err_new : Option (List ℕ)) → Type 0 where
-  none : (out : Option (List ℕ)) (held : List ℕ) (err : Option (List ℕ)) → RunsEach rules from to [] 0 true out out held held err err
-  more : (names : List (List ℕ)) (name : List ℕ) (status last : ℕ) (goes_on : Bool) (out_old out out_new : Option (List ℕ)) (held_old held held_new : List ℕ) (err_old err err_new : Option (List ℕ)) →
-      RunsEach rules from to names status true out_old out held_old held err_old err →
-      RunsOne rules from to name last goes_on out out_new held held_new err err_new →
-      RunsEach rules from to (names ++ name ∷ []) (max status last) goes_on out_old out_new held_old held_new err_old err_new
+pub data RunsEach (rules : Rules) (from to : FormatData) : (names : List (List ℕ)) → (status : ℕ) → (goes_on : Bool) → (old new : Writer → Option (List ℕ)) → (held_old held_new : Writer → List ℕ) → Type 0 where
+  none : (all : Writer → Option (List ℕ)) (held : Writer → List ℕ) → RunsEach rules from to [] 0 true all all held held
+  more : (names : List (List ℕ)) (name : List ℕ) (status last : ℕ) (goes_on : Bool) (old mid new : Writer → Option (List ℕ)) (held_old held held_new : Writer → List ℕ) →
+      RunsEach rules from to names status true old mid held_old held → RunsOne rules from to name last goes_on mid new held held_new →
+      RunsEach rules from to (names ++ name ∷ []) (max status last) goes_on old new held_old held_new
 
 -- the same of all inputs, or of those up to one after which none is read
-pub record RunsAll (rules : Rules) (from to : FormatData) (names : List (List ℕ)) (status : ℕ) (out_old out_new : Option (List ℕ)) (held_old held_new : List ℕ) (err_old err_new : Option (List ℕ)) : Type 0 where
+pub record RunsAll (rules : Rules) (from to : FormatData) (names : List (List ℕ)) (status : ℕ) (old new : Writer → Option (List ℕ)) (held_old held_new : Writer → List ℕ) : Type 0 where
   pub tried : List (List ℕ)
   pub left : List (List ℕ)
   pub goes_on : Bool
   pub split : names ≡ tried ++ left
-  pub runs : RunsEach rules from to tried status goes_on out_old out_new held_old held_new err_old err_new
+  pub runs : RunsEach rules from to tried status goes_on old new held_old held_new
   pub all : goes_on ≡ true → left ≡ []

@@ -1,15 +1,16 @@
 -- What the program writes of the lines of an input.
-use Rattle.std.specs.Prelude.{◌≡◌, ℕ, ◌-◌, ◌^◌, Bool, true, false, List, [], Option, None, Some, Result, Ok, Err}
+use Rattle.std.specs.Prelude.{◌≡◌, ℕ, ◌-◌, ◌^◌, List, [], Option, None, Some, Result, Ok, Err}
 use Rattle.std.specs.declared.io.ErrorKind.{ErrorKind}
 use Rattle.num_format.specs.Format.{FormatData}
 use Rattle.regroup_lines.specs.Fault.{Fault}
-use Rattle.regroup_lines.specs.Fault.Fault.{TooMany, Read, Write, Report, Flush}
+use Rattle.regroup_lines.specs.Fault.Fault.{TooMany, Read, Write, Report, Reject, Flush}
 use Rattle.regroup_lines.specs.Messages.{fault_message}
-use Rattle.regroup_lines.specs.Sending.{RegroupsNaming}
+use Rattle.regroup_lines.specs.Sending.{RegroupsNaming, Writer, by_writer}
+use Rattle.regroup_lines.specs.Sending.Writer.{Messages, Output, Rejects}
 use Rattle.regroup_lines.specs.declared.Summary.{Summary}
 use Rattle.regroup_lines.specs.declared.rules.Rules.{Rules}
-use Rattle.regroup_stream.specs.Ending.{End, Finishes, end_of_lines}
-use Rattle.regroup_stream.specs.Ending.End.{Faulty, ReadFailed, TooManyLines, Untold, WriteFailed}
+use Rattle.regroup_stream.specs.Ending.{End, Finishes, end_after, end_of_lines}
+use Rattle.regroup_stream.specs.Ending.End.{Faulty, ReadFailed, RejectFailed, TooManyLines, Untold, WriteFailed}
 
 -- the most lines of an input: as many as are counted
 abbrev pub most_lines : ℕ
@@ -22,32 +23,27 @@ end_of_result rules name from (Err Read) failure = ReadFailed failure
 end_of_result rules name from (Err Write) failure = WriteFailed None
 end_of_result rules name from (Err Flush) failure = WriteFailed None
 end_of_result rules name from (Err Report) failure = Untold
+end_of_result rules name from (Err Reject) failure = RejectFailed None
 end_of_result rules name from (Err TooMany) failure = TooManyLines
 end_of_result rules name from (Err fault) failure = Faulty (fault_message name rules.reading from fault)
 
--- how a run with this result ends: as the result says, or by its last flush, which fails for a reason that is known
-pub data IsEndOf (rules : Rules) (name : List ℕ) (from : FormatData) (result : Result Summary Fault) : End → Type 0 where
-  of_result : (failure : Option ErrorKind) → IsEndOf rules name from result (end_of_result rules name from result failure)
-  of_flush : (kind : ErrorKind) → IsEndOf rules name from result (WriteFailed (Some kind))
-
--- whether all that was to be written was written
-abbrev pub is_written : End → Bool
-is_written (WriteFailed kind) = false
-is_written _ = true
-
 -- what the program does with two formats and an input of this name: standard output received the lines of the bytes that the reader gave,
--- up to the fault that ends it if there is one, and nothing of them is left in its buffer unless a write failed; standard error received
--- the messages that name the faults that do not
-pub record RegroupsAll (rules : Rules) (name : List ℕ) (from to : FormatData) (end : End) (read_old out_old out_new : Option (List ℕ)) (buffered : List ℕ) (err_old err_new : Option (List ℕ)) : Type 0 where
+-- up to the fault that ends it if there is one, and the writer of rejected lines those that are rejected, and nothing of them is left in a
+-- buffer unless its last flush failed; standard error received the messages that name the faults that do not
+pub record RegroupsAll (rules : Rules) (name : List ℕ) (from to : FormatData) (end : End) (read_old : Option (List ℕ)) (old new : Writer → Option (List ℕ)) (held : Writer → List ℕ) : Type 0 where
   pub result : Result Summary Fault
   pub read_new : Option (List ℕ)
-  pub lines : RegroupsNaming rules name most_lines from to read_old read_new out_old out_new err_old err_new result
-  pub is : IsEndOf rules name from result end
-  pub flushed : is_written end ≡ true → buffered ≡ []
+  pub failure : Option ErrorKind
+  pub unflushed : Option ErrorKind
+  pub rejects_unflushed : Option ErrorKind
+  pub lines : RegroupsNaming rules name most_lines from to read_old read_new old new result
+  pub is : end ≡ end_after unflushed rejects_unflushed (end_of_result rules name from result failure)
+  pub flushed : unflushed ≡ None → held Output ≡ []
+  pub rejects_flushed : rejects_unflushed ≡ None → held Rejects ≡ []
 
 -- the same, and then the message of how it ends, if there is one, and with which status
-pub record Runs (rules : Rules) (from to : FormatData) (name : List ℕ) (status : ℕ) (read_old out_old out_new : Option (List ℕ)) (buffered : List ℕ) (err_old err_new : Option (List ℕ)) : Type 0 where
+pub record Runs (rules : Rules) (from to : FormatData) (name : List ℕ) (status : ℕ) (read_old : Option (List ℕ)) (old new : Writer → Option (List ℕ)) (held : Writer → List ℕ) : Type 0 where
   pub end : End
   pub err_named : Option (List ℕ)
-  pub regrouped : RegroupsAll rules name from to end read_old out_old out_new buffered err_old err_named
-  pub finishes : Finishes name end status err_named err_new
+  pub regrouped : RegroupsAll rules name from to end read_old old (by_writer (new Output) err_named (new Rejects)) held
+  pub finishes : Finishes name end status err_named (new Messages)

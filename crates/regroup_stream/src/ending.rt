@@ -1,6 +1,6 @@
 //! How a run ends: the status, and the message on standard error.
 ghost use Rattle.std.specs.Prelude.{◌≡◌, ◌≤◌, length};
-ghost use Rattle.regroup_stream.specs.Ending.{Finishes, SendsMessage, end_of, failure_message, known_reason, message_of_end, reason_of, status_of};
+ghost use Rattle.regroup_stream.specs.Ending.{Finishes, SendsMessage, end_after, end_of, failure_message, known_reason, message_of_end, reason_of, status_of};
 
 use crate::files::MAX_CAUSE_LEN;
 use crate::{CLOSED, FAILED, FAULTY, REGROUPED};
@@ -25,6 +25,8 @@ pub(crate) enum Ending {
     ReadFailed(Option<io::ErrorKind>),
     /// A write to standard output failed, or a flush of it.
     WriteFailed(Option<io::ErrorKind>),
+    /// A write of a rejected line failed, or a flush of these.
+    RejectFailed(Option<io::ErrorKind>),
     /// There are more lines than are counted.
     TooManyLines,
     /// The input cannot be opened.
@@ -34,6 +36,22 @@ pub(crate) enum Ending {
 }
 
 impl Ending {
+    /// Returns how a run ends that ended so, and then flushed the output and rejected lines: as before, or by the first flush that failed
+    /// for its reason.
+    pub(crate) fn after(
+        self,
+        unflushed: Option<io::ErrorKind>,
+        rejects_unflushed: Option<io::ErrorKind>,
+    ) -> Ending
+        ensures { end_of result ≡ end_after unflushed rejects_unflushed (end_of self) }
+    {
+        match (unflushed, rejects_unflushed) {
+            (Some(kind), _) => Ending::WriteFailed(Some(kind)),
+            (None, Some(kind)) => Ending::RejectFailed(Some(kind)),
+            (None, None) => self,
+        }
+    }
+
     /// Sends the message, and returns the status: [`FAILED`] if not all of the message could be sent.
     pub(crate) fn finish<E: Write>(&self, name: &str, err: &mut E) -> u8
         ensures { Finishes name.now (end_of self.now) result (E.contents err.old) (E.contents err.new) }
@@ -50,6 +68,7 @@ impl Ending {
             Ending::Named | Ending::Faulty(_) | Ending::Unopened(_) | Ending::IsOutput => FAULTY,
             Ending::WriteFailed(Some(io::ErrorKind::BrokenPipe)) => CLOSED,
             Ending::WriteFailed(_)
+            | Ending::RejectFailed(_)
             | Ending::ReadFailed(_)
             | Ending::TooManyLines
             | Ending::Untold => FAILED,
@@ -68,6 +87,11 @@ impl Ending {
             Ending::Faulty(message) => *message,
             Ending::ReadFailed(kind) => failure_message(name, ": read error", *kind),
             Ending::WriteFailed(kind) => failure_message("", "write error", *kind),
+            Ending::RejectFailed(kind) => failure_message(
+                "",
+                "write error of rejected lines",
+                *kind,
+            ),
             Ending::TooManyLines => failure_message(name, ": too many lines", None),
             Ending::Unopened(kind) => failure_message(name, ": cannot open", Some(*kind)),
             Ending::IsOutput => failure_message(name, ": input file is output file", None),

@@ -18,7 +18,7 @@ use std::io::ErrorKind;
 /// The most bytes of what is said of a JSON value that holds no format.
 pub(crate) const MAX_CAUSE_LEN: usize = MAX_QUOTED_LEN + 24;
 
-/// Why a file holds no format.
+/// Why a file holds no format, or is not that of rejected lines.
 #[derive(Clone, Copy, Debug, PartialEq, Eq)]
 pub enum FileFault {
     /// The file cannot be read, or there is no memory for what it holds.
@@ -27,6 +27,10 @@ pub enum FileFault {
     NotJson,
     /// The JSON value is no format.
     NotFormat(JsonFault),
+    /// The file of rejected lines cannot be created.
+    Uncreated(ErrorKind),
+    /// The file of rejected lines is an input or the output.
+    InUse,
 }
 
 impl FileFault {
@@ -40,6 +44,12 @@ impl FileFault {
             FileFault::NotFormat(fault) => {
                 failure_message(name, json_cause(*fault).as_str(), None)
             }
+            FileFault::Uncreated(kind) => failure_message(name, ": cannot create", Some(*kind)),
+            FileFault::InUse => failure_message(
+                name,
+                ": rejects file is input or output file",
+                None,
+            ),
         }
     }
 }

@@ -1,6 +1,7 @@
 //! Several inputs, one after the other.
-ghost use Rattle.std.specs.Prelude.{◌≡◌, ◌+◌, length, map};
+ghost use Rattle.std.specs.Prelude.{◌≡◌, ◌+◌, [], length, map};
 ghost use Rattle.std.specs.Io.Buffered.{writer_buffer, writer_contents};
+ghost use Rattle.regroup_lines.specs.Sending.{by_writer};
 ghost use Rattle.regroup_stream.specs.Inputs.{RunsAll, RunsOne, reads_on};
 
 use crate::{FAULTY, Formats, REGROUPED, refuse, refuse_output, run};
@@ -40,9 +41,8 @@ impl From<io::Error> for Unread {
 /// the highest status. Of an input that is not read it sends the message alone. The inputs are read into `buffer`, which
 /// has one byte more than a line may have.
 ///
-/// Of each input `out` and `err` receive what [`run`], [`refuse`] or [`refuse_output`] sends.
-#[tactic(auto, using(crate::proofs::InputLemmas::RunsEach_more, crate::proofs::InputLemmas::RunsAll_stopped, crate::proofs::InputLemmas::RunsAll_done))]
-pub fn run_all<I: Open, O: Write + Drop, E: Write>(
+/// Of each input the writers receive what [`run`], [`refuse`] or [`refuse_output`] sends.
+pub fn run_all<I: Open, O: Write + Drop, E: Write, X: Write + Drop>(
     rules: &Rules,
     formats: &Formats,
     names: &[&str],
@@ -50,15 +50,17 @@ pub fn run_all<I: Open, O: Write + Drop, E: Write>(
     inputs: &I,
     out: &mut BufWriter<O>,
     err: &mut E,
+    rejects: &mut BufWriter<X>,
 ) -> u8
     requires { length buffer.old ≡ rules.now.max_line_len + 1 }
     ensures { RunsAll rules.now formats.now.from formats.now.to (map (λ name. name.now) names.now) result
-        (writer_contents O.contents out.old) (writer_contents O.contents out.new) (writer_buffer out.old) (writer_buffer out.new)
-        (E.contents err.old) (E.contents err.new) }
+        (by_writer (writer_contents O.contents out.old) (E.contents err.old) (writer_contents X.contents rejects.old))
+        (by_writer (writer_contents O.contents out.new) (E.contents err.new) (writer_contents X.contents rejects.new))
+        (by_writer (writer_buffer out.old) [] (writer_buffer rejects.old)) (by_writer (writer_buffer out.new) [] (writer_buffer rejects.new)) }
 {
     let mut status = REGROUPED;
     for name in names {
-        let (ended, goes_on) = run_one(rules, formats, name, buffer, inputs, out, err);
+        let (ended, goes_on) = run_one(rules, formats, name, buffer, inputs, out, err, rejects);
         status = status.max(ended);
         if !goes_on {
             return status;
@@ -69,7 +71,7 @@ pub fn run_all<I: Open, O: Write + Drop, E: Write>(
 
 /// Regroups the lines of the input of that name, or sends the message of why it is not read. Returns its status, and
 /// whether the next input is read.
-fn run_one<I: Open, O: Write + Drop, E: Write>(
+fn run_one<I: Open, O: Write + Drop, E: Write, X: Write + Drop>(
     rules: &Rules,
     formats: &Formats,
     name: &str,
@@ -77,15 +79,17 @@ fn run_one<I: Open, O: Write + Drop, E: Write>(
     inputs: &I,
     out: &mut BufWriter<O>,
     err: &mut E,
+    rejects: &mut BufWriter<X>,
 ) -> (u8, bool)
     requires { length buffer.old ≡ rules.now.max_line_len + 1 }
     ensures { RunsOne rules.now formats.now.from formats.now.to name.now result.0 result.1
-        (writer_contents O.contents out.old) (writer_contents O.contents out.new) (writer_buffer out.old) (writer_buffer out.new)
-        (E.contents err.old) (E.contents err.new) }
+        (by_writer (writer_contents O.contents out.old) (E.contents err.old) (writer_contents X.contents rejects.old))
+        (by_writer (writer_contents O.contents out.new) (E.contents err.new) (writer_contents X.contents rejects.new))
+        (by_writer (writer_buffer out.old) [] (writer_buffer rejects.old)) (by_writer (writer_buffer out.new) [] (writer_buffer rejects.new)) }
 {
     match inputs.open(name) {
         Ok(input) => {
-            let status = run(rules, formats, name, buffer, input, out, err);
+            let status = run(rules, formats, name, buffer, input, out, err, rejects);
             (status, reads_on(rules.invalid, status))
         }
         Err(Unread::CannotOpen(kind)) => (refuse(name, kind, err), true),

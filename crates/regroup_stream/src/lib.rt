@@ -1,5 +1,5 @@
 //! Lines of numbers from one format to another, as many as a `u64` counts: the program `regroup-lines`
-//! over any reader and any two writers.
+//! over any reader and any three writers.
 //!
 //! Any file may be changed. A status or a message that changes also changes in `man/regroup-lines.1`.
 //!
@@ -12,7 +12,8 @@
 //! | 3 | the lines before a read or a write failed | which, and why if it is known, after the messages of those lines |
 //! | 141 | the lines before it was closed | the messages of those lines |
 //!
-//! The status is 3 also where a message could not be written. That of several inputs is the highest.
+//! The status is 3 also where a message or a rejected line could not be written. That of several inputs is the highest. If the
+//! rules ask for that, lines at fault are sent to a writer of their own, and not to standard output.
 #![tactic(auto)]
 
 mod ending;
@@ -22,12 +23,14 @@ mod options;
 mod watched;
 mod words;
 
-ghost use Rattle.std.specs.Prelude.{◌≡◌, ◌+◌, length};
+ghost use Rattle.std.specs.Prelude.{◌≡◌, ◌+◌, [], None, length};
 ghost use Rattle.std.specs.Io.Buffered.{writer_buffer, writer_contents};
+ghost use Rattle.std.specs.Io.KnownBytes.{Keeps};
 ghost use Rattle.std.specs.Result.{result_map_both};
 ghost use Rattle.regroup_lines.specs.Fault.{fault_of};
 ghost use Rattle.regroup_stream.specs.Ending.{Finishes, end_of, end_of_lines};
 ghost use Rattle.regroup_stream.specs.Ending.End.{IsOutput, Unopened};
+ghost use Rattle.regroup_lines.specs.Sending.{by_writer};
 ghost use Rattle.regroup_stream.specs.Stream.{RegroupsAll, Runs, end_of_result};
 
 use crate::ending::Ending;
@@ -56,9 +59,9 @@ pub const FAILED: u8 = 3;
 /// The status where standard output was closed, as a shell has it of a program that the signal `SIGPIPE` ended.
 pub const CLOSED: u8 = 141;
 
-/// Regroups the lines of `input` from one format to another, flushes `out`, and returns the exit status. Messages
-/// have the name of the input, which is `-` for standard input. It is read into `buffer`, which has one byte more than a
-/// line may have.
+/// Regroups the lines of `input` from one format to another, flushes `out` and `rejects`, and returns the exit status.
+/// Messages have the name of the input, which is `-` for standard input. It is read into `buffer`, which has one byte more
+/// than a line may have. Where the rules say so, `rejects` receives the lines at fault, and `out` does not.
 ///
 /// - [`REGROUPED`] (0): `out` received each line, and `err` nothing, or with [`Invalid::Warn`] the message of each line at fault, which
 ///   is passed on as it is.
@@ -67,7 +70,8 @@ pub const CLOSED: u8 = 141;
 /// - [`FAILED`] (3): a read failed, also one that was interrupted, a write to `out` or a flush of it, and `err` received
 ///   a message with the kind of the error if it is known, after those of lines that were passed on. `out` received the
 ///   lines before that, and what was read of a long line that is passed on, or a prefix of these where a write failed. So
-///   too where there are more lines than a `u64` counts. Or else `err` did not receive all of its messages.
+///   too where there are more lines than a `u64` counts, and where a write to `rejects` or a flush of it failed. Or else `err`
+///   did not receive all of its messages.
 /// - [`CLOSED`] (141): a write or a flush failed since nothing reads `out`, and `err` received the messages of lines that
 ///   were passed on, and no more.
 ///
@@ -77,19 +81,22 @@ pub const CLOSED: u8 = 141;
 ///     reading: Reading::Strict,
 ///     header_lines: 0,
 ///     passes_empty: false,
-///     invalid: Invalid::Abort,
+///     invalid: Invalid::Warn,
+///     rejects: true,
 ///     line_end: b'\n',
 ///     max_line_len: 99,
 ///     flushes: true,
 /// };
 /// let formats = formats_named(alloc, rules.reading, Source::Word("en"), Source::Word("de")).unwrap();
 /// let mut out = BufWriter::new(alloc, Vec::new(alloc))?;
+/// let mut rejects = BufWriter::new(alloc, Vec::new(alloc))?;
 /// let mut err = Vec::new(alloc);
 /// let mut buffer = [0; 100];
-/// run(&rules, &formats, "-", &mut buffer, "1,000\n".as_bytes(), &mut out, &mut err)    // 0
-/// str::from_utf8(out.get_ref())                                           // Ok("1.000\n")
+/// run(&rules, &formats, "-", &mut buffer, "1,000\nx\n".as_bytes(), &mut out, &mut err, &mut rejects)    // 0
+/// str::from_utf8(out.get_ref())        // Ok("1.000\n")
+/// str::from_utf8(rejects.get_ref())    // Ok("x\n")
 /// ```
-pub fn run<R: Read + Drop, O: Write + Drop, E: Write>(
+pub fn run<R: Read + Drop, O: Write + Drop, E: Write, X: Write + Drop>(
     rules: &Rules,
     formats: &Formats,
     name: &str,
@@ -97,13 +104,15 @@ pub fn run<R: Read + Drop, O: Write + Drop, E: Write>(
     input: R,
     out: &mut BufWriter<O>,
     err: &mut E,
+    rejects: &mut BufWriter<X>,
 ) -> u8
     requires { length buffer.old ≡ rules.now.max_line_len + 1 }
     ensures { Runs rules.now formats.now.from formats.now.to name.now result (R.remaining input)
-        (writer_contents O.contents out.old) (writer_contents O.contents out.new) (writer_buffer out.new)
-        (E.contents err.old) (E.contents err.new) }
+        (by_writer (writer_contents O.contents out.old) (E.contents err.old) (writer_contents X.contents rejects.old))
+        (by_writer (writer_contents O.contents out.new) (E.contents err.new) (writer_contents X.contents rejects.new))
+        (by_writer (writer_buffer out.new) [] (writer_buffer rejects.new)) }
 {
-    regroup(rules, formats, name, buffer, input, out, err).finish(name, err)
+    regroup(rules, formats, name, buffer, input, out, err, rejects).finish(name, err)
 }
 
 /// Sends the message of an input that cannot be opened, and returns the status: [`FAULTY`], or [`FAILED`] if not all
@@ -133,8 +142,8 @@ pub fn refuse_output<E: Write>(name: &str, err: &mut E) -> u8
     Ending::IsOutput.finish(name, err)
 }
 
-/// Regroups the lines, flushes `out`, and returns how that ends.
-fn regroup<R: Read + Drop, O: Write + Drop, E: Write>(
+/// Regroups the lines, flushes `out` and `rejects`, and returns how that ends.
+fn regroup<R: Read + Drop, O: Write + Drop, E: Write, X: Write + Drop>(
     rules: &Rules,
     formats: &Formats,
     name: &str,
@@ -142,11 +151,13 @@ fn regroup<R: Read + Drop, O: Write + Drop, E: Write>(
     input: R,
     out: &mut BufWriter<O>,
     err: &mut E,
+    rejects: &mut BufWriter<X>,
 ) -> Ending
     requires { length buffer.old ≡ rules.now.max_line_len + 1 }
     ensures { RegroupsAll rules.now name.now formats.now.from formats.now.to (end_of result) (R.remaining input)
-        (writer_contents O.contents out.old) (writer_contents O.contents out.new) (writer_buffer out.new)
-        (E.contents err.old) (E.contents err.new) }
+        (by_writer (writer_contents O.contents out.old) (E.contents err.old) (writer_contents X.contents rejects.old))
+        (by_writer (writer_contents O.contents out.new) (E.contents err.new) (writer_contents X.contents rejects.new))
+        (by_writer (writer_buffer out.new) [] (writer_buffer rejects.new)) }
 {
     let mut input = Watched::new(input);
     let (from, to) = (&formats.from, &formats.to);
@@ -158,12 +169,24 @@ fn regroup<R: Read + Drop, O: Write + Drop, E: Write>(
         &mut input,
         out,
         err,
+        rejects,
         from,
         to,
     );
-    match out.flush() {
-        Ok(()) => ending_of(rules, name, from, regrouped, input.failure()),
-        Err(error) => Ending::WriteFailed(Some(error.kind())),
+    let unflushed = flush(out);
+    let rejects_unflushed = flush(rejects);
+    let ending = ending_of(rules, name, from, regrouped, input.failure());
+    ending.after(unflushed, rejects_unflushed)
+}
+
+/// Flushes the writer, and returns the kind of the error if that fails.
+fn flush<W: Write + Drop>(writer: &mut BufWriter<W>) -> Option<ErrorKind>
+    ensures bytes { Keeps (writer_contents W.contents writer.old) (writer_contents W.contents writer.new) }
+    ensures empty { result ≡ None → writer_buffer writer.new ≡ [] }
+{
+    match writer.flush() {
+        Ok(()) => None,
+        Err(error) => Some(error.kind()),
     }
 }
 
@@ -184,6 +207,7 @@ fn ending_of(
             RegroupFault::Read => Ending::ReadFailed(failure),
             RegroupFault::Write | RegroupFault::Flush => Ending::WriteFailed(None),
             RegroupFault::Report => Ending::Untold,
+            RegroupFault::Reject => Ending::RejectFailed(None),
             RegroupFault::TooMany => Ending::TooManyLines,
             RegroupFault::TooLong(..)
             | RegroupFault::FewFields(..)

@@ -1,6 +1,6 @@
 //! The rules that options of the command line ask for.
 ghost use Rattle.std.specs.Prelude.{◌≡◌};
-ghost use Rattle.regroup_stream.specs.Options.{cause_of_option, delimiter_named, delimiter_of, rules_of, span_of};
+ghost use Rattle.regroup_stream.specs.Options.{cause_of_option, delimiter_named, delimiter_of, invalid_of, rules_of, span_of};
 
 use regroup_lines::{FieldRange, Fields, Invalid, Reading, Rules, Span};
 
@@ -10,25 +10,26 @@ const MAX_LINE_LEN: u32 = 1_048_576;
 /// What the options say of lines.
 ///
 /// ```rust
-/// let list = field_list(alloc, "3")?;
+/// let list = [FieldRange { first: 3, last: Some(3) }];
 /// let options = Options {
-///     list: list.as_deref(),
+///     list: &list,
 ///     delimiter: Some(";"),
 ///     csv: false,
 ///     reading: Reading::Strict,
 ///     header_lines: 0,
 ///     passes_empty: false,
 ///     invalid: None,
+///     rejects: true,
 ///     zero_terminated: false,
 /// };
-/// options.rules().unwrap().invalid                                // Abort
-/// Options { delimiter: Some("\t\t"), ..options }.rules().err()    // Some(LongDelimiter)
-/// Options { list: None, ..options }.rules().err()                 // Some(NoList)
+/// options.rules().unwrap().invalid                                      // Fail
+/// Options { delimiter: Some("::"), ..options }.rules().err()            // Some(LongDelimiter)
+/// Options { invalid: Some(Invalid::Abort), ..options }.rules().err()    // Some(AbortingRejects)
 /// ```
 #[derive(Clone, Copy, Debug)]
 pub struct Options<'a> {
-    /// The fields that are chosen, none where each line has one number, or `None` if they are no list.
-    pub list: Option<&'a [FieldRange]>,
+    /// The fields that are chosen, or none where each line has one number.
+    pub list: &'a [FieldRange],
     /// The delimiter, if one is given.
     pub delimiter: Option<&'a str>,
     /// Whether fields may be in quotes.
@@ -41,6 +42,8 @@ pub struct Options<'a> {
     pub passes_empty: bool,
     /// What is done with a line at fault, if that is given.
     pub invalid: Option<Invalid>,
+    /// Whether lines at fault are written to a file of their own.
+    pub rejects: bool,
     /// Whether lines end with NUL.
     pub zero_terminated: bool,
 }
@@ -48,12 +51,12 @@ pub struct Options<'a> {
 /// What is wrong with options.
 #[derive(Clone, Copy, Debug, PartialEq, Eq)]
 pub enum OptionFault {
-    /// The fields are no list.
-    NoList,
     /// The delimiter is not one ASCII character.
     LongDelimiter,
     /// The delimiter is a quote, and fields may be in quotes.
     QuoteDelimiter,
+    /// A line at fault ends the run, so that none would be written to the file of such lines.
+    AbortingRejects,
 }
 
 impl<'a> Options<'a> {
@@ -70,7 +73,8 @@ impl<'a> Options<'a> {
             reading: self.reading,
             header_lines: self.header_lines,
             passes_empty: self.passes_empty,
-            invalid: self.invalid.unwrap_or(Invalid::Abort),
+            invalid: self.invalid()?,
+            rejects: self.rejects,
             line_end: if self.zero_terminated { b'\0' } else { b'\n' },
             max_line_len: MAX_LINE_LEN,
             flushes: true,
@@ -79,14 +83,13 @@ impl<'a> Options<'a> {
 
     /// Returns where the numbers of a line are.
     fn span(&self) -> Result<Span<'a>, OptionFault>
-        ensures { result ≡ span_of self.now self.now.list }
+        ensures { result ≡ span_of self.now self.now.list.now }
     {
-        let list = self.list.ok_or(OptionFault::NoList)?;
-        if list.is_empty() {
+        if self.list.is_empty() {
             return Ok(Span::Trimmed);
         }
         Ok(Span::Fields(Fields {
-            list,
+            list: self.list,
             delimiter: self.delimiter()?,
             quotes: self.csv,
             output: None,
@@ -101,6 +104,18 @@ impl<'a> Options<'a> {
             None => Ok(if self.csv { b',' } else { b'\t' }),
             Some("\"") if self.csv => Err(OptionFault::QuoteDelimiter),
             Some(text) => delimiter_named(text).ok_or(OptionFault::LongDelimiter),
+        }
+    }
+
+    /// Returns what is done with a line at fault.
+    fn invalid(&self) -> Result<Invalid, OptionFault>
+        ensures { result ≡ invalid_of self.now.invalid self.now.rejects }
+    {
+        match (self.invalid, self.rejects) {
+            (None, false) => Ok(Invalid::Abort),
+            (None, true) => Ok(Invalid::Fail),
+            (Some(Invalid::Abort), true) => Err(OptionFault::AbortingRejects),
+            (Some(invalid), _) => Ok(invalid),
         }
     }
 }
@@ -126,9 +141,9 @@ impl OptionFault {
         ensures { result.now ≡ cause_of_option self }
     {
         match self {
-            OptionFault::NoList => "the fields are no list, as 1,3-5 or 2-",
             OptionFault::LongDelimiter => "the delimiter is not one ASCII character",
             OptionFault::QuoteDelimiter => "the delimiter is a quote",
+            OptionFault::AbortingRejects => "option '--rejects' allows no '--invalid abort'",
         }
     }
 }

@@ -71,7 +71,7 @@ pub enum Misuse<'a> {
     NoFormat(&'a str),
     /// The format that this word names, or this file holds, is ambiguous.
     Ambiguous(&'a str, Ambiguity),
-    /// The file of this name holds no format.
+    /// The file of this name holds no format, or is not that of rejected lines.
     BadFile(&'a str, FileFault),
 }
 

@@ -8,6 +8,7 @@ use num_format::{CustomFormat, Locale};
 use regroup_lines::{RegroupFault, regroup_lines};
 use regroup_stream::{FAILED, Formats, Invalid, REGROUPED, Reading, Rules, Span, run};
 use std::alloc::Global;
+use std::io;
 use std::io::BufWriter;
 use std::process::Abort;
 use std::test::Fail;
@@ -115,6 +116,7 @@ fn assert_run(rt: &impl Abort, alloc: Global, case: &Case<'_>) -> Result<(), Fai
         input,
         &mut out,
         &mut err,
+        &mut BufWriter::new(alloc, io::sink())?,
     );
     let (expected, messages) = if matches!(case.2, Ended::Lines(_)) {
         (REGROUPED, 0)

@@ -91,6 +91,7 @@ fn a_read_fails(rt: HostRuntime) -> Result<(), test::Fail> {
             reader,
             &mut out,
             &mut err,
+            &mut BufWriter::new(rt.alloc(), io::sink())?,
         );
         assert_eq!(rt; status, FAILED);
         assert_eq!(rt; out.get_ref().as_slice(), b"1.000\n".as_slice());
@@ -124,7 +125,8 @@ fn a_flush_fails(rt: HostRuntime) -> Result<(), test::Fail> {
                     &mut buffer,
                     text,
                     &mut out,
-                    &mut err
+                    &mut err,
+                    &mut BufWriter::new(rt.alloc(), io::sink())?
                 ),
                 status
             );
@@ -150,12 +152,59 @@ fn a_flush_fails_once(rt: HostRuntime) -> Result<(), test::Fail> {
             b"1,000\n".as_slice(),
             &mut out,
             &mut err,
+            &mut BufWriter::new(rt.alloc(), io::sink())?,
         );
         assert_eq!(rt; status, FAILED);
         assert_eq!(rt; out.get_ref().flushes, 2);
         assert_eq!(rt; err.as_slice(), b"regroup-lines: write error\n".as_slice());
     }
     Ok(())
+}
+
+/// Asserts what is said of rejected lines that this writer does not take, after the message of the line. The output is written.
+fn assert_unrejected<X: Write + Drop>(
+    rt: &impl Abort,
+    alloc: Global,
+    writer: X,
+    end: &str,
+) -> Result<(), test::Fail> {
+    let rules = Rules {
+        invalid: Invalid::Warn,
+        rejects: true,
+        ..STRICT
+    };
+    let mut out = BufWriter::new(alloc, Vec::new(alloc))?;
+    let mut err = Vec::new(alloc);
+    let mut rejects = BufWriter::with_capacity(alloc, 0, writer)?;
+    let mut buffer = [0; 100];
+    let text = b"1,000\nx\n".as_slice();
+    let status = run(
+        &rules,
+        &to_de(),
+        "-",
+        &mut buffer,
+        text,
+        &mut out,
+        &mut err,
+        &mut rejects,
+    );
+    assert_eq!(rt; status, FAILED);
+    assert_eq!(rt; out.get_ref().as_slice(), b"1.000\n".as_slice());
+    let message = "regroup-lines: -:2: 'x': not a number at byte 1";
+    let all = format!(in alloc; "{message}\nregroup-lines: {end}\n")?;
+    assert_eq!(rt; err.as_slice(), all.as_bytes());
+    Ok(())
+}
+
+/// A rejected line that is not written is a failed write, and so is one that is not flushed, with its cause.
+#[test]
+fn a_rejected_line_fails(rt: HostRuntime) -> Result<(), test::Fail> {
+    let alloc = rt.alloc();
+    let unwritten = Scripted::new(alloc, 64, &[Step::Fail])?;
+    assert_unrejected(&rt, alloc, unwritten, "write error of rejected lines")?;
+    let unflushed = Unflushed::new(ErrorKind::StorageFull, 1);
+    let end = "write error of rejected lines: No space left on device";
+    assert_unrejected(&rt, alloc, unflushed, end)
 }
 
 /// Inputs by their names: `bad` has a line at fault, and `none` and `output` are not read.
@@ -199,6 +248,7 @@ fn assert_inputs(
         &ByName,
         &mut out,
         &mut err,
+        &mut BufWriter::new(alloc, io::sink())?,
     );
     let (expected_status, written, messages) = expected;
     assert_eq!(rt; status, expected_status);
@@ -295,7 +345,8 @@ fn assert_calls(
             &mut buffer,
             text,
             &mut out,
-            &mut err
+            &mut err,
+            &mut BufWriter::new(alloc, io::sink())?
         ),
         status
     );
@@ -355,7 +406,8 @@ fn a_line_is_at_fault(rt: HostRuntime) -> Result<(), test::Fail> {
             &mut buffer,
             b"100,000\n".as_slice(),
             &mut out,
-            &mut err
+            &mut err,
+            &mut BufWriter::new(rt.alloc(), io::sink())?
         ),
         REGROUPED
     );
@@ -367,7 +419,8 @@ fn a_line_is_at_fault(rt: HostRuntime) -> Result<(), test::Fail> {
             &mut buffer,
             b"-1,000\nx\n".as_slice(),
             &mut out,
-            &mut err
+            &mut err,
+            &mut BufWriter::new(rt.alloc(), io::sink())?
         ),
         FAULTY
     );
