@@ -1,7 +1,7 @@
 #!/usr/bin/env python3
-"""Runs `regroup-lines` where a case cannot say it: records that Python's csv writes and reads, rejected lines in a file,
-outputs and inputs that fail, a closed pipe, a slow input, long input in little memory, and the engines of
-examples/engines.
+"""Runs `regroup-lines` where a case cannot say it: records that Python's csv writes and reads, the sum of the man page,
+rejected lines in a file, outputs and inputs that fail, a closed pipe, a slow input, long input in little memory, and the
+engines of examples/engines.
 
     python3 tools/filter_checks.py [PROGRAM]    # crates/regroup_filter/out/regroup_filter
 """
@@ -78,6 +78,9 @@ AMOUNTS += ["12x", '"1\n000"', '5"', '"5" ', ' "5"', "1.0", '"7"\t']
 AMOUNT = re.compile(r"-?(\d{1,3}(,\d{3})+|\d+)(\.\d+)?")
 RANDOM_RECORDS = 8000
 
+# The recipe of the man page.
+RECIPE = re.compile(r"^\.Bd -literal[^\n]*\n(regroup-lines --csv --quote necessary.*?)^\.Ed$", re.DOTALL | re.MULTILINE)
+
 
 def compare(tally, name, ended, status, out, err):
     """Counts a check of a run. Long outputs are not shown."""
@@ -138,24 +141,46 @@ def check_random_records(tally, program):
     tally.compare("lines at fault", named, lines_at_fault)
 
 
-def check_random_rejects(tally, program):
-    """Writes random records, and those at fault to a file: as they were read, and the others as Python's `csv` reads them."""
-    heading("random records, and those at fault in a file")
+def check_random_fields(tally, program):
+    """Writes random records with another delimiter and the quotes that they need, and those at fault to a file. Python's `csv`
+    writes the same bytes of the fields that it reads."""
+    heading("random records with other delimiters and quotes")
     randomly = random.Random(4711)
     text = "".join(random_record(randomly) for _ in range(RANDOM_RECORDS))
-    expected, rejected = [], []
+    expected, rejected = io.StringIO(newline=""), []
     for _, raw, fields in records_of(text):
         converted = with_german(fields)
         if converted is None:
             rejected.append(raw)
-        else:
-            expected.append(converted)
+            continue
+        end = "\r\n" if raw.endswith("\r\n") else "\n"
+        csv.writer(expected, delimiter="\t", lineterminator=end).writerow(converted)
     with tempfile.TemporaryDirectory() as folder:
-        words = ["--csv", "--field", "2,4", "--empty", "--invalid", "ignore", "--rejects", "rejected.csv", "en", "de"]
+        words = ["--csv", "--field", "2,4", "--empty", "--quote", "necessary", "--output-delimiter", "\\t"]
+        words += ["--invalid", "ignore", "--rejects", "rejected.csv", "en", "de"]
         ended = regroup(program, words, text.encode(), cwd=folder)
         found = (Path(folder) / "rejected.csv").read_bytes()
-    compare_records(tally, "records", ended, expected)
+    compare(tally, "records", ended, 0, expected.getvalue().encode(), b"")
     tally.compare("records at fault", found == "".join(rejected).encode(), True)
+
+
+def check_sum(tally, program):
+    """The recipe of the man page sums what Python sums of a table that Python's `csv` wrote."""
+    heading("the sum of the man page")
+    page = (ROOT / "man" / "regroup-lines.1").read_text(encoding="utf-8")
+    recipe = RECIPE.search(page)[1].replace("\\e", "\\")
+    randomly = random.Random(56)
+    rows = [row_of(randomly) for _ in range(RECORDS)]
+    on_lines = [[first.replace("\n", " "), third.replace("\n", " "), second] for first, second, third, _ in rows]
+    table = [["name", "note", "amount"], *on_lines]
+    total = sum(Decimal(amount.replace(",", "")) for _, _, amount in on_lines)
+    with tempfile.TemporaryDirectory() as folder:
+        (Path(folder) / "regroup-lines").symlink_to(program)
+        for quoting in [csv.QUOTE_MINIMAL, csv.QUOTE_ALL]:
+            (Path(folder) / "sales.csv").write_bytes(written(table, quoting, "\r\n"))
+            how = {"cwd": folder, "env": {**os.environ, "PATH": f"{folder}:{os.environ['PATH']}"}}
+            ended = run(["bash", "-c", recipe], capture_output=True, **how)
+            compare(tally, f"quoting {quoting}", ended, 0, f"{total:.2f}\n".encode(), b"")
 
 
 def check_rejects(tally, program):
@@ -376,7 +401,7 @@ def check_help(tally, program):
 def main():
     program = Path(sys.argv[1]).resolve() if len(sys.argv) > 1 else PROGRAM
     tally = Tally()
-    checks = [check_help, check_open_input, check_records, check_random_records, check_random_rejects, check_rejects]
+    checks = [check_help, check_open_input, check_records, check_random_records, check_random_fields, check_sum, check_rejects]
     checks += [check_failures, check_closed_pipe, check_slow_input, check_output_is_input, check_long, check_engines]
     for check in *checks, check_header:
         check(tally, program)

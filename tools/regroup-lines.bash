@@ -1,10 +1,11 @@
-# Completes the options of regroup-lines, and the values of --invalid.
+# Completes the options of regroup-lines, and the values of --invalid and --quote.
 _regroup_lines() {
     local word=${COMP_WORDS[COMP_CWORD]} before=${COMP_WORDS[COMP_CWORD - 1]}
-    local words="--field --delimiter --csv --header --header-lines --empty --invalid --rejects --lenient --line-buffered --zero-terminated --help --version"
+    local words="--field --delimiter --csv --output-delimiter --quote --header --header-lines --empty --invalid --rejects --lenient --line-buffered --zero-terminated --help --version"
     case $before in
     --invalid) words="abort fail warn ignore" ;;
-    --field | -f | --delimiter | -d | --header-lines | --rejects) return ;;
+    --quote) words="keep necessary" ;;
+    --field | -f | --delimiter | -d | --output-delimiter | --header-lines | --rejects) return ;;
     esac
     mapfile -t COMPREPLY < <(compgen -W "$words" -- "$word")
 }

@@ -16,7 +16,8 @@ LIST has parts N, N-M, N- or -M, with commas between them, as 1,3-5: fields are 
 field that LIST names, and of N- the field N.
 
 With --csv a field may be in quotes, and have delimiters, newlines and doubled quotes there. It is written in quotes
-if it was in quotes or has to be. A quote that no other one closes is at fault.
+if it was in quotes or has to be. A quote that no other one closes is at fault. To be summed, numbers have to be
+without quotes: --csv --quote necessary --output-delimiter '\\t' --field 3 en plain writes them so for awk -F'\\t'.
 
 A number is read exactly as it is printed under FROM, grouped or not, and is written with as many decimals
 as it has. Spaces, tabs and carriage returns around it are passed on, and so is a byte order mark at the start
@@ -134,7 +135,31 @@ fn with_options<'a>(alloc: Global, command: Command<'a>) -> Result<Command<'a>, 
                 .value_parser(value_parser!(u64))
                 .help("Pass on the first N lines"),
         )?;
-    with_fault_options(alloc, command)
+    with_fault_options(alloc, with_output_options(alloc, command)?)
+}
+
+/// Returns the command line with its options about how fields are written.
+fn with_output_options<'a>(alloc: Global, command: Command<'a>) -> Result<Command<'a>, AllocError> {
+    command
+        .arg(
+            Arg::new(alloc, "output-delimiter")
+                .long("output-delimiter")
+                .value_name("CHAR")
+                .requires_arg("field")?
+                .help(
+                    "Write this character between two fields, and quotes around one that needs them then",
+                ),
+        )?
+        .arg(
+            Arg::new(alloc, "quote")
+                .long("quote")
+                .value_name("WHICH")
+                .value_parser(["keep", "necessary"].as_slice())
+                .requires_arg("csv")?
+                .help(
+                    "Which fields are written in quotes: those that were, or those that need them [default: keep]",
+                ),
+        )
 }
 
 /// Returns the command line with its options about lines that are no numbers.

@@ -40,8 +40,12 @@ fn cause_in(alloc: Global, kind: ErrorKind, text: &str) -> Result<String, AllocE
             let missing = between(text, "not provided:", "\n\n");
             let cause = if missing.contains("<TO>") {
                 "missing operand"
+            } else if missing.contains("--csv") {
+                "option '--quote' requires '--csv'"
             } else if text.contains("--csv") {
                 "option '--csv' requires '--field'"
+            } else if text.contains("--output-delimiter") {
+                "option '--output-delimiter' requires '--field'"
             } else {
                 "option '--delimiter' requires '--field'"
             };

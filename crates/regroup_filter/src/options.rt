@@ -1,7 +1,7 @@
 //! What the options and words of the command line ask for.
 
 use clap::ArgMatches;
-use regroup_stream::{FieldRange, Invalid, Options, Reading, field_list};
+use regroup_stream::{FieldRange, Invalid, Options, Quoting, Reading, field_list};
 use std::alloc::{AllocError, Global};
 
 /// Returns the fields that are chosen: none without `--field`. Returns `None` if its value is no list.
@@ -31,10 +31,16 @@ pub(crate) fn options_of<'a>(matches: &ArgMatches<'a>, list: &'a [FieldRange]) -
     } else {
         matches.get_one::<u64>("header-lines").unwrap_or(0)
     };
+    let quoting = match matches.get_str("quote") {
+        Some("necessary") => Quoting::Necessary,
+        _ => Quoting::Keep,
+    };
     Options {
         list,
         delimiter: matches.get_str("delimiter"),
         csv: matches.get_flag("csv"),
+        output_delimiter: matches.get_str("output-delimiter"),
+        quoting,
         reading,
         header_lines,
         passes_empty: matches.get_flag("empty"),

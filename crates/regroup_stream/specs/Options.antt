@@ -1,16 +1,20 @@
 -- The rules that options of the command line ask for.
-use Rattle.std.specs.Prelude.{ℕ, ◌&&◌, nat_lt, Bool, true, false, if◌then◌else◌, List, [], ◌∷◌, bytes_eq, codes, Option, None, Some, Result, Ok, Err}
+use Rattle.std.specs.Prelude.{ℕ, ◌==◌, ◌&&◌, ◌||◌, nat_lt, Bool, true, false, if◌then◌else◌, List, [], ◌∷◌, bytes_eq, codes, Option, None, Some, Result, Ok, Err}
 use Rattle.std.specs.Borrow.{Bor}
 use Rattle.std.specs.Option.{ok_or}
+use Rattle.std.specs.Result.{result_map_both}
 use Rattle.regroup_lines.specs.declared.rules.FieldRange.{FieldRange}
 use Rattle.regroup_lines.specs.declared.rules.Invalid.{Invalid}
 use Rattle.regroup_lines.specs.declared.rules.Invalid.TheVariants.{Abort, Fail}
+use Rattle.regroup_lines.specs.declared.rules.Output.{Output}
+use Rattle.regroup_lines.specs.declared.rules.Quoting.{Quoting}
+use Rattle.regroup_lines.specs.declared.rules.Quoting.TheVariants.{Keep, Necessary}
 use Rattle.regroup_lines.specs.declared.rules.Rules.{Rules}
 use Rattle.regroup_lines.specs.declared.rules.Span.{Span}
 use Rattle.regroup_lines.specs.declared.rules.Span.TheVariants as span
 use Rattle.regroup_stream.specs.declared.options.Options.{Options}
 use Rattle.regroup_stream.specs.declared.options.OptionFault.{OptionFault}
-use Rattle.regroup_stream.specs.declared.options.OptionFault.TheVariants.{LongDelimiter, QuoteDelimiter, AbortingRejects}
+use Rattle.regroup_stream.specs.declared.options.OptionFault.TheVariants.{LongDelimiter, QuoteDelimiter, LongOutputDelimiter, BarredOutputDelimiter, AbortingRejects}
 
 -- the one ASCII character of a text, if it has no more
 abbrev pub ascii_alone : List ℕ → Option ℕ
@@ -30,6 +34,27 @@ abbrev pub delimiter_of : (csv : Bool) → Option (Bor (List ℕ)) → Result �
 delimiter_of csv None = Ok (if csv then 44 else 9)
 delimiter_of csv (Some text) = delimiter_given csv text.now
 
+-- the byte that ends a line: NUL or a newline
+abbrev pub line_end_of : Options → ℕ
+line_end_of options = if options.zero_terminated then 0 else 10
+
+-- a delimiter that may be written, by what it would be: no quote, nor what ends lines
+abbrev pub output_delimiter_in : (line_end : ℕ) → Option ℕ → Result ℕ OptionFault
+output_delimiter_in line_end None = Err LongOutputDelimiter
+output_delimiter_in line_end (Some byte) = if byte == 34 || byte == line_end then Err BarredOutputDelimiter else Ok byte
+
+-- the same of what a text names
+abbrev pub output_delimiter_named : Options → List ℕ → Result ℕ OptionFault
+output_delimiter_named options text = output_delimiter_in (line_end_of options) (delimiter_named text)
+
+-- how fields are written between which this delimiter is, by the other one that is given and by which of them are in quotes: they are passed
+-- on if neither is asked for
+abbrev pub output_of : Options → (delimiter : ℕ) → Option (Bor (List ℕ)) → Quoting → Result (Option Output) OptionFault
+output_of options delimiter None Keep = Ok None
+output_of options delimiter None Necessary = Ok (Some (record { delimiter = delimiter; quoting = Necessary }))
+output_of options delimiter (Some text) quoting =
+    result_map_both (λ given. Some (record { delimiter = given; quoting = quoting })) (λ fault. fault) (output_delimiter_named options text.now)
+
 -- what is done with a line at fault: if that is not given, it ends the run, or is written to the file of such lines
 abbrev pub invalid_of : Option Invalid → (rejects : Bool) → Result Invalid OptionFault
 invalid_of None false = Ok Abort
@@ -47,9 +72,10 @@ abbrev pub span_of : Options → List FieldRange → Result Span OptionFault
 span_of options [] = Ok span.Trimmed
 span_of options (range ∷ ranges) =
     and_then (delimiter_of options.csv options.delimiter) (λ delimiter.
-    Ok (span.Fields (record { list = options.list; delimiter = delimiter; quotes = options.csv })))
+    and_then (output_of options delimiter options.output_delimiter options.quoting) (λ output.
+    Ok (span.Fields (record { list = options.list; delimiter = delimiter; quotes = options.csv; output = output }))))
 
--- the rules, or the first fault: a line has at most 1 MiB, and ends with a newline or NUL
+-- the rules, or the first fault: a line has at most 1 MiB
 abbrev pub rules_of : Options → Result Rules OptionFault
 rules_of options =
     and_then (span_of options options.list.now) (λ span.
@@ -60,7 +86,7 @@ rules_of options =
       passes_empty = options.passes_empty;
       invalid = invalid;
       rejects = options.rejects;
-      line_end = if options.zero_terminated then 0 else 10;
+      line_end = line_end_of options;
       max_line_len = 1048576;
       flushes = true;
     })))
@@ -69,4 +95,6 @@ rules_of options =
 abbrev pub cause_of_option : OptionFault → List ℕ
 cause_of_option LongDelimiter = codes "the delimiter is not one ASCII character"
 cause_of_option QuoteDelimiter = codes "the delimiter is a quote"
+cause_of_option LongOutputDelimiter = codes "the output delimiter is not one ASCII character"
+cause_of_option BarredOutputDelimiter = codes "the output delimiter is a quote or ends lines"
 cause_of_option AbortingRejects = codes "option '--rejects' allows no '--invalid abort'"

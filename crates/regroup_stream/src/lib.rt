@@ -40,7 +40,9 @@ pub use crate::options::{OptionFault, Options};
 use crate::watched::Watched;
 pub use crate::words::{Ambiguity, Formats, Misuse, Source, formats_named, refuse_arguments};
 use num_format::CustomFormat;
-pub use regroup_lines::{FieldRange, Fields, Invalid, Reading, Rules, Span, field_list};
+pub use regroup_lines::{
+    FieldRange, Fields, Invalid, Output, Quoting, Reading, Rules, Span, field_list,
+};
 use regroup_lines::{RegroupFault, Summary, fault_message, regroup_at_most};
 use std::io::{BufWriter, ErrorKind, Read, Write};
 

@@ -1,8 +1,8 @@
 //! The rules that options of the command line ask for.
 ghost use Rattle.std.specs.Prelude.{◌≡◌};
-ghost use Rattle.regroup_stream.specs.Options.{cause_of_option, delimiter_named, delimiter_of, invalid_of, rules_of, span_of};
+ghost use Rattle.regroup_stream.specs.Options.{cause_of_option, delimiter_named, delimiter_of, invalid_of, line_end_of, output_delimiter_named, output_of, rules_of, span_of};
 
-use regroup_lines::{FieldRange, Fields, Invalid, Reading, Rules, Span};
+use regroup_lines::{FieldRange, Fields, Invalid, Output, Quoting, Reading, Rules, Span};
 
 /// The most bytes of a line, without the byte that ends it.
 const MAX_LINE_LEN: u32 = 1_048_576;
@@ -15,6 +15,8 @@ const MAX_LINE_LEN: u32 = 1_048_576;
 ///     list: &list,
 ///     delimiter: Some(";"),
 ///     csv: false,
+///     output_delimiter: None,
+///     quoting: Quoting::Keep,
 ///     reading: Reading::Strict,
 ///     header_lines: 0,
 ///     passes_empty: false,
@@ -34,6 +36,10 @@ pub struct Options<'a> {
     pub delimiter: Option<&'a str>,
     /// Whether fields may be in quotes.
     pub csv: bool,
+    /// The delimiter that is written, if it is another one.
+    pub output_delimiter: Option<&'a str>,
+    /// Which fields are written in quotes.
+    pub quoting: Quoting,
     /// How the numbers are read.
     pub reading: Reading,
     /// How many lines at the start are passed on.
@@ -55,6 +61,10 @@ pub enum OptionFault {
     LongDelimiter,
     /// The delimiter is a quote, and fields may be in quotes.
     QuoteDelimiter,
+    /// The delimiter that is written is not one ASCII character.
+    LongOutputDelimiter,
+    /// The delimiter that is written is a quote, or ends lines.
+    BarredOutputDelimiter,
     /// A line at fault ends the run, so that none would be written to the file of such lines.
     AbortingRejects,
 }
@@ -75,7 +85,7 @@ impl<'a> Options<'a> {
             passes_empty: self.passes_empty,
             invalid: self.invalid()?,
             rejects: self.rejects,
-            line_end: if self.zero_terminated { b'\0' } else { b'\n' },
+            line_end: self.line_end(),
             max_line_len: MAX_LINE_LEN,
             flushes: true,
         })
@@ -88,11 +98,12 @@ impl<'a> Options<'a> {
         if self.list.is_empty() {
             return Ok(Span::Trimmed);
         }
+        let delimiter = self.delimiter()?;
         Ok(Span::Fields(Fields {
             list: self.list,
-            delimiter: self.delimiter()?,
+            delimiter,
             quotes: self.csv,
-            output: None,
+            output: self.output(delimiter)?,
         }))
     }
 
@@ -105,6 +116,39 @@ impl<'a> Options<'a> {
             Some("\"") if self.csv => Err(OptionFault::QuoteDelimiter),
             Some(text) => delimiter_named(text).ok_or(OptionFault::LongDelimiter),
         }
+    }
+
+    /// Returns how fields are written that have this delimiter between them, if they are not passed on.
+    fn output(&self, delimiter: u8) -> Result<Option<Output>, OptionFault>
+        ensures { result ≡ output_of self.now delimiter self.now.output_delimiter self.now.quoting }
+    {
+        let quoting = self.quoting;
+        match (self.output_delimiter, quoting) {
+            (None, Quoting::Keep) => Ok(None),
+            (None, Quoting::Necessary) => Ok(Some(Output { delimiter, quoting })),
+            (Some(text), _) => Ok(Some(Output {
+                delimiter: self.output_delimiter_named(text)?,
+                quoting,
+            })),
+        }
+    }
+
+    /// Returns the byte that a text names as the delimiter that is written.
+    fn output_delimiter_named(&self, text: &str) -> Result<u8, OptionFault>
+        ensures { result ≡ output_delimiter_named self.now text.now }
+    {
+        let delimiter = delimiter_named(text).ok_or(OptionFault::LongOutputDelimiter)?;
+        if delimiter == b'"' || delimiter == self.line_end() {
+            return Err(OptionFault::BarredOutputDelimiter);
+        }
+        Ok(delimiter)
+    }
+
+    /// Returns the byte that ends a line.
+    fn line_end(&self) -> u8
+        ensures { result ≡ line_end_of self.now }
+    {
+        if self.zero_terminated { b'\0' } else { b'\n' }
     }
 
     /// Returns what is done with a line at fault.
@@ -143,6 +187,8 @@ impl OptionFault {
         match self {
             OptionFault::LongDelimiter => "the delimiter is not one ASCII character",
             OptionFault::QuoteDelimiter => "the delimiter is a quote",
+            OptionFault::LongOutputDelimiter => "the output delimiter is not one ASCII character",
+            OptionFault::BarredOutputDelimiter => "the output delimiter is a quote or ends lines",
             OptionFault::AbortingRejects => "option '--rejects' allows no '--invalid abort'",
         }
     }
