@@ -63,10 +63,12 @@ fn try_main(rt: &HostRuntime) -> io::Result<u8> {
     let Some(list) = list_of(rt.alloc(), &matches)? else {
         return Ok(refuse(rt, "the fields are no list, as 1,3-5 or 2-"));
     };
-    match options_of(&matches, &list).rules() {
-        Ok(rules) => regroup_files(rt, &matches, &rules),
-        Err(fault) => Ok(refuse(rt, fault.cause())),
-    }
+    let options = options_of(&matches, &list);
+    let rules = match options.rules() {
+        Ok(rules) => rules,
+        Err(fault) => return Ok(refuse(rt, fault.cause())),
+    };
+    regroup_files(rt, &matches, &rules)
 }
 
 /// Sends the message of arguments that are refused for this cause, and returns the status.
