@@ -1,3 +1,4 @@
+pub mod FaultyLemmas
 pub mod InputLemmas
 pub mod SplitLemmas
 pub mod StreamLemmas
