@@ -2,8 +2,7 @@
 ghost use Rattle.std.specs.Prelude.{◌≡◌, ◌++◌, ◌<◌, ◌≤◌, true, IsTrue, IsUtf8, MatchOption, MatchResult, drop, length};
 ghost use Rattle.std.specs.Char.{is_ascii_digit};
 ghost use Rattle.std.specs.List.{list_all};
-ghost use Rattle.num_format_int.specs.Kind.{I128, kind_of};
-ghost use Rattle.num_format_parsing.specs.Strict.{ParsesStrictly, unexpected};
+ghost use Rattle.num_format_parsing.specs.Strict.{unexpected};
 ghost use Rattle.num_format_decimal.specs.FixedPoint.{FixedPoint};
 ghost use Rattle.num_format_decimal.specs.Marks.{IsPlainFormat, MarksDecimals};
 ghost use Rattle.num_format_decimal.specs.Parsing.{AtScaleResult, DecimalResult, IsDecimalCause, SpellsDecimal, after_mark, unexpected_in_decimal};
@@ -15,7 +14,7 @@ ghost use Rattle.num_format_decimal.specs.declared.parsing.ParseDecimalError.The
 use crate::decimal::{Decimal, MAX_SCALE};
 use crate::marks::is_mark;
 use crate::parsing::{ParseAtScaleError, ParseDecimalError};
-use crate::reading::{is_zero, joined, trailing_digits};
+use crate::reading::{joined, trailing_digits, whole_number};
 use crate::rounding::Rounding;
 use num_format_parsing::FromFormattedStr;
 use num_format_parsing::causes::{begins_with, expected_end, has_digit, is_utf8};
@@ -272,25 +271,18 @@ impl<'a, F: Format> DecimalParser<'a, F> {
     fn amount(&self, text: &[u8]) -> Result<(bool, u128), Fault>
         ensures { HasAmount self.now text.now result }
     {
-        if let Some((is_negative, magnitude)) = self.numbers.small_number(text) {
+        // Most are in groups, or digits alone, and are read without a call.
+        if let Some((is_negative, magnitude)) = self.numbers.grouped_number(text) {
             return Ok((is_negative, magnitude as u128));
         }
         let sign = self.numbers.sign(text);
-        if is_zero(&text[sign.len..]) {
-            return Ok((sign.is_negative, 0));
+        if let Some(magnitude) = whole_number(&text[sign.len..]) {
+            return Ok((sign.is_negative, magnitude as u128));
         }
-        match self.parse_whole(text) {
+        match self.numbers.parse_bytes::<i128>(text) {
             Ok(whole) => Ok((whole.is_negative(), whole.unsigned_abs())),
             Err(error) => Err(fault_of(error)),
         }
-    }
-
-    /// Returns the whole number that a text spells. It is not inlined, so that shorter ones are read without its space.
-    #[inline(never)]
-    fn parse_whole(&self, text: &[u8]) -> Result<i128, StrictError>
-        ensures { ParsesStrictly (kind_of I128) (λ n. n) self.now text.now result }
-    {
-        self.numbers.parse_bytes::<i128>(text)
     }
 
     /// Returns why a text is refused that spells no decimal. It is inlined, so that a parser stays in registers.

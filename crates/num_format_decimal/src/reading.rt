@@ -1,8 +1,10 @@
 //! Digits read as parts of decimals.
-ghost use Rattle.std.specs.Prelude.{◌≡◌, ◌+◌, ◌-◌, ◌*◌, ◌^◌, ◌<◌, ◌≤◌, ◌∷◌, ◌↔◌, [], true, false, IsTrue, MatchOption, SomeIff, drop, length};
+ghost use Rattle.std.specs.Prelude.{◌≡◌, ◌+◌, ◌-◌, ◌*◌, ◌^◌, ◌<◌, ◌≤◌, ◌∷◌, [], true, false, MatchOption, SomeIff, drop, length};
 ghost use Rattle.std.specs.Char.{is_ascii_digit};
 ghost use Rattle.std.specs.Int.Digits.{number_from_digits};
 ghost use Rattle.std.specs.List.{list_all};
+ghost use Rattle.num_format_int.specs.Digits.{digits};
+ghost use Rattle.num_format_int.specs.Groups.{plain};
 ghost use Rattle.num_format_parsing.specs.Shapes.{byte_figures};
 ghost use Rattle.num_format_decimal.specs.Shapes.{tail_digits};
 
@@ -12,12 +14,18 @@ use crate::powers::narrow_power_of_ten;
 /// So many digits fit 64 bits, whatever they are.
 const SAFE_DIGITS: usize = 19;
 
-/// Returns whether a text is the digit zero alone.
+/// Returns the number of which a text is the digits alone, unless it has more than 19.
 #[inline(always)]
-pub(crate) fn is_zero(text: &[u8]) -> bool
-    ensures { IsTrue result ↔ (text.now ≡ 48 ∷ []) }
+pub(crate) fn whole_number(text: &[u8]) -> Option<u64>
+    ensures { MatchOption result (¬ (text.now ≡ 48 ∷ [])) (λ n. text.now ≡ plain (digits n)) }
 {
-    text.len() == 1 && text[0] == b'0'
+    if text.is_empty() || text.len() > SAFE_DIGITS {
+        return None;
+    }
+    if text[0] == b'0' && text.len() > 1 {
+        return None;
+    }
+    read_digits(text)
 }
 
 /// Returns the number that the digits of a whole number and its decimals write together, or `None` if it takes more

@@ -6,9 +6,9 @@ use Rattle.num_format_int.specs.Digits.{digits}
 use Rattle.num_format_text.specs.English.{english}
 use Rattle.num_format_parsing.specs.Strict.{SpellsNumber, with_separators, without_separators, unexpected}
 
-small_number : SpellsNumber english (codes "-1,234") (negsuc 1233)
+grouped_number : SpellsNumber english (codes "-1,234") (negsuc 1233)
 unfolding digits
-small_number = with_separators refl
+grouped_number = with_separators refl
 
 plain_number : SpellsNumber english (codes "-1234") (negsuc 1233)
 unfolding digits

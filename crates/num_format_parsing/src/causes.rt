@@ -9,7 +9,6 @@ ghost use Rattle.num_format_parsing.specs.Strict.{SpellsNumber, IsCause, begins,
 ghost use Rattle.num_format_parsing.specs.Shapes.{BeginsWithDigit, HasPlainSymbols};
 
 use crate::strict::StrictError;
-use crate::symbols::is_prefix;
 
 /// Returns why a text is refused that spells no number. `start` is the length of its minus sign.
 #[cold]
@@ -67,15 +66,22 @@ pub fn expected_end(text: &[u8], start: usize, separator: &[u8]) -> usize
     place
 }
 
-/// Returns whether a text begins with a separator that is not empty.
+/// Returns whether a text begins with a separator that is not empty. Most bytes are not even its first, and
+/// most separators are one byte.
 #[inline]
 pub fn begins_with(text: &[u8], separator: &[u8]) -> bool
+    requires { 0 < length text.now }
     ensures { result ≡ begins separator.now text.now }
 {
     if separator.is_empty() {
         return false;
     }
-    is_prefix(text, separator)
+    let byte = text[0];
+    let first = separator[0];
+    if byte != first {
+        return false;
+    }
+    separator.len() == 1 || text.starts_with(separator)
 }
 
 /// Returns whether the first byte is a digit other than zero.

@@ -228,27 +228,28 @@ impl<'a, F: Format> StrictParser<'a, F> {
     }
 
     /// Returns whether the number that a text spells is negative, and its absolute value, which is above zero. It may
-    /// return `None` for any text, and does not for most that people write with at most 19 digits.
+    /// return `None` for any text, and does not for most that are in groups with a separator of one byte.
     ///
     /// Unlike strict parsing it is inlined, for a caller that reads other parts of a text too.
     ///
     /// ```rust
     /// let parser = StrictParser::new(&Locale::en)?;
-    /// parser.small_number(b"-1,234")    // Some((true, 1234))
-    /// parser.small_number(b"1,23")      // None
-    /// parser.small_number(b"0")         // None
+    /// parser.grouped_number(b"-1,234")    // Some((true, 1234))
+    /// parser.grouped_number(b"1,23")      // None
+    /// parser.grouped_number(b"123")       // None
     /// ```
     #[inline(always)]
-    pub fn small_number(&self, text: &[u8]) -> Option<(bool, u64)>
+    pub fn grouped_number(&self, text: &[u8]) -> Option<(bool, u64)>
         ensures spelled { IfSome result
             (λ read. SpellsNumber self.now text.now (signed_number read.0 read.1)) }
         ensures some { IfSome result (λ read. 0 < read.1) }
     {
-        if seems_wide(text) {
+        // A longer text is not read here: in groups of three it has too many digits, or a longer minus sign.
+        if text.len() <= SHORT_LEN || text.len() > LONGEST_GROUPS + 1 {
             return None;
         }
         let sign = self.sign(text);
-        let magnitude = self.read_directly(text, sign)?;
+        let magnitude = read_in_groups(text, sign, self.separator, self.grouping)?;
         if magnitude == 0 {
             return None;
         }

@@ -134,15 +134,14 @@ fn compared_sign(text: &[u8], minus_sign: &str) -> Sign
     Sign { is_negative, len }
 }
 
-/// Returns whether a text begins with a prefix. Most are one to three bytes, whose comparison takes less time than a call.
-#[inline(always)]
+/// Returns whether a text begins with a prefix. Most are one byte, whose comparison takes less time than a
+/// call.
+#[inline]
 pub(crate) fn is_prefix(text: &[u8], prefix: &[u8]) -> bool
     ensures { result ≡ starts_with nat_eq text.now prefix.now }
 {
-    match (text, prefix) {
-        ([x, ..], [a]) => x == a,
-        ([x, y, ..], [a, b]) => x == a && y == b,
-        ([x, y, z, ..], [a, b, c]) => x == a && y == b && z == c,
-        _ => text.starts_with(prefix),
+    if prefix.len() == 1 && !text.is_empty() {
+        return text[0] == prefix[0];
     }
+    text.starts_with(prefix)
 }
