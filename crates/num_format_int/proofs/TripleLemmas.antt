@@ -3,7 +3,6 @@ use Rattle.std.proofs.Common.{◌≡◌, ℕ, zero, suc, ◌+◌, ◌*◌, ◌-�
 use Rattle.std.proofs.Math.Seq.{drop-append-add}
 use Rattle.std.proofs.lemmas.Bool.{cases_lt}
 use Rattle.std.proofs.lemmas.Bool.Decides.{Decides-by_and, Decides-ltb}
-use Rattle.std.proofs.lemmas.List.{drop-drop}
 use Rattle.std.proofs.lemmas.Str.Ascii.{IsAscii-from_all}
 use Rattle.num_format_int.specs.Digits.{digits}
 use Rattle.num_format_int.specs.Groups.{last_digits, plain}
@@ -55,20 +54,6 @@ pub triple-cut : (p : ℕ) → p < 1000 → take (3 * p + 3 - 3 * p) (drop (3 * 
 triple-cut p below =
     let three : 3 * p + 3 - 3 * p ≡ 3 = omega arith in
     rw (three, at_place p below)
-
--- the last two of three digits
-pub pair-cut : (p : ℕ) → p < 100 → take (3 * p + 1 + 2 - (3 * p + 1)) (drop (3 * p + 1) TRIPLES.now) ≡ (48 + p / 10) ∷ (48 + p % 10) ∷ []
-pair-cut p below =
-    let two : 3 * p + 1 + 2 - (3 * p + 1) ≡ 2 = omega arith in
-    let own : p / 10 % 10 ≡ p / 10 = omega arith in
-    rw (two, ← drop-drop 1 (3 * p) TRIPLES.now, at_place p (omega arith), own)
-
--- and the last
-pub digit-cut : (d : ℕ) → d < 10 → take (3 * d + 2 + 1 - (3 * d + 2)) (drop (3 * d + 2) TRIPLES.now) ≡ (48 + d) ∷ []
-digit-cut d below =
-    let one : 3 * d + 2 + 1 - (3 * d + 2) ≡ 1 = omega arith in
-    let own : d % 10 ≡ d = omega arith in
-    rw (one, ← drop-drop 2 (3 * d) TRIPLES.now, at_place d (omega arith), own)
 
 -- three digits without leading zeros
 pub without_zeros : (n skipped : ℕ) → n < 1000 → (n < 10 → skipped ≡ 2) → (10 ≤ n → n < 100 → skipped ≡ 1) → (100 ≤ n → skipped ≡ 0) → drop skipped (plain (last_digits 3 n)) ≡ plain (digits n)

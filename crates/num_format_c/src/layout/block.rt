@@ -89,4 +89,12 @@ impl PutFront for Block {
         copy_bytes(text.as_bytes(), &mut self.inner[start..self.start]);
         self.start = start;
     }
+
+    /// Prepends the whole text, and skips its first bytes: there is no branch on their number.
+    #[inline(always)]
+    fn put_end(&mut self, text: &str, skipped: usize) {
+        let whole = self.start - text.len();
+        copy_bytes(text.as_bytes(), &mut self.inner[whole..self.start]);
+        self.start = whole + skipped;
+    }
 }

@@ -30,5 +30,5 @@ returns-then-sign-eq1 g c =
     let sign = c.into_str-sign.result.now in
     let one : length sign ≡ 1 = omega (arith, c.if-sign-eq1.true) in
     let all : c.range.result.now ≡ sign = c.range.ensures.value ∙ take_all 1 sign (omega arith) in
-    whole_or_nothing c.args.is_negative _ c.range.result.now sign c.args.buffer.now c.put_end.new.self c.put_end.ensures (λ yes. rw yes) (λ no. rw no) all one
+    whole_or_nothing c.args.is_negative _ c.range.result.now sign (g.B.PutFront.held c.args.buffer.now) (g.B.PutFront.held c.put_end.new.self) c.put_end.ensures (λ yes. rw yes) (λ no. rw no) all one
     ∙ rw (c.into_str-sign.ensures.same, c.minus_sign.ensures)
