@@ -1,5 +1,5 @@
 -- What was done with the first inputs, and with one more.
-use Rattle.std.proofs.Common.{◌≡◌, ℕ, ◌<◌, ◌≤◌, ◌+◌, true, false, List, [], ◌∷◌, ◌++◌, length, map, take, drop, get_or, refl, sym, ap, ◌∙◌, subst, take-append-drop}
+use Rattle.std.proofs.Common.{◌≡◌, ℕ, ◌<◌, ◌≤◌, ◌+◌, true, false, List, [], length, map, take, drop, get_or, refl, sym, ap, ◌∙◌, subst, take-append-drop}
 use Rattle.std.proofs.lemmas.List.{append-nil, map-append, take_all, take_more}
 use Rattle.std.specs.Borrow.{Bor}
 use Rattle.std.specs.Prelude.{Bool, Option, max}
