@@ -230,7 +230,7 @@ impl<'a, F: Format> StrictParser<'a, F> {
     /// Returns whether the number that a text spells is negative, and its absolute value, which is above zero. It may
     /// return `None` for any text, and does not for most that are in groups with a separator of one byte.
     ///
-    /// Unlike strict parsing it is inlined, for a caller that reads other parts of a text too.
+    /// Unlike strict parsing it is not inlined, for a caller that reads other parts of a text too.
     ///
     /// ```rust
     /// let parser = StrictParser::new(&Locale::en)?;
@@ -238,7 +238,7 @@ impl<'a, F: Format> StrictParser<'a, F> {
     /// parser.grouped_number(b"1,23")      // None
     /// parser.grouped_number(b"123")       // None
     /// ```
-    #[inline(always)]
+    #[inline(never)]
     pub fn grouped_number(&self, text: &[u8]) -> Option<(bool, u64)>
         ensures spelled { IfSome result
             (λ read. SpellsNumber self.now text.now (signed_number read.0 read.1)) }
