@@ -20,7 +20,7 @@ use num_format::Format;
 use num_format::parsing::StrictParser;
 use num_format_decimal::{Decimal, DecimalBuffer, DecimalParser, MAX_SCALE};
 use num_format_int::buffer::PutFront;
-use num_format_int::to_formatted_str::put_body;
+use num_format_int::to_formatted_str::put_text;
 
 /// Calls a function for the integer type that a type of values is.
 macro_rules! for_type {
@@ -65,10 +65,7 @@ impl<'a, N: Value, F: Format> Printer for NumberPrinter<'a, N, F> {
 
     fn print(&self, row: usize, block: &mut Block) {
         if let Some(number) = self.values.get(row) {
-            put_body(number.magnitude(), block, self.format);
-            if number.is_below_zero() {
-                block.put_front(self.format.minus_sign().into_str());
-            }
+            put_text(&number, block, self.format);
         }
     }
 }

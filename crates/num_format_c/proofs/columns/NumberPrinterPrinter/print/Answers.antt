@@ -1,6 +1,0 @@
-use Rattle.std.proofs.Common.{arith}
-use Rattle.num_format_int.proofs.DigitLemmas.{length-digits-le39}
-use Rattle.num_format_c.proofs.columns.NumberPrinterPrinter.print.Goals as goal
-
-pub put_body-requires-clause-fits : goal.put_body-requires-clause-fits
-put_body-requires-clause-fits g c = omega (arith, length-digits-le39 c.magnitude.result (omega arith))
