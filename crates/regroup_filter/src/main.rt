@@ -21,7 +21,9 @@ use crate::output::Output;
 use crate::words::Word;
 use clap::ArgMatches;
 use clap::error::ErrorKind;
-use regroup_stream::{FAILED, REGROUPED, Rules, formats_named, refuse_arguments, run_all};
+use regroup_stream::{
+    FAILED, FieldRange, REGROUPED, Rules, formats_named, refuse_arguments, run_all,
+};
 use std::io::BufWriter;
 use std::process::ExitCode;
 use std::{env, io};
@@ -63,12 +65,23 @@ fn try_main(rt: &HostRuntime) -> io::Result<u8> {
     let Some(list) = list_of(rt.alloc(), &matches)? else {
         return Ok(refuse(rt, "the fields are no list, as 1,3-5 or 2-"));
     };
-    let options = options_of(&matches, &list);
-    let rules = match options.rules() {
-        Ok(rules) => rules,
-        Err(fault) => return Ok(refuse(rt, fault.cause())),
-    };
-    regroup_files(rt, &matches, &rules)
+    regroup_fields(rt, &matches, &list)
+}
+
+/// Regroups the lines, where these fields are chosen, and returns the status.
+///
+/// # Errors
+///
+/// Returns an error if there is no memory for the buffers.
+fn regroup_fields(
+    rt: &HostRuntime,
+    matches: &ArgMatches<'_>,
+    list: &[FieldRange],
+) -> io::Result<u8> {
+    match options_of(matches, list).rules() {
+        Ok(rules) => regroup_files(rt, matches, &rules),
+        Err(fault) => Ok(refuse(rt, fault.cause())),
+    }
 }
 
 /// Sends the message of arguments that are refused for this cause, and returns the status.
