@@ -70,8 +70,10 @@ pub enum Quoting {
 ///     delimiter: b';',
 ///     quoting: Quoting::Necessary,
 /// };
-/// // `a,"1,000","b;c"` is written as `a;1.000;"b;c"`, where field 2 is from `en` to `de`, and `5" disk` as `"5"" disk"`.
+/// output.quoting    // Necessary
 /// ```
+///
+/// So `a,"1,000","b;c"` is written as `a;1.000;"b;c"`, where field 2 is from `en` to `de`, and `5" disk` as `"5"" disk"`.
 #[derive(Clone, Copy, Debug, PartialEq, Eq)]
 pub struct Output {
     /// The byte between two fields.
