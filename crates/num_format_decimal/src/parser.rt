@@ -2,8 +2,7 @@
 ghost use Rattle.std.specs.Prelude.{◌≡◌, ◌++◌, ◌<◌, ◌≤◌, true, IsTrue, IsUtf8, MatchOption, MatchResult, drop, length};
 ghost use Rattle.std.specs.Char.{is_ascii_digit};
 ghost use Rattle.std.specs.List.{list_all};
-ghost use Rattle.num_format_int.specs.Kind.{I128, kind_of};
-ghost use Rattle.num_format_parsing.specs.Strict.{ParsesStrictly, unexpected};
+ghost use Rattle.num_format_parsing.specs.Strict.{unexpected};
 ghost use Rattle.num_format_decimal.specs.FixedPoint.{FixedPoint};
 ghost use Rattle.num_format_decimal.specs.Marks.{IsPlainFormat, MarksDecimals};
 ghost use Rattle.num_format_decimal.specs.Parsing.{AtScaleResult, DecimalResult, IsDecimalCause, SpellsDecimal, after_mark, unexpected_in_decimal};
@@ -23,8 +22,9 @@ use num_format_parsing::strict::{StrictError, StrictParser};
 use num_format_text::Format;
 use std::marker::Model;
 
-/// A parser of decimals under one format, which is not ambiguous. It asks the format for its symbols once. A contract sees
-/// it as the data of its format.
+/// A parser of decimals under one format, which is not ambiguous. It asks the format for its symbols once.
+///
+/// A contract sees it as the data of its format.
 ///
 /// ```rust
 /// let parser = DecimalParser::new(&Locale::de)?;
@@ -62,7 +62,8 @@ impl<'a, F: Format> DecimalParser<'a, F> {
     ///
     /// # Errors
     ///
-    /// [`ParseDecimalError::AmbiguousFormat`] exactly if [`marks_decimals`](crate::marks_decimals) is false: for no locale.
+    /// [`ParseDecimalError::AmbiguousFormat`] exactly if [`marks_decimals`](crate::marks_decimals) is false. No locale
+    /// is ambiguous.
     ///
     /// ```rust
     /// let format = CustomFormat::builder().decimal(",").build()?;
@@ -159,8 +160,9 @@ impl<'a, F: Format> DecimalParser<'a, F> {
         }
     }
 
-    /// Returns the decimal that the text of the bytes spells, or the first cause for which it is refused. Where the caller
-    /// knows that the bytes are UTF-8, that is not tested again.
+    /// Returns the decimal that the text of the bytes spells, or the first cause for which it is refused.
+    ///
+    /// Where the caller knows that the bytes are UTF-8, that is not tested again.
     #[inline(always)]
     fn parse_any(&self, text: &[u8], is_text: bool) -> Result<Decimal, ParseDecimalError>
         requires { IsTrue is_text → IsUtf8 text.now }
@@ -186,8 +188,10 @@ impl<'a, F: Format> DecimalParser<'a, F> {
         self.mark
     }
 
-    /// Returns the decimal that a text spells. The digits at the end are its decimals if the mark stands before them. Where
-    /// that spells no decimal, the mark may be a part of the separator.
+    /// Returns the decimal that a text spells.
+    ///
+    /// The digits at the end are its decimals if the mark stands before them. Where that spells no decimal, the mark may
+    /// be a part of the separator.
     #[inline(always)]
     fn read(&self, text: &[u8]) -> Result<Decimal, Fault>
         ensures { HasReading self.now text.now (λ scale. scale ≤ MAX_SCALE) result }
@@ -206,7 +210,8 @@ impl<'a, F: Format> DecimalParser<'a, F> {
         self.read_whole(text)
     }
 
-    /// Returns where the mark before the digits at the end of a text begins and ends, if these are at most [`MAX_SCALE`].
+    /// Returns where the mark begins and ends that stands before the digits at the end of a text, if it does and they
+    /// are no more than the largest scale.
     #[inline(always)]
     fn mark_place(&self, text: &[u8]) -> Option<(usize, usize)>
         ensures { MatchOption result
@@ -260,11 +265,13 @@ impl<'a, F: Format> DecimalParser<'a, F> {
         self.read_parts(text, &[])
     }
 
-    /// Returns whether the number before a mark has a minus sign, which a zero has only here, and its absolute value.
+    /// Returns whether the whole number before a mark has a minus sign, and its absolute value. Only here can a zero
+    /// have one.
     #[inline(always)]
     fn amount(&self, text: &[u8]) -> Result<(bool, u128), Fault>
         ensures { HasAmount self.now text.now result }
     {
+        // Most are in groups, or digits alone, and are read without a call.
         if let Some((is_negative, magnitude)) = self.numbers.grouped_number(text) {
             return Ok((is_negative, magnitude as u128));
         }
@@ -272,18 +279,10 @@ impl<'a, F: Format> DecimalParser<'a, F> {
         if let Some(magnitude) = whole_number(&text[sign.len..]) {
             return Ok((sign.is_negative, magnitude as u128));
         }
-        match self.parse_whole(text) {
+        match self.numbers.parse_bytes::<i128>(text) {
             Ok(whole) => Ok((whole.is_negative(), whole.unsigned_abs())),
             Err(error) => Err(fault_of(error)),
         }
-    }
-
-    /// Returns the whole number that a text spells. It is not inlined, so that shorter ones are read without its space.
-    #[inline(never)]
-    fn parse_whole(&self, text: &[u8]) -> Result<i128, StrictError>
-        ensures { ParsesStrictly (kind_of I128) (λ n. n) self.now text.now result }
-    {
-        self.numbers.parse_bytes::<i128>(text)
     }
 
     /// Returns why a text is refused that spells no decimal. It is inlined, so that a parser stays in registers.
@@ -313,7 +312,8 @@ impl<'a, F: Format> DecimalParser<'a, F> {
         ParseDecimalError::Misspelled
     }
 
-    /// Returns the place after one decimal mark and digits, if the mark stands at `whole`, and how many bytes follow it.
+    /// Returns the place after one decimal mark and digits, if the mark stands at the place `whole`, and how many bytes
+    /// follow the mark.
     #[inline(always)]
     fn decimals_end(&self, text: &[u8], whole: usize) -> (usize, usize)
         requires within { whole ≤ length text.now }

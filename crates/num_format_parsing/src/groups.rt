@@ -30,9 +30,6 @@ pub(crate) const SHORT_LEN: usize = 4;
 /// The fewest bytes of groups with a separator of one byte: a digit, the separator and three digits.
 const SHORTEST_GROUPS: usize = 5;
 
-/// The bytes of a last group of three digits with such a separator.
-const GROUP_LEN: usize = 4;
-
 /// The bytes of [`SAFE_FIGURES`] digits in groups of three with such a separator.
 pub(crate) const LONGEST_GROUPS: usize = SAFE_FIGURES + 6;
 
@@ -45,7 +42,8 @@ const MIDDLE_WEIGHTS: [u16; 4] = [0, 0, 0, 10];
 /// Returns the absolute value of the number that a text of at most four bytes spells. It may return `None` for any
 /// text.
 ///
-/// It has no loop. Such a text is parsed alike, whatever the separator and the grouping.
+/// It has no loop. Such a text is parsed alike, whatever the separator and the grouping. Most that spell no number have
+/// no digit at their end.
 #[inline(always)]
 pub(crate) fn read_short(text: &[u8], sign: Sign) -> Option<u64>
     requires within { sign.len ≤ length text.now }
@@ -53,11 +51,24 @@ pub(crate) fn read_short(text: &[u8], sign: Sign) -> Option<u64>
     ensures { IfSome result (λ n. (f : FormatData) → HasSign f text.now sign.is_negative sign.len
         → SpellsNumber f text.now (signed_number sign.is_negative n)) }
 {
+    if !text.last()?.is_ascii_digit() {
+        return None;
+    }
     let body = &text[sign.len..];
     if !begins_with_digit(body) {
         return None;
     }
     Some(few_digits(body)?.0 as u64)
+}
+
+/// Returns whether a text seems to end with a separator of one byte and three digits.
+#[inline(always)]
+pub(crate) fn ends_in_group(text: &[u8]) -> bool
+    requires { SHORT_LEN < length text.now }
+{
+    let last = text[text.len() - 1];
+    let separator = text[text.len() - 4];
+    last.is_ascii_digit() && !separator.is_ascii_digit() && separator.is_ascii()
 }
 
 /// Returns the absolute value of the number that a text spells in groups with a separator of one byte. It may return
@@ -87,7 +98,7 @@ pub(crate) fn read_in_groups(
     if body.len() < SHORTEST_GROUPS || body.len() > LONGEST_GROUPS {
         return None;
     }
-    if body[body.len() - GROUP_LEN] != separator[0] || !begins_with_digit(body) {
+    if !begins_with_digit(body) {
         return None;
     }
     let whole = read_by_byte(body, separator, sizes)?;
@@ -111,6 +122,7 @@ fn read_by_byte(text: &[u8], separator: &[u8], sizes: Sizes) -> Option<Part<u64>
     match (sizes.size, sizes.last) {
         (3, 3) => read_by_length(text, separator, 3, 3),
         (2, 3) => read_by_length(text, separator, 3, 2),
+        (4, 4) => read_by_length(text, separator, 4, 4),
         _ => None,
     }
 }
@@ -153,27 +165,6 @@ fn first_digits(text: &[u8]) -> Option<u64>
     let last = digit(text[count - 1])?;
     let number = first * FIRST_WEIGHTS[count] + middle * MIDDLE_WEIGHTS[count] + last;
     Some(number as u64)
-}
-
-/// Returns the absolute value of the number that a text spells with at most [`SAFE_FIGURES`] digits. It may return `None`
-/// for any other text.
-#[inline(always)]
-pub(crate) fn read_few(text: &[u8], sign: Sign, separator: &str, grouping: Grouping) -> Option<u64>
-    requires within { sign.len ≤ length text.now }
-    requires plain { byte_figures separator.now ≡ [] }
-    ensures { IfSome result (λ n. (f : FormatData) → HasSign f text.now sign.is_negative sign.len
-        → separator.now ≡ printed_separator f.grouping f.separator → grouping ≡ f.grouping
-        → SpellsNumber f text.now (signed_number sign.is_negative n)) }
-{
-    let body = &text[sign.len..];
-    if !begins_with_digit(body) {
-        return None;
-    }
-    let whole = read_text::<u64>(body, separator, grouping)?;
-    if whole.figures > SAFE_FIGURES {
-        return None;
-    }
-    Some(whole.magnitude)
 }
 
 /// Returns the whole of a text that begins with a digit other than zero, or `None` if it spells no number.
@@ -384,15 +375,14 @@ fn read_groups<A: Accumulator>(
     }
     let least = separator.len() + last;
     let mut part = first;
-    let (_, mut rest) = text.split_at(first.figures);
-    while rest.len() > least {
-        let next = push_group(part, rest, separator, size)?;
+    let mut end = first.figures;
+    while text.len() - end > least {
+        let next = push_group(part, &text[end..], separator, size)?;
         part = next;
-        let (_, behind) = rest.split_at(separator.len() + size);
-        rest = behind;
+        end += separator.len() + size;
     }
-    if rest.len() != least {
+    if text.len() - end != least {
         return None;
     }
-    push_group(part, rest, separator, last)
+    push_group(part, &text[end..], separator, last)
 }

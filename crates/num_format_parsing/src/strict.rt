@@ -14,7 +14,7 @@ ghost use Rattle.num_format_parsing.specs.declared.strict.StrictError.TheVariant
 
 use crate::causes::{begins_with_digit, cause};
 use crate::groups::{
-    LONGEST_GROUPS, SHORT_LEN, is_exact, read_few, read_in_groups, read_short, read_text,
+    LONGEST_GROUPS, SHORT_LEN, ends_in_group, is_exact, read_in_groups, read_short, read_text,
 };
 use crate::parsing::{Accumulator, FromFormattedStr, SAFE_FIGURES};
 use crate::symbols::{Sign, is_plain, sign_of};
@@ -230,7 +230,7 @@ impl<'a, F: Format> StrictParser<'a, F> {
     /// Returns whether the number that a text spells is negative, and its absolute value, which is above zero. It may
     /// return `None` for any text, and does not for most that are in groups with a separator of one byte.
     ///
-    /// Unlike strict parsing it is not inlined, for a caller that reads other parts of a text too.
+    /// Unlike strict parsing it is inlined, for a caller that reads other parts of a text too.
     ///
     /// ```rust
     /// let parser = StrictParser::new(&Locale::en)?;
@@ -238,14 +238,14 @@ impl<'a, F: Format> StrictParser<'a, F> {
     /// parser.grouped_number(b"1,23")      // None
     /// parser.grouped_number(b"123")       // None
     /// ```
-    #[inline(never)]
+    #[inline(always)]
     pub fn grouped_number(&self, text: &[u8]) -> Option<(bool, u64)>
         ensures spelled { IfSome result
             (λ read. SpellsNumber self.now text.now (signed_number read.0 read.1)) }
         ensures some { IfSome result (λ read. 0 < read.1) }
     {
         // A longer text is not read here: in groups of three it has too many digits, or a longer minus sign.
-        if text.len() <= SHORT_LEN || text.len() > LONGEST_GROUPS + 1 {
+        if text.len() <= SHORT_LEN || text.len() > LONGEST_GROUPS + 1 || !ends_in_group(text) {
             return None;
         }
         let sign = self.sign(text);
@@ -264,24 +264,10 @@ impl<'a, F: Format> StrictParser<'a, F> {
         requires { IsTrue is_text → IsUtf8 bytes.now }
         ensures { ParsesStrictly N.kind N.value self.now bytes.now result }
     {
-        if self.minus_sign.len() == 1 && !(N::is_wide() && seems_wide(bytes)) {
-            let sign = self.sign(bytes);
-            if let Some(magnitude) = self.read_directly(bytes, sign) {
-                return number_of(sign, magnitude as u128);
-            }
-        }
-        self.parse_rest(bytes, is_text)
-    }
-
-    /// Returns the same of any text.
-    ///
-    /// It is a function of its own, so that the others are parsed without its space.
-    #[inline(never)]
-    fn parse_rest<N: Sealed>(&self, bytes: &[u8], is_text: bool) -> Result<N, StrictError>
-        requires { IsTrue is_text → IsUtf8 bytes.now }
-        ensures { ParsesStrictly N.kind N.value self.now bytes.now result }
-    {
         let sign = self.sign(bytes);
+        if let Some(magnitude) = self.read_directly(bytes, sign) {
+            return number_of(sign, magnitude as u128);
+        }
         let separator = self.separator();
         match read::<N>(bytes, sign, separator, self.grouping()) {
             Reading::Number(magnitude) => number_of(sign, magnitude),
@@ -300,10 +286,10 @@ impl<'a, F: Format> StrictParser<'a, F> {
         if text.len() <= SHORT_LEN {
             return read_short(text, sign);
         }
-        if let Some(magnitude) = read_in_groups(text, sign, self.separator, self.grouping) {
-            return Some(magnitude);
+        if !ends_in_group(text) {
+            return None;
         }
-        read_few(text, sign, self.separator, self.grouping)
+        read_in_groups(text, sign, self.separator, self.grouping)
     }
 }
 
@@ -341,8 +327,10 @@ fn read<N: Sealed>(text: &[u8], sign: Sign, separator: &str, grouping: Grouping)
     Reading::Number(0)
 }
 
-/// Returns what is read of a text that begins with a digit other than zero. Whether a type is wide is known where the
-/// code is compiled.
+/// Returns what is read of a text that begins with a digit other than zero.
+///
+/// Most texts are short: their digits fit 64 bits, which take less time than 128. Whether a type is wide is
+/// known where the code is compiled.
 #[inline]
 fn read_body<N: Sealed>(text: &[u8], separator: &str, grouping: Grouping) -> Reading
     requires begin { BeginsWithDigit text.now }
@@ -350,10 +338,16 @@ fn read_body<N: Sealed>(text: &[u8], separator: &str, grouping: Grouping) -> Rea
     ensures { HasBody (λ n. (negative : Bool) → ¬ (IsValueOf N.kind (signed_number negative n)))
         grouping separator.now text.now result }
 {
-    if N::is_wide() {
-        read_by::<u128>(text, separator, grouping)
-    } else {
-        read_by::<u64>(text, separator, grouping)
+    if !N::is_wide() {
+        return read_by::<u64>(text, separator, grouping);
+    }
+    if seems_wide(text) {
+        return read_wide(text, separator, grouping);
+    }
+    match read_by::<u64>(text, separator, grouping) {
+        Reading::Number(magnitude) => Reading::Number(magnitude),
+        Reading::TooLarge => read_wide(text, separator, grouping),
+        Reading::Unspelled => Reading::Unspelled,
     }
 }
 
@@ -363,6 +357,16 @@ fn read_body<N: Sealed>(text: &[u8], separator: &str, grouping: Grouping) -> Rea
 fn seems_wide(bytes: &[u8]) -> bool {
     let len = bytes.len();
     len > SAFE_FIGURES && (len > LONGEST_GROUPS || bytes[len - 4].is_ascii_digit())
+}
+
+/// It is a function of its own, so that shorter texts are parsed without its space.
+#[inline(never)]
+fn read_wide(text: &[u8], separator: &str, grouping: Grouping) -> Reading
+    requires begin { BeginsWithDigit text.now }
+    requires plain { byte_figures separator.now ≡ [] }
+    ensures { HasBody (λ n. 2 ^ 128 ≤ n) grouping separator.now text.now result }
+{
+    read_by::<u128>(text, separator, grouping)
 }
 
 /// Returns what is read of a text by way of the accumulator. A number past its bound is too large.

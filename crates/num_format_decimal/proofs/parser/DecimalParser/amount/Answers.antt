@@ -5,7 +5,7 @@ use Rattle.std.proofs.lemmas.List.{take_rest}
 use Rattle.num_format_int.specs.Kind.{I128, kind_of, signed_number}
 use Rattle.num_format_parsing.specs.Shapes.{HasSign}
 use Rattle.num_format_parsing.specs.Strict.{ParsesStrictly, SpellsNumber}
-use Rattle.num_format_decimal.specs.Shapes.{HasAmount, IsAmount}
+use Rattle.num_format_decimal.specs.Shapes.{HasAmount, IsAmount, fault_of}
 use Rattle.num_format_decimal.proofs.ParserLemmas.{amount_of, amount_refused, plain_amount, signed_amount}
 use Rattle.num_format_decimal.proofs.parser.DecimalParser.amount.Goals as goal
 
@@ -24,15 +24,15 @@ returns-in-Ok g c =
     let f = c.args.self.now in
     let t = c.args.text.now in
     let z = c.in-Ok.whole in
-    let read = subst (ParsesStrictly (kind_of I128) _ c.args.self.now t) c.in-Ok.is c.parse_whole.ensures in
+    let read = subst (ParsesStrictly (kind_of I128) _ c.self.inside.numbers t) c.in-Ok.is c.parse_bytes.ensures in
     let abs : c.unsigned_abs.result ≡ unsigned_abs z = grind (arith, to_z-of_z, c.unsigned_abs.ensures.value) in
     let negative : c.is_negative.result ≡ is_negative z = grind (arith, to_z-of_z, c.is_negative.ensures) in
-    subst (λ b. IsAmount f t b c.unsigned_abs.result) (sym negative) (subst (λ n. IsAmount f t (is_negative z) n) (sym abs) (amount_of f t z ((read.number z).1 refl)))
+    subst (λ b. IsAmount f t b c.unsigned_abs.result) (sym negative) (subst (λ n. IsAmount f t (is_negative z) n) (sym abs) (amount_of f t z (subst (λ d. SpellsNumber d t z) c.self.view_is ((read.number z).1 refl))))
 
 pub returns-in-Err : goal.returns-in-Err
 returns-in-Err g c =
     let t = c.args.text.now in
-    let read = subst (ParsesStrictly (kind_of I128) _ c.args.self.now t) c.in-Err.is c.parse_whole.ensures in
+    let read = subst (ParsesStrictly (kind_of I128) _ c.self.inside.numbers t) c.in-Err.is c.parse_bytes.ensures in
     let nonzero = λ (same : drop c.sign-sign.result.len t ≡ 48 ∷ []). c.in_default-whole_number.ensures (take_rest t c.sign-sign.result.len ∙ same) in
     subst (λ x. HasAmount c.args.self.now t (Err x)) (sym c.fault_of.ensures)
-    (amount_refused _ c.args.self.now t c.sign-sign.result.is_negative c.sign-sign.result.len (subst (λ d. HasSign d t c.sign-sign.result.is_negative c.sign-sign.result.len) c.self.view_is c.sign-sign.ensures) nonzero c.in-Err.error read)
+    (subst (λ d. HasAmount d t (Err (fault_of c.in-Err.error))) c.self.view_is (amount_refused _ c.self.inside.numbers t c.sign-sign.result.is_negative c.sign-sign.result.len c.sign-sign.ensures nonzero c.in-Err.error read))
