@@ -20,7 +20,10 @@ pub(crate) fn list_of(
 }
 
 /// Returns what the options say of lines, where these fields are chosen.
-pub(crate) fn options_of<'a>(matches: &ArgMatches<'a>, list: &'a [FieldRange]) -> Options<'a> {
+pub(crate) fn options_of<'a, 'w>(
+    matches: &ArgMatches<'w>,
+    list: &'a [FieldRange],
+) -> Options<'a, 'w> {
     let reading = if matches.get_flag("lenient") {
         Reading::Lenient
     } else {

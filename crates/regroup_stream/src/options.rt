@@ -29,15 +29,15 @@ const MAX_LINE_LEN: u32 = 1_048_576;
 /// Options { invalid: Some(Invalid::Abort), ..options }.rules().err()    // Some(AbortingRejects)
 /// ```
 #[derive(Clone, Copy, Debug)]
-pub struct Options<'a> {
+pub struct Options<'a, 'w> {
     /// The fields that are chosen, or none where each line has one number.
     pub list: &'a [FieldRange],
     /// The delimiter, if one is given.
-    pub delimiter: Option<&'a str>,
+    pub delimiter: Option<&'w str>,
     /// Whether fields may be in quotes.
     pub csv: bool,
     /// The delimiter that is written, if it is another one.
-    pub output_delimiter: Option<&'a str>,
+    pub output_delimiter: Option<&'w str>,
     /// Which fields are written in quotes.
     pub quoting: Quoting,
     /// How the numbers are read.
@@ -69,7 +69,7 @@ pub enum OptionFault {
     AbortingRejects,
 }
 
-impl<'a> Options<'a> {
+impl<'a> Options<'a, '_> {
     /// Returns how lines are regrouped.
     ///
     /// # Errors
