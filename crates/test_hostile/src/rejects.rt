@@ -44,7 +44,7 @@ fn assert_ended(
     let mut out = Scripted::new(alloc, 64, steps[0])?;
     let mut err = Scripted::new(alloc, 128, steps[1])?;
     let mut rejects = Scripted::new(alloc, 64, steps[2])?;
-    let mut buffer = [0; 9];
+    let mut buffer = vec![in alloc; 0; rules.max_line_len as usize + 1]?;
     let mut reader = INPUT;
     let result = regroup_at_most(
         9,
