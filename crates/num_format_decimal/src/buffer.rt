@@ -6,8 +6,8 @@ ghost use Rattle.num_format_decimal.specs.Text.{decimal_text, decimals_of, unsig
 
 use crate::decimal::{Decimal, MAX_SCALE};
 use crate::powers::split;
-use num_format_int::buffer::{PutFront, copy_bytes};
-use num_format_int::to_formatted_str::{one_digit, put_body, two_digits};
+use num_format_int::buffer::{PutFront, copy_before};
+use num_format_int::to_formatted_str::{one_digit, put_body, put_long_symbol, two_digits};
 use num_format_text::Format;
 use num_format_text::capacities::{MAX_DEC_LEN, MAX_MIN_LEN, MAX_SEP_LEN};
 use std::marker::Model;
@@ -220,17 +220,8 @@ impl DecimalBuffer {
         if symbol.len() == 1 {
             self.put_front(&symbol[..1]);
         } else {
-            self.put_long_symbol(symbol);
+            put_long_symbol(symbol, self);
         }
-    }
-
-    /// Prepends a symbol of any length: a call, so that symbols of one byte are prepended without its space.
-    #[inline(never)]
-    fn put_long_symbol(&mut self, symbol: &str)
-        requires { length symbol.now + length self.old ≤ MAX_DECIMAL_LEN }
-        ensures { self.new ≡ symbol.now ++ self.old }
-    {
-        self.put_front(symbol);
     }
 }
 
@@ -241,9 +232,13 @@ impl PutFront for DecimalBuffer {
 
     #[inline(always)]
     fn put_front(&mut self, text: &str) {
-        let start = self.start - text.len();
-        copy_bytes(text.as_bytes(), &mut self.inner[start..self.start]);
-        self.start = start;
+        self.start = copy_before(text, 0, self.start, &mut self.inner);
+    }
+
+    /// Prepends the whole text, and skips its first bytes: there is no branch on their number.
+    #[inline(always)]
+    fn put_end(&mut self, text: &str, skipped: usize) {
+        self.start = copy_before(text, skipped, self.start, &mut self.inner);
     }
 }
 

@@ -1,15 +1,13 @@
 -- Laws of the digits of a number.
 use Rattle.std.proofs.Common.{◌≡◌, ℕ, zero, suc, ◌+◌, ◌/◌, ◌*◌, ◌%◌, ◌^◌, ◌<◌, ◌≤◌, true, false, ◌⊎◌, inl, inr, List, [], ◌∷◌, ◌++◌, length, refl, ap, append-nil, append_assoc, ◌∙◌, sym, arith, length-append}
 use Rattle.std.specs.Prelude.{nat_lt, All}
-use Rattle.std.specs.Fmt.{decimal}
 use Rattle.std.specs.Int.Digits.{number_from_digits}
 use Rattle.std.proofs.lemmas.Bool.Decides.{nat_tests}
-use Rattle.std.proofs.lemmas.Fmt.{decimal_by_steps_wide}
 use Rattle.std.proofs.lemmas.Int.Digits.{number_push}
-use Rattle.std.proofs.lemmas.List.{map-append, length-map}
+use Rattle.std.proofs.lemmas.List.{length-map}
 use Rattle.std.proofs.lemmas.List.Elements.{All-nil, All-cons, All-push}
-use Rattle.std.proofs.Math.Nat.{pow-suc, pow-succ', div-div-eq-div-mul, add-mod_left}
-use Rattle.std.proofs.lemmas.Nat.{div-mul-add}
+use Rattle.std.proofs.Math.Nat.{pow-suc, pow-succ', div-div-eq-div-mul, mul-le-mul}
+use Rattle.std.proofs.lemmas.Nat.{div-mul-add, mod-mul-add}
 use Rattle.std.proofs.Math.Arith.{mod-mul}
 use Rattle.num_format_int.specs.Digits.{digits, digits_in}
 use Rattle.num_format_int.specs.Groups.{last_digits, plain}
@@ -94,13 +92,6 @@ number_from_digits-digits = by_digits (λ n. number_from_digits 10 (digits n) �
     (λ n small. rw (digits-small n small) (omega arith))
     (λ n large less. rw (digits-more n large, number_push 10 (digits (n / 10)) (n % 10), less) (omega arith))
 
--- std's decimal text is the digits as text
-pub decimal-digits : (n : ℕ) → n < 10 ^ 64 → decimal n ≡ plain (digits n)
-decimal-digits =
-    decimal_by_steps_wide (λ n text. text ≡ plain (digits n))
-    (λ n small. ap plain (sym (digits-small n small)))
-    (λ n text large less. rw (digits-more n large, map-append, less))
-
 pow_pos10 : (k : ℕ) → 1 ≤ 10 ^ k
 pow_pos10 zero = omega arith
 pow_pos10 (suc k) = omega (arith, pow-suc 10 k, pow_pos10 k)
@@ -164,14 +155,18 @@ last_digits-mod (suc k) n =
     let last : n % 10 ^ suc k % 10 ≡ n % 10 = omega arith in
     rw (first, last, last_digits-mod k (n / 10))
 
+-- the digits of a number, and then k digits
+pub digits-joined : (k first part : ℕ) → 0 < first → part < 10 ^ k → digits (first * 10 ^ k + part) ≡ digits first ++ last_digits k part
+digits-joined k first part some below =
+    let large : 1 * 10 ^ k ≤ first * 10 ^ k = mul-le-mul (omega arith) (omega arith) in
+    digits-split k (first * 10 ^ k + part) (omega arith)
+    ∙ rw (div-mul-add first (10 ^ k) part below, ← last_digits-mod k (first * 10 ^ k + part), mod-mul-add first (10 ^ k) part below)
+
 -- a digit 1 and then k digits
 pub digits-leading_one : (k part : ℕ) → part < 10 ^ k → digits (10 ^ k + part) ≡ 1 ∷ last_digits k part
 digits-leading_one k part below =
     let once : 1 * 10 ^ k ≡ 10 ^ k = omega arith in
-    let one : (10 ^ k + part) / 10 ^ k ≡ 1 = rw once at (div-mul-add 1 (10 ^ k) part below) in
-    let rest : (10 ^ k + part) % 10 ^ k ≡ part % 10 ^ k = add-mod_left (10 ^ k) part in
-    digits-split k (10 ^ k + part) (omega arith)
-    ∙ rw (one, digits-small 1 (omega arith), ← last_digits-mod k (10 ^ k + part), rest, last_digits-mod k part)
+    (rw once at (digits-joined k 1 part (omega arith) below)) ∙ ap (λ ds. ds ++ last_digits k part) (digits-small 1 (omega arith))
 
 -- numbers below ten
 abbrev pub AreDigits : List ℕ → Type 0

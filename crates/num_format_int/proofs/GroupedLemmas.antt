@@ -29,12 +29,7 @@ grouped-by g sizes by s ds = separated-same (stands g (length ds)) (separates si
 within-by : (sizes : Sizes) → HaveShape sizes → (d r : ℕ) → sizes.least ≤ d → separators_within (separates sizes d) r ≡ (if nat_lt sizes.last r then suc ((r - sizes.last - 1) / sizes.size) else 0)
 within-by sizes shape d zero many = grind (arith, nat_tests)
 within-by sizes shape d (suc r) many =
-    let before = within-by sizes shape d r many in
-    elim shape [
-      | inl (last, size) ↦ grind (arith, nat_tests, last, size, before, many)
-      | inr (inl (last, size)) ↦ grind (arith, nat_tests, last, size, before, many)
-      | inr (inr (last, size)) ↦ grind (arith, nat_tests, last, size, before, many)
-    ]
+    let before = within-by sizes shape d r many in grind (arith, nat_tests, shape, before, many)
 
 within-none : (is_due : ℕ → Bool) (d : ℕ) → ((r : ℕ) → r < d → is_due r ≡ false) → separators_within is_due d ≡ 0
 within-none is_due zero none = refl
@@ -72,12 +67,7 @@ pub length-grouped : (g : Grouping) (s ds : List ℕ) → length (grouped g s ds
 length-grouped g s ds = length-separated (stands g (length ds)) s ds
 
 count-le18 : (sizes : Sizes) → HaveShape sizes → (d : ℕ) → d ≤ 39 → suc ((d - sizes.last - 1) / sizes.size) ≤ 18
-count-le18 sizes shape d few =
-    elim shape [
-      | inl (last, size) ↦ rw (last, size) (omega arith)
-      | inr (inl (last, size)) ↦ rw (last, size) (omega arith)
-      | inr (inr (last, size)) ↦ rw (last, size) (omega arith)
-    ]
+count-le18 sizes shape d few = grind (arith, shape)
 
 -- among 39 digits stand at most 18 separators
 pub separators-le18 : (g : Grouping) (d : ℕ) → d ≤ 39 → separators g d ≤ 18
@@ -113,7 +103,7 @@ pub grouped-few : (g : Grouping) (sizes : Sizes) → GroupsBy g sizes → (s ds 
 grouped-few g sizes by s ds few = separated-plain (stands g (length ds)) s ds (λ r inside. by.same (length ds) r inside ∙ separates-few sizes (length ds) r few)
 
 last-least3 : (sizes : Sizes) → HaveShape sizes → 3 ≤ sizes.last
-last-least3 sizes shape = elim shape [ inl (last, size) ↦ omega (arith, last) | inr (inl (last, size)) ↦ omega (arith, last) | inr (inr (last, size)) ↦ omega (arith, last) ]
+last-least3 sizes shape = omega (arith, shape)
 
 -- no separator stands after the last digit
 pub stands-last : (g : Grouping) (d : ℕ) → 0 < d → stands g d 0 ≡ false

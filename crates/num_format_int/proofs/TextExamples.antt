@@ -1,6 +1,6 @@
--- Examples of texts of numbers, each proved by computing it.
+-- Examples of texts of numbers, proved by computing them.
 use Rattle.std.proofs.Common.{◌≡◌, [], ◌∷◌, refl, pos, negsuc}
-use Rattle.std.specs.Prelude.{codes, encode_utf8_all}
+use Rattle.std.specs.Prelude.{codes, encode_utf8_all, map}
 use lib.Utf8.{encode}
 use Rattle.num_format_text.specs.declared.grouping.Grouping.TheVariants.{Indian, Posix}
 use Rattle.num_format_text.specs.English.{english, english_with}
@@ -8,29 +8,10 @@ use Rattle.num_format_int.specs.Digits.{digits}
 use Rattle.num_format_int.specs.Kind.{unsigned, signed}
 use Rattle.num_format_int.specs.Text.{text_of}
 
-zero : text_of english (pos 0) ≡ codes "0"
+in_English : map (text_of english) (pos 0 ∷ pos 5 ∷ pos 999 ∷ pos 1000 ∷ pos 1000000 ∷ negsuc 999999 ∷ (signed 7 4).low ∷ [])
+    ≡ codes "0" ∷ codes "5" ∷ codes "999" ∷ codes "1,000" ∷ codes "1,000,000" ∷ codes "-1,000,000" ∷ codes "-128" ∷ []
 unfolding digits
-zero = refl
-
-one_digit : text_of english (pos 5) ≡ codes "5"
-unfolding digits
-one_digit = refl
-
-three_digits : text_of english (pos 999) ≡ codes "999"
-unfolding digits
-three_digits = refl
-
-four_digits : text_of english (pos 1000) ≡ codes "1,000"
-unfolding digits
-four_digits = refl
-
-million : text_of english (pos 1000000) ≡ codes "1,000,000"
-unfolding digits
-million = refl
-
-minus_million : text_of english (negsuc 999999) ≡ codes "-1,000,000"
-unfolding digits
-minus_million = refl
+in_English = refl
 
 -- 😀 is the separator and 🙌 the minus sign; the text has 19 bytes
 many_bytes : text_of (english_with Indian (encode_utf8_all (0x1F600 ∷ [])) (encode_utf8_all (0x1F64C ∷ []))) (negsuc 999999)
@@ -48,10 +29,6 @@ highest_u128 : text_of (english_with Indian (codes ",") (codes "-")) (unsigned 1
     ≡ codes "34,02,82,36,69,20,93,84,63,46,33,74,60,74,31,76,82,11,455"
 unfolding digits
 highest_u128 = refl
-
-lowest_i8 : text_of english (signed 7 4).low ≡ codes "-128"
-unfolding digits
-lowest_i8 = refl
 
 posix_has_no_groups : text_of (english_with Posix (codes ",") (codes "-")) (pos 100000) ≡ codes "100000"
 unfolding digits

@@ -33,29 +33,29 @@ pub record BeginsWithSeparator (is_due : ℕ → Bool) (separator right text : L
   pub due : is_due (length right) ≡ true
   pub same : text ≡ separator ++ separated is_due separator right
 
--- the digits of n but for those of `first` were prepended to the old text in whole groups
-pub record PrependsGroups (size n first : ℕ) (separator old new : List ℕ) : Type 0 where
+-- such a text stands before the old one
+pub record BeginsBefore (is_due : ℕ → Bool) (separator right old new : List ℕ) : Type 0 where
+  pub text : List ℕ
+  pub begins : BeginsWithSeparator is_due separator right text
+  pub same : new ≡ text ++ old
+
+-- digits that are whole groups were prepended, with their separators
+abbrev pub PrependsGroups : (size : ℕ) → (ds separator before after : List ℕ) → Type 0
+PrependsGroups size ds separator before after =
+    (is_due : ℕ → Bool) (right old : List ℕ) → HasGroups is_due size → BeginsBefore is_due separator right old before → BeginsBefore is_due separator (ds ++ right) old after
+
+-- the digits of n but for those of `first` were prepended in whole groups
+pub record PrependsAllBut (size n first : ℕ) (separator before after : List ℕ) : Type 0 where
   pub low : List ℕ
   pub count : ℕ
   pub together : digits n ≡ digits first ++ low
   pub whole : length low ≡ size * count
-  pub text : (is_due : ℕ → Bool) (right : List ℕ) → HasGroups is_due size → BeginsWithSeparator is_due separator right old → BeginsWithSeparator is_due separator (low ++ right) new
+  pub text : PrependsGroups size low separator before after
 
--- the text is the digits with separators before a last group and before groups of that size, wherever that is where they are due
-abbrev pub IsGrouped : (last size : ℕ) → List ℕ → List ℕ → List ℕ → Type 0
-IsGrouped last size separator ds text = (is_due : ℕ → Bool) → HasLastGroup is_due last → HasGroups is_due size → text ≡ separated is_due separator ds
-
--- the digits of n but for those of `first` were prepended in whole groups, as they are before any text
-pub record PrependsAnywhere (size n first : ℕ) (separator old new : List ℕ) : Type 0 where
-  pub groups : List ℕ
-  pub prepends : (text : List ℕ) → PrependsGroups size n first separator text (groups ++ text)
-  pub same : new ≡ groups ++ old
-
--- digits that are whole groups were prepended, with their separators, as they are before any text
-pub record PrependsMiddle (size : ℕ) (ds separator old new : List ℕ) : Type 0 where
-  pub groups : List ℕ
-  pub begins : (is_due : ℕ → Bool) (right text : List ℕ) → HasGroups is_due size → BeginsWithSeparator is_due separator right text → BeginsWithSeparator is_due separator (ds ++ right) (groups ++ text)
-  pub same : new ≡ groups ++ old
+-- digits were prepended, of which the first group may be shorter, with separators between the groups
+abbrev pub PrependsDigits : (size : ℕ) → (ds separator before after : List ℕ) → Type 0
+PrependsDigits size ds separator before after =
+    (is_due : ℕ → Bool) (right old : List ℕ) → HasGroups is_due size → BeginsBefore is_due separator right old before → after ≡ separated is_due separator (ds ++ right) ++ old
 
 -- before the old text stand the digits with separators before a last group and before groups of that size, wherever that is where they are due
 abbrev pub IsGroupedBefore : (last size : ℕ) → (separator ds old new : List ℕ) → Type 0

@@ -3,7 +3,7 @@
 //! A [`Buffer`] is an array of [`MAX_BUF_LEN`] bytes, which no number outgrows under any format. Its
 //! text ends where the array ends and grows to the left, since the digits of a number are found from
 //! the last to the first.
-ghost use Rattle.std.specs.Prelude.{◌≡◌, ℕ, List, ◌+◌, ◌*◌, ◌<◌, ◌≤◌, ◌==◌, [], ◌∷◌, ◌++◌, length, drop, Some};
+ghost use Rattle.std.specs.Prelude.{◌≡◌, ℕ, List, ◌+◌, ◌-◌, ◌*◌, ◌<◌, ◌≤◌, ◌==◌, [], ◌∷◌, ◌++◌, length, take, drop, Some, IsUtf8};
 ghost use Rattle.std.specs.Str.{IsCharBoundary};
 ghost use Rattle.num_format_int.specs.declared.buffer.TheConstants.{MAX_BUF_LEN};
 ghost use Rattle.std.specs.Fmt.{WritesOnOk, WritesStyledOnOk};
@@ -150,9 +150,7 @@ impl Buffer {
         requires { length text.now + length self.old ≤ MAX_BUF_LEN }
         ensures { self.new ≡ text.now ++ self.old }
     {
-        let start = self.start - text.len();
-        copy_bytes(text.as_bytes(), &mut self.inner[start..self.start]);
-        self.start = start;
+        self.start = copy_before(text, 0, self.start, &mut self.inner);
     }
 
     /// Makes the text empty.
@@ -207,12 +205,27 @@ impl PutFront for Buffer {
     /// number, so that there is no branch on it.
     #[inline(always)]
     fn put_end(&mut self, text: &str, skipped: usize) {
-        let whole = self.start - text.len();
-        copy_bytes(text.as_bytes(), &mut self.inner[whole..self.start]);
-        let end = whole + skipped;
-        self.inner[end - 2..end].copy_from_slice(&[0; 2]);
-        self.start = end;
+        let start = copy_before(text, skipped, self.start, &mut self.inner);
+        self.inner[start - 2..start].copy_from_slice(&[0; 2]);
+        self.start = start;
     }
+}
+
+/// Copies a text right before a place of an array, and returns where the text begins there without its first
+/// `skipped` bytes, which stand before it too.
+#[inline(always)]
+pub fn copy_before(text: &str, skipped: usize, place: usize, array: &mut [u8]) -> usize
+    requires fits { (length text.now ≤ place) × (place ≤ length array.old) }
+    requires skipped { skipped ≤ length text.now }
+    ensures start { result + length text.now ≡ place + skipped }
+    ensures text { drop result array.new ≡ drop skipped text.now ++ drop place array.old }
+    ensures before { take (place - length text.now) array.new ≡ take (place - length text.now) array.old }
+    ensures length { length array.new ≡ length array.old }
+    ensures utf8 { IsCharBoundary text.now skipped → ∥ IsUtf8 (drop place array.old) ∥₁ → ∥ IsUtf8 (drop result array.new) ∥₁ }
+{
+    let start = place - text.len();
+    copy_bytes(text.as_bytes(), &mut array[start..place]);
+    start + skipped
 }
 
 /// Copies the bytes over as many others.

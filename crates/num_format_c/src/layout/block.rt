@@ -4,7 +4,7 @@ ghost use Rattle.num_format_decimal.specs.declared.buffer.TheConstants.{MAX_DECI
 ghost use Rattle.num_format_c.specs.declared.layout.block.TheConstants.{BLOCK_LEN};
 
 use num_format_decimal::MAX_DECIMAL_LEN;
-use num_format_int::buffer::{PutFront, copy_bytes};
+use num_format_int::buffer::{PutFront, copy_before};
 use std::marker::Model;
 
 /// The most bytes of a block.
@@ -85,16 +85,12 @@ impl PutFront for Block {
 
     #[inline(always)]
     fn put_front(&mut self, text: &str) {
-        let start = self.start - text.len();
-        copy_bytes(text.as_bytes(), &mut self.inner[start..self.start]);
-        self.start = start;
+        self.start = copy_before(text, 0, self.start, &mut self.inner);
     }
 
     /// Prepends the whole text, and skips its first bytes: there is no branch on their number.
     #[inline(always)]
     fn put_end(&mut self, text: &str, skipped: usize) {
-        let whole = self.start - text.len();
-        copy_bytes(text.as_bytes(), &mut self.inner[whole..self.start]);
-        self.start = whole + skipped;
+        self.start = copy_before(text, skipped, self.start, &mut self.inner);
     }
 }

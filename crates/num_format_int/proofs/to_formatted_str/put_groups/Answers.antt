@@ -1,16 +1,10 @@
-use Rattle.std.proofs.Common.{◌≡◌, ℕ, ◌^◌, ◌<◌, ◌⊎◌, inl, inr, arith}
+use Rattle.std.proofs.Common.{◌≡◌, ℕ, ◌^◌, ◌<◌, ◌⊎◌, arith}
 use Rattle.num_format_int.proofs.DigitLemmas.{digits_given}
-use Rattle.num_format_int.proofs.GroupLemmas.{anywhere_all, size_bounds}
+use Rattle.num_format_int.proofs.GroupLemmas.{all_digits, size_bounds}
 use Rattle.num_format_int.proofs.to_formatted_str.put_groups.Goals as goal
 
 at_most_four : (size base first : ℕ) → (size ≡ 2) ⊎ ((size ≡ 3) ⊎ (size ≡ 4)) → base ≡ 10 ^ size → first < base → first < 10000
-at_most_four size base first sizes power within =
-    let below = rw power at within in
-    elim sizes [
-      | inl two ↦ let small : first < 10 ^ 2 = rw two at below in omega arith
-      | inr (inl three) ↦ let small : first < 10 ^ 3 = rw three at below in omega arith
-      | inr (inr four) ↦ let small : first < 10 ^ 4 = rw four at below in omega arith
-    ]
+at_most_four size base first sizes power within = grind (arith, sizes, power)
 
 pub put_first_group-requires-clause-group : goal.put_first_group-requires-clause-group
 put_first_group-requires-clause-group g c =
@@ -20,8 +14,8 @@ pub put_first_group-requires-clause-fits : goal.put_first_group-requires-clause-
 put_first_group-requires-clause-fits g c = omega (arith, c.requires.fits, c.put_full_groups-first.ensures.fits, digits_given c.put_full_groups-first.result)
 
 pub returns : goal.returns
-returns g c = λ is_due right text after groups begins same.
-    let some = size_bounds g.G.Groups.SIZE g.met.G.Groups.size in
+returns g c =
     let p = c.put_full_groups-first in
-    anywhere_all is_due g.G.Groups.SIZE c.args.n p.result c.args.separator.now (g.B.PutFront.held c.args.buffer.now) (g.B.PutFront.held p.new.buffer) (g.B.PutFront.held c.put_first_group.new.buffer) right text after
-    some.0 (rw g.met.G.Groups.base at p.ensures.first) p.ensures.text c.put_first_group.ensures groups begins same
+    let some : 0 < g.G.Groups.SIZE = omega (arith, size_bounds g.G.Groups.SIZE g.met.G.Groups.size) in
+    all_digits g.G.Groups.SIZE c.args.n p.result c.args.separator.now (g.B.PutFront.held c.args.buffer.now) (g.B.PutFront.held p.new.buffer) (g.B.PutFront.held c.put_first_group.new.buffer)
+    some (rw g.met.G.Groups.base at p.ensures.first) p.ensures.text c.put_first_group.ensures

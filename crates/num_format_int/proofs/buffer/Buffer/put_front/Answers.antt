@@ -1,19 +1,16 @@
-use Rattle.std.proofs.Common.{◌≡◌, ◌∙◌, ◌-◌, ◌≤◌, length, ap, arith, rules}
-use Rattle.std.proofs.lemmas.Slice.{overwrites}
-use Rattle.std.proofs.lemmas.Str.{IsUtf8-had, IsUtf8-append}
-use Rattle.num_format_int.proofs.BufferLemmas.{zeros_before, text_after}
+use Rattle.std.proofs.Common.{◌≡◌, ◌≤◌, ◌∙◌, ◌-◌, length, arith}
+use Rattle.std.proofs.lemmas.Str.{IsCharBoundary-start}
+use Rattle.num_format_int.proofs.BufferLemmas.{zeros_kept}
 use Rattle.num_format_int.proofs.buffer.Buffer.put_front.Goals as goal
 
 pub invariant_of-self : goal.invariant_of-self
 invariant_of-self c =
-    let start = c.self.inside.start in
-    let xs = c.self.inside.inner in
-    let held : length xs ≡ 191 = c.self.told in
-    let written : c.copy_bytes.new.target ≡ c.args.text.now = c.copy_bytes.ensures ∙ c.as_bytes.ensures.value in
-    let fits : length c.args.text.now ≤ start = search rules in
-    let same : length c.copy_bytes.new.target ≡ length c.args.text.now = ap length written in (
+    let before = c.self.inside in
+    let copy = c.copy_before-self-inside in
+    let start : before.start - length c.args.text.now ≡ copy.result = omega (arith, copy.ensures.start) in
+    let fewer : copy.result ≤ before.start = omega (arith, copy.ensures.start) in (
       omega (arith, c.self.invariant.0),
-      search (rules, overwrites),
-      zeros_before xs c.copy_bytes.new.target start (start - length c.args.text.now) (omega (arith, c.self.invariant.0)) (omega arith) c.self.invariant.2,
-      ∣ rw (text_after xs c.copy_bytes.new.target start (start - length c.args.text.now) (omega (arith, c.self.invariant.0)) (omega arith), written) (IsUtf8-append _ _ c.utf8.text (IsUtf8-had _ c.self.invariant.3)) ∣₁,
+      copy.ensures.length ∙ c.self.told,
+      zeros_kept before.inner copy.new.array before.start copy.result fewer (rw start at copy.ensures.before) c.self.invariant.2,
+      copy.ensures.utf8 (IsCharBoundary-start c.args.text.now c.utf8.text) c.self.invariant.3,
     )
