@@ -70,6 +70,30 @@ length-groups : (last size : ℕ) (s : List ℕ) (count : ℕ) (t : List ℕ) �
 length-groups last size s zero t g = omega (arith, length-group s last t [] g)
 length-groups last size s (suc count) t (rest, g, groups) = omega (arith, length-group s size t rest g, length-groups last size s count rest groups)
 
+-- groups with a separator of one byte have so many bytes and digits
+count-groups : (last size : ℕ) (s : List ℕ) (count : ℕ) (t : List ℕ) → length s ≡ 1 → byte_figures s ≡ [] → 0 < size → AreGroups last size s count t →
+    (length t ≡ length (byte_figures t) + (count + 1)) × (count + last ≤ length (byte_figures t)) × (size ≤ 3 → length (byte_figures t) ≤ 3 * count + last)
+count-groups last size s zero t one none some g =
+    let digits : length (byte_figures t) ≡ last = ap length (figures-group s last t [] none g ∙ append-nil g.group) ∙ g.long in
+    (omega (arith, one, digits, length-group s last t [] g), omega (arith, digits), λ few. omega (arith, digits))
+count-groups last size s (suc count) t one none some (rest, g, groups) =
+    let more = count-groups last size s count rest one none some groups in
+    let digits : length (byte_figures t) ≡ size + length (byte_figures rest) =
+    ap length (figures-group s size t rest none g) ∙ length-append g.group (byte_figures rest) ∙ ap (λ k. k + length (byte_figures rest)) g.long in
+    (omega (arith, one, digits, more.0, length-group s size t rest g), omega (arith, digits, some, more.1), λ few. omega (arith, digits, few, more.2 few))
+
+-- so a text in such groups that is longer than the fewest digits that have a separator has as many, and a short one has few
+pub count-figures : (last size : ℕ) (s t : List ℕ) → length s ≡ 1 → byte_figures s ≡ [] → 0 < size → 3 ≤ last → IsInGroups last size s t →
+    ((least : ℕ) → least ≤ 5 → least < length t → least ≤ length (byte_figures t)) × (last ≤ 3 → size ≤ 3 → length t ≤ 25 → length (byte_figures t) ≤ 19)
+count-figures last size s t one none some long whole =
+    let counts = count-groups last size s whole.count whole.rest one none some whole.groups in
+    let bytes : length t ≡ length whole.first + length whole.rest = ap length whole.same ∙ length-append (plain whole.first) whole.rest ∙ ap (λ k. k + length whole.rest) (length-map whole.first (λ d. 48 + d)) in
+    let digits : length (byte_figures t) ≡ length whole.first + length (byte_figures whole.rest) =
+    ap length (ap byte_figures whole.same ∙ figures-plain whole.first whole.rest whole.below) ∙ length-append whole.first (byte_figures whole.rest) in (
+      λ least few longer. omega (arith, bytes, digits, counts.0, counts.1, whole.some, few, longer, long),
+      λ three few short. omega (arith, bytes, digits, counts.0, counts.2 few, whole.few, few, short, three),
+    )
+
 -- groups are digits with their separators, of which one is due before them
 groups-due : (is_due : ℕ → Bool) (last size : ℕ) (s : List ℕ) (count : ℕ) (t : List ℕ) → HasLastGroup is_due last → HasGroups is_due size → 0 < size → byte_figures s ≡ [] →
     AreGroups last size s count t → BeginsWithSeparator is_due s (byte_figures t) t

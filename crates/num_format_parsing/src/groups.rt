@@ -27,17 +27,14 @@ pub(crate) struct Part<A> {
 /// A short text has at most so many bytes, as those of a minus sign and three digits.
 pub(crate) const SHORT_LEN: usize = 4;
 
-/// The fewest bytes of groups with a separator of one byte: a digit, the separator and three digits.
-const SHORTEST_GROUPS: usize = 5;
-
 /// The bytes of [`SAFE_FIGURES`] digits in groups of three with such a separator.
 pub(crate) const LONGEST_GROUPS: usize = SAFE_FIGURES + 6;
 
 /// What the first of so many digits counts for, where the last is added to it.
-const FIRST_WEIGHTS: [u16; 4] = [0, 0, 10, 100];
+const FIRST_WEIGHTS: [u64; 4] = [0, 0, 10, 100];
 
 /// What the digit between them counts for.
-const MIDDLE_WEIGHTS: [u16; 4] = [0, 0, 0, 10];
+const MIDDLE_WEIGHTS: [u64; 4] = [0, 0, 0, 10];
 
 /// Returns the absolute value of the number that a text of at most four bytes spells. It may return `None` for any
 /// text.
@@ -58,24 +55,13 @@ pub(crate) fn read_short(text: &[u8], sign: Sign) -> Option<u64>
     if !begins_with_digit(body) {
         return None;
     }
-    Some(few_digits(body)?.0 as u64)
-}
-
-/// Returns whether a text seems to end with a separator of one byte and three digits.
-#[inline(always)]
-pub(crate) fn ends_in_group(text: &[u8]) -> bool
-    requires { SHORT_LEN < length text.now }
-{
-    let last = text[text.len() - 1];
-    let separator = text[text.len() - 4];
-    last.is_ascii_digit() && !separator.is_ascii_digit() && separator.is_ascii()
+    Some(few_digits(body)?.0)
 }
 
 /// Returns the absolute value of the number that a text spells in groups with a separator of one byte. It may return
 /// `None` for any text, and does so where the digits may not fit 64 bits.
 ///
-/// How many digits the first group has follows from the length of the text, so that the processor knows how many groups
-/// there are before it has read one.
+/// A text of digits alone has a digit where the last separator would be.
 #[inline(always)]
 pub(crate) fn read_in_groups(
     text: &[u8],
@@ -83,6 +69,7 @@ pub(crate) fn read_in_groups(
     separator: &str,
     grouping: Grouping,
 ) -> Option<u64>
+    requires long { SHORT_LEN < length text.now }
     requires within { sign.len ≤ length text.now }
     requires plain { byte_figures separator.now ≡ [] }
     ensures { IfSome result (λ n. (f : FormatData) → HasSign f text.now sign.is_negative sign.len
@@ -94,60 +81,59 @@ pub(crate) fn read_in_groups(
     if separator.len() != 1 {
         return None;
     }
+    if text[text.len() - 4] != separator[0] {
+        return None;
+    }
     let body = &text[sign.len..];
-    if body.len() < SHORTEST_GROUPS || body.len() > LONGEST_GROUPS {
+    if body.len() <= sizes.least || body.len() > LONGEST_GROUPS {
         return None;
     }
     if !begins_with_digit(body) {
         return None;
     }
-    let whole = read_by_byte(body, separator, sizes)?;
-    if whole.figures > SAFE_FIGURES || whole.figures < sizes.least {
-        return None;
-    }
-    Some(whole.magnitude)
+    read_by_byte(body, separator, sizes)
 }
 
-/// Returns the whole text, if it is in groups of digits with a separator of one byte. It may return `None` for any text.
+/// Returns the number in a text of groups with a separator of one byte. It may return `None` for any text.
 ///
 /// The sizes of groups are numbers that the loop knows where it is compiled.
 #[inline(always)]
-fn read_by_byte(text: &[u8], separator: &[u8], sizes: Sizes) -> Option<Part<u64>>
-    requires long { SHORTEST_GROUPS ≤ length text.now }
+fn read_by_byte(text: &[u8], separator: &[u8], sizes: Sizes) -> Option<u64>
+    requires long { (SHORT_LEN < length text.now) × (length text.now ≤ LONGEST_GROUPS) }
     requires plain { byte_figures separator.now ≡ [] }
     requires separator { length separator.now ≡ 1 }
-    ensures { IfSome result (λ whole. IsInGroups sizes.last sizes.size separator.now text.now
-        × HasDigits (2 ^ 64) text.now whole.figures whole.magnitude) }
+    ensures { IfSome result (λ n. IsInGroups sizes.last sizes.size separator.now text.now
+        × (n ≡ number_in text.now)) }
 {
     match (sizes.size, sizes.last) {
-        (3, 3) => read_by_length(text, separator, 3, 3),
-        (2, 3) => read_by_length(text, separator, 3, 2),
-        (4, 4) => read_by_length(text, separator, 4, 4),
+        (3, 3) => read_by_length(text, separator, 3),
+        (2, 3) => read_by_length(text, separator, 2),
         _ => None,
     }
 }
 
-/// Returns the whole text, if it is in groups of these sizes. It may return `None` for any text, and does so if the first
-/// group has more than three digits.
+/// Returns the number in a text of groups of this size, and three digits at the end. It may return `None` for any text.
+///
+/// How many digits the first group has follows from the length of the text, so that the processor knows how many groups
+/// there are before it has read one.
 #[inline(always)]
-fn read_by_length(text: &[u8], separator: &[u8], last: usize, size: usize) -> Option<Part<u64>>
-    requires long { SHORTEST_GROUPS ≤ length text.now }
+fn read_by_length(text: &[u8], separator: &[u8], size: usize) -> Option<u64>
+    requires long { (SHORT_LEN < length text.now) × (length text.now ≤ LONGEST_GROUPS) }
     requires plain { byte_figures separator.now ≡ [] }
     requires separator { length separator.now ≡ 1 }
-    requires size { (0 < size) × (size ≤ last) × (last ≤ 4) }
-    ensures { IfSome result (λ whole. IsInGroups last size separator.now text.now
-        × HasDigits (2 ^ 64) text.now whole.figures whole.magnitude) }
+    requires size { (0 < size) × (size ≤ 3) }
+    ensures { IfSome result (λ n. IsInGroups 3 size separator.now text.now × (n ≡ number_in text.now)) }
 {
-    let figures = (text.len() - (last + 1)) % (size + 1);
-    if figures == 0 || figures > size || figures > 3 {
+    let figures = (text.len() - 4) % (size + 1);
+    if figures == 0 || figures > size {
         return None;
     }
     if text[figures] != separator[0] {
         return None;
     }
     let magnitude = first_digits(&text[..figures])?;
-    let first = Part { figures, magnitude };
-    read_groups(text, first, separator, last, size)
+    let whole = read_groups(text, Part { figures, magnitude }, separator, 3, size)?;
+    Some(whole.magnitude)
 }
 
 /// Returns the number of one to three digits, or `None` if a byte is no digit.
@@ -163,8 +149,7 @@ fn first_digits(text: &[u8]) -> Option<u64>
     let first = digit(text[0])?;
     let middle = digit(text[count / 2])?;
     let last = digit(text[count - 1])?;
-    let number = first * FIRST_WEIGHTS[count] + middle * MIDDLE_WEIGHTS[count] + last;
-    Some(number as u64)
+    Some(first * FIRST_WEIGHTS[count] + middle * MIDDLE_WEIGHTS[count] + last)
 }
 
 /// Returns the whole of a text that begins with a digit other than zero, or `None` if it spells no number.
@@ -277,7 +262,7 @@ fn read_digits<A: Accumulator>(text: &[u8]) -> Part<A>
         if !byte.is_ascii_digit() {
             return Part { figures, magnitude };
         }
-        magnitude = magnitude.push_group(10, (byte - b'0') as u16);
+        magnitude = magnitude.push_group(10, (byte - b'0') as u64);
     }
     Part {
         figures: text.len(),
@@ -287,21 +272,21 @@ fn read_digits<A: Accumulator>(text: &[u8]) -> Part<A>
 
 /// Returns the digit that a byte is, or `None` if it is none.
 #[inline]
-fn digit(byte: u8) -> Option<u16>
+fn digit(byte: u8) -> Option<u64>
     ensures { MatchOption result (is_ascii_digit byte ≡ false)
         (λ digit. (is_ascii_digit byte ≡ true) × (digit ≡ byte - 48) × (digit < 10)) }
 {
     if !byte.is_ascii_digit() {
         return None;
     }
-    Some((byte - b'0') as u16)
+    Some(byte as u64 - 48)
 }
 
 /// Returns the number of one to four digits, and the power of ten with as many zeros, or `None` if a byte is no digit.
 ///
 /// It has no loop, since all groups are this short.
 #[inline(always)]
-fn few_digits(text: &[u8]) -> Option<(u16, u16)>
+fn few_digits(text: &[u8]) -> Option<(u64, u64)>
     requires { (0 < length text.now) × (length text.now ≤ 4) }
     ensures { MatchOption result (list_all is_ascii_digit text.now ≡ false)
         (λ few. (list_all is_ascii_digit text.now ≡ true) × (few.0 ≡ number_in text.now)

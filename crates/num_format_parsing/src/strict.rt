@@ -13,9 +13,7 @@ ghost use Rattle.num_format_parsing.specs.Shapes.{BeginsWithDigit, HasSign, byte
 ghost use Rattle.num_format_parsing.specs.declared.strict.StrictError.TheVariants as cause;
 
 use crate::causes::{begins_with_digit, cause};
-use crate::groups::{
-    LONGEST_GROUPS, SHORT_LEN, ends_in_group, is_exact, read_in_groups, read_short, read_text,
-};
+use crate::groups::{LONGEST_GROUPS, SHORT_LEN, is_exact, read_in_groups, read_short, read_text};
 use crate::parsing::{Accumulator, FromFormattedStr, SAFE_FIGURES};
 use crate::symbols::{Sign, is_plain, sign_of};
 use num_format_int::sealed::Sealed;
@@ -245,7 +243,7 @@ impl<'a, F: Format> StrictParser<'a, F> {
         ensures some { IfSome result (λ read. 0 < read.1) }
     {
         // A longer text is not read here: in groups of three it has too many digits, or a longer minus sign.
-        if text.len() <= SHORT_LEN || text.len() > LONGEST_GROUPS + 1 || !ends_in_group(text) {
+        if text.len() <= SHORT_LEN || text.len() > LONGEST_GROUPS + 1 {
             return None;
         }
         let sign = self.sign(text);
@@ -285,9 +283,6 @@ impl<'a, F: Format> StrictParser<'a, F> {
     {
         if text.len() <= SHORT_LEN {
             return read_short(text, sign);
-        }
-        if !ends_in_group(text) {
-            return None;
         }
         read_in_groups(text, sign, self.separator, self.grouping)
     }

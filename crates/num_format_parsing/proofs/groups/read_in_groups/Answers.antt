@@ -1,23 +1,26 @@
-use Rattle.std.proofs.Common.{◌-◌, ◌^◌, ◌∙◌, ap, drop, length, sym, subst, take, arith}
+use Rattle.std.proofs.Common.{◌≤◌, ◌-◌, ◌∙◌, ap, drop, length, length-drop, sym, subst, take, arith}
 use Rattle.std.proofs.lemmas.List.{take_rest}
+use Rattle.std.proofs.lemmas.Option.{IfSome_then}
 use Rattle.num_format_int.specs.Kind.{signed_number}
 use Rattle.num_format_parsing.specs.Shapes.{byte_figures}
 use Rattle.num_format_parsing.specs.Strict.{SpellsNumber}
-use Rattle.num_format_parsing.proofs.GroupingLemmas.{body-groups}
-use Rattle.num_format_parsing.proofs.NumberLemmas.{exact-few}
+use Rattle.num_format_parsing.proofs.GroupingLemmas.{body-groups, shape-bounds}
+use Rattle.num_format_parsing.proofs.GroupsLemmas.{count-figures}
 use Rattle.num_format_parsing.proofs.SpellingLemmas.{spells-body}
 use Rattle.num_format_parsing.proofs.groups.read_in_groups.Goals as goal
 
 pub returns : goal.returns
-returns c = λ f sign separator grouping.
+returns c = IfSome_then c.read_by_byte.result c.read_by_byte.ensures (λ n read f sign separator grouping.
     let a = c.args in
     let t = a.text.now in
     let start = a.sign.len in
     let s = c.as_bytes-separator.result.now in
     let body = take (length t - start) (drop start t) in
-    let read = c.in_ok-whole.ensures in
-    let whole = c.in_ok-whole.whole in
-    let exact = exact-few (2 ^ 64) 19 body whole.figures whole.magnitude read.1 (omega (arith, c.if-whole-gt-SAFE_FIGURES.false)) (omega arith) in
-    let grouped = body-groups a.grouping c.in_ok-sizes.sizes c.in_ok-sizes.ensures s body (ap byte_figures c.as_bytes-separator.ensures.value ∙ c.requires.plain) read.0 (omega (arith, read.1.figures, c.if-whole-sizes.false)) in
-    subst (λ n. SpellsNumber f t (signed_number a.sign.is_negative n)) (sym exact)
-    (spells-body f t s body a.grouping a.sign.is_negative start (take_rest t start) sign (c.as_bytes-separator.ensures.value ∙ separator) grouping (c.begins_with_digit.ensures.0 c.if-not-begins_with_digit.false) grouped)
+    let sizes = c.in_ok-sizes.sizes in
+    let by = c.in_ok-sizes.ensures in
+    let plain = ap byte_figures c.as_bytes-separator.ensures.value ∙ c.requires.plain in
+    let bounds = shape-bounds sizes by.shape in
+    let many = (count-figures sizes.last sizes.size s body c.if-separator-ne1.false plain bounds.0 (let shape = by.shape in grind arith) read.0).0 sizes.least by.few (omega (arith, c.if-body-sizes.false, ap length (take_rest t start), length-drop start t)) in
+    let grouped = body-groups a.grouping sizes by s body plain read.0 many in
+    subst (λ n. SpellsNumber f t (signed_number a.sign.is_negative n)) (sym read.1)
+    (spells-body f t s body a.grouping a.sign.is_negative start (take_rest t start) sign (c.as_bytes-separator.ensures.value ∙ separator) grouping (c.begins_with_digit.ensures.0 c.if-not-begins_with_digit.false) grouped))
