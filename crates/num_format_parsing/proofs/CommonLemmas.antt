@@ -16,14 +16,11 @@ use Rattle.num_format_parsing.specs.Strict.{HasNoNumeral, IsUnambiguous}
 use Rattle.num_format_parsing.proofs.FigureLemmas.{figures-none}
 use Rattle.num_format_parsing.proofs.ReadingLemmas.{ucd_category}
 
--- a test that no element passes, an element does not pass
-fails_at : (p : ℕ → Bool) (xs : List ℕ) → list_any p xs ≡ false → (c : ℕ) → Contains xs c → p c ≡ false
-fails_at p xs none c at = false_from_ne_true _ (λ yes. both_ways _ none (list_any_at p xs at.0 c at.1 (ap p at.2 ∙ yes)))
-
 -- a test that none of the characters passes, none of a text with only these characters passes
 pub fails_in : (p : ℕ → Bool) (characters text : List ℕ) → list_any p characters ≡ false → HasOnly characters text → list_any p (chars text) ≡ false
 fails_in p characters text none only =
-    list_any_none p (chars text) (All-weaker (Contains characters) (λ c. p c ≡ false) (fails_at p characters none) (chars text) only)
+    list_any_none p (chars text)
+    (All-weaker (Contains characters) (λ c. p c ≡ false) (λ c at. false_from_ne_true _ (λ yes. both_ways _ none (list_any_at p characters at.0 c at.1 (ap p at.2 ∙ yes)))) (chars text) only)
 
 -- a text has no numeral, if none of the characters that it may have is a digit or another numeral
 has_no_numeral : (characters text : List ℕ) → list_any is_ascii_digit characters ≡ false → list_any is_other_numeral characters ≡ false → HasOnly characters text → HasNoNumeral text

@@ -1,5 +1,5 @@
 -- Laws of the digits among bytes.
-use Rattle.std.proofs.Common.{◌≡◌, ℕ, suc, ◌+◌, ◌-◌, ◌*◌, ◌/◌, ◌%◌, ◌<◌, ◌≤◌, ◌⊎◌, inl, inr, true, false, List, [], ◌∷◌, ◌++◌, length, refl, ap, ◌∙◌, sym, arith, take, drop, get_or, append_assoc, append-nil, take-append-drop, lit<, IsUtf8}
+use Rattle.std.proofs.Common.{◌≡◌, ℕ, suc, ◌+◌, ◌-◌, ◌*◌, ◌/◌, ◌%◌, ◌<◌, ◌≤◌, ◌⊎◌, inl, inr, true, false, List, [], ◌∷◌, ◌++◌, length, refl, ap, ◌∙◌, sym, arith, drop, get_or, append_assoc, append-nil, lit<, IsUtf8}
 use Rattle.std.specs.Prelude.{filter, map, All, encode_utf8}
 use Rattle.std.specs.Char.{is_ascii_digit}
 use Rattle.std.specs.Int.Digits.{number_from_digits, number_from_digits_after}
@@ -7,14 +7,14 @@ use Rattle.std.specs.List.{list_any}
 use Rattle.std.specs.Str.{chars, encode_utf8_all}
 use Rattle.std.proofs.lemmas.Bool.{cases_Bool, or_parts}
 use Rattle.std.proofs.lemmas.Bool.Decides.{nat_tests}
-use Rattle.std.proofs.lemmas.Int.Digits.{number_after_append, number_after_ge}
+use Rattle.std.proofs.lemmas.Int.Digits.{number_after_ge}
 use Rattle.std.proofs.lemmas.List.{drop_more}
 use Rattle.std.proofs.lemmas.List.Elements.{All-nil, All-cons, All-head, All-tail, filter-append}
 use Rattle.std.proofs.lemmas.Str.{chars-encodes, encode_ascii, inside_one}
 use Rattle.num_format_int.specs.Digits.{digits}
 use Rattle.num_format_parsing.specs.Reading.{figures}
 use Rattle.num_format_int.proofs.DigitLemmas.{digits-more, digits-small}
-use Rattle.num_format_parsing.proofs.ReadingLemmas.{digits_among-append, digits_among-first, is_ascii_digit-digit}
+use Rattle.num_format_parsing.proofs.ReadingLemmas.{digits_among-first, is_ascii_digit-digit}
 use Rattle.num_format_parsing.specs.Shapes.{byte_figures, BeginsWithDigit}
 
 -- a digit as a character, and back
@@ -39,10 +39,6 @@ figures-some (b ∷ t) some none =
       | inl digit ↦ (let wrong = sym (figures-digit b t digit) ∙ none in cc)
       | inr other ↦ figures-some t (rw other at some) (sym (figures-other b t other) ∙ none)
     ]
-
-pub figures-drop-digit : (xs : List ℕ) (i : ℕ) → i < length xs → is_ascii_digit (get_or xs i 0) ≡ true →
-    byte_figures (drop i xs) ≡ (get_or xs i 0 - 48) ∷ byte_figures (drop (i + 1) xs)
-figures-drop-digit xs i inside digit = ap byte_figures (drop_more xs i 0 inside) ∙ figures-digit (get_or xs i 0) (drop (i + 1) xs) digit
 
 -- bytes of which none is ASCII have no digit
 no_digit_above : (xs : List ℕ) → ((k : ℕ) → k < length xs → 128 ≤ get_or xs k 0) → filter is_ascii_digit xs ≡ []
@@ -120,14 +116,6 @@ writes t begin =
       same = ap digits first ∙ digits-after d rest begin.some (figures-below begin.rest) ∙ ap (λ xs. xs ++ rest) (digits-small d begin.small);
     })
 
--- zeros in front don't change the number
-pub number-after_zeros : (t : List ℕ) (i : ℕ) → number_from_digits 10 (byte_figures (take i t)) ≡ 0 → number_from_digits 10 (byte_figures t) ≡ number_from_digits 10 (byte_figures (drop i t))
-number-after_zeros t i zeros =
-    ap (λ xs. number_from_digits 10 (byte_figures xs)) (sym (take-append-drop i t))
-    ∙ ap (number_from_digits 10) (digits_among-append (take i t) (drop i t))
-    ∙ number_after_append 10 0 (byte_figures (take i t)) (byte_figures (drop i t))
-    ∙ ap (λ n. number_from_digits_after 10 n (byte_figures (drop i t))) zeros
-
 -- the first digit that is not zero
 pub begins-at : (t : List ℕ) (i : ℕ) → i < length t → is_ascii_digit (get_or t i 0) ≡ true → ¬ (get_or t i 0 ≡ 48) → BeginsWithDigit (drop i t)
 begins-at t i inside digit other =
@@ -141,12 +129,6 @@ begins-at t i inside digit other =
       same = drop_more t i 0 inside ∙ ap (λ c. c ∷ drop (i + 1) t) (sym same);
     }
 
--- bytes that begin with a digit other than zero have a first byte, which is that digit
-pub begin-some : (t : List ℕ) → BeginsWithDigit t → 0 < length t
-begin-some t begin = omega (arith, ap length begin.same)
-
+-- the first byte of bytes that begin with a digit other than zero
 pub begin-digit : (t : List ℕ) → BeginsWithDigit t → is_ascii_digit (get_or t 0 0) ≡ true
 begin-digit t begin = ap (λ xs. is_ascii_digit (get_or xs 0 0)) begin.same ∙ is_ascii_digit-digit begin.digit begin.small
-
-pub begin-other : (t : List ℕ) → BeginsWithDigit t → ¬ (get_or t 0 0 ≡ 48)
-begin-other t begin zero_there = omega (arith, ap (λ xs. get_or xs 0 0) begin.same, zero_there, begin.some)

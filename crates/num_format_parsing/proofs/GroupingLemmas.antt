@@ -14,9 +14,7 @@ use Rattle.num_format_parsing.proofs.GroupsLemmas.{groups-separated, not-plain, 
 
 -- a group has few digits, and the last one not fewer
 pub shape-bounds : (sizes : Sizes) → HaveShape sizes → (0 < sizes.size) × (sizes.size ≤ sizes.last) × (sizes.last ≤ 4)
-shape-bounds sizes (inl (last, size)) = (omega (arith, size), omega (arith, last, size), omega (arith, last))
-shape-bounds sizes (inr (inl (last, size))) = (omega (arith, size), omega (arith, last, size), omega (arith, last))
-shape-bounds sizes (inr (inr (last, size))) = (omega (arith, size), omega (arith, last, size), omega (arith, last))
+shape-bounds sizes shape = (grind arith, grind arith, grind arith)
 
 module _ (g : Grouping) (s t : List ℕ) (count : ℕ) (begins : BeginsWithDigits t count) where
   -- not where the grouping prints no separator among these digits, but another byte stands among them

@@ -78,8 +78,7 @@ count-groups last size s zero t one none some g =
     (omega (arith, one, digits, length-group s last t [] g), omega (arith, digits), λ few. omega (arith, digits))
 count-groups last size s (suc count) t one none some (rest, g, groups) =
     let more = count-groups last size s count rest one none some groups in
-    let digits : length (byte_figures t) ≡ size + length (byte_figures rest) =
-    ap length (figures-group s size t rest none g) ∙ length-append g.group (byte_figures rest) ∙ ap (λ k. k + length (byte_figures rest)) g.long in
+    let digits = ap length (figures-group s size t rest none g) ∙ length-append g.group (byte_figures rest) ∙ ap (λ k. k + length (byte_figures rest)) g.long in
     (omega (arith, one, digits, more.0, length-group s size t rest g), omega (arith, digits, some, more.1), λ few. omega (arith, digits, few, more.2 few))
 
 -- so a text in such groups that is longer than the fewest digits that have a separator has as many, and a short one has few
@@ -87,9 +86,8 @@ pub count-figures : (last size : ℕ) (s t : List ℕ) → length s ≡ 1 → by
     ((least : ℕ) → least ≤ 5 → least < length t → least ≤ length (byte_figures t)) × (last ≤ 3 → size ≤ 3 → length t ≤ 25 → length (byte_figures t) ≤ 19)
 count-figures last size s t one none some long whole =
     let counts = count-groups last size s whole.count whole.rest one none some whole.groups in
-    let bytes : length t ≡ length whole.first + length whole.rest = ap length whole.same ∙ length-append (plain whole.first) whole.rest ∙ ap (λ k. k + length whole.rest) (length-map whole.first (λ d. 48 + d)) in
-    let digits : length (byte_figures t) ≡ length whole.first + length (byte_figures whole.rest) =
-    ap length (ap byte_figures whole.same ∙ figures-plain whole.first whole.rest whole.below) ∙ length-append whole.first (byte_figures whole.rest) in (
+    let bytes = ap length whole.same ∙ length-append (plain whole.first) whole.rest ∙ ap (λ k. k + length whole.rest) (length-map whole.first (λ d. 48 + d)) in
+    let digits = ap length (ap byte_figures whole.same ∙ figures-plain whole.first whole.rest whole.below) ∙ length-append whole.first (byte_figures whole.rest) in (
       λ least few longer. omega (arith, bytes, digits, counts.0, counts.1, whole.some, few, longer, long),
       λ three few short. omega (arith, bytes, digits, counts.0, counts.2 few, whole.few, few, short, three),
     )
@@ -247,13 +245,9 @@ groups-first : (last size : ℕ) (s : List ℕ) (count : ℕ) (t : List ℕ) →
 groups-first last size s zero t some none g = group-first s last t [] some none g
 groups-first last size s (suc count) t some none (rest, g, groups) = group-first s size t rest some none g
 
-first-long : (last size : ℕ) (s t : List ℕ) (count : ℕ) → 0 < length s → byte_figures s ≡ [] → BeginsWithDigits t count → (whole : IsInGroups last size s t) → length whole.first ≡ count
+pub first-long : (last size : ℕ) (s t : List ℕ) (count : ℕ) → 0 < length s → byte_figures s ≡ [] → BeginsWithDigits t count → (whole : IsInGroups last size s t) → length whole.first ≡ count
 first-long last size s t count some none begins whole =
     same-run whole.first whole.rest count whole.below (groups-first last size s whole.count whole.rest some none whole.groups) (subst (λ x. BeginsWithDigits x count) whole.same begins)
-
--- no text is in groups whose first digits are more than a group has
-pub lacks-first : (last size : ℕ) (s t : List ℕ) (count : ℕ) → 0 < length s → byte_figures s ≡ [] → BeginsWithDigits t count → size < count → ¬ (IsInGroups last size s t)
-lacks-first last size s t count some none begins many whole = omega (arith, many, first-long last size s t count some none begins whole, whole.few)
 
 -- digits after others, modulo a bound
 pub digits-appended : (bound : ℕ) (front s group : List ℕ) (count n more : ℕ) → byte_figures s ≡ [] → AreDigits group → HasDigits bound front count n →

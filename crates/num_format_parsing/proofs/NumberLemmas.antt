@@ -13,7 +13,7 @@ use Rattle.std.proofs.lemmas.List.Elements.{All-head, All-tail}
 use Rattle.std.proofs.lemmas.Str.{chars-IsAscii}
 use Rattle.std.proofs.lemmas.Str.Ascii.{IsAscii-nil, IsAscii-cons}
 use Rattle.num_format_int.proofs.DigitLemmas.{AreDigits}
-use Rattle.num_format_parsing.specs.Parts.{number_in, HasDigits}
+use Rattle.num_format_parsing.specs.Parts.{number_in}
 use Rattle.num_format_parsing.specs.Reading.{is_other_numeral}
 use Rattle.num_format_parsing.specs.Shapes.{byte_figures, BeginsWithDigit}
 use Rattle.num_format_parsing.proofs.FigureLemmas.{figures-below}
@@ -60,10 +60,6 @@ pub number-few : (bound safe : ℕ) (t : List ℕ) → length (byte_figures t) �
 number-few bound safe t few fits =
     let most : 10 ^ length (byte_figures t) ≤ 10 ^ safe = pow-le-pow_right (lit< tt) {i = length (byte_figures t)} {j = safe} few in
     omega (arith, number_lt 10 (byte_figures t) (below_base (byte_figures t) (figures-below t)), most, fits)
-
--- so it is that number, also modulo the bound
-pub exact-few : (bound safe : ℕ) (t : List ℕ) (count n : ℕ) → HasDigits bound t count n → count ≤ safe → 10 ^ safe ≤ bound → n ≡ number_in t
-exact-few bound safe t count n digits few fits = digits.number ∙ mod-eq_of_lt (number-few bound safe t (omega (arith, digits.figures, few)) fits)
 
 -- a number with one digit more is below the bound exactly if what is left of it modulo the bound is not less than its first digit is worth
 pub exact-worth : (bound power first n m : ℕ) → power ≤ bound → first * power ≤ n → n < (first + 1) * power → m ≡ n % bound → (n < bound) ↔ (first * power ≤ m)

@@ -31,17 +31,13 @@ use Rattle.num_format_parsing.proofs.FigureLemmas.{figures-bytes, writes}
 use Rattle.num_format_parsing.proofs.ReadingLemmas.{digits_among-append, digits_among-separated, is_ascii_digit-digit}
 use Rattle.num_format_parsing.proofs.UnreadLemmas.{begins-given, begins-at_digit, unread-separated}
 
--- a text without its minus sign
-sign-split : (f : FormatData) (t : List ℕ) → t ≡ (if is_negative_text f t then f.minus_sign else []) ++ drop (sign_len f t) t
-sign-split f t =
-    elim (cases_Bool (is_negative_text f t)) [
-      | inl negative ↦ rw (negative) ((starts_is Decides-eqb t f.minus_sign (is_negative_text f t) refl).0 negative)
-      | inr positive ↦ rw (positive) refl
-    ]
-
 -- a text is its minus sign and what follows it
 pub sign-behind : (f : FormatData) (t : List ℕ) (negative : Bool) (start : ℕ) → HasSign f t negative start → t ≡ (if negative then f.minus_sign else []) ++ drop start t
-sign-behind f t negative start sign = rw (sign.tested, sign.long) (sign-split f t)
+sign-behind f t negative start sign =
+    rw (sign.tested, sign.long) (elim (cases_Bool (is_negative_text f t)) [
+      | inl negative ↦ rw (negative) ((starts_is Decides-eqb t f.minus_sign (is_negative_text f t) refl).0 negative)
+      | inr positive ↦ rw (positive) refl
+    ])
 
 signed-sign : (b : Bool) (n : ℕ) → 0 < n → is_negative (signed_number b n) ≡ b
 signed-sign true (suc n) some = refl

@@ -36,12 +36,7 @@ pub begins-given : (s t : List ℕ) → 0 < length s → begins s t ≡ starts_w
 begins-given [] t some = absurd (omega arith)
 begins-given (c ∷ s) t some = refl
 
--- nothing begins with an empty separator
-pub begins-empty : (s t : List ℕ) → length s ≡ 0 → begins s t ≡ false
-begins-empty [] t none = refl
-begins-empty (c ∷ s) t none = absurd (omega arith)
-
--- nor with a separator whose first byte is another
+-- no text begins with a separator whose first byte is another
 pub begins-off : (s t : List ℕ) → ¬ (get_or t 0 0 ≡ get_or s 0 0) → begins s t ≡ false
 begins-off [] t other = refl
 begins-off (c ∷ s) t other = false_from_ne_true _ (λ begin.

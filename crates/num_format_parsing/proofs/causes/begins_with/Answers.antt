@@ -1,14 +1,16 @@
-use Rattle.std.proofs.Common.{◌≡◌, true, ◌<◌, ◌∙◌, sym, arith, length}
+use Rattle.std.proofs.Common.{◌≡◌, true, ◌<◌, ◌∙◌, ap, sym, arith, length}
 use Rattle.std.specs.Prelude.{nat_eq}
 use Rattle.std.proofs.lemmas.Bool.Decides.{nat_tests}
-use Rattle.num_format_parsing.proofs.UnreadLemmas.{begins-empty, begins-off, begins-given, begins-one}
+use Rattle.std.proofs.lemmas.List.{nil_from_length}
+use Rattle.num_format_parsing.specs.Strict.{begins}
+use Rattle.num_format_parsing.proofs.UnreadLemmas.{begins-off, begins-given, begins-one}
 use Rattle.num_format_parsing.proofs.causes.begins_with.Goals as goal
 
 pub returns-then-is_empty : goal.returns-then-is_empty
 returns-then-is_empty c =
     let test = sym c.is_empty.ensures ∙ c.if-is_empty.true in
     let none : length c.args.separator.now ≡ 0 = grind (arith, nat_tests, test) in
-    sym (begins-empty c.args.separator.now c.args.text.now none)
+    sym (ap (λ s. begins s c.args.text.now) (nil_from_length c.args.separator.now none))
 
 pub returns-then-byte-first : goal.returns-then-byte-first
 returns-then-byte-first c = sym (begins-off c.args.separator.now c.args.text.now c.if-byte-first.true)

@@ -1,14 +1,14 @@
 use Rattle.std.proofs.Common.{◌≡◌, ◌+◌, ◌<◌, sym, subst, arith, rules, drop, length, length-drop, drop-drop}
 use Rattle.std.proofs.lemmas.List.{take_rest}
 use Rattle.num_format_parsing.specs.Parts.{AppendsGroup, BeginsWithGroup, HasDigits, IsInGroups}
-use Rattle.num_format_parsing.proofs.GroupsLemmas.{IsLeft, IsReadTo, left-first, read-first, read-more, read-last, left-more, lacks-first, lacks-more, lacks-length, lacks-last, map_option}
+use Rattle.num_format_parsing.proofs.GroupsLemmas.{IsLeft, IsReadTo, left-first, read-first, read-more, read-last, left-more, first-long, lacks-more, lacks-length, lacks-last, map_option}
 use Rattle.num_format_parsing.proofs.groups.read_groups.Goals as goal
 
 pub returns-then-first-size : goal.returns-then-first-size
 returns-then-first-size g c =
     let a = c.args in
     let r = c.requires in
-    lacks-first a.last a.size a.separator.now a.text.now a.first.figures r.separator r.plain r.begin c.if-first-size.true
+    λ whole. omega (arith, c.if-first-size.true, first-long a.last a.size a.separator.now a.text.now a.first.figures r.separator r.plain r.begin whole, whole.few)
 
 pub loop-end-init : goal.loop-end-init
 loop-end-init g c =

@@ -1,4 +1,4 @@
-use Rattle.std.proofs.Common.{◌≤◌, ◌-◌, ◌∙◌, ap, drop, length, length-drop, sym, subst, take, arith}
+use Rattle.std.proofs.Common.{◌-◌, ◌∙◌, ap, drop, length, length-drop, sym, subst, take, arith}
 use Rattle.std.proofs.lemmas.List.{take_rest}
 use Rattle.std.proofs.lemmas.Option.{IfSome_then}
 use Rattle.num_format_int.specs.Kind.{signed_number}
