@@ -2,7 +2,7 @@
 //!
 //! Lengths are mixed, as those of numbers that people have are.
 
-use crate::table::{Cell, GROUPS, ITOA, ORIGINAL, PARSE, RUST_DECIMAL, Ratio, Table, Times, short};
+use crate::table::{short, Cell, Ratio, Table, Times, GROUPS, ITOA, ORIGINAL, PARSE, RUST_DECIMAL};
 use crate::{C_PRINTING, PRINT_COLUMN, PRINT_DECIMALS, READ_COLUMN, READ_DECIMALS};
 
 /// A goal of some cells.
@@ -12,42 +12,11 @@ struct Goal {
     cells: &'static str,
     has: fn(&Cell) -> bool,
     over: &'static str,
-    ratio: Ratio,
-    /// What is not to be above the goal.
-    of: Of,
     most: f64,
 }
 
-/// What a goal is for.
-#[derive(Clone, Copy, PartialEq)]
-enum Of {
-    /// The ratio of each cell.
-    Each,
-    /// The median of the ratios.
-    Median,
-}
-
 impl Goal {
-    /// A goal beside the original.
-    const fn original(
-        operation: &'static str,
-        cells: &'static str,
-        has: fn(&Cell) -> bool,
-        most: f64,
-    ) -> Goal {
-        Goal {
-            operation,
-            cells,
-            has,
-            over: ORIGINAL,
-            ratio: Times::ratio,
-            of: Of::Each,
-            most,
-        }
-    }
-
-    /// A goal beside other calls of the port.
-    const fn port(
+    const fn new(
         operation: &'static str,
         cells: &'static str,
         has: fn(&Cell) -> bool,
@@ -59,120 +28,147 @@ impl Goal {
             cells,
             has,
             over,
-            ratio: Times::ratio_to_reference,
-            of: Of::Each,
             most,
         }
     }
 
-    /// A goal of the median beside what others do of plain digits, or of decimals.
-    const fn plain(
-        operation: &'static str,
-        cells: &'static str,
-        has: fn(&Cell) -> bool,
-        over: &'static str,
-        most: f64,
-    ) -> Goal {
-        Goal {
-            operation,
-            cells,
-            has,
-            over,
-            ratio: Times::ratio_to_floor,
-            of: Of::Median,
-            most,
+    /// Whether the goal is for the median, as it is beside what others do of plain digits or of decimals. Else it is for
+    /// each cell.
+    fn is_of_median(&self) -> bool {
+        [ITOA, PARSE, RUST_DECIMAL].contains(&self.over)
+    }
+
+    /// The ratio of a cell that the goal is for.
+    fn ratio(&self) -> Ratio {
+        if self.is_of_median() {
+            Times::ratio_to_floor
+        } else if self.over == ORIGINAL {
+            Times::ratio
+        } else {
+            Times::ratio_to_reference
         }
     }
 }
 
 /// The goals, in order.
 const GOALS: [Goal; 23] = [
-    Goal::plain(
+    Goal::new(
         "used Buffer",
         "7 digits and more",
         has_seven_digits,
         ITOA,
         1.25,
     ),
-    Goal::plain(
+    Goal::new(
         "read by a parser",
         "7 digits and more",
         has_seven_digits,
         PARSE,
         1.3,
     ),
-    Goal::plain(PRINT_COLUMN, "all lengths", |_| true, ITOA, 1.15),
-    Goal::plain(READ_COLUMN, "all lengths", |_| true, PARSE, 1.0),
-    Goal::plain(PRINT_DECIMALS, "every mixture", is_mixed, RUST_DECIMAL, 1.0),
-    Goal::plain(READ_DECIMALS, "every mixture", is_mixed, RUST_DECIMAL, 1.0),
-    Goal::port(
+    Goal::new(PRINT_COLUMN, "all lengths", |_| true, ITOA, 1.15),
+    Goal::new(READ_COLUMN, "all lengths", |_| true, PARSE, 1.0),
+    Goal::new(PRINT_DECIMALS, "every mixture", is_mixed, RUST_DECIMAL, 1.0),
+    Goal::new(READ_DECIMALS, "every mixture", is_mixed, RUST_DECIMAL, 1.0),
+    Goal::new(
         C_PRINTING[1].0,
         "every mixture",
         is_mixed,
         "used Buffer",
         1.1,
     ),
-    Goal::port(
+    Goal::new(
         "read by a parser",
         "every mixture",
         is_mixed,
         "read strictly",
         0.9,
     ),
-    Goal::port(
+    Goal::new(
         "read strictly",
         "7 digits and more",
         has_seven_digits,
         "read",
         1.0,
     ),
-    Goal::original("used Buffer", "every mixture", is_mixed, 1.0),
-    Goal::original(
+    Goal::new("used Buffer", "every mixture", is_mixed, ORIGINAL, 1.0),
+    Goal::new(
         "used Buffer",
         "u8 of 3 digits",
         |cell| cell.type_name == "u8" && cell.sizes == "3",
+        ORIGINAL,
         1.0,
     ),
-    Goal::original(
+    Goal::new(
         "used Buffer",
         "i128 of 1 to 3 digits, separators of several bytes",
         is_short_i128,
+        ORIGINAL,
         1.0,
     ),
-    Goal::original("to_formatted_string", "1 to 3 digits", is_short, 1.0),
-    Goal::original("to_formatted_string", "every mixture", is_mixed, 1.0),
-    Goal::original(
+    Goal::new(
+        "to_formatted_string",
+        "1 to 3 digits",
+        is_short,
+        ORIGINAL,
+        1.0,
+    ),
+    Goal::new(
+        "to_formatted_string",
+        "every mixture",
+        is_mixed,
+        ORIGINAL,
+        1.0,
+    ),
+    Goal::new(
         "to_formatted_string",
         "7 digits and more",
         has_seven_digits,
+        ORIGINAL,
         0.6,
     ),
-    Goal::original("append to String", "every mixture", is_mixed, 1.0),
-    Goal::original(
+    Goal::new("append to String", "every mixture", is_mixed, ORIGINAL, 1.0),
+    Goal::new(
         "append to String",
         "7 digits and more",
         has_seven_digits,
+        ORIGINAL,
         0.6,
     ),
-    Goal::original("read", "1 to 3 digits", is_short, 0.7),
-    Goal::original("read", "7 digits and more", has_seven_digits, 0.45),
-    Goal::original("refuse", "no digit", |cell| cell.group == "no digit", 1.0),
-    Goal::original(
+    Goal::new("read", "1 to 3 digits", is_short, ORIGINAL, 0.7),
+    Goal::new(
+        "read",
+        "7 digits and more",
+        has_seven_digits,
+        ORIGINAL,
+        0.45,
+    ),
+    Goal::new(
+        "refuse",
+        "no digit",
+        |cell| cell.group == "no digit",
+        ORIGINAL,
+        1.0,
+    ),
+    Goal::new(
         "refuse",
         "another numeral, out of range",
         |cell| cell.group != "no digit",
+        ORIGINAL,
         1.0,
     ),
-    Goal::original(
+    Goal::new(
         "look up",
         "refused: 64 letters",
         |cell| cell.group == "refused: 64 letters",
+        ORIGINAL,
         0.6,
     ),
-    Goal::original(
+    Goal::new(
         "look up",
         "refused: NAME-ZZ in turn",
         |cell| cell.group == "refused: NAME-ZZ in turn",
+        ORIGINAL,
         0.3,
     ),
 ];
@@ -207,7 +203,7 @@ pub fn table(measured: &Table) -> String {
     for goal in &GOALS {
         let ratios = measured.ratios(
             |cell| cell.operation == goal.operation && (goal.has)(cell),
-            goal.ratio,
+            goal.ratio(),
         );
         let Some((highest, _)) = ratios.last() else {
             continue;
@@ -215,10 +211,7 @@ pub fn table(measured: &Table) -> String {
         let above = ratios
             .iter()
             .filter(|(ratio, _)| *ratio >= goal.most + 0.005);
-        let of = match goal.of {
-            Of::Each => "",
-            Of::Median => ", median",
-        };
+        let of = if goal.is_of_median() { ", median" } else { "" };
         table += &format!(
             "| {} | {} | {} | {}{of} | {} | {} | {} of {} |\n",
             goal.operation,

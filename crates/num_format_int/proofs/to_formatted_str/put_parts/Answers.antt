@@ -1,43 +1,22 @@
-use Rattle.std.proofs.Common.{◌≡◌, ℕ, ◌+◌, ◌*◌, ◌^◌, ◌<◌, ◌++◌, ◌∙◌, length, ap, sym, arith, length-append, append_assoc}
+use Rattle.std.proofs.Common.{◌≡◌, ℕ, ◌+◌, ◌*◌, ◌^◌, ◌++◌, ◌∙◌, length, ap, sym, arith}
 use Rattle.num_format_int.specs.Digits.{digits}
 use Rattle.num_format_int.specs.Grouped.{separated}
-use Rattle.num_format_int.specs.Groups.{last_digits}
-use Rattle.num_format_int.proofs.DigitLemmas.{digits-joined, digits_given, length-last_digits}
 use Rattle.num_format_int.proofs.to_formatted_str.put_parts.Goals as goal
 
 middle_alone : (first power middle : ℕ) → first ≡ 0 → first * power + middle ≡ middle
 middle_alone first power middle none = rw none (omega arith)
 
-length-joined : (k first part : ℕ) → 0 < first → part < 10 ^ k → length (digits (first * 10 ^ k + part)) ≡ length (digits first) + k
-length-joined k first part some below =
-    omega (arith, ap length (digits-joined k first part some below), length-append (digits first) (last_digits k part), length-last_digits k part)
-
 pub put_groups-requires-clause-fits : goal.put_groups-requires-clause-fits
 put_groups-requires-clause-fits g c =
     omega (arith, c.requires.fits, ap (λ m. length (digits m)) (middle_alone c.args.first (10 ^ g.L.LastGroup.MIDDLE) c.args.middle c.if-first-eq0.true))
 
-pub put_middle-requires-clause-part : goal.put_middle-requires-clause-part
-put_middle-requires-clause-part g c = c.requires.middle (omega (arith, c.if-first-eq0.false))
+pub put_both_parts-requires-clause-first : goal.put_both_parts-requires-clause-first
+put_both_parts-requires-clause-first g c = omega (arith, c.if-first-eq0.false)
 
-pub put_middle-requires-clause-fits : goal.put_middle-requires-clause-fits
-put_middle-requires-clause-fits g c =
-    let some : 0 < c.args.first = omega (arith, c.if-first-eq0.false) in
-    omega (arith, c.requires.fits, length-joined g.L.LastGroup.MIDDLE c.args.first c.args.middle some (c.requires.middle some), digits_given c.args.first)
-
-pub put_groups-requires-else-first-eq0-clause-fits : goal.put_groups-requires-else-first-eq0-clause-fits
-put_groups-requires-else-first-eq0-clause-fits g c =
-    let some : 0 < c.args.first = omega (arith, c.if-first-eq0.false) in
-    omega (arith, c.requires.fits, length-joined g.L.LastGroup.MIDDLE c.args.first c.args.middle some (c.requires.middle some), c.put_middle.ensures.fits)
+pub put_both_parts-requires-clause-middle : goal.put_both_parts-requires-clause-middle
+put_both_parts-requires-clause-middle g c = c.requires.middle (omega (arith, c.if-first-eq0.false))
 
 pub returns-then-first-eq0 : goal.returns-then-first-eq0
 returns-then-first-eq0 g c = λ is_due right old groups before.
     c.put_groups.ensures is_due right old groups before
     ∙ ap (λ m. separated is_due c.args.separator.now (digits m ++ right) ++ old) (sym (middle_alone c.args.first (10 ^ g.L.LastGroup.MIDDLE) c.args.middle c.if-first-eq0.true))
-
-pub returns-else-first-eq0 : goal.returns-else-first-eq0
-returns-else-first-eq0 g c = λ is_due right old groups before.
-    let middle = last_digits g.L.LastGroup.MIDDLE c.args.middle in
-    let some : 0 < c.args.first = omega (arith, c.if-first-eq0.false) in
-    let whole = digits-joined g.L.LastGroup.MIDDLE c.args.first c.args.middle some (c.requires.middle some) in
-    c.put_groups-else-first-eq0.ensures is_due (middle ++ right) old groups (c.put_middle.ensures.text is_due right old groups before)
-    ∙ ap (λ ds. separated is_due c.args.separator.now ds ++ old) (sym (append_assoc (digits c.args.first) middle right) ∙ ap (λ ds. ds ++ right) (sym whole))
