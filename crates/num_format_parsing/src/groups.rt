@@ -96,8 +96,9 @@ pub(crate) fn read_in_groups(
 
 /// Returns the number in a text of groups with a separator of one byte. It may return `None` for any text.
 ///
-/// The sizes of groups are numbers that the loop knows where it is compiled.
-#[inline(always)]
+/// The sizes of groups are numbers that the loop knows where it is compiled. It is a function of its own, so that other
+/// texts are parsed without its space.
+#[inline(never)]
 fn read_by_byte(text: &[u8], separator: &[u8], sizes: Sizes) -> Option<u64>
     requires long { (SHORT_LEN < length text.now) × (length text.now ≤ LONGEST_GROUPS) }
     requires plain { byte_figures separator.now ≡ [] }
