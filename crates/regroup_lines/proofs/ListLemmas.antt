@@ -42,10 +42,6 @@ counted-none n true true some few past = absurd (past ((Decides-ltb 0 n).0 some)
 counted-none n true false some few past = refl
 counted-none n false few some is past = refl
 
-value-none : (text : List ℕ) → length text ≡ 0 → digits_value 10 text ≡ 0
-value-none [] none = refl
-value-none (c ∷ text) none = absurd (omega arith)
-
 pub number-err : {E : Type 0} (text : List ℕ) (e : E) (r : Result ℕ E) → r ≡ Err e → ParsesUnsigned 64 10 text r → list_all is_ascii_digit text ≡ true → None ≡ field_number text
 number-err text e r is parsed digits =
     let v = digits_value 10 text in
@@ -113,8 +109,3 @@ module _ (parts : List (List ℕ)) (n : ℕ) (items : List FieldRange)
   pub ranges-all : n ≡ length parts → Some items ≡ ranges_in parts
   ranges-all all =
       sym (so_far ∙ ap (λ l. option_map (λ later. items ++ later) (ranges_in l)) (drop_all n parts (omega (arith, all))) ∙ ap Some (append-nil items))
-
--- none was taken
-pub ranges-none : (o : Option (List FieldRange)) → o ≡ option_map (λ later. [] ++ later) o
-ranges-none None = refl
-ranges-none (Some later) = refl

@@ -81,12 +81,8 @@ module _ (rules : Rules) (name : List ℕ) (from : FormatData) where
           subst (λ h. Sends_each (fault_sent rules h (ended_by rules.line_end text)) (by_writer a d x) c result) sends.0
           (subst (λ s. Sends_each (fault_sent rules f (ended_by rules.line_end text)) (by_writer s d x) c result) sends.1 passed)
 
-  -- a line at fault: the fault is returned
+  -- a line at fault: its message is sent, and then its bytes
   module _ (f : Fault) (bytes : List ℕ) where
-    pub fault-returned : passes rules.invalid ≡ false → (c : Writer → Option (List ℕ)) → Sends_each (fault_sent rules f bytes) c c (Err f)
-    fault-returned aborts c = subst (λ s. Sends_each s c c (Err f)) (sym (aborts-fault rules f bytes aborts)) (refl, λ w. refl)
-
-    -- or its message is sent, and then its bytes
     module _ (does : passes rules.invalid ≡ true) (named : Fault) (same : named ≡ f) (s t t2 x : Option (List ℕ)) where
       abbrev old : Writer → Option (List ℕ)
       old = by_writer s t x
@@ -107,12 +103,6 @@ module _ (rules : Rules) (name : List ℕ) (from : FormatData) where
       module _ (any : Bool) (names : Named named (Ok any)) (rejects : Bool) (is : rules.rejects ≡ rejects) (s2 x2 : Option (List ℕ)) (other : rejects_or rejects s2 x2 ≡ rejects_or rejects s x) where
         tells : Named f (Ok any)
         tells = subst (λ h. Named h (Ok any)) same names
-
-        pub fault-passed : Appends (rejects_or rejects x s) (rejects_or rejects x2 s2) bytes → Sends_each (fault_sent rules f bytes) old (by_writer s2 t2 x2) (Ok any)
-        fault-passed sent =
-            by_passing (by_writer s2 t2 x2) (Ok any)
-            (subst (λ b. Sends_each (Ok (passed b faults bytes)) old (by_writer s2 t2 x2) (Ok any)) (sym is)
-            (tells.0, passed-received name rules.reading from rejects s s2 t t2 x x2 faults bytes sent other tells.1))
 
         pub fault-unpassed : (g : Fault) → failed_writer g ≡ Some (if rejects then Rejects else Output) → StopsWithin (rejects_or rejects x s) (rejects_or rejects x2 s2) bytes →
             Sends_each (fault_sent rules f bytes) old (by_writer s2 t2 x2) (Err g)

@@ -475,10 +475,6 @@ fn is_any_barred(line_end: u8, text: &[u8]) -> bool
 }
 
 /// Sends a line with a number in one of its fields, what is around that field, and the byte that ends the line.
-///
-/// # Errors
-///
-/// Returns the error of the first write that fails, also of one that was interrupted, or that writes no bytes.
 #[tactic(auto, using(crate::proofs::AroundLemmas::around_first, crate::proofs::AroundLemmas::around_second, crate::proofs::AroundLemmas::around_third, crate::proofs::AroundLemmas::around_whole))]
 fn send_line_with<W: Write, G: Format>(
     value: &Number,
@@ -498,10 +494,6 @@ fn send_line_with<W: Write, G: Format>(
 }
 
 /// Sends the text of a number, and what is around it.
-///
-/// # Errors
-///
-/// Returns the error of the first write that fails, also of one that was interrupted, or that writes no bytes.
 fn send_value<W: Write, G: Format>(
     value: &Number,
     frame: &Frame<'_, '_>,
@@ -687,10 +679,6 @@ fn needs_quotes(delimiter: u8, line_end: u8, byte: u8) -> bool
 }
 
 /// Sends the parts of a text in turn.
-///
-/// # Errors
-///
-/// Returns the error of the first write that fails, also of one that was interrupted, or that writes no bytes.
 fn send_all<W: Write>(parts: &[(Quotes, &[u8])], w: &mut W) -> io::Result<()>
     ensures { Sends result (W.contents w.old) (W.contents w.new) (flat_map part_text parts.now) }
 {

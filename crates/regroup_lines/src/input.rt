@@ -197,10 +197,6 @@ impl<'a> Input<'a> {
     }
 
     /// Reads more bytes by one read, and returns how many.
-    ///
-    /// # Errors
-    ///
-    /// Returns the error of the read.
     fn read_more<R: Read>(&mut self, reader: &mut R) -> io::Result<usize>
         requires { length (held self.old) < array_len self.old }
         ensures read { Reads (held self.old) (held self.new)
@@ -234,10 +230,6 @@ impl<'a> Input<'a> {
 }
 
 /// Flushes the writer, if it is flushed before each read.
-///
-/// # Errors
-///
-/// Returns an error if the flush fails.
 fn flush_before_read<W: Write>(flushes: bool, writer: &mut W) -> Result<(), LineFault<'static>>
     ensures halt { IfErr result (λ fault. IsHalt flushes (line_fault_of fault)) }
     ensures flushed { Keeps (W.contents writer.old) (W.contents writer.new) }
@@ -249,10 +241,6 @@ fn flush_before_read<W: Write>(flushes: bool, writer: &mut W) -> Result<(), Line
 }
 
 /// Reads one byte. Returns `None` if the reader ends.
-///
-/// # Errors
-///
-/// Returns the error of a read that fails.
 fn read_byte<R: Read>(reader: &mut R) -> io::Result<Option<u8>>
     ensures byte { IfOk result (λ read. MatchOption read
         (Consumes (R.remaining reader.old) (R.remaining reader.new) []

@@ -607,10 +607,6 @@ fn regroup_place<'a, W: Write, F: Format, G: Format>(
 }
 
 /// Sends a line as it is, and the byte that ends it.
-///
-/// # Errors
-///
-/// Returns the error of the first write that fails, also of one that was interrupted, or that writes no bytes.
 #[tactic(auto, using(crate::proofs::AroundLemmas::passed_prefix, crate::proofs::AroundLemmas::passed_suffix, crate::proofs::AroundLemmas::passed_whole))]
 fn pass_on<W: Write>(text: &[u8], line_end: u8, w: &mut W) -> io::Result<()>
     ensures { Sends result (W.contents w.old) (W.contents w.new) (ended_by line_end text.now) }

@@ -76,10 +76,6 @@ impl Number {
     }
 
     /// Sends the bytes of a line around the number, its text between them, and the byte that ends it.
-    ///
-    /// # Errors
-    ///
-    /// Returns an error if a write fails, also where it was interrupted, or writes no bytes.
     #[inline(always)]
     pub(crate) fn send_line<W: Write, G: Format>(
         &self,
@@ -109,10 +105,6 @@ impl Number {
 }
 
 /// Sends the bytes around a text, and the text between them.
-///
-/// # Errors
-///
-/// Returns an error if a write fails, also where it was interrupted, or writes no bytes.
 #[tactic(auto, using(crate::proofs::AroundLemmas::around_first, crate::proofs::AroundLemmas::around_second, crate::proofs::AroundLemmas::around_third, crate::proofs::AroundLemmas::around_whole))]
 fn send_between<W: Write>(around: &Around<'_>, text: &str, w: &mut W) -> Result<(), Unsent>
     ensures { Sends result (W.contents w.old) (W.contents w.new)
@@ -125,10 +117,6 @@ fn send_between<W: Write>(around: &Around<'_>, text: &str, w: &mut W) -> Result<
 
 /// Does the same, and sends the byte that ends the line. A text with nothing around it is sent with that byte, by one write
 /// if that writes both.
-///
-/// # Errors
-///
-/// Returns an error if a write fails, also where it was interrupted, or writes no bytes.
 #[tactic(auto, using(crate::proofs::AroundLemmas::passed_prefix, crate::proofs::AroundLemmas::passed_suffix, crate::proofs::AroundLemmas::passed_whole))]
 fn send_line_between<W: Write>(
     around: &Around<'_>,
@@ -149,10 +137,6 @@ fn send_line_between<W: Write>(
 
 /// Sends a text and the byte that ends its line, by one write if that writes both. Most texts are short, and fit an array
 /// that is made in less time.
-///
-/// # Errors
-///
-/// Returns an error if a write fails, also where it was interrupted, or writes no bytes.
 fn send_text<W: Write>(text: &str, line_end: u8, w: &mut W) -> Result<(), Unsent>
     requires { length text.now < MAX_SENT_LINE_LEN }
     ensures { Sends result (W.contents w.old) (W.contents w.new) (ended_by line_end text.now) }
@@ -181,10 +165,6 @@ fn send_in_array<const LEN: usize, W: Write>(
 }
 
 /// Sends bytes.
-///
-/// # Errors
-///
-/// Returns an error if a write fails, also where it was interrupted, or writes no bytes.
 #[inline(always)]
 pub(crate) fn send_whole<W: Write>(bytes: &[u8], w: &mut W) -> Result<(), Unsent>
     ensures { Sends result (W.contents w.old) (W.contents w.new) bytes.now }
