@@ -482,7 +482,8 @@ fn parse_leniently<'a, F: Format>(
     )
 }
 
-/// Parses the rows of a column of numbers of a type strictly.
+/// Parses the rows of a column of numbers of a type strictly. It is a call, so that its loop has the registers for itself.
+#[inline(never)]
 fn parse_strictly<'a, F: Format>(
     value_type: ValueType,
     parser: &StrictParser<'a, F>,

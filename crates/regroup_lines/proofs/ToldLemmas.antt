@@ -21,9 +21,9 @@ use Rattle.regroup_lines.specs.Sending.Writer.{Messages, Output, Rejects}
 use Rattle.regroup_lines.specs.declared.line_fault.LineFault.{LineFault}
 use Rattle.regroup_lines.specs.declared.line_fault.LineFault.TheVariants as fault
 use Rattle.regroup_lines.specs.declared.rules.Rules.{Rules}
-use Rattle.regroup_lines.proofs.LineLemmas.{aborts-fault, passes-fault}
+use Rattle.regroup_lines.proofs.LineLemmas.{passes-fault}
 use Rattle.regroup_lines.proofs.SentLemmas.{IsSent}
-use Rattle.regroup_lines.proofs.WriterLemmas.{passed-received, passed-stopped, prefix-none, unnamed-stopped}
+use Rattle.regroup_lines.proofs.WriterLemmas.{passed-stopped, prefix-none, unnamed-stopped}
 
 -- a write that fails, or does not, and what is returned in place of its error
 module _ {E F : Type 0} (call : Result (Unit {0}) E) (result : Result (Unit {0}) F) (failed : F) (is : result ≡ result_or call (Err failed)) (a b : Option (List ℕ)) (text : List ℕ) (sends : Sends call a b text) where
