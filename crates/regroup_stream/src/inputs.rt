@@ -1,8 +1,10 @@
 //! Several inputs, one after the other.
 ghost use Rattle.std.specs.Prelude.{◌≡◌, ◌+◌, [], length, map};
 ghost use Rattle.std.specs.Io.Buffered.{writer_buffer, writer_contents};
+ghost use Rattle.std.specs.IoError.{error_kind};
 ghost use Rattle.regroup_lines.specs.Sending.{by_writer};
 ghost use Rattle.regroup_stream.specs.Inputs.{RunsAll, RunsOne, reads_on};
+ghost use Rattle.regroup_stream.specs.declared.inputs.Unread.TheVariants.{CannotOpen};
 
 use crate::{FAULTY, Formats, REGROUPED, refuse, refuse_output, run};
 use regroup_lines::{Invalid, Rules};
@@ -32,6 +34,8 @@ pub enum Unread {
 }
 
 impl From<io::Error> for Unread {
+    ghost from_gives = { λ error unread. unread ≡ CannotOpen (error_kind error) };
+
     fn from(error: io::Error) -> Unread {
         Unread::CannotOpen(error.kind())
     }
