@@ -219,6 +219,7 @@ pub fn copy_before(text: &str, skipped: usize, place: usize, array: &mut [u8]) -
     requires skipped { skipped ≤ length text.now }
     ensures start { result + length text.now ≡ place + skipped }
     ensures text { drop result array.new ≡ drop skipped text.now ++ drop place array.old }
+    ensures whole { drop (place - length text.now) array.new ≡ text.now ++ drop place array.old }
     ensures before { take (place - length text.now) array.new ≡ take (place - length text.now) array.old }
     ensures length { length array.new ≡ length array.old }
     ensures utf8 { IsCharBoundary text.now skipped → ∥ IsUtf8 (drop place array.old) ∥₁ → ∥ IsUtf8 (drop result array.new) ∥₁ }
