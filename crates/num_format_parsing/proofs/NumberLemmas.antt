@@ -1,7 +1,7 @@
 -- The number that digits write, whole and modulo a bound, and bytes of ASCII.
-use Rattle.std.proofs.Common.{◌≡◌, ℕ, zero, suc, ◌+◌, ◌-◌, ◌*◌, ◌%◌, ◌^◌, ◌<◌, ◌≤◌, inl, inr, true, false, List, [], ◌∷◌, length, refl, ap, ◌∙◌, sym, arith, get_or, lit<}
+use Rattle.std.proofs.Common.{IsUtf8, ◌≡◌, ℕ, zero, suc, ◌+◌, ◌-◌, ◌*◌, ◌%◌, ◌^◌, ◌<◌, ◌≤◌, inl, inr, true, false, List, [], ◌∷◌, length, refl, ap, ◌∙◌, sym, arith, get_or, lit<, take, drop, ◌++◌, take-append-drop}
 use Rattle.std.specs.Prelude.{◌↔◌}
-use Rattle.std.specs.Char.{is_ascii}
+use Rattle.std.specs.Char.{is_ascii, is_ascii_digit}
 use Rattle.std.specs.Int.Digits.{number_from_digits, number_from_digits_after, AllBelowBase}
 use Rattle.std.specs.List.{list_all, list_any}
 use Rattle.std.specs.Str.{chars, IsAscii}
@@ -9,15 +9,18 @@ use Rattle.std.proofs.Math.Nat.{add-mul, mod-eq-sub-mod, mod-eq_of_lt, mod-le, m
 use Rattle.std.proofs.lemmas.Bool.{and_parts, cases_lt}
 use Rattle.std.proofs.lemmas.Bool.Decides.{nat_tests}
 use Rattle.std.proofs.lemmas.Int.Digits.{number_lt}
+use Rattle.std.proofs.lemmas.List.{take_rest}
 use Rattle.std.proofs.lemmas.List.Elements.{All-head, All-tail}
-use Rattle.std.proofs.lemmas.Str.{chars-IsAscii}
+use Rattle.std.proofs.lemmas.List.Folds.{list_all-append}
+use Rattle.std.proofs.lemmas.Str.{chars-IsAscii, IsUtf8-from_ascii}
 use Rattle.std.proofs.lemmas.Str.Ascii.{IsAscii-nil, IsAscii-cons}
 use Rattle.num_format_int.proofs.DigitLemmas.{AreDigits}
 use Rattle.num_format_parsing.specs.Parts.{number_in}
-use Rattle.num_format_parsing.specs.Reading.{is_other_numeral}
+use Rattle.num_format_parsing.specs.Reading.{figures, is_other_numeral}
 use Rattle.num_format_parsing.specs.Shapes.{byte_figures, BeginsWithDigit}
-use Rattle.num_format_parsing.proofs.FigureLemmas.{figures-below}
-use Rattle.num_format_parsing.proofs.ReadingLemmas.{digits_among-first, is_other_numeral-ascii}
+use Rattle.num_format_parsing.specs.Figures.{HasFigures}
+use Rattle.num_format_parsing.proofs.FigureLemmas.{figures-below, figures-bytes}
+use Rattle.num_format_parsing.proofs.ReadingLemmas.{digits_among-append, digits_among-first, is_other_numeral-ascii}
 
 ascii-all : (t : List ℕ) → list_all is_ascii t ≡ true → IsAscii t
 ascii-all [] all = IsAscii-nil
@@ -104,3 +107,35 @@ number-many safe t first many =
     let power : 10 ^ (safe + 1) ≤ 10 ^ length first.rest = pow-le-pow_right (lit< tt) {i = safe + 1} {j = length first.rest} (omega (arith, many)) in
     let more : 1 * 10 ^ length first.rest ≤ digit * 10 ^ length first.rest = mul-le-mul_right (10 ^ length first.rest) (omega (arith, first.some)) in
     omega (arith, power, more, first.number)
+
+-- digits are ASCII
+pub digits-ascii : (t : List ℕ) → list_all is_ascii_digit t ≡ true → list_all is_ascii t ≡ true
+digits-ascii [] all = refl
+digits-ascii (b ∷ t) all =
+    let both = and_parts (is_ascii_digit b) (list_all is_ascii_digit t) all in
+    let digit = both.0 in
+    let ascii : is_ascii b ≡ true = grind (arith, nat_tests, digit) in
+    rw ascii (digits-ascii t both.1)
+
+-- a text with or without a sign, of one byte of ASCII that is no digit, writes the number of the bytes after it
+pub figures-behind : (most start : ℕ) (t : List ℕ) (n : ℕ) → n ≡ number_in (take (length t - start) (drop start t)) → start ≤ 1 → 0 < length t → (start ≡ 1 → get_or t 0 0 < 128) → (start ≡ 1 → is_ascii_digit (get_or t 0 0) ≡ false) →
+    list_all is_ascii (take (length t - start) (drop start t)) ≡ true → 0 < length (byte_figures (take (length t - start) (drop start t))) → length (byte_figures (take (length t - start) (drop start t))) ≤ most →
+    IsUtf8 t × HasFigures most t n
+figures-behind most start t n number one inside ascii digit all some few =
+    let body = take (length t - start) (drop start t) in
+    let before : (list_all is_ascii (take start t) ≡ true) × (byte_figures (take start t) ≡ []) = front t start one inside ascii digit in
+    let whole : t ≡ take start t ++ body = sym (take-append-drop start t) ∙ ap (λ xs. take start t ++ xs) (sym (take_rest t start)) in
+    let both : list_all is_ascii t ≡ true = ap (list_all is_ascii) whole ∙ list_all-append is_ascii (take start t) body ∙ rw before.0 all in
+    let utf8 = IsUtf8-from_ascii t (ascii-all t both) in
+    let same : figures t ≡ byte_figures body = figures-bytes t utf8 ∙ ap byte_figures whole ∙ digits_among-append (take start t) body ∙ rw before.1 refl in
+    (utf8, record { number = number ∙ ap (number_from_digits 10) (sym same); some = rw same some; few = rw same few; plain = no_other-bytes t both })
+  where
+    front : (t : List ℕ) (start : ℕ) → start ≤ 1 → 0 < length t → (start ≡ 1 → get_or t 0 0 < 128) → (start ≡ 1 → is_ascii_digit (get_or t 0 0) ≡ false) →
+        (list_all is_ascii (take start t) ≡ true) × (byte_figures (take start t) ≡ [])
+    front t zero one inside ascii digit = (refl, refl)
+    front [] (suc start) one inside ascii digit = absurd (omega (arith, inside))
+    front (b ∷ t) (suc zero) one inside ascii digit =
+        let low = ascii refl in
+        let test : is_ascii b ≡ true = grind (arith, nat_tests, low) in
+        (rw test refl, rw (digit refl) refl)
+    front (b ∷ t) (suc (suc start)) one inside ascii digit = absurd (omega (arith, one))

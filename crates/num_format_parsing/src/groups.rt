@@ -99,12 +99,12 @@ pub(crate) fn read_in_groups(
 /// The sizes of groups are numbers that the loop knows where it is compiled. It is a function of its own, so that other
 /// texts are parsed without its space.
 #[inline(never)]
-fn read_by_byte(text: &[u8], separator: &[u8], sizes: Sizes) -> Option<u64>
-    requires long { (SHORT_LEN < length text.now) × (length text.now ≤ LONGEST_GROUPS) }
+pub(crate) fn read_by_byte(text: &[u8], separator: &[u8], sizes: Sizes) -> Option<u64>
+    requires long { (SHORT_LEN ≤ length text.now) × (length text.now ≤ LONGEST_GROUPS) }
     requires plain { byte_figures separator.now ≡ [] }
     requires separator { length separator.now ≡ 1 }
-    ensures { IfSome result (λ n. IsInGroups sizes.last sizes.size separator.now text.now
-        × (n ≡ number_in text.now)) }
+    ensures { IfSome result (λ n. IsInGroups sizes.last sizes.size separator.now text.now × (n ≡ number_in text.now)
+        × (sizes.size ≤ 3) × (sizes.last ≡ 3)) }
 {
     match (sizes.size, sizes.last) {
         (3, 3) => read_by_length(text, separator, 3),
@@ -119,7 +119,7 @@ fn read_by_byte(text: &[u8], separator: &[u8], sizes: Sizes) -> Option<u64>
 /// there are before it has read one.
 #[inline(always)]
 fn read_by_length(text: &[u8], separator: &[u8], size: usize) -> Option<u64>
-    requires long { (SHORT_LEN < length text.now) × (length text.now ≤ LONGEST_GROUPS) }
+    requires long { (SHORT_LEN ≤ length text.now) × (length text.now ≤ LONGEST_GROUPS) }
     requires plain { byte_figures separator.now ≡ [] }
     requires separator { length separator.now ≡ 1 }
     requires size { (0 < size) × (size ≤ 3) }
@@ -142,7 +142,7 @@ fn read_by_length(text: &[u8], separator: &[u8], size: usize) -> Option<u64>
 /// Numbers of all lengths follow one another, and the processor mistakes a branch on the length of the first group. So
 /// each of the three digits is looked at, and where there are fewer, one of them twice.
 #[inline(always)]
-fn first_digits(text: &[u8]) -> Option<u64>
+pub(crate) fn first_digits(text: &[u8]) -> Option<u64>
     requires { (1 ≤ length text.now) × (length text.now ≤ 3) }
     ensures { IfSome result (λ n. (list_all is_ascii_digit text.now ≡ true) × (n ≡ number_in text.now)) }
 {
