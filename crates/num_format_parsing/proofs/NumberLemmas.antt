@@ -1,5 +1,5 @@
 -- The number that digits write, whole and modulo a bound, and bytes of ASCII.
-use Rattle.std.proofs.Common.{IsUtf8, ◌≡◌, ℕ, zero, suc, ◌+◌, ◌-◌, ◌*◌, ◌%◌, ◌^◌, ◌<◌, ◌≤◌, inl, inr, true, false, List, [], ◌∷◌, length, refl, ap, ◌∙◌, sym, arith, get_or, lit<, take, drop, ◌++◌, take-append-drop}
+use Rattle.std.proofs.Common.{IsUtf8, ◌≡◌, ℕ, zero, suc, ◌+◌, ◌-◌, ◌*◌, ◌%◌, ◌^◌, ◌<◌, ◌≤◌, inl, inr, true, false, List, [], ◌∷◌, length, refl, ap, ◌∙◌, sym, arith, get_or, lit<, take, drop, ◌++◌, take-append-drop, append-nil}
 use Rattle.std.specs.Prelude.{◌↔◌}
 use Rattle.std.specs.Char.{is_ascii, is_ascii_digit}
 use Rattle.std.specs.Int.Digits.{number_from_digits, number_from_digits_after, AllBelowBase}
@@ -8,8 +8,8 @@ use Rattle.std.specs.Str.{chars, IsAscii}
 use Rattle.std.proofs.Math.Nat.{add-mul, mod-eq-sub-mod, mod-eq_of_lt, mod-le, mul_assoc, mul_comm, mul-le-mul_right, pow-le-pow_right, pow-suc}
 use Rattle.std.proofs.lemmas.Bool.{and_parts, cases_lt}
 use Rattle.std.proofs.lemmas.Bool.Decides.{nat_tests}
-use Rattle.std.proofs.lemmas.Int.Digits.{number_lt}
-use Rattle.std.proofs.lemmas.List.{take_rest}
+use Rattle.std.proofs.lemmas.Int.Digits.{number_after_append, number_after_ge, number_lt, number_push}
+use Rattle.std.proofs.lemmas.List.{take_more, take_rest}
 use Rattle.std.proofs.lemmas.List.Elements.{All-head, All-tail}
 use Rattle.std.proofs.lemmas.List.Folds.{list_all-append}
 use Rattle.std.proofs.lemmas.Str.{chars-IsAscii, IsUtf8-from_ascii}
@@ -19,7 +19,7 @@ use Rattle.num_format_parsing.specs.Parts.{number_in}
 use Rattle.num_format_parsing.specs.Reading.{figures, is_other_numeral}
 use Rattle.num_format_parsing.specs.Shapes.{byte_figures, BeginsWithDigit}
 use Rattle.num_format_parsing.specs.Figures.{HasFigures}
-use Rattle.num_format_parsing.proofs.FigureLemmas.{figures-below, figures-bytes}
+use Rattle.num_format_parsing.proofs.FigureLemmas.{figures-below, figures-bytes, figures-digit, figures-other}
 use Rattle.num_format_parsing.proofs.ReadingLemmas.{digits_among-append, digits_among-first, is_other_numeral-ascii}
 
 ascii-all : (t : List ℕ) → list_all is_ascii t ≡ true → IsAscii t
@@ -64,49 +64,25 @@ number-few bound safe t few fits =
     let most : 10 ^ length (byte_figures t) ≤ 10 ^ safe = pow-le-pow_right (lit< tt) {i = length (byte_figures t)} {j = safe} few in
     omega (arith, number_lt 10 (byte_figures t) (below_base (byte_figures t) (figures-below t)), most, fits)
 
--- a number with one digit more is below the bound exactly if what is left of it modulo the bound is not less than its first digit is worth
-pub exact-worth : (bound power first n m : ℕ) → power ≤ bound → first * power ≤ n → n < (first + 1) * power → m ≡ n % bound → (n < bound) ↔ (first * power ≤ m)
-exact-worth bound power first n m fits above below same = (
-  λ under. omega (arith, same ∙ mod-eq_of_lt under, above),
-  λ enough. elim (cases_lt n bound) [
-    | inl under ↦ under
-    | inr past ↦ absurd (omega (arith, same ∙ mod-eq-sub-mod past, mod-le (n - bound) bound, add-mul first 1 power, below, enough, fits, past))
-  ],
-)
+-- the number of the bytes before a place, one byte on
+pub number-digit : (t : List ℕ) (i : ℕ) → i < length t → is_ascii_digit (get_or t i 0) ≡ true → number_in (take (i + 1) t) ≡ number_in (take i t) * 10 + (get_or t i 0 - 48)
+number-digit t i inside digit =
+    let b = get_or t i 0 in
+    ap number_in (take_more t i 0 inside)
+    ∙ ap (number_from_digits 10) (digits_among-append (take i t) (b ∷ []) ∙ ap (λ ds. byte_figures (take i t) ++ ds) (figures-digit b [] digit))
+    ∙ number_push 10 (byte_figures (take i t)) (b - 48)
 
--- the first digit of bytes, and how much it is worth
-pub record HasFirst (t : List ℕ) : Type 0 where
-  pub rest : List ℕ
-  pub figures : byte_figures t ≡ (get_or t 0 0 - 48) ∷ rest
-  pub some : 48 < get_or t 0 0
-  pub number : number_in t ≡ (get_or t 0 0 - 48) * 10 ^ length rest + number_from_digits 10 rest
-  pub small : number_from_digits 10 rest < 10 ^ length rest
+pub number-other : (t : List ℕ) (i : ℕ) → i < length t → is_ascii_digit (get_or t i 0) ≡ false → number_in (take (i + 1) t) ≡ number_in (take i t)
+number-other t i inside other =
+    let b = get_or t i 0 in
+    ap number_in (take_more t i 0 inside)
+    ∙ ap (number_from_digits 10) (digits_among-append (take i t) (b ∷ []) ∙ ap (λ ds. byte_figures (take i t) ++ ds) (figures-other b [] other) ∙ append-nil (byte_figures (take i t)))
 
-pub has-first : (t : List ℕ) → BeginsWithDigit t → HasFirst t
-has-first t begin =
-    let first = get_or t 0 0 in
-    let rest = byte_figures begin.rest in
-    let byte : first ≡ 48 + begin.digit = ap (λ xs. get_or xs 0 0) begin.same in
-    let value : begin.digit ≡ first - 48 = omega (arith, byte) in
-    let figures : byte_figures t ≡ (first - 48) ∷ rest = ap byte_figures begin.same ∙ digits_among-first begin.digit begin.rest begin.small ∙ ap (λ d. d ∷ rest) value in
-    record {
-      rest = rest;
-      figures = figures;
-      some = omega (arith, byte, begin.some);
-      number =
-          ap (number_from_digits 10) figures
-          ∙ ap (λ n. number_from_digits_after 10 n rest) (let e : 0 * 10 + (first - 48) ≡ first - 48 = omega arith in e)
-          ∙ number-after (first - 48) rest;
-      small = number_lt 10 rest (below_base rest (figures-below begin.rest));
-    }
-
--- digits of which the first is not zero write at least the power of ten with as many digits
-pub number-many : (safe : ℕ) (t : List ℕ) → (first : HasFirst t) → safe < length first.rest → 10 ^ (safe + 1) ≤ number_in t
-number-many safe t first many =
-    let digit = get_or t 0 0 - 48 in
-    let power : 10 ^ (safe + 1) ≤ 10 ^ length first.rest = pow-le-pow_right (lit< tt) {i = safe + 1} {j = length first.rest} (omega (arith, many)) in
-    let more : 1 * 10 ^ length first.rest ≤ digit * 10 ^ length first.rest = mul-le-mul_right (10 ^ length first.rest) (omega (arith, first.some)) in
-    omega (arith, power, more, first.number)
+-- and at most that of all
+pub number-before : (t : List ℕ) (i : ℕ) → number_in (take i t) ≤ number_in t
+number-before t i =
+    let whole = ap number_in (sym (take-append-drop i t)) ∙ ap (number_from_digits 10) (digits_among-append (take i t) (drop i t)) ∙ number_after_append 10 0 (byte_figures (take i t)) (byte_figures (drop i t)) in
+    omega (arith, number_after_ge 10 (number_in (take i t)) (byte_figures (drop i t)) (lit< tt), whole)
 
 -- digits are ASCII
 pub digits-ascii : (t : List ℕ) → list_all is_ascii_digit t ≡ true → list_all is_ascii t ≡ true

@@ -36,26 +36,21 @@ const FIRST_WEIGHTS: [u64; 4] = [0, 0, 10, 100];
 /// What the digit between them counts for.
 const MIDDLE_WEIGHTS: [u64; 4] = [0, 0, 0, 10];
 
-/// Returns the absolute value of the number that a text of at most four bytes spells. It may return `None` for any
-/// text.
+/// Returns the absolute value of the number that a text spells which has at most three bytes after its minus sign. It may
+/// return `None` for any text.
 ///
-/// It has no loop. Such a text is parsed alike, whatever the separator and the grouping. Most that spell no number have
-/// no digit at their end.
+/// Such a text is parsed alike, whatever the separator and the grouping.
 #[inline(always)]
 pub(crate) fn read_short(text: &[u8], sign: Sign) -> Option<u64>
-    requires within { sign.len ≤ length text.now }
-    requires few { length text.now ≤ SHORT_LEN }
+    requires { sign.len ≤ length text.now }
     ensures { IfSome result (λ n. (f : FormatData) → HasSign f text.now sign.is_negative sign.len
         → SpellsNumber f text.now (signed_number sign.is_negative n)) }
 {
-    if !text.last()?.is_ascii_digit() {
-        return None;
-    }
     let body = &text[sign.len..];
-    if !begins_with_digit(body) {
+    if body.len() >= SHORT_LEN || !begins_with_digit(body) {
         return None;
     }
-    Some(few_digits(body)?.0)
+    first_digits(body)
 }
 
 /// Returns the absolute value of the number that a text spells in groups with a separator of one byte. It may return
@@ -226,26 +221,22 @@ fn read_by_sizes<A: Accumulator>(
     }
 }
 
-/// Returns whether the number of a text that was read to its end is below the bound, so that it is that of its digits,
-/// and not only modulo the bound.
-#[inline]
-pub(crate) fn is_exact<A: Accumulator>(text: &[u8], whole: Part<A>) -> bool
-    requires begin { BeginsWithDigit text.now }
-    requires read { HasDigits A.bound text.now whole.figures (A.number whole.magnitude) }
-    ensures { IsTrue result ↔ (number_in text.now < A.bound) }
+/// Returns the number that the digits among bytes write, or `None` if it is not below the bound.
+///
+/// Few texts have so many digits that they are read once more here.
+#[cold]
+#[inline(never)]
+pub(crate) fn exact_number<A: Accumulator>(text: &[u8]) -> Option<A>
+    ensures { MatchOption result (A.bound ≤ number_in text.now) (λ n. A.number n ≡ number_in text.now) }
 {
-    let safe = A::safe_figures();
-    if whole.figures <= safe {
-        return true;
+    let mut number = A::zero();
+    for figures in 0..text.len() {
+        let byte = text[figures];
+        if byte.is_ascii_digit() {
+            number = number.push_digit(figures, byte - b'0')?;
+        }
     }
-    if whole.figures - 1 != safe {
-        return false;
-    }
-    match A::worth(text[0] - b'0') {
-        // A number past the bound leaves less of itself than its first digit is worth.
-        Some(least) => least <= whole.magnitude.number(),
-        None => false,
-    }
+    Some(number)
 }
 
 /// Returns the digits that a text begins with.

@@ -13,7 +13,7 @@ ghost use Rattle.num_format_parsing.specs.Shapes.{BeginsWithDigit, HasSign, byte
 ghost use Rattle.num_format_parsing.specs.declared.strict.StrictError.TheVariants as cause;
 
 use crate::causes::{begins_with_digit, cause};
-use crate::groups::{LONGEST_GROUPS, SHORT_LEN, is_exact, read_in_groups, read_short, read_text};
+use crate::groups::{LONGEST_GROUPS, SHORT_LEN, exact_number, read_in_groups, read_short, read_text};
 use crate::parsing::{Accumulator, FromFormattedStr, SAFE_FIGURES};
 use crate::symbols::{Sign, is_plain, sign_of};
 use num_format_int::sealed::Sealed;
@@ -121,7 +121,7 @@ pub(crate) fn parse_strict<N: Sealed, F: Format>(
     requires { IsTrue is_text → IsUtf8 bytes.now }
     ensures { ParsesStrictly N.kind N.value (F.answers format.now) bytes.now result }
 {
-    // Most texts are short. What is needed of the separator is what its getter promises: that it is UTF-8.
+    // Many texts are short. What is needed of the separator is what its getter promises: that it is UTF-8.
     if bytes.len() <= SHORT_LEN && format.has_common_symbols() {
         format.separator().into_str();
         let minus_sign = format.minus_sign().into_str();
@@ -374,10 +374,13 @@ fn read_by<A: Accumulator>(text: &[u8], separator: &str, grouping: Grouping) -> 
     let Some(whole) = read_text::<A>(text, separator, grouping) else {
         return Reading::Unspelled;
     };
-    if !is_exact(text, whole) {
-        return Reading::TooLarge;
+    if whole.figures <= A::safe_figures() {
+        return Reading::Number(whole.magnitude.number());
     }
-    Reading::Number(whole.magnitude.number())
+    match exact_number::<A>(text) {
+        Some(magnitude) => Reading::Number(magnitude.number()),
+        None => Reading::TooLarge,
+    }
 }
 
 /// Returns the number of that sign and absolute value, if it is a value of the type.
