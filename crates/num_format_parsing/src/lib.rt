@@ -9,7 +9,6 @@ pub mod laws;
 pub mod parsing;
 pub mod strict;
 pub mod symbols;
-mod utf8;
 
 pub use parsing::{FromFormattedStr, ParseFormatted};
 pub use strict::{StrictError, StrictParser};
