@@ -64,19 +64,19 @@ number-few bound safe t few fits =
     let most : 10 ^ length (byte_figures t) ≤ 10 ^ safe = pow-le-pow_right (lit< tt) {i = length (byte_figures t)} {j = safe} few in
     omega (arith, number_lt 10 (byte_figures t) (below_base (byte_figures t) (figures-below t)), most, fits)
 
--- the number of the bytes before a place, one byte on
-pub number-digit : (t : List ℕ) (i : ℕ) → i < length t → is_ascii_digit (get_or t i 0) ≡ true → number_in (take (i + 1) t) ≡ number_in (take i t) * 10 + (get_or t i 0 - 48)
-number-digit t i inside digit =
-    let b = get_or t i 0 in
-    ap number_in (take_more t i 0 inside)
-    ∙ ap (number_from_digits 10) (digits_among-append (take i t) (b ∷ []) ∙ ap (λ ds. byte_figures (take i t) ++ ds) (figures-digit b [] digit))
-    ∙ number_push 10 (byte_figures (take i t)) (b - 48)
+-- the digits of the bytes before a place, one byte on
+pub figures-on : (t : List ℕ) (i : ℕ) → i < length t → byte_figures (take (i + 1) t) ≡ byte_figures (take i t) ++ byte_figures (get_or t i 0 ∷ [])
+figures-on t i inside = ap byte_figures (take_more t i 0 inside) ∙ digits_among-append (take i t) (get_or t i 0 ∷ [])
 
-pub number-other : (t : List ℕ) (i : ℕ) → i < length t → is_ascii_digit (get_or t i 0) ≡ false → number_in (take (i + 1) t) ≡ number_in (take i t)
-number-other t i inside other =
-    let b = get_or t i 0 in
-    ap number_in (take_more t i 0 inside)
-    ∙ ap (number_from_digits 10) (digits_among-append (take i t) (b ∷ []) ∙ ap (λ ds. byte_figures (take i t) ++ ds) (figures-other b [] other) ∙ append-nil (byte_figures (take i t)))
+pub figures-on-digit : (t : List ℕ) (i : ℕ) → i < length t → is_ascii_digit (get_or t i 0) ≡ true → byte_figures (take (i + 1) t) ≡ byte_figures (take i t) ++ (get_or t i 0 - 48) ∷ []
+figures-on-digit t i inside digit = figures-on t i inside ∙ ap (λ ds. byte_figures (take i t) ++ ds) (figures-digit (get_or t i 0) [] digit)
+
+pub figures-on-other : (t : List ℕ) (i : ℕ) → i < length t → is_ascii_digit (get_or t i 0) ≡ false → byte_figures (take (i + 1) t) ≡ byte_figures (take i t)
+figures-on-other t i inside other = figures-on t i inside ∙ ap (λ ds. byte_figures (take i t) ++ ds) (figures-other (get_or t i 0) [] other) ∙ append-nil (byte_figures (take i t))
+
+-- and their number
+pub number-digit : (t : List ℕ) (i : ℕ) → i < length t → is_ascii_digit (get_or t i 0) ≡ true → number_in (take (i + 1) t) ≡ number_in (take i t) * 10 + (get_or t i 0 - 48)
+number-digit t i inside digit = ap (number_from_digits 10) (figures-on-digit t i inside digit) ∙ number_push 10 (byte_figures (take i t)) (get_or t i 0 - 48)
 
 -- and at most that of all
 pub number-before : (t : List ℕ) (i : ℕ) → number_in (take i t) ≤ number_in t
@@ -93,25 +93,32 @@ digits-ascii (b ∷ t) all =
     let ascii : is_ascii b ≡ true = grind (arith, nat_tests, digit) in
     rw ascii (digits-ascii t both.1)
 
+-- bytes of ASCII write the number of their digits, if there are some and not too many
+pub ascii-figures : (most : ℕ) (t : List ℕ) (n : ℕ) → list_all is_ascii t ≡ true → n ≡ number_in t → 0 < length (byte_figures t) → length (byte_figures t) ≤ most → IsUtf8 t × HasFigures most t n
+ascii-figures most t n all number some few =
+    let utf8 = IsUtf8-from_ascii t (ascii-all t all) in
+    let same = figures-bytes t utf8 in
+    (utf8, record { number = number ∙ ap (number_from_digits 10) (sym same); some = rw same some; few = rw same few; plain = no_other-bytes t all })
+
+-- a sign of one byte of ASCII that is no digit, or none
+pub sign-front : (t : List ℕ) (start : ℕ) → start ≤ 1 → 0 < length t → (start ≡ 1 → get_or t 0 0 < 128) → (start ≡ 1 → is_ascii_digit (get_or t 0 0) ≡ false) →
+    (list_all is_ascii (take start t) ≡ true) × (byte_figures (take start t) ≡ [])
+sign-front t zero one inside ascii digit = (refl, refl)
+sign-front [] (suc start) one inside ascii digit = absurd (omega (arith, inside))
+sign-front (b ∷ t) (suc zero) one inside ascii digit =
+    let low = ascii refl in
+    let test : is_ascii b ≡ true = grind (arith, nat_tests, low) in
+    (rw test refl, rw (digit refl) refl)
+sign-front (b ∷ t) (suc (suc start)) one inside ascii digit = absurd (omega (arith, one))
+
 -- a text with or without a sign, of one byte of ASCII that is no digit, writes the number of the bytes after it
 pub figures-behind : (most start : ℕ) (t : List ℕ) (n : ℕ) → n ≡ number_in (take (length t - start) (drop start t)) → start ≤ 1 → 0 < length t → (start ≡ 1 → get_or t 0 0 < 128) → (start ≡ 1 → is_ascii_digit (get_or t 0 0) ≡ false) →
     list_all is_ascii (take (length t - start) (drop start t)) ≡ true → 0 < length (byte_figures (take (length t - start) (drop start t))) → length (byte_figures (take (length t - start) (drop start t))) ≤ most →
     IsUtf8 t × HasFigures most t n
 figures-behind most start t n number one inside ascii digit all some few =
     let body = take (length t - start) (drop start t) in
-    let before : (list_all is_ascii (take start t) ≡ true) × (byte_figures (take start t) ≡ []) = front t start one inside ascii digit in
+    let before : (list_all is_ascii (take start t) ≡ true) × (byte_figures (take start t) ≡ []) = sign-front t start one inside ascii digit in
     let whole : t ≡ take start t ++ body = sym (take-append-drop start t) ∙ ap (λ xs. take start t ++ xs) (sym (take_rest t start)) in
     let both : list_all is_ascii t ≡ true = ap (list_all is_ascii) whole ∙ list_all-append is_ascii (take start t) body ∙ rw before.0 all in
-    let utf8 = IsUtf8-from_ascii t (ascii-all t both) in
-    let same : figures t ≡ byte_figures body = figures-bytes t utf8 ∙ ap byte_figures whole ∙ digits_among-append (take start t) body ∙ rw before.1 refl in
-    (utf8, record { number = number ∙ ap (number_from_digits 10) (sym same); some = rw same some; few = rw same few; plain = no_other-bytes t both })
-  where
-    front : (t : List ℕ) (start : ℕ) → start ≤ 1 → 0 < length t → (start ≡ 1 → get_or t 0 0 < 128) → (start ≡ 1 → is_ascii_digit (get_or t 0 0) ≡ false) →
-        (list_all is_ascii (take start t) ≡ true) × (byte_figures (take start t) ≡ [])
-    front t zero one inside ascii digit = (refl, refl)
-    front [] (suc start) one inside ascii digit = absurd (omega (arith, inside))
-    front (b ∷ t) (suc zero) one inside ascii digit =
-        let low = ascii refl in
-        let test : is_ascii b ≡ true = grind (arith, nat_tests, low) in
-        (rw test refl, rw (digit refl) refl)
-    front (b ∷ t) (suc (suc start)) one inside ascii digit = absurd (omega (arith, one))
+    let same : byte_figures t ≡ byte_figures body = ap byte_figures whole ∙ digits_among-append (take start t) body ∙ rw before.1 refl in
+    ascii-figures most t n both (number ∙ ap (number_from_digits 10) (sym same)) (rw same some) (rw same few)

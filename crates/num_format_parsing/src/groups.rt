@@ -198,7 +198,7 @@ fn read_grouped<A: Accumulator>(
 
 /// Returns the whole text, if groups of these sizes follow the first part.
 ///
-/// The sizes of most groups, and that the separator is one byte, are known where their loop is compiled.
+/// The sizes of most groups are known where their loop is compiled.
 #[inline(always)]
 fn read_by_sizes<A: Accumulator>(
     text: &[u8],
@@ -215,8 +215,8 @@ fn read_by_sizes<A: Accumulator>(
         (λ whole. IsInGroups sizes.last sizes.size separator.now text.now
         × HasDigits A.bound text.now whole.figures (A.number whole.magnitude)) }
 {
-    match (separator.len(), sizes.size, sizes.last) {
-        (1, 3, 3) => read_groups(text, first, separator, 3, 3),
+    match (sizes.size, sizes.last) {
+        (3, 3) => read_groups(text, first, separator, 3, 3),
         _ => read_groups(text, first, separator, sizes.last, sizes.size),
     }
 }

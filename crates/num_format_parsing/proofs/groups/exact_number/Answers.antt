@@ -1,7 +1,8 @@
 use Rattle.std.proofs.Common.{◌≡◌, ◌<◌, ◌+◌, ◌*◌, ◌^◌, suc, ◌∙◌, ap, sym, arith, get_or, rules}
+use Rattle.std.specs.Int.Digits.{number_from_digits}
 use Rattle.std.proofs.lemmas.Bool.Decides.{nat_tests}
 use Rattle.std.proofs.Math.Nat.{pow-suc}
-use Rattle.num_format_parsing.proofs.NumberLemmas.{number-before, number-digit, number-other}
+use Rattle.num_format_parsing.proofs.NumberLemmas.{figures-on-other, number-before, number-digit}
 use Rattle.num_format_parsing.proofs.groups.exact_number.Goals as goal
 use Rattle.num_format_parsing.proofs.groups.exact_number.Goals.{then-is_ascii_digit+in_ok-number, else-is_ascii_digit}
 
@@ -28,7 +29,7 @@ loop-figures-preserved g c =
           })
       | else-is_ascii_digit w ↦
           rw w.number-is (record {
-            number = l.invariant.number ∙ sym (number-other t l.figures c.loop-figures-test.true (sym c.is_ascii_digit.ensures.value ∙ w.if-is_ascii_digit.false));
+            number = l.invariant.number ∙ ap (number_from_digits 10) (sym (figures-on-other t l.figures c.loop-figures-test.true (sym c.is_ascii_digit.ensures.value ∙ w.if-is_ascii_digit.false)));
             below = omega (arith, l.invariant.below, power);
           })
     ]
