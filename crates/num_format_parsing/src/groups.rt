@@ -36,21 +36,21 @@ const FIRST_WEIGHTS: [u64; 4] = [0, 0, 10, 100];
 /// What the digit between them counts for.
 const MIDDLE_WEIGHTS: [u64; 4] = [0, 0, 0, 10];
 
-/// Returns the absolute value of the number that a text of digits alone spells after its minus sign. It may return `None`
-/// for any text.
+/// Returns the absolute value of the number that a text spells which has at most three bytes after its minus sign. It may
+/// return `None` for any text.
 ///
 /// Such a text is parsed alike, whatever the separator and the grouping.
 #[inline(always)]
-pub(crate) fn read_plain(text: &[u8], sign: Sign) -> Option<u64>
+pub(crate) fn read_short(text: &[u8], sign: Sign) -> Option<u64>
     requires { sign.len ≤ length text.now }
     ensures { IfSome result (λ n. (f : FormatData) → HasSign f text.now sign.is_negative sign.len
         → SpellsNumber f text.now (signed_number sign.is_negative n)) }
 {
     let body = &text[sign.len..];
-    if !begins_with_digit(body) {
+    if body.len() >= SHORT_LEN || !begins_with_digit(body) {
         return None;
     }
-    few_figures(body, SAFE_FIGURES)
+    first_digits(body)
 }
 
 /// Returns the absolute value of the number that a text spells in groups with a separator of one byte. It may return

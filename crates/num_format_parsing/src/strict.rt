@@ -13,7 +13,7 @@ ghost use Rattle.num_format_parsing.specs.Shapes.{BeginsWithDigit, HasSign, byte
 ghost use Rattle.num_format_parsing.specs.declared.strict.StrictError.TheVariants as cause;
 
 use crate::causes::{begins_with_digit, cause};
-use crate::groups::{LONGEST_GROUPS, SHORT_LEN, exact_number, read_in_groups, read_plain, read_text};
+use crate::groups::{LONGEST_GROUPS, SHORT_LEN, exact_number, read_in_groups, read_short, read_text};
 use crate::parsing::{Accumulator, FromFormattedStr, SAFE_FIGURES};
 use crate::symbols::{Sign, is_plain, sign_of};
 use num_format_int::sealed::Sealed;
@@ -126,7 +126,7 @@ pub(crate) fn parse_strict<N: Sealed, F: Format>(
         format.separator().into_str();
         let minus_sign = format.minus_sign().into_str();
         let sign = sign_of(bytes, minus_sign);
-        if let Some(magnitude) = read_plain(bytes, sign) {
+        if let Some(magnitude) = read_short(bytes, sign) {
             return number_of(sign, magnitude as u128);
         }
     }
@@ -281,8 +281,8 @@ impl<'a, F: Format> StrictParser<'a, F> {
         requires { HasSign self.now text.now sign.is_negative sign.len }
         ensures { IfSome result (λ n. SpellsNumber self.now text.now (signed_number sign.is_negative n)) }
     {
-        if text.len() <= SHORT_LEN || text[text.len() - 4].is_ascii_digit() {
-            return read_plain(text, sign);
+        if text.len() <= SHORT_LEN {
+            return read_short(text, sign);
         }
         read_in_groups(text, sign, self.separator, self.grouping)
     }

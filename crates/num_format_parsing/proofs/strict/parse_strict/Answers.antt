@@ -11,8 +11,8 @@ use Rattle.num_format_parsing.proofs.strict.parse_strict.Goals as goal
 plain : (f : FormatData) → HasCommonSymbols f → IsUtf8 f.minus_sign → IsUtf8 f.separator → HasPlainSymbols f
 plain f common sign separator = plain-symbols f (unambiguous_from_common f common) sign (of_printed IsUtf8 IsUtf8-nil f.grouping f.separator separator)
 
-pub read_plain-requires : goal.read_plain-requires
-read_plain-requires g c =
+pub read_short-requires : goal.read_short-requires
+read_short-requires g c =
     let symbols = plain (g.F.Format.answers c.args.format.now) (c.has_common_symbols.ensures c.if-has_common_symbols.true) (search rules) (search rules) in
     (c.sign_of-sign.ensures (g.F.Format.answers c.args.format.now) (c.into_str-minus_sign.ensures.same ∙ c.minus_sign.ensures) symbols).within
 

@@ -6,10 +6,10 @@ use Rattle.num_format_int.specs.Kind.{signed_number}
 use Rattle.num_format_parsing.specs.Strict.{SpellsNumber}
 use Rattle.num_format_parsing.proofs.GroupsLemmas.{plain-all}
 use Rattle.num_format_parsing.proofs.SpellingLemmas.{spells-body}
-use Rattle.num_format_parsing.proofs.groups.read_plain.Goals as goal
+use Rattle.num_format_parsing.proofs.groups.read_short.Goals as goal
 
 pub returns : goal.returns
-returns c = IfSome_then c.few_figures.result c.few_figures.ensures (λ n few f sign.
+returns c = IfSome_then c.first_digits.result c.first_digits.ensures (λ n few f sign.
     let t = c.args.text.now in
     let start = c.args.sign.len in
     let body = take (length t - start) (drop start t) in
