@@ -6,17 +6,17 @@ use Rattle.num_format.specs.Writing.{StopsWithin}
 use Rattle.regroup_lines.specs.Ended.{ended_by}
 use Rattle.num_format.proofs.WritingLemmas.{StopsWithin_prefix, StopsWithin_suffix}
 
--- a text, and the byte that ends it
-module _ (end : ℕ) (a b : Option (List ℕ)) (text : List ℕ) where
-  pub passed_prefix : StopsWithin a b text → StopsWithin a b (ended_by end text)
-  passed_prefix stops = StopsWithin_prefix a b text (end ∷ []) stops
+-- a text, and what is after it
+module _ (text more : List ℕ) (a b : Option (List ℕ)) where
+  pub passed_prefix : StopsWithin a b text → StopsWithin a b (text ++ more)
+  passed_prefix stops = StopsWithin_prefix a b text more stops
 
   module _ (c : Option (List ℕ)) (sent : Appends a b text) where
-    pub passed_suffix : StopsWithin b c (end ∷ []) → StopsWithin a c (ended_by end text)
-    passed_suffix stops = StopsWithin_suffix a b c text (end ∷ []) sent stops
+    pub passed_suffix : StopsWithin b c more → StopsWithin a c (text ++ more)
+    passed_suffix stops = StopsWithin_suffix a b c text more sent stops
 
-    pub passed_whole : Appends b c (end ∷ []) → Appends a c (ended_by end text)
-    passed_whole newline = Appends-trans a b c text (end ∷ []) sent newline
+    pub passed_whole : Appends b c more → Appends a c (text ++ more)
+    passed_whole sends = Appends-trans a b c text more sent sends
 
 -- a text, and the bytes around it
 module _ (before text after : List ℕ) (a b : Option (List ℕ)) where

@@ -1,30 +1,32 @@
 -- What becomes of the fields of a line, field after field.
-use Rattle.std.proofs.Common.{◌≡◌, ℕ, ◌+◌, ◌<◌, ◌≤◌, Bool, true, false, List, [], ◌∷◌, ◌++◌, length, Option, Some, None, Result, Ok, Err, if◌then◌else◌, refl, sym, ap, subst, ◌∙◌, arith, append_assoc, append-nil}
-use Rattle.std.specs.Prelude.{nat_le, nat_lt, ◌&&◌, ◌||◌, map}
+use Rattle.std.proofs.Common.{◌≡◌, ℕ, ◌+◌, ◌-◌, ◌<◌, ◌≤◌, Bool, true, false, List, [], ◌∷◌, ◌++◌, length, take, drop, Option, Some, None, Result, Ok, Err, if◌then◌else◌, refl, sym, ap, subst, ◌∙◌, arith, append_assoc, append-nil}
+use Rattle.std.specs.Prelude.{nat_le, nat_lt, ◌&&◌, ◌||◌, map, slice_range}
 use Rattle.std.specs.List.{join_with_byte}
-use Rattle.std.specs.Option.{is_some}
-use Rattle.std.specs.Result.{result_map_both, result_or}
-use Rattle.std.specs.Io.KnownBytes.{Appends}
-use Rattle.std.proofs.KnownBytes.{Appends-nil, Appends-trans}
-use Rattle.std.proofs.lemmas.Bool.{le-leb, leb-false, lt-leb, ltb-false, or_from, or_parts}
+use Rattle.std.specs.Option.{is_some, option_map, unwrap_or}
+use Rattle.std.specs.Result.{result_map_both}
+use Rattle.std.proofs.KnownBytes.{Appends-trans}
+use Rattle.std.proofs.lemmas.Bool.{le-leb, leb-false, leb-true, lt-leb, ltb-false, or_from, or_parts}
 use Rattle.std.proofs.lemmas.Bool.Decides.{Decides-ltb}
+use Rattle.std.proofs.lemmas.List.{drop-drop, drop_at, take_rest}
+use Rattle.std.proofs.lemmas.List.Folds.{drop_split}
+use lib.Seq.{take-add}
 use Rattle.num_format.specs.Format.{FormatData}
-use Rattle.num_format.specs.Writing.{Sends, StopsWithin}
 use Rattle.regroup_lines.specs.Ended.{ended_by}
 use Rattle.num_format.proofs.WritingLemmas.{StopsWithin_prefix, StopsWithin_suffix}
-use Rattle.regroup_lines.specs.Csv.{field_with}
+use Rattle.regroup_lines.specs.Csv.{before_as, before_field, field_with, output_delimiter, passed_as}
 use Rattle.regroup_lines.specs.Fault.{Fault}
-use Rattle.regroup_lines.specs.Fault.Fault.{FewFields, Write}
-use Rattle.regroup_lines.specs.Fields.{SendsIfOk, checked}
-use Rattle.regroup_lines.specs.LineFaults.{line_fault_of}
-use Rattle.regroup_lines.specs.Lines.{field_written, fields_written, with_first}
+use Rattle.regroup_lines.specs.Fault.Fault.{FewFields}
+use Rattle.regroup_lines.specs.Fields.{IsOnly, SendsOrFails, SendsUnless}
+use Rattle.regroup_lines.specs.Lines.{after, field_written, fields_of, fields_written, line_ended, quotes_of, with_first}
+use Rattle.regroup_lines.specs.Lists.{one_field}
 use Rattle.regroup_lines.specs.Places.{are_enough, field_count, is_at_most, is_chosen, is_chosen_from, is_enough}
-use Rattle.regroup_lines.specs.declared.line_fault.LineFault.{LineFault}
-use Rattle.regroup_lines.specs.declared.line_fault.LineFault.TheVariants as fault
+use Rattle.regroup_lines.specs.declared.records.Within.TheVariants.{Start}
 use Rattle.regroup_lines.specs.declared.rules.FieldRange.{FieldRange}
 use Rattle.regroup_lines.specs.declared.rules.Fields.{Fields}
+use Rattle.regroup_lines.specs.declared.rules.Output.{Output}
 use Rattle.regroup_lines.specs.declared.rules.Rules.{Rules}
-use Rattle.regroup_lines.proofs.CsvLemmas.{passed-none}
+use Rattle.regroup_lines.proofs.CsvLemmas.{delimiter-passed, passed-none}
+use Rattle.regroup_lines.proofs.RecordLemmas.{split-joined}
 
 -- a test that fails of a number fails of those above it
 at_most-later : (last : Option ℕ) (m n : ℕ) → m ≤ n → is_at_most m last ≡ false → is_at_most n last ≡ false
@@ -76,16 +78,6 @@ module _ (rules : Rules) (cs : Fields) (from to : FormatData) (number : ℕ) whe
       ap (λ chosen. with_first (field_written rules cs from to number (count + 1) chosen field) (fields_written rules cs from to number (count + 1) fields)) (chosen-none cs.list.now (count + 1) past)
       ∙ ap (with_first (Ok (field_with cs rules.line_end field None))) (fields-passed (count + 1) fields (chosen_from-later cs.list.now (count + 1) (count + 1 + 1) (omega arith) past))
 
--- a fault, or none, before others
-pub checked-later : (first : Result (List ℕ) Fault) (rest : Result (List (List ℕ)) Fault) → Ok tt ≡ checked first → checked (with_first first rest) ≡ checked rest
-checked-later (Ok text) (Ok texts) sound = refl
-checked-later (Ok text) (Err fault) sound = refl
-checked-later (Err fault) rest sound = absurd (cc)
-
-pub checked-first : (first : Result (List ℕ) Fault) (rest : Result (List (List ℕ)) Fault) (f : Fault) → Err f ≡ checked first → checked (with_first first rest) ≡ Err f
-checked-first (Ok text) rest f is = absurd (cc)
-checked-first (Err fault) rest f is = sym is
-
 -- a field that other fields may follow
 pub split-either : (end n : ℕ) (fields : List (List ℕ)) (field : List ℕ) (rest : List (List ℕ)) → end ≤ n → (end < n → fields ≡ field ∷ rest) → (end ≡ n → fields ≡ field ∷ []) →
     (later : List (List ℕ)) × (fields ≡ field ∷ later)
@@ -94,20 +86,6 @@ split-either end n fields field rest within more last = by (nat_lt end n) refl
     by : (below : Bool) → nat_lt end n ≡ below → (later : List (List ℕ)) × (fields ≡ field ∷ later)
     by true is = (rest, more ((Decides-ltb end n).0 is))
     by false is = ([], last (let over = ltb-false end n is in omega (arith, over)))
-
--- what a check found of the fields so far: the fault of the line is that of the fields from here on
-module _ (rules : Rules) (cs : Fields) (from to : FormatData) (number count : ℕ) (whole : Result (List (List ℕ)) Fault) (fields : List (List ℕ))
-    (same : checked whole ≡ checked (fields_written rules cs from to number count fields)) (field : List ℕ) (rest : List (List ℕ)) (split : fields ≡ field ∷ rest) where
-  pub check-later : Ok tt ≡ checked (field_written rules cs from to number (count + 1) (is_chosen cs.list.now (count + 1)) field) →
-      checked whole ≡ checked (fields_written rules cs from to number (count + 1) rest)
-  check-later sound =
-      same ∙ ap (λ l. checked (fields_written rules cs from to number count l)) split
-      ∙ checked-later (field_written rules cs from to number (count + 1) (is_chosen cs.list.now (count + 1)) field) (fields_written rules cs from to number (count + 1) rest) sound
-
-  pub check-first : (f : Fault) → Err f ≡ checked (field_written rules cs from to number (count + 1) (is_chosen cs.list.now (count + 1)) field) → checked whole ≡ Err f
-  check-first f is =
-      same ∙ ap (λ l. checked (fields_written rules cs from to number count l)) split
-      ∙ checked-first (field_written rules cs from to number (count + 1) (is_chosen cs.list.now (count + 1)) field) (fields_written rules cs from to number (count + 1) rest) f is
 
 -- the parts of what is written of a field and those after it
 pub record Parts (first : Result (List ℕ) Fault) (rest : Result (List (List ℕ)) Fault) (texts : List (List ℕ)) : Type 0 where
@@ -138,134 +116,261 @@ written-length rules cs from to number count (field ∷ fields) texts is some =
     let found = parts (field_written rules cs from to number (count + 1) (is_chosen cs.list.now (count + 1)) field) (fields_written rules cs from to number (count + 1) fields) texts is in
     subst (λ l. 0 < length l) (sym found.texts_are) (omega arith)
 
-written-none : (rules : Rules) (cs : Fields) (from to : FormatData) (number count : ℕ) (fields texts : List (List ℕ)) →
-    fields_written rules cs from to number count fields ≡ Ok texts → fields ≡ [] → texts ≡ []
-written-none rules cs from to number count [] texts is none = none-left (are_enough cs.list.now count) (FewFields number (field_count cs.delimiter cs.list.now count)) texts is
-written-none rules cs from to number count (field ∷ fields) texts is none = absurd (cc)
-
 -- texts with a delimiter between each two
 pub joined-more : (d : ℕ) (text : List ℕ) (texts : List (List ℕ)) → 0 < length texts → join_with_byte d (text ∷ texts) ≡ text ++ d ∷ join_with_byte d texts
 joined-more d text [] some = absurd (omega arith)
 joined-more d text (next ∷ texts) some = refl
-
--- what was sent of the fields so far, if the line has past fault: the fields from here on are left
-pub record Sent (rules : Rules) (cs : Fields) (from to : FormatData) (number d count : ℕ) (texts fields : List (List ℕ)) (old new : Option (List ℕ)) : Type 0 where
-  pub left : List (List ℕ)
-  pub left_is : fields_written rules cs from to number count fields ≡ Ok left
-  pub sent : List ℕ
-  pub joined : join_with_byte d texts ≡ sent ++ join_with_byte d left
-  pub appended : Appends old new sent
-
--- what the call that sends a field, or a delimiter, did after that
-pub SendsIfOk-ok : {T : Type 0} (first : Result (List ℕ) Fault) (text : List ℕ) (a b : Option (List ℕ)) (done : T) → first ≡ Ok text → SendsIfOk first a b (Ok done) → Appends a b text
-SendsIfOk-ok first text a b done is sends = subst (λ r. SendsIfOk r a b (Ok done)) is sends
-
-pub SendsIfOk-err : (T : Type 0) (first : Result (List ℕ) Fault) (text : List ℕ) (a b : Option (List ℕ)) (f : Fault) → first ≡ Ok text → SendsIfOk {T = T} first a b (Err f) →
-    (f ≡ Write) × StopsWithin a b text
-SendsIfOk-err T first text a b f is sends = subst (λ r. SendsIfOk {T = T} r a b (Err f)) is sends
-
--- a call that sends a text, as a call of this crate
-module _ {E : Type 0} (a b : Option (List ℕ)) (text : List ℕ) where
-  pub text-sent : (call : Result (Unit {0}) E) → Sends call a b text → (result : Result (Unit {0}) LineFault) → result ≡ result_or call (Err fault.Write) →
-      SendsIfOk (Ok text) a b (result_map_both (λ done. done) line_fault_of result)
-  text-sent (Ok done) sends result is = subst (λ r. SendsIfOk (Ok text) a b (result_map_both (λ done. done) line_fault_of r)) (sym is) sends.whole
-  text-sent (Err e) sends result is = subst (λ r. SendsIfOk (Ok text) a b (result_map_both (λ done. done) line_fault_of r)) (sym is) (refl, sends.prefix)
 
 -- a first text is at the start of the joined ones
 pub joined-first : (d : ℕ) (text : List ℕ) (later : List (List ℕ)) → (more : List ℕ) × (join_with_byte d (text ∷ later) ≡ text ++ more)
 joined-first d text [] = ([], sym (append-nil text))
 joined-first d text (next ∷ later) = (d ∷ join_with_byte d (next ∷ later), refl)
 
-module _ (rules : Rules) (cs : Fields) (from to : FormatData) (number d : ℕ) (a : Option (List ℕ)) where
-  pub Sent-none : (texts fields : List (List ℕ)) → fields_written rules cs from to number 0 fields ≡ Ok texts → Sent rules cs from to number d 0 texts fields a a
-  Sent-none texts fields is = record { left = texts; left_is = is; sent = []; joined = refl; appended = Appends-nil a }
+-- what is after a field
+abbrev pub tail_of : ℕ → List (List ℕ) → List ℕ
+tail_of d [] = []
+tail_of d (field ∷ fields) = d ∷ join_with_byte d (field ∷ fields)
 
-  module _ (count : ℕ) (texts fields : List (List ℕ)) (b : Option (List ℕ)) (so_far : Sent rules cs from to number d count texts fields a b) where
-    whole : (text : List ℕ) → join_with_byte d so_far.left ++ rules.line_end ∷ [] ≡ text → so_far.sent ++ text ≡ ended_by rules.line_end (join_with_byte d texts)
-    whole text is = ap (λ l. so_far.sent ++ l) (sym is) ∙ sym (append_assoc so_far.sent (join_with_byte d so_far.left) (rules.line_end ∷ [])) ∙ ap (ended_by rules.line_end) (sym so_far.joined)
+joined-tail : (d : ℕ) (text : List ℕ) (fields : List (List ℕ)) → join_with_byte d (text ∷ fields) ≡ text ++ tail_of d fields
+joined-tail d text [] = sym (append-nil text)
+joined-tail d text (field ∷ fields) = refl
 
-    -- a last part of the line
-    sent-last : {T : Type 0} (c : Option (List ℕ)) (text : List ℕ) (result : Result T Fault) → join_with_byte d so_far.left ++ rules.line_end ∷ [] ≡ text → SendsIfOk (Ok text) b c result →
-        SendsIfOk (Ok (ended_by rules.line_end (join_with_byte d texts))) a c result
-    sent-last c text (Ok done) is sends =
-        subst (Appends a c) (whole text is) (Appends-trans a b c so_far.sent text so_far.appended sends)
-    sent-last c text (Err f) is sends =
-        (sends.0, subst (StopsWithin a c) (whole text is) (StopsWithin_suffix a b c so_far.sent text so_far.appended sends.1))
+-- a text and the one after it, or the first fault
+abbrev pub followed : Result (List ℕ) Fault → Result (List ℕ) Fault → Result (List ℕ) Fault
+followed (Ok text) rest = after text rest
+followed (Err fault) rest = Err fault
 
-    -- all other fields are passed on
-    pub sent-rest : {T : Type 0} (c : Option (List ℕ)) (text : List ℕ) (result : Result T Fault) → cs.output ≡ None → is_chosen_from cs.list.now (count + 1) ≡ false →
-        join_with_byte d fields ≡ text → SendsIfOk (Ok (ended_by rules.line_end text)) b c result → SendsIfOk (Ok (ended_by rules.line_end (join_with_byte d texts))) a c result
-    sent-rest c text result none past split sends =
-        let left : so_far.left ≡ fields = ap texts_of (sym so_far.left_is ∙ fields-passed rules cs from to number count fields past) ∙ passed-none cs rules.line_end fields none in
-        sent-last c (ended_by rules.line_end text) result
-        (ap (ended_by rules.line_end) (ap (join_with_byte d) left ∙ split)) sends
+after-after : (p q : List ℕ) (written : Result (List ℕ) Fault) → after p (after q written) ≡ after (p ++ q) written
+after-after p q (Ok text) = ap Ok (sym (append_assoc p q text))
+after-after p q (Err fault) = refl
 
-    module _ (field : List ℕ) (rest : List (List ℕ)) (split : fields ≡ field ∷ rest) where
-      found : Parts (field_written rules cs from to number (count + 1) (is_chosen cs.list.now (count + 1)) field) (fields_written rules cs from to number (count + 1) rest) so_far.left
-      found = parts _ _ so_far.left (ap (fields_written rules cs from to number count) (sym split) ∙ so_far.left_is)
+ended-after : (e : ℕ) (p : List ℕ) (enough : Bool) (f : Fault) → after p (if enough then Ok (ended_by e []) else Err f) ≡ (if enough then Ok (ended_by e p) else Err f)
+ended-after e p true f = refl
+ended-after e p false f = refl
 
-      -- the field was sent, or not
-      pub sent-stop : (T : Type 0) (c : Option (List ℕ)) (f : Fault) →
-          SendsIfOk {T = T} (field_written rules cs from to number (count + 1) (is_chosen cs.list.now (count + 1)) field) b c (Err f) → SendsIfOk {T = T} (Ok (ended_by rules.line_end (join_with_byte d texts))) a c (Err f)
-      sent-stop T c f sends =
-          let stops = SendsIfOk-err T _ found.text b c f found.first_is sends in
-          let more = joined-first d found.text found.later in (
-            stops.0,
-            subst (StopsWithin a c) (whole _ refl)
-                (StopsWithin_suffix a b c so_far.sent _ so_far.appended
-                (StopsWithin_prefix b c _ (rules.line_end ∷ [])
-                (subst (StopsWithin b c) (sym (ap (join_with_byte d) found.texts_are ∙ more.1)) (StopsWithin_prefix b c found.text more.0 stops.1)))),
-          )
+-- a part of a line that is sent, or its fault, and what is after it: a fault there is known only where nothing is sent
+pub sent-stop : (s : Bool) (known : Type 0) (first rest : Result (List ℕ) Fault) (a b : Option (List ℕ)) (f : Fault) → ((g : Fault) → rest ≡ Err g → known → s ≡ false) →
+    SendsOrFails {T = Unit {0}} s first a b (Err f) → SendsUnless {T = Unit {0}} s known (followed first rest) a b (Err f)
+sent-stop s known (Err g) rest a b f safe sends = λ is. sends
+sent-stop false known (Ok t) rest a b f safe sends = absurd sends
+sent-stop true known (Ok t) (Ok u) a b f safe sends = (sends.0, StopsWithin_prefix a b t u sends.1)
+sent-stop true known (Ok t) (Err g) a b f safe sends = λ is. let no = safe g refl is in absurd (cc)
 
-      module _ {T : Type 0} (c : Option (List ℕ)) (done : T) (sends : SendsIfOk (field_written rules cs from to number (count + 1) (is_chosen cs.list.now (count + 1)) field) b c (Ok done)) where
-        appended : Appends a c (so_far.sent ++ found.text)
-        appended = Appends-trans a b c so_far.sent found.text so_far.appended (SendsIfOk-ok _ found.text b c done found.first_is sends)
+pub sent-then : (s : Bool) (known : Type 0) (first rest : Result (List ℕ) Fault) (a b c : Option (List ℕ)) (r : Result (Unit {0}) Fault) → ((g : Fault) → rest ≡ Err g → known → s ≡ false) →
+    SendsOrFails {T = Unit {0}} s first a b (Ok tt) → SendsUnless s known rest b c r → SendsUnless s known (followed first rest) a c r
+sent-then s known (Err g) rest a b c r safe sends more = absurd sends
+sent-then true known (Ok t) (Ok u) a b c (Ok done) safe sends more = Appends-trans a b c t u sends more
+sent-then true known (Ok t) (Ok u) a b c (Err f) safe sends more = (more.0, StopsWithin_suffix a b c t u sends more.1)
+sent-then false known (Ok t) (Ok u) a b c (Ok done) safe sends more = more ∙ sends
+sent-then false known (Ok t) (Ok u) a b c (Err f) safe sends more = more
+sent-then true known (Ok t) (Err g) a b c r safe sends more = λ is. let no = safe g refl is in absurd (cc)
+sent-then false known (Ok t) (Err g) a b c (Ok done) safe sends more = more
+sent-then false known (Ok t) (Err g) a b c (Err f) safe sends more = λ is. ((more is).0, (more is).1 ∙ sends)
 
-        last : rest ≡ [] → (so_far.sent ++ found.text) ++ rules.line_end ∷ [] ≡ ended_by rules.line_end (join_with_byte d texts)
-        last none =
-            let ends : found.later ≡ [] = written-none rules cs from to number (count + 1) rest found.later found.rest_is none in
-            ap (ended_by rules.line_end) (sym (so_far.joined ∙ ap (λ l. so_far.sent ++ join_with_byte d l) (found.texts_are ∙ ap (λ l. found.text ∷ l) ends)))
+pub sent-known : (s : Bool) (known : Type 0) (written : Result (List ℕ) Fault) (a b : Option (List ℕ)) (r : Result (Unit {0}) Fault) → SendsOrFails s written a b r → SendsUnless s known written a b r
+sent-known s known (Ok text) a b r sends = sends
+sent-known s known (Err f) a b r sends = λ is. sends
 
-        -- then the byte that ends the line, where it is the last field
-        pub sent-end : {U : Type 0} (e : Option (List ℕ)) (result : Result U Fault) → rest ≡ [] → SendsIfOk (Ok (rules.line_end ∷ [])) c e result →
-            SendsIfOk (Ok (ended_by rules.line_end (join_with_byte d texts))) a e result
-        sent-end e (Ok there) none newline =
-            subst (Appends a e) (last none) (Appends-trans a c e (so_far.sent ++ found.text) (rules.line_end ∷ []) appended newline)
-        sent-end e (Err f) none newline =
-            (newline.0, subst (StopsWithin a e) (last none) (StopsWithin_suffix a c e (so_far.sent ++ found.text) (rules.line_end ∷ []) appended newline.1))
+-- where only one field has a number, none after it has
+one-past : (one count : ℕ) → is_chosen (one_field one ∷ []) count ≡ true → is_chosen_from (one_field one ∷ []) (count + 1) ≡ false
+one-past one count chosen = by (nat_le one count) refl chosen
+  where
+    by : (low : Bool) → nat_le one count ≡ low → ((low && nat_le count one) || false) ≡ true → (nat_le (count + 1) one || false) ≡ false
+    by true is so = let low = leb-true one count is in ap (λ b. b || false) (lt-leb (count + 1) one (omega arith))
+    by false is so = absurd (cc)
 
-        -- or a delimiter
-        more : 0 < length rest → join_with_byte d texts ≡ ((so_far.sent ++ found.text) ++ d ∷ []) ++ join_with_byte d found.later
-        more some =
-            let fields = written-length rules cs from to number (count + 1) rest found.later found.rest_is some in
-            so_far.joined
-            ∙ ap (λ l. so_far.sent ++ l) (ap (join_with_byte d) found.texts_are ∙ joined-more d found.text found.later fields)
-            ∙ sym (append_assoc so_far.sent found.text (d ∷ join_with_byte d found.later))
-            ∙ sym (append_assoc (so_far.sent ++ found.text) (d ∷ []) (join_with_byte d found.later))
+-- fields that are passed on, and what is sent before one
+pub before-passed : (passed : List ℕ) → before_as None passed ≡ passed
+before-passed [] = refl
+before-passed (b ∷ passed) = refl
 
-        pub sent-next : {U : Type 0} (e : Option (List ℕ)) (there : U) → 0 < length rest → SendsIfOk (Ok (d ∷ [])) c e (Ok there) →
-            Sent rules cs from to number d (count + 1) texts rest a e
-        sent-next e there some delimiter = record {
-          left = found.later;
-          left_is = found.rest_is;
-          sent = (so_far.sent ++ found.text) ++ d ∷ [];
-          joined = more some;
-          appended = Appends-trans a c e (so_far.sent ++ found.text) (d ∷ []) appended delimiter;
-        }
+before-delimiter : (cs : Fields) (output : Option Output) → before_as output (cs.delimiter ∷ []) ≡ unwrap_or (option_map (λ (o : Output). o.delimiter) output) cs.delimiter ∷ []
+before-delimiter cs None = refl
+before-delimiter cs (Some output) = refl
 
-        pub sent-cut : (U : Type 0) (e : Option (List ℕ)) (f : Fault) → 0 < length rest → SendsIfOk {T = U} (Ok (d ∷ [])) c e (Err f) →
-            SendsIfOk {T = U} (Ok (ended_by rules.line_end (join_with_byte d texts))) a e (Err f)
-        sent-cut U e f some delimiter = (
-          delimiter.0,
-          subst (StopsWithin a e) (ap (ended_by rules.line_end) (sym (more some)))
-              (StopsWithin_prefix a e (((so_far.sent ++ found.text) ++ d ∷ []) ++ join_with_byte d found.later) (rules.line_end ∷ [])
-              (StopsWithin_prefix a e ((so_far.sent ++ found.text) ++ d ∷ []) (join_with_byte d found.later)
-              (StopsWithin_suffix a c e (so_far.sent ++ found.text) (d ∷ []) appended delimiter.1))),
-        )
+slice-more : (text : List ℕ) (a b c : ℕ) → a ≤ b → b ≤ c → slice_range text a c ≡ slice_range text a b ++ slice_range text b c
+slice-more text a b c low high =
+    let sum : c - a ≡ b - a + (c - b) = omega arith in
+    let there : a + (b - a) ≡ b = omega arith in
+    ap (λ n. take n (drop a text)) sum ∙ take-add (b - a) (c - b) (drop a text)
+    ∙ ap (λ l. slice_range text a b ++ take (c - b) l) (drop-drop (b - a) a text ∙ ap (λ n. drop n text) there)
 
--- a line without a fault, or nothing said of one at fault
-pub sends-any : {T : Type 0} (line_end d : ℕ) (written : Result (List (List ℕ)) Fault) (a b : Option (List ℕ)) (result : Result T Fault) →
-    ((texts : List (List ℕ)) → written ≡ Ok texts → SendsIfOk (Ok (ended_by line_end (join_with_byte d texts))) a b result) →
-    SendsIfOk (result_map_both (ended_by line_end) (λ fault. fault) (result_map_both (join_with_byte d) (λ fault. fault) written)) a b result
-sends-any line_end d (Ok texts) a b result each = each texts refl
-sends-any line_end d (Err fault) a b result each = tt
+module _ (rules : Rules) (cs : Fields) (from to : FormatData) (number : ℕ) where
+  abbrev d : ℕ
+  d = output_delimiter cs
+
+  abbrev few : ℕ → Fault
+  few count = FewFields number (field_count cs.delimiter cs.list.now count)
+
+  abbrev line_of : List (List ℕ) → List ℕ
+  line_of texts = ended_by rules.line_end (join_with_byte d texts)
+
+  -- the fields from one on, and the byte that ends the line
+  abbrev pub line_from : ℕ → List (List ℕ) → Result (List ℕ) Fault
+  line_from count fields = result_map_both line_of (λ fault. fault) (fields_written rules cs from to number count fields)
+
+  pub line_from-first : (fields : List (List ℕ)) →
+      after [] (line_from 0 fields) ≡ result_map_both (ended_by rules.line_end) (λ fault. fault) (result_map_both (join_with_byte d) (λ fault. fault) (fields_written rules cs from to number 0 fields))
+  line_from-first fields = by (fields_written rules cs from to number 0 fields)
+    where
+      by : (written : Result (List (List ℕ)) Fault) →
+          after [] (result_map_both line_of (λ fault. fault) written) ≡ result_map_both (ended_by rules.line_end) (λ fault. fault) (result_map_both (join_with_byte d) (λ fault. fault) written)
+      by (Ok texts) = refl
+      by (Err fault) = refl
+
+  -- those after a field
+  abbrev pub next_from : ℕ → List (List ℕ) → Result (List ℕ) Fault
+  next_from count [] = line_ended rules cs number count []
+  next_from count (field ∷ fields) = after (d ∷ []) (line_from count (field ∷ fields))
+
+  abbrev one_written : ℕ → List ℕ → Result (List ℕ) Fault
+  one_written count field = field_written rules cs from to number (count + 1) (is_chosen cs.list.now (count + 1)) field
+
+  pub line_from-next : (b : List ℕ) (count : ℕ) (field : List ℕ) (fields : List (List ℕ)) →
+      after b (line_from count (field ∷ fields)) ≡ followed (after b (one_written count field)) (next_from (count + 1) fields)
+  line_from-next b count field [] = by (one_written count field) (are_enough cs.list.now (count + 1))
+    where
+      by : (first : Result (List ℕ) Fault) (enough : Bool) → after b (result_map_both line_of (λ fault. fault) (with_first first (if enough then Ok [] else Err (few (count + 1)))))
+          ≡ followed (after b first) (if enough then Ok (ended_by rules.line_end []) else Err (few (count + 1)))
+      by (Ok t) true = ap Ok (sym (append_assoc b t (rules.line_end ∷ [])))
+      by (Ok t) false = refl
+      by (Err f) enough = refl
+  line_from-next b count field (next ∷ fields) =
+      by (one_written count field) (fields_written rules cs from to number (count + 1) (next ∷ fields)) (λ texts is. written-length rules cs from to number (count + 1) (next ∷ fields) texts is (omega arith))
+    where
+      by : (first : Result (List ℕ) Fault) (rest : Result (List (List ℕ)) Fault) → ((texts : List (List ℕ)) → rest ≡ Ok texts → 0 < length texts) →
+          after b (result_map_both line_of (λ fault. fault) (with_first first rest)) ≡ followed (after b first) (after (d ∷ []) (result_map_both line_of (λ fault. fault) rest))
+      by (Ok t) (Ok texts) some =
+          let more = join_with_byte d texts in
+          ap (λ l. Ok (b ++ ended_by rules.line_end l)) (joined-more d t texts (some texts refl))
+          ∙ ap (λ l. Ok (b ++ l)) (append_assoc t (d ∷ more) (rules.line_end ∷ [])) ∙ ap Ok (sym (append_assoc b t (d ∷ (more ++ rules.line_end ∷ []))))
+      by (Ok t) (Err f) some = refl
+      by (Err f) rest some = refl
+
+  -- a field that is passed on, and all of them
+  line_from-passed : (b : List ℕ) (count : ℕ) (field : List ℕ) (fields : List (List ℕ)) → cs.output ≡ None → is_chosen cs.list.now (count + 1) ≡ false →
+      after b (line_from count (field ∷ fields)) ≡ after (b ++ field) (next_from (count + 1) fields)
+  line_from-passed b count field fields none plain =
+      line_from-next b count field fields
+      ∙ ap (λ chosen. followed (after b (field_written rules cs from to number (count + 1) chosen field)) (next_from (count + 1) fields)) plain
+      ∙ ap (λ o. after (b ++ passed_as o cs rules.line_end field) (next_from (count + 1) fields)) none
+
+  next_from-passed : (count : ℕ) (fields : List (List ℕ)) → cs.output ≡ None → is_chosen_from cs.list.now (count + 1) ≡ false →
+      next_from count fields ≡ line_ended rules cs number count (tail_of d fields)
+  next_from-passed count [] none past = refl
+  next_from-passed count (field ∷ fields) none past =
+      ap (λ written. after (d ∷ []) (result_map_both line_of (λ fault. fault) written)) (fields-passed rules cs from to number count (field ∷ fields) past ∙ ap Ok (passed-none cs rules.line_end (field ∷ fields) none))
+      ∙ sym (ap (λ enough. if enough then Ok (ended_by rules.line_end (tail_of d (field ∷ fields))) else Err (few count)) (enough-all cs.list.now count past))
+
+  -- after a field that is written there is no fault, where it is the only one
+  pub next_from-safe : (s : Bool) (count : ℕ) (fields : List (List ℕ)) → (is_some cs.output || is_chosen cs.list.now count) ≡ true →
+      (f : Fault) → next_from count fields ≡ Err f → (s ≡ true → IsOnly cs) → s ≡ false
+  next_from-safe false count fields written f is known = refl
+  next_from-safe true count fields written f is known =
+      let only = known refl in
+      let none = only.1.2 in
+      let chosen : is_chosen cs.list.now count ≡ true = subst (λ (o : Option Output). (is_some o || is_chosen cs.list.now count) ≡ true) none written in
+      let past : is_chosen_from cs.list.now (count + 1) ≡ false =
+      ap (λ l. is_chosen_from l (count + 1)) only.1.1 ∙ one-past only.0 count (sym (ap (λ l. is_chosen l count) only.1.1) ∙ chosen) in
+      let ends : Err f ≡ Ok (ended_by rules.line_end (tail_of d fields)) =
+      sym is ∙ next_from-passed count fields none past
+      ∙ ap (λ enough. if enough then Ok (ended_by rules.line_end (tail_of d fields)) else Err (few count)) (enough-all cs.list.now count past) in
+      absurd (cc)
+
+  -- a field of a line, by what a call did with it: the fields before `sent` were sent, and it begins at `start` and is before `rest`
+  module _ (text : List ℕ) (sent start end count : ℕ) (rest : List (List ℕ)) (split : fields_of cs (drop start text) ≡ slice_range text start end ∷ rest) (low : sent ≤ start) (ordered : start ≤ end)
+      (chosen : Bool) (is : chosen ≡ is_chosen cs.list.now (count + 1)) (s : Bool) (a : Option (List ℕ)) where
+    abbrev known : Type 0
+    known = s ≡ true → IsOnly cs
+
+    abbrev so_far : Result (List ℕ) Fault
+    so_far = after (before_field cs (slice_range text sent start)) (line_from count (fields_of cs (drop start text)))
+
+    abbrev field_sent : Result (List ℕ) Fault
+    field_sent = after (before_field cs (slice_range text sent start)) (field_written rules cs from to number (count + 1) chosen (slice_range text start end))
+
+    tail : drop end text ≡ tail_of cs.delimiter rest
+    tail =
+        let field = slice_range text start end in
+        sym (drop_at field (drop end text) (length field) refl)
+        ∙ ap (drop (length field)) (sym (drop_split text start end ordered) ∙ sym (split-joined (quotes_of cs) cs.delimiter Start (drop start text)) ∙ ap (join_with_byte cs.delimiter) split ∙ joined-tail cs.delimiter field rest)
+        ∙ drop_at field (tail_of cs.delimiter rest) (length field) refl
+
+    far-next : so_far ≡ followed field_sent (next_from (count + 1) rest)
+    far-next =
+        ap (λ l. after (before_field cs (slice_range text sent start)) (line_from count l)) split
+        ∙ line_from-next (before_field cs (slice_range text sent start)) count (slice_range text start end) rest
+        ∙ ap (λ b. followed (after (before_field cs (slice_range text sent start)) (field_written rules cs from to number (count + 1) b (slice_range text start end))) (next_from (count + 1) rest)) (sym is)
+
+    far-passed : (is_some cs.output || chosen) ≡ false → so_far ≡ after (slice_range text sent end) (next_from (count + 1) rest)
+    far-passed plain =
+        let parts = unchanged cs.output chosen plain in
+        ap (λ l. after (before_field cs (slice_range text sent start)) (line_from count l)) split
+        ∙ ap (λ o. after (before_as o (slice_range text sent start)) (line_from count (slice_range text start end ∷ rest))) parts.0
+        ∙ ap (λ l. after l (line_from count (slice_range text start end ∷ rest))) (before-passed (slice_range text sent start))
+        ∙ line_from-passed (slice_range text sent start) count (slice_range text start end) rest parts.0 (sym is ∙ parts.1)
+        ∙ ap (λ l. after l (next_from (count + 1) rest)) (sym (slice-more text sent start end low ordered))
+
+    next_is : (fields : List (List ℕ)) → 0 < length fields → next_from (count + 1) fields ≡ after (d ∷ []) (line_from (count + 1) fields)
+    next_is [] none = absurd (omega arith)
+    next_is (field ∷ fields) more = refl
+
+    delimiter : 0 < length rest → slice_range text end (end + 1) ≡ cs.delimiter ∷ []
+    delimiter some =
+        let one : end + 1 - end ≡ 1 = omega arith in
+        ap (λ n. take n (drop end text)) one ∙ ap (take 1) tail ∙ by rest some
+      where
+        by : (fields : List (List ℕ)) → 0 < length fields → take 1 (tail_of cs.delimiter fields) ≡ cs.delimiter ∷ []
+        by [] none = absurd (omega arith)
+        by (field ∷ fields) more = refl
+
+    -- it is passed on, and is the last one or not
+    module _ (plain : (is_some cs.output || chosen) ≡ false) where
+      pub passed-last : rest ≡ [] → end ≡ length text → (b : Option (List ℕ)) (r : Result (Unit {0}) Fault) →
+          SendsOrFails s (line_ended rules cs number (count + 1) (slice_range text sent (length text))) a b r → SendsUnless s known so_far a b r
+      passed-last none last b r sends =
+          let ends : so_far ≡ line_ended rules cs number (count + 1) (slice_range text sent (length text)) =
+          far-passed plain ∙ ap (λ l. after (slice_range text sent end) (next_from (count + 1) l)) none
+          ∙ ended-after rules.line_end (slice_range text sent end) (are_enough cs.list.now (count + 1)) (few (count + 1))
+          ∙ ap (λ n. line_ended rules cs number (count + 1) (slice_range text sent n)) last in
+          subst (λ x. SendsUnless s known x a b r) (sym ends) (sent-known s known _ a b r sends)
+
+      pub passed-next : 0 < length rest → (b : Option (List ℕ)) (r : Result (Unit {0}) Fault) →
+          SendsUnless s known (after (before_field cs (slice_range text sent (end + 1))) (line_from (count + 1) rest)) a b r → SendsUnless s known so_far a b r
+      passed-next some b r sends =
+          let none = (unchanged cs.output chosen plain).0 in
+          let there : slice_range text sent (end + 1) ≡ slice_range text sent end ++ d ∷ [] =
+          slice-more text sent end (end + 1) (omega arith) (omega arith) ∙ ap (λ l. slice_range text sent end ++ l) (delimiter some ∙ ap (λ b. b ∷ []) (sym (delimiter-passed cs none))) in
+          let same : so_far ≡ after (before_field cs (slice_range text sent (end + 1))) (line_from (count + 1) rest) =
+          far-passed plain ∙ ap (after (slice_range text sent end)) (next_is rest some) ∙ after-after (slice_range text sent end) (d ∷ []) (line_from (count + 1) rest)
+          ∙ ap (λ l. after l (line_from (count + 1) rest)) (sym there ∙ sym (before-passed (slice_range text sent (end + 1))))
+          ∙ ap (λ o. after (before_as o (slice_range text sent (end + 1))) (line_from (count + 1) rest)) (sym none) in
+          subst (λ x. SendsUnless s known x a b r) (sym same) sends
+
+    -- it is written: it is at fault, or a write fails, it is the last one that is written, or it is not
+    module _ (written : (is_some cs.output || chosen) ≡ true) where
+      safe : (f : Fault) → next_from (count + 1) rest ≡ Err f → known → s ≡ false
+      safe = next_from-safe s (count + 1) rest (ap (λ b. is_some cs.output || b) (sym is) ∙ written)
+
+      pub written-stop : (b : Option (List ℕ)) (f : Fault) → SendsOrFails {T = Unit {0}} s field_sent a b (Err f) → SendsUnless {T = Unit {0}} s known so_far a b (Err f)
+      written-stop b f sends = subst (λ x. SendsUnless {T = Unit {0}} s known x a b (Err f)) (sym far-next) (sent-stop s known field_sent _ a b f safe sends)
+
+      module _ (b : Option (List ℕ)) (sends : SendsOrFails {T = Unit {0}} s field_sent a b (Ok tt)) (c : Option (List ℕ)) (r : Result (Unit {0}) Fault) where
+        onward : (x : Result (List ℕ) Fault) → next_from (count + 1) rest ≡ x → SendsUnless s known x b c r → SendsUnless s known so_far a c r
+        onward x same more = subst (λ y. SendsUnless s known y a c r) (sym far-next) (sent-then s known field_sent _ a b c r safe sends (subst (λ y. SendsUnless s known y b c r) (sym same) more))
+
+        ended : next_from (count + 1) rest ≡ line_ended rules cs number (count + 1) (drop end text) →
+            SendsOrFails s (line_ended rules cs number (count + 1) (take (length text - end) (drop end text))) b c r → SendsUnless s known so_far a c r
+        ended same more = onward _ (same ∙ ap (line_ended rules cs number (count + 1)) (sym (take_rest text end))) (sent-known s known _ b c r more)
+
+        pub written-last : rest ≡ [] → SendsOrFails s (line_ended rules cs number (count + 1) (take (length text - end) (drop end text))) b c r → SendsUnless s known so_far a c r
+        written-last none = ended (ap (next_from (count + 1)) none ∙ ap (line_ended rules cs number (count + 1)) (ap (tail_of cs.delimiter) (sym none) ∙ sym tail))
+
+        pub written-past : (is_some cs.output || is_chosen_from cs.list.now (count + 1 + 1)) ≡ false →
+            SendsOrFails s (line_ended rules cs number (count + 1) (take (length text - end) (drop end text))) b c r → SendsUnless s known so_far a c r
+        written-past past =
+            let parts = unchanged cs.output _ past in
+            ended (next_from-passed (count + 1) rest parts.0 parts.1 ∙ ap (line_ended rules cs number (count + 1)) (ap (λ b. tail_of b rest) (delimiter-passed cs parts.0) ∙ sym tail))
+
+        pub written-next : 0 < length rest → SendsUnless s known (after (before_field cs (slice_range text end (end + 1))) (line_from (count + 1) rest)) b c r → SendsUnless s known so_far a c r
+        written-next some = onward _ (next_is rest some ∙ ap (λ l. after l (line_from (count + 1) rest)) (sym (ap (before_field cs) (delimiter some) ∙ before-delimiter cs cs.output)))

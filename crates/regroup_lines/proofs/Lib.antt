@@ -11,7 +11,6 @@ mod ListLemmas
 mod LongLemmas
 mod MarkLemmas
 mod NumberedLemmas
-mod OneFieldLemmas
 mod PlaceLemmas
 mod ProgressLemmas
 mod RecordLemmas

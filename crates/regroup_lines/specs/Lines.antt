@@ -137,10 +137,14 @@ abbrev pub fields_replaced : Fields → Rules → FormatData → FormatData → 
 fields_replaced fields rules from to number text =
     result_map_both (join_with_byte (output_delimiter fields)) (λ fault. fault) (fields_written rules fields from to number 0 (fields_of fields text))
 
--- a line with one chosen field, which is at this place
-abbrev pub one_replaced : Fields → Rules → FormatData → FormatData → ℕ → (one : ℕ) → List ℕ → ℕ × ℕ → Result (List ℕ) Fault
-one_replaced fields rules from to number one text place =
-    result_map_both (λ field. take place.0 text ++ (field ++ drop place.1 text)) (λ fault. fault) (field_written rules fields from to number one true (slice_range text place.0 place.1))
+-- a text after these bytes
+abbrev pub after : List ℕ → Result (List ℕ) Fault → Result (List ℕ) Fault
+after bytes written = result_map_both (λ text. bytes ++ text) (λ fault. fault) written
+
+-- what ends a line of so many fields, or the fault of one with too few
+abbrev pub line_ended : Rules → Fields → (number count : ℕ) → (rest : List ℕ) → Result (List ℕ) Fault
+line_ended rules fields number count rest =
+    if are_enough fields.list.now count then Ok (ended_by rules.line_end rest) else Err (FewFields number (field_count fields.delimiter fields.list.now count))
 
 -- a line with the numbers where the rules say replaced
 abbrev pub numbers_replaced : Span → Rules → FormatData → FormatData → ℕ → List ℕ → Result (List ℕ) Fault

@@ -1,24 +1,24 @@
 //! The fields of a line, or of a record of RFC 4180: those that are chosen have a number each, which may be in quotes.
-ghost use Rattle.std.specs.Prelude.{◌≡◌, ◌≤◌, ◌<◌, ◌+◌, ◌&&◌, cond, true, [], ◌∷◌, ◌++◌, drop, length, slice_range, take, None, IfSome};
+ghost use Rattle.std.specs.Prelude.{◌≡◌, ◌≤◌, ◌<◌, ◌+◌, ◌&&◌, ◌||◌, cond, true, [], ◌∷◌, ◌++◌, drop, length, slice_range, take, None};
 ghost use Rattle.std.specs.List.{flat_map, list_any};
-ghost use Rattle.std.specs.Option.{option_map};
+ghost use Rattle.std.specs.Option.{is_some, option_map};
 ghost use Rattle.std.specs.Result.{result_map_both};
 ghost use Rattle.num_format.specs.Format.{FormatData};
 ghost use Rattle.num_format.specs.Writing.{Sends};
 ghost use Rattle.regroup_lines.specs.Ended.{ended_by};
-ghost use Rattle.regroup_lines.specs.Csv.{bare_of, doubled, enclosed, field_with, front_of, is_barred, is_opened, is_quoted, needs_quotes, number_place, output_as, part_text, placed, quoted_len, quoted_of};
-ghost use Rattle.regroup_lines.specs.Fields.{SendsIfOk, checked};
+ghost use Rattle.regroup_lines.specs.Csv.{bare_of, before_field, doubled, enclosed, field_with, front_of, is_barred, is_opened, is_quoted, needs_quotes, number_place, output_as, part_text, placed, quoted_len, quoted_of};
+ghost use Rattle.regroup_lines.specs.Fields.{IsOnly, SendsIf, SendsIfOk, SendsOrFails, SendsUnless};
 ghost use Rattle.regroup_lines.specs.LineFaults.{line_fault_of};
-ghost use Rattle.regroup_lines.specs.Lines.{field_read, field_written, fields_of, fields_replaced, fields_written, number_in_field, one_replaced};
+ghost use Rattle.regroup_lines.specs.Lines.{after, field_read, field_written, fields_of, fields_replaced, line_ended, number_in_field};
 ghost use Rattle.regroup_lines.specs.Numbers.{number_text};
-ghost use Rattle.regroup_lines.specs.Places.{field_place, place_of, trimmed};
+ghost use Rattle.regroup_lines.specs.Places.{trimmed};
 ghost use Rattle.regroup_lines.specs.Sending.{SendsLine};
 ghost use Rattle.regroup_lines.specs.declared.rules.Rules.{Rules};
 
 use crate::ends::{find_end, len_without};
 use crate::fields::Quotes::{Doubled, Plain};
 use crate::line_fault::LineFault;
-use crate::number::{Around, Number, send_whole};
+use crate::number::{Number, send_whole};
 use crate::pass_on;
 use crate::records::{QUOTE, Within};
 use crate::rules::{Fields, Output, Rules, trim};
@@ -27,7 +27,7 @@ use num_format::{Buffer, Format};
 use num_format_decimal::DecimalBuffer;
 use std::io;
 use std::io::Write;
-use std::ops::Range;
+use std::slice;
 
 /// Where the number is in a field, and whether quotes are around it.
 #[derive(Clone, Copy)]
@@ -42,6 +42,8 @@ struct Place {
 struct Frame<'f, 'a> {
     fields: Fields<'f>,
     line_end: u8,
+    /// The bytes that are passed on before the field.
+    passed: &'a [u8],
     is_quoted: bool,
     before: &'a [u8],
     after: &'a [u8],
@@ -81,151 +83,90 @@ pub(crate) fn regroup_fields<'a, W: Write, F: Format, G: Format>(
     ensures { SendsLine rules.now.line_end (fields_replaced fields.now rules.now (F.answers from.now) (G.answers to.now) number text.now)
         (W.contents w.old) (W.contents w.new) (result_map_both (λ sent. sent) line_fault_of result) }
 {
-    // One field is read once, and the bytes before it and after it are sent as they are.
     match fields.only() {
-        Some(field) => match field_place(fields, text, field - 1) {
-            Some(place) => regroup_one(rules, fields, field, place, text, number, w, from, to),
-            None => regroup_each(rules, fields, text, number, w, from, to),
-        },
-        _ => regroup_each(rules, fields, text, number, w, from, to),
-    }
-}
-
-/// Sends a line with the number in the field of this number, `one`, and at this place regrouped, and the byte that ends it.
-fn regroup_one<'a, W: Write, F: Format, G: Format>(
-    rules: &Rules,
-    fields: &Fields,
-    one: u64,
-    place: Range<usize>,
-    text: &'a [u8],
-    number: u64,
-    w: &mut W,
-    from: &F,
-    to: &G,
-) -> Result<(), LineFault<'a>>
-    requires ordered { place.start ≤ place.end }
-    requires within { place.end ≤ length text.now }
-    requires passed { fields.now.output ≡ None }
-    ensures { SendsLine rules.now.line_end (one_replaced fields.now rules.now (F.answers from.now) (G.answers to.now) number one text.now (place_of place))
-        (W.contents w.old) (W.contents w.new) (result_map_both (λ sent. sent) line_fault_of result) }
-{
-    let (start, end) = (place.start, place.end);
-    let field = &text[start..end];
-    let place = place_in(fields.quotes, field);
-    let frame = frame_of(rules, fields, place, field);
-    let around = Around {
-        before: &text[..start],
-        after: &text[end..],
-    };
-    match read_field(rules, fields.quotes, place, field, number, from) {
-        Ok(Some(value)) => send_line_with(&value, &frame, &around, w, to).or(Err(LineFault::Write)),
-        Ok(None) => pass_on(text, rules.line_end, w).or(Err(LineFault::Write)),
-        Err(fault) => Err(fault.in_field(one)),
-    }
-}
-
-/// Sends a line with the number in each chosen field regrouped: reads all of them, and reads and sends each again if none is at fault.
-fn regroup_each<'a, W: Write, F: Format, G: Format>(
-    rules: &Rules,
-    fields: &Fields,
-    text: &'a [u8],
-    number: u64,
-    w: &mut W,
-    from: &F,
-    to: &G,
-) -> Result<(), LineFault<'a>>
-    ensures { SendsLine rules.now.line_end (fields_replaced fields.now rules.now (F.answers from.now) (G.answers to.now) number text.now)
-        (W.contents w.old) (W.contents w.new) (result_map_both (λ sent. sent) line_fault_of result) }
-{
-    check_fields(rules, fields, text, number, from)?;
-    send_fields(rules, fields, text, number, w, from, to)
-}
-
-/// Returns the place of the field that so many others are before, or `None` if the line has too few.
-fn field_place(fields: &Fields, text: &[u8], before: u64) -> Option<Range<usize>>
-    ensures place { option_map place_of result ≡ field_place 0 (fields_of fields.now text.now) before }
-    ensures ordered { IfSome result (λ place. place.start ≤ place.end) }
-    ensures within { IfSome result (λ place. place.end ≤ length text.now) }
-{
-    let mut start = 0;
-    for _ in 0..before {
-        let end = field_end(fields, text, start);
-        if end == text.len() {
-            return None;
+        Some(_) => regroup_each(true, rules, fields, text, number, w, from, to),
+        None => {
+            // Of a line at fault nothing is sent, so all numbers are read first.
+            regroup_each(false, rules, fields, text, number, w, from, to)?;
+            regroup_each(true, rules, fields, text, number, w, from, to)
         }
+    }
+}
+
+/// Reads the number in each chosen field of a line and, if it `sends`, sends the line with these numbers regrouped, and the byte that ends it.
+///
+/// Bytes that are passed on are sent with those after them, once the next number is read.
+fn regroup_each<'a, W: Write, F: Format, G: Format>(
+    sends: bool,
+    rules: &Rules,
+    fields: &Fields,
+    text: &'a [u8],
+    number: u64,
+    w: &mut W,
+    from: &F,
+    to: &G,
+) -> Result<(), LineFault<'a>>
+    ensures { SendsUnless sends (sends ≡ true → IsOnly fields.now)
+        (result_map_both (ended_by rules.now.line_end) (λ fault. fault) (fields_replaced fields.now rules.now (F.answers from.now) (G.answers to.now) number text.now))
+        (W.contents w.old) (W.contents w.new) (result_map_both (λ sent. sent) line_fault_of result) }
+{
+    let (mut sent, mut start, mut count) = (0, 0, 0);
+    'fields: loop {
+        let end = field_end(fields, text, start);
+        count += 1;
+        let is_chosen = fields.contain(count);
+        if !is_written(fields, is_chosen) {
+            if end == text.len() {
+                return end_line(sends, rules, fields, count, number, &text[sent..], w);
+            }
+            start = end + 1;
+            continue;
+        }
+        let passed = &text[sent..start];
+        let field = &text[start..end];
+        regroup_field(
+            sends, rules, fields, count, is_chosen, passed, field, number, w, from, to,
+        )?;
+        if end == text.len() || !fields.change(count + 1) {
+            return end_line(sends, rules, fields, count, number, &text[end..], w);
+        }
+        sent = end;
         start = end + 1;
     }
-    Some(start..field_end(fields, text, start))
 }
 
-/// Reads the number in each chosen field of a line.
+/// Returns whether a field may be written in another way than it was read.
+#[inline]
+fn is_written(fields: &Fields, is_chosen: bool) -> bool
+    ensures { result ≡ (is_some fields.now.output || is_chosen) }
+{
+    fields.output.is_some() || is_chosen
+}
+
+/// Sends the rest of a line of so many fields, if it `sends`, and the byte that ends the line.
 ///
 /// # Errors
 ///
-/// Returns the fault of the first field at fault, or that the line has too few fields.
-fn check_fields<'a, F: Format>(
+/// Returns that the line has too few fields.
+fn end_line<W: Write>(
+    sends: bool,
     rules: &Rules,
     fields: &Fields,
-    text: &'a [u8],
+    count: u64,
     number: u64,
-    from: &F,
-) -> Result<(), LineFault<'a>>
-    ensures { (to : FormatData) → result_map_both (λ done. done) line_fault_of result
-        ≡ checked (fields_written rules.now fields.now (F.answers from.now) to number 0 (fields_of fields.now text.now)) }
-{
-    let mut start = 0;
-    let mut count = 0;
-    'fields: while fields.reach(count + 1) {
-        let end = field_end(fields, text, start);
-        count += 1;
-        let is_chosen = fields.contain(count);
-        check_field(
-            rules,
-            fields,
-            count,
-            is_chosen,
-            &text[start..end],
-            number,
-            from,
-        )?;
-        if end == text.len() {
-            return check_count(fields, count, number);
-        }
-        start = end + 1;
-    }
-    Ok(())
-}
-
-/// Sends a line without a fault, with the number in each chosen field regrouped, and the byte that ends it.
-fn send_fields<'a, W: Write, F: Format, G: Format>(
-    rules: &Rules,
-    fields: &Fields,
-    text: &'a [u8],
-    number: u64,
+    rest: &[u8],
     w: &mut W,
-    from: &F,
-    to: &G,
-) -> Result<(), LineFault<'a>>
-    ensures { SendsIfOk (result_map_both (ended_by rules.now.line_end) (λ fault. fault)
-        (fields_replaced fields.now rules.now (F.answers from.now) (G.answers to.now) number text.now))
-        (W.contents w.old) (W.contents w.new) (result_map_both (λ sent. sent) line_fault_of result) }
+) -> Result<(), LineFault<'static>>
+    ensures { SendsOrFails sends (line_ended rules.now fields.now number count rest.now) (W.contents w.old) (W.contents w.new)
+        (result_map_both (λ sent. sent) line_fault_of result) }
 {
-    let delimiter = fields.output_delimiter();
-    let mut start = 0;
-    let mut count = 0;
-    'fields: while fields.change(count + 1) {
-        let end = field_end(fields, text, start);
-        count += 1;
-        let is_chosen = fields.contain(count);
-        let field = &text[start..end];
-        send_field(rules, fields, count, is_chosen, field, number, w, from, to)?;
-        if end == text.len() {
-            return send_bytes(&[rules.line_end], w);
-        }
-        send_bytes(&[delimiter], w)?;
-        start = end + 1;
+    if !fields.are_enough(count) {
+        return Err(LineFault::FewFields(number, fields.counted(count)));
     }
-    pass_on(&text[start..], rules.line_end, w).or(Err(LineFault::Write))
+    if !sends {
+        return Ok(());
+    }
+    pass_on(rest, rules.line_end, w).or(Err(LineFault::Write))
 }
 
 /// Returns where the field ends that begins at `start`: at the next delimiter that is not in quotes, or at the end of the line.
@@ -248,87 +189,60 @@ fn field_end(fields: &Fields, text: &[u8], start: usize) -> usize
     .0
 }
 
-/// Reads the number in the field of this number, `count`, if it is chosen.
-///
-/// # Errors
-///
-/// Returns the fault of a field at fault.
-fn check_field<'a, F: Format>(
+/// Reads the number in the field of this number, `count`, if it is chosen. If it `sends`, sends the bytes that are passed on before the field,
+/// and the field with that number regrouped.
+fn regroup_field<'a, W: Write, F: Format, G: Format>(
+    sends: bool,
     rules: &Rules,
     fields: &Fields,
     count: u64,
     is_chosen: bool,
-    field: &'a [u8],
-    number: u64,
-    from: &F,
-) -> Result<(), LineFault<'a>>
-    ensures { (to : FormatData) → result_map_both (λ done. done) line_fault_of result
-        ≡ checked (field_written rules.now fields.now (F.answers from.now) to number count is_chosen field.now) }
-{
-    if !is_chosen {
-        return Ok(());
-    }
-    let place = place_in(fields.quotes, field);
-    match read_field(rules, fields.quotes, place, field, number, from) {
-        Ok(_) => Ok(()),
-        Err(fault) => Err(fault.in_field(count)),
-    }
-}
-
-/// Returns the fault of a line of so many fields, if it has too few.
-fn check_count(fields: &Fields, count: u64, number: u64) -> Result<(), LineFault<'static>>
-    ensures { (rules : Rules) (from to : FormatData) → result_map_both (λ done. done) line_fault_of result
-        ≡ checked (fields_written rules fields.now from to number count []) }
-{
-    if fields.are_enough(count) {
-        Ok(())
-    } else {
-        Err(LineFault::FewFields(number, fields.counted(count)))
-    }
-}
-
-/// Sends the field of this number, `count`, without a fault, with the number in it regrouped if it is chosen.
-fn send_field<'a, W: Write, F: Format, G: Format>(
-    rules: &Rules,
-    fields: &Fields,
-    count: u64,
-    is_chosen: bool,
+    passed: &[u8],
     field: &'a [u8],
     number: u64,
     w: &mut W,
     from: &F,
     to: &G,
 ) -> Result<(), LineFault<'a>>
-    ensures { SendsIfOk (field_written rules.now fields.now (F.answers from.now) (G.answers to.now) number count is_chosen field.now)
+    ensures { SendsOrFails sends
+        (after (before_field fields.now passed.now) (field_written rules.now fields.now (F.answers from.now) (G.answers to.now) number count is_chosen field.now))
         (W.contents w.old) (W.contents w.new) (result_map_both (λ sent. sent) line_fault_of result) }
 {
     if !is_chosen {
-        return send_unchanged(rules, fields, field, w);
+        return send_unchanged(sends, rules, fields, passed, field, w);
     }
     let place = place_in(fields.quotes, field);
-    let frame = frame_of(rules, fields, place, field);
     match read_field(rules, fields.quotes, place, field, number, from) {
-        Ok(Some(value)) => send_value(&value, &frame, w, to).or(Err(LineFault::Write)),
-        Ok(None) => send_unchanged(rules, fields, field, w),
+        Ok(Some(value)) => {
+            let frame = frame_of(rules, fields, passed, place, field);
+            send_value(sends, &value, &frame, w, to)
+        }
+        Ok(None) => send_unchanged(sends, rules, fields, passed, field, w),
         Err(fault) => Err(fault.in_field(count)),
     }
 }
 
-/// Sends a field whose text has no number.
+/// Sends a field whose text has no number, and the bytes that are passed on before it, if it `sends`.
 fn send_unchanged<W: Write>(
+    sends: bool,
     rules: &Rules,
     fields: &Fields,
+    passed: &[u8],
     field: &[u8],
     w: &mut W,
 ) -> Result<(), LineFault<'static>>
-    ensures { SendsIfOk (Ok (field_with fields.now rules.now.line_end field.now None)) (W.contents w.old) (W.contents w.new)
+    ensures { SendsIf sends (before_field fields.now passed.now ++ field_with fields.now rules.now.line_end field.now None) (W.contents w.old) (W.contents w.new)
         (result_map_both (λ sent. sent) line_fault_of result) }
 {
+    if !sends {
+        return Ok(());
+    }
     if fields.output.is_none() {
-        return send_bytes(field, w);
+        let sent = send_all(&[(Plain, passed), (Plain, field)], w);
+        return sent.or(Err(LineFault::Write));
     }
     let place = text_start(fields.quotes, field);
-    let frame = frame_of(rules, fields, place, field);
+    let frame = frame_of(rules, fields, passed, place, field);
     let sent = send_text(&frame, "", w);
     sent.or(Err(LineFault::Write))
 }
@@ -397,6 +311,7 @@ fn is_quoted(field: &[u8], start: usize, end: usize) -> bool
 fn frame_of<'f, 'a>(
     rules: &Rules,
     fields: &Fields<'f>,
+    passed: &'a [u8],
     place: Place,
     field: &'a [u8],
 ) -> Frame<'f, 'a>
@@ -404,6 +319,7 @@ fn frame_of<'f, 'a>(
     requires within { place.end ≤ length field.now }
     ensures fields { result.fields ≡ fields.now }
     ensures line_end { result.line_end ≡ rules.now.line_end }
+    ensures passed { result.passed.now ≡ passed.now }
     ensures quoted { result.is_quoted ≡ place.is_quoted }
     ensures before { result.before.now ≡ take place.start field.now }
     ensures after { result.after.now ≡ drop place.end field.now }
@@ -411,6 +327,7 @@ fn frame_of<'f, 'a>(
     Frame {
         fields: *fields,
         line_end: rules.line_end,
+        passed,
         is_quoted: place.is_quoted,
         before: &field[..place.start],
         after: &field[place.end..],
@@ -474,49 +391,50 @@ fn is_any_barred(line_end: u8, text: &[u8]) -> bool
     text.iter().any(|byte| *byte == QUOTE || *byte == line_end)
 }
 
-/// Sends a line with a number in one of its fields, what is around that field, and the byte that ends the line.
-#[tactic(auto, using(crate::proofs::AroundLemmas::around_first, crate::proofs::AroundLemmas::around_second, crate::proofs::AroundLemmas::around_third, crate::proofs::AroundLemmas::around_whole))]
-fn send_line_with<W: Write, G: Format>(
-    value: &Number,
-    frame: &Frame<'_, '_>,
-    around: &Around<'_>,
-    w: &mut W,
-    to: &G,
-) -> io::Result<()>
-    ensures { Sends result (W.contents w.old) (W.contents w.new)
-        (around.now.before.now
-        ++ (placed frame.now.fields frame.now.line_end frame.now.is_quoted frame.now.before.now frame.now.after.now (number_text (G.answers to.now) value.now)
-        ++ ended_by frame.now.line_end around.now.after.now)) }
-{
-    write_whole(around.before, w)?;
-    send_value(value, frame, w, to)?;
-    pass_on(around.after, frame.line_end, w)
-}
-
-/// Sends the text of a number, and what is around it.
+/// Sends the text of a number, and what is around it, if it `sends`.
 fn send_value<W: Write, G: Format>(
+    sends: bool,
     value: &Number,
     frame: &Frame<'_, '_>,
     w: &mut W,
     to: &G,
-) -> io::Result<()>
-    ensures { Sends result (W.contents w.old) (W.contents w.new)
-        (placed frame.now.fields frame.now.line_end frame.now.is_quoted frame.now.before.now frame.now.after.now (number_text (G.answers to.now) value.now)) }
+) -> Result<(), LineFault<'static>>
+    ensures { SendsIf sends
+        (before_field frame.now.fields frame.now.passed.now
+        ++ placed frame.now.fields frame.now.line_end frame.now.is_quoted frame.now.before.now frame.now.after.now (number_text (G.answers to.now) value.now))
+        (W.contents w.old) (W.contents w.new) (result_map_both (λ sent. sent) line_fault_of result) }
 {
-    match value {
+    if !sends {
+        return Ok(());
+    }
+    let sent = match value {
         Number::Whole(value) => send_text(frame, Buffer::of(value, to).as_str(), w),
         Number::Decimal(value) => send_text(frame, DecimalBuffer::of(value, to).as_str(), w),
-    }
+    };
+    sent.or(Err(LineFault::Write))
 }
 
-/// Sends a text, and what is around it.
+/// Sends a text, and what is around it, after the bytes that are passed on before the field.
+#[tactic(auto, using(crate::proofs::AroundLemmas::passed_prefix, crate::proofs::AroundLemmas::passed_suffix, crate::proofs::AroundLemmas::passed_whole))]
 fn send_text<W: Write>(frame: &Frame<'_, '_>, text: &str, w: &mut W) -> io::Result<()>
     ensures { Sends result (W.contents w.old) (W.contents w.new)
-        (placed frame.now.fields frame.now.line_end frame.now.is_quoted frame.now.before.now frame.now.after.now text.now) }
+        (before_field frame.now.fields frame.now.passed.now
+        ++ placed frame.now.fields frame.now.line_end frame.now.is_quoted frame.now.before.now frame.now.after.now text.now) }
 {
+    write_whole(before_field(&frame.fields, frame.passed), w)?;
     match &frame.fields.output {
         Some(output) => send_output(output, frame, text, w),
         None => send_enclosed(frame, text, w),
+    }
+}
+
+/// Returns what is sent before a field in place of the bytes since the last one that was sent: an output has its own delimiter.
+fn before_field<'a>(fields: &'a Fields, passed: &'a [u8]) -> &'a [u8]
+    ensures { result.now ≡ before_field fields.now passed.now }
+{
+    match &fields.output {
+        Some(output) if !passed.is_empty() => slice::from_ref(&output.delimiter),
+        _ => passed,
     }
 }
 

@@ -1,0 +1,25 @@
+use Rattle.std.proofs.Common.{◌≡◌, ◌-◌, ◌≤◌, ℕ, List, Option, Result, true, length, drop}
+use Rattle.std.specs.Prelude.{slice_range}
+use Rattle.std.specs.Result.{result_map_both}
+use Rattle.regroup_lines.specs.Csv.{before_field}
+use Rattle.regroup_lines.specs.Ended.{ended_by}
+use Rattle.regroup_lines.specs.Fault.{Fault}
+use Rattle.regroup_lines.specs.Fields.{IsOnly, SendsUnless}
+use Rattle.regroup_lines.specs.Lines.{after, fields_of, fields_replaced}
+use Rattle.regroup_lines.proofs.FieldLemmas.{line_from}
+use Rattle.regroup_lines.proofs.fields.regroup_each.Given as goal
+
+-- what the call does is what it does from here on of the fields from `start` on, and of the bytes from `sent` on before them
+abbrev pub invariant-fields : goal.invariant-fields
+invariant-fields g l =
+    (l.sent ≤ l.start) × (l.start ≤ length l.text) × (l.count ≤ l.start)
+    × ((c : Option (List ℕ)) (r : Result (Unit {0}) Fault) →
+    SendsUnless l.sends (l.sends ≡ true → IsOnly l.fields)
+    (after (before_field l.fields (slice_range l.text l.sent l.start)) (line_from l.rules l.fields (g.F.Format.answers l.from) (g.G.Format.answers l.to) l.number l.count (fields_of l.fields (drop l.start l.text))))
+    (g.W.Write.contents l.w) c r →
+    SendsUnless l.sends (l.sends ≡ true → IsOnly l.fields)
+    (result_map_both (ended_by l.rules.line_end) (λ fault. fault) (fields_replaced l.fields l.rules (g.F.Format.answers l.from) (g.G.Format.answers l.to) l.number l.text))
+    (g.W.Write.contents l.fn.w) c r)
+
+abbrev pub decreases-fields : goal.decreases-fields
+decreases-fields g l = length l.text - l.start
