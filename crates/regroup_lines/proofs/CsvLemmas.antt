@@ -1,48 +1,18 @@
 -- Fields that may be in quotes.
-use Rattle.std.proofs.Common.{◌≡◌, ◌≢◌, ℕ, ◌+◌, ◌<◌, Bool, true, false, List, [], ◌∷◌, ◌++◌, length, take, drop, get_or, Option, Some, None, Ok, Err, refl, sym, ap, subst, ◌∙◌, arith, take-append-drop}
-use Rattle.std.specs.Prelude.{◌&&◌, map}
-use Rattle.std.specs.List.{flat_map, list_any}
+use Rattle.std.proofs.Common.{◌≡◌, ◌≢◌, ℕ, ◌+◌, ◌<◌, true, false, List, [], ◌∷◌, ◌++◌, length, take, drop, get_or, Option, None, refl, sym, ap, subst, ◌∙◌, arith, take-append-drop}
+use Rattle.std.specs.Prelude.{map}
+use Rattle.std.specs.List.{flat_map}
 use Rattle.std.specs.Io.KnownBytes.{Appends}
 use Rattle.std.specs.Option.{option_map, unwrap_or}
-use Rattle.std.specs.Result.{result_map_both}
 use Rattle.std.proofs.lemmas.Bool.{ne_eqb}
 use Rattle.std.proofs.lemmas.Grind.{flat_map-append}
 use Rattle.std.proofs.lemmas.List.{drop-drop, drop_more}
-use Rattle.num_format.specs.Format.{FormatData}
 use Rattle.num_format.specs.Writing.{StopsWithin}
 use Rattle.num_format.proofs.WritingLemmas.{StopsWithin_prefix, StopsWithin_suffix}
-use Rattle.regroup_lines.specs.Csv.{field_with, is_barred, is_opened, is_quoted, number_place, output_delimiter, passed_as, placed, quoted_len}
-use Rattle.regroup_lines.specs.Fault.{Fault, in_field}
-use Rattle.regroup_lines.specs.Lines.{field_read, field_written, number_in_field, number_written}
-use Rattle.regroup_lines.specs.Places.{trimmed}
+use Rattle.regroup_lines.specs.Csv.{field_with, is_opened, output_delimiter, passed_as, quoted_len}
 use Rattle.regroup_lines.specs.Records.{is_quote}
 use Rattle.regroup_lines.specs.declared.rules.Fields.{Fields}
 use Rattle.regroup_lines.specs.declared.rules.Output.{Output}
-use Rattle.regroup_lines.specs.declared.rules.Rules.{Rules}
-
--- a number that was read
-pub number-read : (rules : Rules) (quotes : Bool) (from to : FormatData) (number : ℕ) (text value : List ℕ) → (quotes && list_any (is_barred rules.line_end) text) ≡ false →
-    number_written rules.reading from to number text ≡ Ok value → number_in_field rules quotes from to number text ≡ Ok (Some value)
-number-read rules quotes from to number text value none is = rw (none, is) refl
-
--- a field by what was read of it
-module _ (rules : Rules) (cs : Fields) (from to : FormatData) (number n : ℕ) (field : List ℕ) where
-  pub field-ok : (read : Option (List ℕ)) → field_read rules cs.quotes from to number field ≡ Ok read →
-      field_written rules cs from to number n true field ≡ Ok (field_with cs rules.line_end field read)
-  field-ok read is = ap (result_map_both (field_with cs rules.line_end field) (in_field n)) is
-
-  pub field-err : (fault : Fault) → field_read rules cs.quotes from to number field ≡ Err fault → field_written rules cs from to number n true field ≡ Err (in_field n fault)
-  field-err fault is = ap (result_map_both (field_with cs rules.line_end field) (in_field n)) is
-
--- a text with what is around the number in a field
-pub placed-there : (cs : Fields) (e : ℕ) (field : List ℕ) (start end : ℕ) (quoted : Bool) (before after text : List ℕ) → (start, end) ≡ number_place cs.quotes field →
-    quoted ≡ (cs.quotes && is_quoted field (trimmed field (0, length field))) → before ≡ take start field → after ≡ drop end field →
-    placed cs e quoted before after text ≡ field_with cs e field (Some text)
-placed-there cs e field start end quoted before after text place same is_before is_after =
-    ap (λ b. placed cs e b before after text) same
-    ∙ ap (λ l. placed cs e (cs.quotes && is_quoted field (trimmed field (0, length field))) l after text) is_before
-    ∙ ap (λ l. placed cs e (cs.quotes && is_quoted field (trimmed field (0, length field))) (take start field) l text) is_after
-    ∙ ap (λ p. placed cs e (cs.quotes && is_quoted field (trimmed field (0, length field))) (take p.0 field) (drop p.1 field) text) place
 
 -- fields that are passed on as they are, and the byte between two
 pub delimiter-passed : (cs : Fields) → cs.output ≡ None → output_delimiter cs ≡ cs.delimiter

@@ -87,34 +87,11 @@ split-either end n fields field rest within more last = by (nat_lt end n) refl
     by true is = (rest, more ((Decides-ltb end n).0 is))
     by false is = ([], last (let over = ltb-false end n is in omega (arith, over)))
 
--- the parts of what is written of a field and those after it
-pub record Parts (first : Result (List ℕ) Fault) (rest : Result (List (List ℕ)) Fault) (texts : List (List ℕ)) : Type 0 where
-  pub text : List ℕ
-  pub later : List (List ℕ)
-  pub first_is : first ≡ Ok text
-  pub rest_is : rest ≡ Ok later
-  pub texts_are : texts ≡ text ∷ later
-
-abbrev pub texts_of : Result (List (List ℕ)) Fault → List (List ℕ)
-texts_of (Ok texts) = texts
-texts_of (Err fault) = []
-
-pub parts : (first : Result (List ℕ) Fault) (rest : Result (List (List ℕ)) Fault) (texts : List (List ℕ)) → with_first first rest ≡ Ok texts → Parts first rest texts
-parts (Ok text) (Ok later) texts is = record { text = text; later = later; first_is = refl; rest_is = refl; texts_are = sym (ap texts_of is) }
-parts (Ok text) (Err fault) texts is = absurd (cc)
-parts (Err fault) rest texts is = absurd (cc)
-
-pub none-left : (enough : Bool) (f : Fault) (texts : List (List ℕ)) → (if enough then Ok [] else Err f) ≡ Ok texts → texts ≡ []
-none-left true f texts is = sym (ap texts_of is)
-none-left false f texts is = absurd (cc)
-
--- as many texts are written as there are fields
-written-length : (rules : Rules) (cs : Fields) (from to : FormatData) (number count : ℕ) (fields texts : List (List ℕ)) →
-    fields_written rules cs from to number count fields ≡ Ok texts → 0 < length fields → 0 < length texts
-written-length rules cs from to number count [] texts is some = absurd (omega arith)
-written-length rules cs from to number count (field ∷ fields) texts is some =
-    let found = parts (field_written rules cs from to number (count + 1) (is_chosen cs.list.now (count + 1)) field) (fields_written rules cs from to number (count + 1) fields) texts is in
-    subst (λ l. 0 < length l) (sym found.texts_are) (omega arith)
+-- some text is written where there is a field
+written-some : (first : Result (List ℕ) Fault) (rest : Result (List (List ℕ)) Fault) (texts : List (List ℕ)) → with_first first rest ≡ Ok texts → 0 < length texts
+written-some (Ok text) (Ok later) texts is = let same : text ∷ later ≡ texts = cc in subst (λ l. 0 < length l) same (omega arith)
+written-some (Ok text) (Err fault) texts is = absurd (cc)
+written-some (Err fault) rest texts is = absurd (cc)
 
 -- texts with a delimiter between each two
 pub joined-more : (d : ℕ) (text : List ℕ) (texts : List (List ℕ)) → 0 < length texts → join_with_byte d (text ∷ texts) ≡ text ++ d ∷ join_with_byte d texts
@@ -236,7 +213,7 @@ module _ (rules : Rules) (cs : Fields) (from to : FormatData) (number : ℕ) whe
       by (Ok t) false = refl
       by (Err f) enough = refl
   line_from-next b count field (next ∷ fields) =
-      by (one_written count field) (fields_written rules cs from to number (count + 1) (next ∷ fields)) (λ texts is. written-length rules cs from to number (count + 1) (next ∷ fields) texts is (omega arith))
+      by (one_written count field) (fields_written rules cs from to number (count + 1) (next ∷ fields)) (written-some _ _)
     where
       by : (first : Result (List ℕ) Fault) (rest : Result (List (List ℕ)) Fault) → ((texts : List (List ℕ)) → rest ≡ Ok texts → 0 < length texts) →
           after b (result_map_both line_of (λ fault. fault) (with_first first rest)) ≡ followed (after b first) (after (d ∷ []) (result_map_both line_of (λ fault. fault) rest))

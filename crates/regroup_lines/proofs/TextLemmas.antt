@@ -1,7 +1,7 @@
 -- The number in the text of a line.
-use Rattle.std.proofs.Common.{◌≡◌, ℕ, Bool, true, false, List, Option, None, Result, Ok, Err, refl, sym, ap, subst}
+use Rattle.std.proofs.Common.{◌≡◌, ℕ, Bool, true, false, List, None, Result, Ok, Err, refl, sym, ap}
 use Rattle.std.specs.Prelude.{ℤ, IsUtf8, ◌↔◌}
-use Rattle.std.specs.Result.{result_map_both, result_or}
+use Rattle.std.specs.Result.{result_map_both}
 use Rattle.std.specs.Str.{is_utf8}
 use Rattle.std.proofs.lemmas.Bool.{false_from_ne_true}
 use Rattle.std.proofs.lemmas.Str.{IsUtf8-from_is_utf8, is_utf8-from_IsUtf8}
@@ -15,16 +15,11 @@ use Rattle.num_format_decimal.specs.FixedPoint.{FixedPoint}
 use Rattle.num_format_decimal.specs.Parsing.{ParsesDecimal}
 use Rattle.num_format_decimal.specs.Text.{decimal_text}
 use Rattle.num_format_decimal.specs.declared.parsing.ParseDecimalError.{ParseDecimalError}
-use Rattle.num_format.specs.Writing.{Sends}
-use Rattle.regroup_lines.specs.Ended.{ended_by}
 use Rattle.num_format.proofs.ReadableLemmas.{readable-from_accepted, unreadable-from_refused}
 use Rattle.regroup_lines.specs.Decimals.{decimal_read}
 use Rattle.regroup_lines.specs.Fault.{Fault}
-use Rattle.regroup_lines.specs.Fault.Fault.{Write}
-use Rattle.regroup_lines.specs.LineFaults.{line_fault_of, text_fault}
+use Rattle.regroup_lines.specs.LineFaults.{text_fault}
 use Rattle.regroup_lines.specs.Lines.{number_in_text, number_written}
-use Rattle.regroup_lines.specs.Sending.{SendsLine}
-use Rattle.regroup_lines.specs.declared.line_fault.LineFault.{LineFault}
 use Rattle.regroup_lines.specs.declared.line_fault.LineFault.TheVariants as fault
 use Rattle.regroup_lines.specs.declared.rules.Reading.TheVariants.{Lenient, Strict}
 use Rattle.regroup_lines.proofs.DecimalLemmas.{decimal_read-parsed, decimal_read-refused, parsed-utf8}
@@ -44,28 +39,6 @@ module _ (from : FormatData) (number : ℕ) (text : List ℕ) where
   number_in_text-refused NotANumber invalid cause =
       let parsed : IsUtf8 text × Refused (signed 127 40) from text = cause refl in
       rw (is_utf8-from_IsUtf8 text parsed.0, false_from_ne_true _ (unreadable-from_refused from text parsed.1)) refl
-
-  -- a fault in place of a line
-  pub sends-fault : (line_end : ℕ) (written : Result (List ℕ) Fault) (s : Option (List ℕ)) (f : Fault) → written ≡ Err f → SendsLine {T = Unit {0}} line_end written s s (Err f)
-  sends-fault line_end written s f is = subst (λ n. SendsLine {T = Unit {0}} line_end n s s (Err f)) (sym is) (refl, refl)
-
--- a line that is sent, by a call with faults of any type
-module _ {E F : Type 0} (of : F → Fault) (failed : F) (is_write : of failed ≡ Write) (line_end : ℕ) (a b : Option (List ℕ)) where
-  sent : (text : List ℕ) (call : Result (Unit {0}) E) → Sends call a b (ended_by line_end text) →
-      SendsLine line_end (Ok text) a b (result_map_both (λ done. done) of (result_or call (Err failed)))
-  sent text (Ok done) sends = sends.whole
-  sent text (Err e) sends = (is_write, sends.prefix)
-
-  pub sends-line_by : (written : Result (List ℕ) Fault) (text : List ℕ) → written ≡ Ok text → (call : Result (Unit {0}) E) → Sends call a b (ended_by line_end text) →
-      (result : Result (Unit {0}) F) → result ≡ result_or call (Err failed) → SendsLine line_end written a b (result_map_both (λ done. done) of result)
-  sends-line_by written text is call sends result returned =
-      subst (λ q. SendsLine line_end written a b (result_map_both (λ done. done) of q)) (sym returned)
-      (subst (λ q. SendsLine line_end q a b (result_map_both (λ done. done) of (result_or call (Err failed)))) (sym is) (sent text call sends))
-
-pub sends-line : {E : Type 0} (line_end : ℕ) (a b : Option (List ℕ)) (written : Result (List ℕ) Fault) (text : List ℕ) → written ≡ Ok text → (call : Result (Unit {0}) E) →
-    Sends call a b (ended_by line_end text) → (result : Result (Unit {0}) LineFault) → result ≡ result_or call (Err fault.Write) →
-    SendsLine line_end written a b (result_map_both (λ done. done) line_fault_of result)
-sends-line line_end a b = sends-line_by line_fault_of fault.Write refl line_end a b
 
 -- the text of a number that is read strictly
 module _ (from to : FormatData) (number : ℕ) (text : List ℕ) where

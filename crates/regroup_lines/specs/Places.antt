@@ -1,5 +1,5 @@
 -- Where the number is in a text, and which fields of a line have one. A place is from the first of two numbers on and before the second.
-use Rattle.std.specs.Prelude.{ℕ, zero, suc, ◌+◌, ◌-◌, max, nat_le, Bool, true, ◌&&◌, List, [], ◌∷◌, length, slice_range, Option, None, Some}
+use Rattle.std.specs.Prelude.{ℕ, ◌+◌, ◌-◌, max, nat_le, Bool, true, ◌&&◌, List, slice_range, Option, None, Some}
 use Rattle.std.specs.Char.{is_ascii_whitespace}
 use Rattle.std.specs.List.{fold, list_all, list_any, prefix_len, suffix_len}
 use Rattle.std.specs.Option.{unwrap_or}
@@ -53,9 +53,3 @@ wanted list = fold (λ most range. max most (wanted_of range)) 0 list
 -- what is counted of a line of so many fields, with this byte between two
 abbrev pub field_count : (delimiter : ℕ) → List FieldRange → ℕ → FieldCount
 field_count delimiter list found = record { found = found; wanted = wanted list; delimiter = delimiter }
-
--- where the field is that so many others are before, if the first of the fields begins at this place and one byte is between two
-unfoldable pub field_place : (start : ℕ) → List (List ℕ) → (before : ℕ) → Option (ℕ × ℕ)
-field_place start [] before = None
-field_place start (field ∷ fields) zero = Some (start, start + length field)
-field_place start (field ∷ fields) (suc before) = field_place (start + length field + 1) fields before

@@ -9,7 +9,7 @@ ghost use Rattle.regroup_lines.specs.Ended.{ended_by};
 ghost use Rattle.regroup_lines.specs.Csv.{bare_of, before_field, doubled, enclosed, field_with, front_of, is_barred, is_opened, is_quoted, needs_quotes, number_place, output_as, part_text, placed, quoted_len, quoted_of};
 ghost use Rattle.regroup_lines.specs.Fields.{IsOnly, SendsIf, SendsIfOk, SendsOrFails, SendsUnless};
 ghost use Rattle.regroup_lines.specs.LineFaults.{line_fault_of};
-ghost use Rattle.regroup_lines.specs.Lines.{after, field_read, field_written, fields_of, fields_replaced, line_ended, number_in_field};
+ghost use Rattle.regroup_lines.specs.Lines.{after, field_read, field_written, fields_of, fields_replaced, line_ended};
 ghost use Rattle.regroup_lines.specs.Numbers.{number_text};
 ghost use Rattle.regroup_lines.specs.Places.{trimmed};
 ghost use Rattle.regroup_lines.specs.Sending.{SendsLine};
@@ -25,9 +25,8 @@ use crate::rules::{Fields, Output, Rules, trim};
 use num_format::to_formatted_string::write_whole;
 use num_format::{Buffer, Format};
 use num_format_decimal::DecimalBuffer;
-use std::io;
 use std::io::Write;
-use std::slice;
+use std::{io, slice};
 
 /// Where the number is in a field, and whether quotes are around it.
 #[derive(Clone, Copy)]
@@ -47,17 +46,6 @@ struct Frame<'f, 'a> {
     is_quoted: bool,
     before: &'a [u8],
     after: &'a [u8],
-}
-
-/// The text of a field around its number, without the quotes around it.
-#[derive(Clone, Copy)]
-struct Inner<'a> {
-    /// What is before the number.
-    front: &'a [u8],
-    /// What is after it in the quotes, where each quote is doubled.
-    quoted: &'a [u8],
-    /// What is after these.
-    bare: &'a [u8],
 }
 
 /// How the quotes of a text are sent.
@@ -334,7 +322,8 @@ fn frame_of<'f, 'a>(
     }
 }
 
-/// Reads the number at a place of a field. Returns `None` if it has no byte and that is no fault.
+/// Reads the number at a place of a field. Returns `None` if it has no byte and that is no fault. Where fields may be in quotes, no number has
+/// a quote or a line end.
 ///
 /// # Errors
 ///
@@ -357,24 +346,7 @@ fn read_field<'a, F: Format>(
     if rules.passes_empty && start == end {
         return Ok(None);
     }
-    read_number(rules, quotes, &field[start..end], number, from)
-}
-
-/// Reads the number that a text is. Where fields may be in quotes, none has a quote or a line end.
-///
-/// # Errors
-///
-/// Returns the fault of a text that does not parse.
-fn read_number<'a, F: Format>(
-    rules: &Rules,
-    quotes: bool,
-    text: &'a [u8],
-    number: u64,
-    from: &F,
-) -> Result<Option<Number>, LineFault<'a>>
-    ensures { (to : FormatData) → result_map_both (option_map (number_text to)) line_fault_of result
-        ≡ number_in_field rules.now quotes (F.answers from.now) to number text.now }
-{
+    let text = &field[start..end];
     if quotes && is_any_barred(rules.line_end, text) {
         return Err(LineFault::NotANumber(number, text));
     }
@@ -484,11 +456,7 @@ fn send_output<W: Write>(
 {
     let text = text.as_bytes();
     let (after, end) = frame.after.split_at(len_without(b'\r', frame.after));
-    let Inner {
-        front,
-        quoted,
-        bare,
-    } = text_around(frame.is_quoted, frame.before, after);
+    let (front, quoted, bare) = text_around(frame.is_quoted, frame.before, after);
     let is_kept = frame.is_quoted && output.quoting.keeps();
     if is_kept
         || any_part_needs_quotes(
@@ -523,25 +491,22 @@ fn send_output<W: Write>(
     }
 }
 
-/// Returns the text of a field around its number, of which these bytes are before it and after it.
-fn text_around<'a>(is_quoted: bool, before: &'a [u8], after: &'a [u8]) -> Inner<'a>
-    ensures front { result.front.now ≡ front_of is_quoted before.now }
-    ensures quoted { result.quoted.now ≡ quoted_of is_quoted after.now }
-    ensures bare { result.bare.now ≡ bare_of is_quoted after.now }
+/// Returns the text of a field around its number, of which these bytes are before it and after it, without the quotes around the field: what is
+/// before the number, what is after it in the quotes, where each quote is doubled, and what is after these.
+fn text_around<'a>(
+    is_quoted: bool,
+    before: &'a [u8],
+    after: &'a [u8],
+) -> (&'a [u8], &'a [u8], &'a [u8])
+    ensures front { result.0.now ≡ front_of is_quoted before.now }
+    ensures quoted { result.1.now ≡ quoted_of is_quoted after.now }
+    ensures bare { result.2.now ≡ bare_of is_quoted after.now }
 {
     if !is_quoted {
-        return Inner {
-            front: before,
-            quoted: &[],
-            bare: after,
-        };
+        return (before, &[], after);
     }
     let (quoted, rest) = after.split_at(quoted_len(after));
-    Inner {
-        front: without_first(before),
-        quoted,
-        bare: without_first(rest),
-    }
+    (without_first(before), quoted, without_first(rest))
 }
 
 /// Returns how many bytes are before the quote that closes a field, of those after the one that opens it.
