@@ -93,22 +93,12 @@ written-some (Ok text) (Ok later) texts is = let same : text ∷ later ≡ texts
 written-some (Ok text) (Err fault) texts is = absurd (cc)
 written-some (Err fault) rest texts is = absurd (cc)
 
--- texts with a delimiter between each two
-pub joined-more : (d : ℕ) (text : List ℕ) (texts : List (List ℕ)) → 0 < length texts → join_with_byte d (text ∷ texts) ≡ text ++ d ∷ join_with_byte d texts
-joined-more d text [] some = absurd (omega arith)
-joined-more d text (next ∷ texts) some = refl
-
--- a first text is at the start of the joined ones
-pub joined-first : (d : ℕ) (text : List ℕ) (later : List (List ℕ)) → (more : List ℕ) × (join_with_byte d (text ∷ later) ≡ text ++ more)
-joined-first d text [] = ([], sym (append-nil text))
-joined-first d text (next ∷ later) = (d ∷ join_with_byte d (next ∷ later), refl)
-
 -- what is after a field
 abbrev pub tail_of : ℕ → List (List ℕ) → List ℕ
 tail_of d [] = []
 tail_of d (field ∷ fields) = d ∷ join_with_byte d (field ∷ fields)
 
-joined-tail : (d : ℕ) (text : List ℕ) (fields : List (List ℕ)) → join_with_byte d (text ∷ fields) ≡ text ++ tail_of d fields
+pub joined-tail : (d : ℕ) (text : List ℕ) (fields : List (List ℕ)) → join_with_byte d (text ∷ fields) ≡ text ++ tail_of d fields
 joined-tail d text [] = sym (append-nil text)
 joined-tail d text (field ∷ fields) = refl
 
@@ -217,10 +207,10 @@ module _ (rules : Rules) (cs : Fields) (from to : FormatData) (number : ℕ) whe
     where
       by : (first : Result (List ℕ) Fault) (rest : Result (List (List ℕ)) Fault) → ((texts : List (List ℕ)) → rest ≡ Ok texts → 0 < length texts) →
           after b (result_map_both line_of (λ fault. fault) (with_first first rest)) ≡ followed (after b first) (after (d ∷ []) (result_map_both line_of (λ fault. fault) rest))
-      by (Ok t) (Ok texts) some =
-          let more = join_with_byte d texts in
-          ap (λ l. Ok (b ++ ended_by rules.line_end l)) (joined-more d t texts (some texts refl))
-          ∙ ap (λ l. Ok (b ++ l)) (append_assoc t (d ∷ more) (rules.line_end ∷ [])) ∙ ap Ok (sym (append_assoc b t (d ∷ (more ++ rules.line_end ∷ []))))
+      by (Ok t) (Ok []) some = absurd (let none = some [] refl in omega arith)
+      by (Ok t) (Ok (u ∷ texts)) some =
+          let more = join_with_byte d (u ∷ texts) in
+          ap (λ l. Ok (b ++ l)) (append_assoc t (d ∷ more) (rules.line_end ∷ [])) ∙ ap Ok (sym (append_assoc b t (d ∷ (more ++ rules.line_end ∷ []))))
       by (Ok t) (Err f) some = refl
       by (Err f) rest some = refl
 

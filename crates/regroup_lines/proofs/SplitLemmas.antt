@@ -20,7 +20,7 @@ use Rattle.regroup_lines.specs.declared.rules.Rules.{Rules}
 use Rattle.regroup_lines.specs.declared.rules.Span.{Span}
 use Rattle.regroup_lines.specs.declared.rules.Span.TheVariants as span
 use Rattle.regroup_lines.proofs.RecordLemmas.{split-append, split-joined, split-some}
-use Rattle.regroup_lines.proofs.FieldLemmas.{and_false, joined-first}
+use Rattle.regroup_lines.proofs.FieldLemmas.{and_false, joined-tail, tail_of}
 use Rattle.regroup_lines.proofs.WriterLemmas.{are_any-append, joined-assoc}
 use Rattle.regroup_lines.proofs.NumberedLemmas.{body-numbered, numbered, with_number}
 
@@ -113,9 +113,8 @@ IsPlain (text ∷ parts) = begins_with_mark text ≡ false
 plain-parts : (end : ℕ) (bytes : List ℕ) (parts : List (List ℕ)) → join_with_byte end parts ≡ bytes → begins_with_mark bytes ≡ false → IsPlain parts
 plain-parts end bytes [] whole plain = tt
 plain-parts end bytes (text ∷ parts) whole plain =
-    let first = joined-first end text parts in
     false_from_ne_true (begins_with_mark text)
-    (λ yes. both_ways (begins_with_mark bytes) plain (ap begins_with_mark (sym whole ∙ first.1) ∙ mark-more text first.0 yes))
+    (λ yes. both_ways (begins_with_mark bytes) plain (ap begins_with_mark (sym whole ∙ joined-tail end text parts) ∙ mark-more text (tail_of end parts) yes))
 
 -- a run over some lines, and the same run with a number of lines before it
 record Shifts (all part : Regrouped) (before total : ℕ) : Type 0 where
