@@ -36,18 +36,6 @@ struct Place {
     is_quoted: bool,
 }
 
-/// What is around the number in a field.
-#[derive(Clone, Copy)]
-struct Frame<'f, 'a> {
-    fields: Fields<'f>,
-    line_end: u8,
-    /// The bytes that are passed on before the field.
-    passed: &'a [u8],
-    is_quoted: bool,
-    before: &'a [u8],
-    after: &'a [u8],
-}
-
 /// How the quotes of a text are sent.
 #[derive(Clone, Copy)]
 enum Quotes {
@@ -201,10 +189,7 @@ fn regroup_field<'a, W: Write, F: Format, G: Format>(
     }
     let place = place_in(fields.quotes, field);
     match read_field(rules, fields.quotes, place, field, number, from) {
-        Ok(Some(value)) => {
-            let frame = frame_of(rules, fields, passed, place, field);
-            send_value(sends, &value, &frame, w, to)
-        }
+        Ok(Some(value)) => send_value(sends, rules, fields, passed, field, place, &value, w, to),
         Ok(None) => send_unchanged(sends, rules, fields, passed, field, w),
         Err(fault) => Err(fault.in_field(count)),
     }
@@ -230,8 +215,7 @@ fn send_unchanged<W: Write>(
         return sent.or(Err(LineFault::Write));
     }
     let place = text_start(fields.quotes, field);
-    let frame = frame_of(rules, fields, passed, place, field);
-    let sent = send_text(&frame, "", w);
+    let sent = send_text(rules, fields, passed, field, place, "", w);
     sent.or(Err(LineFault::Write))
 }
 
@@ -295,33 +279,6 @@ fn is_quoted(field: &[u8], start: usize, end: usize) -> bool
     start == 0 && end >= 2 && field[0] == QUOTE && field[end - 1] == QUOTE
 }
 
-/// Returns what is around the number at a place of a field.
-fn frame_of<'f, 'a>(
-    rules: &Rules,
-    fields: &Fields<'f>,
-    passed: &'a [u8],
-    place: Place,
-    field: &'a [u8],
-) -> Frame<'f, 'a>
-    requires ordered { place.start ≤ place.end }
-    requires within { place.end ≤ length field.now }
-    ensures fields { result.fields ≡ fields.now }
-    ensures line_end { result.line_end ≡ rules.now.line_end }
-    ensures passed { result.passed.now ≡ passed.now }
-    ensures quoted { result.is_quoted ≡ place.is_quoted }
-    ensures before { result.before.now ≡ take place.start field.now }
-    ensures after { result.after.now ≡ drop place.end field.now }
-{
-    Frame {
-        fields: *fields,
-        line_end: rules.line_end,
-        passed,
-        is_quoted: place.is_quoted,
-        before: &field[..place.start],
-        after: &field[place.end..],
-    }
-}
-
 /// Reads the number at a place of a field. Returns `None` if it has no byte and that is no fault. Where fields may be in quotes, no number has
 /// a quote or a line end.
 ///
@@ -363,40 +320,65 @@ fn is_any_barred(line_end: u8, text: &[u8]) -> bool
     text.iter().any(|byte| *byte == QUOTE || *byte == line_end)
 }
 
-/// Sends the text of a number, and what is around it, if it `sends`.
+/// Sends a field with the text of a number at this place, and the bytes that are passed on before it, if it `sends`.
 fn send_value<W: Write, G: Format>(
     sends: bool,
+    rules: &Rules,
+    fields: &Fields,
+    passed: &[u8],
+    field: &[u8],
+    place: Place,
     value: &Number,
-    frame: &Frame<'_, '_>,
     w: &mut W,
     to: &G,
 ) -> Result<(), LineFault<'static>>
+    requires ordered { place.start ≤ place.end }
+    requires within { place.end ≤ length field.now }
     ensures { SendsIf sends
-        (before_field frame.now.fields frame.now.passed.now
-        ++ placed frame.now.fields frame.now.line_end frame.now.is_quoted frame.now.before.now frame.now.after.now (number_text (G.answers to.now) value.now))
+        (before_field fields.now passed.now
+        ++ placed fields.now rules.now.line_end place.is_quoted (take place.start field.now) (drop place.end field.now) (number_text (G.answers to.now) value.now))
         (W.contents w.old) (W.contents w.new) (result_map_both (λ sent. sent) line_fault_of result) }
 {
     if !sends {
         return Ok(());
     }
     let sent = match value {
-        Number::Whole(value) => send_text(frame, Buffer::of(value, to).as_str(), w),
-        Number::Decimal(value) => send_text(frame, DecimalBuffer::of(value, to).as_str(), w),
+        Number::Whole(value) => {
+            let text = Buffer::of(value, to);
+            send_text(rules, fields, passed, field, place, text.as_str(), w)
+        }
+        Number::Decimal(value) => {
+            let text = DecimalBuffer::of(value, to);
+            send_text(rules, fields, passed, field, place, text.as_str(), w)
+        }
     };
     sent.or(Err(LineFault::Write))
 }
 
-/// Sends a text, and what is around it, after the bytes that are passed on before the field.
+/// Sends a field with a text at this place, after the bytes that are passed on before it.
 #[tactic(auto, using(crate::proofs::AroundLemmas::passed_prefix, crate::proofs::AroundLemmas::passed_suffix, crate::proofs::AroundLemmas::passed_whole))]
-fn send_text<W: Write>(frame: &Frame<'_, '_>, text: &str, w: &mut W) -> io::Result<()>
+fn send_text<W: Write>(
+    rules: &Rules,
+    fields: &Fields,
+    passed: &[u8],
+    field: &[u8],
+    place: Place,
+    text: &str,
+    w: &mut W,
+) -> io::Result<()>
+    requires ordered { place.start ≤ place.end }
+    requires within { place.end ≤ length field.now }
     ensures { Sends result (W.contents w.old) (W.contents w.new)
-        (before_field frame.now.fields frame.now.passed.now
-        ++ placed frame.now.fields frame.now.line_end frame.now.is_quoted frame.now.before.now frame.now.after.now text.now) }
+        (before_field fields.now passed.now
+        ++ placed fields.now rules.now.line_end place.is_quoted (take place.start field.now) (drop place.end field.now) text.now) }
 {
-    write_whole(before_field(&frame.fields, frame.passed), w)?;
-    match &frame.fields.output {
-        Some(output) => send_output(output, frame, text, w),
-        None => send_enclosed(frame, text, w),
+    write_whole(before_field(fields, passed), w)?;
+    let (before, _) = field.split_at(place.start);
+    let (_, after) = field.split_at(place.end);
+    let (line_end, text) = (rules.line_end, text.as_bytes());
+    match &fields.output {
+        Some(output) => send_output(output, line_end, place.is_quoted, before, after, text, w),
+        None => send_enclosed(fields, line_end, place.is_quoted, before, after, text, w),
     }
 }
 
@@ -411,30 +393,29 @@ fn before_field<'a>(fields: &'a Fields, passed: &'a [u8]) -> &'a [u8]
 }
 
 /// Sends a text of a field that is passed on but for its number, and what is around it.
-fn send_enclosed<'a, W: Write>(frame: &Frame<'_, 'a>, text: &'a str, w: &mut W) -> io::Result<()>
-    ensures { Sends result (W.contents w.old) (W.contents w.new)
-        (enclosed frame.now.fields frame.now.line_end frame.now.is_quoted frame.now.before.now frame.now.after.now text.now) }
+fn send_enclosed<'a, W: Write>(
+    fields: &Fields,
+    line_end: u8,
+    is_quoted: bool,
+    before: &'a [u8],
+    after: &'a [u8],
+    text: &'a [u8],
+    w: &mut W,
+) -> io::Result<()>
+    ensures { Sends result (W.contents w.old) (W.contents w.new) (enclosed fields.now line_end is_quoted before.now after.now text.now) }
 {
-    let text = text.as_bytes();
-    let delimiter = frame.fields.delimiter;
-    if !frame.fields.quotes || !any_needs_quotes(delimiter, frame.line_end, text) {
-        return send_all(
-            &[(Plain, frame.before), (Plain, text), (Plain, frame.after)],
-            w,
-        );
+    if !fields.quotes || !any_needs_quotes(fields.delimiter, line_end, text) {
+        return send_all(&[(Plain, before), (Plain, text), (Plain, after)], w);
     }
-    if frame.is_quoted {
-        return send_all(
-            &[(Plain, frame.before), (Doubled, text), (Plain, frame.after)],
-            w,
-        );
+    if is_quoted {
+        return send_all(&[(Plain, before), (Doubled, text), (Plain, after)], w);
     }
     // A last carriage return may end the line.
-    let (blanks, end) = frame.after.split_at(len_without(b'\r', frame.after));
+    let (blanks, end) = after.split_at(len_without(b'\r', after));
     send_all(
         &[
             (Plain, b"\""),
-            (Plain, frame.before),
+            (Plain, before),
             (Doubled, text),
             (Plain, blanks),
             (Plain, b"\""),
@@ -445,26 +426,22 @@ fn send_enclosed<'a, W: Write>(frame: &Frame<'_, 'a>, text: &'a str, w: &mut W) 
 }
 
 /// Sends a text of a field as an output has it, and what is around it.
-fn send_output<W: Write>(
+fn send_output<'a, W: Write>(
     output: &Output,
-    frame: &Frame<'_, '_>,
-    text: &str,
+    line_end: u8,
+    is_quoted: bool,
+    before: &'a [u8],
+    after: &'a [u8],
+    text: &'a [u8],
     w: &mut W,
 ) -> io::Result<()>
-    ensures { Sends result (W.contents w.old) (W.contents w.new)
-        (output_as output.now frame.now.line_end frame.now.is_quoted frame.now.before.now frame.now.after.now text.now) }
+    ensures { Sends result (W.contents w.old) (W.contents w.new) (output_as output.now line_end is_quoted before.now after.now text.now) }
 {
-    let text = text.as_bytes();
-    let (after, end) = frame.after.split_at(len_without(b'\r', frame.after));
-    let (front, quoted, bare) = text_around(frame.is_quoted, frame.before, after);
-    let is_kept = frame.is_quoted && output.quoting.keeps();
-    if is_kept
-        || any_part_needs_quotes(
-            output.delimiter,
-            frame.line_end,
-            &[front, text, quoted, bare],
-        )
-    {
+    let (after, end) = after.split_at(len_without(b'\r', after));
+    let (front, quoted, bare) = text_around(is_quoted, before, after);
+    let parts = [front, text, quoted, bare];
+    let is_kept = is_quoted && output.quoting.keeps();
+    if is_kept || any_part_needs_quotes(output.delimiter, line_end, &parts) {
         send_all(
             &[
                 (Plain, b"\""),
