@@ -1,16 +1,10 @@
 -- The bytes that an input holds, read after read.
-use Rattle.std.proofs.Common.{◌≡◌, ℕ, ◌+◌, ◌-◌, ◌<◌, ◌≤◌, ◌==◌, true, false, Bool, List, [], ◌∷◌, ◌++◌, length, take, drop, get_or, slice_range, Option, Some, None, refl, sym, ap, subst, ◌∙◌, arith, append_assoc, append-nil}
-use Rattle.std.specs.Prelude.{All, MatchOption, is_some, not}
-use Rattle.std.specs.Io.KnownBytes.{Consumes, IsAtEnd, Keeps}
-use Rattle.std.proofs.KnownBytes.{Consumes-kept, Consumes-nil, Consumes-trans}
-use Rattle.std.proofs.lemmas.Bool.{false_from_ne_true, eqb-true}
-use Rattle.std.proofs.lemmas.List.{drop-append-le, drop-drop, drop-take, drop_at, get_or-drop, get_or-take, length-drop, length-take, length-take-le, take-append-le, take_all, take_at, take_rest}
+use Rattle.regroup_lines.proofs.Common.{◌≡◌, ℕ, ◌+◌, ◌-◌, ◌<◌, ◌≤◌, ◌==◌, true, false, Bool, List, [], ◌∷◌, ◌++◌, length, take, drop, get_or, slice_range, Option, Some, None, refl, sym, ap, subst, ◌∙◌, arith, append_assoc, append-nil, All, is_some, not, Consumes, IsAtEnd, Keeps, Range, Consumes-kept, Consumes-nil, Consumes-trans, false_from_ne_true, eqb-true, drop-append-le, drop-drop, drop-take, drop_at, get_or-drop, get_or-take, length-drop, length-take, length-take-le, take-append-le, take_all, take_at, take_rest, take-add, EndsOrGoesOn, FindsEnd, FindsPiece, HasNoEnd, IsRecord, Reads, array_len, bytes_at, held, Input, Piece, Within}
+use Rattle.std.specs.Prelude.{MatchOption}
 use Rattle.std.proofs.lemmas.List.Elements.{All-from_get_or}
 use borrow.Rule.Slice.PartMut.{put_mid, post_of}
-use lib.Seq.{take-add}
 use Rattle.memchr.specs.Find.{IsFirstByte, is_byte}
-use Rattle.regroup_lines.specs.Input.{EndsOrGoesOn, FindsEnd, IsRecord, Reads}
-use Rattle.regroup_lines.specs.declared.records.Within.{Within}
+use Rattle.regroup_lines.specs.declared.input.Piece.TheVariants as piece
 
 -- a range of an array without its first n bytes
 pub range-later : (xs : List ℕ) (start end n : ℕ) → start + n ≤ end → slice_range xs (start + n) end ≡ drop n (slice_range xs start end)
@@ -103,6 +97,14 @@ record_found q line_end w before bytes text left a b n read found is_text is_lef
   Reads-same before bytes (text ++ line_end ∷ left) a b read (rw (is_text, is_left) (sym found.1)),
   subst (IsRecord q line_end w) (sym is_text) found.2,
 )
+
+-- a piece that was found, in other words
+module _ (q : Option ℕ) (e : ℕ) (w : Within) (before : List ℕ) (input : Input) (a b : Option (List ℕ)) (found : Piece) (finds : FindsPiece q e w before input a b found) (place : Range ℕ) (text : List ℕ) (same : text ≡ bytes_at input place) where
+  pub found-line : found ≡ piece.Line place → Reads before (text ++ e ∷ held input) a b × IsRecord q e w text × (length text < array_len input)
+  found-line is = subst (λ l. Reads before (l ++ e ∷ held input) a b × IsRecord q e w l × (length l < array_len input)) (sym same) (subst (FindsPiece q e w before input a b) is finds)
+
+  pub found-rest : found ≡ piece.Rest place → Reads before text a b × HasNoEnd q e w text × (length text < array_len input) × IsAtEnd b
+  found-rest is = subst (λ l. Reads before l a b × HasNoEnd q e w l × (length l < array_len input) × IsAtEnd b) (sym same) (subst (FindsPiece q e w before input a b) is finds)
 
 -- after a read, the bytes that were held before it are those that were searched
 pub read-front : (xs ys : List ℕ) (a b : Option (List ℕ)) (n : ℕ) → Reads xs ys a b → n ≡ length xs → take n ys ≡ xs

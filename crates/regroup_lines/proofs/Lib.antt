@@ -1,5 +1,6 @@
 -- The proofs of this crate.
 pub mod AroundLemmas
+mod Common
 mod CsvLemmas
 mod DecimalLemmas
 mod Examples

@@ -1,14 +1,5 @@
 -- The fault of a text that is not a number.
-use Rattle.std.proofs.Common.{◌≡◌, ℕ, false, List, refl}
-use Rattle.std.specs.Prelude.{IsUtf8}
-use Rattle.std.specs.Str.{is_utf8}
-use Rattle.std.proofs.lemmas.Bool.{false_from_ne_true}
-use Rattle.std.proofs.lemmas.Str.{IsUtf8-from_is_utf8, is_utf8-from_IsUtf8}
-use Rattle.num_format.specs.Cut.{cut_text}
-use Rattle.num_format.specs.Refusal.{ParseNumber}
-use Rattle.regroup_lines.specs.Fault.{Fault, in_field}
-use Rattle.regroup_lines.specs.Fault.Fault.{NotText, Line}
-use Rattle.regroup_lines.specs.LineFaults.{text_fault}
+use Rattle.regroup_lines.proofs.Common.{◌≡◌, ℕ, false, List, refl, IsUtf8, is_utf8, false_from_ne_true, IsUtf8-from_is_utf8, is_utf8-from_IsUtf8, cut_text, ParseNumber, Fault, in_field, NotText, Line, text_fault}
 
 pub text_fault_utf8 : (number : ℕ) (text : List ℕ) → IsUtf8 text → text_fault number text ≡ Line number (ParseNumber (cut_text text))
 text_fault_utf8 number text utf8 = rw (is_utf8-from_IsUtf8 text utf8) refl

@@ -1,21 +1,6 @@
 -- What regrouping writes and returns, record after record.
-use Rattle.std.proofs.Common.{◌≡◌, ℕ, ◌+◌, ◌<◌, ◌≤◌, ◌==◌, Bool, true, false, List, [], ◌∷◌, ◌++◌, length, take, Option, Some, Ok, Err, if◌then◌else◌, refl, sym, ap, ◌∙◌, arith}
-use Rattle.std.specs.Prelude.{◌&&◌, nat_lt, not}
-use Rattle.std.specs.List.{onto_first}
-use Rattle.std.proofs.lemmas.Bool.{eqb-true, false_from_ne_true}
-use Rattle.std.proofs.lemmas.Bool.Decides.{Decides-ltb}
-use Rattle.std.proofs.lemmas.List.{take-append-le}
-use Rattle.num_format.specs.Format.{FormatData}
-use Rattle.regroup_lines.specs.Ended.{ended_by}
-use Rattle.regroup_lines.specs.Fault.{Fault}
-use Rattle.regroup_lines.specs.Fault.Fault.{TooLong, TooMany, Unclosed}
-use Rattle.regroup_lines.specs.Input.{HasNoEnd, IsLong, IsRecord, Reads}
-use Rattle.regroup_lines.specs.Lines.{Regrouped, Sent, Stop, fault_named, fault_sent, line_after, line_begun, line_sent, long_begun, long_fault, long_returned, passed, passes, quotes_in, record_sent, regrouped_after, regrouped_parts, regrouped_rest, returning, sending, sending_line, stop_returned}
-use Rattle.regroup_lines.specs.Lines.Stop.{Ended, Unread}
-use Rattle.regroup_lines.specs.Records.{after_next, is_inside, is_open, split_at}
-use Rattle.regroup_lines.specs.declared.records.Within.TheVariants.{Start}
-use Rattle.regroup_lines.specs.declared.rules.Rules.{Rules}
-use Rattle.regroup_lines.proofs.RecordLemmas.{split-first, split-none, split-some}
+use Rattle.regroup_lines.proofs.Common.{◌≡◌, ℕ, ◌+◌, ◌<◌, ◌≤◌, ◌==◌, Bool, true, false, List, [], ◌∷◌, ◌++◌, length, take, Option, Some, Ok, Err, if◌then◌else◌, refl, sym, ap, ◌∙◌, arith, Result, nat_lt, join_with_byte, eqb-true, false_from_ne_true, Decides-ltb, take-append-le, FormatData, ended_by, Fault, TooLong, TooMany, Unclosed, HasNoEnd, IsLong, IsRecord, Reads, stop_text, Regrouped, Sent, Stop, fault_named, fault_sent, line_after, line_begun, line_sent, long_fault, long_returned, passed, passes, quotes_in, record_sent, regrouped_after, regrouped_parts, regrouped_rest, returning, sending, sending_line, stop_returned, Ended, Unread, is_open, split_at, Start, Rules}
+use Rattle.regroup_lines.proofs.RecordLemmas.{split-first, split-joined, split-none, split-some}
 
 not_less : (a b : ℕ) → b ≤ a → nat_lt a b ≡ false
 not_less a b le = false_from_ne_true (nat_lt a b) (λ yes. let less = (Decides-ltb a b).0 yes in omega arith)
@@ -36,16 +21,21 @@ pub passes-fault : (rules : Rules) (fault : Fault) (bytes : List ℕ) → passes
 passes-fault rules fault bytes does = ap (λ (b : Bool). if b then Ok (passed rules.rejects (fault_named rules.invalid fault) bytes) else Err fault) does
 
 -- the fault of bytes that are too long is that of their beginning
-pub long_fault-begun : (rules : Rules) (number : ℕ) (begun text : List ℕ) (old new : Option (List ℕ)) → rules.max_line_len + 1 ≤ length begun → Reads begun text old new →
+pub long_fault-begun : (rules : Rules) (number : ℕ) (begun text : List ℕ) (old new : Option (List ℕ)) → rules.max_line_len < length begun → Reads begun text old new →
     long_fault rules number text ≡ long_fault rules number begun
 long_fault-begun rules number begun text old new long read =
     ap (λ l. if is_open (quotes_in rules.span) l then Unclosed number else TooLong number rules.max_line_len)
-    (ap (take (rules.max_line_len + 1)) (sym read.joined) ∙ take-append-le (rules.max_line_len + 1) begun read.given long)
+    (ap (take (rules.max_line_len + 1)) (sym read.joined) ∙ take-append-le (rules.max_line_len + 1) begun read.given (omega (arith, long)))
 
 -- and so of bytes that are that long
-pub long_fault-front : (rules : Rules) (number : ℕ) (text more : List ℕ) → rules.max_line_len + 1 ≤ length text → long_fault rules number (text ++ more) ≡ long_fault rules number text
+pub long_fault-front : (rules : Rules) (number : ℕ) (text more : List ℕ) → rules.max_line_len < length text → long_fault rules number (text ++ more) ≡ long_fault rules number text
 long_fault-front rules number text more long =
-    ap (λ l. if is_open (quotes_in rules.span) l then Unclosed number else TooLong number rules.max_line_len) (take-append-le (rules.max_line_len + 1) text more long)
+    ap (λ l. if is_open (quotes_in rules.span) l then Unclosed number else TooLong number rules.max_line_len) (take-append-le (rules.max_line_len + 1) text more (omega (arith, long)))
+
+-- what is returned of a record that is too long, by how the reader stopped in it, with so many records before it
+abbrev pub last_returned : (count : ℕ) → Stop → Option (Result ℕ Fault)
+last_returned count Ended = Some (Ok (count + 1))
+last_returned count stop = long_returned stop
 
 module _ (rules : Rules) (most : ℕ) (from to : FormatData) where
   abbrev q : Option ℕ
@@ -53,24 +43,6 @@ module _ (rules : Rules) (most : ℕ) (from to : FormatData) where
 
   abbrev e : ℕ
   e = rules.line_end
-
-  -- a record that is within both bounds
-  line_sent-text : (count number : ℕ) (text : List ℕ) → count + 1 ≤ most → length text ≤ rules.max_line_len → line_sent rules most from to count number text ≡ record_sent rules from to number text
-  line_sent-text count number text few short = rw (not_less most (count + 1) few, not_less rules.max_line_len (length text) short) refl
-
-  line_begun-short : (stop : Stop) (count number : ℕ) (text : List ℕ) → count + 1 ≤ most → length text ≤ rules.max_line_len → line_begun rules most stop count number text ≡ returning (stop_returned stop)
-  line_begun-short stop count number text few short =
-      either_empty (length text == 0) (returning (stop_returned stop)) _ (rw (not_less most (count + 1) few, not_less rules.max_line_len (length text) short) refl)
-
-  -- one that is too long
-  line_sent-long : (count number : ℕ) (text : List ℕ) → count + 1 ≤ most → rules.max_line_len < length text →
-      line_sent rules most from to count number text ≡ fault_sent rules (long_fault rules number text) (ended_by e text)
-  line_sent-long count number text few long = rw (not_less most (count + 1) few, (Decides-ltb rules.max_line_len (length text)).1 long) refl
-
-  line_begun-long : (stop : Stop) (count number : ℕ) (text : List ℕ) → count + 1 ≤ most → rules.max_line_len < length text →
-      line_begun rules most stop count number text ≡ long_begun (fault_sent rules (long_fault rules number text) text) stop
-  line_begun-long stop count number text few long =
-      rw (not_zero (length text) (omega arith), not_less most (count + 1) few, (Decides-ltb rules.max_line_len (length text)).1 long) refl
 
   -- a part that others follow is a record
   abbrev line_and : ℕ → ℕ → List ℕ → Regrouped → Regrouped
@@ -80,7 +52,7 @@ module _ (rules : Rules) (most : ℕ) (from to : FormatData) where
   text_and number text rest = sending_line (record_sent rules from to number text) rest
 
   line_and-text : (count number : ℕ) (text : List ℕ) (rest : Regrouped) → count + 1 ≤ most → length text ≤ rules.max_line_len → line_and count number text rest ≡ text_and number text rest
-  line_and-text count number text rest few short = ap (λ sent. sending_line sent rest) (line_sent-text count number text few short)
+  line_and-text count number text rest few short = rw (not_less most (count + 1) few, not_less rules.max_line_len (length text) short) refl
 
   parts-line : (stop : Stop) (count number : ℕ) (text : List ℕ) (parts : List (List ℕ)) → 0 < length parts →
       regrouped_parts rules most from to stop count number (text ∷ parts) ≡ line_and count number text (regrouped_parts rules most from to stop (count + 1) (line_after rules number text) parts)
@@ -102,14 +74,11 @@ module _ (rules : Rules) (most : ℕ) (from to : FormatData) where
   last count = returning (Some (Ok count))
 
   pub rest-empty : (count number : ℕ) (text : List ℕ) → HasNoEnd q e Start text → (length text == 0) ≡ true → regrouped_after rules most from to Ended count number text ≡ last count
-  rest-empty count number text none empty =
-      after-rest Ended count number text none ∙ ap (λ b. if b then last count else line_and count number text (last (count + 1))) empty
+  rest-empty count number text none empty = after-rest Ended count number text none ∙ (rw empty refl)
 
   pub rest-line : (count number : ℕ) (text : List ℕ) → HasNoEnd q e Start text → (length text == 0) ≡ false → count + 1 ≤ most → length text ≤ rules.max_line_len →
       regrouped_after rules most from to Ended count number text ≡ text_and number text (last (count + 1))
-  rest-line count number text none some few short =
-      after-rest Ended count number text none ∙ ap (λ b. if b then last count else line_and count number text (last (count + 1))) some
-      ∙ line_and-text count number text (last (count + 1)) few short
+  rest-line count number text none some few short = after-rest Ended count number text none ∙ (rw some (line_and-text count number text (last (count + 1)) few short))
 
   pub line-next : (stop : Stop) (count number : ℕ) (text bytes : List ℕ) → IsRecord q e Start text → count + 1 ≤ most → length text ≤ rules.max_line_len →
       regrouped_after rules most from to stop count number (text ++ e ∷ bytes) ≡ text_and number text (regrouped_after rules most from to stop (count + 1) (line_after rules number text) bytes)
@@ -119,39 +88,40 @@ module _ (rules : Rules) (most : ℕ) (from to : FormatData) where
   -- a failed read or flush
   pub rest-halted : (stop : Stop) (count number : ℕ) (text : List ℕ) → HasNoEnd q e Start text → count + 1 ≤ most → length text ≤ rules.max_line_len →
       regrouped_rest rules most from to stop count number text ≡ line_begun rules most stop count number text → regrouped_after rules most from to stop count number text ≡ returning (stop_returned stop)
-  rest-halted stop count number text none few short rest = after-rest stop count number text none ∙ rest ∙ line_begun-short stop count number text few short
+  rest-halted stop count number text none few short rest =
+      after-rest stop count number text none ∙ rest
+      ∙ either_empty (length text == 0) (returning (stop_returned stop)) _ (rw (not_less most (count + 1) few, not_less rules.max_line_len (length text) short) refl)
 
   -- a record that is too long
-  module _ (count number : ℕ) (text : List ℕ) (few : count + 1 ≤ most) (is : IsLong q e (rules.max_line_len + 1) text) where
-    long : rules.max_line_len < length text
-    long = let full = is.long in omega (arith, full)
+  module _ (count number : ℕ) (text : List ℕ) (few : count + 1 ≤ most) (is : IsLong rules text) where
+    over : nat_lt rules.max_line_len (length text) ≡ true
+    over = (Decides-ltb rules.max_line_len (length text)).1 is.long
+
+    some_byte : (length text == 0) ≡ false
+    some_byte = not_zero (length text) (let long = is.long in omega (arith, long))
+
+    begun : (stop : Stop) → line_begun rules most stop count number text ≡ sending_line (fault_sent rules (long_fault rules number text) text) (returning (long_returned stop))
+    begun stop = rw (some_byte, not_less most (count + 1) few, over) refl
 
     pub rest-long : passes rules.invalid ≡ false → regrouped_after rules most from to Unread count number text ≡ returning (Some (Err (long_fault rules number text)))
     rest-long aborts =
-        after-rest Unread count number text is.no_end ∙ line_begun-long Unread count number text few long
-        ∙ ap (λ sent. long_begun sent Unread) (aborts-fault rules (long_fault rules number text) text aborts)
+        after-rest Unread count number text is.no_end ∙ begun Unread
+        ∙ ap (λ sent. sending_line sent (returning (long_returned Unread))) (aborts-fault rules (long_fault rules number text) text aborts)
 
+    -- that is passed on: the reader stopped, or others follow
     module _ (fault : Fault) (same : long_fault rules number text ≡ fault) (does : passes rules.invalid ≡ true) where
       abbrev sent_long : List ℕ → Sent
       sent_long bytes = passed rules.rejects (fault_named rules.invalid fault) bytes
 
+      passes_so : (bytes : List ℕ) (rest : Regrouped) → sending_line (fault_sent rules (long_fault rules number text) bytes) rest ≡ sending (sent_long bytes) rest
+      passes_so bytes rest = ap (λ sent. sending_line sent rest) (ap (λ f. fault_sent rules f bytes) same ∙ passes-fault rules fault bytes does)
+
       line_and-long : (rest : Regrouped) → line_and count number text rest ≡ sending (sent_long (ended_by e text)) rest
-      line_and-long rest =
-          ap (λ sent. sending_line sent rest)
-          (line_sent-long count number text few long ∙ ap (λ f. fault_sent rules f (ended_by e text)) same ∙ passes-fault rules fault (ended_by e text) does)
+      line_and-long rest = (rw (not_less most (count + 1) few, over) (passes_so (ended_by e text) rest))
 
-      -- that is passed on: its beginning, the last one, and one that others follow
-      pub long-begun : (stop : Stop) → regrouped_rest rules most from to stop count number text ≡ line_begun rules most stop count number text →
-          regrouped_after rules most from to stop count number text ≡ record { sent = sent_long text; returned = long_returned stop }
-      long-begun stop rest =
-          after-rest stop count number text is.no_end ∙ rest ∙ line_begun-long stop count number text few long
-          ∙ ap (λ sent. long_begun sent stop) (ap (λ f. fault_sent rules f text) same ∙ passes-fault rules fault text does)
-
-      pub long-last : regrouped_after rules most from to Ended count number text ≡ sending (sent_long (ended_by e text)) (last (count + 1))
-      long-last =
-          after-rest Ended count number text is.no_end
-          ∙ ap (λ b. if b then last count else line_and count number text (last (count + 1))) (not_zero (length text) (omega (arith, long)))
-          ∙ line_and-long (last (count + 1))
+      pub long-stopped : (stop : Stop) → regrouped_after rules most from to stop count number text ≡ sending (sent_long (stop_text e stop text)) (returning (last_returned count stop))
+      long-stopped Ended = after-rest Ended count number text is.no_end ∙ (rw some_byte (line_and-long (last (count + 1))))
+      long-stopped stop = after-rest stop count number text is.no_end ∙ begun stop ∙ passes_so text (returning (long_returned stop))
 
       pub long-next : (stop : Stop) (bytes : List ℕ) → is_open q text ≡ false →
           regrouped_after rules most from to stop count number (text ++ e ∷ bytes) ≡ sending (sent_long (ended_by e text)) (regrouped_after rules most from to stop (count + 1) (line_after rules number text) bytes)
@@ -160,31 +130,13 @@ module _ (rules : Rules) (most : ℕ) (from to : FormatData) where
           ∙ line_and-long (regrouped_after rules most from to stop (count + 1) (line_after rules number text) bytes)
 
   -- a byte after the last record allowed
-  many : nat_lt most (most + 1) ≡ true
-  many = (Decides-ltb most (most + 1)).1 (omega arith)
-
-  line_many : (number : ℕ) (text : List ℕ) (rest : Regrouped) → line_and most number text rest ≡ returning (Some (Err TooMany))
-  line_many number text rest =
-      ap (λ (m : Bool). sending_line (if m then Err TooMany else (if nat_lt rules.max_line_len (length text) then fault_sent rules (long_fault rules number text) (ended_by e text) else record_sent rules from to number text)) rest) many
-
-  rest_many : (number b : ℕ) (text : List ℕ) → line_begun rules most Unread most number (b ∷ text) ≡ returning (Some (Err TooMany))
-  rest_many number b text =
-      let short : Regrouped =
-      if nat_lt rules.max_line_len (length (b ∷ text)) then long_begun (fault_sent rules (long_fault rules number (b ∷ text)) (b ∷ text)) Unread else
-      returning (stop_returned Unread) in
-      ap (λ (empty : Bool). if empty then returning (stop_returned Unread) else (if nat_lt most (most + 1) then returning (Some (Err TooMany)) else short)) (not_zero (length (b ∷ text)) (omega arith))
-      ∙ ap (λ (m : Bool). if m then returning (Some (Err TooMany)) else short) many
-
-  parts-many : (number b : ℕ) (ends : Bool) (others parts : List (List ℕ)) → 0 < length others → 0 < length parts →
-      regrouped_parts rules most from to Unread most number (if ends then [] ∷ others else onto_first b parts) ≡ returning (Some (Err TooMany))
-  parts-many number b ends [] parts none some = absurd (omega arith)
-  parts-many number b ends (other ∷ others) [] none some = absurd (omega arith)
-  parts-many number b true (other ∷ others) (part ∷ parts) none some = line_many number [] (regrouped_parts rules most from to Unread (most + 1) (line_after rules number []) (other ∷ others))
-  parts-many number b false (other ∷ others) (part ∷ []) none some = rest_many number b part
-  parts-many number b false (other ∷ others) (part ∷ next ∷ parts) none some =
-      line_many number (b ∷ part) (regrouped_parts rules most from to Unread (most + 1) (line_after rules number (b ∷ part)) (next ∷ parts))
-
   pub after-many : (number : ℕ) (text : List ℕ) → 0 < length text → regrouped_after rules most from to Unread most number text ≡ returning (Some (Err TooMany))
-  after-many number [] some = absurd (omega arith)
-  after-many number (b ∷ text) some =
-      parts-many number b ((b == e) && not (is_inside Start)) (split_at q e Start text) (split_at q e (after_next q Start b) text) (split-some q e Start text) (split-some q e (after_next q Start b) text)
+  after-many number text some = by (split_at q e Start text) (split-joined q e Start text)
+    where
+      many : nat_lt most (most + 1) ≡ true
+      many = (Decides-ltb most (most + 1)).1 (omega arith)
+
+      by : (parts : List (List ℕ)) → join_with_byte e parts ≡ text → regrouped_parts rules most from to Unread most number parts ≡ returning (Some (Err TooMany))
+      by [] whole = let none = ap length whole in absurd (omega arith)
+      by (rest ∷ []) whole = rw (not_zero (length rest) (let same = ap length whole in omega arith), many) refl
+      by (part ∷ next ∷ parts) whole = rw many refl

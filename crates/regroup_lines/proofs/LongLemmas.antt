@@ -1,143 +1,118 @@
 -- A record that is too long, piece by piece.
-use Rattle.std.proofs.Common.{◌≡◌, ◌≢◌, ℕ, Bool, ◌+◌, ◌<◌, ◌≤◌, true, false, List, [], ◌∷◌, ◌++◌, length, Option, Result, Ok, Err, refl, sym, ap, subst, ◌∙◌, arith, append_assoc}
-use Rattle.std.specs.Io.KnownBytes.{Appends, IsAtEnd, Keeps}
-use Rattle.std.specs.declared.ops.Range.{Range}
-use Rattle.std.proofs.KnownBytes.{Appends-kept, Appends-trans}
-use Rattle.std.proofs.lemmas.List.{length-append}
-use Rattle.num_format.specs.Writing.{StopsWithin}
-use Rattle.regroup_lines.specs.Ended.{ended_by}
-use Rattle.num_format.proofs.WritingLemmas.{StopsWithin_suffix}
-use Rattle.regroup_lines.specs.Fault.{Fault, fault_of}
-use Rattle.regroup_lines.specs.Fault.Fault.{Flush, Read, TooMany, Write}
-use Rattle.regroup_lines.specs.LineFaults.{IsHalt}
-use Rattle.regroup_lines.specs.Input.{FindsPiece, HasNoEnd, IsLong, IsLongRecord, IsRecord, PassesLong, Reads, StopsInLong, array_len, bytes_at, held}
-use Rattle.regroup_lines.specs.Records.{after_text, is_inside, line_reached, next_line}
-use Rattle.regroup_lines.specs.declared.fault.RegroupFault.{RegroupFault}
-use Rattle.regroup_lines.specs.declared.fault.RegroupFault.TheVariants as kept
-use Rattle.regroup_lines.specs.declared.input.Input.{Input}
-use Rattle.regroup_lines.specs.declared.input.Piece.{Piece}
-use Rattle.regroup_lines.specs.declared.input.Piece.TheVariants as piece
-use Rattle.regroup_lines.specs.declared.records.Within.{Within}
-use Rattle.regroup_lines.specs.declared.records.Within.TheVariants.{Start}
+use Rattle.regroup_lines.proofs.Common.{◌≡◌, ℕ, ◌+◌, ◌<◌, ◌≤◌, true, false, List, [], ◌∷◌, ◌++◌, length, Bool, Option, Some, None, Result, Ok, Err, refl, sym, ap, subst, ◌∙◌, arith, append_assoc, ◌-◌, ◌^◌, is_some, IsAtEnd, Keeps, result_map_both, length-append, ended_by, Fault, Flush, Read, TooMany, HasNoEnd, IsLong, IsRecord, IsStop, Reads, stop_result, stop_text, IsHalt, Stop, quotes_in, Ended, Endless, Failed, Unflushed, Unread, after_text, is_inside, line_reached, next_line, PassesLong, ReceivesBytes, SendsBytes, Writer, by_writer, failed_by, failed_writer, Within, Start, Rules}
 use Rattle.regroup_lines.proofs.InputLemmas.{Reads-more, Reads-none}
 use Rattle.regroup_lines.proofs.RecordLemmas.{after-append, end-append, reached-append}
+use Rattle.regroup_lines.proofs.WriterLemmas.{ReceivesBytes-after, received-kept}
 
--- so many pieces of a line were sent: no byte is held that was not
-pub record SentLong (n0 n1 : ℕ) (within : Within) (q : Option ℕ) (line_end len : ℕ) (begun : List ℕ) (read_old read_new sent_old sent_new : Option (List ℕ)) (count : ℕ) (held : List ℕ) : Type 0 where
+-- so many pieces of a record were sent: no byte is held that was not
+pub record SentLong (rules : Rules) (n0 n1 : ℕ) (within : Within) (begun : List ℕ) (r0 r1 : Option (List ℕ)) (c0 c1 : Option (List ℕ) → Writer → Option (List ℕ)) (count : ℕ) (held : List ℕ) : Type 0 where
   pub text : List ℕ
-  pub read : Reads begun text read_old read_new
-  pub is : IsLong q line_end len text
-  pub sent : Appends sent_old sent_new text
+  pub read : Reads begun text r0 r1
+  pub is : IsLong rules text
+  pub sent : ReceivesBytes rules.rejects None c0 c1 text
   pub some : count ≤ length text
   pub none : held ≡ []
-  pub after : within ≡ after_text q Start text
-  pub reached : n1 ≡ line_reached q line_end n0 text
+  pub after : within ≡ after_text (quotes_in rules.span) Start text
+  pub reached : n1 ≡ line_reached (quotes_in rules.span) rules.line_end n0 text
 
--- a write that fails
-failed : (n0 n2 : ℕ) (q : Option ℕ) (line_end len : ℕ) (flushes : Bool) (begun left : List ℕ) (r0 r1 s0 s1 : Option (List ℕ)) (fault : Fault) → fault ≡ Write → StopsInLong q line_end len begun left r0 r1 s0 s1 →
-    PassesLong false n0 n2 q line_end len flushes begun left r0 r1 s0 s1 (Err fault)
-failed n0 n2 q line_end len flushes begun left r0 r1 s0 s1 fault is stops = subst (λ f. PassesLong false n0 n2 q line_end len flushes begun left r0 r1 s0 s1 (Err f)) (sym is) stops
+stop_text-append : (e : ℕ) (stop : Stop) (xs ys : List ℕ) → xs ++ stop_text e stop ys ≡ stop_text e stop (xs ++ ys)
+stop_text-append e Ended xs ys = sym (append_assoc xs ys (e ∷ []))
+stop_text-append e stop xs ys = refl
 
-pub PassesLong-first : (n0 n2 : ℕ) (q : Option ℕ) (line_end len : ℕ) (flushes : Bool) (begun left : List ℕ) (r s t : Option (List ℕ)) (fault : Fault) → IsLong q line_end len begun → (fault ≡ Write) × StopsWithin s t begun →
-    PassesLong false n0 n2 q line_end len flushes begun left r r s t (Err fault)
-PassesLong-first n0 n2 q line_end len flushes begun left r s t fault is sends = failed n0 n2 q line_end len flushes begun left r r s t fault sends.0 (StopsInLong.within begun (Reads-none begun r) is sends.1)
+-- a failed write is no other result
+unsent : {A : Type 0} (fault : Fault) → is_some (failed_writer fault) ≡ true → failed_writer fault ≡ None → A
+unsent fault some none = let not : is_some (failed_writer fault) ≡ false = ap is_some none in absurd (cc)
 
--- the next piece, where the writer was flushed
-module _ (n0 n1 n2 : ℕ) (within : Within) (q : Option ℕ) (line_end len : ℕ) (flushes : Bool) (begun holds : List ℕ) (r0 r1 r2 s0 s s1 s2 : Option (List ℕ)) (count : ℕ) (so_far : SentLong n0 n1 within q line_end len begun r0 r1 s0 s count holds) (kept : Keeps s s1) where
-  abbrev Passes : List ℕ → Result Bool Fault → Type 0
-  Passes left result = PassesLong false n0 n2 q line_end len flushes begun left r0 r2 s0 s2 result
+module _ (rules : Rules) (n0 n2 : ℕ) (begun : List ℕ) (r0 : Option (List ℕ)) (c0 c2 : Option (List ℕ) → Writer → Option (List ℕ)) where
+  -- the first write fails
+  pub PassesLong-first : (left : List ℕ) (fault : Fault) → IsLong rules begun → SendsBytes {T = Unit {0}} rules.rejects c0 c2 begun (Err fault) → PassesLong rules n0 n2 begun left r0 r0 c0 c2 (Err fault)
+  PassesLong-first left fault long sends = PassesLong.to_stop Unread begun (Reads-none begun r0) long tt sends.1 (unsent fault sends.0)
 
-  sent_before : Appends s0 s1 so_far.text
-  sent_before = Appends-kept s0 s s1 so_far.text so_far.sent kept
+  -- the next piece, where the writer was flushed
+  module _ (n1 : ℕ) (within : Within) (holds : List ℕ) (r1 r2 s s1 x : Option (List ℕ)) (count : ℕ) (so_far : SentLong rules n0 n1 within begun r0 r1 c0 (λ told. by_writer s told x) count holds) (kept : Keeps s s1) where
+    abbrev q : Option ℕ
+    q = quotes_in rules.span
 
-  more : (text : List ℕ) → Reads holds text r1 r2 → Reads begun (so_far.text ++ text) r0 r2
-  more text read =
-      let given : read.given ≡ text = ap (λ l. l ++ read.given) (sym so_far.none) ∙ read.joined in
-      subst (λ l. Reads begun (so_far.text ++ l) r0 r2) given (Reads-more begun so_far.text read.given r0 r1 r2 so_far.read read.consumed)
+    abbrev e : ℕ
+    e = rules.line_end
 
-  module _ (text : List ℕ) where
-    after_more : after_text q within text ≡ after_text q Start (so_far.text ++ text)
-    after_more = ap (λ w. after_text q w text) so_far.after ∙ sym (after-append q Start so_far.text text)
+    abbrev c1 : Option (List ℕ) → Writer → Option (List ℕ)
+    c1 told = by_writer s1 told x
 
-    reached_more : line_reached q line_end n1 text ≡ line_reached q line_end n0 (so_far.text ++ text)
-    reached_more = ap (λ n. line_reached q line_end n text) so_far.reached ∙ reached-append q line_end n0 so_far.text text
+    sent_more : (failed : Option Writer) (text : List ℕ) → ReceivesBytes rules.rejects failed c1 c2 text → ReceivesBytes rules.rejects failed c0 c2 (so_far.text ++ text)
+    sent_more failed text sent =
+        ReceivesBytes-after rules.rejects failed c0 c1 c2 so_far.text text (λ told. received-kept _ (c0 told) s s1 told x (so_far.sent told) kept) sent
 
-    longer : HasNoEnd q line_end within text → IsLong q line_end len (so_far.text ++ text)
-    longer none = record {
-      no_end = end-append q line_end Start so_far.text text so_far.is.no_end (subst (λ w. HasNoEnd q line_end w text) so_far.after none);
-      long = let long = so_far.is.long in omega (arith, long, length-append so_far.text text);
-    }
+    more : (text : List ℕ) → Reads holds text r1 r2 → Reads begun (so_far.text ++ text) r0 r2
+    more text read =
+        let given : read.given ≡ text = ap (λ l. l ++ read.given) (sym so_far.none) ∙ read.joined in
+        subst (λ l. Reads begun (so_far.text ++ l) r0 r2) given (Reads-more begun so_far.text read.given r0 r1 r2 so_far.read read.consumed)
 
-    sent_ended : Appends s1 s2 (ended_by line_end text) → Appends s0 s2 (ended_by line_end (so_far.text ++ text))
-    sent_ended sent = subst (Appends s0 s2) (sym (append_assoc so_far.text text (line_end ∷ []))) (Appends-trans s0 s1 s2 so_far.text (ended_by line_end text) sent_before sent)
+    module _ (text : List ℕ) where
+      abbrev whole : List ℕ
+      whole = so_far.text ++ text
 
-    stops_ended : StopsWithin s1 s2 (ended_by line_end text) → StopsWithin s0 s2 (ended_by line_end (so_far.text ++ text))
-    stops_ended stops = subst (StopsWithin s0 s2) (sym (append_assoc so_far.text text (line_end ∷ []))) (StopsWithin_suffix s0 s1 s2 so_far.text (ended_by line_end text) sent_before stops)
+      after_more : after_text q within text ≡ after_text q Start whole
+      after_more = ap (λ w. after_text q w text) so_far.after ∙ sym (after-append q Start so_far.text text)
 
-    -- bytes that are held, and then sent, or not all of them
-    module _ (read : Reads holds text r1 r2) (none : HasNoEnd q line_end within text) where
-      sent_more : Appends s1 s2 text → Appends s0 s2 (so_far.text ++ text)
-      sent_more sent = Appends-trans s0 s1 s2 so_far.text text sent_before sent
+      reached_more : line_reached q e n1 text ≡ line_reached q e n0 whole
+      reached_more = ap (λ n. line_reached q e n text) so_far.reached ∙ reached-append q e n0 so_far.text text
 
-      pub SentLong-next : (left : List ℕ) (within2 : Within) → 0 < length text → Appends s1 s2 text → left ≡ [] → within2 ≡ after_text q within text → n2 ≡ line_reached q line_end n1 text →
-          SentLong n0 n2 within2 q line_end len begun r0 r2 s0 s2 (count + 1) left
-      SentLong-next left within2 some sent empty is reached = record {
-        text = so_far.text ++ text;
+      longer : HasNoEnd q e within text → IsLong rules whole
+      longer none = record {
+        no_end = end-append q e Start so_far.text text so_far.is.no_end (subst (λ w. HasNoEnd q e w text) so_far.after none);
+        long = let long = so_far.is.long in omega (arith, long, length-append so_far.text text);
+      }
+
+      pub SentLong-next : Reads holds text r1 r2 → HasNoEnd q e within text → (left : List ℕ) (within2 : Within) → 0 < length text → ReceivesBytes rules.rejects None c1 c2 text → left ≡ [] → within2 ≡ after_text q within text →
+          n2 ≡ line_reached q e n1 text → SentLong rules n0 n2 within2 begun r0 r2 c0 c2 (count + 1) left
+      SentLong-next read none left within2 some sent empty is reached = record {
+        text = whole;
         read = more text read;
         is = longer none;
-        sent = sent_more sent;
+        sent = sent_more None text sent;
         some = let before = so_far.some in omega (arith, before, some, length-append so_far.text text);
         none = empty;
         after = is ∙ after_more;
         reached = reached ∙ reached_more;
       }
 
-      pub PassesLong-halted : (left : List ℕ) (fault : Fault) → IsHalt flushes fault → Appends s1 s2 text → Passes left (Err fault)
-      PassesLong-halted left Read is sent = (so_far.text ++ text, more text read, longer none, sent_more sent)
-      PassesLong-halted left Flush is sent = (so_far.text ++ text, more text read, longer none, sent_more sent, is)
-      PassesLong-halted left fault is sent = absurd is
+      -- where the reader stopped in it
+      module _ (read : Reads holds text r1 r2) (none : HasNoEnd q e within text) (left : List ℕ) where
+        to-stop : (stop : Stop) → IsStop rules.flushes stop whole r2 → (result : Result Bool Fault) → ReceivesBytes rules.rejects (failed_by result) c1 c2 (stop_text e stop text) → (failed_by result ≡ None → stop_result stop ≡ Some result) →
+            PassesLong rules n0 n2 begun left r0 r2 c0 c2 result
+        to-stop stop known result sent returned =
+            PassesLong.to_stop stop whole (more text read) (longer none) known
+            (subst (ReceivesBytes rules.rejects (failed_by result) c0 c2) (stop_text-append e stop so_far.text text) (sent_more (failed_by result) (stop_text e stop text) sent)) returned
 
-      pub PassesLong-write : (left : List ℕ) (fault : Fault) → (fault ≡ Write) × StopsWithin s1 s2 text → Passes left (Err fault)
-      PassesLong-write left fault sends =
-          failed n0 n2 q line_end len flushes begun left r0 r2 s0 s2 fault sends.0 (StopsInLong.within (so_far.text ++ text) (more text read) (longer none) (StopsWithin_suffix s0 s1 s2 so_far.text text sent_before sends.1))
+        pub PassesLong-unsent : (fault : Fault) → SendsBytes {T = Unit {0}} rules.rejects c1 c2 text (Err fault) → PassesLong rules n0 n2 begun left r0 r2 c0 c2 (Err fault)
+        PassesLong-unsent fault sends = to-stop Unread tt (Err fault) sends.1 (unsent fault sends.0)
 
-  -- the end of the record, or of the input
-  module _ (input : Input) (found : Piece) (finds : FindsPiece q line_end within holds input r1 r2 found) (place : Range ℕ) (text : List ℕ) (same : text ≡ bytes_at input place) where
-    module _ (is : found ≡ piece.Line place) where
-      line : Reads holds (text ++ line_end ∷ held input) r1 r2 × IsRecord q line_end within text × (length text < array_len input)
-      line = subst (λ l. Reads holds (l ++ line_end ∷ held input) r1 r2 × IsRecord q line_end within l × (length l < array_len input)) (sym same) (subst (FindsPiece q line_end within holds input r1 r2) is finds)
+        pub PassesLong-halted : (fault : Fault) → IsHalt rules.flushes fault → ReceivesBytes rules.rejects None c1 c2 text → PassesLong rules n0 n2 begun left r0 r2 c0 c2 (Err fault)
+        PassesLong-halted Read is sent = to-stop Failed tt (Err Read) sent (λ none. refl)
+        PassesLong-halted Flush is sent = to-stop Unflushed is (Err Flush) sent (λ none. refl)
+        PassesLong-halted fault is sent = absurd is
 
-      whole : Reads begun ((so_far.text ++ text) ++ line_end ∷ held input) r0 r2
-      whole = subst (λ l. Reads begun l r0 r2) (sym (append_assoc so_far.text text (line_end ∷ held input))) (more (text ++ line_end ∷ held input) line.0)
+        pub PassesLong-rest : IsAtEnd r2 → (sent : Result (Unit {0}) Fault) → SendsBytes rules.rejects c1 c2 (ended_by e text) sent → PassesLong rules n0 n2 begun left r0 r2 c0 c2 (result_map_both (λ done. true) (λ fault. fault) sent)
+        PassesLong-rest end (Ok done) sends = to-stop Ended end (Ok true) sends (λ none. refl)
+        PassesLong-rest end (Err fault) sends = to-stop Ended end (Err fault) sends.1 (unsent fault sends.0)
 
-      whole_record : IsLongRecord q line_end len (so_far.text ++ text)
-      whole_record = (longer text line.1.0, ap is_inside (sym (after_more text)) ∙ line.1.1)
+      -- the byte that ends it
+      module _ (left : List ℕ) (read : Reads holds (text ++ e ∷ left) r1 r2) (is : IsRecord q e within text) where
+        to-end : (result : Result Bool Fault) → ReceivesBytes rules.rejects (failed_by result) c1 c2 (ended_by e text) → (failed_by result ≡ None → (result ≡ Ok false) × (n2 ≡ next_line (line_reached q e n1 text))) →
+            PassesLong rules n0 n2 begun left r0 r2 c0 c2 result
+        to-end result sent returned =
+            PassesLong.to_end whole (subst (λ l. Reads begun l r0 r2) (sym (append_assoc so_far.text text (e ∷ left))) (more (text ++ e ∷ left) read)) (longer is.0) (ap is_inside (sym after_more) ∙ is.1)
+            (subst (ReceivesBytes rules.rejects (failed_by result) c0 c2) (sym (append_assoc so_far.text text (e ∷ []))) (sent_more (failed_by result) (ended_by e text) sent))
+            (λ none. let so = returned none in (so.0, so.1 ∙ ap next_line reached_more))
 
-      pub PassesLong-line : Appends s1 s2 (ended_by line_end text) → n2 ≡ next_line (line_reached q line_end n1 text) → Passes (held input) (Ok false)
-      PassesLong-line sent reached = (so_far.text ++ text, whole, whole_record, sent_ended text sent, reached ∙ ap next_line (reached_more text))
+        pub PassesLong-line : (sent : Result (Unit {0}) Fault) → SendsBytes rules.rejects c1 c2 (ended_by e text) sent → ((done : Unit {0}) → sent ≡ Ok done → n2 ≡ next_line (line_reached q e n1 text)) →
+            PassesLong rules n0 n2 begun left r0 r2 c0 c2 (result_map_both (λ done. false) (λ fault. fault) sent)
+        PassesLong-line (Ok done) sends number = to-end (Ok false) sends (λ none. (refl, number done refl))
+        PassesLong-line (Err fault) sends number = to-end (Err fault) sends.1 (unsent fault sends.0)
 
-      pub PassesLong-line_write : StopsWithin s1 s2 (ended_by line_end text) → Passes (held input) (Err Write)
-      PassesLong-line_write stops = StopsInLong.at_line_end (so_far.text ++ text) whole whole_record (stops_ended text stops)
-
-    module _ (is : found ≡ piece.Rest place) where
-      rest : Reads holds text r1 r2 × HasNoEnd q line_end within text × (length text < array_len input) × IsAtEnd r2
-      rest = subst (λ l. Reads holds l r1 r2 × HasNoEnd q line_end within l × (length l < array_len input) × IsAtEnd r2) (sym same) (subst (FindsPiece q line_end within holds input r1 r2) is finds)
-
-      pub PassesLong-end : Appends s1 s2 (ended_by line_end text) → Passes (held input) (Ok true)
-      PassesLong-end sent = (so_far.text ++ text, more text rest.0, longer text rest.1, sent_ended text sent, rest.3)
-
-      pub PassesLong-end_write : StopsWithin s1 s2 (ended_by line_end text) → Passes (held input) (Err Write)
-      PassesLong-end_write stops = StopsInLong.at_end (so_far.text ++ text) (more text rest.0) (longer text rest.1) rest.3 (stops_ended text stops)
-
--- sent to the writer of rejected lines, with no flush
-pub PassesLong-rejects : (n0 n2 : ℕ) (q : Option ℕ) (line_end len : ℕ) (flushes : Bool) (begun left : List ℕ) (r0 r1 s0 s1 : Option (List ℕ)) (fault : Fault) → fault ≢ Write →
-    PassesLong false n0 n2 q line_end len false begun left r0 r1 s0 s1 (Err fault) → PassesLong true n0 n2 q line_end len flushes begun left r0 r1 s0 s1 (Err fault)
-PassesLong-rejects n0 n2 q line_end len flushes begun left r0 r1 s0 s1 Read other passed = passed
-PassesLong-rejects n0 n2 q line_end len flushes begun left r0 r1 s0 s1 TooMany other passed = passed
-PassesLong-rejects n0 n2 q line_end len flushes begun left r0 r1 s0 s1 Flush other passed = let not = passed.4 in absurd (cc)
-PassesLong-rejects n0 n2 q line_end len flushes begun left r0 r1 s0 s1 Write other passed = absurd (other refl)
-PassesLong-rejects n0 n2 q line_end len flushes begun left r0 r1 s0 s1 fault other passed = absurd passed
-
-pub kept-other : (fault : RegroupFault) → fault ≢ kept.Write → fault_of fault ≢ Write
-kept-other kept.Write other is = other refl
-kept-other fault other is = cc
+  -- where enough was read
+  pub PassesLong-endless : (n1 : ℕ) (within : Within) (holds : List ℕ) (r1 : Option (List ℕ)) (count : ℕ) (left : List ℕ) → SentLong rules n0 n1 within begun r0 r1 c0 c2 count holds → 2 ^ 64 - 1 ≤ count →
+      PassesLong rules n0 n2 begun left r0 r1 c0 c2 (Err TooMany)
+  PassesLong-endless n1 within holds r1 count left so_far enough =
+      PassesLong.to_stop Endless so_far.text so_far.read so_far.is (let some = so_far.some in omega (arith, some, enough)) so_far.sent (λ none. refl)

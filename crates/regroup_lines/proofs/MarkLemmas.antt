@@ -1,17 +1,5 @@
 -- A line that begins with a byte order mark.
-use Rattle.std.proofs.Common.{◌≡◌, ℕ, ◌-◌, Bool, true, List, ◌++◌, length, take, drop, Option, Result, Ok, Err, if◌then◌else◌, refl, sym, ap, ◌∙◌, arith}
-use Rattle.std.specs.Io.KnownBytes.{Appends}
-use Rattle.std.proofs.KnownBytes.{Appends-trans}
-use Rattle.std.proofs.lemmas.List.{take_rest}
-use Rattle.num_format.specs.Format.{FormatData}
-use Rattle.num_format.specs.Writing.{StopsWithin}
-use Rattle.regroup_lines.specs.Ended.{ended_by}
-use Rattle.num_format.proofs.WritingLemmas.{HasReceivedUpTo-none, StopsWithin_prefix, StopsWithin_suffix}
-use Rattle.regroup_lines.specs.Fault.{Fault}
-use Rattle.regroup_lines.specs.Fault.Fault.{Write}
-use Rattle.regroup_lines.specs.Lines.{MARK, after_mark, body_written, numbers_replaced, passes_mark}
-use Rattle.regroup_lines.specs.Sending.{SendsLine}
-use Rattle.regroup_lines.specs.declared.rules.Rules.{Rules}
+use Rattle.regroup_lines.proofs.Common.{◌≡◌, ℕ, ◌-◌, Bool, true, List, ◌++◌, length, take, drop, Option, Result, Ok, Err, if◌then◌else◌, refl, sym, ap, ◌∙◌, arith, Appends, Appends-trans, take_rest, FormatData, StopsWithin, ended_by, HasReceivedUpTo-none, StopsWithin_prefix, StopsWithin_suffix, Fault, Write, MARK, after_mark, body_written, numbers_replaced, passes_mark, SendsLine, Rules}
 
 -- what is written of it
 pub marked-line : (rules : Rules) (from to : FormatData) (number : ℕ) (text : List ℕ) → passes_mark rules.span number text ≡ true →

@@ -1,27 +1,8 @@
 -- What is written in place of a line depends on the line's number in the fault alone.
-use Rattle.std.proofs.Common.{◌≡◌, ℕ, ◌+◌, ◌==◌, Bool, true, false, List, [], ◌∷◌, ◌++◌, length, Option, Some, None, Result, Ok, Err, if◌then◌else◌, refl, ap, ◌∙◌}
-use Rattle.std.specs.Prelude.{ℤ, ◌&&◌, take, drop, slice_range}
-use Rattle.std.specs.List.{join_with_byte, list_any}
-use Rattle.std.specs.Option.{ok_or, option_map}
-use Rattle.std.specs.Result.{result_map_both}
-use Rattle.std.specs.Str.{is_utf8}
-use Rattle.num_format.specs.Cut.{cut_text}
-use Rattle.num_format.specs.Format.{FormatData}
+use Rattle.regroup_lines.proofs.Common.{◌≡◌, ℕ, ◌+◌, ◌==◌, Bool, true, false, List, [], ◌∷◌, ◌++◌, length, Option, Some, None, Result, Ok, Err, if◌then◌else◌, refl, ap, ◌∙◌, ℤ, ◌&&◌, take, drop, slice_range, join_with_byte, list_any, ok_or, option_map, result_map_both, is_utf8, cut_text, FormatData, ParseNumber, Refusal, text_of, decimal_text, decimal_read, Fault, in_field, is_unsent, FewFields, Field, FieldNotText, Line, NotText, TooMany, text_fault, MARK, after_mark, between, body_written, field_read, field_written, fields_of, fields_written, number_in_field, number_in_text, number_written, numbers_replaced, passes_mark, place_written, with_first, are_enough, field_count, is_chosen, trimmed, Reading, Lenient, Strict, Rules}
 use Rattle.num_format.specs.Readable.{number_read}
-use Rattle.num_format.specs.Refusal.{ParseNumber, Refusal}
-use Rattle.num_format.specs.Text.{text_of}
-use Rattle.num_format_decimal.specs.Text.{decimal_text}
 use Rattle.regroup_lines.specs.Csv.{field_with, is_barred, number_place, output_delimiter}
-use Rattle.regroup_lines.specs.Decimals.{decimal_read}
-use Rattle.regroup_lines.specs.Fault.{Fault, in_field, is_unsent}
-use Rattle.regroup_lines.specs.Fault.Fault.{FewFields, Field, FieldNotText, Line, NotText, TooMany}
-use Rattle.regroup_lines.specs.LineFaults.{text_fault}
-use Rattle.regroup_lines.specs.Lines.{MARK, after_mark, between, body_written, field_read, field_written, fields_of, fields_written, number_in_field, number_in_text, number_written, numbers_replaced, passes_mark, place_written, with_first}
-use Rattle.regroup_lines.specs.Places.{are_enough, field_count, is_chosen, trimmed}
 use Rattle.regroup_lines.specs.declared.rules.Fields.{Fields}
-use Rattle.regroup_lines.specs.declared.rules.Reading.{Reading}
-use Rattle.regroup_lines.specs.declared.rules.Reading.TheVariants.{Lenient, Strict}
-use Rattle.regroup_lines.specs.declared.rules.Rules.{Rules}
 use Rattle.regroup_lines.specs.declared.rules.Span.{Span}
 use Rattle.regroup_lines.specs.declared.rules.Span.TheVariants as span
 

@@ -1,14 +1,7 @@
 -- Where the number is in the text of a line.
-use Rattle.std.proofs.Common.{◌≡◌, ℕ, ◌+◌, ◌-◌, ◌≤◌, List, length, drop, sym, ap, subst, ◌∙◌, arith}
-use Rattle.std.specs.Prelude.{slice_range}
-use Rattle.std.specs.Char.{is_ascii_whitespace}
-use Rattle.std.specs.List.{prefix_len, suffix_len}
-use Rattle.std.specs.Str.{IsTrimAsciiEnd, IsTrimAsciiStart}
-use Rattle.std.proofs.lemmas.List.{length-drop, length-take-le}
-use Rattle.std.proofs.lemmas.List.Sums.{prefix_len-le-length, suffix_len-le-length}
+use Rattle.regroup_lines.proofs.Common.{◌≡◌, ℕ, ◌+◌, ◌-◌, ◌≤◌, List, length, drop, sym, ap, subst, ◌∙◌, arith, slice_range, is_ascii_whitespace, prefix_len, suffix_len, IsTrimAsciiEnd, IsTrimAsciiStart, length-drop, length-take-le, prefix_len-le-length, suffix_len-le-length, trimmed}
 use Rattle.std.proofs.lemmas.Str.Ascii.{trim_ascii_end_is, trim_ascii_start_is}
 use Rattle.regroup_lines.proofs.InputLemmas.{range-later}
-use Rattle.regroup_lines.specs.Places.{trimmed}
 
 -- a place without the whitespace at its ends
 module _ (text field rest number : List ℕ) (start end : ℕ) (is : field ≡ slice_range text start end) (ordered : start ≤ end) (within : end ≤ length text)

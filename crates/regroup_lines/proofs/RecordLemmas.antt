@@ -1,15 +1,5 @@
 -- Where records and their fields end, byte after byte.
-use Rattle.std.proofs.Common.{◌≡◌, ℕ, ◌+◌, ◌-◌, ◌<◌, ◌≤◌, ◌==◌, Bool, true, false, List, [], ◌∷◌, ◌++◌, length, take, drop, get_or, slice_range, Option, Some, None, if◌then◌else◌, refl, sym, ap, subst, ◌∙◌, arith, append-nil, eq-eqb, take-append-drop}
-use Rattle.std.specs.Prelude.{All, cond, ◌&&◌, not, suc}
-use Rattle.std.specs.List.{fold, join_with_byte, onto_first}
-use Rattle.std.proofs.lemmas.Bool.{eqb-true, or_from, or_parts}
-use Rattle.std.proofs.lemmas.List.{drop-drop, drop_more, get_or-drop, length-drop, take_all, take_more}
-use Rattle.std.proofs.lemmas.List.Sums.{fold-append, sum_by-append}
-use lib.Seq.{take-add}
-use Rattle.regroup_lines.specs.Input.{FindsEnd, HasNoEnd, IsRecord}
-use Rattle.regroup_lines.specs.Records.{after_byte, after_next, after_record_byte, after_text, has_end, is_inside, line_reached, lines_ended, split_at}
-use Rattle.regroup_lines.specs.declared.records.Within.{Within}
-use Rattle.regroup_lines.specs.declared.records.Within.TheVariants.{Start}
+use Rattle.regroup_lines.proofs.Common.{◌≡◌, ℕ, ◌+◌, ◌-◌, ◌<◌, ◌≤◌, ◌==◌, Bool, true, false, List, [], ◌∷◌, ◌++◌, length, take, drop, get_or, slice_range, Option, Some, None, if◌then◌else◌, refl, sym, ap, subst, ◌∙◌, arith, append-nil, eq-eqb, take-append-drop, All, cond, ◌&&◌, not, suc, fold, join_with_byte, onto_first, eqb-true, or_from, or_parts, drop-drop, drop_more, get_or-drop, length-drop, take_all, take_more, fold-append, sum_by-append, take-add, FindsEnd, HasNoEnd, IsRecord, after_byte, after_next, after_record_byte, after_text, has_end, is_inside, line_reached, lines_ended, split_at, Within, Start}
 
 -- what follows no byte, one byte and others, and two texts
 pub after-nil : (q : Option ℕ) (w : Within) → after_text q w [] ≡ w
@@ -159,32 +149,35 @@ module _ (q : Option ℕ) (e : ℕ) where
         let all : take (end - start) (drop start text) ≡ drop start text = take_all (end - start) (drop start text) (let len = length-drop start text in omega (arith, len, last)) in
         ap (split_at q e Start) (sym all) ∙ split-none Start (slice_range text start end) none_so
 
-  -- bytes of which the first n are searched, and a search from there on
-  module _ (p : Option ℕ) (same : p ≡ q) (w here after : Within) (bytes shown : List ℕ) (n m : ℕ) (is : shown ≡ bytes) (ordered : n ≤ m) (none : HasNoEnd q e w (take n bytes))
-      (there : here ≡ after_text q w (take n bytes)) (free : HasNoEnd p e here (slice_range shown n m)) (next : after ≡ after_text p here (slice_range shown n m)) where
-    front_is : take m bytes ≡ take n bytes ++ slice_range bytes n m
-    front_is = let sum : m ≡ n + (m - n) = omega (arith, ordered) in ap (λ k. take k bytes) sum ∙ take-add n (m - n) bytes
+-- bytes of which the first n are searched: no part ends there, and the next byte is `here`
+pub record Searched (q : Option ℕ) (e : ℕ) (w here : Within) (bytes : List ℕ) (n : ℕ) : Type 0 where
+  pub none : HasNoEnd q e w (take n bytes)
+  pub there : here ≡ after_text q w (take n bytes)
 
-    pub search-none : HasNoEnd q e w (take m bytes)
-    search-none =
-        subst (HasNoEnd q e w) (sym front_is) (end-append w (take n bytes) (slice_range bytes n m) none
-        (subst (λ v. HasNoEnd q e v (slice_range bytes n m)) there (subst (λ x. HasNoEnd x e here (slice_range bytes n m)) same (subst (λ l. HasNoEnd p e here (slice_range l n m)) is free))))
+module _ {q : Option ℕ} {e : ℕ} {w here : Within} {bytes : List ℕ} {n : ℕ} (so_far : Searched q e w here bytes n) where
+  pub Searched-all : length bytes ≤ n → HasNoEnd q e w bytes
+  Searched-all all = subst (HasNoEnd q e w) (take_all n bytes all) so_far.none
 
-    pub search-all : length shown ≤ m → HasNoEnd q e w bytes
-    search-all all = subst (HasNoEnd q e w) (take_all m bytes (subst (λ l. length l ≤ m) is all)) search-none
+  pub Searched-found : (shown : List ℕ) → shown ≡ bytes → n < length shown → (get_or shown n 0 ≡ e) × (is_inside here ≡ false) → FindsEnd q e w bytes (Some n)
+  Searched-found shown is low found =
+      let inside : n < length bytes = subst (λ l. n < length l) is low in (
+        inside,
+        sym (take-append-drop n bytes) ∙ ap (λ l. take n bytes ++ l) (drop_more bytes n 0 inside ∙ ap (λ b. b ∷ drop (n + 1) bytes) (ap (λ l. get_or l n 0) (sym is) ∙ found.0)),
+        (so_far.none, ap is_inside (sym so_far.there) ∙ found.1),
+      )
 
-    pub search-after : after ≡ after_text q w (take m bytes)
-    search-after =
-        next ∙ ap (λ l. after_text p here (slice_range l n m)) is ∙ ap (λ x. after_text x here (slice_range bytes n m)) same ∙ ap (λ v. after_text q v (slice_range bytes n m)) there
-        ∙ sym (after-append q w (take n bytes) (slice_range bytes n m)) ∙ ap (after_text q w) (sym front_is)
-
-    pub search-found : m < length shown → (get_or shown m 0 ≡ e) × (is_inside after ≡ false) → FindsEnd q e w bytes (Some m)
-    search-found low found =
-        let inside : m < length bytes = subst (λ l. m < length l) is low in (
-          inside,
-          sym (take-append-drop m bytes) ∙ ap (λ l. take m bytes ++ l) (drop_more bytes m 0 inside ∙ ap (λ b. b ∷ drop (m + 1) bytes) (ap (λ l. get_or l m 0) (sym is) ∙ found.0)),
-          (search-none, ap is_inside (sym search-after) ∙ found.1),
-        )
+-- a search from there on
+pub Searched-on : {p q : Option ℕ} {e : ℕ} {w here after : Within} {bytes shown : List ℕ} {n : ℕ} (m : ℕ) → p ≡ q → shown ≡ bytes → Searched q e w here bytes n → n ≤ m → HasNoEnd p e here (slice_range shown n m) →
+    after ≡ after_text p here (slice_range shown n m) → Searched q e w after bytes m
+Searched-on {p} {q} {e} {w} {here} {after} {bytes} {shown} {n} m same is so_far ordered free next = record {
+  none = subst (HasNoEnd q e w) (sym front) (end-append q e w (take n bytes) (slice_range bytes n m) so_far.none
+      (subst (λ v. HasNoEnd q e v (slice_range bytes n m)) so_far.there (subst (λ x. HasNoEnd x e here (slice_range bytes n m)) same (subst (λ l. HasNoEnd p e here (slice_range l n m)) is free))));
+  there = next ∙ ap (λ l. after_text p here (slice_range l n m)) is ∙ ap (λ x. after_text x here (slice_range bytes n m)) same ∙ ap (λ v. after_text q v (slice_range bytes n m)) so_far.there
+      ∙ sym (after-append q w (take n bytes) (slice_range bytes n m)) ∙ ap (after_text q w) (sym front);
+}
+  where
+    front : take m bytes ≡ take n bytes ++ slice_range bytes n m
+    front = let sum : m ≡ n + (m - n) = omega (arith, ordered) in ap (λ k. take k bytes) sum ∙ take-add n (m - n) bytes
 
 -- a byte that ends a part
 pub outside-parts : (same inside : Bool) → (same && not inside) ≡ true → (same ≡ true) × (inside ≡ false)

@@ -1,13 +1,5 @@
 -- No text is at fault of a write that failed.
-use Rattle.std.proofs.Common.{◌≡◌, ℕ, Bool, true, false, List, Result, Ok, Err, if◌then◌else◌, refl, sym, subst}
-use Rattle.std.specs.Prelude.{nat_le, ⊤}
-use Rattle.num_format.specs.Format.{FormatData}
-use Rattle.regroup_lines.specs.Ended.{ended_by}
-use Rattle.regroup_lines.specs.Fault.{Fault, is_unsent}
-use Rattle.regroup_lines.specs.Fault.Fault.{Unclosed}
-use Rattle.regroup_lines.specs.Lines.{body_sent, body_written, fault_named, fault_sent, passed, passes, quotes_in, record_sent, text_sent}
-use Rattle.regroup_lines.specs.Records.{is_open}
-use Rattle.regroup_lines.specs.declared.rules.Rules.{Rules}
+use Rattle.regroup_lines.proofs.Common.{◌≡◌, ℕ, Bool, true, false, List, Result, Ok, Err, if◌then◌else◌, refl, sym, subst, nat_le, ⊤, FormatData, ended_by, Fault, is_unsent, Unclosed, body_sent, body_written, fault_named, fault_sent, passed, passes, quotes_in, record_sent, text_sent, is_open, Rules}
 use Rattle.regroup_lines.proofs.NumberedLemmas.{body-numbered, numbered, with_number-sent}
 
 -- a text is at no fault of a write that failed

@@ -1,26 +1,14 @@
 -- The number in the text of a line.
-use Rattle.std.proofs.Common.{◌≡◌, ℕ, Bool, true, false, List, None, Result, Ok, Err, refl, sym, ap}
-use Rattle.std.specs.Prelude.{ℤ, IsUtf8, ◌↔◌}
-use Rattle.std.specs.Result.{result_map_both}
-use Rattle.std.specs.Str.{is_utf8}
-use Rattle.std.proofs.lemmas.Bool.{false_from_ne_true}
-use Rattle.std.proofs.lemmas.Str.{IsUtf8-from_is_utf8, is_utf8-from_IsUtf8}
-use Rattle.num_format.specs.Format.{FormatData, HasUtf8Texts}
+use Rattle.regroup_lines.proofs.Common.{◌≡◌, ℕ, Bool, true, false, List, Option, None, Result, Ok, Err, refl, sym, ap, subst, ℤ, IsUtf8, ◌↔◌, result_map_both, result_or, is_utf8, false_from_ne_true, IsUtf8-from_is_utf8, is_utf8-from_IsUtf8, FormatData, HasUtf8Texts, text_of, decimal_text, Sends, ended_by, decimal_read, Fault, Write, line_fault_of, text_fault, number_in_text, number_written, SendsLine, LineFault, Lenient, Strict}
 use Rattle.num_format.specs.Kind.{signed}
 use Rattle.num_format.specs.ParseBytesError.{ParseBytesError}
 use Rattle.num_format.specs.ParseBytesError.TheVariants.{NotANumber, NotUtf8}
 use Rattle.num_format.specs.Reading.{Refused, denoted}
-use Rattle.num_format.specs.Text.{text_of}
 use Rattle.num_format_decimal.specs.FixedPoint.{FixedPoint}
 use Rattle.num_format_decimal.specs.Parsing.{ParsesDecimal}
-use Rattle.num_format_decimal.specs.Text.{decimal_text}
 use Rattle.num_format_decimal.specs.declared.parsing.ParseDecimalError.{ParseDecimalError}
 use Rattle.num_format.proofs.ReadableLemmas.{readable-from_accepted, unreadable-from_refused}
-use Rattle.regroup_lines.specs.Decimals.{decimal_read}
-use Rattle.regroup_lines.specs.Fault.{Fault}
-use Rattle.regroup_lines.specs.LineFaults.{text_fault}
-use Rattle.regroup_lines.specs.Lines.{number_in_text, number_written}
-use Rattle.regroup_lines.specs.declared.rules.Reading.TheVariants.{Lenient, Strict}
+use Rattle.regroup_lines.specs.declared.line_fault.LineFault.TheVariants as fault
 use Rattle.regroup_lines.proofs.DecimalLemmas.{decimal_read-parsed, decimal_read-refused, parsed-utf8}
 
 module _ (from : FormatData) (number : ℕ) (text : List ℕ) where

@@ -1,29 +1,9 @@
 -- What is sent of one line and told of it.
-use Rattle.std.proofs.Common.{◌≡◌, ◌≢◌, ℕ, ◌<◌, ◌≤◌, Bool, true, false, List, [], Option, None, Some, Result, Ok, Err, if◌then◌else◌, refl, sym, ap, subst}
-use Rattle.std.specs.Prelude.{is_some}
-use Rattle.std.specs.Io.KnownBytes.{Appends}
-use Rattle.std.specs.Result.{result_or}
-use Rattle.std.specs.Str.{is_utf8}
-use Rattle.std.proofs.KnownBytes.{Appends-nil}
-use Rattle.std.proofs.lemmas.Bool.{both_ways, le-leb, lt-leb}
-use Rattle.num_format.specs.Format.{FormatData}
-use Rattle.num_format.specs.Writing.{Sends, StopsWithin}
-use Rattle.regroup_lines.specs.Ended.{ended_by, without_end}
-use Rattle.regroup_lines.specs.Fault.{Fault, are_any, in_field, is_unsent}
-use Rattle.regroup_lines.specs.Fault.Fault.{Line, NotText, Report, Unclosed, Write}
-use Rattle.regroup_lines.specs.Input.{rejects_or}
-use Rattle.regroup_lines.specs.LineFaults.{line_fault_of}
-use Rattle.regroup_lines.specs.Lines.{Sent, body_sent, body_written, fault_named, fault_sent, only_written, passed, passes, quotes_in, record_sent, text_sent}
-use Rattle.regroup_lines.specs.Messages.{messages}
-use Rattle.regroup_lines.specs.Records.{is_open}
-use Rattle.regroup_lines.specs.Sending.{Names, ReceivesEach, SendsEach, SendsLine, Writer, by_writer, failed_writer, text_to}
-use Rattle.regroup_lines.specs.Sending.Writer.{Messages, Output, Rejects}
-use Rattle.regroup_lines.specs.declared.line_fault.LineFault.{LineFault}
+use Rattle.regroup_lines.proofs.Common.{◌≡◌, ◌≢◌, ℕ, ◌<◌, ◌≤◌, Bool, true, false, List, [], Option, None, Some, Result, Ok, Err, if◌then◌else◌, refl, sym, ap, subst, is_some, Appends, result_map_both, result_or, is_utf8, Appends-nil, both_ways, le-leb, lt-leb, FormatData, Sends, StopsWithin, ended_by, without_end, Fault, are_any, in_field, is_unsent, Line, NotText, Report, Unclosed, Write, line_fault_of, Sent, body_sent, body_written, fault_named, fault_sent, only_written, passed, passes, quotes_in, record_sent, text_sent, messages, is_open, Names, ReceivesBytes, ReceivesEach, SendsBytes, SendsEach, SendsLine, Writer, by_writer, failed_writer, text_to, Messages, Output, Rejects, LineFault, Rules}
 use Rattle.regroup_lines.specs.declared.line_fault.LineFault.TheVariants as fault
-use Rattle.regroup_lines.specs.declared.rules.Rules.{Rules}
 use Rattle.regroup_lines.proofs.LineLemmas.{passes-fault}
 use Rattle.regroup_lines.proofs.SentLemmas.{IsSent}
-use Rattle.regroup_lines.proofs.WriterLemmas.{passed-stopped, prefix-none, unnamed-stopped}
+use Rattle.regroup_lines.proofs.WriterLemmas.{passed-received, prefix-none, unnamed-stopped}
 
 -- a write that fails, or does not, and what is returned in place of its error
 module _ {E F : Type 0} (call : Result (Unit {0}) E) (result : Result (Unit {0}) F) (failed : F) (is : result ≡ result_or call (Err failed)) (a b : Option (List ℕ)) (text : List ℕ) (sends : Sends call a b text) where
@@ -40,6 +20,22 @@ module _ {E F : Type 0} (call : Result (Unit {0}) E) (result : Result (Unit {0})
       by : (r : Result (Unit {0}) E) → result ≡ result_or r (Err failed) → Sends r a b text → Appends a b text
       by (Ok done) is sends = sends.whole
       by (Err e) is sends = absurd (cc)
+
+-- bytes that are rejected
+pub bytes-rejected : {E : Type 0} (w a b : Option (List ℕ)) (bytes : List ℕ) (call : Result (Unit {0}) E) → Sends call a b bytes → (result : Result (Unit {0}) LineFault) → result ≡ result_or call (Err fault.Reject) →
+    SendsBytes true (λ told. by_writer w told a) (λ told. by_writer w told b) bytes (result_map_both (λ sent. sent) line_fault_of result)
+bytes-rejected w a b bytes (Ok done) sends result is = rw is by
+  where
+    by : ReceivesBytes true None (λ told. by_writer w told a) (λ told. by_writer w told b) bytes
+    by told Output = Appends-nil w
+    by told Messages = Appends-nil told
+    by told Rejects = sends.whole
+bytes-rejected w a b bytes (Err e) sends result is = rw is (refl, by)
+  where
+    by : ReceivesBytes true (Some Rejects) (λ told. by_writer w told a) (λ told. by_writer w told b) bytes
+    by told Output = prefix-none w []
+    by told Messages = prefix-none told []
+    by told Rejects = sends.prefix
 
 module _ (rules : Rules) (name : List ℕ) (from : FormatData) where
   abbrev Sends_each : Result Sent Fault → (old new : Writer → Option (List ℕ)) → Result Bool Fault → Type 0
@@ -100,19 +96,19 @@ module _ (rules : Rules) (name : List ℕ) (from : FormatData) where
       fault-unnamed g names =
           by_passing (by_writer s t2 x) (Err Report) (refl, unnamed-stopped name rules.reading from s t t2 x (passed rules.rejects faults bytes) (subst (λ h. Named h (Err g)) same names).1)
 
-      module _ (any : Bool) (names : Named named (Ok any)) (rejects : Bool) (is : rules.rejects ≡ rejects) (s2 x2 : Option (List ℕ)) (other : rejects_or rejects s2 x2 ≡ rejects_or rejects s x) where
+      module _ (any : Bool) (names : Named named (Ok any)) (c : Option (List ℕ) → Writer → Option (List ℕ)) where
+        abbrev Sends_bytes : Result (Unit {0}) Fault → Type 0
+        Sends_bytes result = SendsBytes rules.rejects (λ told. by_writer s told x) c bytes result
+
         tells : Named f (Ok any)
         tells = subst (λ h. Named h (Ok any)) same names
 
-        pub fault-unpassed : (g : Fault) → failed_writer g ≡ Some (if rejects then Rejects else Output) → StopsWithin (rejects_or rejects x s) (rejects_or rejects x2 s2) bytes →
-            Sends_each (fault_sent rules f bytes) old (by_writer s2 t2 x2) (Err g)
-        fault-unpassed g unsent stops =
-            by_passing (by_writer s2 t2 x2) (Err g)
-            (subst (λ b. Sends_each (Ok (passed b faults bytes)) old (by_writer s2 t2 x2) (Err g)) (sym is) (
-              ap is_some unsent,
-              subst (λ w. ReceivesEach w old (by_writer s2 t2 x2) (text_to name rules.reading from (passed rejects faults bytes))) (sym unsent)
-                  (passed-stopped name rules.reading from rejects s s2 t t2 x x2 faults bytes stops other tells.1),
-            ))
+        pub fault-passed : Sends_bytes (Ok tt) → Sends_each (fault_sent rules f bytes) old (c t2) (Ok any)
+        fault-passed sends = by_passing (c t2) (Ok any) (tells.0, passed-received name rules.reading from rules.rejects None s t t2 x (c t2) faults bytes tells.1 (sends t2))
+
+        pub fault-unpassed : (g : Fault) → Sends_bytes (Err g) → Sends_each (fault_sent rules f bytes) old (c t2) (Err g)
+        fault-unpassed g sends =
+            by_passing (c t2) (Err g) (sends.0, passed-received name rules.reading from rules.rejects (failed_writer g) s t t2 x (c t2) faults bytes tells.1 (sends.1 t2))
 
 -- a header, and a line that is none
 module _ (rules : Rules) (from to : FormatData) (number : ℕ) (text : List ℕ) where

@@ -1,21 +1,5 @@
 -- What regrouping returns where it names no fault.
-use Rattle.std.proofs.Common.{◌≡◌, ◌≢◌, ℕ, ◌+◌, ◌==◌, Bool, true, false, List, [], ◌∷◌, length, Option, Some, Result, Ok, Err, if◌then◌else◌, refl, sym, ap, subst, arith}
-use Rattle.std.specs.Prelude.{nat_le, nat_lt, ⊤}
-use Rattle.std.specs.Result.{result_map_both}
-use Rattle.std.specs.Io.KnownBytes.{Appends}
-use Rattle.std.proofs.lemmas.List.{length-append}
-use Rattle.num_format.specs.Format.{FormatData}
-use Rattle.num_format.specs.Writing.{StopsWithin}
-use Rattle.regroup_lines.specs.Ended.{ended_by, without_end}
-use Rattle.regroup_lines.specs.Fault.{Fault}
-use Rattle.regroup_lines.specs.Fault.Fault.{Reject, Report, TooMany, Unclosed, Write}
-use Rattle.regroup_lines.specs.Lines.{Regrouped, Sent, Stop, body_sent, body_written, fault_sent, line_after, line_begun, line_sent, long_begun, long_fault, only_written, passes, quotes_in, records_of, regrouped, regrouped_parts, regrouped_rest, returning, sending_line, stop_returned}
-use Rattle.regroup_lines.specs.Lines.Stop.{Ended}
-use Rattle.regroup_lines.specs.Records.{is_open}
-use Rattle.regroup_lines.specs.Sending.{Receives, Regroups, RegroupsNaming, Returns, Writer, failed_by, text_to}
-use Rattle.regroup_lines.specs.Sending.Writer.{Messages, Output, Rejects}
-use Rattle.regroup_lines.specs.declared.Summary.{Summary}
-use Rattle.regroup_lines.specs.declared.rules.Rules.{Rules}
+use Rattle.regroup_lines.proofs.Common.{◌≡◌, ◌≢◌, ℕ, ◌+◌, ◌==◌, Bool, true, false, List, [], ◌∷◌, length, Option, Some, Result, Ok, Err, if◌then◌else◌, refl, sym, ap, subst, arith, nat_le, nat_lt, ⊤, result_map_both, Appends, length-append, FormatData, StopsWithin, ended_by, without_end, Fault, Reject, Report, TooMany, Unclosed, Write, Regrouped, Sent, Stop, body_sent, body_written, fault_sent, line_after, line_begun, line_sent, long_fault, long_returned, only_written, passes, quotes_in, records_of, regrouped, regrouped_parts, regrouped_rest, returning, sending_line, stop_returned, Ended, is_open, Receives, Regroups, RegroupsNaming, Returns, Writer, failed_by, text_to, Messages, Output, Rejects, Summary, Rules}
 use Rattle.regroup_lines.proofs.LineLemmas.{aborts-fault}
 
 -- nothing is sent but to the output
@@ -54,17 +38,12 @@ module _ (rules : Rules) (aborts : passes rules.invalid ≡ false) (most : ℕ) 
   sending-unnamed (Ok sent) rest none after = rw (none, after) refl
   sending-unnamed (Err fault) rest none after = refl
 
-  begun-unnamed : (line : Result Sent Fault) (stop : Stop) → IsUnnamed line → IsBare (long_begun line stop).sent
-  begun-unnamed (Ok sent) stop none = none
-  begun-unnamed (Err fault) stop none = refl
-
   line_begun-unnamed : (stop : Stop) (count number : ℕ) (text : List ℕ) → IsBare (line_begun rules most stop count number text).sent
   line_begun-unnamed stop count number text =
       let fault = long_fault rules number text in
       either_run (length text == 0) (returning (stop_returned stop)) _ refl
       (either_run (nat_lt most (count + 1)) (returning (Some (Err TooMany))) _ refl
-      (either_run (nat_lt rules.max_line_len (length text)) (long_begun (fault_sent rules fault text) stop) (returning (stop_returned stop))
-      (begun-unnamed (fault_sent rules fault text) stop (fault-unnamed fault text)) refl))
+      (either_run (nat_lt rules.max_line_len (length text)) _ (returning (stop_returned stop)) (sending-unnamed (fault_sent rules fault text) (returning (long_returned stop)) (fault-unnamed fault text) refl) refl))
 
   rest-unnamed : (stop : Stop) (count number : ℕ) (text : List ℕ) → IsBare (regrouped_rest rules most from to stop count number text).sent
   rest-unnamed Ended count number text =

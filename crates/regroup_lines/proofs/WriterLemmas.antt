@@ -1,20 +1,6 @@
 -- What writers received of lines that are sent one after the other.
-use Rattle.std.proofs.Common.{◌≡◌, ℕ, Bool, true, false, List, [], ◌∷◌, ◌++◌, Option, Some, None, refl, sym, ap, subst, ◌∙◌, append_assoc, append-nil}
-use Rattle.std.specs.Prelude.{◌||◌, if◌then◌else◌, is_some}
-use Rattle.std.specs.Io.KnownBytes.{Appends}
-use Rattle.std.proofs.KnownBytes.{Appends-nil, Appends-trans}
+use Rattle.regroup_lines.proofs.Common.{◌≡◌, ℕ, Bool, true, false, List, [], ◌∷◌, ◌++◌, Option, Some, None, refl, sym, ap, subst, ◌∙◌, append_assoc, append-nil, ◌||◌, if◌then◌else◌, is_some, Appends, Keeps, Appends-kept, Appends-nil, Appends-trans, FormatData, StopsWithin, HasReceivedUpTo-none, StopsWithin_prefix, StopsWithin_suffix, Fault, are_any, is_unsent, Reject, Report, Write, Regrouped, Sent, joined, only_written, passed, sending, fault_message, messages, Receives, ReceivesBytes, ReceivesEach, ReceivesPrefix, Writer, by_writer, bytes_to, failed_writer, text_to, Messages, Output, Rejects, Reading}
 use Rattle.std.proofs.lemmas.Grind.{flat_map-append}
-use Rattle.num_format.specs.Format.{FormatData}
-use Rattle.num_format.specs.Writing.{StopsWithin}
-use Rattle.num_format.proofs.WritingLemmas.{HasReceivedUpTo-none, StopsWithin_prefix, StopsWithin_suffix}
-use Rattle.regroup_lines.specs.Fault.{Fault, are_any, is_unsent}
-use Rattle.regroup_lines.specs.Fault.Fault.{Reject, Report, Write}
-use Rattle.regroup_lines.specs.Input.{rejects_or}
-use Rattle.regroup_lines.specs.Lines.{Regrouped, Sent, joined, only_written, passed, sending}
-use Rattle.regroup_lines.specs.Messages.{fault_message, messages}
-use Rattle.regroup_lines.specs.Sending.{ReceivesEach, ReceivesPrefix, Receives, Writer, by_writer, failed_writer, text_to}
-use Rattle.regroup_lines.specs.Sending.Writer.{Messages, Output, Rejects}
-use Rattle.regroup_lines.specs.declared.rules.Reading.{Reading}
 
 pub joined-assoc : (a b c : Sent) → joined a (joined b c) ≡ joined (joined a b) c
 joined-assoc a b c =
@@ -66,12 +52,28 @@ Receives-more (Some failed) w a b x y fails first = record {
   };
 }
 
--- a prefix that is nothing, or all
+-- a prefix that is nothing
 pub prefix-none : (a : Option (List ℕ)) (x : List ℕ) → ReceivesPrefix a a x
 prefix-none a x = record { rest = x; received = HasReceivedUpTo-none a x }
 
-pub prefix-all : (a b : Option (List ℕ)) (x : List ℕ) → Appends a b x → ReceivesPrefix a b x
-prefix-all a b x sent = record { rest = []; received = record { received = x; split = append-nil x; appended = sent } }
+-- a flush of the output
+pub received-kept : (text : Writer → List ℕ) (c : Writer → Option (List ℕ)) (s s2 t x : Option (List ℕ)) → ReceivesEach None c (by_writer s t x) text → Keeps s s2 → ReceivesEach None c (by_writer s2 t x) text
+received-kept text c s s2 t x received kept Output = Appends-kept (c Output) s s2 (text Output) (received Output) kept
+received-kept text c s s2 t x received kept Messages = received Messages
+received-kept text c s s2 t x received kept Rejects = received Rejects
+
+-- bytes at fault, and more of them
+bytes_to-append : (rejects : Bool) (xs ys : List ℕ) (w : Writer) → bytes_to rejects (xs ++ ys) w ≡ bytes_to rejects xs w ++ bytes_to rejects ys w
+bytes_to-append true xs ys Output = refl
+bytes_to-append false xs ys Output = refl
+bytes_to-append rejects xs ys Messages = refl
+bytes_to-append true xs ys Rejects = refl
+bytes_to-append false xs ys Rejects = refl
+
+pub ReceivesBytes-after : (rejects : Bool) (failed : Option Writer) (a b c : Option (List ℕ) → Writer → Option (List ℕ)) (xs ys : List ℕ) → ReceivesBytes rejects None a b xs → ReceivesBytes rejects failed b c ys →
+    ReceivesBytes rejects failed a c (xs ++ ys)
+ReceivesBytes-after rejects failed a b c xs ys first second = λ told w.
+    subst (Receives failed w (a told w) (c told w)) (sym (bytes_to-append rejects xs ys w)) (Receives-after failed w (a told w) (b told w) (c told w) _ _ (first told w) (second told w))
 
 module _ (name : List ℕ) (reading : Reading) (from : FormatData) where
   -- what is sent of lines, and then of others
@@ -98,20 +100,10 @@ module _ (name : List ℕ) (reading : Reading) (from : FormatData) where
   unnamed-stopped s t t2 x sent stops Messages = stops
   unnamed-stopped s t t2 x sent stops Rejects = prefix-none x sent.rejected
 
-  -- bytes at fault that are sent to one writer, and nothing to the other
-  pub passed-received : (rejects : Bool) (s s2 t t2 x x2 : Option (List ℕ)) (faults : List Fault) (bytes : List ℕ) → Appends (rejects_or rejects x s) (rejects_or rejects x2 s2) bytes → rejects_or rejects s2 x2 ≡ rejects_or rejects s x →
-      Appends t t2 (messages name reading from faults) → ReceivesEach None (by_writer s t x) (by_writer s2 t2 x2) (text_to name reading from (passed rejects faults bytes))
-  passed-received true s s2 t t2 x x2 faults bytes sent other told Output = subst (λ o. Appends s o []) (sym other) (Appends-nil s)
-  passed-received true s s2 t t2 x x2 faults bytes sent other told Rejects = sent
-  passed-received false s s2 t t2 x x2 faults bytes sent other told Output = sent
-  passed-received false s s2 t t2 x x2 faults bytes sent other told Rejects = subst (λ o. Appends x o []) (sym other) (Appends-nil x)
-  passed-received rejects s s2 t t2 x x2 faults bytes sent other told Messages = told
-
-  pub passed-stopped : (rejects : Bool) (s s2 t t2 x x2 : Option (List ℕ)) (faults : List Fault) (bytes : List ℕ) → StopsWithin (rejects_or rejects x s) (rejects_or rejects x2 s2) bytes → rejects_or rejects s2 x2 ≡ rejects_or rejects s x →
-      Appends t t2 (messages name reading from faults) → ReceivesEach (Some (if rejects then Rejects else Output)) (by_writer s t x) (by_writer s2 t2 x2) (text_to name reading from (passed rejects faults bytes))
-  passed-stopped true s s2 t t2 x x2 faults bytes stops other told Output = subst (λ o. ReceivesPrefix s o []) (sym other) (prefix-none s [])
-  passed-stopped true s s2 t t2 x x2 faults bytes stops other told Messages = prefix-all t t2 _ told
-  passed-stopped true s s2 t t2 x x2 faults bytes stops other told Rejects = stops
-  passed-stopped false s s2 t t2 x x2 faults bytes stops other told Output = stops
-  passed-stopped false s s2 t t2 x x2 faults bytes stops other told Messages = prefix-all t t2 _ told
-  passed-stopped false s s2 t t2 x x2 faults bytes stops other told Rejects = subst (λ o. ReceivesPrefix x o []) (sym other) (prefix-none x [])
+  -- a message is sent, and then bytes at fault
+  pub passed-received : (rejects : Bool) (failed : Option Writer) (s t t2 x : Option (List ℕ)) (c : Writer → Option (List ℕ)) (faults : List Fault) (bytes : List ℕ) → Appends t t2 (messages name reading from faults) →
+      ReceivesEach failed (by_writer s t2 x) c (bytes_to rejects bytes) → ReceivesEach failed (by_writer s t x) c (text_to name reading from (passed rejects faults bytes))
+  passed-received rejects failed s t t2 x c faults bytes told sent Output = sent Output
+  passed-received rejects failed s t t2 x c faults bytes told sent Messages =
+      subst (Receives failed Messages t (c Messages)) (append-nil (messages name reading from faults)) (Receives-after failed Messages t t2 (c Messages) _ [] told (sent Messages))
+  passed-received rejects failed s t t2 x c faults bytes told sent Rejects = sent Rejects

@@ -1,17 +1,19 @@
 -- What is read from the input, piece by piece.
-use Rattle.std.specs.Prelude.{◌≡◌, ℕ, ◌+◌, ◌<◌, ◌≤◌, Bool, true, false, if◌then◌else◌, List, [], ◌∷◌, ◌++◌, length, take, drop, slice_range, Option, None, Some, Result, Ok, Err, ⊤, ◌^◌, ◌-◌}
-use Rattle.std.specs.Io.KnownBytes.{Appends, Consumes, IsAtEnd}
+use Rattle.std.specs.Prelude.{◌≡◌, ℕ, ◌+◌, ◌<◌, ◌≤◌, Bool, true, false, List, [], ◌∷◌, ◌++◌, length, take, drop, slice_range, Option, None, Some, Result, Ok, Err, ⊤, ◌^◌, ◌-◌}
+use Rattle.std.specs.Io.KnownBytes.{Consumes, IsAtEnd}
 use Rattle.std.specs.declared.ops.Range.{Range}
-use Rattle.num_format.specs.Writing.{StopsWithin}
 use Rattle.regroup_lines.specs.Ended.{ended_by}
 use Rattle.regroup_lines.specs.Fault.{Fault}
-use Rattle.regroup_lines.specs.Fault.Fault.{Flush, Read, Reject, TooMany, Write}
-use Rattle.regroup_lines.specs.Records.{after_text, has_end, is_inside, line_reached, next_line}
+use Rattle.regroup_lines.specs.Fault.Fault.{Flush, Read, TooMany}
+use Rattle.regroup_lines.specs.Lines.{Stop, quotes_in}
+use Rattle.regroup_lines.specs.Lines.Stop.{Ended, Endless, Failed, Unflushed, Unread}
+use Rattle.regroup_lines.specs.Records.{after_text, has_end, is_inside}
 use Rattle.regroup_lines.specs.declared.input.Input.{Input}
 use Rattle.regroup_lines.specs.declared.input.Piece.{Piece}
 use Rattle.regroup_lines.specs.declared.input.Piece.TheVariants.{Line, Rest, TooLong}
 use Rattle.regroup_lines.specs.declared.records.Within.{Within}
 use Rattle.regroup_lines.specs.declared.records.Within.TheVariants.{Start}
+use Rattle.regroup_lines.specs.declared.rules.Rules.{Rules}
 
 -- the bytes that are held
 abbrev pub held : Input → List ℕ
@@ -64,43 +66,27 @@ abbrev pub EndsOrGoesOn : List ℕ → Option (List ℕ) → Option (List ℕ) �
 EndsOrGoesOn held old new true = Reads held [] old new × IsAtEnd new
 EndsOrGoesOn held old new false = (text : List ℕ) × Reads held text old new × (0 < length text)
 
--- bytes of a record that is too long, without the byte that ends it: as many as the array has, or more
-pub record IsLong (quotes : Option ℕ) (line_end len : ℕ) (text : List ℕ) : Type 0 where
-  pub no_end : HasNoEnd quotes line_end Start text
-  pub long : len ≤ length text
+-- bytes of a record that is too long, without the byte that ends it
+pub record IsLong (rules : Rules) (text : List ℕ) : Type 0 where
+  pub no_end : HasNoEnd (quotes_in rules.span) rules.line_end Start text
+  pub long : rules.max_line_len < length text
 
--- such bytes that end outside quotes
-abbrev pub IsLongRecord : (quotes : Option ℕ) → (line_end len : ℕ) → List ℕ → Type 0
-IsLongRecord quotes line_end len text = IsLong quotes line_end len text × (is_inside (after_text quotes Start text) ≡ false)
+-- what is known where a reader stopped so, which gave these bytes and others before them
+abbrev pub IsStop : (flushes : Bool) → Stop → (given : List ℕ) → (left : Option (List ℕ)) → Type 0
+IsStop flushes Ended given left = IsAtEnd left
+IsStop flushes Unflushed given left = flushes ≡ true
+IsStop flushes Endless given left = 2 ^ 64 - 1 ≤ length given
+IsStop flushes stop given left = ⊤
 
--- where a write of such a record fails, of which these bytes were held at first: before the byte that ends it was read, at that byte,
--- or at the end of the input
-pub data StopsInLong (quotes : Option ℕ) (line_end len : ℕ) (begun left : List ℕ) (read_old read_new sent_old sent_new : Option (List ℕ)) : Type 0 where
-  within : (text : List ℕ) → Reads begun text read_old read_new → IsLong quotes line_end len text → StopsWithin sent_old sent_new text →
-      StopsInLong quotes line_end len begun left read_old read_new sent_old sent_new
-  at_line_end : (text : List ℕ) → Reads begun (text ++ line_end ∷ left) read_old read_new → IsLongRecord quotes line_end len text → StopsWithin sent_old sent_new (ended_by line_end text) →
-      StopsInLong quotes line_end len begun left read_old read_new sent_old sent_new
-  at_end : (text : List ℕ) → Reads begun text read_old read_new → IsLong quotes line_end len text → IsAtEnd read_new → StopsWithin sent_old sent_new (ended_by line_end text) →
-      StopsInLong quotes line_end len begun left read_old read_new sent_old sent_new
+-- what is sent of such a record where the reader stopped so in it: at the end of the input the byte that ends it too
+abbrev pub stop_text : (line_end : ℕ) → Stop → List ℕ → List ℕ
+stop_text line_end Ended text = ended_by line_end text
+stop_text line_end stop text = text
 
--- what belongs to the writer of rejected lines, or to the output
-abbrev pub rejects_or : (rejects : Bool) → (rejected written : Option (List ℕ)) → Option (List ℕ)
-rejects_or rejects rejected written = if rejects then rejected else written
-
--- what a call that sends the rest of such a record does, to the writer of rejected lines or to the output, and then these bytes are left: it
--- returns whether the input ended, and the number of its line goes on to that of the next record
-abbrev pub PassesLong : (rejects : Bool) → (number_old number_new : ℕ) → (quotes : Option ℕ) → (line_end len : ℕ) → (flushes : Bool) → (begun left : List ℕ) → (read_old read_new sent_old sent_new : Option (List ℕ)) → Result Bool Fault → Type 0
-PassesLong rejects number_old number_new quotes line_end len flushes begun left read_old read_new sent_old sent_new (Ok false) =
-    (text : List ℕ) × Reads begun (text ++ line_end ∷ left) read_old read_new × IsLongRecord quotes line_end len text × Appends sent_old sent_new (ended_by line_end text)
-    × (number_new ≡ next_line (line_reached quotes line_end number_old text))
-PassesLong rejects number_old number_new quotes line_end len flushes begun left read_old read_new sent_old sent_new (Ok true) =
-    (text : List ℕ) × Reads begun text read_old read_new × IsLong quotes line_end len text × Appends sent_old sent_new (ended_by line_end text) × IsAtEnd read_new
-PassesLong rejects number_old number_new quotes line_end len flushes begun left read_old read_new sent_old sent_new (Err Read) =
-    (text : List ℕ) × Reads begun text read_old read_new × IsLong quotes line_end len text × Appends sent_old sent_new text
-PassesLong rejects number_old number_new quotes line_end len flushes begun left read_old read_new sent_old sent_new (Err Flush) =
-    (text : List ℕ) × Reads begun text read_old read_new × IsLong quotes line_end len text × Appends sent_old sent_new text × (flushes ≡ true)
-PassesLong rejects number_old number_new quotes line_end len flushes begun left read_old read_new sent_old sent_new (Err TooMany) =
-    (text : List ℕ) × Reads begun text read_old read_new × IsLong quotes line_end len text × Appends sent_old sent_new text × (2 ^ 64 - 1 ≤ length text)
-PassesLong false number_old number_new quotes line_end len flushes begun left read_old read_new sent_old sent_new (Err Write) = StopsInLong quotes line_end len begun left read_old read_new sent_old sent_new
-PassesLong true number_old number_new quotes line_end len flushes begun left read_old read_new sent_old sent_new (Err Reject) = StopsInLong quotes line_end len begun left read_old read_new sent_old sent_new
-PassesLong rejects number_old number_new quotes line_end len flushes begun left read_old read_new sent_old sent_new (Err fault) = ⊥
+-- what is returned there: that the input ended, or why no more was read
+abbrev pub stop_result : Stop → Option (Result Bool Fault)
+stop_result Ended = Some (Ok true)
+stop_result Failed = Some (Err Read)
+stop_result Unflushed = Some (Err Flush)
+stop_result Endless = Some (Err TooMany)
+stop_result Unread = None

@@ -251,17 +251,12 @@ long_returned Endless = Some (Err TooMany)
 long_returned Ended = None
 long_returned Unread = None
 
--- the beginning of a record that is too long, by what is sent of it
-abbrev pub long_begun : Result Sent Fault → Stop → Regrouped
-long_begun (Ok sent) stop = record { sent = sent; returned = long_returned stop }
-long_begun (Err fault) stop = returning (Some (Err fault))
-
 -- the beginning of the record that so many are before: nothing is sent unless it is too long
 abbrev pub line_begun : Rules → (most : ℕ) → Stop → (count number : ℕ) → List ℕ → Regrouped
 line_begun rules most stop count number text =
     if length text == 0 then returning (stop_returned stop) else
     if nat_lt most (count + 1) then returning (Some (Err TooMany)) else
-    if nat_lt rules.max_line_len (length text) then long_begun (fault_sent rules (long_fault rules number text) text) stop else
+    if nat_lt rules.max_line_len (length text) then sending_line (fault_sent rules (long_fault rules number text) text) (returning (long_returned stop)) else
     returning (stop_returned stop)
 
 -- what stands after the last byte that ends a record, with so many records before it: at the end it is one unless it is empty

@@ -1,14 +1,16 @@
 -- What writers received of the lines and of the messages that name their faults.
-use Rattle.std.specs.Prelude.{◌≡◌, ◌≢◌, ℕ, ◌-◌, ◌^◌, ◌≤◌, Bool, true, List, length, Option, None, Some, Result, Ok, Err, is_some}
+use Rattle.std.specs.Prelude.{◌≡◌, ◌≢◌, ℕ, ◌-◌, ◌^◌, ◌≤◌, Bool, true, false, if◌then◌else◌, List, [], ◌∷◌, ◌++◌, length, Option, None, Some, Result, Ok, Err, is_some}
 use Rattle.std.specs.Io.KnownBytes.{Appends, Consumes, IsAtEnd}
 use Rattle.num_format.specs.Format.{FormatData}
 use Rattle.num_format.specs.Writing.{HasReceivedUpTo, StopsWithin}
 use Rattle.regroup_lines.specs.Ended.{ended_by}
 use Rattle.regroup_lines.specs.Fault.{Fault, are_any}
 use Rattle.regroup_lines.specs.Fault.Fault.{Reject, Report, Write}
-use Rattle.regroup_lines.specs.Lines.{Regrouped, Sent, Stop, regrouped}
+use Rattle.regroup_lines.specs.Input.{IsLong, IsStop, Reads, stop_result, stop_text}
+use Rattle.regroup_lines.specs.Lines.{Regrouped, Sent, Stop, line_after, quotes_in, regrouped}
 use Rattle.regroup_lines.specs.Lines.Stop.{Ended, Endless, Unflushed}
 use Rattle.regroup_lines.specs.Messages.{messages}
+use Rattle.regroup_lines.specs.Records.{is_open}
 use Rattle.regroup_lines.specs.declared.Summary.{Summary}
 use Rattle.regroup_lines.specs.declared.rules.Reading.{Reading}
 use Rattle.regroup_lines.specs.declared.rules.Rules.{Rules}
@@ -59,6 +61,29 @@ Receives (Some failed) writer old new text = ReceivesPrefix old new text
 -- what each writer received of the text for it
 abbrev pub ReceivesEach : (failed : Option Writer) → (old new : Writer → Option (List ℕ)) → (Writer → List ℕ) → Type 0
 ReceivesEach failed old new text = (writer : Writer) → Receives failed writer (old writer) (new writer) (text writer)
+
+-- bytes at fault for each writer: they are rejected or else written
+abbrev pub bytes_to : (rejects : Bool) → List ℕ → Writer → List ℕ
+bytes_to rejects bytes = by_writer (if rejects then [] else bytes) [] (if rejects then bytes else [])
+
+-- what each writer received of them, whatever that of messages has
+abbrev pub ReceivesBytes : (rejects : Bool) → (failed : Option Writer) → (old new : Option (List ℕ) → Writer → Option (List ℕ)) → List ℕ → Type 0
+ReceivesBytes rejects failed old new bytes = (told : Option (List ℕ)) → ReceivesEach failed (old told) (new told) (bytes_to rejects bytes)
+
+-- what a call that sends them does
+abbrev pub SendsBytes : {T : Type 0} → (rejects : Bool) → (old new : Option (List ℕ) → Writer → Option (List ℕ)) → List ℕ → Result T Fault → Type 0
+SendsBytes rejects old new bytes (Ok sent) = ReceivesBytes rejects None old new bytes
+SendsBytes rejects old new bytes (Err fault) = (is_some (failed_writer fault) ≡ true) × ReceivesBytes rejects (failed_writer fault) old new bytes
+
+-- what a call that passes on a record that is too long does, of which these bytes were held at first: it sends the record up to the byte that ends it,
+-- and these are left, or up to where the reader stopped; it returns whether the input ended, and the number of its line goes on to that of the next record
+pub data PassesLong (rules : Rules) (number_old number_new : ℕ) (begun left : List ℕ) (read_old read_new : Option (List ℕ)) (old new : Option (List ℕ) → Writer → Option (List ℕ)) (result : Result Bool Fault) : Type 0 where
+  to_end : (text : List ℕ) → Reads begun (text ++ rules.line_end ∷ left) read_old read_new → IsLong rules text → is_open (quotes_in rules.span) text ≡ false →
+      ReceivesBytes rules.rejects (failed_by result) old new (ended_by rules.line_end text) → (failed_by result ≡ None → (result ≡ Ok false) × (number_new ≡ line_after rules number_old text)) →
+      PassesLong rules number_old number_new begun left read_old read_new old new result
+  to_stop : (stop : Stop) (text : List ℕ) → Reads begun text read_old read_new → IsLong rules text → IsStop rules.flushes stop text read_new →
+      ReceivesBytes rules.rejects (failed_by result) old new (stop_text rules.line_end stop text) → (failed_by result ≡ None → stop_result stop ≡ Some result) →
+      PassesLong rules number_old number_new begun left read_old read_new old new result
 
 -- what a call that sends a line does: a fault in place of the line is returned, and nothing is sent
 abbrev pub SendsLine : {T : Type 0} → (line_end : ℕ) → Result (List ℕ) Fault → Option (List ℕ) → Option (List ℕ) → Result T Fault → Type 0

@@ -30,20 +30,19 @@ mod quoting;
 mod records;
 pub mod rules;
 
-ghost use Rattle.std.specs.Prelude.{◌≡◌, ◌+◌, [], ◌<◌, ◌≤◌, false, length, true};
+ghost use Rattle.std.specs.Prelude.{◌≡◌, ◌+◌, ◌++◌, [], ◌≤◌, length, true};
 ghost use Rattle.std.specs.Result.{result_map_both};
 ghost use Rattle.num_format.specs.Writing.{Sends};
 ghost use Rattle.regroup_lines.specs.Ended.{ended_by};
 ghost use Rattle.regroup_lines.specs.Fault.{are_any, fault_of};
-ghost use Rattle.regroup_lines.specs.Fields.{SendsIfOk};
-ghost use Rattle.regroup_lines.specs.Input.{IsLong, PassesLong, array_len, held, rejects_or};
+ghost use Rattle.regroup_lines.specs.Input.{IsLong, array_len, held};
 ghost use Rattle.regroup_lines.specs.LineFaults.{line_fault_of};
 ghost use Rattle.regroup_lines.specs.Lines.{body_written, fault_named, fault_sent, lenient, line_after, long_fault, numbers_replaced, passes_mark, place_written, quotes_in, record_sent, text_sent};
 ghost use Rattle.regroup_lines.specs.Records.{after_text, line_reached};
 ghost use Rattle.regroup_lines.specs.Messages.{fault_message, messages};
 ghost use Rattle.regroup_lines.specs.Places.{place_of};
 ghost use Rattle.regroup_lines.specs.declared.rules.Span.TheVariants.{Trimmed};
-ghost use Rattle.regroup_lines.specs.Sending.{Names, Regroups, RegroupsNaming, SendsEach, SendsLine, by_writer};
+ghost use Rattle.regroup_lines.specs.Sending.{Names, PassesLong, Regroups, RegroupsNaming, SendsBytes, SendsEach, SendsLine, by_writer};
 
 use crate::ends::without_end;
 pub use crate::fault::{FieldCount, RegroupFault};
@@ -240,7 +239,7 @@ pub fn regroup_at_most<R: Read, W: Write, E: Write, X: Write, F: Format, G: Form
                     return Err(fault);
                 }
                 has_faults |= name_fault(rules, name, &fault, e, from)?;
-                if pass_long(rules, &mut number, &mut input, r, w, x)? {
+                if send_long(rules, &mut number, &mut input, r, w, x)? {
                     let lines = count + 1;
                     return Ok(Summary { lines, has_faults });
                 }
@@ -359,11 +358,7 @@ fn pass_fault<'a, W: Write, E: Write, X: Write, F: Format>(
     let Ok(is_named) = name_fault(rules, name, &RegroupFault::from(fault), e, from) else {
         return Err(LineFault::Report);
     };
-    if rules.rejects {
-        pass_on(text, rules.line_end, x).or(Err(LineFault::Reject))?;
-        return Ok(is_named);
-    }
-    pass_on(text, rules.line_end, w).or(Err(LineFault::Write))?;
+    pass_bytes(rules, text, &[rules.line_end], w, x)?;
     Ok(is_named)
 }
 
@@ -389,10 +384,11 @@ fn name_fault<E: Write, F: Format>(
     }
 }
 
-/// Sends a record that is too long as [`send_long`] does: to the output or, if the rules say so, to the writer of rejected lines. Then nothing is
-/// sent to the output, so that it needs no flush.
+/// Sends a record that is too long, piece by piece: the bytes that are held, which it begins with, and those up to the byte
+/// that ends it or the end of the input, and that byte. Returns whether the input ended. The number of its line goes on to that
+/// of the next record.
 #[cold]
-fn pass_long<R: Read, W: Write, X: Write>(
+fn send_long<R: Read, W: Write, X: Write>(
     rules: &Rules,
     number: &mut u64,
     input: &mut Input<'_>,
@@ -400,63 +396,31 @@ fn pass_long<R: Read, W: Write, X: Write>(
     w: &mut W,
     x: &mut X,
 ) -> Result<bool, RegroupFault>
-    requires long { IsLong (quotes_in rules.now.span) rules.now.line_end (array_len input.old) (held input.old) }
-    requires some { 0 < array_len input.old }
-    ensures passes { PassesLong rules.now.rejects number.old number.new (quotes_in rules.now.span) rules.now.line_end (array_len input.old) rules.now.flushes (held input.old) (held input.new) (R.remaining r.old) (R.remaining r.new)
-        (rejects_or rules.now.rejects (X.contents x.old) (W.contents w.old)) (rejects_or rules.now.rejects (X.contents x.new) (W.contents w.new)) (result_map_both (λ ended. ended) fault_of result) }
-    ensures other { rejects_or rules.now.rejects (W.contents w.new) (X.contents x.new) ≡ rejects_or rules.now.rejects (W.contents w.old) (X.contents x.old) }
-    ensures len { array_len input.new ≡ array_len input.old }
-{
-    if !rules.rejects {
-        return send_long(rules, number, input, r, w);
-    }
-    let rules = Rules {
-        flushes: false,
-        ..*rules
-    };
-    match send_long(&rules, number, input, r, x) {
-        Ok(has_ended) => Ok(has_ended),
-        Err(fault) => match fault {
-            RegroupFault::Write => Err(RegroupFault::Reject),
-            _ => Err(fault),
-        },
-    }
-}
-
-/// Sends a record that is too long, piece by piece: the bytes that are held, which it begins with, and those up to the byte
-/// that ends it or the end of the input, and that byte. Returns whether the input ended. The number of its line goes on to that
-/// of the next record.
-fn send_long<R: Read, W: Write>(
-    rules: &Rules,
-    number: &mut u64,
-    input: &mut Input<'_>,
-    r: &mut R,
-    w: &mut W,
-) -> Result<bool, RegroupFault>
-    requires long { IsLong (quotes_in rules.now.span) rules.now.line_end (array_len input.old) (held input.old) }
-    requires some { 0 < array_len input.old }
-    ensures passes { PassesLong false number.old number.new (quotes_in rules.now.span) rules.now.line_end (array_len input.old) rules.now.flushes (held input.old) (held input.new) (R.remaining r.old) (R.remaining r.new)
-        (W.contents w.old) (W.contents w.new) (result_map_both (λ ended. ended) fault_of result) }
+    requires long { IsLong rules.now (held input.old) }
+    requires len { array_len input.old ≡ rules.now.max_line_len + 1 }
+    ensures passes { PassesLong rules.now number.old number.new (held input.old) (held input.new) (R.remaining r.old) (R.remaining r.new)
+        (λ told. by_writer (W.contents w.old) told (X.contents x.old)) (λ told. by_writer (W.contents w.new) told (X.contents x.new))
+        (result_map_both (λ ended. ended) fault_of result) }
     ensures len { array_len input.new ≡ array_len input.old }
 {
     let mut within = Within::Start;
-    send_held(rules, &mut within, number, input, w)?;
+    send_held(rules, &mut within, number, input, w, x)?;
     for _ in 0..u64::MAX {
         match input.next_piece(rules, within, r, w) {
             Ok(Piece::Line(place)) => {
                 let text = input.bytes(place);
-                pass_on(text, rules.line_end, w).or(Err(RegroupFault::Write))?;
+                pass_bytes(rules, text, &[rules.line_end], w, x)?;
                 *number = line_after(rules, *number, text);
                 return Ok(false);
             }
             Ok(Piece::Rest(place)) => {
                 let text = input.bytes(place);
-                pass_on(text, rules.line_end, w).or(Err(RegroupFault::Write))?;
+                pass_bytes(rules, text, &[rules.line_end], w, x)?;
                 return Ok(true);
             }
-            Ok(Piece::TooLong) => send_held(rules, &mut within, number, input, w)?,
+            Ok(Piece::TooLong) => send_held(rules, &mut within, number, input, w, x)?,
             Err(halt) => {
-                send_held(rules, &mut within, number, input, w)?;
+                send_held(rules, &mut within, number, input, w, x)?;
                 return Err(halt.into());
             }
         }
@@ -464,17 +428,18 @@ fn send_long<R: Read, W: Write>(
     Err(RegroupFault::TooMany)
 }
 
-/// Sends the bytes that are held. Where the next byte is `within` a record goes on to the byte after them, and the number of the line to
-/// that in which they end.
-fn send_held<W: Write>(
+/// Sends the bytes that are held, which are at fault. Where the next byte is `within` a record goes on to the byte after them, and the number
+/// of the line to that in which they end.
+fn send_held<W: Write, X: Write>(
     rules: &Rules,
     within: &mut Within,
     number: &mut u64,
     input: &mut Input<'_>,
     w: &mut W,
-) -> Result<(), RegroupFault>
-    ensures sent { SendsIfOk (Ok (held input.old)) (W.contents w.old) (W.contents w.new)
-        (result_map_both (λ sent. sent) fault_of result) }
+    x: &mut X,
+) -> Result<(), LineFault<'static>>
+    ensures sent { SendsBytes rules.now.rejects (λ told. by_writer (W.contents w.old) told (X.contents x.old)) (λ told. by_writer (W.contents w.new) told (X.contents x.new))
+        (held input.old) (result_map_both (λ sent. sent) line_fault_of result) }
     ensures none_left { held input.new ≡ [] }
     ensures len { array_len input.new ≡ array_len input.old }
     ensures within { within.new ≡ after_text (quotes_in rules.now.span) within.old (held input.old) }
@@ -485,9 +450,24 @@ fn send_held<W: Write>(
     let bytes = input.bytes(place);
     *within = within.after(rules, bytes);
     *number = line_reached(rules, *number, bytes);
-    match write_whole(bytes, w) {
-        Ok(_) => Ok(()),
-        Err(_) => Err(RegroupFault::Write),
+    pass_bytes(rules, bytes, &[], w, x)
+}
+
+/// Sends bytes at fault, and others after them, to the output or, if the rules say so, to the writer of rejected lines.
+fn pass_bytes<W: Write, X: Write>(
+    rules: &Rules,
+    bytes: &[u8],
+    end: &[u8],
+    w: &mut W,
+    x: &mut X,
+) -> Result<(), LineFault<'static>>
+    ensures { SendsBytes rules.now.rejects (λ told. by_writer (W.contents w.old) told (X.contents x.old)) (λ told. by_writer (W.contents w.new) told (X.contents x.new))
+        (bytes.now ++ end.now) (result_map_both (λ sent. sent) line_fault_of result) }
+{
+    if rules.rejects {
+        write_both(bytes, end, x).or(Err(LineFault::Reject))
+    } else {
+        write_both(bytes, end, w).or(Err(LineFault::Write))
     }
 }
 
@@ -607,11 +587,18 @@ fn regroup_place<'a, W: Write, F: Format, G: Format>(
 }
 
 /// Sends a line as it is, and the byte that ends it.
-#[tactic(auto, using(crate::proofs::AroundLemmas::passed_prefix, crate::proofs::AroundLemmas::passed_suffix, crate::proofs::AroundLemmas::passed_whole))]
 fn pass_on<W: Write>(text: &[u8], line_end: u8, w: &mut W) -> io::Result<()>
     ensures { Sends result (W.contents w.old) (W.contents w.new) (ended_by line_end text.now) }
 {
-    write_whole(text, w)?;
-    write_whole(&[line_end], w)?;
+    write_both(text, &[line_end], w)
+}
+
+/// Writes bytes, and others after them.
+#[tactic(auto, using(crate::proofs::AroundLemmas::passed_prefix, crate::proofs::AroundLemmas::passed_suffix, crate::proofs::AroundLemmas::passed_whole))]
+fn write_both<W: Write>(first: &[u8], second: &[u8], w: &mut W) -> io::Result<()>
+    ensures { Sends result (W.contents w.old) (W.contents w.new) (first.now ++ second.now) }
+{
+    write_whole(first, w)?;
+    write_whole(second, w)?;
     Ok(())
 }

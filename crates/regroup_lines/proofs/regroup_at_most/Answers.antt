@@ -1,12 +1,7 @@
-use Rattle.std.proofs.Common.{rules, true, false, ◌∙◌, ◌<◌, ◌≤◌, ◌≡◌, length, subst, sym, arith}
-use Rattle.std.proofs.lemmas.Result.{err_from_is_err_and}
-use Rattle.regroup_lines.specs.Fault.{fault_of}
-use Rattle.regroup_lines.specs.LineFaults.{line_fault_of}
-use Rattle.regroup_lines.specs.Input.{IsInArray, held}
-use Rattle.regroup_lines.specs.Lines.{passes}
+use Rattle.regroup_lines.proofs.Common.{rules, true, false, ◌∙◌, ◌<◌, ◌≤◌, ◌≡◌, length, subst, sym, arith, err_from_is_err_and, fault_of, line_fault_of, IsInArray, held, passes}
 use Rattle.regroup_lines.proofs.ProgressLemmas.{Progress-long, Progress-next, Progress-none, Regroups-all, Regroups-empty, Regroups-halted, Regroups-last, Regroups-last_fault, Regroups-line, Regroups-long, Regroups-long_ended, Regroups-long_failed, Regroups-long_unnamed, Regroups-many, Regroups-unread}
 use Rattle.regroup_lines.proofs.regroup_at_most.Goals as goal
-use Rattle.regroup_lines.proofs.regroup_at_most.Goals.{in-Line+in_ok-has_faults-in-Line, in-TooLong+else-not-passes+in_ok-has_faults-in-TooLong+in_ok-pass_long-in-TooLong+else-branch}
+use Rattle.regroup_lines.proofs.regroup_at_most.Goals.{in-Line+in_ok-has_faults-in-Line, in-TooLong+else-not-passes+in_ok-has_faults-in-TooLong+in_ok-send_long-in-TooLong+else-branch}
 
 pub loop-count-init : goal.loop-count-init
 loop-count-init g c = (Progress-none c.args.rules.now _ _ _ _ _ _ _ c.new-input.ensures.none, c.new-input.ensures.len ∙ c.requires)
@@ -72,25 +67,24 @@ returns-in_err-has_faults-in-TooLong g c =
     let does : passes c.args.rules.now.invalid ≡ true = search rules in
     let p = err_from_is_err_and c.from_residual-in_err-has_faults-in-TooLong.result c.from_residual-in_err-has_faults-in-TooLong.ensures.1 in
     rw (p.1, p.2) (Regroups-long_unnamed c.args.rules.now _ _ _ _ _ _ _ _ _ few _ _ _ _ _ _ _ c.loop-count.invariant.0 c.in_ok-place.ensures.flushed c.next_piece.new.self _ c.in_ok-place.ensures.piece c.in-TooLong.is (c.in_ok-place.ensures.len ∙ c.loop-count.invariant.1) does
-    (fault_of c.in_err-has_faults-in-TooLong.field-0.0) _ _ c.long_fault-fault.ensures c.in_err-has_faults-in-TooLong.ensures)
+    _ c.long_fault-fault.ensures _ (fault_of c.in_err-has_faults-in-TooLong.field-0.0) c.in_err-has_faults-in-TooLong.ensures)
 
-pub returns-in_err-pass_long-in-TooLong : goal.returns-in_err-pass_long-in-TooLong
-returns-in_err-pass_long-in-TooLong g c =
+pub returns-in_err-send_long-in-TooLong : goal.returns-in_err-send_long-in-TooLong
+returns-in_err-send_long-in-TooLong g c =
     let few : c.loop-count.count < c.args.most = omega arith in
     let does : passes c.args.rules.now.invalid ≡ true = search rules in
-    let p = err_from_is_err_and c.from_residual-in_err-pass_long-in-TooLong.result c.from_residual-in_err-pass_long-in-TooLong.ensures.1 in
+    let p = err_from_is_err_and c.from_residual-in_err-send_long-in-TooLong.result c.from_residual-in_err-send_long-in-TooLong.ensures.1 in
     rw (p.1, p.2) (Regroups-long_failed c.args.rules.now _ _ _ _ _ _ _ _ _ few _ _ _ _ _ _ _ c.loop-count.invariant.0 c.in_ok-place.ensures.flushed c.next_piece.new.self _ c.in_ok-place.ensures.piece c.in-TooLong.is (c.in_ok-place.ensures.len ∙ c.loop-count.invariant.1) does
-    _ c.long_fault-fault.ensures c.in_ok-has_faults-in-TooLong.field-0 _ c.in_ok-has_faults-in-TooLong.ensures _ _ _ c.in_err-pass_long-in-TooLong.ensures.other
-    c.pass_long.new.number (held c.pass_long.new.input) (fault_of c.in_err-pass_long-in-TooLong.field-0.0) c.in_err-pass_long-in-TooLong.ensures.passes)
+    _ c.long_fault-fault.ensures _ c.in_ok-has_faults-in-TooLong.field-0 c.in_ok-has_faults-in-TooLong.ensures _ _ c.send_long.new.number (held c.send_long.new.input) (fault_of c.in_err-send_long-in-TooLong.field-0.0)
+    c.in_err-send_long-in-TooLong.ensures.passes)
 
 pub returns-then-branch : goal.returns-then-branch
 returns-then-branch g c =
     let few : c.loop-count.count < c.args.most = omega arith in
     let does : passes c.args.rules.now.invalid ≡ true = search rules in
-    let ended : c.in_ok-pass_long-in-TooLong.field-0 ≡ true = search rules in
+    let ended : c.in_ok-send_long-in-TooLong.field-0 ≡ true = search rules in
     Regroups-long_ended c.args.rules.now _ _ _ _ _ _ _ _ _ few _ _ _ _ _ _ _ c.loop-count.invariant.0 c.in_ok-place.ensures.flushed c.next_piece.new.self _ c.in_ok-place.ensures.piece c.in-TooLong.is (c.in_ok-place.ensures.len ∙ c.loop-count.invariant.1) does
-    _ c.long_fault-fault.ensures c.in_ok-has_faults-in-TooLong.field-0 _ c.in_ok-has_faults-in-TooLong.ensures _ _ _ c.in_ok-pass_long-in-TooLong.ensures.other
-    c.pass_long.new.number (held c.pass_long.new.input) c.in_ok-pass_long-in-TooLong.field-0 ended c.in_ok-pass_long-in-TooLong.ensures.passes
+    _ c.long_fault-fault.ensures _ c.in_ok-has_faults-in-TooLong.field-0 c.in_ok-has_faults-in-TooLong.ensures _ _ c.send_long.new.number (held c.send_long.new.input) c.in_ok-send_long-in-TooLong.field-0 ended c.in_ok-send_long-in-TooLong.ensures.passes
 
 pub loop-count-preserved : goal.loop-count-preserved
 loop-count-preserved g c =
@@ -102,14 +96,13 @@ loop-count-preserved g c =
                 w.bytes-text.result.now w.bytes-text.ensures w.in_ok-has_faults-in-Line.field-0 _ w.in_ok-has_faults-in-Line.ensures,
             c.in_ok-place.ensures.len ∙ c.loop-count.invariant.1,
           )
-      | in-TooLong+else-not-passes+in_ok-has_faults-in-TooLong+in_ok-pass_long-in-TooLong+else-branch w ↦
+      | in-TooLong+else-not-passes+in_ok-has_faults-in-TooLong+in_ok-send_long-in-TooLong+else-branch w ↦
           let len = c.in_ok-place.ensures.len ∙ c.loop-count.invariant.1 in
           let does : passes c.args.rules.now.invalid ≡ true = sym w.passes.ensures ∙ w.if-not-passes.false in
           rw (w.r-is, w.w-is, w.e-is, w.x-is, w.input-is, w.has_faults-is, w.number-is) (
             Progress-long c.args.rules.now _ _ _ _ _ _ _ _ _ few _ _ _ _ _ _ _ c.loop-count.invariant.0 c.in_ok-place.ensures.flushed c.next_piece.new.self _ c.in_ok-place.ensures.piece w.in-TooLong.is len does
-                _ w.long_fault-fault.ensures w.in_ok-has_faults-in-TooLong.field-0 _ w.in_ok-has_faults-in-TooLong.ensures _ _ _ w.in_ok-pass_long-in-TooLong.ensures.other
-                w.pass_long.new.number (held w.pass_long.new.input) w.in_ok-pass_long-in-TooLong.field-0 w.if-branch.false w.in_ok-pass_long-in-TooLong.ensures.passes,
-            w.in_ok-pass_long-in-TooLong.ensures.len ∙ len,
+                _ w.long_fault-fault.ensures _ w.in_ok-has_faults-in-TooLong.field-0 w.in_ok-has_faults-in-TooLong.ensures _ _ w.send_long.new.number (held w.send_long.new.input) w.in_ok-send_long-in-TooLong.field-0 w.if-branch.false w.in_ok-send_long-in-TooLong.ensures.passes,
+            w.in_ok-send_long-in-TooLong.ensures.len ∙ len,
           )
     ]
 

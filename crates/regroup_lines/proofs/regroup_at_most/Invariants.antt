@@ -1,6 +1,4 @@
-use Rattle.std.proofs.Common.{◌≡◌, ◌+◌}
-use Rattle.regroup_lines.specs.Input.{array_len, held}
-use Rattle.regroup_lines.specs.Sending.{by_writer}
+use Rattle.regroup_lines.proofs.Common.{◌≡◌, ◌+◌, array_len, held, by_writer}
 use Rattle.regroup_lines.proofs.ProgressLemmas.{Progress}
 use Rattle.regroup_lines.proofs.regroup_at_most.Given as goal
 

@@ -1,4 +1,4 @@
-use Rattle.std.proofs.Common.{◌∙◌, sym}
+use Rattle.regroup_lines.proofs.Common.{◌∙◌, sym}
 use Rattle.regroup_lines.proofs.ToldLemmas.{closed-record, open-record}
 use Rattle.regroup_lines.proofs.regroup_last.Goals as goal
 

@@ -1,8 +1,4 @@
-use Rattle.std.proofs.Common.{◌∙◌, Err, ap, subst}
-use Rattle.std.specs.Result.{result_map_both}
-use Rattle.regroup_lines.specs.LineFaults.{line_fault_of}
-use Rattle.regroup_lines.specs.Lines.{body_written}
-use Rattle.regroup_lines.specs.Sending.{SendsLine}
+use Rattle.regroup_lines.proofs.Common.{◌∙◌, Err, ap, subst, result_map_both, line_fault_of, body_written, SendsLine}
 use Rattle.regroup_lines.specs.declared.line_fault.LineFault.TheVariants as fault
 use Rattle.regroup_lines.proofs.SentLemmas.{body_written-sent}
 use Rattle.regroup_lines.proofs.ToldLemmas.{body-each, body-passed, body-unsent, header-sent, or-sent, other_fault, text-body, written-each}

@@ -1,6 +1,4 @@
-use Rattle.std.proofs.Common.{Err, Ok, refl}
-use Rattle.std.proofs.lemmas.Result.{err_from_is_err_and}
-use Rattle.regroup_lines.specs.Fault.{fault_of}
+use Rattle.regroup_lines.proofs.Common.{Err, Ok, refl, err_from_is_err_and, fault_of}
 use Rattle.regroup_lines.proofs.UnnamedLemmas.{Regroups-naming_none}
 use Rattle.regroup_lines.proofs.regroup_lines.Goals as goal
 

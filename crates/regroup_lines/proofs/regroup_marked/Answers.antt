@@ -1,9 +1,4 @@
-use Rattle.std.proofs.Common.{◌-◌, Err, drop, length, subst, sym, take}
-use Rattle.std.specs.Result.{result_map_both}
-use Rattle.std.proofs.lemmas.Result.{err_from_is_err_and}
-use Rattle.regroup_lines.specs.LineFaults.{line_fault_of}
-use Rattle.regroup_lines.specs.Lines.{numbers_replaced}
-use Rattle.regroup_lines.specs.Sending.{SendsLine}
+use Rattle.regroup_lines.proofs.Common.{◌-◌, Err, drop, length, subst, sym, take, result_map_both, err_from_is_err_and, line_fault_of, numbers_replaced, SendsLine}
 use Rattle.regroup_lines.proofs.MarkLemmas.{mark-fault, mark-sent, mark-unsent, marked-line}
 use Rattle.regroup_lines.proofs.regroup_marked.Goals as goal
 

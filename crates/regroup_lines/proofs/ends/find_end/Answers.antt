@@ -1,5 +1,4 @@
-use Rattle.std.proofs.Common.{ap, slice_range, sym}
-use Rattle.regroup_lines.specs.Records.{after_text}
+use Rattle.regroup_lines.proofs.Common.{ap, slice_range, sym, after_text}
 use Rattle.regroup_lines.proofs.RecordLemmas.{end-plain}
 use Rattle.regroup_lines.proofs.ends.find_end.Goals as goal
 

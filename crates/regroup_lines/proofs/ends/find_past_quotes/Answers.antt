@@ -1,7 +1,4 @@
-use Rattle.std.proofs.Common.{◌≡◌, ◌==◌, ◌∙◌, get_or, ◌≤◌, ◌<◌, ap, arith, length, refl, slice_range, subst, sym}
-use Rattle.std.proofs.lemmas.Bool.{eqb-true}
-use Rattle.regroup_lines.specs.Input.{HasNoEnd}
-use Rattle.regroup_lines.specs.Records.{after_text, is_inside}
+use Rattle.regroup_lines.proofs.Common.{◌≡◌, ◌==◌, ◌∙◌, get_or, ◌≤◌, ◌<◌, ap, arith, length, refl, slice_range, subst, sym, eqb-true, HasNoEnd, after_text, is_inside}
 use Rattle.regroup_lines.proofs.RecordLemmas.{after-nil, outside-parts, range-none, step-after, step-none}
 use Rattle.regroup_lines.proofs.ends.find_past_quotes.Goals as goal
 

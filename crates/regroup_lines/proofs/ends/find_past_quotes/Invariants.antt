@@ -1,6 +1,4 @@
-use Rattle.std.proofs.Common.{◌≡◌, slice_range}
-use Rattle.regroup_lines.specs.Input.{HasNoEnd}
-use Rattle.regroup_lines.specs.Records.{after_text}
+use Rattle.regroup_lines.proofs.Common.{◌≡◌, slice_range, HasNoEnd, after_text}
 use Rattle.regroup_lines.proofs.ends.find_past_quotes.Given as goal
 
 -- no byte so far ends the part

@@ -1,6 +1,4 @@
-use Rattle.std.proofs.Common.{List, ℕ, ◌∙◌, ap}
-use Rattle.regroup_lines.specs.Fault.{fault_of, line_of}
-use Rattle.regroup_lines.specs.Messages.{before_fault, cause, line_message}
+use Rattle.regroup_lines.proofs.Common.{List, ℕ, ◌∙◌, ap, fault_of, line_of, before_fault, cause, line_message}
 use Rattle.regroup_lines.proofs.message.fault_message.Goals as goal
 
 pub returns : goal.returns

@@ -1,4 +1,4 @@
-use Rattle.std.proofs.Common.{append_assoc}
+use Rattle.regroup_lines.proofs.Common.{append_assoc}
 use Rattle.regroup_lines.proofs.message.few_text.Goals as goal
 
 pub returns : goal.returns

@@ -1,11 +1,6 @@
-use Rattle.std.proofs.Common.{◌≡◌, ◌∙◌, ◌<◌, length, ap, arith, subst, sym}
-use Rattle.std.proofs.KnownBytes.{Keeps-trans}
-use Rattle.num_format.proofs.WritingLemmas.{OnErr-always}
-use Rattle.regroup_lines.specs.Input.{HasNoEnd, array_len, held}
-use Rattle.regroup_lines.specs.Lines.{quotes_in}
-use Rattle.regroup_lines.specs.Records.{after_text}
+use Rattle.regroup_lines.proofs.Common.{◌≡◌, ◌≤◌, ◌∙◌, ◌<◌, length, take, ap, arith, subst, sym, Keeps-trans, OnErr-always, HasNoEnd, array_len, held, quotes_in, after_text}
 use Rattle.regroup_lines.proofs.InputLemmas.{Reads-trans, read-nothing, read-searched}
-use Rattle.regroup_lines.proofs.RecordLemmas.{search-after, search-all, search-found, search-none}
+use Rattle.regroup_lines.proofs.RecordLemmas.{Searched-all, Searched-found, Searched-on}
 use Rattle.regroup_lines.proofs.input.Input.find_line_end.Goals as goal
 
 pub find_end-end-requires : goal.find_end-end-requires
@@ -13,74 +8,57 @@ find_end-end-requires g c = omega (arith, c.reads.invariant.1, ap length c.held-
 
 pub returns-then-end-bytes-clause-found : goal.returns-then-end-bytes-clause-found
 returns-then-end-bytes-clause-found g c =
-    search-found (quotes_in c.args.rules.now.span) c.args.rules.now.line_end c.quotes.result c.quotes.ensures c.args.within c.reads.here c.find_end-end.result.1 (held c.reads.self) c.held-bytes.result.now
-    c.reads.searched c.find_end-end.result.0 c.held-bytes.ensures.value c.find_end-end.ensures.ordered c.reads.invariant.2 c.reads.invariant.3 c.find_end-end.ensures.none c.find_end-end.ensures.after
-    c.if-end-bytes.true (c.find_end-end.ensures.found c.if-end-bytes.true)
+    Searched-found (Searched-on c.find_end-end.result.0 c.quotes.ensures c.held-bytes.ensures.value c.reads.invariant.2 c.find_end-end.ensures.ordered c.find_end-end.ensures.none c.find_end-end.ensures.after) c.held-bytes.result.now c.held-bytes.ensures.value c.if-end-bytes.true (c.find_end-end.ensures.found c.if-end-bytes.true)
 
 pub returns-in_default-clause-read : goal.returns-in_default-clause-read
 returns-in_default-clause-read g c = Reads-trans _ _ _ _ _ _ c.reads.invariant.0 c.in_default.ensures.read
 
 pub returns-in_default-clause-failed : goal.returns-in_default-clause-failed
 returns-in_default-clause-failed g c =
-    let none =
-    search-all (quotes_in c.args.rules.now.span) c.args.rules.now.line_end c.quotes.result c.quotes.ensures c.args.within c.reads.here c.find_end-end.result.1 (held c.reads.self) c.held-bytes.result.now
-    c.reads.searched c.find_end-end.result.0 c.held-bytes.ensures.value c.find_end-end.ensures.ordered c.reads.invariant.2 c.reads.invariant.3 c.find_end-end.ensures.none c.find_end-end.ensures.after
-    c.if-end-bytes.false in
+    let all : length (held c.reads.self) ≤ c.find_end-end.result.0 = omega (arith, ap length c.held-bytes.ensures.value, c.if-end-bytes.false) in
     let same = c.in_default.ensures.failed in
     let len = ap length same in (
-      subst (HasNoEnd (quotes_in c.args.rules.now.span) c.args.rules.now.line_end c.args.within) (sym same) none,
+      subst (HasNoEnd (quotes_in c.args.rules.now.span) c.args.rules.now.line_end c.args.within) (sym same) (Searched-all (Searched-on c.find_end-end.result.0 c.quotes.ensures c.held-bytes.ensures.value c.reads.invariant.2 c.find_end-end.ensures.ordered c.find_end-end.ensures.none c.find_end-end.ensures.after) all),
       omega (arith, len, ap length c.held-bytes.ensures.value, c.held-bytes.ensures.fits, c.find_end-end.ensures.within, c.if-end-bytes.false, c.if-searched-self.false),
     )
 
 pub returns-then-searched-self-clause-found : goal.returns-then-searched-self-clause-found
 returns-then-searched-self-clause-found g c =
-    search-all (quotes_in c.args.rules.now.span) c.args.rules.now.line_end c.quotes.result c.quotes.ensures c.args.within c.reads.here c.find_end-end.result.1 (held c.reads.self) c.held-bytes.result.now
-    c.reads.searched c.find_end-end.result.0 c.held-bytes.ensures.value c.find_end-end.ensures.ordered c.reads.invariant.2 c.reads.invariant.3 c.find_end-end.ensures.none c.find_end-end.ensures.after
-    c.if-end-bytes.false
+    let all : length (held c.reads.self) ≤ c.find_end-end.result.0 = omega (arith, ap length c.held-bytes.ensures.value, c.if-end-bytes.false) in
+    Searched-all (Searched-on c.find_end-end.result.0 c.quotes.ensures c.held-bytes.ensures.value c.reads.invariant.2 c.find_end-end.ensures.ordered c.find_end-end.ensures.none c.find_end-end.ensures.after) all
 
 pub returns-then-count-eq0-clause-found : goal.returns-then-count-eq0-clause-found
 returns-then-count-eq0-clause-found g c =
-    let none =
-    search-all (quotes_in c.args.rules.now.span) c.args.rules.now.line_end c.quotes.result c.quotes.ensures c.args.within c.reads.here c.find_end-end.result.1 (held c.reads.self) c.held-bytes.result.now
-    c.reads.searched c.find_end-end.result.0 c.held-bytes.ensures.value c.find_end-end.ensures.ordered c.reads.invariant.2 c.reads.invariant.3 c.find_end-end.ensures.none c.find_end-end.ensures.after
-    c.if-end-bytes.false in
+    let all : length (held c.reads.self) ≤ c.find_end-end.result.0 = omega (arith, ap length c.held-bytes.ensures.value, c.if-end-bytes.false) in
     let same = read-nothing _ _ _ _ c.in-Ok.ensures.read (omega (arith, c.in-Ok.ensures.count, c.if-count-eq0.true)) in
-    subst (HasNoEnd (quotes_in c.args.rules.now.span) c.args.rules.now.line_end c.args.within) (sym same) none
+    subst (HasNoEnd (quotes_in c.args.rules.now.span) c.args.rules.now.line_end c.args.within) (sym same) (Searched-all (Searched-on c.find_end-end.result.0 c.quotes.ensures c.held-bytes.ensures.value c.reads.invariant.2 c.find_end-end.ensures.ordered c.find_end-end.ensures.none c.find_end-end.ensures.after) all)
 
 pub returns-in_err-flush_before_read-clause-failed : goal.returns-in_err-flush_before_read-clause-failed
 returns-in_err-flush_before_read-clause-failed g c =
-    let none =
-    search-all (quotes_in c.args.rules.now.span) c.args.rules.now.line_end c.quotes.result c.quotes.ensures c.args.within c.reads.here c.find_end-end.result.1 (held c.reads.self) c.held-bytes.result.now
-    c.reads.searched c.find_end-end.result.0 c.held-bytes.ensures.value c.find_end-end.ensures.ordered c.reads.invariant.2 c.reads.invariant.3 c.find_end-end.ensures.none c.find_end-end.ensures.after
-    c.if-end-bytes.false in
-    let failed : HasNoEnd (quotes_in c.args.rules.now.span) c.args.rules.now.line_end c.args.within (held c.reads.self) × (length (held c.reads.self) < array_len c.reads.self) =
-    (none, omega (arith, ap length c.held-bytes.ensures.value, c.held-bytes.ensures.fits, c.find_end-end.ensures.within, c.if-end-bytes.false, c.if-searched-self.false)) in
+    let all : length (held c.reads.self) ≤ c.find_end-end.result.0 = omega (arith, ap length c.held-bytes.ensures.value, c.if-end-bytes.false) in
+    let failed : HasNoEnd (quotes_in c.args.rules.now.span) c.args.rules.now.line_end c.args.within (held c.reads.self) × (length (held c.reads.self) < array_len c.reads.self) = (
+      Searched-all (Searched-on c.find_end-end.result.0 c.quotes.ensures c.held-bytes.ensures.value c.reads.invariant.2 c.find_end-end.ensures.ordered c.find_end-end.ensures.none c.find_end-end.ensures.after) all,
+      omega (arith, ap length c.held-bytes.ensures.value, c.held-bytes.ensures.fits, c.find_end-end.ensures.within, c.if-end-bytes.false, c.if-searched-self.false),
+    ) in
     OnErr-always _ _ failed
 
 pub returns-in_err-flush_before_read-clause-flushed : goal.returns-in_err-flush_before_read-clause-flushed
-returns-in_err-flush_before_read-clause-flushed g c = Keeps-trans _ _ (g.W.Write.contents c.flush_before_read.new.writer) c.reads.invariant.5 c.in_err-flush_before_read.ensures.flushed
+returns-in_err-flush_before_read-clause-flushed g c = Keeps-trans _ _ (g.W.Write.contents c.flush_before_read.new.writer) c.reads.invariant.4 c.in_err-flush_before_read.ensures.flushed
 
 pub returns-in_default-clause-flushed : goal.returns-in_default-clause-flushed
-returns-in_default-clause-flushed g c = Keeps-trans _ _ (g.W.Write.contents c.flush_before_read.new.writer) c.reads.invariant.5 c.in_ok-flush_before_read.ensures.flushed
+returns-in_default-clause-flushed g c = Keeps-trans _ _ (g.W.Write.contents c.flush_before_read.new.writer) c.reads.invariant.4 c.in_ok-flush_before_read.ensures.flushed
 
 pub returns-then-count-eq0-clause-flushed : goal.returns-then-count-eq0-clause-flushed
-returns-then-count-eq0-clause-flushed g c = Keeps-trans _ _ (g.W.Write.contents c.flush_before_read.new.writer) c.reads.invariant.5 c.in_ok-flush_before_read.ensures.flushed
+returns-then-count-eq0-clause-flushed g c = Keeps-trans _ _ (g.W.Write.contents c.flush_before_read.new.writer) c.reads.invariant.4 c.in_ok-flush_before_read.ensures.flushed
 
 pub reads-preserved : goal.reads-preserved
 reads-preserved g c =
-    let q = quotes_in c.args.rules.now.span in
     let all : c.find_end-end.result.0 ≡ length (held c.reads.self) = omega (arith, ap length c.held-bytes.ensures.value, c.find_end-end.ensures.within, c.if-end-bytes.false) in
-    let none =
-    search-none (quotes_in c.args.rules.now.span) c.args.rules.now.line_end c.quotes.result c.quotes.ensures c.args.within c.reads.here c.find_end-end.result.1 (held c.reads.self) c.held-bytes.result.now
-    c.reads.searched c.find_end-end.result.0 c.held-bytes.ensures.value c.find_end-end.ensures.ordered c.reads.invariant.2 c.reads.invariant.3 c.find_end-end.ensures.none c.find_end-end.ensures.after in
-    let after =
-    search-after (quotes_in c.args.rules.now.span) c.args.rules.now.line_end c.quotes.result c.quotes.ensures c.args.within c.reads.here c.find_end-end.result.1 (held c.reads.self) c.held-bytes.result.now
-    c.reads.searched c.find_end-end.result.0 c.held-bytes.ensures.value c.find_end-end.ensures.ordered c.reads.invariant.2 c.reads.invariant.3 c.find_end-end.ensures.none c.find_end-end.ensures.after in
-    let front = read-searched _ _ _ _ c.find_end-end.result.0 c.in-Ok.ensures.read all in (
+    let front = read-searched _ _ _ _ c.find_end-end.result.0 c.in-Ok.ensures.read all in
+    let on = Searched-on c.find_end-end.result.0 c.quotes.ensures c.held-bytes.ensures.value c.reads.invariant.2 c.find_end-end.ensures.ordered c.find_end-end.ensures.none c.find_end-end.ensures.after in (
       Reads-trans _ _ _ _ _ _ c.reads.invariant.0 c.in-Ok.ensures.read,
       omega (arith, all, c.in-Ok.ensures.count),
-      subst (HasNoEnd q c.args.rules.now.line_end c.args.within) front none,
-      after ∙ ap (after_text q c.args.within) front,
-      c.in-Ok.ensures.len ∙ c.reads.invariant.4,
-      Keeps-trans _ _ (g.W.Write.contents c.flush_before_read.new.writer) c.reads.invariant.5 c.in_ok-flush_before_read.ensures.flushed,
+      record { none = subst (HasNoEnd (quotes_in c.args.rules.now.span) c.args.rules.now.line_end c.args.within) front on.none; there = on.there ∙ ap (after_text (quotes_in c.args.rules.now.span) c.args.within) front },
+      c.in-Ok.ensures.len ∙ c.reads.invariant.3,
+      Keeps-trans _ _ (g.W.Write.contents c.flush_before_read.new.writer) c.reads.invariant.4 c.in_ok-flush_before_read.ensures.flushed,
     )

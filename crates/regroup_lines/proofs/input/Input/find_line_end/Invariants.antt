@@ -1,16 +1,12 @@
-use Rattle.std.proofs.Common.{◌≡◌, ◌+◌, ◌-◌, ◌≤◌, length, take}
-use Rattle.std.specs.Io.KnownBytes.{Keeps}
-use Rattle.regroup_lines.specs.Input.{HasNoEnd, Reads, array_len, held}
-use Rattle.regroup_lines.specs.Lines.{quotes_in}
-use Rattle.regroup_lines.specs.Records.{after_text}
+use Rattle.regroup_lines.proofs.Common.{◌≡◌, ◌+◌, ◌-◌, ◌≤◌, length, Keeps, Reads, array_len, held, quotes_in}
+use Rattle.regroup_lines.proofs.RecordLemmas.{Searched}
 use Rattle.regroup_lines.proofs.input.Input.find_line_end.Given as goal
 
 -- more bytes may be held than at first, no record ends in those that were searched, and the writer was only flushed
 abbrev pub invariant-reads : goal.invariant-reads
 invariant-reads g l =
     Reads (held l.initial.self) (held l.self) (g.R.Read.remaining l.initial.reader) (g.R.Read.remaining l.reader)
-    × (l.searched ≤ length (held l.self)) × HasNoEnd (quotes_in l.rules.span) l.rules.line_end l.fn.within (take l.searched (held l.self))
-    × (l.here ≡ after_text (quotes_in l.rules.span) l.fn.within (take l.searched (held l.self)))
+    × (l.searched ≤ length (held l.self)) × Searched (quotes_in l.rules.span) l.rules.line_end l.fn.within l.here (held l.self) l.searched
     × (array_len l.self ≡ array_len l.initial.self) × Keeps (g.W.Write.contents l.initial.writer) (g.W.Write.contents l.writer)
 
 abbrev pub decreases-reads : goal.decreases-reads

@@ -1,4 +1,4 @@
-use Rattle.std.proofs.Common.{rules}
+use Rattle.regroup_lines.proofs.Common.{rules}
 use Rattle.regroup_lines.proofs.InputLemmas.{ends_or_goes_on}
 use Rattle.regroup_lines.proofs.input.Input.is_at_end.Goals as goal
 

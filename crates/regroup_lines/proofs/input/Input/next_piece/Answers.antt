@@ -1,7 +1,4 @@
-use Rattle.std.proofs.Common.{ℕ, ◌+◌, ◌≤◌, length, drop, subst, ap, ◌∙◌, arith}
-use Rattle.std.proofs.lemmas.List.{drop-drop, length-drop, length-take}
-use Rattle.regroup_lines.specs.Input.{FindsEnd, held}
-use Rattle.regroup_lines.specs.Lines.{quotes_in}
+use Rattle.regroup_lines.proofs.Common.{ℕ, ◌+◌, ◌≤◌, length, drop, subst, ap, ◌∙◌, arith, drop-drop, length-drop, length-take, FindsEnd, held, quotes_in}
 use Rattle.regroup_lines.proofs.InputLemmas.{range-later, record_found}
 use Rattle.regroup_lines.proofs.input.Input.next_piece.Goals as goal
 

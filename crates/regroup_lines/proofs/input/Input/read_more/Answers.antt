@@ -1,4 +1,4 @@
-use Rattle.std.proofs.Common.{◌≤◌, ◌++◌, length, take, ap, sym, ◌∙◌, arith}
+use Rattle.regroup_lines.proofs.Common.{◌≤◌, ◌++◌, length, take, ap, sym, ◌∙◌, arith}
 use Rattle.regroup_lines.proofs.InputLemmas.{Reads-kept, Reads-none, Reads-same, range-more, range-same}
 use Rattle.regroup_lines.proofs.input.Input.read_more.Goals as goal
 

@@ -1,5 +1,4 @@
-use Rattle.std.proofs.Common.{ℕ, arith}
-use Rattle.std.proofs.lemmas.List.{length-take, length-drop}
+use Rattle.regroup_lines.proofs.Common.{ℕ, arith, length-take, length-drop}
 use Rattle.regroup_lines.proofs.InputLemmas.{range-later}
 use Rattle.regroup_lines.proofs.input.Input.take.Goals as goal
 

@@ -1,5 +1,4 @@
-use Rattle.std.proofs.Common.{◌≡◌, Some, take}
-use Rattle.regroup_lines.specs.Records.{after_text}
+use Rattle.regroup_lines.proofs.Common.{◌≡◌, Some, take, after_text}
 use Rattle.regroup_lines.proofs.records.Within.after_bytes.Given as goal
 
 -- what follows the bytes so far

@@ -1,0 +1,47 @@
+-- The names that many proofs of this crate use.
+pub use Rattle.std.proofs.Common.{Bool, Err, IsUtf8, List, None, Ok, Option, Result, Some, [], ap, append-nil, append_assoc, arith, drop, eq-eqb, false, get_or, if◌then◌else◌, length, refl, rules, slice_range, subst, sym, take, take-append-drop, true, ℕ, ◌++◌, ◌+◌, ◌-◌, ◌<◌, ◌==◌, ◌^◌, ◌∙◌, ◌∷◌, ◌≡◌, ◌≢◌, ◌≤◌}
+pub use Rattle.num_format.proofs.WritingLemmas.{HasReceivedUpTo-none, OnErr-always, StopsWithin_prefix, StopsWithin_suffix}
+pub use Rattle.num_format.specs.Cut.{cut_text}
+pub use Rattle.num_format.specs.Format.{FormatData, HasUtf8Texts}
+pub use Rattle.num_format.specs.Refusal.{ParseNumber, Refusal}
+pub use Rattle.num_format.specs.Text.{text_of}
+pub use Rattle.num_format.specs.Writing.{Sends, StopsWithin}
+pub use Rattle.num_format_decimal.specs.Text.{decimal_text}
+pub use Rattle.std.proofs.KnownBytes.{Appends-kept, Appends-nil, Appends-trans, Consumes-kept, Consumes-nil, Consumes-trans, Keeps-trans}
+pub use Rattle.std.proofs.lemmas.Bool.{both_ways, eqb-true, false_from_ne_true, le-leb, lt-leb, or_from, or_parts}
+pub use Rattle.std.proofs.lemmas.Bool.Decides.{Decides-ltb}
+pub use Rattle.std.proofs.lemmas.List.{drop-append-le, drop-drop, drop-take, drop_all, drop_at, drop_more, get_or-drop, get_or-take, length-append, length-drop, length-take, length-take-le, take-append-le, take_all, take_at, take_more, take_rest}
+pub use Rattle.std.proofs.lemmas.List.Sums.{fold-append, prefix_len-le-length, suffix_len-le-length, sum_by-append}
+pub use Rattle.std.proofs.lemmas.Result.{err_from_is_err_and}
+pub use Rattle.std.proofs.lemmas.Str.{IsUtf8-from_is_utf8, is_utf8-from_IsUtf8}
+pub use Rattle.std.specs.Char.{is_ascii_digit, is_ascii_whitespace}
+pub use Rattle.std.specs.Io.KnownBytes.{Appends, Consumes, IsAtEnd, Keeps}
+pub use Rattle.std.specs.List.{after_first, before_first, fold, join_with_byte, list_all, list_any, onto_first, position_or_len, prefix_len, suffix_len}
+pub use Rattle.std.specs.Option.{ok_or, option_map}
+pub use Rattle.std.specs.Prelude.{All, cond, is_some, nat_le, nat_lt, not, suc, ℤ, ⊤, ◌&&◌, ◌||◌, ◌↔◌}
+pub use Rattle.std.specs.Result.{OkIff, result_map_both, result_or}
+pub use Rattle.std.specs.Str.{IsTrimAsciiEnd, IsTrimAsciiStart, all_ascii_digits, is_utf8}
+pub use Rattle.std.specs.declared.ops.Range.{Range}
+pub use lib.Seq.{take-add}
+pub use Rattle.regroup_lines.specs.Decimals.{decimal_read}
+pub use Rattle.regroup_lines.specs.Ended.{ended_by, without_end}
+pub use Rattle.regroup_lines.specs.Fault.{Fault, are_any, fault_of, in_field, is_unsent, line_of}
+pub use Rattle.regroup_lines.specs.Fault.Fault.{FewFields, Field, FieldNotText, Flush, Line, NotText, Read, Reject, Report, TooLong, TooMany, Unclosed, Write}
+pub use Rattle.regroup_lines.specs.Input.{EndsOrGoesOn, FindsEnd, FindsPiece, HasNoEnd, IsInArray, IsLong, IsRecord, IsStop, Reads, array_len, bytes_at, held, stop_result, stop_text}
+pub use Rattle.regroup_lines.specs.LineFaults.{IsHalt, line_fault_of, text_fault}
+pub use Rattle.regroup_lines.specs.Lines.{MARK, Regrouped, Sent, Stop, after_mark, between, body_sent, body_written, fault_named, fault_sent, field_read, field_written, fields_of, fields_written, joined, line_after, line_begun, line_sent, long_fault, long_returned, number_in_field, number_in_text, number_written, numbers_replaced, only_written, passed, passes, passes_mark, place_written, quotes_in, record_sent, records_of, regrouped, regrouped_after, regrouped_parts, regrouped_rest, returning, sending, sending_line, stop_returned, text_sent, with_first}
+pub use Rattle.regroup_lines.specs.Lines.Stop.{Ended, Endless, Failed, Unflushed, Unread}
+pub use Rattle.regroup_lines.specs.Messages.{before_fault, cause, fault_message, line_message, messages}
+pub use Rattle.regroup_lines.specs.Places.{are_enough, field_count, is_chosen, trimmed}
+pub use Rattle.regroup_lines.specs.Records.{after_byte, after_next, after_record_byte, after_text, has_end, is_inside, is_open, line_reached, lines_ended, next_line, split_at}
+pub use Rattle.regroup_lines.specs.Sending.{Names, PassesLong, Receives, ReceivesBytes, ReceivesEach, ReceivesPrefix, Regroups, RegroupsNaming, Returns, SendsBytes, SendsEach, SendsLine, Writer, by_writer, bytes_to, failed_by, failed_writer, text_to}
+pub use Rattle.regroup_lines.specs.Sending.Writer.{Messages, Output, Rejects}
+pub use Rattle.regroup_lines.specs.declared.Summary.{Summary}
+pub use Rattle.regroup_lines.specs.declared.input.Input.{Input}
+pub use Rattle.regroup_lines.specs.declared.input.Piece.{Piece}
+pub use Rattle.regroup_lines.specs.declared.line_fault.LineFault.{LineFault}
+pub use Rattle.regroup_lines.specs.declared.records.Within.{Within}
+pub use Rattle.regroup_lines.specs.declared.records.Within.TheVariants.{Start}
+pub use Rattle.regroup_lines.specs.declared.rules.Reading.{Reading}
+pub use Rattle.regroup_lines.specs.declared.rules.Reading.TheVariants.{Lenient, Strict}
+pub use Rattle.regroup_lines.specs.declared.rules.Rules.{Rules}
