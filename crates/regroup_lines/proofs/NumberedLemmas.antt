@@ -22,19 +22,11 @@ numbered n written = result_map_both (λ text. text) (with_number n) written
 pub with_number-sent : (n : ℕ) (fault : Fault) → is_unsent (with_number n fault) ≡ false
 unfolding with_number
 with_number-sent n (NotText m) = refl
-with_number-sent n (FieldNotText m k) = refl
-with_number-sent n (Line m refusal) = refl
-with_number-sent n (Field m k refusal) = refl
-with_number-sent n (FewFields m count) = refl
 with_number-sent n fault = refl
 
 in_field-numbered : (n k : ℕ) (fault : Fault) → in_field k (with_number n fault) ≡ with_number n (in_field k fault)
 unfolding with_number
 in_field-numbered n k (NotText m) = refl
-in_field-numbered n k (FieldNotText m j) = refl
-in_field-numbered n k (Line m refusal) = refl
-in_field-numbered n k (Field m j refusal) = refl
-in_field-numbered n k (FewFields m count) = refl
 in_field-numbered n k fault = refl
 
 mapped : {T U : Type 0} (n : ℕ) (f : T → U) (written : Result T Fault) → result_map_both f (λ fault. fault) (numbered n written) ≡ numbered n (result_map_both f (λ fault. fault) written)

@@ -1,41 +1,21 @@
 -- What is sent of one line and told of it.
-use Rattle.regroup_lines.proofs.Common.{◌≡◌, ◌≢◌, ℕ, ◌<◌, ◌≤◌, Bool, true, false, List, [], Option, None, Some, Result, Ok, Err, if◌then◌else◌, refl, sym, ap, subst, is_some, Appends, result_map_both, result_or, is_utf8, Appends-nil, both_ways, le-leb, lt-leb, FormatData, Sends, StopsWithin, ended_by, without_end, Fault, are_any, in_field, is_unsent, Line, NotText, Report, Unclosed, Write, line_fault_of, Sent, body_sent, body_written, fault_named, fault_sent, only_written, passed, passes, quotes_in, record_sent, text_sent, messages, is_open, Names, ReceivesBytes, ReceivesEach, SendsBytes, SendsEach, SendsLine, Writer, by_writer, failed_writer, text_to, Messages, Output, Rejects, LineFault, Rules}
+use Rattle.regroup_lines.proofs.Common.{◌≡◌, ◌≢◌, ℕ, ◌<◌, ◌≤◌, Bool, true, false, List, [], Option, None, Some, Result, Ok, Err, if◌then◌else◌, refl, sym, ap, subst, is_some, Appends, result_map_both, result_or, is_utf8, Appends-nil, both_ways, le-leb, lt-leb, FormatData, Sends, StopsWithin, ended_by, without_end, Fault, are_any, in_field, is_unsent, Line, NotText, Report, Unclosed, Write, line_fault_of, Sent, body_sent, body_written, fault_named, fault_sent, only_written, passed, passes, quotes_in, record_sent, text_sent, messages, is_open, Names, ReceivesBytes, ReceivesEach, SendsBytes, bytes_to, SendsEach, SendsLine, Writer, by_writer, failed_writer, text_to, Messages, Output, Rejects, LineFault, Rules}
 use Rattle.regroup_lines.specs.declared.line_fault.LineFault.TheVariants as fault
 use Rattle.regroup_lines.proofs.LineLemmas.{passes-fault}
-use Rattle.regroup_lines.proofs.SentLemmas.{IsSent}
-use Rattle.regroup_lines.proofs.WriterLemmas.{passed-received, prefix-none, unnamed-stopped}
+use Rattle.regroup_lines.proofs.SentLemmas.{IsSent, body_written-sent}
+use Rattle.regroup_lines.proofs.WriterLemmas.{each, passed-received, prefix-none, unnamed-stopped}
 
--- a write that fails, or does not, and what is returned in place of its error
-module _ {E F : Type 0} (call : Result (Unit {0}) E) (result : Result (Unit {0}) F) (failed : F) (is : result ≡ result_or call (Err failed)) (a b : Option (List ℕ)) (text : List ℕ) (sends : Sends call a b text) where
-  pub or-failed : (f : F) → result ≡ Err f → (f ≡ failed) × StopsWithin a b text
-  or-failed f was = by call is sends
-    where
-      by : (r : Result (Unit {0}) E) → result ≡ result_or r (Err failed) → Sends r a b text → (f ≡ failed) × StopsWithin a b text
-      by (Ok done) is sends = absurd (cc)
-      by (Err e) is sends = (cc, sends.prefix)
-
-  pub or-sent : (done : Unit {0}) → result ≡ Ok done → Appends a b text
-  or-sent done was = by call is sends
-    where
-      by : (r : Result (Unit {0}) E) → result ≡ result_or r (Err failed) → Sends r a b text → Appends a b text
-      by (Ok done) is sends = sends.whole
-      by (Err e) is sends = absurd (cc)
+-- a write that does not fail, by what is returned in place of its error
+pub or-sent : {E F : Type 0} (call : Result (Unit {0}) E) (result : Result (Unit {0}) F) (failed : F) → result ≡ result_or call (Err failed) → (a b : Option (List ℕ)) (text : List ℕ) → Sends call a b text →
+    (done : Unit {0}) → result ≡ Ok done → Appends a b text
+or-sent (Ok done) result failed is a b text sends sent was = sends.whole
+or-sent (Err e) result failed is a b text sends sent was = absurd (cc)
 
 -- bytes that are rejected
 pub bytes-rejected : {E : Type 0} (w a b : Option (List ℕ)) (bytes : List ℕ) (call : Result (Unit {0}) E) → Sends call a b bytes → (result : Result (Unit {0}) LineFault) → result ≡ result_or call (Err fault.Reject) →
     SendsBytes true (λ told. by_writer w told a) (λ told. by_writer w told b) bytes (result_map_both (λ sent. sent) line_fault_of result)
-bytes-rejected w a b bytes (Ok done) sends result is = rw is by
-  where
-    by : ReceivesBytes true None (λ told. by_writer w told a) (λ told. by_writer w told b) bytes
-    by told Output = Appends-nil w
-    by told Messages = Appends-nil told
-    by told Rejects = sends.whole
-bytes-rejected w a b bytes (Err e) sends result is = rw is (refl, by)
-  where
-    by : ReceivesBytes true (Some Rejects) (λ told. by_writer w told a) (λ told. by_writer w told b) bytes
-    by told Output = prefix-none w []
-    by told Messages = prefix-none told []
-    by told Rejects = sends.prefix
+bytes-rejected w a b bytes (Ok done) sends result is = rw is (λ told. each None (by_writer w told a) (by_writer w told b) (bytes_to true bytes) (Appends-nil w) (Appends-nil told) sends.whole)
+bytes-rejected w a b bytes (Err e) sends result is = rw is (refl, λ told. each (Some Rejects) (by_writer w told a) (by_writer w told b) (bytes_to true bytes) (prefix-none w []) (prefix-none told []) sends.prefix)
 
 module _ (rules : Rules) (name : List ℕ) (from : FormatData) where
   abbrev Sends_each : Result Sent Fault → (old new : Writer → Option (List ℕ)) → Result Bool Fault → Type 0
@@ -44,33 +24,23 @@ module _ (rules : Rules) (name : List ℕ) (from : FormatData) where
   -- a line that is sent to the output alone
   module _ (a b d x : Option (List ℕ)) where
     pub written-each : (bytes : List ℕ) → Appends a b bytes → Sends_each (Ok (only_written bytes)) (by_writer a d x) (by_writer b d x) (Ok false)
-    written-each bytes sent = (refl, by)
-      where
-        by : ReceivesEach None (by_writer a d x) (by_writer b d x) (text_to name rules.reading from (only_written bytes))
-        by Output = sent
-        by Messages = Appends-nil d
-        by Rejects = Appends-nil x
+    written-each bytes sent = (refl, each None (by_writer a d x) (by_writer b d x) (text_to name rules.reading from (only_written bytes)) sent (Appends-nil d) (Appends-nil x))
 
     pub stopped-each : (bytes : List ℕ) → StopsWithin a b bytes → Sends_each (Ok (only_written bytes)) (by_writer a d x) (by_writer b d x) (Err Write)
-    stopped-each bytes stops = (refl, by)
-      where
-        by : ReceivesEach (Some Output) (by_writer a d x) (by_writer b d x) (text_to name rules.reading from (only_written bytes))
-        by Output = stops
-        by Messages = prefix-none d []
-        by Rejects = prefix-none x []
+    stopped-each bytes stops = (refl, each (Some Output) (by_writer a d x) (by_writer b d x) (text_to name rules.reading from (only_written bytes)) stops (prefix-none d []) (prefix-none x []))
 
     -- by what is written in place of it
     module _ (text : List ℕ) where
-      pub body-each : (body : Result (List ℕ) Fault) → SendsLine {T = Unit {0}} rules.line_end body a b (Ok tt) → Sends_each (body_sent rules text body) (by_writer a d x) (by_writer b d x) (Ok false)
+      body-each : (body : Result (List ℕ) Fault) → SendsLine {T = Unit {0}} rules.line_end body a b (Ok tt) → Sends_each (body_sent rules text body) (by_writer a d x) (by_writer b d x) (Ok false)
       body-each (Ok written) sends = written-each (ended_by rules.line_end written) sends
       body-each (Err f) sends = absurd sends
 
-      pub body-unsent : (body : Result (List ℕ) Fault) → IsSent body → SendsLine {T = Unit {0}} rules.line_end body a b (Err Write) → Sends_each (body_sent rules text body) (by_writer a d x) (by_writer b d x) (Err Write)
+      body-unsent : (body : Result (List ℕ) Fault) → IsSent body → SendsLine {T = Unit {0}} rules.line_end body a b (Err Write) → Sends_each (body_sent rules text body) (by_writer a d x) (by_writer b d x) (Err Write)
       body-unsent (Ok written) none sends = stopped-each (ended_by rules.line_end written) sends.1
       body-unsent (Err f) none sends = absurd (both_ways _ none (ap is_unsent (sym sends.0)))
 
       -- a line at fault, of which nothing was sent before
-      pub body-passed : (body : Result (List ℕ) Fault) (f : Fault) (c : Writer → Option (List ℕ)) (result : Result Bool Fault) → f ≢ Write → SendsLine {T = Unit {0}} rules.line_end body a b (Err f) →
+      body-passed : (body : Result (List ℕ) Fault) (f : Fault) (c : Writer → Option (List ℕ)) (result : Result Bool Fault) → f ≢ Write → SendsLine {T = Unit {0}} rules.line_end body a b (Err f) →
           Sends_each (fault_sent rules f (ended_by rules.line_end text)) (by_writer b d x) c result → Sends_each (body_sent rules text body) (by_writer a d x) c result
       body-passed (Ok written) f c result other sends passed = absurd (other sends.0)
       body-passed (Err g) f c result other sends passed =
@@ -110,27 +80,6 @@ module _ (rules : Rules) (name : List ℕ) (from : FormatData) where
         fault-unpassed g sends =
             by_passing (c t2) (Err g) (sends.0, passed-received name rules.reading from rules.rejects (failed_writer g) s t t2 x (c t2) faults bytes tells.1 (sends.1 t2))
 
--- a header, and a line that is none
-module _ (rules : Rules) (from to : FormatData) (number : ℕ) (text : List ℕ) where
-  abbrev by_header : Bool → Result Sent Fault
-  by_header header = if header then Ok (only_written (ended_by rules.line_end text)) else body_sent rules text (body_written rules from to number text)
-
-  pub header-sent : number ≤ rules.header_lines → text_sent rules from to number text ≡ Ok (only_written (ended_by rules.line_end text))
-  header-sent within = ap by_header (le-leb number rules.header_lines within)
-
-  pub text-body : rules.header_lines < number → text_sent rules from to number text ≡ body_sent rules text (body_written rules from to number text)
-  text-body below = ap by_header (lt-leb number rules.header_lines below)
-
-  -- a record with quotes that are closed, or not
-  abbrev by_quotes : Bool → Result Sent Fault
-  by_quotes unclosed = if unclosed then fault_sent rules (Unclosed number) (ended_by rules.line_end (without_end rules.line_end text)) else text_sent rules from to number text
-
-  pub closed-record : is_open (quotes_in rules.span) text ≡ false → record_sent rules from to number text ≡ text_sent rules from to number text
-  closed-record closed = ap by_quotes closed
-
-  pub open-record : is_open (quotes_in rules.span) text ≡ true → record_sent rules from to number text ≡ fault_sent rules (Unclosed number) (ended_by rules.line_end (without_end rules.line_end text))
-  open-record unclosed = ap by_quotes unclosed
-
 -- a fault that is no failed write
 either_other : (utf8 : Bool) (a b : Fault) → a ≢ Write → b ≢ Write → (if utf8 then a else b) ≢ Write
 either_other true a b first second = first
@@ -141,8 +90,43 @@ field_other n (NotText number) other is = cc
 field_other n (Line number refusal) other is = cc
 field_other n fault other is = other is
 
-pub other_fault : (f : LineFault) → f ≢ fault.Write → line_fault_of f ≢ Write
+other_fault : (f : LineFault) → f ≢ fault.Write → line_fault_of f ≢ Write
 other_fault (fault.NotANumber number text) other is = either_other (is_utf8 text.now) _ _ (λ same. cc) (λ same. cc) is
 other_fault (fault.NotAField number field text) other is = field_other field _ (either_other (is_utf8 text.now) _ _ (λ same. cc) (λ same. cc)) is
 other_fault fault.Write other is = other refl
 other_fault f other is = cc
+
+-- a header, and a line that is none
+module _ (rules : Rules) (from to : FormatData) (number : ℕ) (text : List ℕ) where
+  pub header-sent : number ≤ rules.header_lines → text_sent rules from to number text ≡ Ok (only_written (ended_by rules.line_end text))
+  header-sent within = rw (le-leb number rules.header_lines within) refl
+
+  text-body : rules.header_lines < number → text_sent rules from to number text ≡ body_sent rules text (body_written rules from to number text)
+  text-body below = rw (lt-leb number rules.header_lines below) refl
+
+  -- a record with quotes that are closed, or not
+  pub closed-record : is_open (quotes_in rules.span) text ≡ false → record_sent rules from to number text ≡ text_sent rules from to number text
+  closed-record closed = rw closed refl
+
+  pub open-record : is_open (quotes_in rules.span) text ≡ true → record_sent rules from to number text ≡ fault_sent rules (Unclosed number) (ended_by rules.line_end (without_end rules.line_end text))
+  open-record unclosed = rw unclosed refl
+
+  -- a line that is none, by what is written in place of it
+  module _ (name : List ℕ) (below : rules.header_lines < number) (a b d x : Option (List ℕ)) (call : Result (Unit {0}) LineFault)
+      (sends : SendsLine rules.line_end (body_written rules from to number text) a b (result_map_both (λ sent. sent) line_fault_of call)) where
+    abbrev Sends_text : (new : Writer → Option (List ℕ)) → Result Bool Fault → Type 0
+    Sends_text new result = SendsEach name rules.reading from (text_sent rules from to number text) (by_writer a d x) new result
+
+    sends_as : (r : Result (Unit {0}) LineFault) → call ≡ r → SendsLine rules.line_end (body_written rules from to number text) a b (result_map_both (λ sent. sent) line_fault_of r)
+    sends_as r is = subst (λ r. SendsLine rules.line_end (body_written rules from to number text) a b (result_map_both (λ sent. sent) line_fault_of r)) is sends
+
+    pub text-written : (done : Unit {0}) → call ≡ Ok done → Sends_text (by_writer b d x) (Ok false)
+    text-written done is = rw (text-body below) (body-each rules name from a b d x text (body_written rules from to number text) (sends_as (Ok done) is))
+
+    pub text-unsent : call ≡ Err fault.Write → Sends_text (by_writer b d x) (Err Write)
+    text-unsent is = rw (text-body below) (body-unsent rules name from a b d x text (body_written rules from to number text) (body_written-sent rules from to number text) (sends_as (Err fault.Write) is))
+
+    pub text-passed : (f : LineFault) → f ≢ fault.Write → call ≡ Err f → (c : Writer → Option (List ℕ)) (result : Result Bool Fault) →
+        SendsEach name rules.reading from (fault_sent rules (line_fault_of f) (ended_by rules.line_end text)) (by_writer b d x) c result → Sends_text c result
+    text-passed f other is c result passed =
+        rw (text-body below) (body-passed rules name from a b d x text (body_written rules from to number text) (line_fault_of f) c result (other_fault f other) (sends_as (Err f) is) passed)

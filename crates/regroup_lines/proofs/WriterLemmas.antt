@@ -56,19 +56,23 @@ Receives-more (Some failed) w a b x y fails first = record {
 pub prefix-none : (a : Option (List ℕ)) (x : List ℕ) → ReceivesPrefix a a x
 prefix-none a x = record { rest = x; received = HasReceivedUpTo-none a x }
 
+-- what each of them received, one by one
+pub each : (failed : Option Writer) (old new : Writer → Option (List ℕ)) (text : Writer → List ℕ) → Receives failed Output (old Output) (new Output) (text Output) → Receives failed Messages (old Messages) (new Messages) (text Messages) →
+    Receives failed Rejects (old Rejects) (new Rejects) (text Rejects) → ReceivesEach failed old new text
+each failed old new text output messages rejects Output = output
+each failed old new text output messages rejects Messages = messages
+each failed old new text output messages rejects Rejects = rejects
+
 -- a flush of the output
 pub received-kept : (text : Writer → List ℕ) (c : Writer → Option (List ℕ)) (s s2 t x : Option (List ℕ)) → ReceivesEach None c (by_writer s t x) text → Keeps s s2 → ReceivesEach None c (by_writer s2 t x) text
-received-kept text c s s2 t x received kept Output = Appends-kept (c Output) s s2 (text Output) (received Output) kept
-received-kept text c s s2 t x received kept Messages = received Messages
-received-kept text c s s2 t x received kept Rejects = received Rejects
+received-kept text c s s2 t x received kept = each None c (by_writer s2 t x) text (Appends-kept (c Output) s s2 (text Output) (received Output) kept) (received Messages) (received Rejects)
 
 -- bytes at fault, and more of them
 bytes_to-append : (rejects : Bool) (xs ys : List ℕ) (w : Writer) → bytes_to rejects (xs ++ ys) w ≡ bytes_to rejects xs w ++ bytes_to rejects ys w
 bytes_to-append true xs ys Output = refl
 bytes_to-append false xs ys Output = refl
-bytes_to-append rejects xs ys Messages = refl
-bytes_to-append true xs ys Rejects = refl
-bytes_to-append false xs ys Rejects = refl
+bytes_to-append true xs ys writer = refl
+bytes_to-append false xs ys writer = refl
 
 pub ReceivesBytes-after : (rejects : Bool) (failed : Option Writer) (a b c : Option (List ℕ) → Writer → Option (List ℕ)) (xs ys : List ℕ) → ReceivesBytes rejects None a b xs → ReceivesBytes rejects failed b c ys →
     ReceivesBytes rejects failed a c (xs ++ ys)
@@ -89,21 +93,16 @@ module _ (name : List ℕ) (reading : Reading) (from : FormatData) where
   received-last a Rejects = append-nil a.rejected
 
   pub receives-nothing : (c : Writer → Option (List ℕ)) → ReceivesEach None c c (text_to name reading from (only_written []))
-  receives-nothing c Output = Appends-nil (c Output)
-  receives-nothing c Messages = Appends-nil (c Messages)
-  receives-nothing c Rejects = Appends-nil (c Rejects)
+  receives-nothing c = each None c c (text_to name reading from (only_written [])) (Appends-nil (c Output)) (Appends-nil (c Messages)) (Appends-nil (c Rejects))
 
   -- a message is not sent, and nothing after it
   pub unnamed-stopped : (s t t2 x : Option (List ℕ)) (sent : Sent) → StopsWithin t t2 (messages name reading from sent.named) →
       ReceivesEach (Some Messages) (by_writer s t x) (by_writer s t2 x) (text_to name reading from sent)
-  unnamed-stopped s t t2 x sent stops Output = prefix-none s sent.written
-  unnamed-stopped s t t2 x sent stops Messages = stops
-  unnamed-stopped s t t2 x sent stops Rejects = prefix-none x sent.rejected
+  unnamed-stopped s t t2 x sent stops = each (Some Messages) (by_writer s t x) (by_writer s t2 x) (text_to name reading from sent) (prefix-none s sent.written) stops (prefix-none x sent.rejected)
 
   -- a message is sent, and then bytes at fault
   pub passed-received : (rejects : Bool) (failed : Option Writer) (s t t2 x : Option (List ℕ)) (c : Writer → Option (List ℕ)) (faults : List Fault) (bytes : List ℕ) → Appends t t2 (messages name reading from faults) →
       ReceivesEach failed (by_writer s t2 x) c (bytes_to rejects bytes) → ReceivesEach failed (by_writer s t x) c (text_to name reading from (passed rejects faults bytes))
-  passed-received rejects failed s t t2 x c faults bytes told sent Output = sent Output
-  passed-received rejects failed s t t2 x c faults bytes told sent Messages =
-      subst (Receives failed Messages t (c Messages)) (append-nil (messages name reading from faults)) (Receives-after failed Messages t t2 (c Messages) _ [] told (sent Messages))
-  passed-received rejects failed s t t2 x c faults bytes told sent Rejects = sent Rejects
+  passed-received rejects failed s t t2 x c faults bytes told sent =
+      each failed (by_writer s t x) c (text_to name reading from (passed rejects faults bytes)) (sent Output)
+      (subst (Receives failed Messages t (c Messages)) (append-nil (messages name reading from faults)) (Receives-after failed Messages t t2 (c Messages) _ [] told (sent Messages))) (sent Rejects)
