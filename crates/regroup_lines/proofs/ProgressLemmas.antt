@@ -39,6 +39,11 @@ module _ (rules : Rules) (name : List ℕ) (most : ℕ) (from to : FormatData) (
   any_last : (has told : Bool) (sent : Sent) → told ≡ are_any sent.named → (has || told) ≡ (has || are_any (sent.named ++ []))
   any_last has told sent any = ap (λ b. has || b) (any ∙ ap are_any (sym (append-nil sent.named)))
 
+  -- a line of which all is sent
+  sent_of : (line : Result Sent Fault) (told : Bool) (c1 c2 : Writer → Option (List ℕ)) → SendsEach name rules.reading from line c1 c2 (Ok told) → (sent : Sent) × (line ≡ Ok sent) × (told ≡ are_any sent.named) × ReceivesEach None c1 c2 (text sent)
+  sent_of (Ok sent) told c1 c2 sends = (sent, refl, sends.0, sends.1)
+  sent_of (Err fault) told c1 c2 sends = absurd sends
+
   pub Progress-none : (held : List ℕ) → held ≡ [] → So_far 0 1 false held r0 c0
   Progress-none held empty = record {
     given = [];
@@ -182,13 +187,10 @@ module _ (rules : Rules) (name : List ℕ) (most : ℕ) (from to : FormatData) (
 
       pub Progress-next : (told : Bool) (c2 : Writer → Option (List ℕ)) → SendsEach name rules.reading from (text_sent rules from to number line) c1 c2 (Ok told) →
           So_far (count + 1) (line_after rules number line) (has || told) left r2 c2
-      Progress-next told c2 sends = by (text_sent rules from to number line) next_so sends
-        where
-          by : (line_sent : Result Sent Fault) →
-              ((stop : Stop) (bytes : List ℕ) → regrouped_after rules most from to stop count number (line ++ rules.line_end ∷ bytes) ≡ sending_line line_sent (regrouped_after rules most from to stop (count + 1) (line_after rules number line) bytes)) →
-              SendsEach name rules.reading from line_sent c1 c2 (Ok told) → So_far (count + 1) (line_after rules number line) (has || told) left r2 c2
-          by (Ok sent) next sends = Progress-line count number has r2 c1 line left sent told c2 line_ends next sends.0 sends.1
-          by (Err fault) next sends = absurd sends
+      Progress-next told c2 sends =
+          let all = sent_of (text_sent rules from to number line) told c1 c2 sends in
+          Progress-line count number has r2 c1 line left all.0 told c2 line_ends
+          (λ stop bytes. next_so stop bytes ∙ ap (λ sent. sending_line sent (regrouped_after rules most from to stop (count + 1) (line_after rules number line) bytes)) all.1) all.2 all.3
 
       pub Regroups-line : (fault : Fault) (c2 : Writer → Option (List ℕ)) → SendsEach name rules.reading from (text_sent rules from to number line) c1 c2 (Err fault) → Naming r2 c2 (Err fault)
       Regroups-line fault c2 sends =
@@ -210,14 +212,10 @@ module _ (rules : Rules) (name : List ℕ) (most : ℕ) (from to : FormatData) (
         last_so = let below = found_rest.2 in rest-line rules most from to count number rest found_rest.1 some (omega arith) (omega (arith, below, len))
 
         pub Regroups-last : (told : Bool) → SendsEach name rules.reading from (record_sent rules from to number rest) c1 c2 (Ok told) → Naming r2 c2 (Ok (record { lines = count + 1; has_faults = has || told }))
-        Regroups-last told sends = by (record_sent rules from to number rest) last_so sends
-          where
-            by : (sent : Result Sent Fault) → regrouped_after rules most from to Ended count number rest ≡ sending_line sent (returning (Some (Ok (count + 1)))) →
-                SendsEach name rules.reading from sent c1 c2 (Ok told) → Naming r2 c2 (Ok (record { lines = count + 1; has_faults = has || told }))
-            by (Ok sent) last sends =
-                Regroups-last_sent count number has r2 c1 rest Ended sent (Some (Ok (count + 1))) found_rest.3 last (reached rest found_rest.0) c2 (Ok (record { lines = count + 1; has_faults = has || told }))
-                (refl, any_last has told sent sends.0) sends.1
-            by (Err fault) last sends = absurd sends
+        Regroups-last told sends =
+            let all = sent_of (record_sent rules from to number rest) told c1 c2 sends in
+            Regroups-last_sent count number has r2 c1 rest Ended all.0 (Some (Ok (count + 1))) found_rest.3 (last_so ∙ ap (λ sent. sending_line sent (returning (Some (Ok (count + 1))))) all.1) (reached rest found_rest.0) c2
+            (Ok (record { lines = count + 1; has_faults = has || told })) (refl, any_last has told all.0 all.2) all.3
 
         pub Regroups-last_fault : (fault : Fault) → SendsEach name rules.reading from (record_sent rules from to number rest) c1 c2 (Err fault) → Naming r2 c2 (Err fault)
         Regroups-last_fault fault sends =
@@ -260,8 +258,8 @@ module _ (rules : Rules) (name : List ℕ) (most : ℕ) (from to : FormatData) (
         abbrev faults : List Fault
         faults = fault_named rules.invalid fault_long
 
-        abbrev sent_of : List ℕ → Sent
-        sent_of bytes = passed rules.rejects faults bytes
+        abbrev long_sent : List ℕ → Sent
+        long_sent bytes = passed rules.rejects faults bytes
 
         abbrev Told : Result Bool Fault → Type 0
         Told result = Names (messages name rules.reading from (fault_named rules.invalid named)) (are_any (fault_named rules.invalid named)) t t2 result
@@ -269,7 +267,7 @@ module _ (rules : Rules) (name : List ℕ) (most : ℕ) (from to : FormatData) (
         -- the reader stopped in it
         module _ (stop : Stop) (bytes : List ℕ) (r3 : Option (List ℕ)) (more : Reads begun bytes r2 r3) (long : IsLong rules bytes) (known : IsStop rules.flushes stop bytes r3) where
           abbrev all : Regrouped
-          all = sending (sent_of (stop_text rules.line_end stop bytes)) (returning (last_returned count stop))
+          all = sending (long_sent (stop_text rules.line_end stop bytes)) (returning (last_returned count stop))
 
           stopped_so : regrouped_after rules most from to stop count number bytes ≡ all
           stopped_so = long-stopped rules most from to count number bytes (omega arith) long fault_long (long_fault-begun rules number begun bytes r2 r3 is_long.long more) does stop
@@ -278,16 +276,16 @@ module _ (rules : Rules) (name : List ℕ) (most : ℕ) (from to : FormatData) (
           after = Progress-reads count number has r2 c1 begun bytes r3 (reached begun found_long.0) more
 
           long_stops : (c2 : Writer → Option (List ℕ)) (result : Result Summary Fault) → Then count number has r3 c1 bytes stop after all stopped_so result →
-              ReceivesEach (failed_by result) c1 c2 (text (sent_of (stop_text rules.line_end stop bytes))) → Naming r3 c2 result
+              ReceivesEach (failed_by result) c1 c2 (text (long_sent (stop_text rules.line_end stop bytes))) → Naming r3 c2 result
           long_stops c2 result so receives =
-              Regroups-last_sent count number has r3 c1 bytes stop (sent_of (stop_text rules.line_end stop bytes)) (last_returned count stop) known stopped_so after c2 result so receives
+              Regroups-last_sent count number has r3 c1 bytes stop (long_sent (stop_text rules.line_end stop bytes)) (last_returned count stop) known stopped_so after c2 result so receives
 
         -- its message is not sent
         pub Regroups-long_unnamed : (fault : Fault) → Told (Err fault) → Naming r2 (by_writer s t2 x) (Err fault)
         Regroups-long_unnamed fault names =
             subst (λ f. Naming r2 (by_writer s t2 x) (Err f)) (sym names.0)
             (long_stops Unread begun r2 (Reads-none begun r2) is_long tt (by_writer s t2 x) (Err Report) (λ none. absurd (cc))
-            (unnamed-stopped name rules.reading from s t t2 x (sent_of begun) (subst (λ f. StopsWithin t t2 (messages name rules.reading from (fault_named rules.invalid f))) same names.1)))
+            (unnamed-stopped name rules.reading from s t t2 x (long_sent begun) (subst (λ f. StopsWithin t t2 (messages name rules.reading from (fault_named rules.invalid f))) same names.1)))
 
         -- its message is sent, and then it is passed on
         module _ (told : Bool) (names : Told (Ok told)) (r3 : Option (List ℕ)) (of : Option (List ℕ) → Writer → Option (List ℕ)) (after_number : ℕ) (left : List ℕ) where
@@ -297,7 +295,7 @@ module _ (rules : Rules) (name : List ℕ) (most : ℕ) (from to : FormatData) (
           any : told ≡ are_any faults
           any = names.0 ∙ ap (λ f. are_any (fault_named rules.invalid f)) same
 
-          receives : (failed : Option Writer) (bytes : List ℕ) → ReceivesBytes rules.rejects failed (λ told. by_writer s told x) of bytes → ReceivesEach failed c1 (of t2) (text (sent_of bytes))
+          receives : (failed : Option Writer) (bytes : List ℕ) → ReceivesBytes rules.rejects failed (λ told. by_writer s told x) of bytes → ReceivesEach failed c1 (of t2) (text (long_sent bytes))
           receives failed bytes sent =
               passed-received name rules.reading from rules.rejects failed s t t2 x (of t2) faults bytes (subst (λ f. Appends t t2 (messages name rules.reading from (fault_named rules.invalid f))) same names.1) (sent t2)
 
@@ -307,7 +305,7 @@ module _ (rules : Rules) (name : List ℕ) (most : ℕ) (from to : FormatData) (
             after_line = Progress-reads count number has r2 c1 begun (bytes ++ rules.line_end ∷ left) r3 (reached begun found_long.0) more
 
             next_long : (stop : Stop) (others : List ℕ) → regrouped_after rules most from to stop count number (bytes ++ rules.line_end ∷ others)
-                ≡ sending (sent_of (ended_by rules.line_end bytes)) (regrouped_after rules most from to stop (count + 1) (line_after rules number bytes) others)
+                ≡ sending (long_sent (ended_by rules.line_end bytes)) (regrouped_after rules most from to stop (count + 1) (line_after rules number bytes) others)
             next_long stop others =
                 long-next rules most from to count number bytes (omega arith) long fault_long
                 (sym (long_fault-front rules number bytes (rules.line_end ∷ left) long.long) ∙ long_fault-begun rules number begun (bytes ++ rules.line_end ∷ left) r2 r3 is_long.long more) does stop others closed
@@ -315,7 +313,7 @@ module _ (rules : Rules) (name : List ℕ) (most : ℕ) (from to : FormatData) (
           pub Progress-long : (ended : Bool) → ended ≡ false → Passes (Ok ended) → So_far (count + 1) after_number (has || told) left r3 (of t2)
           Progress-long ended is (PassesLong.to_end bytes read long closed sent returned) =
               subst (λ n. So_far (count + 1) n (has || told) left r3 (of t2)) (sym (returned refl).1)
-              (Progress-line count number has r3 c1 bytes left (sent_of (ended_by rules.line_end bytes)) told (of t2) (after_line bytes read long closed) (next_long bytes read long closed) any
+              (Progress-line count number has r3 c1 bytes left (long_sent (ended_by rules.line_end bytes)) told (of t2) (after_line bytes read long closed) (next_long bytes read long closed) any
               (receives None (ended_by rules.line_end bytes) sent))
           Progress-long ended is (PassesLong.to_stop Ended bytes read long known sent returned) = let so = returned refl in absurd (cc)
           Progress-long ended is (PassesLong.to_stop stop bytes read long known sent returned) = let so = returned refl in absurd (cc)
@@ -324,7 +322,7 @@ module _ (rules : Rules) (name : List ℕ) (most : ℕ) (from to : FormatData) (
           pub Regroups-long_ended : (ended : Bool) → ended ≡ true → Passes (Ok ended) → Naming r3 (of t2) (Ok (record { lines = count + 1; has_faults = has || told }))
           Regroups-long_ended ended is (PassesLong.to_end bytes read long closed sent returned) = let so = (returned refl).0 in absurd (cc)
           Regroups-long_ended ended is (PassesLong.to_stop Ended bytes read long known sent returned) =
-              long_stops Ended bytes r3 read long known (of t2) (Ok (record { lines = count + 1; has_faults = has || told })) (refl, any_last has told (sent_of (ended_by rules.line_end bytes)) any)
+              long_stops Ended bytes r3 read long known (of t2) (Ok (record { lines = count + 1; has_faults = has || told })) (refl, any_last has told (long_sent (ended_by rules.line_end bytes)) any)
               (receives None (ended_by rules.line_end bytes) sent)
           Regroups-long_ended ended is (PassesLong.to_stop stop bytes read long known sent returned) = let so = returned refl in absurd (cc)
 
@@ -334,7 +332,7 @@ module _ (rules : Rules) (name : List ℕ) (most : ℕ) (from to : FormatData) (
 
           pub Regroups-long_failed : (fault : Fault) → Passes (Err fault) → Naming r3 (of t2) (Err fault)
           Regroups-long_failed fault (PassesLong.to_end bytes read long closed sent returned) =
-              Regroups-stopped count number has r3 c1 (bytes ++ rules.line_end ∷ left) Unread (Ok (sent_of (ended_by rules.line_end bytes)))
+              Regroups-stopped count number has r3 c1 (bytes ++ rules.line_end ∷ left) Unread (Ok (long_sent (ended_by rules.line_end bytes)))
               (regrouped_after rules most from to Unread (count + 1) (line_after rules number bytes) left) fault (of t2) (after_line bytes read long closed) tt (next_long bytes read long closed Unread left) tt
               (some_from (failed_writer fault) (λ none. let is = (returned none).0 in absurd (cc)), receives (failed_writer fault) (ended_by rules.line_end bytes) sent)
           Regroups-long_failed fault (PassesLong.to_stop stop bytes read long known sent returned) =

@@ -36,6 +36,15 @@ const MIN_CUT_LEN: usize = 253;
 /// The most bytes of a message that names a fault.
 pub const MAX_FAULT_MESSAGE_LEN: usize = MAX_NAME_LEN + MAX_CAUSE_LEN + MAX_ADDED_LEN;
 
+/// A text of these parts, one after the other, which fit.
+macro_rules! joined {
+    ($($part:expr),+) => {{
+        let mut text = ArrayString::new();
+        $(text.push_str($part);)+
+        text
+    }};
+}
+
 /// Returns the message that names the fault of a line, with a newline, in an input of this name that is read under the
 /// format. It is empty for a fault that no line has.
 ///
@@ -83,9 +92,7 @@ fn text_of(text: &str) -> ArrayString<MAX_CAUSE_LEN>
     requires { length text.now ≤ MAX_CAUSE_LEN }
     ensures { result.bytes ≡ text.now }
 {
-    let mut cause = ArrayString::new();
-    cause.push_str(text);
-    cause
+    joined!(text)
 }
 
 /// Returns the text that is not a number, if that is the fault.
@@ -113,29 +120,17 @@ pub(crate) fn displayed(line: Option<u64>, cause: &str) -> ArrayString<MAX_DISPL
     requires { length cause.now ≤ MAX_CAUSE_LEN }
     ensures { result.bytes ≡ displayed line cause.now }
 {
-    let mut message = ArrayString::new();
-    let Some(number) = line else {
-        message.push_str(cause);
-        return message;
-    };
-    let mut digits = itoa::Buffer::new();
-    message.push_str("line ");
-    message.push_str(digits.format(number));
-    message.push_str(": ");
-    message.push_str(cause);
-    message
+    match line {
+        None => joined!(cause),
+        Some(number) => joined!("line ", itoa::Buffer::new().format(number), ": ", cause),
+    }
 }
 
 /// Returns what is said of a line that may have this many bytes and has more.
 fn long_cause(max_line_len: u32) -> ArrayString<MAX_CAUSE_LEN>
     ensures { result.bytes ≡ long_cause max_line_len }
 {
-    let mut digits = itoa::Buffer::new();
-    let mut cause = ArrayString::new();
-    cause.push_str("more than ");
-    cause.push_str(digits.format(max_line_len));
-    cause.push_str(" bytes");
-    cause
+    joined!("more than ", itoa::Buffer::new().format(max_line_len), " bytes")
 }
 
 /// Returns what is said of a line with too few fields.
@@ -178,37 +173,24 @@ fn field_cause(field: u64, text: &str) -> ArrayString<MAX_CAUSE_LEN>
     requires { length text.now ≤ MAX_REFUSED_TEXT_LEN }
     ensures { result.bytes ≡ field_cause field text.now }
 {
-    let mut digits = itoa::Buffer::new();
-    let mut cause = ArrayString::new();
-    cause.push_str("field ");
-    cause.push_str(digits.format(field));
-    cause.push_str(": ");
-    cause.push_str(text);
-    cause
+    joined!("field ", itoa::Buffer::new().format(field), ": ", text)
 }
 
 /// Returns what is said of a text that is not a number.
 fn refused_text(text: &str, before: Option<usize>) -> ArrayString<MAX_REFUSED_TEXT_LEN>
     ensures { result.bytes ≡ refused_text before text.now }
 {
-    let mut message = ArrayString::new();
-    message.push_str(quoted(text.as_bytes()).as_str());
-    message.push_str(": not a number");
-    message.push_str(byte_text(before).as_str());
-    message
+    joined!(quoted(text.as_bytes()).as_str(), ": not a number", byte_text(before).as_str())
 }
 
 /// Returns which byte it is that so many others are before, counted from 1.
 fn byte_text(before: Option<usize>) -> ArrayString<MAX_BYTE_TEXT_LEN>
     ensures { result.bytes ≡ byte_text before }
 {
-    let mut text = ArrayString::new();
-    if let Some(before) = before {
-        let mut digits = itoa::Buffer::new();
-        text.push_str(" at byte ");
-        text.push_str(digits.format(before as u128 + 1));
+    match before {
+        None => ArrayString::new(),
+        Some(before) => joined!(" at byte ", itoa::Buffer::new().format(before as u128 + 1)),
     }
-    text
 }
 
 /// Returns the text that an error keeps, if it keeps one.
