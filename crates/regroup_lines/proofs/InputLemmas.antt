@@ -85,10 +85,9 @@ module _ (byte : ℕ) (bytes : List ℕ) (start : ℕ) where
 pub ends_or_goes_on : (bytes : List ℕ) (a b : Option (List ℕ)) (read : Option ℕ) (end : Bool) → bytes ≡ [] → is_some read ≡ not end →
     MatchOption read (Consumes a b [] × IsAtEnd b) (λ byte. Consumes a b (byte ∷ [])) → EndsOrGoesOn bytes a b end
 ends_or_goes_on bytes a b None true empty is read = (record { given = []; joined = append-nil bytes ∙ empty; consumed = read.0 }, read.1)
-ends_or_goes_on bytes a b None false empty is read = absurd (cc)
-ends_or_goes_on bytes a b (Some byte) true empty is read = absurd (cc)
 ends_or_goes_on bytes a b (Some byte) false empty is read =
     (byte ∷ [], record { given = byte ∷ []; joined = ap (λ l. l ++ byte ∷ []) empty; consumed = read }, omega arith)
+ends_or_goes_on bytes a b found end empty is read = absurd (cc)
 
 -- the record before the first byte that ends one
 pub record_found : (q : Option ℕ) (line_end : ℕ) (w : Within) (before bytes text left : List ℕ) (a b : Option (List ℕ)) (n : ℕ) → Reads before bytes a b → FindsEnd q line_end w bytes (Some n) → text ≡ take n bytes →

@@ -80,24 +80,18 @@ Regroups-naming_none rules name most from to r0 r1 old new result aborts all =
       at_end = all.at_end;
       endless = all.endless;
       unflushed = all.unflushed;
-      returned = by_returned result whole all.returned (received Messages) (received Rejects);
-      written = by_written result _ (received Output) (received Messages) (received Rejects);
+      returned = λ other. (by_other result whole _ all.returned (received Output) (received Messages) (received Rejects) other).0;
+      written = λ other. (by_other result whole _ all.returned (received Output) (received Messages) (received Rejects) other).1;
       prefix = by_prefix result _ (received Output);
     }
   where
-    by_returned : (r : Result Summary Fault) (whole : Regrouped) → Returns whole r → Sent_to Messages r old new [] → Sent_to Rejects r old new [] → lines_of r ≢ Err Write → whole.returned ≡ Some (lines_of r)
-    by_returned (Ok summary) whole is told rejected other = is.0
-    by_returned (Err Write) whole is told rejected other = absurd (other refl)
-    by_returned (Err Report) whole is told rejected other = absurd (stops_nowhere _ _ told)
-    by_returned (Err Reject) whole is told rejected other = absurd (stops_nowhere _ _ rejected)
-    by_returned (Err fault) whole is told rejected other = is refl
-
-    by_written : (r : Result Summary Fault) (text : List ℕ) → Sent_to Output r old new text → Sent_to Messages r old new [] → Sent_to Rejects r old new [] → lines_of r ≢ Err Write → Appends (old Output) (new Output) text
-    by_written (Ok summary) text sent told rejected other = sent
-    by_written (Err Write) text sent told rejected other = absurd (other refl)
-    by_written (Err Report) text sent told rejected other = absurd (stops_nowhere _ _ told)
-    by_written (Err Reject) text sent told rejected other = absurd (stops_nowhere _ _ rejected)
-    by_written (Err fault) text sent told rejected other = sent
+    by_other : (r : Result Summary Fault) (whole : Regrouped) (text : List ℕ) → Returns whole r → Sent_to Output r old new text → Sent_to Messages r old new [] → Sent_to Rejects r old new [] → lines_of r ≢ Err Write →
+        (whole.returned ≡ Some (lines_of r)) × Appends (old Output) (new Output) text
+    by_other (Ok summary) whole text is sent told rejected other = (is.0, sent)
+    by_other (Err Write) whole text is sent told rejected other = absurd (other refl)
+    by_other (Err Report) whole text is sent told rejected other = absurd (stops_nowhere _ _ told)
+    by_other (Err Reject) whole text is sent told rejected other = absurd (stops_nowhere _ _ rejected)
+    by_other (Err fault) whole text is sent told rejected other = (is refl, sent)
 
     by_prefix : (r : Result Summary Fault) (text : List ℕ) → Sent_to Output r old new text → lines_of r ≡ Err Write → StopsWithin (old Output) (new Output) text
     by_prefix (Ok summary) text sent failed = absurd (cc)

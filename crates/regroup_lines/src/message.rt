@@ -130,7 +130,11 @@ pub(crate) fn displayed(line: Option<u64>, cause: &str) -> ArrayString<MAX_DISPL
 fn long_cause(max_line_len: u32) -> ArrayString<MAX_CAUSE_LEN>
     ensures { result.bytes ≡ long_cause max_line_len }
 {
-    joined!("more than ", itoa::Buffer::new().format(max_line_len), " bytes")
+    joined!(
+        "more than ",
+        itoa::Buffer::new().format(max_line_len),
+        " bytes"
+    )
 }
 
 /// Returns what is said of a line with too few fields.
@@ -180,7 +184,11 @@ fn field_cause(field: u64, text: &str) -> ArrayString<MAX_CAUSE_LEN>
 fn refused_text(text: &str, before: Option<usize>) -> ArrayString<MAX_REFUSED_TEXT_LEN>
     ensures { result.bytes ≡ refused_text before text.now }
 {
-    joined!(quoted(text.as_bytes()).as_str(), ": not a number", byte_text(before).as_str())
+    joined!(
+        quoted(text.as_bytes()).as_str(),
+        ": not a number",
+        byte_text(before).as_str()
+    )
 }
 
 /// Returns which byte it is that so many others are before, counted from 1.

@@ -37,8 +37,7 @@ returns-in_err-has_faults-in-Line g c =
 
 pub returns-then-is_empty : goal.returns-then-is_empty
 returns-then-is_empty g c =
-    let few : c.loop-count.count < c.args.most = omega arith in
-    Regroups-empty c.args.rules.now _ _ _ _ _ _ _ _ _ few _ _ _ _ _ _ _ c.loop-count.invariant.0 c.in_ok-place.ensures.flushed c.next_piece.new.self _ c.in_ok-place.ensures.piece _ c.in-Rest.is (c.in_ok-place.ensures.len ∙ c.loop-count.invariant.1)
+    Regroups-empty c.args.rules.now _ _ _ _ _ _ _ _ _ (omega arith) _ _ _ _ _ _ _ c.loop-count.invariant.0 c.in_ok-place.ensures.flushed c.next_piece.new.self _ c.in_ok-place.ensures.piece _ c.in-Rest.is (c.in_ok-place.ensures.len ∙ c.loop-count.invariant.1)
     c.bytes-rest.result.now c.bytes-rest.ensures (sym c.is_empty.ensures ∙ c.if-is_empty.true)
 
 pub returns-in_err-has_faults-in-Rest : goal.returns-in_err-has_faults-in-Rest
