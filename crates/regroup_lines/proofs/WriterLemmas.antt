@@ -1,5 +1,5 @@
 -- What writers received of lines that are sent one after the other.
-use Rattle.regroup_lines.proofs.Common.{◌≡◌, ℕ, Bool, true, false, List, [], ◌∷◌, ◌++◌, Option, Some, None, refl, sym, ap, subst, ◌∙◌, append_assoc, append-nil, ◌||◌, if◌then◌else◌, is_some, Appends, Keeps, Appends-kept, Appends-nil, Appends-trans, FormatData, StopsWithin, HasReceivedUpTo-none, StopsWithin_prefix, StopsWithin_suffix, Fault, are_any, is_unsent, Reject, Report, Write, Regrouped, Sent, joined, only_written, passed, sending, fault_message, messages, Receives, ReceivesBytes, ReceivesEach, ReceivesPrefix, Writer, by_writer, bytes_to, failed_writer, text_to, Messages, Output, Rejects, Reading}
+use Rattle.regroup_lines.proofs.Common.{◌≡◌, ℕ, Bool, true, false, List, [], ◌∷◌, ◌++◌, Option, Some, None, refl, sym, ap, subst, ◌∙◌, append_assoc, append-nil, ◌||◌, is_some, Appends, Keeps, Appends-kept, Appends-nil, Appends-trans, FormatData, StopsWithin, HasReceivedUpTo-none, StopsWithin_prefix, StopsWithin_suffix, Fault, are_any, is_unsent, Reject, Report, Write, Regrouped, Sent, joined, only_written, passed, sending, fault_message, messages, Receives, ReceivesBytes, ReceivesEach, ReceivesPrefix, Writer, by_writer, bytes_to, failed_writer, text_to, Messages, Output, Rejects, Reading}
 use Rattle.std.proofs.lemmas.Grind.{flat_map-append}
 
 pub joined-assoc : (a b c : Sent) → joined a (joined b c) ≡ joined (joined a b) c

@@ -1,4 +1,4 @@
-use Rattle.regroup_lines.proofs.Common.{rules, true, false, ◌∙◌, ◌<◌, ◌≤◌, ◌≡◌, length, subst, sym, arith, err_from_is_err_and, fault_of, line_fault_of, IsInArray, held, passes}
+use Rattle.regroup_lines.proofs.Common.{rules, true, ◌∙◌, ◌<◌, ◌≤◌, ◌≡◌, length, subst, sym, arith, err_from_is_err_and, fault_of, line_fault_of, IsInArray, held, passes}
 use Rattle.regroup_lines.proofs.ProgressLemmas.{Progress-long, Progress-next, Progress-none, Regroups-all, Regroups-empty, Regroups-halted, Regroups-last, Regroups-last_fault, Regroups-line, Regroups-long, Regroups-long_ended, Regroups-long_failed, Regroups-long_unnamed, Regroups-many, Regroups-unread}
 use Rattle.regroup_lines.proofs.regroup_at_most.Goals as goal
 use Rattle.regroup_lines.proofs.regroup_at_most.Goals.{in-Line+in_ok-has_faults-in-Line, in-TooLong+else-not-passes+in_ok-has_faults-in-TooLong+in_ok-send_long-in-TooLong+else-branch}

@@ -1,4 +1,4 @@
-use Rattle.regroup_lines.proofs.Common.{Err, err_from_is_err_and, line_fault_of}
+use Rattle.regroup_lines.proofs.Common.{err_from_is_err_and, line_fault_of}
 use Rattle.std.specs.Result.{result_map_both}
 use Rattle.regroup_lines.proofs.MarkLemmas.{mark-fault, mark-sent, mark-unsent}
 use Rattle.regroup_lines.proofs.regroup_marked.Goals as goal
