@@ -1,12 +1,11 @@
 -- The number that digits write, whole and modulo a bound, and bytes of ASCII.
-use Rattle.std.proofs.Common.{IsUtf8, ◌≡◌, ℕ, zero, suc, ◌+◌, ◌-◌, ◌*◌, ◌%◌, ◌^◌, ◌<◌, ◌≤◌, inl, inr, true, false, List, [], ◌∷◌, length, refl, ap, ◌∙◌, sym, arith, get_or, lit<, take, drop, ◌++◌, take-append-drop, append-nil}
-use Rattle.std.specs.Prelude.{◌↔◌}
+use Rattle.std.proofs.Common.{IsUtf8, ◌≡◌, ℕ, zero, suc, ◌+◌, ◌-◌, ◌*◌, ◌^◌, ◌<◌, ◌≤◌, true, false, List, [], ◌∷◌, length, refl, ap, ◌∙◌, sym, arith, get_or, lit<, take, drop, ◌++◌, take-append-drop, append-nil}
 use Rattle.std.specs.Char.{is_ascii, is_ascii_digit}
 use Rattle.std.specs.Int.Digits.{number_from_digits, number_from_digits_after, AllBelowBase}
 use Rattle.std.specs.List.{list_all, list_any}
 use Rattle.std.specs.Str.{chars, IsAscii}
-use Rattle.std.proofs.Math.Nat.{add-mul, mod-eq-sub-mod, mod-eq_of_lt, mod-le, mul_assoc, mul_comm, mul-le-mul_right, pow-le-pow_right, pow-suc}
-use Rattle.std.proofs.lemmas.Bool.{and_parts, cases_lt}
+use Rattle.std.proofs.Math.Nat.{add-mul, mul_assoc, mul_comm, pow-le-pow_right, pow-suc}
+use Rattle.std.proofs.lemmas.Bool.{and_parts}
 use Rattle.std.proofs.lemmas.Bool.Decides.{nat_tests}
 use Rattle.std.proofs.lemmas.Int.Digits.{number_after_append, number_after_ge, number_lt, number_push}
 use Rattle.std.proofs.lemmas.List.{take_more, take_rest}
@@ -16,11 +15,11 @@ use Rattle.std.proofs.lemmas.Str.{chars-IsAscii, IsUtf8-from_ascii}
 use Rattle.std.proofs.lemmas.Str.Ascii.{IsAscii-nil, IsAscii-cons}
 use Rattle.num_format_int.proofs.DigitLemmas.{AreDigits}
 use Rattle.num_format_parsing.specs.Parts.{number_in}
-use Rattle.num_format_parsing.specs.Reading.{figures, is_other_numeral}
-use Rattle.num_format_parsing.specs.Shapes.{byte_figures, BeginsWithDigit}
+use Rattle.num_format_parsing.specs.Reading.{is_other_numeral}
+use Rattle.num_format_parsing.specs.Shapes.{byte_figures}
 use Rattle.num_format_parsing.specs.Figures.{HasFigures}
 use Rattle.num_format_parsing.proofs.FigureLemmas.{figures-below, figures-bytes, figures-digit, figures-other}
-use Rattle.num_format_parsing.proofs.ReadingLemmas.{digits_among-append, digits_among-first, is_other_numeral-ascii}
+use Rattle.num_format_parsing.proofs.ReadingLemmas.{digits_among-append, is_other_numeral-ascii}
 
 ascii-all : (t : List ℕ) → list_all is_ascii t ≡ true → IsAscii t
 ascii-all [] all = IsAscii-nil

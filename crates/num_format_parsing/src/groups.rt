@@ -36,7 +36,7 @@ const FIRST_WEIGHTS: [u64; 4] = [0, 0, 10, 100];
 /// What the digit between them counts for.
 const MIDDLE_WEIGHTS: [u64; 4] = [0, 0, 0, 10];
 
-/// Returns the absolute value of the number that a text spells which has at most three bytes after its minus sign. It may
+/// Returns the absolute value of the number that a text spells, if it has at most three bytes after its minus sign. It may
 /// return `None` for any text.
 ///
 /// Such a text is parsed alike, whatever the separator and the grouping.
@@ -223,7 +223,7 @@ fn read_by_sizes<A: Accumulator>(
 
 /// Returns the number that the digits among bytes write, or `None` if it is not below the bound.
 ///
-/// Few texts have so many digits that they are read once more here.
+/// Few texts have so many digits that they are parsed once more here.
 #[cold]
 #[inline(never)]
 pub(crate) fn exact_number<A: Accumulator>(text: &[u8]) -> Option<A>

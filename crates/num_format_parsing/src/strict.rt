@@ -13,7 +13,9 @@ ghost use Rattle.num_format_parsing.specs.Shapes.{BeginsWithDigit, HasSign, byte
 ghost use Rattle.num_format_parsing.specs.declared.strict.StrictError.TheVariants as cause;
 
 use crate::causes::{begins_with_digit, cause};
-use crate::groups::{LONGEST_GROUPS, SHORT_LEN, exact_number, read_in_groups, read_short, read_text};
+use crate::groups::{
+    LONGEST_GROUPS, SHORT_LEN, exact_number, read_in_groups, read_short, read_text,
+};
 use crate::parsing::{Accumulator, FromFormattedStr, SAFE_FIGURES};
 use crate::symbols::{Sign, is_plain, sign_of};
 use num_format_int::sealed::Sealed;
