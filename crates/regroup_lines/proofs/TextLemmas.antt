@@ -1,5 +1,5 @@
 -- The number in the text of a line.
-use Rattle.regroup_lines.proofs.Common.{◌≡◌, ℕ, Bool, true, false, List, Option, None, Result, Ok, Err, refl, sym, ap, subst, ℤ, IsUtf8, ◌↔◌, result_map_both, result_or, is_utf8, false_from_ne_true, IsUtf8-from_is_utf8, is_utf8-from_IsUtf8, FormatData, HasUtf8Texts, text_of, decimal_text, Sends, ended_by, decimal_read, Fault, Write, line_fault_of, text_fault, number_in_text, number_written, SendsLine, LineFault, Lenient, Strict}
+use Rattle.regroup_lines.proofs.Common.{◌≡◌, ℕ, Bool, true, false, List, None, Result, Ok, Err, refl, sym, ap, ℤ, IsUtf8, ◌↔◌, result_map_both, is_utf8, false_from_ne_true, IsUtf8-from_is_utf8, is_utf8-from_IsUtf8, FormatData, HasUtf8Texts, text_of, decimal_text, decimal_read, Fault, text_fault, number_in_text, number_written, Lenient, Strict}
 use Rattle.num_format.specs.Kind.{signed}
 use Rattle.num_format.specs.ParseBytesError.{ParseBytesError}
 use Rattle.num_format.specs.ParseBytesError.TheVariants.{NotANumber, NotUtf8}
@@ -8,7 +8,6 @@ use Rattle.num_format_decimal.specs.FixedPoint.{FixedPoint}
 use Rattle.num_format_decimal.specs.Parsing.{ParsesDecimal}
 use Rattle.num_format_decimal.specs.declared.parsing.ParseDecimalError.{ParseDecimalError}
 use Rattle.num_format.proofs.ReadableLemmas.{readable-from_accepted, unreadable-from_refused}
-use Rattle.regroup_lines.specs.declared.line_fault.LineFault.TheVariants as fault
 use Rattle.regroup_lines.proofs.DecimalLemmas.{decimal_read-parsed, decimal_read-refused, parsed-utf8}
 
 module _ (from : FormatData) (number : ℕ) (text : List ℕ) where
