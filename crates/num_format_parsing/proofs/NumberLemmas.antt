@@ -64,14 +64,11 @@ number-few bound safe t few fits =
     omega (arith, number_lt 10 (byte_figures t) (below_base (byte_figures t) (figures-below t)), most, fits)
 
 -- the digits of the bytes before a place, one byte on
-pub figures-on : (t : List ℕ) (i : ℕ) → i < length t → byte_figures (take (i + 1) t) ≡ byte_figures (take i t) ++ byte_figures (get_or t i 0 ∷ [])
-figures-on t i inside = ap byte_figures (take_more t i 0 inside) ∙ digits_among-append (take i t) (get_or t i 0 ∷ [])
-
 pub figures-on-digit : (t : List ℕ) (i : ℕ) → i < length t → is_ascii_digit (get_or t i 0) ≡ true → byte_figures (take (i + 1) t) ≡ byte_figures (take i t) ++ (get_or t i 0 - 48) ∷ []
-figures-on-digit t i inside digit = figures-on t i inside ∙ ap (λ ds. byte_figures (take i t) ++ ds) (figures-digit (get_or t i 0) [] digit)
+figures-on-digit t i inside digit = ap byte_figures (take_more t i 0 inside) ∙ digits_among-append (take i t) (get_or t i 0 ∷ []) ∙ ap (λ ds. byte_figures (take i t) ++ ds) (figures-digit (get_or t i 0) [] digit)
 
 pub figures-on-other : (t : List ℕ) (i : ℕ) → i < length t → is_ascii_digit (get_or t i 0) ≡ false → byte_figures (take (i + 1) t) ≡ byte_figures (take i t)
-figures-on-other t i inside other = figures-on t i inside ∙ ap (λ ds. byte_figures (take i t) ++ ds) (figures-other (get_or t i 0) [] other) ∙ append-nil (byte_figures (take i t))
+figures-on-other t i inside other = ap byte_figures (take_more t i 0 inside) ∙ digits_among-append (take i t) (get_or t i 0 ∷ []) ∙ ap (λ ds. byte_figures (take i t) ++ ds) (figures-other (get_or t i 0) [] other) ∙ append-nil (byte_figures (take i t))
 
 -- and their number
 pub number-digit : (t : List ℕ) (i : ℕ) → i < length t → is_ascii_digit (get_or t i 0) ≡ true → number_in (take (i + 1) t) ≡ number_in (take i t) * 10 + (get_or t i 0 - 48)

@@ -1,8 +1,8 @@
-use Rattle.std.proofs.Common.{◌≡◌, ◌<◌, ◌+◌, ◌*◌, ◌^◌, suc, ◌∙◌, ap, sym, arith, get_or}
+use Rattle.std.proofs.Common.{◌<◌, ◌+◌, ◌∙◌, ap, sym, arith, get_or}
 use Rattle.std.specs.Int.Digits.{number_from_digits}
 use Rattle.std.proofs.lemmas.Bool.Decides.{nat_tests}
-use Rattle.std.proofs.Math.Nat.{pow-suc}
 use Rattle.num_format_parsing.proofs.NumberLemmas.{figures-on-other, number-before, number-digit}
+use Rattle.num_format_parsing.proofs.ReadingLemmas.{tenfold}
 use Rattle.num_format_parsing.proofs.groups.exact_number.Goals as goal
 use Rattle.num_format_parsing.proofs.groups.exact_number.Goals.{then-is_ascii_digit+in_ok-number, else-is_ascii_digit}
 
@@ -17,19 +17,17 @@ pub loop-figures-preserved : goal.loop-figures-preserved
 loop-figures-preserved g c =
     let l = c.loop-figures in
     let t = c.args.text.now in
-    let next : l.figures + 1 ≡ suc l.figures = omega arith in
-    let power : 10 ^ (l.figures + 1) ≡ 10 ^ l.figures * 10 = ap (λ k. 10 ^ k) next ∙ pow-suc 10 l.figures in
     elim c.if-is_ascii_digit.branch [
       | then-is_ascii_digit+in_ok-number w ↦
           let digit = sym c.is_ascii_digit.ensures.value ∙ w.if-is_ascii_digit.true in
           let small : get_or t l.figures 0 < 58 = grind (arith, nat_tests, digit) in
           rw w.number-is (record {
             number = omega (arith, w.in_ok-number.ensures, l.invariant.number, number-digit t l.figures c.loop-figures-test.true digit);
-            below = omega (arith, w.in_ok-number.ensures, l.invariant.below, power, small);
+            below = omega (arith, w.in_ok-number.ensures, l.invariant.below, tenfold l.figures, small);
           })
       | else-is_ascii_digit w ↦
           rw w.number-is (record {
             number = l.invariant.number ∙ ap (number_from_digits 10) (sym (figures-on-other t l.figures c.loop-figures-test.true (sym c.is_ascii_digit.ensures.value ∙ w.if-is_ascii_digit.false)));
-            below = omega (arith, l.invariant.below, power);
+            below = omega (arith, l.invariant.below, tenfold l.figures);
           })
     ]
