@@ -61,6 +61,9 @@ module _ (f : FormatData) (utf8 : HasUtf8Texts f) where
       ((plain.sign_given, plain.sign), (plain.separator, ((mark.given, mark.plain), mark.apart))))
       (Decides-and _ _ (sign-Decides f.minus_sign) (Decides-and _ _ (no_numeral-Decides separator) (Decides-and _ _ (sign-Decides f.decimal) (Decides-not _ (bytes_eq-Decides f.decimal separator)))))
 
+  unmarked : ¬ (MarksDecimals f) → marks_decimals f ≡ false
+  unmarked ambiguous = false_from_ne_true _ (λ yes. ambiguous (marks-Decides.0 yes))
+
   module _ (t : List ℕ) where
     -- the test of one scale
     spelled-Decides : (s : ℕ) → Decides (is_spelled_at f t s) (SpellsDecimal f t (denoted_at f t s))
@@ -152,6 +155,10 @@ module _ (f : FormatData) (utf8 : HasUtf8Texts f) where
     refused-from None r e is failed exactly = refl
     refused-from (Some d) r e is failed exactly = absurd (cc_result r e d failed ((exactly d).1 (parsed-decimal_read d is)))
 
+    pub decimal_read-ambiguous : ¬ (MarksDecimals f) → decimal_read f t ≡ None
+    unfolding decimal_read
+    decimal_read-ambiguous ambiguous = rw (unmarked ambiguous) refl
+
     pub decimal_read-refused : (r : Result FixedPoint ParseDecimalError) (e : ParseDecimalError) → r ≡ Err e →
         ((d : FixedPoint) → (r ≡ Ok d) ↔ ParsesDecimal f t d) → decimal_read f t ≡ None
     decimal_read-refused r e failed exactly = refused-from (decimal_read f t) r e refl failed exactly
@@ -177,7 +184,7 @@ module _ (f : FormatData) (utf8 : HasUtf8Texts f) where
 
     before-ambiguous : ¬ (MarksDecimals f) → before_unexpected f t ≡ None
     unfolding before_unexpected
-    before-ambiguous ambiguous = rw (false_from_ne_true _ (λ yes. ambiguous (marks-Decides.0 yes))) refl
+    before-ambiguous ambiguous = rw (unmarked ambiguous) refl
 
     before-expected : MarksDecimals f → IsExpectedDecimal f t → before_unexpected f t ≡ None
     before-expected marks expected = before-unspelled marks expected.spells_none ∙ ap (before_rest t) expected.rest

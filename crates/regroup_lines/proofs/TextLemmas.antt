@@ -5,10 +5,11 @@ use Rattle.num_format.specs.ParseBytesError.{ParseBytesError}
 use Rattle.num_format.specs.ParseBytesError.TheVariants.{NotANumber, NotUtf8}
 use Rattle.num_format.specs.Reading.{Refused, denoted}
 use Rattle.num_format_decimal.specs.FixedPoint.{FixedPoint}
+use Rattle.num_format_decimal.specs.Marks.{MarksDecimals}
 use Rattle.num_format_decimal.specs.Parsing.{ParsesDecimal}
 use Rattle.num_format_decimal.specs.declared.parsing.ParseDecimalError.{ParseDecimalError}
 use Rattle.num_format.proofs.ReadableLemmas.{readable-from_accepted, unreadable-from_refused}
-use Rattle.regroup_lines.proofs.DecimalLemmas.{decimal_read-parsed, decimal_read-refused, parsed-utf8}
+use Rattle.regroup_lines.proofs.DecimalLemmas.{decimal_read-ambiguous, decimal_read-parsed, decimal_read-refused, parsed-utf8}
 
 module _ (from : FormatData) (number : ℕ) (text : List ℕ) where
   -- the number of a text that is accepted
@@ -38,6 +39,9 @@ module _ (from to : FormatData) (number : ℕ) (text : List ℕ) where
   pub strict-refused : HasUtf8Texts from → (r : Result FixedPoint ParseDecimalError) (e : ParseDecimalError) → r ≡ Err e →
       ((d : FixedPoint) → (r ≡ Ok d) ↔ ParsesDecimal from text d) → number_written Strict from to number text ≡ Err (text_fault number text)
   strict-refused utf8 r e failed exactly = strict-none (is_utf8 text) refl (decimal_read-refused from utf8 text r e failed exactly)
+
+  pub strict-ambiguous : HasUtf8Texts from → ¬ (MarksDecimals from) → number_written Strict from to number text ≡ Err (text_fault number text)
+  strict-ambiguous utf8 ambiguous = strict-none (is_utf8 text) refl (decimal_read-ambiguous from utf8 text ambiguous)
 
   -- and leniently
   pub lenient-read : (n : ℤ) → number_in_text from number text ≡ Ok n → number_written Lenient from to number text ≡ Ok (text_of to n)

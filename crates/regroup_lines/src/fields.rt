@@ -18,7 +18,7 @@ ghost use Rattle.regroup_lines.specs.declared.rules.Rules.{Rules};
 use crate::ends::{find_end, len_without};
 use crate::fields::Quotes::{Doubled, Plain};
 use crate::line_fault::LineFault;
-use crate::number::{Number, send_whole};
+use crate::number::{Number, Parser, send_whole};
 use crate::pass_on;
 use crate::records::{QUOTE, Within};
 use crate::rules::{Fields, Output, Rules, trim};
@@ -53,18 +53,18 @@ pub(crate) fn regroup_fields<'a, W: Write, F: Format, G: Format>(
     text: &'a [u8],
     number: u64,
     w: &mut W,
-    from: &F,
+    parser: &Parser<F>,
     to: &G,
 ) -> Result<(), LineFault<'a>>
-    ensures { SendsLine rules.now.line_end (fields_replaced fields.now rules.now (F.answers from.now) (G.answers to.now) number text.now)
+    ensures { SendsLine rules.now.line_end (fields_replaced fields.now rules.now parser.now (G.answers to.now) number text.now)
         (W.contents w.old) (W.contents w.new) (result_map_both (λ sent. sent) line_fault_of result) }
 {
     match fields.only() {
-        Some(_) => regroup_each(true, rules, fields, text, number, w, from, to),
+        Some(_) => regroup_each(true, rules, fields, text, number, w, parser, to),
         None => {
             // Of a line at fault nothing is sent, so all numbers are read first.
-            regroup_each(false, rules, fields, text, number, w, from, to)?;
-            regroup_each(true, rules, fields, text, number, w, from, to)
+            regroup_each(false, rules, fields, text, number, w, parser, to)?;
+            regroup_each(true, rules, fields, text, number, w, parser, to)
         }
     }
 }
@@ -79,11 +79,11 @@ fn regroup_each<'a, W: Write, F: Format, G: Format>(
     text: &'a [u8],
     number: u64,
     w: &mut W,
-    from: &F,
+    parser: &Parser<F>,
     to: &G,
 ) -> Result<(), LineFault<'a>>
     ensures { SendsUnless sends (sends ≡ true → IsOnly fields.now)
-        (result_map_both (ended_by rules.now.line_end) (λ fault. fault) (fields_replaced fields.now rules.now (F.answers from.now) (G.answers to.now) number text.now))
+        (result_map_both (ended_by rules.now.line_end) (λ fault. fault) (fields_replaced fields.now rules.now parser.now (G.answers to.now) number text.now))
         (W.contents w.old) (W.contents w.new) (result_map_both (λ sent. sent) line_fault_of result) }
 {
     let (mut sent, mut start, mut count) = (0, 0, 0);
@@ -101,7 +101,7 @@ fn regroup_each<'a, W: Write, F: Format, G: Format>(
         let passed = &text[sent..start];
         let field = &text[start..end];
         regroup_field(
-            sends, rules, fields, count, is_chosen, passed, field, number, w, from, to,
+            sends, rules, fields, count, is_chosen, passed, field, number, w, parser, to,
         )?;
         if end == text.len() || !fields.change(count + 1) {
             return end_line(sends, rules, fields, count, number, &text[end..], w);
@@ -177,18 +177,18 @@ fn regroup_field<'a, W: Write, F: Format, G: Format>(
     field: &'a [u8],
     number: u64,
     w: &mut W,
-    from: &F,
+    parser: &Parser<F>,
     to: &G,
 ) -> Result<(), LineFault<'a>>
     ensures { SendsOrFails sends
-        (after (before_field fields.now passed.now) (field_written rules.now fields.now (F.answers from.now) (G.answers to.now) number count is_chosen field.now))
+        (after (before_field fields.now passed.now) (field_written rules.now fields.now parser.now (G.answers to.now) number count is_chosen field.now))
         (W.contents w.old) (W.contents w.new) (result_map_both (λ sent. sent) line_fault_of result) }
 {
     if !is_chosen {
         return send_unchanged(sends, rules, fields, passed, field, w);
     }
     let place = place_in(fields.quotes, field);
-    match read_field(rules, fields.quotes, place, field, number, from) {
+    match read_field(rules, fields.quotes, place, field, number, parser) {
         Ok(Some(value)) => send_value(sends, rules, fields, passed, field, place, &value, w, to),
         Ok(None) => send_unchanged(sends, rules, fields, passed, field, w),
         Err(fault) => Err(fault.in_field(count)),
@@ -291,13 +291,13 @@ fn read_field<'a, F: Format>(
     place: Place,
     field: &'a [u8],
     number: u64,
-    from: &F,
+    parser: &Parser<F>,
 ) -> Result<Option<Number>, LineFault<'a>>
     requires place { (place.start, place.end) ≡ number_place quotes field.now }
     requires ordered { place.start ≤ place.end }
     requires within { place.end ≤ length field.now }
     ensures { (to : FormatData) → result_map_both (option_map (number_text to)) line_fault_of result
-        ≡ field_read rules.now quotes (F.answers from.now) to number field.now }
+        ≡ field_read rules.now quotes parser.now to number field.now }
 {
     let (start, end) = (place.start, place.end);
     if rules.passes_empty && start == end {
@@ -307,7 +307,7 @@ fn read_field<'a, F: Format>(
     if quotes && is_any_barred(rules.line_end, text) {
         return Err(LineFault::NotANumber(number, text));
     }
-    match Number::read(rules.reading, text, number, from) {
+    match parser.read(rules.reading, text, number) {
         Ok(value) => Ok(Some(value)),
         Err(fault) => Err(fault),
     }

@@ -51,7 +51,7 @@ use crate::input::{Input, Piece};
 use crate::line_fault::LineFault;
 pub use crate::list::field_list;
 pub use crate::message::{MAX_DISPLAYED_LEN, MAX_FAULT_MESSAGE_LEN, MAX_NAME_LEN, fault_message};
-use crate::number::{Around, Number};
+use crate::number::{Around, Parser};
 pub use crate::quoting::{MAX_QUOTED_LEN, quoted, shown};
 use crate::records::{Within, is_open, line_reached, next_line};
 use crate::rules::{MARK, trim};
@@ -211,6 +211,7 @@ pub fn regroup_at_most<R: Read, W: Write, E: Write, X: Write, F: Format, G: Form
         (by_writer (W.contents w.old) (E.contents e.old) (X.contents x.old)) (by_writer (W.contents w.new) (E.contents e.new) (X.contents x.new))
         (result_map_both (λ summary. summary) fault_of result) }
 {
+    let parser = Parser::new(from);
     let mut input = Input::new(buffer);
     let mut has_faults = false;
     let mut number = 1;
@@ -218,7 +219,7 @@ pub fn regroup_at_most<R: Read, W: Write, E: Write, X: Write, F: Format, G: Form
         match input.next_piece(rules, Within::Start, r, w)? {
             Piece::Line(place) => {
                 let text = input.bytes(place);
-                has_faults |= regroup_line(rules, name, text, number, w, e, x, from, to)?;
+                has_faults |= regroup_line(rules, name, text, number, w, e, x, &parser, to)?;
                 number = line_after(rules, number, text);
             }
             Piece::Rest(place) => {
@@ -229,7 +230,7 @@ pub fn regroup_at_most<R: Read, W: Write, E: Write, X: Write, F: Format, G: Form
                         has_faults,
                     });
                 }
-                has_faults |= regroup_last(rules, name, rest, number, w, e, x, from, to)?;
+                has_faults |= regroup_last(rules, name, rest, number, w, e, x, &parser, to)?;
                 let lines = count + 1;
                 return Ok(Summary { lines, has_faults });
             }
@@ -238,7 +239,7 @@ pub fn regroup_at_most<R: Read, W: Write, E: Write, X: Write, F: Format, G: Form
                 if !rules.invalid.passes() {
                     return Err(fault);
                 }
-                has_faults |= name_fault(rules, name, &fault, e, from)?;
+                has_faults |= name_fault(rules, name, &fault, e, &parser)?;
                 if send_long(rules, &mut number, &mut input, r, w, x)? {
                     let lines = count + 1;
                     return Ok(Summary { lines, has_faults });
@@ -289,19 +290,19 @@ fn regroup_last<'a, W: Write, E: Write, X: Write, F: Format, G: Format>(
     w: &mut W,
     e: &mut E,
     x: &mut X,
-    from: &F,
+    parser: &Parser<F>,
     to: &G,
 ) -> Result<bool, LineFault<'a>>
-    ensures { SendsEach name.now rules.now.reading (F.answers from.now) (record_sent rules.now (F.answers from.now) (G.answers to.now) number text.now)
+    ensures { SendsEach name.now rules.now.reading parser.now (record_sent rules.now parser.now (G.answers to.now) number text.now)
         (by_writer (W.contents w.old) (E.contents e.old) (X.contents x.old)) (by_writer (W.contents w.new) (E.contents e.new) (X.contents x.new))
         (result_map_both (λ told. told) line_fault_of result) }
 {
     if is_open(rules, text) {
         let fault = LineFault::Unclosed(number);
         let text = without_end(rules.line_end, text);
-        return pass_fault(rules, name, fault, text, w, e, x, from);
+        return pass_fault(rules, name, fault, text, w, e, x, parser);
     }
-    regroup_line(rules, name, text, number, w, e, x, from, to)
+    regroup_line(rules, name, text, number, w, e, x, parser, to)
 }
 
 /// Sends what is written in place of the text of a line, and the byte that ends it, and before them the message that names
@@ -314,22 +315,24 @@ fn regroup_line<'a, W: Write, E: Write, X: Write, F: Format, G: Format>(
     w: &mut W,
     e: &mut E,
     x: &mut X,
-    from: &F,
+    parser: &Parser<F>,
     to: &G,
 ) -> Result<bool, LineFault<'a>>
-    ensures { SendsEach name.now rules.now.reading (F.answers from.now) (text_sent rules.now (F.answers from.now) (G.answers to.now) number text.now)
+    ensures { SendsEach name.now rules.now.reading parser.now (text_sent rules.now parser.now (G.answers to.now) number text.now)
         (by_writer (W.contents w.old) (E.contents e.old) (X.contents x.old)) (by_writer (W.contents w.new) (E.contents e.new) (X.contents x.new))
         (result_map_both (λ told. told) line_fault_of result) }
 {
     if number <= rules.header_lines {
-        pass_on(text, rules.line_end, w).or(Err(LineFault::Write))?;
-        return Ok(false);
+        return match pass_on(text, rules.line_end, w) {
+            Ok(()) => Ok(false),
+            Err(_) => Err(LineFault::Write),
+        };
     }
-    match regroup_body(rules, text, number, w, from, to) {
+    match regroup_body(rules, text, number, w, parser, to) {
         Ok(()) => Ok(false),
         Err(fault) => match fault {
             LineFault::Write => Err(LineFault::Write),
-            _ => pass_fault(rules, name, fault, text, w, e, x, from),
+            _ => pass_fault(rules, name, fault, text, w, e, x, parser),
         },
     }
 }
@@ -346,16 +349,16 @@ fn pass_fault<'a, W: Write, E: Write, X: Write, F: Format>(
     w: &mut W,
     e: &mut E,
     x: &mut X,
-    from: &F,
+    parser: &Parser<F>,
 ) -> Result<bool, LineFault<'a>>
-    ensures { SendsEach name.now rules.now.reading (F.answers from.now) (fault_sent rules.now (line_fault_of fault.entry) (ended_by rules.now.line_end text.now))
+    ensures { SendsEach name.now rules.now.reading parser.now (fault_sent rules.now (line_fault_of fault.entry) (ended_by rules.now.line_end text.now))
         (by_writer (W.contents w.old) (E.contents e.old) (X.contents x.old)) (by_writer (W.contents w.new) (E.contents e.new) (X.contents x.new))
         (result_map_both (λ told. told) line_fault_of result) }
 {
     if !rules.invalid.passes() {
         return Err(fault);
     }
-    let Ok(is_named) = name_fault(rules, name, &RegroupFault::from(fault), e, from) else {
+    let Ok(is_named) = name_fault(rules, name, &RegroupFault::from(fault), e, parser) else {
         return Err(LineFault::Report);
     };
     pass_bytes(rules, text, &[rules.line_end], w, x)?;
@@ -368,16 +371,16 @@ fn name_fault<E: Write, F: Format>(
     name: &str,
     fault: &RegroupFault,
     e: &mut E,
-    from: &F,
+    parser: &Parser<F>,
 ) -> Result<bool, RegroupFault>
-    ensures { Names (messages name.now rules.now.reading (F.answers from.now) (fault_named rules.now.invalid (fault_of fault.now)))
+    ensures { Names (messages name.now rules.now.reading parser.now (fault_named rules.now.invalid (fault_of fault.now)))
         (are_any (fault_named rules.now.invalid (fault_of fault.now)))
         (E.contents e.old) (E.contents e.new) (result_map_both (λ told. told) fault_of result) }
 {
     match rules.invalid {
         Invalid::Abort | Invalid::Ignore => Ok(false),
         Invalid::Fail | Invalid::Warn => {
-            let message = fault_message(name, rules.reading, fault, from);
+            let message = fault_message(name, rules.reading, fault, parser.format());
             write_whole(message.as_str().as_bytes(), e).or(Err(RegroupFault::Report))?;
             Ok(true)
         }
@@ -477,16 +480,16 @@ fn regroup_body<'a, W: Write, F: Format, G: Format>(
     text: &'a [u8],
     number: u64,
     w: &mut W,
-    from: &F,
+    parser: &Parser<F>,
     to: &G,
 ) -> Result<(), LineFault<'a>>
-    ensures { SendsLine rules.now.line_end (body_written rules.now (F.answers from.now) (G.answers to.now) number text.now)
+    ensures { SendsLine rules.now.line_end (body_written rules.now parser.now (G.answers to.now) number text.now)
         (W.contents w.old) (W.contents w.new) (result_map_both (λ sent. sent) line_fault_of result) }
 {
     if !rules.span.passes_mark(number, text) {
-        return regroup_numbers(rules, text, number, w, from, to);
+        return regroup_numbers(rules, text, number, w, parser, to);
     }
-    regroup_marked(rules, text, number, w, from, to)
+    regroup_marked(rules, text, number, w, parser, to)
 }
 
 /// Sends the same of a line that begins with a byte order mark. It is a cold call, so that other lines are regrouped
@@ -498,18 +501,18 @@ fn regroup_marked<'a, W: Write, F: Format, G: Format>(
     text: &'a [u8],
     number: u64,
     w: &mut W,
-    from: &F,
+    parser: &Parser<F>,
     to: &G,
 ) -> Result<(), LineFault<'a>>
     requires { passes_mark rules.now.span number text.now ≡ true }
-    ensures { SendsLine rules.now.line_end (body_written rules.now (F.answers from.now) (G.answers to.now) number text.now)
+    ensures { SendsLine rules.now.line_end (body_written rules.now parser.now (G.answers to.now) number text.now)
         (W.contents w.old) (W.contents w.new) (result_map_both (λ sent. sent) line_fault_of result) }
 {
     let rest = &text[MARK.len()..];
     // Of a line at fault nothing is sent, so it is read before the mark is sent.
-    regroup_numbers(rules, rest, number, &mut io::sink(), from, to)?;
+    regroup_numbers(rules, rest, number, &mut io::sink(), parser, to)?;
     send_bytes(&MARK, w)?;
-    regroup_numbers(rules, rest, number, w, from, to)
+    regroup_numbers(rules, rest, number, w, parser, to)
 }
 
 /// Sends a line with its numbers regrouped, and the byte that ends it.
@@ -521,18 +524,18 @@ fn regroup_numbers<'a, W: Write, F: Format, G: Format>(
     text: &'a [u8],
     number: u64,
     w: &mut W,
-    from: &F,
+    parser: &Parser<F>,
     to: &G,
 ) -> Result<(), LineFault<'a>>
-    ensures { SendsLine rules.now.line_end (numbers_replaced rules.now.span rules.now (F.answers from.now) (G.answers to.now) number text.now)
+    ensures { SendsLine rules.now.line_end (numbers_replaced rules.now.span rules.now parser.now (G.answers to.now) number text.now)
         (W.contents w.old) (W.contents w.new) (result_map_both (λ sent. sent) line_fault_of result) }
 {
     match &rules.span {
         Span::Trimmed => {
             let place = trim(text, 0..text.len());
-            regroup_place(rules, text, place, number, w, from, to)
+            regroup_place(rules, text, place, number, w, parser, to)
         }
-        _ => regroup_span(rules, text, number, w, from, to),
+        _ => regroup_span(rules, text, number, w, parser, to),
     }
 }
 
@@ -543,16 +546,16 @@ fn regroup_span<'a, W: Write, F: Format, G: Format>(
     text: &'a [u8],
     number: u64,
     w: &mut W,
-    from: &F,
+    parser: &Parser<F>,
     to: &G,
 ) -> Result<(), LineFault<'a>>
     requires { ¬ (rules.now.span ≡ Trimmed) }
-    ensures { SendsLine rules.now.line_end (numbers_replaced rules.now.span rules.now (F.answers from.now) (G.answers to.now) number text.now)
+    ensures { SendsLine rules.now.line_end (numbers_replaced rules.now.span rules.now parser.now (G.answers to.now) number text.now)
         (W.contents w.old) (W.contents w.new) (result_map_both (λ sent. sent) line_fault_of result) }
 {
     match &rules.span {
-        Span::Fields(fields) => regroup_fields(rules, fields, text, number, w, from, to),
-        _ => regroup_place(rules, text, 0..text.len(), number, w, from, to),
+        Span::Fields(fields) => regroup_fields(rules, fields, text, number, w, parser, to),
+        _ => regroup_place(rules, text, 0..text.len(), number, w, parser, to),
     }
 }
 
@@ -564,12 +567,12 @@ fn regroup_place<'a, W: Write, F: Format, G: Format>(
     place: Range<usize>,
     number: u64,
     w: &mut W,
-    from: &F,
+    parser: &Parser<F>,
     to: &G,
 ) -> Result<(), LineFault<'a>>
     requires ordered { place.start ≤ place.end }
     requires within { place.end ≤ length text.now }
-    ensures { SendsLine rules.now.line_end (place_written rules.now (F.answers from.now) (G.answers to.now) number text.now (place_of place))
+    ensures { SendsLine rules.now.line_end (place_written rules.now parser.now (G.answers to.now) number text.now (place_of place))
         (W.contents w.old) (W.contents w.new) (result_map_both (λ sent. sent) line_fault_of result) }
 {
     let (start, end) = (place.start, place.end);
@@ -580,7 +583,7 @@ fn regroup_place<'a, W: Write, F: Format, G: Format>(
         before: &text[..start],
         after: &text[end..],
     };
-    let value = Number::read(rules.reading, &text[start..end], number, from)?;
+    let value = parser.read(rules.reading, &text[start..end], number)?;
     value
         .send_line(&around, rules.line_end, w, to)
         .or(Err(LineFault::Write))

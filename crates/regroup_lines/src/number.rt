@@ -16,8 +16,9 @@ use num_format::laws::format_data;
 use num_format::parsing::FromFormattedStr;
 use num_format::to_formatted_string::write_whole;
 use num_format::{Buffer, Format};
-use num_format_decimal::{Decimal, DecimalBuffer};
+use num_format_decimal::{Decimal, DecimalBuffer, DecimalParser};
 use std::io::Write;
+use std::marker::Model;
 
 /// The most bytes of a short line, with the byte that ends it.
 const MAX_SHORT_LINE_LEN: usize = 64;
@@ -44,37 +45,76 @@ pub(crate) struct Around<'a> {
     pub(crate) after: &'a [u8],
 }
 
-impl Number {
+/// A parser of the numbers of an input, which asks their format for its symbols once. A contract sees it as the data of the format.
+#[derive(Drop)]
+pub(crate) struct Parser<'a, F: Format> {
+    format: &'a F,
+    /// What parses decimals, unless the format is ambiguous.
+    decimals: Option<DecimalParser<'a, F>>,
+}
+
+impl<'a, F: Format> Model for Parser<'a, F> {
+    ghost use Rattle.std.specs.Prelude.{◌≡◌, MatchOption};
+    ghost use Rattle.num_format.specs.Format.{FormatData, HasUtf8Texts};
+    ghost use Rattle.num_format_decimal.specs.Marks.{MarksDecimals};
+
+    ghost Value = { FormatData };
+
+    ghost view = { λ p. F.answers p.format.now };
+
+    ghost invariant = { λ p. HasUtf8Texts (F.answers p.format.now)
+        × MatchOption p.decimals (¬ (MarksDecimals (F.answers p.format.now))) (λ parser. parser ≡ F.answers p.format.now) };
+}
+
+impl<'a, F: Format> Parser<'a, F> {
+    /// Returns a parser of texts under the format.
+    pub(crate) fn new(format: &'a F) -> Parser<'a, F>
+        ensures { result ≡ F.answers format.now }
+    {
+        format_data(format);
+        let decimals = DecimalParser::new(format).ok();
+        Parser { format, decimals }
+    }
+
+    /// Returns the format.
+    pub(crate) fn format(&self) -> &'a F
+        ensures { F.answers result.now ≡ self.now }
+    {
+        self.format
+    }
+
     /// Returns the number that a text in the line of this number is.
     ///
     /// # Errors
     ///
     /// Returns the fault of a text that does not parse.
     #[inline(always)]
-    pub(crate) fn read<'a, F: Format>(
+    pub(crate) fn read<'t>(
+        &self,
         reading: Reading,
-        text: &'a [u8],
+        text: &'t [u8],
         number: u64,
-        from: &F,
-    ) -> Result<Number, LineFault<'a>>
-        ensures { (to : FormatData) → number_written reading (F.answers from.now) to number text.now
+    ) -> Result<Number, LineFault<'t>>
+        ensures { (to : FormatData) → number_written reading self.now to number text.now
             ≡ result_map_both (number_text to) line_fault_of result }
     {
         match reading {
-            Reading::Strict => {
-                format_data(from);
-                match Decimal::from_strict_bytes(text, from) {
+            Reading::Strict => match &self.decimals {
+                Some(parser) => match parser.parse_bytes(text) {
                     Ok(value) => Ok(Number::Decimal(value)),
                     Err(_) => Err(LineFault::NotANumber(number, text)),
-                }
-            }
-            Reading::Lenient => match i128::from_formatted_bytes(text, from) {
+                },
+                None => Err(LineFault::NotANumber(number, text)),
+            },
+            Reading::Lenient => match i128::from_formatted_bytes(text, self.format) {
                 Ok(value) => Ok(Number::Whole(value)),
                 Err(_) => Err(LineFault::NotANumber(number, text)),
             },
         }
     }
+}
 
+impl Number {
     /// Sends the bytes of a line around the number, its text between them, and the byte that ends it.
     #[inline(always)]
     pub(crate) fn send_line<W: Write, G: Format>(

@@ -15,7 +15,7 @@ fields-init g c = (
   omega arith,
   λ z r sends.
       subst (λ x. SendsUnless c.args.sends (c.args.sends ≡ true → IsOnly c.args.fields.now) x (g.W.Write.contents c.args.w.now) z r)
-      (line_from-first c.args.rules.now c.args.fields.now (g.F.Format.answers c.args.from.now) (g.G.Format.answers c.args.to.now) c.args.number (fields_of c.args.fields.now c.args.text.now)) sends,
+      (line_from-first c.args.rules.now c.args.fields.now c.args.parser.now (g.G.Format.answers c.args.to.now) c.args.number (fields_of c.args.fields.now c.args.text.now)) sends,
 )
 
 pub returns-then-end-text : goal.returns-then-end-text

@@ -1,0 +1,57 @@
+use Rattle.std.proofs.Common.{◌≡◌, ◌∙◌, ℕ, List, None, Option, Result, SFits, Some, Ok, Err, rules, ap, subst, sym}
+use Rattle.std.specs.Int.{w128}
+use Rattle.std.specs.Prelude.{MatchOption}
+use Rattle.std.proofs.lemmas.Int.{to_z-of_z}
+use Rattle.num_format.specs.Format.{FormatData}
+use Rattle.num_format.specs.Text.{text_of}
+use Rattle.num_format_decimal.specs.FixedPoint.{FixedPoint}
+use Rattle.num_format_decimal.specs.Marks.{MarksDecimals}
+use Rattle.num_format_decimal.specs.Parsing.{DecimalResult}
+use Rattle.num_format_decimal.specs.declared.parsing.ParseDecimalError.{ParseDecimalError}
+use Rattle.regroup_lines.specs.LineFaults.{text_fault}
+use Rattle.regroup_lines.specs.Lines.{number_written}
+use Rattle.regroup_lines.proofs.TextLemmas.{lenient-fault, lenient-read, number_in_text-accepted, number_in_text-refused, strict-accepted, strict-ambiguous, strict-refused}
+use Rattle.regroup_lines.proofs.number.Parser.read.Goals as goal
+
+-- the parser is one of the format
+parsed : (from : FormatData) (decimals : Option FormatData) (parser : FormatData) (text : List ℕ) (result : Result FixedPoint ParseDecimalError) → decimals ≡ Some parser →
+    MatchOption decimals (¬ (MarksDecimals from)) (λ p. p ≡ from) → DecimalResult parser text result → DecimalResult from text result
+parsed from None parser text result is same read = absurd (cc)
+parsed from (Some p) parser text result is same read = let here : parser ≡ from = cc in subst (λ f. DecimalResult f text result) here read
+
+pub returns-in-Ok : goal.returns-in-Ok
+returns-in-Ok g c to =
+    let from = g.F.Format.answers c.self.inside.format.now in
+    let value = c.in-Ok.value in
+    let result = parsed from c.self.inside.decimals c.in-Some.parser c.args.text.now c.parse_bytes.result c.in-Some.is c.self.invariant.1 c.parse_bytes.ensures in
+    rw (← c.self.view_is, c.in-Strict.is) (strict-accepted from to c.args.number c.args.text.now c.self.invariant.0 value ((result.decimal value).0 c.in-Ok.is))
+
+pub returns-in-Err : goal.returns-in-Err
+returns-in-Err g c to =
+    let from = g.F.Format.answers c.self.inside.format.now in
+    let result = parsed from c.self.inside.decimals c.in-Some.parser c.args.text.now c.parse_bytes.result c.in-Some.is c.self.invariant.1 c.parse_bytes.ensures in
+    rw (← c.self.view_is, c.in-Strict.is) (strict-refused from to c.args.number c.args.text.now c.self.invariant.0 c.parse_bytes.result c.in-Err.field-0 c.in-Err.is result.decimal)
+
+pub returns-in-None : goal.returns-in-None
+returns-in-None g c to =
+    let from = g.F.Format.answers c.self.inside.format.now in
+    let ambiguous = subst (λ decimals. MatchOption decimals (¬ (MarksDecimals from)) (λ p. p ≡ from)) c.in-None.is c.self.invariant.1 in
+    rw (← c.self.view_is, c.in-Strict.is) (strict-ambiguous from to c.args.number c.args.text.now c.self.invariant.0 ambiguous)
+
+pub returns-in-Ok-from_formatted_bytes : goal.returns-in-Ok-from_formatted_bytes
+returns-in-Ok-from_formatted_bytes g c to =
+    let from = g.F.Format.answers c.self.inside.format.now in
+    let text = c.args.text.now in
+    let value = c.in-Ok-from_formatted_bytes.value in
+    let fits : SFits w128 value = search rules in
+    let read = number_in_text-accepted from c.args.number text value c.in-Ok-from_formatted_bytes.ensures.number c.in-Ok-from_formatted_bytes.ensures.accepted in
+    rw (← c.self.view_is) (subst (λ reading. number_written reading from to c.args.number text ≡ Ok (text_of to value)) (sym c.in-Lenient.is) (lenient-read from to c.args.number text value read)
+    ∙ ap (λ n. Ok (text_of to n)) (sym (to_z-of_z w128 value fits)))
+
+pub returns-in-Err-from_formatted_bytes : goal.returns-in-Err-from_formatted_bytes
+returns-in-Err-from_formatted_bytes g c to =
+    let from = g.F.Format.answers c.self.inside.format.now in
+    let text = c.args.text.now in
+    rw (← c.self.view_is) (subst (λ reading. number_written reading from to c.args.number text ≡ Err (text_fault c.args.number text)) (sym c.in-Lenient.is)
+    (lenient-fault from to c.args.number text (text_fault c.args.number text)
+    (number_in_text-refused from c.args.number text _ c.in-Err-from_formatted_bytes.ensures.not_utf8 c.in-Err-from_formatted_bytes.ensures.refused)))
