@@ -17,8 +17,9 @@ ghost use Rattle.regroup_lines.specs.declared.rules.Rules.{Rules};
 
 use crate::ends::{find_end, len_without};
 use crate::fields::Quotes::{Doubled, Plain};
+use crate::job::Job;
 use crate::line_fault::LineFault;
-use crate::number::{Number, Parser, send_whole};
+use crate::number::{Number, send_whole};
 use crate::pass_on;
 use crate::records::{QUOTE, Within};
 use crate::rules::{Fields, Output, Rules, trim};
@@ -36,6 +37,19 @@ struct Place {
     is_quoted: bool,
 }
 
+/// A field that may be written in another way than it was read.
+#[derive(Clone, Copy)]
+struct Field<'a> {
+    /// Its number.
+    count: u64,
+    /// Whether it has a number.
+    is_chosen: bool,
+    /// The bytes that are passed on before it.
+    passed: &'a [u8],
+    /// Its bytes.
+    text: &'a [u8],
+}
+
 /// How the quotes of a text are sent.
 #[derive(Clone, Copy)]
 enum Quotes {
@@ -48,23 +62,21 @@ enum Quotes {
 /// Sends a line with the number in each chosen field regrouped, and the byte that ends it.
 #[inline(never)]
 pub(crate) fn regroup_fields<'a, W: Write, F: Format, G: Format>(
-    rules: &Rules,
+    job: &Job<F, G>,
     fields: &Fields,
     text: &'a [u8],
     number: u64,
     w: &mut W,
-    parser: &Parser<F>,
-    to: &G,
 ) -> Result<(), LineFault<'a>>
-    ensures { SendsLine rules.now.line_end (fields_replaced fields.now rules.now parser.now (G.answers to.now) number text.now)
+    ensures { SendsLine job.now.rules.now.line_end (fields_replaced fields.now job.now.rules.now job.now.parser (G.answers job.now.to.now) number text.now)
         (W.contents w.old) (W.contents w.new) (result_map_both (λ sent. sent) line_fault_of result) }
 {
     match fields.only() {
-        Some(_) => regroup_each(true, rules, fields, text, number, w, parser, to),
+        Some(_) => regroup_each(true, job, fields, text, number, w),
         None => {
             // Of a line at fault nothing is sent, so all numbers are read first.
-            regroup_each(false, rules, fields, text, number, w, parser, to)?;
-            regroup_each(true, rules, fields, text, number, w, parser, to)
+            regroup_each(false, job, fields, text, number, w)?;
+            regroup_each(true, job, fields, text, number, w)
         }
     }
 }
@@ -74,16 +86,14 @@ pub(crate) fn regroup_fields<'a, W: Write, F: Format, G: Format>(
 /// Bytes that are passed on are sent with those after them, once the next number is read.
 fn regroup_each<'a, W: Write, F: Format, G: Format>(
     sends: bool,
-    rules: &Rules,
+    job: &Job<F, G>,
     fields: &Fields,
     text: &'a [u8],
     number: u64,
     w: &mut W,
-    parser: &Parser<F>,
-    to: &G,
 ) -> Result<(), LineFault<'a>>
     ensures { SendsUnless sends (sends ≡ true → IsOnly fields.now)
-        (result_map_both (ended_by rules.now.line_end) (λ fault. fault) (fields_replaced fields.now rules.now parser.now (G.answers to.now) number text.now))
+        (result_map_both (ended_by job.now.rules.now.line_end) (λ fault. fault) (fields_replaced fields.now job.now.rules.now job.now.parser (G.answers job.now.to.now) number text.now))
         (W.contents w.old) (W.contents w.new) (result_map_both (λ sent. sent) line_fault_of result) }
 {
     let (mut sent, mut start, mut count) = (0, 0, 0);
@@ -93,18 +103,20 @@ fn regroup_each<'a, W: Write, F: Format, G: Format>(
         let is_chosen = fields.contain(count);
         if !is_written(fields, is_chosen) {
             if end == text.len() {
-                return end_line(sends, rules, fields, count, number, &text[sent..], w);
+                return end_line(sends, job.rules, fields, count, number, &text[sent..], w);
             }
             start = end + 1;
             continue;
         }
-        let passed = &text[sent..start];
-        let field = &text[start..end];
-        regroup_field(
-            sends, rules, fields, count, is_chosen, passed, field, number, w, parser, to,
-        )?;
+        let field = Field {
+            count,
+            is_chosen,
+            passed: &text[sent..start],
+            text: &text[start..end],
+        };
+        regroup_field(sends, job, fields, &field, number, w)?;
         if end == text.len() || !fields.change(count + 1) {
-            return end_line(sends, rules, fields, count, number, &text[end..], w);
+            return end_line(sends, job.rules, fields, count, number, &text[end..], w);
         }
         sent = end;
         start = end + 1;
@@ -169,29 +181,24 @@ fn field_end(fields: &Fields, text: &[u8], start: usize) -> usize
 /// and the field with that number regrouped.
 fn regroup_field<'a, W: Write, F: Format, G: Format>(
     sends: bool,
-    rules: &Rules,
+    job: &Job<F, G>,
     fields: &Fields,
-    count: u64,
-    is_chosen: bool,
-    passed: &[u8],
-    field: &'a [u8],
+    field: &Field<'a>,
     number: u64,
     w: &mut W,
-    parser: &Parser<F>,
-    to: &G,
 ) -> Result<(), LineFault<'a>>
     ensures { SendsOrFails sends
-        (after (before_field fields.now passed.now) (field_written rules.now fields.now parser.now (G.answers to.now) number count is_chosen field.now))
+        (after (before_field fields.now field.now.passed.now) (field_written job.now.rules.now fields.now job.now.parser (G.answers job.now.to.now) number field.now.count field.now.is_chosen field.now.text.now))
         (W.contents w.old) (W.contents w.new) (result_map_both (λ sent. sent) line_fault_of result) }
 {
-    if !is_chosen {
-        return send_unchanged(sends, rules, fields, passed, field, w);
+    if !field.is_chosen {
+        return send_unchanged(sends, job.rules, fields, field, w);
     }
-    let place = place_in(fields.quotes, field);
-    match read_field(rules, fields.quotes, place, field, number, parser) {
-        Ok(Some(value)) => send_value(sends, rules, fields, passed, field, place, &value, w, to),
-        Ok(None) => send_unchanged(sends, rules, fields, passed, field, w),
-        Err(fault) => Err(fault.in_field(count)),
+    let place = place_in(fields.quotes, field.text);
+    match read_field(job, fields.quotes, place, field.text, number) {
+        Ok(Some(value)) => send_value(sends, job, fields, field, place, &value, w),
+        Ok(None) => send_unchanged(sends, job.rules, fields, field, w),
+        Err(fault) => Err(fault.in_field(field.count)),
     }
 }
 
@@ -200,22 +207,21 @@ fn send_unchanged<W: Write>(
     sends: bool,
     rules: &Rules,
     fields: &Fields,
-    passed: &[u8],
-    field: &[u8],
+    field: &Field<'_>,
     w: &mut W,
 ) -> Result<(), LineFault<'static>>
-    ensures { SendsIf sends (before_field fields.now passed.now ++ field_with fields.now rules.now.line_end field.now None) (W.contents w.old) (W.contents w.new)
+    ensures { SendsIf sends (before_field fields.now field.now.passed.now ++ field_with fields.now rules.now.line_end field.now.text.now None) (W.contents w.old) (W.contents w.new)
         (result_map_both (λ sent. sent) line_fault_of result) }
 {
     if !sends {
         return Ok(());
     }
     if fields.output.is_none() {
-        let sent = send_all(&[(Plain, passed), (Plain, field)], w);
+        let sent = send_all(&[(Plain, field.passed), (Plain, field.text)], w);
         return sent.or(Err(LineFault::Write));
     }
-    let place = text_start(fields.quotes, field);
-    let sent = send_text(rules, fields, passed, field, place, "", w);
+    let place = text_start(fields.quotes, field.text);
+    let sent = send_text(rules, fields, field, place, "", w);
     sent.or(Err(LineFault::Write))
 }
 
@@ -285,29 +291,28 @@ fn is_quoted(field: &[u8], start: usize, end: usize) -> bool
 /// # Errors
 ///
 /// Returns the fault of a field that has no number.
-fn read_field<'a, F: Format>(
-    rules: &Rules,
+fn read_field<'a, F: Format, G: Format>(
+    job: &Job<F, G>,
     quotes: bool,
     place: Place,
     field: &'a [u8],
     number: u64,
-    parser: &Parser<F>,
 ) -> Result<Option<Number>, LineFault<'a>>
     requires place { (place.start, place.end) ≡ number_place quotes field.now }
     requires ordered { place.start ≤ place.end }
     requires within { place.end ≤ length field.now }
     ensures { (to : FormatData) → result_map_both (option_map (number_text to)) line_fault_of result
-        ≡ field_read rules.now quotes parser.now to number field.now }
+        ≡ field_read job.now.rules.now quotes job.now.parser to number field.now }
 {
     let (start, end) = (place.start, place.end);
-    if rules.passes_empty && start == end {
+    if job.rules.passes_empty && start == end {
         return Ok(None);
     }
     let text = &field[start..end];
-    if quotes && is_any_barred(rules.line_end, text) {
+    if quotes && is_any_barred(job.rules.line_end, text) {
         return Err(LineFault::NotANumber(number, text));
     }
-    match parser.read(rules.reading, text, number) {
+    match job.parser.read(job.rules.reading, text, number) {
         Ok(value) => Ok(Some(value)),
         Err(fault) => Err(fault),
     }
@@ -321,22 +326,20 @@ fn is_any_barred(line_end: u8, text: &[u8]) -> bool
 }
 
 /// Sends a field with the text of a number at this place, and the bytes that are passed on before it, if it `sends`.
-fn send_value<W: Write, G: Format>(
+fn send_value<W: Write, F: Format, G: Format>(
     sends: bool,
-    rules: &Rules,
+    job: &Job<F, G>,
     fields: &Fields,
-    passed: &[u8],
-    field: &[u8],
+    field: &Field<'_>,
     place: Place,
     value: &Number,
     w: &mut W,
-    to: &G,
 ) -> Result<(), LineFault<'static>>
     requires ordered { place.start ≤ place.end }
-    requires within { place.end ≤ length field.now }
+    requires within { place.end ≤ length field.now.text.now }
     ensures { SendsIf sends
-        (before_field fields.now passed.now
-        ++ placed fields.now rules.now.line_end place.is_quoted (take place.start field.now) (drop place.end field.now) (number_text (G.answers to.now) value.now))
+        (before_field fields.now field.now.passed.now
+        ++ placed fields.now job.now.rules.now.line_end place.is_quoted (take place.start field.now.text.now) (drop place.end field.now.text.now) (number_text (G.answers job.now.to.now) value.now))
         (W.contents w.old) (W.contents w.new) (result_map_both (λ sent. sent) line_fault_of result) }
 {
     if !sends {
@@ -344,12 +347,12 @@ fn send_value<W: Write, G: Format>(
     }
     let sent = match value {
         Number::Whole(value) => {
-            let text = Buffer::of(value, to);
-            send_text(rules, fields, passed, field, place, text.as_str(), w)
+            let text = Buffer::of(value, job.to);
+            send_text(job.rules, fields, field, place, text.as_str(), w)
         }
         Number::Decimal(value) => {
-            let text = DecimalBuffer::of(value, to);
-            send_text(rules, fields, passed, field, place, text.as_str(), w)
+            let text = DecimalBuffer::of(value, job.to);
+            send_text(job.rules, fields, field, place, text.as_str(), w)
         }
     };
     sent.or(Err(LineFault::Write))
@@ -360,21 +363,20 @@ fn send_value<W: Write, G: Format>(
 fn send_text<W: Write>(
     rules: &Rules,
     fields: &Fields,
-    passed: &[u8],
-    field: &[u8],
+    field: &Field<'_>,
     place: Place,
     text: &str,
     w: &mut W,
 ) -> io::Result<()>
     requires ordered { place.start ≤ place.end }
-    requires within { place.end ≤ length field.now }
+    requires within { place.end ≤ length field.now.text.now }
     ensures { Sends result (W.contents w.old) (W.contents w.new)
-        (before_field fields.now passed.now
-        ++ placed fields.now rules.now.line_end place.is_quoted (take place.start field.now) (drop place.end field.now) text.now) }
+        (before_field fields.now field.now.passed.now
+        ++ placed fields.now rules.now.line_end place.is_quoted (take place.start field.now.text.now) (drop place.end field.now.text.now) text.now) }
 {
-    write_whole(before_field(fields, passed), w)?;
-    let (before, _) = field.split_at(place.start);
-    let (_, after) = field.split_at(place.end);
+    write_whole(before_field(fields, field.passed), w)?;
+    let (before, _) = field.text.split_at(place.start);
+    let (_, after) = field.text.split_at(place.end);
     let (line_end, text) = (rules.line_end, text.as_bytes());
     match &fields.output {
         Some(output) => send_output(output, line_end, place.is_quoted, before, after, text, w),

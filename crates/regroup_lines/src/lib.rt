@@ -21,6 +21,7 @@ mod ends;
 mod fault;
 mod fields;
 mod input;
+mod job;
 pub mod laws;
 mod line_fault;
 mod list;
@@ -48,6 +49,7 @@ use crate::ends::without_end;
 pub use crate::fault::{FieldCount, RegroupFault};
 use crate::fields::{regroup_fields, send_bytes};
 use crate::input::{Input, Piece};
+use crate::job::Job;
 use crate::line_fault::LineFault;
 pub use crate::list::field_list;
 pub use crate::message::{MAX_DISPLAYED_LEN, MAX_FAULT_MESSAGE_LEN, MAX_NAME_LEN, fault_message};
@@ -211,7 +213,12 @@ pub fn regroup_at_most<R: Read, W: Write, E: Write, X: Write, F: Format, G: Form
         (by_writer (W.contents w.old) (E.contents e.old) (X.contents x.old)) (by_writer (W.contents w.new) (E.contents e.new) (X.contents x.new))
         (result_map_both (λ summary. summary) fault_of result) }
 {
-    let parser = Parser::new(from);
+    let job = Job {
+        rules,
+        name,
+        parser: Parser::new(from),
+        to,
+    };
     let mut input = Input::new(buffer);
     let mut has_faults = false;
     let mut number = 1;
@@ -219,7 +226,7 @@ pub fn regroup_at_most<R: Read, W: Write, E: Write, X: Write, F: Format, G: Form
         match input.next_piece(rules, Within::Start, r, w)? {
             Piece::Line(place) => {
                 let text = input.bytes(place);
-                has_faults |= regroup_line(rules, name, text, number, w, e, x, &parser, to)?;
+                has_faults |= regroup_line(&job, text, number, w, e, x)?;
                 number = line_after(rules, number, text);
             }
             Piece::Rest(place) => {
@@ -230,7 +237,7 @@ pub fn regroup_at_most<R: Read, W: Write, E: Write, X: Write, F: Format, G: Form
                         has_faults,
                     });
                 }
-                has_faults |= regroup_last(rules, name, rest, number, w, e, x, &parser, to)?;
+                has_faults |= regroup_last(&job, rest, number, w, e, x)?;
                 let lines = count + 1;
                 return Ok(Summary { lines, has_faults });
             }
@@ -239,7 +246,7 @@ pub fn regroup_at_most<R: Read, W: Write, E: Write, X: Write, F: Format, G: Form
                 if !rules.invalid.passes() {
                     return Err(fault);
                 }
-                has_faults |= name_fault(rules, name, &fault, e, &parser)?;
+                has_faults |= name_fault(&job, &fault, e)?;
                 if send_long(rules, &mut number, &mut input, r, w, x)? {
                     let lines = count + 1;
                     return Ok(Summary { lines, has_faults });
@@ -283,56 +290,50 @@ fn long_fault(rules: &Rules, number: u64, input: &Input<'_>) -> RegroupFault
 #[cold]
 #[inline(never)]
 fn regroup_last<'a, W: Write, E: Write, X: Write, F: Format, G: Format>(
-    rules: &Rules,
-    name: &str,
+    job: &Job<F, G>,
     text: &'a [u8],
     number: u64,
     w: &mut W,
     e: &mut E,
     x: &mut X,
-    parser: &Parser<F>,
-    to: &G,
 ) -> Result<bool, LineFault<'a>>
-    ensures { SendsEach name.now rules.now.reading parser.now (record_sent rules.now parser.now (G.answers to.now) number text.now)
+    ensures { SendsEach job.now.name.now job.now.rules.now.reading job.now.parser (record_sent job.now.rules.now job.now.parser (G.answers job.now.to.now) number text.now)
         (by_writer (W.contents w.old) (E.contents e.old) (X.contents x.old)) (by_writer (W.contents w.new) (E.contents e.new) (X.contents x.new))
         (result_map_both (λ told. told) line_fault_of result) }
 {
-    if is_open(rules, text) {
+    if is_open(job.rules, text) {
         let fault = LineFault::Unclosed(number);
-        let text = without_end(rules.line_end, text);
-        return pass_fault(rules, name, fault, text, w, e, x, parser);
+        let text = without_end(job.rules.line_end, text);
+        return pass_fault(job, fault, text, w, e, x);
     }
-    regroup_line(rules, name, text, number, w, e, x, parser, to)
+    regroup_line(job, text, number, w, e, x)
 }
 
 /// Sends what is written in place of the text of a line, and the byte that ends it, and before them the message that names
 /// its fault, if there is one. Returns whether there is.
 fn regroup_line<'a, W: Write, E: Write, X: Write, F: Format, G: Format>(
-    rules: &Rules,
-    name: &str,
+    job: &Job<F, G>,
     text: &'a [u8],
     number: u64,
     w: &mut W,
     e: &mut E,
     x: &mut X,
-    parser: &Parser<F>,
-    to: &G,
 ) -> Result<bool, LineFault<'a>>
-    ensures { SendsEach name.now rules.now.reading parser.now (text_sent rules.now parser.now (G.answers to.now) number text.now)
+    ensures { SendsEach job.now.name.now job.now.rules.now.reading job.now.parser (text_sent job.now.rules.now job.now.parser (G.answers job.now.to.now) number text.now)
         (by_writer (W.contents w.old) (E.contents e.old) (X.contents x.old)) (by_writer (W.contents w.new) (E.contents e.new) (X.contents x.new))
         (result_map_both (λ told. told) line_fault_of result) }
 {
-    if number <= rules.header_lines {
-        return match pass_on(text, rules.line_end, w) {
+    if number <= job.rules.header_lines {
+        return match pass_on(text, job.rules.line_end, w) {
             Ok(()) => Ok(false),
             Err(_) => Err(LineFault::Write),
         };
     }
-    match regroup_body(rules, text, number, w, parser, to) {
+    match regroup_body(job, text, number, w) {
         Ok(()) => Ok(false),
         Err(fault) => match fault {
             LineFault::Write => Err(LineFault::Write),
-            _ => pass_fault(rules, name, fault, text, w, e, x, parser),
+            _ => pass_fault(job, fault, text, w, e, x),
         },
     }
 }
@@ -341,46 +342,42 @@ fn regroup_line<'a, W: Write, E: Write, X: Write, F: Format, G: Format>(
 /// them the message that names the fault. Returns whether there is a message.
 #[cold]
 #[inline(never)]
-fn pass_fault<'a, W: Write, E: Write, X: Write, F: Format>(
-    rules: &Rules,
-    name: &str,
+fn pass_fault<'a, W: Write, E: Write, X: Write, F: Format, G: Format>(
+    job: &Job<F, G>,
     fault: LineFault<'a>,
     text: &[u8],
     w: &mut W,
     e: &mut E,
     x: &mut X,
-    parser: &Parser<F>,
 ) -> Result<bool, LineFault<'a>>
-    ensures { SendsEach name.now rules.now.reading parser.now (fault_sent rules.now (line_fault_of fault.entry) (ended_by rules.now.line_end text.now))
+    ensures { SendsEach job.now.name.now job.now.rules.now.reading job.now.parser (fault_sent job.now.rules.now (line_fault_of fault.entry) (ended_by job.now.rules.now.line_end text.now))
         (by_writer (W.contents w.old) (E.contents e.old) (X.contents x.old)) (by_writer (W.contents w.new) (E.contents e.new) (X.contents x.new))
         (result_map_both (λ told. told) line_fault_of result) }
 {
-    if !rules.invalid.passes() {
+    if !job.rules.invalid.passes() {
         return Err(fault);
     }
-    let Ok(is_named) = name_fault(rules, name, &RegroupFault::from(fault), e, parser) else {
+    let Ok(is_named) = name_fault(job, &RegroupFault::from(fault), e) else {
         return Err(LineFault::Report);
     };
-    pass_bytes(rules, text, &[rules.line_end], w, x)?;
+    pass_bytes(job.rules, text, &[job.rules.line_end], w, x)?;
     Ok(is_named)
 }
 
 /// Sends the message that names a fault, if the rules say so, and returns whether they do.
-fn name_fault<E: Write, F: Format>(
-    rules: &Rules,
-    name: &str,
+fn name_fault<E: Write, F: Format, G: Format>(
+    job: &Job<F, G>,
     fault: &RegroupFault,
     e: &mut E,
-    parser: &Parser<F>,
 ) -> Result<bool, RegroupFault>
-    ensures { Names (messages name.now rules.now.reading parser.now (fault_named rules.now.invalid (fault_of fault.now)))
-        (are_any (fault_named rules.now.invalid (fault_of fault.now)))
+    ensures { Names (messages job.now.name.now job.now.rules.now.reading job.now.parser (fault_named job.now.rules.now.invalid (fault_of fault.now)))
+        (are_any (fault_named job.now.rules.now.invalid (fault_of fault.now)))
         (E.contents e.old) (E.contents e.new) (result_map_both (λ told. told) fault_of result) }
 {
-    match rules.invalid {
+    match job.rules.invalid {
         Invalid::Abort | Invalid::Ignore => Ok(false),
         Invalid::Fail | Invalid::Warn => {
-            let message = fault_message(name, rules.reading, fault, parser.format());
+            let message = fault_message(job.name, job.rules.reading, fault, job.parser.format());
             write_whole(message.as_str().as_bytes(), e).or(Err(RegroupFault::Report))?;
             Ok(true)
         }
@@ -476,20 +473,18 @@ fn pass_bytes<W: Write, X: Write>(
 
 /// Sends a line that is no header, with its numbers regrouped and a byte order mark passed on, and the byte that ends it.
 fn regroup_body<'a, W: Write, F: Format, G: Format>(
-    rules: &Rules,
+    job: &Job<F, G>,
     text: &'a [u8],
     number: u64,
     w: &mut W,
-    parser: &Parser<F>,
-    to: &G,
 ) -> Result<(), LineFault<'a>>
-    ensures { SendsLine rules.now.line_end (body_written rules.now parser.now (G.answers to.now) number text.now)
+    ensures { SendsLine job.now.rules.now.line_end (body_written job.now.rules.now job.now.parser (G.answers job.now.to.now) number text.now)
         (W.contents w.old) (W.contents w.new) (result_map_both (λ sent. sent) line_fault_of result) }
 {
-    if !rules.span.passes_mark(number, text) {
-        return regroup_numbers(rules, text, number, w, parser, to);
+    if !job.rules.span.passes_mark(number, text) {
+        return regroup_numbers(job, text, number, w);
     }
-    regroup_marked(rules, text, number, w, parser, to)
+    regroup_marked(job, text, number, w)
 }
 
 /// Sends the same of a line that begins with a byte order mark. It is a cold call, so that other lines are regrouped
@@ -497,22 +492,20 @@ fn regroup_body<'a, W: Write, F: Format, G: Format>(
 #[cold]
 #[inline(never)]
 fn regroup_marked<'a, W: Write, F: Format, G: Format>(
-    rules: &Rules,
+    job: &Job<F, G>,
     text: &'a [u8],
     number: u64,
     w: &mut W,
-    parser: &Parser<F>,
-    to: &G,
 ) -> Result<(), LineFault<'a>>
-    requires { passes_mark rules.now.span number text.now ≡ true }
-    ensures { SendsLine rules.now.line_end (body_written rules.now parser.now (G.answers to.now) number text.now)
+    requires { passes_mark job.now.rules.now.span number text.now ≡ true }
+    ensures { SendsLine job.now.rules.now.line_end (body_written job.now.rules.now job.now.parser (G.answers job.now.to.now) number text.now)
         (W.contents w.old) (W.contents w.new) (result_map_both (λ sent. sent) line_fault_of result) }
 {
     let rest = &text[MARK.len()..];
     // Of a line at fault nothing is sent, so it is read before the mark is sent.
-    regroup_numbers(rules, rest, number, &mut io::sink(), parser, to)?;
+    regroup_numbers(job, rest, number, &mut io::sink())?;
     send_bytes(&MARK, w)?;
-    regroup_numbers(rules, rest, number, w, parser, to)
+    regroup_numbers(job, rest, number, w)
 }
 
 /// Sends a line with its numbers regrouped, and the byte that ends it.
@@ -520,72 +513,68 @@ fn regroup_marked<'a, W: Write, F: Format, G: Format>(
 /// It is inlined, so that a line that is a number alone takes neither a call for its span nor a jump through a table.
 #[inline(always)]
 fn regroup_numbers<'a, W: Write, F: Format, G: Format>(
-    rules: &Rules,
+    job: &Job<F, G>,
     text: &'a [u8],
     number: u64,
     w: &mut W,
-    parser: &Parser<F>,
-    to: &G,
 ) -> Result<(), LineFault<'a>>
-    ensures { SendsLine rules.now.line_end (numbers_replaced rules.now.span rules.now parser.now (G.answers to.now) number text.now)
+    ensures { SendsLine job.now.rules.now.line_end (numbers_replaced job.now.rules.now.span job.now.rules.now job.now.parser (G.answers job.now.to.now) number text.now)
         (W.contents w.old) (W.contents w.new) (result_map_both (λ sent. sent) line_fault_of result) }
 {
-    match &rules.span {
+    match &job.rules.span {
         Span::Trimmed => {
             let place = trim(text, 0..text.len());
-            regroup_place(rules, text, place, number, w, parser, to)
+            regroup_place(job, text, place, number, w)
         }
-        _ => regroup_span(rules, text, number, w, parser, to),
+        _ => regroup_span(job, text, number, w),
     }
 }
 
 /// Does the same of the other spans: all bytes of the line, or fields.
 #[inline(never)]
 fn regroup_span<'a, W: Write, F: Format, G: Format>(
-    rules: &Rules,
+    job: &Job<F, G>,
     text: &'a [u8],
     number: u64,
     w: &mut W,
-    parser: &Parser<F>,
-    to: &G,
 ) -> Result<(), LineFault<'a>>
-    requires { ¬ (rules.now.span ≡ Trimmed) }
-    ensures { SendsLine rules.now.line_end (numbers_replaced rules.now.span rules.now parser.now (G.answers to.now) number text.now)
+    requires { ¬ (job.now.rules.now.span ≡ Trimmed) }
+    ensures { SendsLine job.now.rules.now.line_end (numbers_replaced job.now.rules.now.span job.now.rules.now job.now.parser (G.answers job.now.to.now) number text.now)
         (W.contents w.old) (W.contents w.new) (result_map_both (λ sent. sent) line_fault_of result) }
 {
-    match &rules.span {
-        Span::Fields(fields) => regroup_fields(rules, fields, text, number, w, parser, to),
-        _ => regroup_place(rules, text, 0..text.len(), number, w, parser, to),
+    match &job.rules.span {
+        Span::Fields(fields) => regroup_fields(job, fields, text, number, w),
+        _ => regroup_place(job, text, 0..text.len(), number, w),
     }
 }
 
 /// Sends a line with the number at a place regrouped, and the byte that ends it.
 #[inline(always)]
 fn regroup_place<'a, W: Write, F: Format, G: Format>(
-    rules: &Rules,
+    job: &Job<F, G>,
     text: &'a [u8],
     place: Range<usize>,
     number: u64,
     w: &mut W,
-    parser: &Parser<F>,
-    to: &G,
 ) -> Result<(), LineFault<'a>>
     requires ordered { place.start ≤ place.end }
     requires within { place.end ≤ length text.now }
-    ensures { SendsLine rules.now.line_end (place_written rules.now parser.now (G.answers to.now) number text.now (place_of place))
+    ensures { SendsLine job.now.rules.now.line_end (place_written job.now.rules.now job.now.parser (G.answers job.now.to.now) number text.now (place_of place))
         (W.contents w.old) (W.contents w.new) (result_map_both (λ sent. sent) line_fault_of result) }
 {
     let (start, end) = (place.start, place.end);
-    if rules.passes_empty && start == end {
-        return pass_on(text, rules.line_end, w).or(Err(LineFault::Write));
+    if job.rules.passes_empty && start == end {
+        return pass_on(text, job.rules.line_end, w).or(Err(LineFault::Write));
     }
     let around = Around {
         before: &text[..start],
         after: &text[end..],
     };
-    let value = parser.read(rules.reading, &text[start..end], number)?;
+    let value = job
+        .parser
+        .read(job.rules.reading, &text[start..end], number)?;
     value
-        .send_line(&around, rules.line_end, w, to)
+        .send_line(&around, job.rules.line_end, w, job.to)
         .or(Err(LineFault::Write))
 }
 

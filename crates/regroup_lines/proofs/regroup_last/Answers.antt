@@ -4,10 +4,10 @@ use Rattle.regroup_lines.proofs.regroup_last.Goals as goal
 
 pub returns-then-is_open : goal.returns-then-is_open
 returns-then-is_open g c =
-    let rules = c.args.rules.now in
-    let same = open-record rules c.args.parser.now (g.G.Format.answers c.args.to.now) c.args.number c.args.text.now (sym c.is_open.ensures ∙ c.if-is_open.true) in
+    let rules = c.args.job.now.rules.now in
+    let same = open-record rules c.args.job.now.parser (g.G.Format.answers c.args.job.now.to.now) c.args.number c.args.text.now (sym c.is_open.ensures ∙ c.if-is_open.true) in
     rw (same, sym c.without_end-text.ensures) c.pass_fault.ensures
 
 pub returns : goal.returns
 returns g c =
-    rw (closed-record c.args.rules.now c.args.parser.now (g.G.Format.answers c.args.to.now) c.args.number c.args.text.now (sym c.is_open.ensures ∙ c.if-is_open.false)) c.regroup_line.ensures
+    rw (closed-record c.args.job.now.rules.now c.args.job.now.parser (g.G.Format.answers c.args.job.now.to.now) c.args.number c.args.text.now (sym c.is_open.ensures ∙ c.if-is_open.false)) c.regroup_line.ensures

@@ -15,10 +15,10 @@ invariant-fields g l =
     (l.sent ≤ l.start) × (l.start ≤ length l.text) × (l.count ≤ l.start)
     × ((c : Option (List ℕ)) (r : Result (Unit {0}) Fault) →
     SendsUnless l.sends (l.sends ≡ true → IsOnly l.fields)
-    (after (before_field l.fields (slice_range l.text l.sent l.start)) (line_from l.rules l.fields l.parser (g.G.Format.answers l.to) l.number l.count (fields_of l.fields (drop l.start l.text))))
+    (after (before_field l.fields (slice_range l.text l.sent l.start)) (line_from l.job.rules.now l.fields l.job.parser (g.G.Format.answers l.job.to.now) l.number l.count (fields_of l.fields (drop l.start l.text))))
     (g.W.Write.contents l.w) c r →
     SendsUnless l.sends (l.sends ≡ true → IsOnly l.fields)
-    (result_map_both (ended_by l.rules.line_end) (λ fault. fault) (fields_replaced l.fields l.rules l.parser (g.G.Format.answers l.to) l.number l.text))
+    (result_map_both (ended_by l.job.rules.now.line_end) (λ fault. fault) (fields_replaced l.fields l.job.rules.now l.job.parser (g.G.Format.answers l.job.to.now) l.number l.text))
     (g.W.Write.contents l.fn.w) c r)
 
 abbrev pub decreases-fields : goal.decreases-fields

@@ -1,0 +1,17 @@
+//! What lines are regrouped by.
+use crate::number::Parser;
+use crate::rules::Rules;
+use num_format::Format;
+
+/// What each line of an input is regrouped by.
+#[derive(Drop)]
+pub(crate) struct Job<'a, F: Format, G: Format> {
+    /// How.
+    pub(crate) rules: &'a Rules<'a>,
+    /// The name of the input, which messages have.
+    pub(crate) name: &'a str,
+    /// What parses numbers.
+    pub(crate) parser: Parser<'a, F>,
+    /// The format that they are printed under.
+    pub(crate) to: &'a G,
+}
