@@ -1,9 +1,5 @@
 -- What a writer received of a text that is sent part by part.
-use Rattle.std.proofs.Common.{ℕ, List, ◌++◌, Option}
-use Rattle.std.specs.Io.KnownBytes.{Appends}
-use Rattle.std.proofs.KnownBytes.{Appends-trans}
-use Rattle.num_format.specs.Writing.{StopsWithin}
-use Rattle.num_format.proofs.WritingLemmas.{StopsWithin_prefix, StopsWithin_suffix}
+use Rattle.regroup_lines.proofs.Common.{Appends, Appends-trans, List, Option, StopsWithin, StopsWithin_prefix, StopsWithin_suffix, ℕ, ◌++◌}
 
 -- a text, and what is after it
 module _ (text more : List ℕ) (a b : Option (List ℕ)) where

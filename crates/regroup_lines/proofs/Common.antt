@@ -1,5 +1,5 @@
 -- The names that many proofs of this crate use.
-pub use Rattle.std.proofs.Common.{Bool, Err, IsUtf8, List, None, Ok, Option, Result, Some, [], ap, append-nil, append_assoc, arith, drop, eq-eqb, false, get_or, if◌then◌else◌, length, refl, rules, slice_range, subst, sym, take, take-append-drop, true, ℕ, ◌++◌, ◌+◌, ◌-◌, ◌<◌, ◌==◌, ◌^◌, ◌∙◌, ◌∷◌, ◌≡◌, ◌≢◌, ◌≤◌}
+pub use Rattle.std.proofs.Common.{Bool, Decides, Err, IsUtf8, List, None, Ok, Option, Result, SFits, Some, [], ap, append-nil, append_assoc, arith, drop, eq-eqb, false, get_or, if◌then◌else◌, inl, inr, length, refl, rules, slice_range, subst, sym, take, take-append-drop, true, ℕ, ◌*◌, ◌++◌, ◌+◌, ◌-◌, ◌<◌, ◌==◌, ◌^◌, ◌∙◌, ◌∷◌, ◌≡◌, ◌≢◌, ◌≤◌}
 pub use Rattle.num_format.proofs.WritingLemmas.{HasReceivedUpTo-none, OnErr-always, StopsWithin_prefix, StopsWithin_suffix}
 pub use Rattle.num_format.specs.Cut.{cut_text}
 pub use Rattle.num_format.specs.Format.{FormatData, HasUtf8Texts}
@@ -8,32 +8,32 @@ pub use Rattle.num_format.specs.Text.{text_of}
 pub use Rattle.num_format.specs.Writing.{Sends, StopsWithin}
 pub use Rattle.num_format_decimal.specs.Text.{decimal_text}
 pub use Rattle.std.proofs.KnownBytes.{Appends-kept, Appends-nil, Appends-trans, Consumes-kept, Consumes-nil, Consumes-trans, Keeps-trans}
-pub use Rattle.std.proofs.lemmas.Bool.{both_ways, eqb-true, false_from_ne_true, le-leb, lt-leb, or_from, or_parts}
-pub use Rattle.std.proofs.lemmas.Bool.Decides.{Decides-ltb}
-pub use Rattle.std.proofs.lemmas.List.{drop-append-le, drop-drop, drop-take, drop_all, drop_at, drop_more, get_or-drop, get_or-take, length-append, length-drop, length-take, length-take-le, take-append-le, take_all, take_at, take_more, take_rest}
+pub use Rattle.std.proofs.lemmas.Bool.{both_ways, cases_Bool, eqb-true, false_from_ne_true, le-leb, le-ltb, leb-false, leb-true, lt-leb, ltb-false, ne_eqb, not-true, not_from_false, or_from, or_parts}
+pub use Rattle.std.proofs.lemmas.Bool.Decides.{Decides-and, Decides-like, Decides-ltb, Decides-not, Decides-or}
+pub use Rattle.std.proofs.lemmas.List.{drop-append-le, drop-drop, drop-take, drop_all, drop_at, drop_more, get_or-drop, get_or-take, length-append, length-drop, length-take, length-take-le, length_push, take-append-le, take_all, take_at, take_more, take_rest}
 pub use Rattle.std.proofs.lemmas.List.Sums.{fold-append, prefix_len-le-length, suffix_len-le-length, sum_by-append}
 pub use Rattle.std.proofs.lemmas.Result.{err_from_is_err_and}
 pub use Rattle.std.proofs.lemmas.Str.{IsUtf8-from_is_utf8, is_utf8-from_IsUtf8}
 pub use Rattle.std.specs.Char.{is_ascii_digit, is_ascii_whitespace}
 pub use Rattle.std.specs.Io.KnownBytes.{Appends, Consumes, IsAtEnd, Keeps}
-pub use Rattle.std.specs.List.{after_first, before_first, fold, join_with_byte, list_all, list_any, onto_first, position_or_len, prefix_len, suffix_len}
-pub use Rattle.std.specs.Option.{ok_or, option_map}
-pub use Rattle.std.specs.Prelude.{All, cond, is_some, nat_le, nat_lt, not, suc, ℤ, ⊤, ◌&&◌, ◌||◌, ◌↔◌}
+pub use Rattle.std.specs.List.{after_first, before_first, flat_map, fold, join_with_byte, list_all, list_any, onto_first, position_or_len, prefix_len, slice_split, suffix_len}
+pub use Rattle.std.specs.Option.{ok_or, option_map, unwrap_or}
+pub use Rattle.std.specs.Prelude.{All, FitsSigned, MatchOption, codes, cond, is_some, map, nat_eq, nat_le, nat_lt, negsuc, not, pos, suc, zero, ℤ, ⊤, ◌&&◌, ◌||◌, ◌↔◌}
 pub use Rattle.std.specs.Result.{OkIff, result_map_both, result_or}
 pub use Rattle.std.specs.Str.{IsTrimAsciiEnd, IsTrimAsciiStart, all_ascii_digits, is_utf8}
 pub use Rattle.std.specs.declared.ops.Range.{Range}
 pub use lib.Seq.{take-add}
-pub use Rattle.regroup_lines.specs.Decimals.{decimal_read}
+pub use Rattle.regroup_lines.specs.Decimals.{decimal_read, denoted_at, has_no_numeral, is_sign}
 pub use Rattle.regroup_lines.specs.Ended.{ended_by, without_end}
-pub use Rattle.regroup_lines.specs.Fault.{Fault, are_any, fault_of, in_field, is_unsent, line_of}
+pub use Rattle.regroup_lines.specs.Fault.{Fault, are_any, fault_of, in_field, is_unsent}
 pub use Rattle.regroup_lines.specs.Fault.Fault.{FewFields, Field, FieldNotText, Flush, Line, NotText, Read, Reject, Report, TooLong, TooMany, Unclosed, Write}
 pub use Rattle.regroup_lines.specs.Input.{EndsOrGoesOn, FindsEnd, FindsPiece, HasNoEnd, IsInArray, IsLong, IsRecord, IsStop, Reads, array_len, bytes_at, held, stop_result, stop_text}
 pub use Rattle.regroup_lines.specs.LineFaults.{IsHalt, line_fault_of, text_fault}
-pub use Rattle.regroup_lines.specs.Lines.{MARK, Regrouped, Sent, Stop, after_mark, between, body_sent, body_written, fault_named, fault_sent, field_read, field_written, fields_of, fields_written, joined, line_after, line_begun, line_sent, long_fault, long_returned, number_in_field, number_in_text, number_written, numbers_replaced, only_written, passed, passes, passes_mark, place_written, quotes_in, record_sent, records_of, regrouped, regrouped_after, regrouped_parts, regrouped_rest, returning, sending, sending_line, stop_returned, text_sent, with_first}
+pub use Rattle.regroup_lines.specs.Lines.{MARK, Regrouped, Sent, Stop, after, after_mark, begins_with_mark, between, body_sent, body_written, fault_named, fault_sent, field_read, field_written, fields_of, fields_replaced, fields_written, joined, lenient, line_after, line_begun, line_ended, line_sent, long_fault, long_returned, number_in_field, number_in_text, number_written, numbers_replaced, only_written, passed, passes, passes_mark, place_written, quotes_in, quotes_of, record_sent, records_of, regrouped, regrouped_after, regrouped_parts, regrouped_rest, returning, sending, sending_line, stop_returned, text_sent, with_first}
 pub use Rattle.regroup_lines.specs.Lines.Stop.{Ended, Endless, Failed, Unflushed, Unread}
-pub use Rattle.regroup_lines.specs.Messages.{before_fault, cause, fault_message, line_message, messages}
-pub use Rattle.regroup_lines.specs.Places.{are_enough, field_count, is_chosen, trimmed}
-pub use Rattle.regroup_lines.specs.Records.{after_byte, after_next, after_record_byte, after_text, has_end, is_inside, is_open, line_reached, lines_ended, next_line, split_at}
+pub use Rattle.regroup_lines.specs.Messages.{before_in, before_rest, fault_message, messages}
+pub use Rattle.regroup_lines.specs.Places.{are_enough, field_count, is_at_most, is_chosen, is_chosen_from, is_enough, trimmed}
+pub use Rattle.regroup_lines.specs.Records.{after_byte, after_next, after_record_byte, after_text, has_end, is_inside, is_open, is_quote, line_reached, lines_ended, next_line, split_at}
 pub use Rattle.regroup_lines.specs.Sending.{Names, PassesLong, Receives, ReceivesBytes, ReceivesEach, ReceivesPrefix, Regroups, RegroupsNaming, Returns, SendsBytes, SendsEach, SendsLine, Writer, by_writer, bytes_to, failed_by, failed_writer, text_to}
 pub use Rattle.regroup_lines.specs.Sending.Writer.{Messages, Output, Rejects}
 pub use Rattle.regroup_lines.specs.declared.Summary.{Summary}
@@ -45,3 +45,17 @@ pub use Rattle.regroup_lines.specs.declared.records.Within.TheVariants.{Start}
 pub use Rattle.regroup_lines.specs.declared.rules.Reading.{Reading}
 pub use Rattle.regroup_lines.specs.declared.rules.Reading.TheVariants.{Lenient, Strict}
 pub use Rattle.regroup_lines.specs.declared.rules.Rules.{Rules}
+pub use Rattle.num_format.specs.Readable.{fits_i128, number_read}
+pub use Rattle.num_format.specs.Reading.{Refused, denoted, figures}
+pub use Rattle.num_format_decimal.specs.FixedPoint.{FixedPoint, fixed_point}
+pub use Rattle.num_format_decimal.specs.Marks.{IsPlainFormat, MarksDecimals}
+pub use Rattle.num_format_decimal.specs.Parsing.{DecimalResult, IsDecimalCause, IsExpectedDecimal, ParsesDecimal, SpellsDecimal, SpellsNone, unexpected_in_decimal, with_separators, without_separators}
+pub use Rattle.num_format_decimal.specs.declared.parsing.ParseDecimalError.{ParseDecimalError}
+pub use Rattle.regroup_lines.specs.Csv.{before_as, before_field, doubled, field_with, is_barred, is_opened, number_place, output_delimiter, part_text, passed_as, quoted_len}
+pub use Rattle.regroup_lines.specs.Fields.{IsOnly, SendsOrFails, SendsUnless}
+pub use Rattle.regroup_lines.specs.Lists.{counted, field_number, is_dash, one_field, range_between, range_in, ranges_in, with_range}
+pub use Rattle.regroup_lines.specs.declared.rules.FieldRange.{FieldRange}
+pub use Rattle.regroup_lines.specs.declared.rules.Fields.{Fields}
+pub use Rattle.regroup_lines.specs.declared.rules.Span.{Span}
+pub use Rattle.std.proofs.lemmas.Grind.{flat_map-append}
+pub use Rattle.std.specs.Int.{w128}

@@ -1,17 +1,5 @@
 -- Fields that may be in quotes.
-use Rattle.std.proofs.Common.{◌≡◌, ◌≢◌, ℕ, ◌+◌, ◌<◌, true, false, List, [], ◌∷◌, ◌++◌, length, take, drop, get_or, Option, None, refl, sym, ap, subst, ◌∙◌, arith, take-append-drop}
-use Rattle.std.specs.Prelude.{map}
-use Rattle.std.specs.List.{flat_map}
-use Rattle.std.specs.Io.KnownBytes.{Appends}
-use Rattle.std.specs.Option.{option_map, unwrap_or}
-use Rattle.std.proofs.lemmas.Bool.{ne_eqb}
-use Rattle.std.proofs.lemmas.Grind.{flat_map-append}
-use Rattle.std.proofs.lemmas.List.{drop-drop, drop_more}
-use Rattle.num_format.specs.Writing.{StopsWithin}
-use Rattle.num_format.proofs.WritingLemmas.{StopsWithin_prefix, StopsWithin_suffix}
-use Rattle.regroup_lines.specs.Csv.{field_with, is_opened, output_delimiter, passed_as, quoted_len}
-use Rattle.regroup_lines.specs.Records.{is_quote}
-use Rattle.regroup_lines.specs.declared.rules.Fields.{Fields}
+use Rattle.regroup_lines.proofs.Common.{Appends, Fields, List, None, Option, StopsWithin, StopsWithin_prefix, StopsWithin_suffix, [], ap, arith, drop, drop-drop, drop_more, false, field_with, flat_map, flat_map-append, get_or, is_opened, is_quote, length, map, ne_eqb, option_map, output_delimiter, passed_as, quoted_len, refl, subst, sym, take, take-append-drop, true, unwrap_or, ℕ, ◌++◌, ◌+◌, ◌<◌, ◌∙◌, ◌∷◌, ◌≡◌, ◌≢◌}
 use Rattle.regroup_lines.specs.declared.rules.Output.{Output}
 
 -- fields that are passed on as they are, and the byte between two

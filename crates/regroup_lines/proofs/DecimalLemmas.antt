@@ -1,27 +1,14 @@
 -- The definition of the decimal that a text spells is what strict parsing returns.
-use Rattle.std.proofs.Common.{◌≡◌, ◌≢◌, ℕ, ◌+◌, ◌-◌, ◌^◌, ◌<◌, ◌≤◌, Bool, true, false, List, [], ◌∷◌, Option, Some, None, Result, Ok, Err, Decides, IsUtf8, if◌then◌else◌, refl, sym, ap, subst, ◌∙◌, arith, drop, inl, inr, length}
-use Rattle.std.specs.Prelude.{zero, suc, ◌↔◌, ◌&&◌, ℤ, pos, negsuc, FitsSigned, MatchOption}
-use Rattle.std.specs.Int.{w128}
-use Rattle.std.specs.Option.{option_map}
-use Rattle.std.proofs.lemmas.Bool.{both_ways, cases_Bool, false_from_ne_true, not-true, not_from_false}
-use Rattle.std.proofs.lemmas.Bool.Decides.{Decides-and, Decides-like, Decides-ltb, Decides-not, Decides-or}
-use Rattle.std.proofs.lemmas.List.{length-drop}
+use Rattle.regroup_lines.proofs.Common.{Bool, Decides, Decides-and, Decides-like, Decides-ltb, Decides-not, Decides-or, Err, FitsSigned, FixedPoint, FormatData, HasUtf8Texts, IsDecimalCause, IsExpectedDecimal, IsPlainFormat, IsUtf8, List, MarksDecimals, MatchOption, None, Ok, Option, ParseDecimalError, ParsesDecimal, Result, Some, SpellsDecimal, SpellsNone, [], ap, arith, before_in, before_rest, both_ways, cases_Bool, denoted, denoted_at, drop, false, false_from_ne_true, figures, fits_i128, fixed_point, has_no_numeral, if◌then◌else◌, inl, inr, is_sign, length, length-drop, negsuc, not-true, not_from_false, option_map, pos, refl, subst, suc, sym, true, unexpected_in_decimal, w128, with_separators, without_separators, zero, ℕ, ℤ, ◌&&◌, ◌+◌, ◌-◌, ◌<◌, ◌^◌, ◌↔◌, ◌∙◌, ◌∷◌, ◌≡◌, ◌≢◌, ◌≤◌}
+use Rattle.regroup_lines.specs.Decimals.{decimal_read, is_spelled_at, marks_decimals, scale_below}
+use Rattle.regroup_lines.specs.Messages.{before_unexpected}
 use Rattle.std.proofs.lemmas.Slice.Eq.{bytes_eq-Decides}
-use Rattle.num_format.specs.Format.{FormatData, HasUtf8Texts}
 use Rattle.num_format.specs.Grouped.{printed_separator}
-use Rattle.num_format.specs.Readable.{fits_i128}
-use Rattle.num_format.specs.Reading.{denoted, figures}
 use Rattle.num_format.specs.Strict.{HasNoNumeral}
-use Rattle.num_format_decimal.specs.FixedPoint.{FixedPoint, fixed_point}
-use Rattle.num_format_decimal.specs.Marks.{IsPlainFormat, MarksDecimals}
-use Rattle.num_format_decimal.specs.Parsing.{IsDecimalCause, IsExpectedDecimal, ParsesDecimal, SpellsDecimal, SpellsNone, unexpected_in_decimal, with_separators, without_separators}
 use Rattle.num_format_decimal.specs.declared.decimal.TheConstants.{MAX_SCALE}
-use Rattle.num_format_decimal.specs.declared.parsing.ParseDecimalError.{ParseDecimalError}
 use Rattle.num_format_decimal.specs.declared.parsing.ParseDecimalError.TheVariants.{AmbiguousFormat, Misspelled, NoDigit, NotUtf8, OutOfRange, TooManyDecimals, Unexpected}
 use Rattle.num_format_decimal.proofs.MarkLemmas.{denoted-decimal, one_scale, plain-from_marks, tells-spelled_decimal}
 use Rattle.num_format_decimal.proofs.ParserLemmas.{mark_from, marks_from}
-use Rattle.regroup_lines.specs.Decimals.{decimal_read, denoted_at, has_no_numeral, is_sign, is_spelled_at, marks_decimals, scale_below}
-use Rattle.regroup_lines.specs.Messages.{before_in, before_rest, before_unexpected}
 
 -- constructors differ
 cc_result : (r : Result FixedPoint ParseDecimalError) (e : ParseDecimalError) (d : FixedPoint) → r ≡ Err e → r ≡ Ok d → ⊥

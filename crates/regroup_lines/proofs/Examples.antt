@@ -1,13 +1,8 @@
 -- What regrouping writes and returns of some inputs, by computing the definition.
-use Rattle.std.proofs.Common.{◌≡◌, [], ◌∷◌, Some, None, Ok, Err, refl}
-use Rattle.std.specs.Prelude.{codes}
-use Rattle.std.specs.Str.{chars, is_utf8}
+use Rattle.regroup_lines.proofs.Common.{Ended, Err, Failed, Line, None, Ok, ParseNumber, Read, Some, Unread, [], codes, lenient, refl, regrouped, returning, ◌∷◌, ◌≡◌}
 use Rattle.num_format.specs.Cut.{cut_text}
+use Rattle.std.specs.Str.{chars, is_utf8}
 use Rattle.num_format.specs.English.{english}
-use Rattle.num_format.specs.Refusal.{ParseNumber}
-use Rattle.regroup_lines.specs.Fault.Fault.{Line, Read}
-use Rattle.regroup_lines.specs.Lines.{lenient, regrouped, returning}
-use Rattle.regroup_lines.specs.Lines.Stop.{Ended, Failed, Unread}
 
 no_bytes : regrouped lenient 1000000 english english Ended [] ≡ returning (Some (Ok 0))
 no_bytes = refl

@@ -1,30 +1,7 @@
 -- What becomes of the fields of a line, field after field.
-use Rattle.std.proofs.Common.{◌≡◌, ℕ, ◌+◌, ◌-◌, ◌<◌, ◌≤◌, Bool, true, false, List, [], ◌∷◌, ◌++◌, length, take, drop, Option, Some, None, Result, Ok, Err, if◌then◌else◌, refl, sym, ap, subst, ◌∙◌, arith, append_assoc, append-nil}
-use Rattle.std.specs.Prelude.{nat_le, nat_lt, ◌&&◌, ◌||◌, map, slice_range}
-use Rattle.std.specs.List.{join_with_byte}
-use Rattle.std.specs.Option.{is_some, option_map, unwrap_or}
-use Rattle.std.specs.Result.{result_map_both}
-use Rattle.std.proofs.KnownBytes.{Appends-trans}
-use Rattle.std.proofs.lemmas.Bool.{le-leb, leb-false, leb-true, lt-leb, ltb-false, or_from, or_parts}
-use Rattle.std.proofs.lemmas.Bool.Decides.{Decides-ltb}
-use Rattle.std.proofs.lemmas.List.{drop-drop, drop_at, take_rest}
+use Rattle.regroup_lines.proofs.Common.{Appends-trans, Bool, Decides-ltb, Err, Fault, FewFields, FieldRange, Fields, FormatData, IsOnly, List, None, Ok, Option, Result, Rules, SendsOrFails, SendsUnless, Some, Start, StopsWithin_prefix, StopsWithin_suffix, [], after, ap, append-nil, append_assoc, are_enough, arith, before_as, before_field, drop, drop-drop, drop_at, ended_by, false, field_count, field_with, field_written, fields_of, fields_written, if◌then◌else◌, is_at_most, is_chosen, is_chosen_from, is_enough, is_some, join_with_byte, le-leb, leb-false, leb-true, length, line_ended, lt-leb, ltb-false, map, nat_le, nat_lt, one_field, option_map, or_from, or_parts, output_delimiter, passed_as, quotes_of, refl, result_map_both, slice_range, subst, sym, take, take-add, take_rest, true, unwrap_or, with_first, ℕ, ◌&&◌, ◌++◌, ◌+◌, ◌-◌, ◌<◌, ◌||◌, ◌∙◌, ◌∷◌, ◌≡◌, ◌≤◌}
 use Rattle.std.proofs.lemmas.List.Folds.{drop_split}
-use lib.Seq.{take-add}
-use Rattle.num_format.specs.Format.{FormatData}
-use Rattle.regroup_lines.specs.Ended.{ended_by}
-use Rattle.num_format.proofs.WritingLemmas.{StopsWithin_prefix, StopsWithin_suffix}
-use Rattle.regroup_lines.specs.Csv.{before_as, before_field, field_with, output_delimiter, passed_as}
-use Rattle.regroup_lines.specs.Fault.{Fault}
-use Rattle.regroup_lines.specs.Fault.Fault.{FewFields}
-use Rattle.regroup_lines.specs.Fields.{IsOnly, SendsOrFails, SendsUnless}
-use Rattle.regroup_lines.specs.Lines.{after, field_written, fields_of, fields_written, line_ended, quotes_of, with_first}
-use Rattle.regroup_lines.specs.Lists.{one_field}
-use Rattle.regroup_lines.specs.Places.{are_enough, field_count, is_at_most, is_chosen, is_chosen_from, is_enough}
-use Rattle.regroup_lines.specs.declared.records.Within.TheVariants.{Start}
-use Rattle.regroup_lines.specs.declared.rules.FieldRange.{FieldRange}
-use Rattle.regroup_lines.specs.declared.rules.Fields.{Fields}
 use Rattle.regroup_lines.specs.declared.rules.Output.{Output}
-use Rattle.regroup_lines.specs.declared.rules.Rules.{Rules}
 use Rattle.regroup_lines.proofs.CsvLemmas.{delimiter-passed, passed-none}
 use Rattle.regroup_lines.proofs.RecordLemmas.{split-joined}
 

@@ -1,12 +1,10 @@
 -- The ranges that a list names.
-use Rattle.regroup_lines.proofs.Common.{◌≡◌, ℕ, ◌+◌, ◌^◌, ◌<◌, Bool, true, false, List, [], ◌∷◌, ◌++◌, length, Option, Some, None, Result, Ok, Err, if◌then◌else◌, refl, sym, ap, subst, ◌∙◌, arith, append_assoc, append-nil, drop, get_or, drop_all, drop_more, nat_lt, ◌&&◌, is_ascii_digit, after_first, before_first, list_all, position_or_len, option_map, OkIff, all_ascii_digits, false_from_ne_true, Decides-ltb}
+use Rattle.regroup_lines.proofs.Common.{Bool, Decides-ltb, Err, FieldRange, List, MatchOption, None, Ok, OkIff, Option, Result, Some, [], after_first, all_ascii_digits, ap, append-nil, append_assoc, arith, before_first, counted, drop, drop_all, drop_more, false, false_from_ne_true, field_number, get_or, if◌then◌else◌, is_ascii_digit, is_dash, length, list_all, nat_lt, one_field, option_map, position_or_len, range_between, ranges_in, refl, subst, sym, true, with_range, ℕ, ◌&&◌, ◌++◌, ◌+◌, ◌<◌, ◌^◌, ◌∙◌, ◌∷◌, ◌≡◌}
+use Rattle.regroup_lines.specs.Lists.{range_in}
 use Rattle.std.specs.Borrow.{Bor}
-use Rattle.std.specs.Option.{MatchOption}
 use Rattle.std.specs.Str.Parse.{ParsesUnsigned, digits_value}
 use Rattle.std.proofs.lemmas.Str.Parse.{IsNumeralModel, numerals_by_value, parse_digits, tells_all_ascii_digits}
 use Rattle.std.proofs.lemmas.Str.Pattern.{IsSplitOnceResult, split_once_first}
-use Rattle.regroup_lines.specs.Lists.{counted, field_number, is_dash, one_field, range_between, range_in, ranges_in, with_range}
-use Rattle.regroup_lines.specs.declared.rules.FieldRange.{FieldRange}
 
 own : IsNumeralModel (λ ds. all_ascii_digits ds ≡ true) (digits_value 10)
 own = numerals_by_value (λ ds. all_ascii_digits ds ≡ true) tells_all_ascii_digits

@@ -1,9 +1,5 @@
 -- What is written in place of a line depends on the line's number in the fault alone.
-use Rattle.regroup_lines.proofs.Common.{◌≡◌, ℕ, ◌+◌, ◌==◌, Bool, true, false, List, [], ◌∷◌, ◌++◌, length, Option, Some, None, Result, Ok, Err, if◌then◌else◌, refl, ap, ◌∙◌, ℤ, ◌&&◌, take, drop, slice_range, join_with_byte, list_any, ok_or, option_map, result_map_both, is_utf8, cut_text, FormatData, ParseNumber, Refusal, text_of, decimal_text, decimal_read, Fault, in_field, is_unsent, FewFields, Field, FieldNotText, Line, NotText, TooMany, text_fault, MARK, after_mark, between, body_written, field_read, field_written, fields_of, fields_written, number_in_field, number_in_text, number_written, numbers_replaced, passes_mark, place_written, with_first, are_enough, field_count, is_chosen, trimmed, Reading, Lenient, Strict, Rules}
-use Rattle.num_format.specs.Readable.{number_read}
-use Rattle.regroup_lines.specs.Csv.{field_with, is_barred, number_place, output_delimiter}
-use Rattle.regroup_lines.specs.declared.rules.Fields.{Fields}
-use Rattle.regroup_lines.specs.declared.rules.Span.{Span}
+use Rattle.regroup_lines.proofs.Common.{Bool, Err, Fault, FewFields, Field, FieldNotText, Fields, FormatData, Lenient, Line, List, MARK, None, NotText, Ok, Option, ParseNumber, Reading, Refusal, Result, Rules, Some, Span, Strict, TooMany, [], after_mark, ap, are_enough, between, body_written, cut_text, decimal_read, decimal_text, drop, false, field_count, field_read, field_with, field_written, fields_of, fields_written, if◌then◌else◌, in_field, is_barred, is_chosen, is_unsent, is_utf8, join_with_byte, length, list_any, number_in_field, number_in_text, number_place, number_read, number_written, numbers_replaced, ok_or, option_map, output_delimiter, passes_mark, place_written, refl, result_map_both, slice_range, take, text_fault, text_of, trimmed, true, with_first, ℕ, ℤ, ◌&&◌, ◌++◌, ◌+◌, ◌==◌, ◌∙◌, ◌∷◌, ◌≡◌}
 use Rattle.regroup_lines.specs.declared.rules.Span.TheVariants as span
 
 -- the same fault of a text, in the line of this number

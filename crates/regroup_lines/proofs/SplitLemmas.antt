@@ -1,23 +1,9 @@
 -- An input that is split after a byte that ends a line: the output of each part.
-use Rattle.std.proofs.Common.{◌≡◌, ℕ, ◌+◌, ◌<◌, ◌≤◌, Bool, true, false, List, [], ◌∷◌, ◌++◌, length, Some, Result, Ok, Err, if◌then◌else◌, refl, sym, ap, subst, ◌∙◌, arith, append_assoc, eq-eqb}
-use Rattle.std.specs.Prelude.{◌==◌, ◌&&◌, ◌||◌, nat_eq, ⊤, nat_le, nat_lt, take}
-use Rattle.std.specs.List.{join_with_byte}
-use Rattle.std.proofs.lemmas.Bool.{both_ways, eqb-true, false_from_ne_true, le-ltb, lt-leb, ltb-false}
-use Rattle.std.proofs.lemmas.List.{length-take, take-append-le}
+use Rattle.regroup_lines.proofs.Common.{Bool, Ended, Err, Fault, FormatData, List, MARK, Ok, Regrouped, Result, Rules, Sent, Some, Span, Start, TooMany, Unclosed, [], ap, append_assoc, are_any, arith, begins_with_mark, body_sent, body_written, both_ways, ended_by, eq-eqb, eqb-true, false, false_from_ne_true, fault_named, fault_sent, if◌then◌else◌, is_open, join_with_byte, joined, le-ltb, length, length-take, line_after, line_sent, long_fault, lt-leb, ltb-false, nat_eq, nat_le, nat_lt, only_written, passed, passes, passes_mark, quotes_in, refl, regrouped, regrouped_parts, returning, sending_line, split_at, subst, sym, take, take-append-le, text_sent, true, without_end, ℕ, ⊤, ◌&&◌, ◌++◌, ◌+◌, ◌<◌, ◌==◌, ◌||◌, ◌∙◌, ◌∷◌, ◌≡◌, ◌≤◌}
 use lib.Pointwise.{pointwise, pointwise_long}
-use Rattle.num_format.specs.Format.{FormatData}
-use Rattle.regroup_lines.specs.Ended.{ended_by, without_end}
-use Rattle.regroup_lines.specs.Fault.{Fault, are_any}
-use Rattle.regroup_lines.specs.Fault.Fault.{TooMany, Unclosed}
 use Rattle.regroup_lines.specs.Laws.{SplitLaw, SplitsInto}
-use Rattle.regroup_lines.specs.Lines.{MARK, Regrouped, Sent, begins_with_mark, body_sent, body_written, fault_named, fault_sent, joined, line_after, line_sent, long_fault, only_written, passed, passes, passes_mark, quotes_in, regrouped, regrouped_parts, returning, sending_line, text_sent}
-use Rattle.regroup_lines.specs.Lines.Stop.{Ended}
-use Rattle.regroup_lines.specs.Records.{is_open, split_at}
-use Rattle.regroup_lines.specs.declared.records.Within.TheVariants.{Start}
 use Rattle.regroup_lines.specs.declared.rules.Invalid.{Invalid}
 use Rattle.regroup_lines.specs.declared.rules.Invalid.TheVariants.{Abort, Fail, Warn, Ignore}
-use Rattle.regroup_lines.specs.declared.rules.Rules.{Rules}
-use Rattle.regroup_lines.specs.declared.rules.Span.{Span}
 use Rattle.regroup_lines.specs.declared.rules.Span.TheVariants as span
 use Rattle.regroup_lines.proofs.RecordLemmas.{split-append, split-joined, split-some}
 use Rattle.regroup_lines.proofs.FieldLemmas.{and_false, joined-tail, tail_of}

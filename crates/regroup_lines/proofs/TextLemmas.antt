@@ -1,13 +1,8 @@
 -- The number in the text of a line.
-use Rattle.regroup_lines.proofs.Common.{◌≡◌, ℕ, Bool, true, false, List, None, Result, Ok, Err, refl, sym, ap, ℤ, IsUtf8, ◌↔◌, result_map_both, is_utf8, false_from_ne_true, IsUtf8-from_is_utf8, is_utf8-from_IsUtf8, FormatData, HasUtf8Texts, text_of, decimal_text, decimal_read, Fault, text_fault, number_in_text, number_written, Lenient, Strict}
+use Rattle.regroup_lines.proofs.Common.{Bool, Err, Fault, FixedPoint, FormatData, HasUtf8Texts, IsUtf8, IsUtf8-from_is_utf8, Lenient, List, MarksDecimals, None, Ok, ParseDecimalError, ParsesDecimal, Refused, Result, Strict, ap, decimal_read, decimal_text, denoted, false, false_from_ne_true, is_utf8, is_utf8-from_IsUtf8, number_in_text, number_written, refl, result_map_both, sym, text_fault, text_of, true, ℕ, ℤ, ◌↔◌, ◌≡◌}
 use Rattle.num_format.specs.Kind.{signed}
 use Rattle.num_format.specs.ParseBytesError.{ParseBytesError}
 use Rattle.num_format.specs.ParseBytesError.TheVariants.{NotANumber, NotUtf8}
-use Rattle.num_format.specs.Reading.{Refused, denoted}
-use Rattle.num_format_decimal.specs.FixedPoint.{FixedPoint}
-use Rattle.num_format_decimal.specs.Marks.{MarksDecimals}
-use Rattle.num_format_decimal.specs.Parsing.{ParsesDecimal}
-use Rattle.num_format_decimal.specs.declared.parsing.ParseDecimalError.{ParseDecimalError}
 use Rattle.num_format.proofs.ReadableLemmas.{readable-from_accepted, unreadable-from_refused}
 use Rattle.regroup_lines.proofs.DecimalLemmas.{decimal_read-ambiguous, decimal_read-parsed, decimal_read-refused, parsed-utf8}
 

@@ -1,6 +1,5 @@
 -- What writers received of lines that are sent one after the other.
-use Rattle.regroup_lines.proofs.Common.{◌≡◌, ℕ, Bool, true, false, List, [], ◌∷◌, ◌++◌, Option, Some, None, refl, sym, ap, subst, ◌∙◌, append_assoc, append-nil, ◌||◌, is_some, Appends, Keeps, Appends-kept, Appends-nil, Appends-trans, FormatData, StopsWithin, HasReceivedUpTo-none, StopsWithin_prefix, StopsWithin_suffix, Fault, are_any, is_unsent, Reject, Report, Write, Regrouped, Sent, joined, only_written, passed, sending, fault_message, messages, Receives, ReceivesBytes, ReceivesEach, ReceivesPrefix, Writer, by_writer, bytes_to, failed_writer, text_to, Messages, Output, Rejects, Reading}
-use Rattle.std.proofs.lemmas.Grind.{flat_map-append}
+use Rattle.regroup_lines.proofs.Common.{Appends, Appends-kept, Appends-nil, Appends-trans, Bool, Fault, FormatData, HasReceivedUpTo-none, Keeps, List, Messages, None, Option, Output, Reading, Receives, ReceivesBytes, ReceivesEach, ReceivesPrefix, Regrouped, Reject, Rejects, Report, Sent, Some, StopsWithin, StopsWithin_prefix, StopsWithin_suffix, Write, Writer, [], ap, append-nil, append_assoc, are_any, by_writer, bytes_to, failed_writer, false, fault_message, flat_map-append, is_some, is_unsent, joined, messages, only_written, passed, refl, sending, subst, sym, text_to, true, ℕ, ◌++◌, ◌||◌, ◌∙◌, ◌∷◌, ◌≡◌}
 
 pub joined-assoc : (a b c : Sent) → joined a (joined b c) ≡ joined (joined a b) c
 joined-assoc a b c =

@@ -90,10 +90,6 @@ place_written rules from to number text place =
     if rules.passes_empty && (place.0 == place.1) then Ok text else
     between (take place.0 text) (drop place.1 text) (number_written rules.reading from to number (slice_range text place.0 place.1))
 
--- a text with the number in it, without the ASCII whitespace at its ends
-abbrev pub number_replaced : Rules → FormatData → FormatData → ℕ → List ℕ → Result (List ℕ) Fault
-number_replaced rules from to number text = place_written rules from to number text (trimmed text (0, length text))
-
 -- the text that is written in place of that of a number in a field, or the fault of that text: where there may be quotes, no number has one
 abbrev pub number_in_field : Rules → (quotes : Bool) → FormatData → FormatData → ℕ → List ℕ → Result (Option (List ℕ)) Fault
 number_in_field rules quotes from to number text =
@@ -149,7 +145,7 @@ line_ended rules fields number count rest =
 -- a line with the numbers where the rules say replaced
 abbrev pub numbers_replaced : Span → Rules → FormatData → FormatData → ℕ → List ℕ → Result (List ℕ) Fault
 numbers_replaced span.Line rules from to number text = place_written rules from to number text (0, length text)
-numbers_replaced span.Trimmed rules from to number text = number_replaced rules from to number text
+numbers_replaced span.Trimmed rules from to number text = place_written rules from to number text (trimmed text (0, length text))
 numbers_replaced (span.Fields fields) rules from to number text = fields_replaced fields rules from to number text
 
 -- the delimiter of the fields that may be in quotes, if there are such

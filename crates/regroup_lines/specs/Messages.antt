@@ -45,13 +45,10 @@ unfoldable pub before_unexpected : FormatData → List ℕ → Option ℕ
 before_unexpected from text =
     if marks_decimals from then unless_spelled (scale_below from text (MAX_SCALE + 1)) (before_rest text (unexpected_in_decimal from text)) else None
 
--- the same of a text with less than 253 bytes: a longer one may have been cut, since an error keeps 256 bytes at most, and whole characters
-abbrev pub before_if_whole : FormatData → List ℕ → Option ℕ
-before_if_whole from text = if nat_lt (length text) 253 then before_unexpected from text else None
-
--- the same by how the text is read: lenient reading names no byte
+-- the same by how the text is read: lenient reading names no byte, nor strict reading in a text of 253 bytes or more, which may have been
+-- cut, since an error keeps 256 bytes at most, and whole characters
 abbrev pub before_fault : Reading → FormatData → List ℕ → Option ℕ
-before_fault Strict from text = before_if_whole from text
+before_fault Strict from text = if nat_lt (length text) 253 then before_unexpected from text else None
 before_fault Lenient from text = None
 
 -- which byte it is that so many others are before, counted from 1

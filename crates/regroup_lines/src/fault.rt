@@ -68,12 +68,7 @@ impl RegroupFault {
             | RegroupFault::Line(number, _)
             | RegroupFault::Field(number, _, _)
             | RegroupFault::Unclosed(number) => Some(*number),
-            RegroupFault::TooMany
-            | RegroupFault::Read
-            | RegroupFault::Write
-            | RegroupFault::Report
-            | RegroupFault::Reject
-            | RegroupFault::Flush => None,
+            _ => None,
         }
     }
 

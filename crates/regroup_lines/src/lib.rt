@@ -16,7 +16,6 @@
 //! The input is read into an array, and parsed there. Only [`field_list`] allocates.
 #![tactic(auto)]
 
-mod capacities;
 mod ends;
 mod fault;
 mod fields;
@@ -55,7 +54,7 @@ pub use crate::list::field_list;
 pub use crate::message::{MAX_DISPLAYED_LEN, MAX_FAULT_MESSAGE_LEN, MAX_NAME_LEN, fault_message};
 use crate::number::{Around, Parser};
 pub use crate::quoting::{MAX_QUOTED_LEN, quoted, shown};
-use crate::records::{Within, is_open, line_reached, next_line};
+use crate::records::{Within, is_open, line_reached};
 use crate::rules::{MARK, trim};
 pub use crate::rules::{FieldRange, Fields, Invalid, Output, Quoting, Reading, Rules, Span};
 use num_format::Format;
@@ -269,7 +268,7 @@ pub fn regroup_at_most<R: Read, W: Write, E: Write, X: Write, F: Format, G: Form
 fn line_after(rules: &Rules, number: u64, text: &[u8]) -> u64
     ensures { result ≡ line_after rules.now number text.now }
 {
-    next_line(line_reached(rules, number, text))
+    line_reached(rules, number, text).saturating_add(1)
 }
 
 /// Returns the fault of a line or a record that is too long: quotes that its first bytes do not close.

@@ -42,14 +42,7 @@ impl<'a> LineFault<'a> {
     {
         match self {
             LineFault::NotANumber(number, text) => LineFault::NotAField(number, field, text),
-            LineFault::NotAField(..)
-            | LineFault::FewFields(..)
-            | LineFault::Unclosed(_)
-            | LineFault::Write
-            | LineFault::Report
-            | LineFault::Reject
-            | LineFault::Read
-            | LineFault::Flush => self,
+            _ => self,
         }
     }
 }

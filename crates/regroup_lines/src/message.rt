@@ -2,7 +2,7 @@
 ghost use Rattle.std.specs.Prelude.{◌≡◌, ◌≤◌, length};
 ghost use Rattle.num_format.specs.Refusal.{refusal_of};
 ghost use Rattle.regroup_lines.specs.Fault.{fault_of};
-ghost use Rattle.regroup_lines.specs.Messages.{before_fault, before_if_whole, before_in, byte_text, cause, displayed, fault_message, few_text, field_cause, kept_in, line_message, long_cause, refused_in, refused_text};
+ghost use Rattle.regroup_lines.specs.Messages.{before_fault, before_in, byte_text, cause, displayed, fault_message, few_text, field_cause, kept_in, line_message, long_cause, refused_in, refused_text};
 
 use crate::fault::{FieldCount, RegroupFault};
 use crate::quoting::{MAX_QUOTED_LEN, quoted, shown};
@@ -69,30 +69,22 @@ pub(crate) fn cause(fault: &RegroupFault, before: Option<usize>) -> ArrayString<
     ensures { result.bytes ≡ cause before (fault_of fault.now) }
 {
     match fault {
-        RegroupFault::TooMany => text_of("more lines than are allowed"),
+        RegroupFault::TooMany => joined!("more lines than are allowed"),
         RegroupFault::TooLong(_, max_line_len) => long_cause(*max_line_len),
         RegroupFault::FewFields(_, count) => few_text(*count),
-        RegroupFault::Read => text_of("failed to read"),
-        RegroupFault::NotText(_) => text_of("not UTF-8"),
+        RegroupFault::Read => joined!("failed to read"),
+        RegroupFault::NotText(_) => joined!("not UTF-8"),
         RegroupFault::FieldNotText(_, field) => field_cause(*field, "not UTF-8"),
-        RegroupFault::Line(_, error) => text_of(refused_text(kept_in(error), before).as_str()),
+        RegroupFault::Line(_, error) => joined!(refused_text(kept_in(error), before).as_str()),
         RegroupFault::Field(_, field, error) => {
             field_cause(*field, refused_text(kept_in(error), before).as_str())
         }
-        RegroupFault::Unclosed(_) => text_of("unclosed quote"),
-        RegroupFault::Write => text_of("failed to write"),
-        RegroupFault::Report => text_of("failed to write a message"),
-        RegroupFault::Reject => text_of("failed to write a rejected line"),
-        RegroupFault::Flush => text_of("failed to flush"),
+        RegroupFault::Unclosed(_) => joined!("unclosed quote"),
+        RegroupFault::Write => joined!("failed to write"),
+        RegroupFault::Report => joined!("failed to write a message"),
+        RegroupFault::Reject => joined!("failed to write a rejected line"),
+        RegroupFault::Flush => joined!("failed to flush"),
     }
-}
-
-/// Returns the text, which fits.
-fn text_of(text: &str) -> ArrayString<MAX_CAUSE_LEN>
-    requires { length text.now ≤ MAX_CAUSE_LEN }
-    ensures { result.bytes ≡ text.now }
-{
-    joined!(text)
 }
 
 /// Returns the text that is not a number, if that is the fault.
@@ -101,17 +93,7 @@ fn refused_in(fault: &RegroupFault) -> &str
 {
     match fault {
         RegroupFault::Line(_, error) | RegroupFault::Field(_, _, error) => kept_in(error),
-        RegroupFault::TooMany
-        | RegroupFault::TooLong(..)
-        | RegroupFault::FewFields(..)
-        | RegroupFault::Read
-        | RegroupFault::NotText(_)
-        | RegroupFault::FieldNotText(..)
-        | RegroupFault::Unclosed(_)
-        | RegroupFault::Write
-        | RegroupFault::Report
-        | RegroupFault::Reject
-        | RegroupFault::Flush => "",
+        _ => "",
     }
 }
 
@@ -220,21 +202,16 @@ fn before_fault<F: Format>(reading: Reading, text: &str, from: &F) -> Option<usi
 {
     match reading {
         Reading::Lenient => None,
-        Reading::Strict => before_unexpected(text, from),
-    }
-}
-
-/// Returns the same of a text that is read strictly.
-fn before_unexpected<F: Format>(text: &str, from: &F) -> Option<usize>
-    ensures { result ≡ before_if_whole (F.answers from.now) text.now }
-{
-    if text.len() >= MIN_CUT_LEN {
-        return None;
-    }
-    format_data(from);
-    match Decimal::from_strict_str(text, from) {
-        Ok(_) => None,
-        Err(error) => before_in(error),
+        Reading::Strict => {
+            if text.len() >= MIN_CUT_LEN {
+                return None;
+            }
+            format_data(from);
+            match Decimal::from_strict_str(text, from) {
+                Ok(_) => None,
+                Err(error) => before_in(error),
+            }
+        }
     }
 }
 
@@ -244,11 +221,6 @@ fn before_in(error: ParseDecimalError) -> Option<usize>
 {
     match error {
         ParseDecimalError::Unexpected { at } => Some(at),
-        ParseDecimalError::AmbiguousFormat
-        | ParseDecimalError::NotUtf8
-        | ParseDecimalError::NoDigit
-        | ParseDecimalError::TooManyDecimals
-        | ParseDecimalError::Misspelled
-        | ParseDecimalError::OutOfRange => None,
+        _ => None,
     }
 }

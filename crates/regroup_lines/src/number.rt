@@ -8,7 +8,6 @@ ghost use Rattle.regroup_lines.specs.LineFaults.{line_fault_of};
 ghost use Rattle.regroup_lines.specs.Lines.{number_written};
 ghost use Rattle.regroup_lines.specs.Numbers.{number_text};
 
-use crate::capacities::MAX_SENT_LINE_LEN;
 use crate::line_fault::LineFault;
 use crate::rules::Reading;
 use arrayvec::ArrayVec;
@@ -16,9 +15,12 @@ use num_format::laws::format_data;
 use num_format::parsing::FromFormattedStr;
 use num_format::to_formatted_string::write_whole;
 use num_format::{Buffer, Format};
-use num_format_decimal::{Decimal, DecimalBuffer, DecimalParser};
+use num_format_decimal::{Decimal, DecimalBuffer, DecimalParser, MAX_DECIMAL_LEN};
 use std::io::Write;
 use std::marker::Model;
+
+/// The most bytes of a line that is a number, with the byte that ends it.
+const MAX_SENT_LINE_LEN: usize = MAX_DECIMAL_LEN + 1;
 
 /// The most bytes of a short line, with the byte that ends it.
 const MAX_SHORT_LINE_LEN: usize = 64;

@@ -2,7 +2,7 @@
 ghost use Rattle.std.specs.Prelude.{◌≡◌, ◌==◌, ◌&&◌, not};
 ghost use Rattle.std.specs.List.{count_by};
 ghost use Rattle.regroup_lines.specs.Lines.{quotes_in};
-ghost use Rattle.regroup_lines.specs.Records.{after_bare, after_byte, after_next, after_text, is_inside, is_open, line_reached, next_line};
+ghost use Rattle.regroup_lines.specs.Records.{after_bare, after_byte, after_next, after_text, is_inside, is_open, line_reached};
 
 use crate::rules::Rules;
 
@@ -29,20 +29,11 @@ impl Within {
         ensures { result ≡ after_text (quotes_in rules.now.span) self text.now }
     {
         match rules.quotes() {
-            Some(delimiter) => self.after_bytes(delimiter, text),
+            Some(delimiter) => text
+                .iter()
+                .fold(self, |within, byte| within.after_byte(delimiter, *byte)),
             None => self,
         }
-    }
-
-    /// Returns the same where the fields between these delimiters may be in quotes.
-    fn after_bytes(self, delimiter: u8, text: &[u8]) -> Within
-        ensures { result ≡ after_text (Some delimiter) self text.now }
-    {
-        let mut within = self;
-        for byte in text {
-            within = within.after_byte(delimiter, *byte);
-        }
-        within
     }
 
     /// Returns where the byte after this one is, if the fields between these delimiters may be in quotes.
@@ -126,12 +117,4 @@ fn count_bytes(value: u8, text: &[u8]) -> u64
     ensures { result ≡ count_by (λ b. b == value) text.now }
 {
     text.iter().filter(|byte| **byte == value).count() as u64
-}
-
-/// Returns the number of the next line.
-#[inline]
-pub(crate) fn next_line(number: u64) -> u64
-    ensures { result ≡ next_line number }
-{
-    number.saturating_add(1)
 }

@@ -1,7 +1,7 @@
 //! How the lines of an input are regrouped, and where the numbers of a line are.
 ghost use Rattle.std.specs.Prelude.{◌≡◌, ◌<◌, ◌≤◌, ◌||◌, [], ◌∷◌, length, None, IfSome};
 ghost use Rattle.std.specs.Option.{is_some};
-ghost use Rattle.regroup_lines.specs.Csv.{keeps, output_delimiter};
+ghost use Rattle.regroup_lines.specs.Csv.{keeps};
 ghost use Rattle.regroup_lines.specs.Lines.{passes, passes_mark, quotes_in, quotes_of};
 ghost use Rattle.regroup_lines.specs.Lists.{one_field};
 ghost use Rattle.regroup_lines.specs.Places.{are_enough, field_count, is_at_most, is_chosen, is_chosen_from, is_enough, is_in_range, place_of, trimmed, wanted, wanted_of};
@@ -214,16 +214,6 @@ impl Quoting {
 }
 
 impl Fields<'_> {
-    /// Returns the byte between two fields that are written.
-    pub(crate) fn output_delimiter(&self) -> u8
-        ensures { result ≡ output_delimiter self.now }
-    {
-        match self.output {
-            Some(output) => output.delimiter,
-            None => self.delimiter,
-        }
-    }
-
     /// Returns whether the field of this number, or one after it, may be written in another way than it was read.
     pub(crate) fn change(&self, number: u64) -> bool
         ensures { result ≡ (is_some self.now.output || is_chosen_from self.now.list.now number) }

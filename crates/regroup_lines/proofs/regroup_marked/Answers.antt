@@ -1,5 +1,4 @@
-use Rattle.regroup_lines.proofs.Common.{err_from_is_err_and, line_fault_of}
-use Rattle.std.specs.Result.{result_map_both}
+use Rattle.regroup_lines.proofs.Common.{err_from_is_err_and, line_fault_of, result_map_both}
 use Rattle.regroup_lines.proofs.MarkLemmas.{mark-fault, mark-sent, mark-unsent}
 use Rattle.regroup_lines.proofs.regroup_marked.Goals as goal
 

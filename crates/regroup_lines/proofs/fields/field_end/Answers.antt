@@ -1,4 +1,4 @@
-use Rattle.regroup_lines.specs.Lines.{quotes_of}
+use Rattle.regroup_lines.proofs.Common.{quotes_of}
 use Rattle.regroup_lines.proofs.RecordLemmas.{split-last, split-next}
 use Rattle.regroup_lines.proofs.fields.field_end.Goals as goal
 

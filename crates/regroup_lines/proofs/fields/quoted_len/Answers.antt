@@ -1,6 +1,4 @@
-use Rattle.std.proofs.Common.{◌≡◌, ◌∙◌, ◌+◌, ◌≤◌, true, false, ap, arith, drop, length, subst, sym}
-use Rattle.std.proofs.lemmas.List.{length-drop, take_rest}
-use Rattle.regroup_lines.specs.Csv.{is_opened}
+use Rattle.regroup_lines.proofs.Common.{ap, arith, drop, false, is_opened, length, length-drop, subst, sym, take_rest, true, ◌+◌, ◌∙◌, ◌≡◌, ◌≤◌}
 use Rattle.regroup_lines.proofs.CsvLemmas.{quoted-closed, quoted-pair, quoted-plain}
 use Rattle.regroup_lines.proofs.fields.quoted_len.Goals as goal
 

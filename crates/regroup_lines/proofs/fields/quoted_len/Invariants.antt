@@ -1,5 +1,4 @@
-use Rattle.std.proofs.Common.{◌≡◌, ◌+◌, ◌-◌, ◌≤◌, drop, length}
-use Rattle.regroup_lines.specs.Csv.{quoted_len}
+use Rattle.regroup_lines.proofs.Common.{drop, length, quoted_len, ◌+◌, ◌-◌, ◌≡◌, ◌≤◌}
 use Rattle.regroup_lines.proofs.fields.quoted_len.Given as goal
 
 -- no quote so far closes the field

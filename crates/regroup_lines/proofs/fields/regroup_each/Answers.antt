@@ -1,8 +1,4 @@
-use Rattle.std.proofs.Common.{◌≡◌, ◌∙◌, ◌+◌, ◌<◌, [], arith, drop, length, refl, subst, sym, true}
-use Rattle.std.proofs.lemmas.Result.{err_from_is_err_and}
-use Rattle.regroup_lines.specs.Fields.{IsOnly, SendsUnless}
-use Rattle.regroup_lines.specs.Lines.{fields_of, quotes_of}
-use Rattle.regroup_lines.specs.declared.records.Within.TheVariants.{Start}
+use Rattle.regroup_lines.proofs.Common.{IsOnly, SendsUnless, Start, [], arith, drop, err_from_is_err_and, fields_of, length, quotes_of, refl, subst, sym, true, ◌+◌, ◌<◌, ◌∙◌, ◌≡◌}
 use Rattle.regroup_lines.proofs.FieldLemmas.{line_from-first, passed-last, passed-next, split-either, written-last, written-next, written-past, written-stop}
 use Rattle.regroup_lines.proofs.RecordLemmas.{split-some}
 use Rattle.regroup_lines.proofs.fields.regroup_each.Goals as goal

@@ -1,11 +1,4 @@
-use Rattle.std.proofs.Common.{◌≡◌, ◌-◌, ◌≤◌, ℕ, List, Option, Result, true, length, drop}
-use Rattle.std.specs.Prelude.{slice_range}
-use Rattle.std.specs.Result.{result_map_both}
-use Rattle.regroup_lines.specs.Csv.{before_field}
-use Rattle.regroup_lines.specs.Ended.{ended_by}
-use Rattle.regroup_lines.specs.Fault.{Fault}
-use Rattle.regroup_lines.specs.Fields.{IsOnly, SendsUnless}
-use Rattle.regroup_lines.specs.Lines.{after, fields_of, fields_replaced}
+use Rattle.regroup_lines.proofs.Common.{Fault, IsOnly, List, Option, Result, SendsUnless, after, before_field, drop, ended_by, fields_of, fields_replaced, length, result_map_both, slice_range, true, ℕ, ◌-◌, ◌≡◌, ◌≤◌}
 use Rattle.regroup_lines.proofs.FieldLemmas.{line_from}
 use Rattle.regroup_lines.proofs.fields.regroup_each.Given as goal
 

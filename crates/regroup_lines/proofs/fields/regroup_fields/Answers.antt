@@ -1,12 +1,4 @@
-use Rattle.std.proofs.Common.{◌≡◌, ℕ, true, false, List, Option, Result, Ok, Err, subst}
-use Rattle.std.specs.Result.{result_map_both}
-use Rattle.std.specs.Io.KnownBytes.{Appends}
-use Rattle.std.proofs.lemmas.Result.{err_from_is_err_and}
-use Rattle.num_format.specs.Writing.{StopsWithin}
-use Rattle.regroup_lines.specs.Ended.{ended_by}
-use Rattle.regroup_lines.specs.Fault.{Fault}
-use Rattle.regroup_lines.specs.Fields.{SendsUnless}
-use Rattle.regroup_lines.specs.Sending.{SendsLine}
+use Rattle.regroup_lines.proofs.Common.{Appends, Err, Fault, List, Ok, Option, Result, SendsLine, SendsUnless, StopsWithin, ended_by, err_from_is_err_and, false, result_map_both, subst, true, ℕ, ◌≡◌}
 use Rattle.regroup_lines.proofs.fields.regroup_fields.Goals as goal
 
 abbrev ended : ℕ → Result (List ℕ) Fault → Result (List ℕ) Fault

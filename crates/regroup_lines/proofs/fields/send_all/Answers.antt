@@ -1,6 +1,4 @@
-use Rattle.std.proofs.Common.{◌<◌, arith, length}
-use Rattle.std.proofs.lemmas.Result.{err_from_is_err_and}
-use Rattle.regroup_lines.specs.Csv.{part_text}
+use Rattle.regroup_lines.proofs.Common.{arith, err_from_is_err_and, length, part_text, ◌<◌}
 use Rattle.regroup_lines.proofs.CsvLemmas.{parts-unsent}
 use Rattle.regroup_lines.proofs.fields.send_all.Goals as goal
 

@@ -1,7 +1,4 @@
-use Rattle.std.proofs.Common.{take}
-use Rattle.std.specs.List.{flat_map}
-use Rattle.std.specs.Io.KnownBytes.{Appends}
-use Rattle.regroup_lines.specs.Csv.{part_text}
+use Rattle.regroup_lines.proofs.Common.{Appends, flat_map, part_text, take}
 use Rattle.regroup_lines.proofs.fields.send_all.Given as goal
 
 -- the parts so far were sent

@@ -1,8 +1,4 @@
-use Rattle.std.proofs.Common.{ℕ, ◌<◌, Bool, List, [], ◌∷◌, ap, arith, get_or, if◌then◌else◌, length, subst, sym}
-use Rattle.std.proofs.lemmas.Bool.{ne_eqb}
-use Rattle.std.proofs.lemmas.Result.{err_from_is_err_and}
-use Rattle.num_format.specs.Writing.{StopsWithin}
-use Rattle.regroup_lines.specs.Records.{is_quote}
+use Rattle.regroup_lines.proofs.Common.{Bool, List, StopsWithin, [], ap, arith, err_from_is_err_and, get_or, if◌then◌else◌, is_quote, length, ne_eqb, subst, sym, ℕ, ◌<◌, ◌∷◌}
 use Rattle.regroup_lines.proofs.CsvLemmas.{parts-unsent}
 use Rattle.regroup_lines.proofs.fields.send_doubled.Goals as goal
 

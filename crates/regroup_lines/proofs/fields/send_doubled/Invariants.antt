@@ -1,6 +1,4 @@
-use Rattle.std.proofs.Common.{take}
-use Rattle.std.specs.Io.KnownBytes.{Appends}
-use Rattle.regroup_lines.specs.Csv.{doubled}
+use Rattle.regroup_lines.proofs.Common.{Appends, doubled, take}
 use Rattle.regroup_lines.proofs.fields.send_doubled.Given as goal
 
 -- the bytes so far were sent

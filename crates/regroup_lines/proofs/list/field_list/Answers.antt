@@ -1,10 +1,6 @@
-use Rattle.std.proofs.Common.{◌≡◌, ◌∙◌, ◌++◌, ◌==◌, [], ◌∷◌, None, Some, ap, arith, drop, length, rules, sym}
-use Rattle.std.specs.List.{slice_split}
-use Rattle.std.specs.Option.{option_map}
+use Rattle.regroup_lines.proofs.Common.{None, Some, [], ap, arith, drop, length, length_push, option_map, range_in, ranges_in, rules, slice_split, sym, ◌++◌, ◌==◌, ◌∙◌, ◌∷◌, ◌≡◌}
 use Rattle.std.proofs.lemmas.Iterator.Consumers.{YieldsList-end, YieldsList-turn}
 use Rattle.std.proofs.lemmas.Iterator.Splits.{YieldsList-from_str_split}
-use Rattle.std.proofs.lemmas.List.{length_push}
-use Rattle.regroup_lines.specs.Lists.{range_in, ranges_in}
 use Rattle.regroup_lines.proofs.ListLemmas.{ranges-all, ranges-next, ranges-refused}
 use Rattle.regroup_lines.proofs.list.field_list.Goals as goal
 

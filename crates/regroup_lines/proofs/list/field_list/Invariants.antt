@@ -1,7 +1,4 @@
-use Rattle.std.proofs.Common.{◌≡◌, ◌==◌, ◌++◌, length, drop}
-use Rattle.std.specs.List.{slice_split}
-use Rattle.std.specs.Option.{option_map}
-use Rattle.regroup_lines.specs.Lists.{ranges_in}
+use Rattle.regroup_lines.proofs.Common.{drop, length, option_map, ranges_in, slice_split, ◌++◌, ◌==◌, ◌≡◌}
 use Rattle.regroup_lines.proofs.list.field_list.Given as goal
 
 -- the ranges of the parts so far, and those of the parts that are left

@@ -1,6 +1,4 @@
-use Rattle.std.proofs.Common.{◌≡◌, ◌∙◌, Some, None, ap, rules, sym}
-use Rattle.std.specs.Option.{option_map}
-use Rattle.regroup_lines.specs.Lists.{field_number, one_field}
+use Rattle.regroup_lines.proofs.Common.{None, Some, ap, field_number, one_field, option_map, rules, sym, ◌∙◌, ◌≡◌}
 use Rattle.regroup_lines.proofs.ListLemmas.{range-none, range-some}
 use Rattle.regroup_lines.proofs.list.range_in.Goals as goal
 

@@ -1,4 +1,4 @@
-use Rattle.std.proofs.Common.{refl}
+use Rattle.regroup_lines.proofs.Common.{refl}
 use Rattle.regroup_lines.proofs.message.fault_message.Goals as goal
 
 pub returns : goal.returns

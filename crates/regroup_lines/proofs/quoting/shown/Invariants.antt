@@ -1,5 +1,4 @@
-use Rattle.std.proofs.Common.{◌≡◌, ◌*◌, ◌≤◌, take}
-use Rattle.std.specs.List.{flat_map}
+use Rattle.regroup_lines.proofs.Common.{flat_map, take, ◌*◌, ◌≡◌, ◌≤◌}
 use Rattle.arrayvec.specs.ArrayString.{array_string_len}
 use Rattle.regroup_lines.specs.Quoting.{shown_byte}
 use Rattle.regroup_lines.proofs.quoting.shown.Given as goal

@@ -1,5 +1,4 @@
-use Rattle.std.proofs.Common.{refl}
-use Rattle.std.specs.Prelude.{slice_range}
+use Rattle.regroup_lines.proofs.Common.{refl, slice_range}
 use Rattle.regroup_lines.proofs.PlaceLemmas.{trim_found}
 use Rattle.regroup_lines.proofs.rules.trim.Goals as goal
 

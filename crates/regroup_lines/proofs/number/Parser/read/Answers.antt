@@ -1,15 +1,5 @@
-use Rattle.std.proofs.Common.{◌≡◌, ◌∙◌, ℕ, List, None, Option, Result, SFits, Some, Ok, Err, rules, ap, subst, sym}
-use Rattle.std.specs.Int.{w128}
-use Rattle.std.specs.Prelude.{MatchOption}
+use Rattle.regroup_lines.proofs.Common.{DecimalResult, Err, FixedPoint, FormatData, List, MarksDecimals, MatchOption, None, Ok, Option, ParseDecimalError, Result, SFits, Some, ap, number_written, rules, subst, sym, text_fault, text_of, w128, ℕ, ◌∙◌, ◌≡◌}
 use Rattle.std.proofs.lemmas.Int.{to_z-of_z}
-use Rattle.num_format.specs.Format.{FormatData}
-use Rattle.num_format.specs.Text.{text_of}
-use Rattle.num_format_decimal.specs.FixedPoint.{FixedPoint}
-use Rattle.num_format_decimal.specs.Marks.{MarksDecimals}
-use Rattle.num_format_decimal.specs.Parsing.{DecimalResult}
-use Rattle.num_format_decimal.specs.declared.parsing.ParseDecimalError.{ParseDecimalError}
-use Rattle.regroup_lines.specs.LineFaults.{text_fault}
-use Rattle.regroup_lines.specs.Lines.{number_written}
 use Rattle.regroup_lines.proofs.TextLemmas.{lenient-fault, lenient-read, number_in_text-accepted, number_in_text-refused, strict-accepted, strict-ambiguous, strict-refused}
 use Rattle.regroup_lines.proofs.number.Parser.read.Goals as goal
 

@@ -1,16 +1,16 @@
 use Rattle.regroup_lines.proofs.Common.{◌≡◌, ◌∙◌, IsUtf8, length, true, arith, rules, sym, nat_lt, Decides-ltb}
 use Rattle.regroup_lines.proofs.DecimalLemmas.{before-parsed, before-refused}
-use Rattle.regroup_lines.proofs.message.before_unexpected.Goals as goal
+use Rattle.regroup_lines.proofs.message.before_fault.Goals as goal
 
 pub returns-in-Ok : goal.returns-in-Ok
 returns-in-Ok g c =
     let text = c.args.text.now in
     let short : nat_lt (length text) 253 ≡ true = (Decides-ltb (length text) 253).1 (omega arith) in
-    rw short (sym (before-parsed (g.F.Format.answers c.args.from.now) c.format_data.ensures.utf8 text c.in-Ok.field-0 ((c.from_strict_str.ensures.decimal c.in-Ok.field-0).0 c.in-Ok.is)))
+    rw (c.in-Strict.is, short) (sym (before-parsed (g.F.Format.answers c.args.from.now) c.format_data.ensures.utf8 text c.in-Ok.field-0 ((c.from_strict_str.ensures.decimal c.in-Ok.field-0).0 c.in-Ok.is)))
 
 pub returns-in-Err : goal.returns-in-Err
 returns-in-Err g c =
     let text = c.args.text.now in
     let utf8 : IsUtf8 text = search rules in
     let short : nat_lt (length text) 253 ≡ true = (Decides-ltb (length text) 253).1 (omega arith) in
-    rw short (c.before_in.ensures ∙ sym (before-refused (g.F.Format.answers c.args.from.now) c.format_data.ensures.utf8 text c.in-Err.error utf8 ((c.from_strict_str.ensures.refused c.in-Err.error).0 c.in-Err.is)))
+    rw (c.in-Strict.is, short) (c.before_in.ensures ∙ sym (before-refused (g.F.Format.answers c.args.from.now) c.format_data.ensures.utf8 text c.in-Err.error utf8 ((c.from_strict_str.ensures.refused c.in-Err.error).0 c.in-Err.is)))
