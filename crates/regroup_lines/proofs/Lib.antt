@@ -1,5 +1,6 @@
 -- The proofs of this crate.
 pub mod AroundLemmas
+mod ChoiceLemmas
 mod Common
 mod CsvLemmas
 mod DecimalLemmas

@@ -1,5 +1,6 @@
 -- What regrouping writes and returns, record after record.
 use Rattle.regroup_lines.proofs.Common.{◌≡◌, ℕ, ◌+◌, ◌<◌, ◌≤◌, ◌==◌, Bool, true, false, List, [], ◌∷◌, ◌++◌, length, take, Option, Some, Ok, Err, if◌then◌else◌, refl, sym, ap, ◌∙◌, arith, Result, nat_lt, join_with_byte, eqb-true, false_from_ne_true, Decides-ltb, take-append-le, FormatData, ended_by, Fault, TooLong, TooMany, Unclosed, HasNoEnd, IsLong, IsRecord, Reads, stop_text, Regrouped, Sent, Stop, fault_named, fault_sent, line_after, line_begun, line_sent, long_fault, long_returned, passed, passes, quotes_in, record_sent, regrouped_after, regrouped_parts, regrouped_rest, returning, sending, sending_line, stop_returned, Ended, Unread, is_open, split_at, Start, Rules}
+use Rattle.regroup_lines.proofs.ChoiceLemmas.{either}
 use Rattle.regroup_lines.proofs.RecordLemmas.{split-first, split-joined, split-none, split-some}
 
 not_less : (a b : ℕ) → b ≤ a → nat_lt a b ≡ false
@@ -7,11 +8,6 @@ not_less a b le = false_from_ne_true (nat_lt a b) (λ yes. let less = (Decides-l
 
 not_zero : (n : ℕ) → 0 < n → (n == 0) ≡ false
 not_zero n some = false_from_ne_true (n == 0) (λ yes. let none = eqb-true n 0 yes in omega arith)
-
--- a test of no matter
-either_empty : (empty : Bool) (a b : Regrouped) → b ≡ a → (if empty then a else b) ≡ a
-either_empty true a b same = refl
-either_empty false a b same = same
 
 -- a fault that ends the run, and one that does not
 pub aborts-fault : (rules : Rules) (fault : Fault) (bytes : List ℕ) → passes rules.invalid ≡ false → fault_sent rules fault bytes ≡ Err fault
@@ -90,7 +86,7 @@ module _ (rules : Rules) (most : ℕ) (from to : FormatData) where
       regrouped_rest rules most from to stop count number text ≡ line_begun rules most stop count number text → regrouped_after rules most from to stop count number text ≡ returning (stop_returned stop)
   rest-halted stop count number text none few short rest =
       after-rest stop count number text none ∙ rest
-      ∙ either_empty (length text == 0) (returning (stop_returned stop)) _ (rw (not_less most (count + 1) few, not_less rules.max_line_len (length text) short) refl)
+      ∙ either (λ run. run ≡ returning (stop_returned stop)) (length text == 0) (returning (stop_returned stop)) _ refl (rw (not_less most (count + 1) few, not_less rules.max_line_len (length text) short) refl)
 
   -- a record that is too long
   module _ (count number : ℕ) (text : List ℕ) (few : count + 1 ≤ most) (is : IsLong rules text) where

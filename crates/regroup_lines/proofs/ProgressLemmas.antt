@@ -1,6 +1,7 @@
 -- What the lines of an input give that were sent, and how that ends.
 use Rattle.regroup_lines.proofs.Common.{◌≡◌, ℕ, ◌+◌, ◌<◌, ◌≤◌, ◌==◌, Bool, true, false, List, [], ◌∷◌, ◌++◌, length, Option, Some, None, Result, Ok, Err, refl, sym, ap, subst, ◌∙◌, arith, append_assoc, append-nil, ◌-◌, ◌^◌, ◌||◌, if◌then◌else◌, is_some, take, Appends, Consumes, IsAtEnd, Keeps, Range, Consumes-kept, Consumes-nil, Consumes-trans, length-append, FormatData, StopsWithin, ended_by, Fault, are_any, is_unsent, Flush, Read, Report, TooLong, TooMany, Unclosed, IsHalt, EndsOrGoesOn, FindsPiece, HasNoEnd, IsLong, IsRecord, IsStop, Reads, array_len, bytes_at, held, stop_result, stop_text, Regrouped, Sent, Stop, fault_named, line_after, long_fault, only_written, passed, passes, quotes_in, record_sent, regrouped, regrouped_after, returning, sending, sending_line, text_sent, Ended, Failed, Unflushed, Unread, messages, is_open, Names, PassesLong, Receives, ReceivesBytes, ReceivesEach, RegroupsNaming, Returns, SendsEach, Writer, by_writer, failed_by, failed_writer, text_to, Summary, Input, Piece, Rules, Start}
 use Rattle.regroup_lines.specs.declared.input.Piece.TheVariants as piece
+use Rattle.regroup_lines.proofs.ChoiceLemmas.{either}
 use Rattle.regroup_lines.proofs.LineLemmas.{after-many, last_returned, line-next, long-next, long-stopped, long_fault-begun, long_fault-front, rest-empty, rest-halted, rest-line, rest-long}
 use Rattle.regroup_lines.proofs.InputLemmas.{Reads-none, found-line, found-rest}
 use Rattle.regroup_lines.proofs.SentLemmas.{IsSent, record-sent, text-sent}
@@ -245,14 +246,10 @@ module _ (rules : Rules) (name : List ℕ) (most : ℕ) (from to : FormatData) (
       is_long : IsLong rules begun
       is_long = record { no_end = found_long.1; long = let long = found_long.2 in omega (arith, long, len) }
 
-      either_other : (open_quotes : Bool) (a b : Fault) → is_unsent a ≡ false → is_unsent b ≡ false → is_unsent (if open_quotes then a else b) ≡ false
-      either_other true a b first second = first
-      either_other false a b first second = second
-
       pub Regroups-long : passes rules.invalid ≡ false → Naming r2 c1 (Err fault_long)
       Regroups-long aborts =
           Regroups-fault count number has r2 c1 begun Unread fault_long c1 (reached begun found_long.0) tt (rest-long rules most from to count number begun (omega arith) is_long aborts)
-          (either_other (is_open (quotes_in rules.span) (take (rules.max_line_len + 1) begun)) (Unclosed number) (TooLong number rules.max_line_len) refl refl) (λ w. refl)
+          (either (λ fault. is_unsent fault ≡ false) (is_open (quotes_in rules.span) (take (rules.max_line_len + 1) begun)) (Unclosed number) (TooLong number rules.max_line_len) refl refl) (λ w. refl)
 
       module _ (does : passes rules.invalid ≡ true) (named : Fault) (same : named ≡ fault_long) (t2 : Option (List ℕ)) where
         abbrev faults : List Fault

@@ -1,5 +1,5 @@
 -- Where records and their fields end, byte after byte.
-use Rattle.regroup_lines.proofs.Common.{◌≡◌, ℕ, ◌+◌, ◌-◌, ◌<◌, ◌≤◌, ◌==◌, Bool, true, false, List, [], ◌∷◌, ◌++◌, length, take, drop, get_or, slice_range, Option, Some, None, if◌then◌else◌, refl, sym, ap, subst, ◌∙◌, arith, append-nil, eq-eqb, take-append-drop, All, cond, ◌&&◌, not, suc, fold, join_with_byte, onto_first, eqb-true, or_from, or_parts, drop-drop, drop_more, get_or-drop, length-drop, take_all, take_more, fold-append, sum_by-append, take-add, FindsEnd, HasNoEnd, IsRecord, after_byte, after_next, after_record_byte, after_text, has_end, is_inside, line_reached, lines_ended, split_at, Within, Start}
+use Rattle.regroup_lines.proofs.Common.{◌≡◌, ℕ, ◌+◌, ◌-◌, ◌<◌, ◌≤◌, ◌==◌, Bool, true, false, List, [], ◌∷◌, ◌++◌, length, take, drop, get_or, slice_range, Option, Some, None, if◌then◌else◌, refl, sym, ap, subst, ◌∙◌, arith, append-nil, eq-eqb, take-append-drop, All, cond, ◌&&◌, not, suc, fold, join_with_byte, onto_first, eqb-true, or_from, or_parts, drop-drop, drop_more, get_or-drop, length-drop, take_all, take_more, fold-append, sum_by-append, take-add, FindsEnd, HasNoEnd, IsRecord, after_byte, after_next, after_record_byte, EndsAt, after_text, has_end, is_inside, line_reached, lines_ended, split_at, Within, Start}
 
 -- what follows no byte, one byte and others, and two texts
 pub after-nil : (q : Option ℕ) (w : Within) → after_text q w [] ≡ w
@@ -129,20 +129,19 @@ module _ (q : Option ℕ) (e : ℕ) where
         ∙ ap (after_text q w) (sym (range-one bytes start at ordered low))
 
   -- the part of a text that begins at `start`, by where a search from there ends
-  module _ (p : Option ℕ) (same : p ≡ q) (text : List ℕ) (start end : ℕ) (here : Within) (ordered : start ≤ end) (none : HasNoEnd p e Start (slice_range text start end))
-      (there : here ≡ after_text p Start (slice_range text start end)) where
+  module _ (p : Option ℕ) (same : p ≡ q) (text : List ℕ) (start end : ℕ) (here : Within) (ends : EndsAt p e Start text start end here) where
     none_so : HasNoEnd q e Start (slice_range text start end)
-    none_so = subst (λ x. HasNoEnd x e Start (slice_range text start end)) same none
+    none_so = subst (λ x. HasNoEnd x e Start (slice_range text start end)) same ends.none
 
-    pub split-next : end < length text → (get_or text end 0 ≡ e) × (is_inside here ≡ false) →
-        split_at q e Start (drop start text) ≡ slice_range text start end ∷ split_at q e Start (drop (end + 1) text)
-    split-next low found =
-        let sum : start + (end - start) ≡ end = omega (arith, ordered) in
+    pub split-next : end < length text → split_at q e Start (drop start text) ≡ slice_range text start end ∷ split_at q e Start (drop (end + 1) text)
+    split-next low =
+        let found = ends.found low in
+        let sum : start + (end - start) ≡ end = omega (arith, ends.ordered) in
         let after : drop (end - start) (drop start text) ≡ e ∷ drop (end + 1) text =
         drop-drop (end - start) start text ∙ ap (λ n. drop n text) sum ∙ drop_more text end 0 low ∙ ap (λ b. b ∷ drop (end + 1) text) found.0 in
         ap (split_at q e Start) (sym (take-append-drop (end - start) (drop start text)) ∙ ap (λ l. slice_range text start end ++ l) after)
         ∙ split-first Start (slice_range text start end) (drop (end + 1) text)
-        (none_so, ap (λ x. is_inside (after_text x Start (slice_range text start end))) (sym same) ∙ ap is_inside (sym there) ∙ found.1)
+        (none_so, ap (λ x. is_inside (after_text x Start (slice_range text start end))) (sym same) ∙ ap is_inside (sym ends.after) ∙ found.1)
 
     pub split-last : end ≡ length text → split_at q e Start (drop start text) ≡ slice_range text start end ∷ []
     split-last last =
@@ -167,17 +166,22 @@ module _ {q : Option ℕ} {e : ℕ} {w here : Within} {bytes : List ℕ} {n : �
       )
 
 -- a search from there on
-pub Searched-on : {p q : Option ℕ} {e : ℕ} {w here after : Within} {bytes shown : List ℕ} {n : ℕ} (m : ℕ) → p ≡ q → shown ≡ bytes → Searched q e w here bytes n → n ≤ m → HasNoEnd p e here (slice_range shown n m) →
-    after ≡ after_text p here (slice_range shown n m) → Searched q e w after bytes m
-Searched-on {p} {q} {e} {w} {here} {after} {bytes} {shown} {n} m same is so_far ordered free next = record {
+pub Searched-on : {p q : Option ℕ} {e : ℕ} {w here after : Within} {bytes shown : List ℕ} {n m : ℕ} → p ≡ q → shown ≡ bytes → Searched q e w here bytes n → EndsAt p e here shown n m after →
+    Searched q e w after bytes m
+Searched-on {p} {q} {e} {w} {here} {after} {bytes} {shown} {n} {m} same is so_far ends = record {
   none = subst (HasNoEnd q e w) (sym front) (end-append q e w (take n bytes) (slice_range bytes n m) so_far.none
-      (subst (λ v. HasNoEnd q e v (slice_range bytes n m)) so_far.there (subst (λ x. HasNoEnd x e here (slice_range bytes n m)) same (subst (λ l. HasNoEnd p e here (slice_range l n m)) is free))));
-  there = next ∙ ap (λ l. after_text p here (slice_range l n m)) is ∙ ap (λ x. after_text x here (slice_range bytes n m)) same ∙ ap (λ v. after_text q v (slice_range bytes n m)) so_far.there
+      (subst (λ v. HasNoEnd q e v (slice_range bytes n m)) so_far.there (subst (λ x. HasNoEnd x e here (slice_range bytes n m)) same (subst (λ l. HasNoEnd p e here (slice_range l n m)) is ends.none))));
+  there = ends.after ∙ ap (λ l. after_text p here (slice_range l n m)) is ∙ ap (λ x. after_text x here (slice_range bytes n m)) same ∙ ap (λ v. after_text q v (slice_range bytes n m)) so_far.there
       ∙ sym (after-append q w (take n bytes) (slice_range bytes n m)) ∙ ap (after_text q w) (sym front);
 }
   where
     front : take m bytes ≡ take n bytes ++ slice_range bytes n m
-    front = let sum : m ≡ n + (m - n) = omega (arith, ordered) in ap (λ k. take k bytes) sum ∙ take-add n (m - n) bytes
+    front = let sum : m ≡ n + (m - n) = omega (arith, ends.ordered) in ap (λ k. take k bytes) sum ∙ take-add n (m - n) bytes
+
+-- and to the end
+pub Searched-past : {p q : Option ℕ} {e : ℕ} {w here after : Within} {bytes shown : List ℕ} {n m : ℕ} → p ≡ q → shown ≡ bytes → Searched q e w here bytes n → EndsAt p e here shown n m after →
+    length shown ≤ m → HasNoEnd q e w bytes
+Searched-past {p} {q} {e} {w} {here} {after} {bytes} {shown} {n} {m} same is so_far ends all = Searched-all (Searched-on same is so_far ends) (subst (λ l. length l ≤ m) is all)
 
 -- a byte that ends a part
 pub outside-parts : (same inside : Bool) → (same && not inside) ≡ true → (same ≡ true) × (inside ≡ false)

@@ -1,15 +1,12 @@
 -- No text is at fault of a write that failed.
 use Rattle.regroup_lines.proofs.Common.{◌≡◌, ℕ, Bool, true, false, List, Result, Ok, Err, if◌then◌else◌, refl, sym, subst, nat_le, ⊤, FormatData, ended_by, Fault, is_unsent, Unclosed, body_sent, body_written, fault_named, fault_sent, passed, passes, quotes_in, record_sent, text_sent, is_open, Rules}
+use Rattle.regroup_lines.proofs.ChoiceLemmas.{either}
 use Rattle.regroup_lines.proofs.NumberedLemmas.{body-numbered, numbered, with_number-sent}
 
 -- a text is at no fault of a write that failed
 abbrev pub IsSent : {T : Type 0} → Result T Fault → Type 0
 IsSent (Ok text) = ⊤
 IsSent (Err fault) = is_unsent fault ≡ false
-
-either-sent : {T : Type 0} (is : Bool) (x y : Result T Fault) → IsSent x → IsSent y → IsSent (if is then x else y)
-either-sent true x y first second = first
-either-sent false x y first second = second
 
 numbered-sent : {T : Type 0} (n : ℕ) (written : Result T Fault) → IsSent (numbered n written)
 numbered-sent n (Ok text) = tt
@@ -21,19 +18,15 @@ body_written-sent rules from to number text =
 
 -- nor is what is sent of it
 fault-sent : (rules : Rules) (fault : Fault) (bytes : List ℕ) → is_unsent fault ≡ false → IsSent (fault_sent rules fault bytes)
-fault-sent rules fault bytes sent = either_fault (passes rules.invalid)
-  where
-    either_fault : (does : Bool) → IsSent (if does then Ok (passed rules.rejects (fault_named rules.invalid fault) bytes) else Err fault)
-    either_fault true = tt
-    either_fault false = sent
+fault-sent rules fault bytes sent = either (λ x. IsSent x) (passes rules.invalid) (Ok (passed rules.rejects (fault_named rules.invalid fault) bytes)) (Err fault) tt sent
 
 body-sent : (rules : Rules) (text : List ℕ) (body : Result (List ℕ) Fault) → IsSent body → IsSent (body_sent rules text body)
 body-sent rules text (Ok body) sent = tt
 body-sent rules text (Err fault) sent = fault-sent rules fault (ended_by rules.line_end text) sent
 
 pub text-sent : (rules : Rules) (from to : FormatData) (number : ℕ) (text : List ℕ) → IsSent (text_sent rules from to number text)
-text-sent rules from to number text = either-sent (nat_le number rules.header_lines) _ _ tt (body-sent rules text _ (body_written-sent rules from to number text))
+text-sent rules from to number text = either (λ x. IsSent x) (nat_le number rules.header_lines) _ _ tt (body-sent rules text _ (body_written-sent rules from to number text))
 
 pub record-sent : (rules : Rules) (from to : FormatData) (number : ℕ) (text : List ℕ) → IsSent (record_sent rules from to number text)
 record-sent rules from to number text =
-    either-sent (is_open (quotes_in rules.span) text) _ _ (fault-sent rules (Unclosed number) _ refl) (text-sent rules from to number text)
+    either (λ x. IsSent x) (is_open (quotes_in rules.span) text) _ _ (fault-sent rules (Unclosed number) _ refl) (text-sent rules from to number text)

@@ -1,15 +1,10 @@
 -- What is sent of one line and told of it.
 use Rattle.regroup_lines.proofs.Common.{◌≡◌, ◌≢◌, ℕ, ◌<◌, ◌≤◌, Bool, true, false, List, [], Option, None, Some, Result, Ok, Err, if◌then◌else◌, refl, sym, ap, subst, Appends, result_map_both, result_or, is_utf8, Appends-nil, both_ways, le-leb, lt-leb, FormatData, Sends, StopsWithin, ended_by, without_end, Fault, are_any, in_field, is_unsent, Line, NotText, Report, Unclosed, Write, line_fault_of, Sent, body_sent, body_written, fault_named, fault_sent, only_written, passed, passes, quotes_in, record_sent, text_sent, messages, is_open, Names, SendsBytes, bytes_to, SendsEach, SendsLine, Writer, by_writer, failed_writer, text_to, Output, Rejects, LineFault, Rules}
 use Rattle.regroup_lines.specs.declared.line_fault.LineFault.TheVariants as fault
+use Rattle.regroup_lines.proofs.ChoiceLemmas.{either}
 use Rattle.regroup_lines.proofs.LineLemmas.{passes-fault}
 use Rattle.regroup_lines.proofs.SentLemmas.{IsSent, body_written-sent}
 use Rattle.regroup_lines.proofs.WriterLemmas.{each, passed-received, prefix-none, unnamed-stopped}
-
--- a write that does not fail, by what is returned in place of its error
-pub or-sent : {E F : Type 0} (call : Result (Unit {0}) E) (result : Result (Unit {0}) F) (failed : F) → result ≡ result_or call (Err failed) → (a b : Option (List ℕ)) (text : List ℕ) → Sends call a b text →
-    (done : Unit {0}) → result ≡ Ok done → Appends a b text
-or-sent (Ok done) result failed is a b text sends sent was = sends.whole
-or-sent (Err e) result failed is a b text sends sent was = absurd (cc)
 
 -- bytes that are rejected
 pub bytes-rejected : {E : Type 0} (w a b : Option (List ℕ)) (bytes : List ℕ) (call : Result (Unit {0}) E) → Sends call a b bytes → (result : Result (Unit {0}) LineFault) → result ≡ result_or call (Err fault.Reject) →
@@ -81,18 +76,14 @@ module _ (rules : Rules) (name : List ℕ) (from : FormatData) where
             by_passing (c t2) (Err g) (sends.0, passed-received name rules.reading from rules.rejects (failed_writer g) s t t2 x (c t2) faults bytes tells.1 (sends.1 t2))
 
 -- a fault that is no failed write
-either_other : (utf8 : Bool) (a b : Fault) → a ≢ Write → b ≢ Write → (if utf8 then a else b) ≢ Write
-either_other true a b first second = first
-either_other false a b first second = second
-
 field_other : (n : ℕ) (fault : Fault) → fault ≢ Write → in_field n fault ≢ Write
 field_other n (NotText number) other is = cc
 field_other n (Line number refusal) other is = cc
 field_other n fault other is = other is
 
 other_fault : (f : LineFault) → f ≢ fault.Write → line_fault_of f ≢ Write
-other_fault (fault.NotANumber number text) other is = either_other (is_utf8 text.now) _ _ (λ same. cc) (λ same. cc) is
-other_fault (fault.NotAField number field text) other is = field_other field _ (either_other (is_utf8 text.now) _ _ (λ same. cc) (λ same. cc)) is
+other_fault (fault.NotANumber number text) other is = either (λ f. f ≢ Write) (is_utf8 text.now) _ _ (λ same. cc) (λ same. cc) is
+other_fault (fault.NotAField number field text) other is = field_other field _ (either (λ f. f ≢ Write) (is_utf8 text.now) _ _ (λ same. cc) (λ same. cc)) is
 other_fault fault.Write other is = other refl
 other_fault f other is = cc
 

@@ -1,5 +1,6 @@
 -- What regrouping returns where it names no fault.
 use Rattle.regroup_lines.proofs.Common.{◌≡◌, ◌≢◌, ℕ, ◌+◌, ◌==◌, Bool, true, false, List, [], ◌∷◌, length, Option, Some, Result, Ok, Err, if◌then◌else◌, refl, sym, ap, subst, arith, nat_le, nat_lt, ⊤, result_map_both, Appends, length-append, FormatData, StopsWithin, ended_by, without_end, Fault, Reject, Report, TooMany, Unclosed, Write, Regrouped, Sent, Stop, body_sent, body_written, fault_sent, line_after, line_begun, line_sent, long_fault, long_returned, only_written, passes, quotes_in, records_of, regrouped, regrouped_parts, regrouped_rest, returning, sending_line, stop_returned, Ended, is_open, Receives, Regroups, RegroupsNaming, Returns, Writer, failed_by, text_to, Messages, Output, Rejects, Summary, Rules}
+use Rattle.regroup_lines.proofs.ChoiceLemmas.{either}
 use Rattle.regroup_lines.proofs.LineLemmas.{aborts-fault}
 
 -- nothing is sent but to the output
@@ -10,13 +11,8 @@ abbrev IsUnnamed : Result Sent Fault → Type 0
 IsUnnamed (Ok sent) = IsBare sent
 IsUnnamed (Err fault) = ⊤
 
-either : (is : Bool) (a b : Result Sent Fault) → IsUnnamed a → IsUnnamed b → IsUnnamed (if is then a else b)
-either true a b first second = first
-either false a b first second = second
-
-either_run : (is : Bool) (a b : Regrouped) → IsBare a.sent → IsBare b.sent → IsBare (if is then a else b).sent
-either_run true a b first second = first
-either_run false a b first second = second
+abbrev IsRunBare : Regrouped → Type 0
+IsRunBare run = IsBare run.sent
 
 -- rules that pass on no line at fault
 module _ (rules : Rules) (aborts : passes rules.invalid ≡ false) (most : ℕ) (from to : FormatData) where
@@ -29,10 +25,10 @@ module _ (rules : Rules) (aborts : passes rules.invalid ≡ false) (most : ℕ) 
 
   line-unnamed : (count number : ℕ) (text : List ℕ) → IsUnnamed (line_sent rules most from to count number text)
   line-unnamed count number text =
-      either (nat_lt most (count + 1)) (Err TooMany) _ tt
-      (either (nat_lt rules.max_line_len (length text)) _ _ (fault-unnamed (long_fault rules number text) (ended_by rules.line_end text))
-      (either (is_open (quotes_in rules.span) text) _ _ (fault-unnamed (Unclosed number) (ended_by rules.line_end (without_end rules.line_end text)))
-      (either (nat_le number rules.header_lines) (Ok (only_written (ended_by rules.line_end text))) _ refl (body-unnamed text (body_written rules from to number text)))))
+      either IsUnnamed (nat_lt most (count + 1)) (Err TooMany) _ tt
+      (either IsUnnamed (nat_lt rules.max_line_len (length text)) _ _ (fault-unnamed (long_fault rules number text) (ended_by rules.line_end text))
+      (either IsUnnamed (is_open (quotes_in rules.span) text) _ _ (fault-unnamed (Unclosed number) (ended_by rules.line_end (without_end rules.line_end text)))
+      (either IsUnnamed (nat_le number rules.header_lines) (Ok (only_written (ended_by rules.line_end text))) _ refl (body-unnamed text (body_written rules from to number text)))))
 
   sending-unnamed : (line : Result Sent Fault) (rest : Regrouped) → IsUnnamed line → IsBare rest.sent → IsBare (sending_line line rest).sent
   sending-unnamed (Ok sent) rest none after = rw (none, after) refl
@@ -41,13 +37,13 @@ module _ (rules : Rules) (aborts : passes rules.invalid ≡ false) (most : ℕ) 
   line_begun-unnamed : (stop : Stop) (count number : ℕ) (text : List ℕ) → IsBare (line_begun rules most stop count number text).sent
   line_begun-unnamed stop count number text =
       let fault = long_fault rules number text in
-      either_run (length text == 0) (returning (stop_returned stop)) _ refl
-      (either_run (nat_lt most (count + 1)) (returning (Some (Err TooMany))) _ refl
-      (either_run (nat_lt rules.max_line_len (length text)) _ (returning (stop_returned stop)) (sending-unnamed (fault_sent rules fault text) (returning (long_returned stop)) (fault-unnamed fault text) refl) refl))
+      either IsRunBare (length text == 0) (returning (stop_returned stop)) _ refl
+      (either IsRunBare (nat_lt most (count + 1)) (returning (Some (Err TooMany))) _ refl
+      (either IsRunBare (nat_lt rules.max_line_len (length text)) _ (returning (stop_returned stop)) (sending-unnamed (fault_sent rules fault text) (returning (long_returned stop)) (fault-unnamed fault text) refl) refl))
 
   rest-unnamed : (stop : Stop) (count number : ℕ) (text : List ℕ) → IsBare (regrouped_rest rules most from to stop count number text).sent
   rest-unnamed Ended count number text =
-      either_run (length text == 0) (returning (Some (Ok count))) _ refl (sending-unnamed (line_sent rules most from to count number text) _ (line-unnamed count number text) refl)
+      either IsRunBare (length text == 0) (returning (Some (Ok count))) _ refl (sending-unnamed (line_sent rules most from to count number text) _ (line-unnamed count number text) refl)
   rest-unnamed stop count number text = line_begun-unnamed stop count number text
 
   parts-unnamed : (stop : Stop) (count number : ℕ) (parts : List (List ℕ)) → IsBare (regrouped_parts rules most from to stop count number parts).sent

@@ -1,5 +1,5 @@
 -- Where lines, records of RFC 4180 and their fields end. A byte inside quotes ends none.
-use Rattle.std.specs.Prelude.{ℕ, ◌+◌, ◌-◌, ◌^◌, ◌==◌, min, Bool, false, true, ◌&&◌, ◌||◌, not, if◌then◌else◌, List, [], ◌∷◌, Option, None, Some}
+use Rattle.std.specs.Prelude.{◌≡◌, ℕ, ◌+◌, ◌-◌, ◌^◌, ◌<◌, ◌≤◌, ◌==◌, get_or, length, min, slice_range, Bool, false, true, ◌&&◌, ◌||◌, not, if◌then◌else◌, List, [], ◌∷◌, Option, None, Some}
 use Rattle.std.specs.List.{count_by, fold, onto_first}
 use Rattle.regroup_lines.specs.declared.records.Within.{Within}
 use Rattle.regroup_lines.specs.declared.records.Within.TheVariants.{Start, Bare, Quoted, Closing}
@@ -46,6 +46,15 @@ split_at quotes end within (b ∷ text) =
 abbrev pub has_end : (quotes : Option ℕ) → (end : ℕ) → Within → List ℕ → Bool
 has_end quotes end within [] = false
 has_end quotes end within (b ∷ text) = ((b == end) && not (is_inside within)) || has_end quotes end (after_next quotes within b) text
+
+-- a search of bytes from `start` on for the first one of this value that is not inside quotes: where it is, or how many bytes there are, and
+-- where that is in the record
+pub record EndsAt (quotes : Option ℕ) (end : ℕ) (within : Within) (bytes : List ℕ) (start at : ℕ) (there : Within) : Type 0 where
+  pub ordered : start ≤ at
+  pub inside : at ≤ length bytes
+  pub none : has_end quotes end within (slice_range bytes start at) ≡ false
+  pub after : there ≡ after_text quotes within (slice_range bytes start at)
+  pub found : at < length bytes → (get_or bytes at 0 ≡ end) × (is_inside there ≡ false)
 
 -- what follows a byte of several records
 abbrev pub after_record_byte : (quotes : Option ℕ) → (end : ℕ) → Within → ℕ → Within

@@ -1,7 +1,7 @@
 //! Where fields, lines and records end.
 ghost use Rattle.std.specs.Prelude.{◌≡◌, ◌==◌, ◌≤◌, ◌<◌, All, false, get_or, length, slice_range};
 ghost use Rattle.regroup_lines.specs.Ended.{len_without, without_end};
-ghost use Rattle.regroup_lines.specs.Records.{after_text, has_end, is_inside};
+ghost use Rattle.regroup_lines.specs.Records.{EndsAt};
 
 use crate::records::Within;
 use memchr::memchr;
@@ -17,11 +17,7 @@ pub(crate) fn find_end(
     start: usize,
 ) -> (usize, Within)
     requires { start ≤ length bytes.now }
-    ensures ordered { start ≤ result.0 }
-    ensures within { result.0 ≤ length bytes.now }
-    ensures none { has_end quotes end within (slice_range bytes.now start result.0) ≡ false }
-    ensures after { result.1 ≡ after_text quotes within (slice_range bytes.now start result.0) }
-    ensures found { result.0 < length bytes.now → (get_or bytes.now result.0 0 ≡ end) × (is_inside result.1 ≡ false) }
+    ensures { EndsAt quotes end within bytes.now start result.0 result.1 }
 {
     match quotes {
         None if !within.is_inside() => (search(end, bytes, start), within),
@@ -38,11 +34,7 @@ fn find_past_quotes(
     start: usize,
 ) -> (usize, Within)
     requires { start ≤ length bytes.now }
-    ensures ordered { start ≤ result.0 }
-    ensures within { result.0 ≤ length bytes.now }
-    ensures none { has_end quotes end within (slice_range bytes.now start result.0) ≡ false }
-    ensures after { result.1 ≡ after_text quotes within (slice_range bytes.now start result.0) }
-    ensures found { result.0 < length bytes.now → (get_or bytes.now result.0 0 ≡ end) × (is_inside result.1 ≡ false) }
+    ensures { EndsAt quotes end within bytes.now start result.0 result.1 }
 {
     let mut here = within;
     for at in start..bytes.len() {

@@ -17,17 +17,24 @@ loop-at-preserved c =
           _ c.after_next-here.ensures,
     )
 
-pub returns-then-is_end-clause-found : goal.returns-then-is_end-clause-found
-returns-then-is_end-clause-found c low =
+pub returns-then-is_end : goal.returns-then-is_end
+returns-then-is_end c =
     let parts = outside-parts (get_or c.args.bytes.now c.loop-at.at 0 == c.args.end) (is_inside c.loop-at.here) (sym c.is_end.ensures ∙ c.if-is_end.true) in
-    (eqb-true (get_or c.args.bytes.now c.loop-at.at 0) c.args.end parts.0, parts.1)
+    record {
+      ordered = omega arith;
+      inside = omega arith;
+      none = c.loop-at.invariant.0;
+      after = c.loop-at.invariant.1;
+      found = λ low. (eqb-true (get_or c.args.bytes.now c.loop-at.at 0) c.args.end parts.0, parts.1);
+    }
 
-pub returns-clause-none : goal.returns-clause-none
-returns-clause-none c =
+pub returns : goal.returns
+returns c =
     let all : c.loop-at.at ≡ length c.args.bytes.now = omega arith in
-    subst (λ n. HasNoEnd c.args.quotes c.args.end c.args.within (slice_range c.args.bytes.now c.args.start n)) all c.loop-at.invariant.0
-
-pub returns-clause-after : goal.returns-clause-after
-returns-clause-after c =
-    let all : c.loop-at.at ≡ length c.args.bytes.now = omega arith in
-    c.loop-at.invariant.1 ∙ ap (λ n. after_text c.args.quotes c.args.within (slice_range c.args.bytes.now c.args.start n)) all
+    record {
+      ordered = c.requires;
+      inside = omega arith;
+      none = subst (λ n. HasNoEnd c.args.quotes c.args.end c.args.within (slice_range c.args.bytes.now c.args.start n)) all c.loop-at.invariant.0;
+      after = c.loop-at.invariant.1 ∙ ap (λ n. after_text c.args.quotes c.args.within (slice_range c.args.bytes.now c.args.start n)) all;
+      found = λ low. absurd (omega arith);
+    }
