@@ -1,5 +1,5 @@
 -- A line that begins with a byte order mark.
-use Rattle.regroup_lines.proofs.Common.{◌≡◌, ℕ, ◌-◌, Bool, true, List, ◌++◌, length, take, drop, Option, Result, Ok, Err, if◌then◌else◌, refl, sym, ap, subst, ◌∙◌, arith, Appends, Appends-trans, take_rest, FormatData, StopsWithin, ended_by, HasReceivedUpTo-none, StopsWithin_prefix, StopsWithin_suffix, Fault, Write, MARK, after_mark, body_written, numbers_replaced, passes_mark, SendsLine, Rules}
+use Rattle.regroup_lines.proofs.Common.{◌≡◌, ℕ, ◌-◌, Bool, true, List, ◌++◌, length, take, drop, Option, Result, Ok, Err, if◌then◌else◌, refl, sym, ap, subst, ◌∙◌, arith, Appends, Appends-trans, take_rest, FormatData, StopsWithin, ended_by, HasReceivedUpTo-none, StopsWithin_prefix, StopsWithin_suffix, Fault, Write, MARK, after, body_written, numbers_replaced, passes_mark, SendsLine, Rules}
 
 abbrev done : Type 0
 done = Unit {0}
@@ -12,17 +12,17 @@ module _ (rules : Rules) (from to : FormatData) (number : ℕ) (text : List ℕ)
   abbrev Sends_marked : (b : Option (List ℕ)) → Result done Fault → Type 0
   Sends_marked b result = SendsLine rules.line_end (body_written rules from to number text) a b result
 
-  marked : (b : Option (List ℕ)) (result : Result done Fault) → SendsLine rules.line_end (after_mark rest) a b result → Sends_marked b result
+  marked : (b : Option (List ℕ)) (result : Result done Fault) → SendsLine rules.line_end (after MARK rest) a b result → Sends_marked b result
   marked b result sends =
       subst (λ written. SendsLine rules.line_end written a b result)
-      (sym (ap (λ (marked : Bool). if marked then after_mark (numbers_replaced rules.span rules from to number (drop 3 text)) else numbers_replaced rules.span rules from to number text) is
-      ∙ ap (λ l. after_mark (numbers_replaced rules.span rules from to number l)) (sym (take_rest text 3)))) sends
+      (sym (ap (λ (marked : Bool). if marked then after MARK (numbers_replaced rules.span rules from to number (drop 3 text)) else numbers_replaced rules.span rules from to number text) is
+      ∙ ap (λ l. after MARK (numbers_replaced rules.span rules from to number l)) (sym (take_rest text 3)))) sends
 
   -- the line is at fault, or a write of it fails where nothing is received
   pub mark-fault : (f : Fault) → SendsLine {T = done} rules.line_end rest s t (Err f) → Sends_marked a (Err f)
   mark-fault f sends = marked a (Err f) (by rest sends)
     where
-      by : (r : Result (List ℕ) Fault) → SendsLine {T = done} rules.line_end r s t (Err f) → SendsLine {T = done} rules.line_end (after_mark r) a a (Err f)
+      by : (r : Result (List ℕ) Fault) → SendsLine {T = done} rules.line_end r s t (Err f) → SendsLine {T = done} rules.line_end (after MARK r) a a (Err f)
       by (Ok text) sends =
           (sends.0, record { rest = MARK ++ ended_by rules.line_end text; unfinished = omega arith; received = HasReceivedUpTo-none a (MARK ++ ended_by rules.line_end text) })
       by (Err g) sends = (sends.0, refl)
@@ -32,7 +32,7 @@ module _ (rules : Rules) (from to : FormatData) (number : ℕ) (text : List ℕ)
     pub mark-unsent : (f : Fault) → (f ≡ Write) × StopsWithin a b MARK → Sends_marked b (Err f)
     mark-unsent f stops = marked b (Err f) (by rest sound)
       where
-        by : (r : Result (List ℕ) Fault) → SendsLine {T = done} rules.line_end r s t (Ok tt) → SendsLine {T = done} rules.line_end (after_mark r) a b (Err f)
+        by : (r : Result (List ℕ) Fault) → SendsLine {T = done} rules.line_end r s t (Ok tt) → SendsLine {T = done} rules.line_end (after MARK r) a b (Err f)
         by (Ok text) is = (stops.0, StopsWithin_prefix a b MARK (ended_by rules.line_end text) stops.1)
         by (Err g) is = absurd is
 
@@ -40,7 +40,7 @@ module _ (rules : Rules) (from to : FormatData) (number : ℕ) (text : List ℕ)
     pub mark-sent : (c : Option (List ℕ)) (result : Result done Fault) → Appends a b MARK → SendsLine rules.line_end rest b c result → Sends_marked c result
     mark-sent c result mark sends = marked c result (by rest result sound sends)
       where
-        by : (r : Result (List ℕ) Fault) (q : Result done Fault) → SendsLine {T = done} rules.line_end r s t (Ok tt) → SendsLine rules.line_end r b c q → SendsLine rules.line_end (after_mark r) a c q
+        by : (r : Result (List ℕ) Fault) (q : Result done Fault) → SendsLine {T = done} rules.line_end r s t (Ok tt) → SendsLine rules.line_end r b c q → SendsLine rules.line_end (after MARK r) a c q
         by (Ok text) (Ok sent) is line = Appends-trans a b c MARK (ended_by rules.line_end text) mark line
         by (Ok text) (Err f) is line = (line.0, StopsWithin_suffix a b c MARK (ended_by rules.line_end text) mark line.1)
         by (Err g) q is line = absurd is

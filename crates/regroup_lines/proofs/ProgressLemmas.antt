@@ -1,12 +1,12 @@
 -- What the lines of an input give that were sent, and how that ends.
-use Rattle.regroup_lines.proofs.Common.{◌≡◌, ℕ, ◌+◌, ◌<◌, ◌≤◌, ◌==◌, Bool, true, false, List, [], ◌∷◌, ◌++◌, length, Option, Some, None, Result, Ok, Err, refl, sym, ap, subst, ◌∙◌, arith, append_assoc, append-nil, ◌-◌, ◌^◌, ◌||◌, if◌then◌else◌, is_some, take, Appends, Consumes, IsAtEnd, Keeps, Range, Consumes-kept, Consumes-nil, Consumes-trans, length-append, FormatData, StopsWithin, ended_by, Fault, are_any, is_unsent, Flush, Read, Report, TooLong, TooMany, Unclosed, IsHalt, EndsOrGoesOn, FindsPiece, HasNoEnd, IsLong, IsRecord, IsStop, Reads, array_len, bytes_at, held, stop_result, stop_text, Regrouped, Sent, Stop, fault_named, line_after, long_fault, only_written, passed, passes, quotes_in, record_sent, regrouped, regrouped_after, returning, sending, sending_line, text_sent, Ended, Failed, Unflushed, Unread, messages, is_open, Names, PassesLong, Receives, ReceivesBytes, ReceivesEach, RegroupsNaming, Returns, SendsEach, Writer, by_writer, failed_by, failed_writer, text_to, Summary, Input, Piece, Rules, Start}
+use Rattle.regroup_lines.proofs.Common.{◌≡◌, ℕ, ◌+◌, ◌<◌, ◌≤◌, ◌==◌, Bool, true, false, List, [], ◌∷◌, ◌++◌, length, Option, Some, None, Result, Ok, Err, refl, sym, ap, subst, ◌∙◌, arith, append_assoc, append-nil, ◌-◌, ◌^◌, ◌||◌, if◌then◌else◌, is_some, take, Appends, Consumes, IsAtEnd, Keeps, Range, Consumes-kept, Consumes-nil, Consumes-trans, length-append, FormatData, StopsWithin, ended_by, Fault, are_any, Flush, Read, Report, TooLong, TooMany, Unclosed, IsHalt, EndsOrGoesOn, FindsPiece, HasNoEnd, IsLong, IsRecord, IsStop, Reads, array_len, bytes_at, held, stop_result, stop_text, Regrouped, Sent, Stop, fault_named, line_after, long_fault, only_written, passed, passes, quotes_in, record_sent, regrouped, regrouped_after, returning, sending, sending_line, text_sent, Ended, Failed, Unflushed, Unread, messages, is_open, Names, PassesLong, Receives, ReceivesBytes, ReceivesEach, RegroupsNaming, Returns, SendsEach, Writer, by_writer, failed_by, failed_writer, text_to, Summary, Input, Piece, Rules, Start}
 use Rattle.regroup_lines.specs.declared.input.Piece.TheVariants as piece
 use Rattle.regroup_lines.proofs.ChoiceLemmas.{either}
 use Rattle.regroup_lines.proofs.LineLemmas.{after-many, last_returned, line-next, long-next, long-stopped, long_fault-begun, long_fault-front, rest-empty, rest-halted, rest-line, rest-long}
 use Rattle.regroup_lines.proofs.InputLemmas.{Reads-none, found-line, found-rest}
 use Rattle.regroup_lines.proofs.SentLemmas.{IsSent, record-sent, text-sent}
 use Rattle.regroup_lines.proofs.ToldLemmas.{closed-record}
-use Rattle.regroup_lines.proofs.WriterLemmas.{Receives-after, Receives-more, are_any-append, passed-received, received-kept, received-last, receives-nothing, sending-sending, text_to-joined, unfailed, unnamed-stopped}
+use Rattle.regroup_lines.proofs.WriterLemmas.{Receives-after, Receives-more, are_any-append, passed-received, received-kept, received-last, receives-nothing, sending-sending, text_to-joined, unnamed-stopped}
 
 or_false : (b : Bool) → (b || false) ≡ b
 or_false true = refl
@@ -134,10 +134,10 @@ module _ (rules : Rules) (name : List ℕ) (most : ℕ) (from to : FormatData) (
 
       -- a fault of no write, after the lines that were sent
       Regroups-fault : (held : List ℕ) (stop : Stop) (fault : Fault) (c2 : Writer → Option (List ℕ)) → So_far count number has held r1 c1 → IsStop rules.flushes stop held r1 →
-          regrouped_after rules most from to stop count number held ≡ returning (Some (Err fault)) → is_unsent fault ≡ false → ((w : Writer) → c2 w ≡ c1 w) → Naming r1 c2 (Err fault)
+          regrouped_after rules most from to stop count number held ≡ returning (Some (Err fault)) → failed_writer fault ≡ None → ((w : Writer) → c2 w ≡ c1 w) → Naming r1 c2 (Err fault)
       Regroups-fault held stop fault c2 so_far known is other kept =
           naming held stop so_far (returning (Some (Err fault))) is c2 (Err fault) known (λ none. refl)
-          (subst (λ f. ReceivesEach f c1 c2 (text (only_written []))) (sym (unfailed fault other))
+          (subst (λ f. ReceivesEach f c1 c2 (text (only_written []))) (sym other)
           (λ w. subst (λ c. Appends (c1 w) c (text (only_written []) w)) (sym (kept w)) (receives-nothing name rules.reading from c1 w)))
 
       -- what is sent of the last line, and nothing after it
@@ -249,7 +249,7 @@ module _ (rules : Rules) (name : List ℕ) (most : ℕ) (from to : FormatData) (
       pub Regroups-long : passes rules.invalid ≡ false → Naming r2 c1 (Err fault_long)
       Regroups-long aborts =
           Regroups-fault count number has r2 c1 begun Unread fault_long c1 (reached begun found_long.0) tt (rest-long rules most from to count number begun (omega arith) is_long aborts)
-          (either (λ fault. is_unsent fault ≡ false) (is_open (quotes_in rules.span) (take (rules.max_line_len + 1) begun)) (Unclosed number) (TooLong number rules.max_line_len) refl refl) (λ w. refl)
+          (either (λ fault. failed_writer fault ≡ None) (is_open (quotes_in rules.span) (take (rules.max_line_len + 1) begun)) (Unclosed number) (TooLong number rules.max_line_len) refl refl) (λ w. refl)
 
       module _ (does : passes rules.invalid ≡ true) (named : Fault) (same : named ≡ fault_long) (t2 : Option (List ℕ)) where
         abbrev faults : List Fault

@@ -1,12 +1,12 @@
 -- No text is at fault of a write that failed.
-use Rattle.regroup_lines.proofs.Common.{◌≡◌, ℕ, Bool, true, false, List, Result, Ok, Err, if◌then◌else◌, refl, sym, subst, nat_le, ⊤, FormatData, ended_by, Fault, is_unsent, Unclosed, body_sent, body_written, fault_named, fault_sent, passed, passes, quotes_in, record_sent, text_sent, is_open, Rules}
+use Rattle.regroup_lines.proofs.Common.{None, failed_writer, ◌≡◌, ℕ, Bool, true, false, List, Result, Ok, Err, if◌then◌else◌, refl, sym, subst, nat_le, ⊤, FormatData, ended_by, Fault, Unclosed, body_sent, body_written, fault_named, fault_sent, passed, passes, quotes_in, record_sent, text_sent, is_open, Rules}
 use Rattle.regroup_lines.proofs.ChoiceLemmas.{either}
 use Rattle.regroup_lines.proofs.NumberedLemmas.{body-numbered, numbered, with_number-sent}
 
 -- a text is at no fault of a write that failed
 abbrev pub IsSent : {T : Type 0} → Result T Fault → Type 0
 IsSent (Ok text) = ⊤
-IsSent (Err fault) = is_unsent fault ≡ false
+IsSent (Err fault) = failed_writer fault ≡ None
 
 numbered-sent : {T : Type 0} (n : ℕ) (written : Result T Fault) → IsSent (numbered n written)
 numbered-sent n (Ok text) = tt
@@ -17,7 +17,7 @@ body_written-sent rules from to number text =
     subst IsSent (sym (body-numbered rules from to number number text refl)) (numbered-sent number (body_written rules from to number text))
 
 -- nor is what is sent of it
-fault-sent : (rules : Rules) (fault : Fault) (bytes : List ℕ) → is_unsent fault ≡ false → IsSent (fault_sent rules fault bytes)
+fault-sent : (rules : Rules) (fault : Fault) (bytes : List ℕ) → failed_writer fault ≡ None → IsSent (fault_sent rules fault bytes)
 fault-sent rules fault bytes sent = either (λ x. IsSent x) (passes rules.invalid) (Ok (passed rules.rejects (fault_named rules.invalid fault) bytes)) (Err fault) tt sent
 
 body-sent : (rules : Rules) (text : List ℕ) (body : Result (List ℕ) Fault) → IsSent body → IsSent (body_sent rules text body)

@@ -1,5 +1,5 @@
 -- What is sent of one line and told of it.
-use Rattle.regroup_lines.proofs.Common.{◌≡◌, ◌≢◌, ℕ, ◌<◌, ◌≤◌, Bool, true, false, List, [], Option, None, Some, Result, Ok, Err, if◌then◌else◌, refl, sym, ap, subst, Appends, result_map_both, result_or, is_utf8, Appends-nil, both_ways, le-leb, lt-leb, FormatData, Sends, StopsWithin, ended_by, without_end, Fault, are_any, in_field, is_unsent, Line, NotText, Report, Unclosed, Write, line_fault_of, Sent, body_sent, body_written, fault_named, fault_sent, only_written, passed, passes, quotes_in, record_sent, text_sent, messages, is_open, Names, SendsBytes, bytes_to, SendsEach, SendsLine, Writer, by_writer, failed_writer, text_to, Output, Rejects, LineFault, Rules}
+use Rattle.regroup_lines.proofs.Common.{◌≡◌, ◌≢◌, ◌∙◌, ℕ, ◌<◌, ◌≤◌, Bool, true, false, List, [], Option, None, Some, Result, Ok, Err, if◌then◌else◌, refl, sym, ap, subst, Appends, result_map_both, result_or, is_utf8, Appends-nil, both_ways, le-leb, lt-leb, FormatData, Sends, StopsWithin, ended_by, without_end, Fault, are_any, in_field, Line, NotText, Report, Unclosed, Write, line_fault_of, Sent, body_sent, body_written, fault_named, fault_sent, only_written, passed, passes, quotes_in, record_sent, text_sent, messages, is_open, Names, SendsBytes, bytes_to, SendsEach, SendsLine, Writer, by_writer, failed_writer, text_to, Output, Rejects, LineFault, Rules}
 use Rattle.regroup_lines.specs.declared.line_fault.LineFault.TheVariants as fault
 use Rattle.regroup_lines.proofs.ChoiceLemmas.{either}
 use Rattle.regroup_lines.proofs.LineLemmas.{passes-fault}
@@ -32,7 +32,7 @@ module _ (rules : Rules) (name : List ℕ) (from : FormatData) where
 
       body-unsent : (body : Result (List ℕ) Fault) → IsSent body → SendsLine {T = Unit {0}} rules.line_end body a b (Err Write) → Sends_each (body_sent rules text body) (by_writer a d x) (by_writer b d x) (Err Write)
       body-unsent (Ok written) none sends = stopped-each (ended_by rules.line_end written) sends.1
-      body-unsent (Err f) none sends = absurd (both_ways _ none (ap is_unsent (sym sends.0)))
+      body-unsent (Err f) none sends = let failed : failed_writer Write ≡ None = ap failed_writer sends.0 ∙ none in absurd (cc)
 
       -- a line at fault, of which nothing was sent before
       body-passed : (body : Result (List ℕ) Fault) (f : Fault) (c : Writer → Option (List ℕ)) (result : Result Bool Fault) → f ≢ Write → SendsLine {T = Unit {0}} rules.line_end body a b (Err f) →

@@ -1,5 +1,5 @@
 -- What writers received of lines that are sent one after the other.
-use Rattle.regroup_lines.proofs.Common.{Appends, Appends-kept, Appends-nil, Appends-trans, Bool, Fault, FormatData, HasReceivedUpTo-none, Keeps, List, Messages, None, Option, Output, Reading, Receives, ReceivesBytes, ReceivesEach, ReceivesPrefix, Regrouped, Reject, Rejects, Report, Sent, Some, StopsWithin, StopsWithin_prefix, StopsWithin_suffix, Write, Writer, [], ap, append-nil, append_assoc, are_any, by_writer, bytes_to, failed_writer, false, fault_message, flat_map-append, is_some, is_unsent, joined, messages, only_written, passed, refl, sending, subst, sym, text_to, true, ℕ, ◌++◌, ◌||◌, ◌∙◌, ◌∷◌, ◌≡◌}
+use Rattle.regroup_lines.proofs.Common.{Appends, Appends-kept, Appends-nil, Appends-trans, Bool, Fault, FormatData, HasReceivedUpTo-none, Keeps, List, Messages, None, Option, Output, Reading, Receives, ReceivesBytes, ReceivesEach, ReceivesPrefix, Regrouped, Reject, Rejects, Report, Sent, Some, StopsWithin, StopsWithin_prefix, StopsWithin_suffix, Write, Writer, [], ap, append-nil, append_assoc, are_any, by_writer, bytes_to, failed_writer, false, fault_message, flat_map-append, is_some, joined, messages, only_written, passed, refl, sending, subst, sym, text_to, true, ℕ, ◌++◌, ◌||◌, ◌∙◌, ◌∷◌, ◌≡◌}
 
 pub joined-assoc : (a b c : Sent) → joined a (joined b c) ≡ joined (joined a b) c
 joined-assoc a b c =
@@ -14,12 +14,6 @@ sending-sending a b rest = ap (λ sent. record { sent = sent; returned = rest.re
 pub are_any-append : (f g : List Fault) → are_any (f ++ g) ≡ (are_any f || are_any g)
 are_any-append [] g = refl
 are_any-append (fault ∷ f) g = refl
-
-pub unfailed : (fault : Fault) → is_unsent fault ≡ false → failed_writer fault ≡ None
-unfailed Write is = absurd (cc)
-unfailed Report is = absurd (cc)
-unfailed Reject is = absurd (cc)
-unfailed fault is = refl
 
 -- a writer that received all of a text, and a part of the next one
 pub Receives-after : (failed : Option Writer) (w : Writer) (a b c : Option (List ℕ)) (x y : List ℕ) → Appends a b x → Receives failed w b c y → Receives failed w a c (x ++ y)

@@ -39,13 +39,6 @@ fault_of fault.Report = Report
 fault_of fault.Reject = Reject
 fault_of fault.Flush = Flush
 
--- whether it is that of a write that failed, to one of the three writers
-abbrev pub is_unsent : Fault → Bool
-is_unsent Write = true
-is_unsent Report = true
-is_unsent Reject = true
-is_unsent _ = false
-
 -- the fault of a text in the field of this number
 abbrev pub in_field : ℕ → Fault → Fault
 in_field field (NotText number) = FieldNotText number field

@@ -168,14 +168,10 @@ passes_mark span.Line number text = false
 passes_mark span.Trimmed number text = (number == 1) && begins_with_mark text
 passes_mark (span.Fields fields) number text = (number == 1) && begins_with_mark text
 
--- a text after a mark
-abbrev pub after_mark : Result (List ℕ) Fault → Result (List ℕ) Fault
-after_mark written = result_map_both (λ text. MARK ++ text) (λ fault. fault) written
-
 -- a line that is no header
 abbrev pub body_written : Rules → FormatData → FormatData → ℕ → List ℕ → Result (List ℕ) Fault
 body_written rules from to number text =
-    if passes_mark rules.span number text then after_mark (numbers_replaced rules.span rules from to number (drop (length MARK) text)) else
+    if passes_mark rules.span number text then after MARK (numbers_replaced rules.span rules from to number (drop (length MARK) text)) else
     numbers_replaced rules.span rules from to number text
 
 -- whether a line at fault is passed on

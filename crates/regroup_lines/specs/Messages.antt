@@ -65,10 +65,6 @@ abbrev pub few_text : FieldCount → List ℕ
 few_text count =
     codes "too few fields: " ++ (decimal count.found ++ (codes " of " ++ (decimal count.wanted ++ (codes ", separated by " ++ quoted (count.delimiter ∷ [])))))
 
--- what is said of a line that may have this many bytes and has more
-abbrev pub long_cause : (max_line_len : ℕ) → List ℕ
-long_cause max_line_len = codes "more than " ++ (decimal max_line_len ++ codes " bytes")
-
 -- what is said of a text that is not a number, with so many bytes before the unexpected one if one is named
 abbrev pub refused_text : (before : Option ℕ) → List ℕ → List ℕ
 refused_text before text = quoted text ++ (codes ": not a number" ++ byte_text before)
@@ -80,7 +76,7 @@ field_cause field cause = codes "field " ++ (decimal field ++ (codes ": " ++ cau
 -- what is said of a fault
 abbrev pub cause : (before : Option ℕ) → Fault → List ℕ
 cause before TooMany = codes "more lines than are allowed"
-cause before (TooLong number max_line_len) = long_cause max_line_len
+cause before (TooLong number max_line_len) = codes "more than " ++ (decimal max_line_len ++ codes " bytes")
 cause before (FewFields number count) = few_text count
 cause before Read = codes "failed to read"
 cause before (NotText number) = codes "not UTF-8"

@@ -376,7 +376,8 @@ fn name_fault<E: Write, F: Format, G: Format>(
     match job.rules.invalid {
         Invalid::Abort | Invalid::Ignore => Ok(false),
         Invalid::Fail | Invalid::Warn => {
-            let message = fault_message(job.name, job.rules.reading, fault, job.parser.format());
+            let parser = &job.parser;
+            let message = fault_message(job.name, job.rules.reading, fault, parser.format);
             write_whole(message.as_str().as_bytes(), e).or(Err(RegroupFault::Report))?;
             Ok(true)
         }

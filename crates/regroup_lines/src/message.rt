@@ -2,7 +2,7 @@
 ghost use Rattle.std.specs.Prelude.{◌≡◌, ◌≤◌, length};
 ghost use Rattle.num_format.specs.Refusal.{refusal_of};
 ghost use Rattle.regroup_lines.specs.Fault.{fault_of};
-ghost use Rattle.regroup_lines.specs.Messages.{before_fault, before_in, byte_text, cause, displayed, fault_message, few_text, field_cause, kept_in, line_message, long_cause, refused_in, refused_text};
+ghost use Rattle.regroup_lines.specs.Messages.{before_fault, before_in, byte_text, cause, displayed, fault_message, few_text, field_cause, kept_in, line_message, refused_in, refused_text};
 
 use crate::fault::{FieldCount, RegroupFault};
 use crate::quoting::{MAX_QUOTED_LEN, quoted, shown};
@@ -70,7 +70,11 @@ pub(crate) fn cause(fault: &RegroupFault, before: Option<usize>) -> ArrayString<
 {
     match fault {
         RegroupFault::TooMany => joined!("more lines than are allowed"),
-        RegroupFault::TooLong(_, max_line_len) => long_cause(*max_line_len),
+        RegroupFault::TooLong(_, max_line_len) => joined!(
+            "more than ",
+            itoa::Buffer::new().format(*max_line_len),
+            " bytes"
+        ),
         RegroupFault::FewFields(_, count) => few_text(*count),
         RegroupFault::Read => joined!("failed to read"),
         RegroupFault::NotText(_) => joined!("not UTF-8"),
@@ -106,17 +110,6 @@ pub(crate) fn displayed(line: Option<u64>, cause: &str) -> ArrayString<MAX_DISPL
         None => joined!(cause),
         Some(number) => joined!("line ", itoa::Buffer::new().format(number), ": ", cause),
     }
-}
-
-/// Returns what is said of a line that may have this many bytes and has more.
-fn long_cause(max_line_len: u32) -> ArrayString<MAX_CAUSE_LEN>
-    ensures { result.bytes ≡ long_cause max_line_len }
-{
-    joined!(
-        "more than ",
-        itoa::Buffer::new().format(max_line_len),
-        " bytes"
-    )
 }
 
 /// Returns what is said of a line with too few fields.

@@ -50,7 +50,8 @@ pub(crate) struct Around<'a> {
 /// A parser of the numbers of an input, which asks their format for its symbols once. A contract sees it as the data of the format.
 #[derive(Drop)]
 pub(crate) struct Parser<'a, F: Format> {
-    format: &'a F,
+    /// The format.
+    pub(crate) format: &'a F,
     /// What parses decimals, unless the format is ambiguous.
     decimals: Option<DecimalParser<'a, F>>,
 }
@@ -76,13 +77,6 @@ impl<'a, F: Format> Parser<'a, F> {
         format_data(format);
         let decimals = DecimalParser::new(format).ok();
         Parser { format, decimals }
-    }
-
-    /// Returns the format.
-    pub(crate) fn format(&self) -> &'a F
-        ensures { F.answers result.now ≡ self.now }
-    {
-        self.format
     }
 
     /// Returns the number that a text in the line of this number is.

@@ -107,14 +107,10 @@ pub(crate) fn line_reached(rules: &Rules, number: u64, text: &[u8]) -> u64
     ensures { result ≡ line_reached (quotes_in rules.now.span) rules.now.line_end number text.now }
 {
     match rules.quotes() {
-        Some(_) => number.saturating_add(count_bytes(rules.line_end, text)),
+        Some(_) => {
+            let ends = text.iter().filter(|byte| **byte == rules.line_end);
+            number.saturating_add(ends.count() as u64)
+        }
         None => number,
     }
-}
-
-/// Returns how many bytes of a text have this value.
-fn count_bytes(value: u8, text: &[u8]) -> u64
-    ensures { result ≡ count_by (λ b. b == value) text.now }
-{
-    text.iter().filter(|byte| **byte == value).count() as u64
 }

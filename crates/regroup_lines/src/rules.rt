@@ -186,13 +186,6 @@ impl FieldRange {
         }
     }
 
-    /// Returns whether a line of so many fields has all that are wanted of it.
-    fn is_enough(&self, count: u64) -> bool
-        ensures { result ≡ is_enough count self.now }
-    {
-        self.wanted() <= count
-    }
-
     /// Returns how many fields a line has to have for it.
     fn wanted(&self) -> u64
         ensures { result ≡ wanted_of self.now }
@@ -255,7 +248,7 @@ impl Fields<'_> {
     }
 
     /// Returns whether the field of this number, or one after it, may have a number.
-    pub(crate) fn reach(&self, number: u64) -> bool
+    fn reach(&self, number: u64) -> bool
         ensures { result ≡ is_chosen_from self.now.list.now number }
     {
         self.list.iter().any(|range| range.reaches(number))
@@ -265,7 +258,7 @@ impl Fields<'_> {
     pub(crate) fn are_enough(&self, count: u64) -> bool
         ensures { result ≡ are_enough self.now.list.now count }
     {
-        self.list.iter().all(|range| range.is_enough(count))
+        self.list.iter().all(|range| range.wanted() <= count)
     }
 
     /// Returns what is counted of a line that has this many fields.
