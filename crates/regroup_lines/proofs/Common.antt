@@ -29,7 +29,7 @@ pub use Rattle.regroup_lines.specs.Fault.{Fault, are_any, fault_of, in_field}
 pub use Rattle.regroup_lines.specs.Fault.Fault.{FewFields, Field, FieldNotText, Flush, Line, NotText, Read, Reject, Report, TooLong, TooMany, Unclosed, Write}
 pub use Rattle.regroup_lines.specs.Input.{EndsOrGoesOn, FindsEnd, FindsPiece, HasNoEnd, IsInArray, IsLong, IsRecord, IsStop, Reads, array_len, bytes_at, held, stop_result, stop_text}
 pub use Rattle.regroup_lines.specs.LineFaults.{IsHalt, line_fault_of, text_fault}
-pub use Rattle.regroup_lines.specs.Lines.{MARK, Regrouped, Sent, Stop, after, begins_with_mark, between, body_sent, body_written, fault_named, fault_sent, field_read, field_written, fields_of, fields_replaced, fields_written, joined, lenient, line_after, line_begun, line_ended, line_sent, long_fault, long_returned, number_in_field, number_in_text, number_written, numbers_replaced, only_written, passed, passes, passes_mark, place_written, quotes_in, quotes_of, record_sent, records_of, regrouped, regrouped_after, regrouped_parts, regrouped_rest, returning, sending, sending_line, stop_returned, text_sent, with_first}
+pub use Rattle.regroup_lines.specs.Lines.{MARK, Regrouped, Sent, Stop, after, begins_with_mark, between, body_sent, body_written, fault_named, fault_sent, field_read, field_written, fields_of, fields_replaced, fields_written, joined, lenient, line_after, line_begun, line_ended, line_sent, long_fault, long_returned, number_written, numbers_replaced, only_written, passed, passes, passes_mark, place_written, quotes_in, quotes_of, record_sent, records_of, regrouped, regrouped_after, regrouped_parts, regrouped_rest, returning, sending, sending_line, stop_returned, text_sent, with_first}
 pub use Rattle.regroup_lines.specs.Lines.Stop.{Ended, Endless, Failed, Unflushed, Unread}
 pub use Rattle.regroup_lines.specs.Messages.{before_in, before_rest, fault_message, messages}
 pub use Rattle.regroup_lines.specs.Places.{are_enough, field_count, is_at_most, is_chosen, is_chosen_from, is_enough, trimmed}

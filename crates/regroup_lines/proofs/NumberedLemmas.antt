@@ -1,5 +1,5 @@
 -- What is written in place of a line depends on the line's number in the fault alone.
-use Rattle.regroup_lines.proofs.Common.{failed_writer, Bool, Err, Fault, FewFields, Field, FieldNotText, Fields, FormatData, Lenient, Line, List, MARK, None, NotText, Ok, Option, ParseNumber, Reading, Refusal, Result, Rules, Some, Span, Strict, TooMany, [], after, ap, are_enough, between, body_written, cut_text, decimal_read, decimal_text, drop, false, field_count, field_read, field_with, field_written, fields_of, fields_written, if◌then◌else◌, in_field, is_barred, is_chosen, is_utf8, join_with_byte, length, list_any, number_in_field, number_in_text, number_place, number_read, number_written, numbers_replaced, ok_or, option_map, output_delimiter, passes_mark, place_written, refl, result_map_both, slice_range, take, text_fault, text_of, trimmed, true, with_first, ℕ, ℤ, ◌&&◌, ◌++◌, ◌+◌, ◌==◌, ◌∙◌, ◌∷◌, ◌≡◌}
+use Rattle.regroup_lines.proofs.Common.{failed_writer, Bool, Err, Fault, FewFields, Field, FieldNotText, Fields, FormatData, Lenient, Line, List, MARK, None, NotText, Ok, Option, ParseNumber, Reading, Refusal, Result, Rules, Some, Span, Strict, TooMany, [], after, ap, are_enough, between, body_written, cut_text, decimal_read, decimal_text, drop, false, field_count, field_read, field_with, field_written, fields_of, fields_written, if◌then◌else◌, in_field, is_barred, is_chosen, is_utf8, join_with_byte, length, list_any, number_place, number_read, number_written, numbers_replaced, ok_or, option_map, output_delimiter, passes_mark, place_written, refl, result_map_both, slice_range, take, text_fault, text_of, trimmed, true, with_first, ℕ, ℤ, ◌&&◌, ◌++◌, ◌+◌, ◌==◌, ◌∙◌, ◌∷◌, ◌≡◌}
 use Rattle.regroup_lines.specs.declared.rules.Span.TheVariants as span
 
 -- the same fault of a text, in the line of this number
@@ -44,7 +44,7 @@ either n true a b c d one other = one
 either n false a b c d one other = other
 
 module _ (rules : Rules) (from to : FormatData) (n m : ℕ) where
-  lenient : (is : Bool) (r : Result ℤ Refusal) → (if is then result_map_both (λ value. value) (Line n) r else Err (NotText n)) ≡ numbered n (if is then result_map_both (λ value. value) (Line m) r else Err (NotText m))
+  lenient : (is : Bool) (r : Result ℤ Refusal) → (if is then result_map_both (text_of to) (Line n) r else Err (NotText n)) ≡ numbered n (if is then result_map_both (text_of to) (Line m) r else Err (NotText m))
   unfolding with_number
   lenient true (Ok value) = refl
   lenient true (Err refusal) = refl
@@ -62,7 +62,7 @@ module _ (rules : Rules) (from to : FormatData) (n m : ℕ) where
   fault false refusal = refl
 
   number : (reading : Reading) (text : List ℕ) → number_written reading from to n text ≡ numbered n (number_written reading from to m text)
-  number Lenient text = ap (result_map_both (text_of to) (λ fault. fault)) (lenient (is_utf8 text) (number_read from text)) ∙ mapped n (text_of to) (number_in_text from m text)
+  number Lenient text = lenient (is_utf8 text) (number_read from text)
   number Strict text = strict (is_utf8 text) (option_map (decimal_text to) (decimal_read from text)) (ParseNumber (cut_text text))
 
   place : (text : List ℕ) (at : ℕ × ℕ) → place_written rules from to n text at ≡ numbered n (place_written rules from to m text at)
@@ -71,15 +71,13 @@ module _ (rules : Rules) (from to : FormatData) (n m : ℕ) where
       either n (rules.passes_empty && (at.0 == at.1)) (Ok text) (Ok text) _ _ refl
       (ap (between (take at.0 text) (drop at.1 text)) (number rules.reading bytes) ∙ mapped n (λ number. take at.0 text ++ (number ++ drop at.1 text)) (number_written rules.reading from to m bytes))
 
-  field_number : (quotes : Bool) (text : List ℕ) → number_in_field rules quotes from to n text ≡ numbered n (number_in_field rules quotes from to m text)
-  field_number quotes text =
-      either n (quotes && list_any (is_barred rules.line_end) text) (Err (text_fault n text)) (Err (text_fault m text)) _ _ (ap Err (fault (is_utf8 text) (ParseNumber (cut_text text))))
-      (ap (result_map_both Some (λ fault. fault)) (number rules.reading text) ∙ mapped n Some (number_written rules.reading from to m text))
-
   read : (quotes : Bool) (field : List ℕ) → field_read rules quotes from to n field ≡ numbered n (field_read rules quotes from to m field)
   read quotes field =
       let at = number_place quotes field in
-      either n (rules.passes_empty && (at.0 == at.1)) (Ok None) (Ok None) _ _ refl (field_number quotes (slice_range field at.0 at.1))
+      let text = slice_range field at.0 at.1 in
+      either n (rules.passes_empty && (at.0 == at.1)) (Ok None) (Ok None) _ _ refl
+      (either n (quotes && list_any (is_barred rules.line_end) text) (Err (text_fault n text)) (Err (text_fault m text)) _ _ (ap Err (fault (is_utf8 text) (ParseNumber (cut_text text))))
+      (ap (result_map_both Some (λ fault. fault)) (number rules.reading text) ∙ mapped n Some (number_written rules.reading from to m text)))
 
   one_field : (fields : Fields) (k : ℕ) (chosen : Bool) (field : List ℕ) → field_written rules fields from to n k chosen field ≡ numbered n (field_written rules fields from to m k chosen field)
   one_field fields k true field =

@@ -1,29 +1,13 @@
 -- The number in the text of a line.
-use Rattle.regroup_lines.proofs.Common.{Bool, Err, Fault, FixedPoint, FormatData, HasUtf8Texts, IsUtf8, IsUtf8-from_is_utf8, Lenient, List, MarksDecimals, None, Ok, ParseDecimalError, ParsesDecimal, Refused, Result, Strict, ap, decimal_read, decimal_text, denoted, false, false_from_ne_true, is_utf8, is_utf8-from_IsUtf8, number_in_text, number_written, refl, result_map_both, sym, text_fault, text_of, true, ℕ, ℤ, ◌↔◌, ◌≡◌}
+use Rattle.regroup_lines.proofs.Common.{Bool, Err, Fault, FixedPoint, FormatData, HasUtf8Texts, IsUtf8, IsUtf8-from_is_utf8, Lenient, List, MarksDecimals, None, Ok, ParseDecimalError, ParsesDecimal, Refused, Result, Strict, ap, decimal_read, decimal_text, denoted, false, false_from_ne_true, is_utf8, is_utf8-from_IsUtf8, number_written, refl, result_map_both, sym, text_fault, text_of, true, ℕ, ℤ, ◌↔◌, ◌≡◌}
 use Rattle.num_format.specs.Kind.{signed}
 use Rattle.num_format.specs.ParseBytesError.{ParseBytesError}
 use Rattle.num_format.specs.ParseBytesError.TheVariants.{NotANumber, NotUtf8}
 use Rattle.num_format.proofs.ReadableLemmas.{readable-from_accepted, unreadable-from_refused}
 use Rattle.regroup_lines.proofs.DecimalLemmas.{decimal_read-ambiguous, decimal_read-parsed, decimal_read-refused, parsed-utf8}
 
-module _ (from : FormatData) (number : ℕ) (text : List ℕ) where
-  -- the number of a text that is accepted
-  pub number_in_text-accepted : (n : ℤ) → n ≡ denoted from text → IsUtf8 text × ¬ (Refused (signed 127 40) from text) → number_in_text from number text ≡ Ok n
-  number_in_text-accepted n is accepted =
-      rw (is_utf8-from_IsUtf8 text accepted.0, readable-from_accepted from text accepted.1) (ap Ok (sym is))
-
-  -- the fault of any other
-  pub number_in_text-refused : (e : ParseBytesError) → (e ≡ NotUtf8 → ¬ (IsUtf8 text)) → (e ≡ NotANumber → IsUtf8 text × Refused (signed 127 40) from text) →
-      number_in_text from number text ≡ Err (text_fault number text)
-  number_in_text-refused NotUtf8 invalid cause =
-      let no : is_utf8 text ≡ false = false_from_ne_true (is_utf8 text) (λ yes. invalid refl (IsUtf8-from_is_utf8 text yes)) in
-      rw no refl
-  number_in_text-refused NotANumber invalid cause =
-      let parsed : IsUtf8 text × Refused (signed 127 40) from text = cause refl in
-      rw (is_utf8-from_IsUtf8 text parsed.0, false_from_ne_true _ (unreadable-from_refused from text parsed.1)) refl
-
--- the text of a number that is read strictly
 module _ (from to : FormatData) (number : ℕ) (text : List ℕ) where
+  -- the text of a number that is read strictly
   pub strict-accepted : HasUtf8Texts from → (d : FixedPoint) → ParsesDecimal from text d → number_written Strict from to number text ≡ Ok (decimal_text to d)
   strict-accepted utf8 d parsed = rw (is_utf8-from_IsUtf8 text (parsed-utf8 from utf8 text d parsed), decimal_read-parsed from utf8 text d parsed) refl
 
@@ -39,8 +23,15 @@ module _ (from to : FormatData) (number : ℕ) (text : List ℕ) where
   strict-ambiguous utf8 ambiguous = strict-none (is_utf8 text) refl (decimal_read-ambiguous from utf8 text ambiguous)
 
   -- and leniently
-  pub lenient-read : (n : ℤ) → number_in_text from number text ≡ Ok n → number_written Lenient from to number text ≡ Ok (text_of to n)
-  lenient-read n is = ap (result_map_both (text_of to) (λ fault. fault)) is
+  pub lenient-accepted : (n : ℤ) → n ≡ denoted from text → IsUtf8 text × ¬ (Refused (signed 127 40) from text) → number_written Lenient from to number text ≡ Ok (text_of to n)
+  lenient-accepted n is accepted =
+      rw (is_utf8-from_IsUtf8 text accepted.0, readable-from_accepted from text accepted.1) (ap (λ n. Ok (text_of to n)) (sym is))
 
-  pub lenient-fault : (f : Fault) → number_in_text from number text ≡ Err f → number_written Lenient from to number text ≡ Err f
-  lenient-fault f is = ap (result_map_both (text_of to) (λ fault. fault)) is
+  pub lenient-refused : (e : ParseBytesError) → (e ≡ NotUtf8 → ¬ (IsUtf8 text)) → (e ≡ NotANumber → IsUtf8 text × Refused (signed 127 40) from text) →
+      number_written Lenient from to number text ≡ Err (text_fault number text)
+  lenient-refused NotUtf8 invalid cause =
+      let no : is_utf8 text ≡ false = false_from_ne_true (is_utf8 text) (λ yes. invalid refl (IsUtf8-from_is_utf8 text yes)) in
+      rw no refl
+  lenient-refused NotANumber invalid cause =
+      let parsed : IsUtf8 text × Refused (signed 127 40) from text = cause refl in
+      rw (is_utf8-from_IsUtf8 text parsed.0, false_from_ne_true _ (unreadable-from_refused from text parsed.1)) refl

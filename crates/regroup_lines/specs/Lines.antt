@@ -1,5 +1,5 @@
 -- What regrouping the lines of an input writes and returns.
-use Rattle.std.specs.Prelude.{ℕ, ◌+◌, ◌==◌, nat_eq, nat_le, nat_lt, Bool, false, true, ◌&&◌, not, ℤ, if◌then◌else◌, List, [], ◌∷◌, ◌++◌, length, take, drop, slice_range, Option, None, Some, Result, Ok, Err}
+use Rattle.std.specs.Prelude.{ℕ, ◌+◌, ◌==◌, nat_eq, nat_le, nat_lt, Bool, false, true, ◌&&◌, not, if◌then◌else◌, List, [], ◌∷◌, ◌++◌, length, take, drop, slice_range, Option, None, Some, Result, Ok, Err}
 use Rattle.std.specs.List.{join_with_byte, list_any, starts_with}
 use Rattle.std.specs.Option.{ok_or, option_map}
 use Rattle.std.specs.Result.{result_map_both}
@@ -69,14 +69,9 @@ abbrev pub sending_line : Result Sent Fault → Regrouped → Regrouped
 sending_line (Ok sent) rest = sending sent rest
 sending_line (Err fault) rest = returning (Some (Err fault))
 
--- the number that the text of a line parses as, or the fault of the text
-abbrev pub number_in_text : FormatData → ℕ → List ℕ → Result ℤ Fault
-number_in_text from number text =
-    if is_utf8 text then result_map_both (λ value. value) (Line number) (number_read from text) else Err (NotText number)
-
 -- the text that is written in place of that of a number, or the fault of that text
 abbrev pub number_written : Reading → FormatData → FormatData → ℕ → List ℕ → Result (List ℕ) Fault
-number_written Lenient from to number text = result_map_both (text_of to) (λ fault. fault) (number_in_text from number text)
+number_written Lenient from to number text = if is_utf8 text then result_map_both (text_of to) (Line number) (number_read from text) else Err (NotText number)
 number_written Strict from to number text =
     if is_utf8 text then ok_or (option_map (decimal_text to) (decimal_read from text)) (Line number (ParseNumber (cut_text text))) else Err (NotText number)
 
@@ -90,17 +85,15 @@ place_written rules from to number text place =
     if rules.passes_empty && (place.0 == place.1) then Ok text else
     between (take place.0 text) (drop place.1 text) (number_written rules.reading from to number (slice_range text place.0 place.1))
 
--- the text that is written in place of that of a number in a field, or the fault of that text: where there may be quotes, no number has one
-abbrev pub number_in_field : Rules → (quotes : Bool) → FormatData → FormatData → ℕ → List ℕ → Result (Option (List ℕ)) Fault
-number_in_field rules quotes from to number text =
-    if quotes && list_any (is_barred rules.line_end) text then Err (text_fault number text) else
-    result_map_both Some (λ fault. fault) (number_written rules.reading from to number text)
-
--- the same of a field, or nothing where the number has no byte and that is no fault
+-- the text that is written in place of that of the number in a field, or its fault, or nothing where it has no byte and that is no fault: where
+-- there may be quotes, no number has one
 abbrev pub field_read : Rules → (quotes : Bool) → FormatData → FormatData → ℕ → (field : List ℕ) → Result (Option (List ℕ)) Fault
 field_read rules quotes from to number field =
     let place = number_place quotes field in
-    if rules.passes_empty && (place.0 == place.1) then Ok None else number_in_field rules quotes from to number (slice_range field place.0 place.1)
+    let text = slice_range field place.0 place.1 in
+    if rules.passes_empty && (place.0 == place.1) then Ok None else
+    if quotes && list_any (is_barred rules.line_end) text then Err (text_fault number text) else
+    result_map_both Some (λ fault. fault) (number_written rules.reading from to number text)
 
 -- the field of the last number, which may be chosen: its fault names it
 abbrev pub field_written : Rules → Fields → FormatData → FormatData → ℕ → ℕ → (chosen : Bool) → List ℕ → Result (List ℕ) Fault

@@ -13,7 +13,6 @@ ghost use Rattle.regroup_lines.specs.Lines.{after, field_read, field_written, fi
 ghost use Rattle.regroup_lines.specs.Numbers.{number_text};
 ghost use Rattle.regroup_lines.specs.Places.{trimmed};
 ghost use Rattle.regroup_lines.specs.Sending.{SendsLine};
-ghost use Rattle.regroup_lines.specs.declared.rules.Rules.{Rules};
 
 use crate::ends::{find_end, len_without};
 use crate::fields::Quotes::{Doubled, Plain};

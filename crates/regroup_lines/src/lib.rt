@@ -39,7 +39,7 @@ ghost use Rattle.regroup_lines.specs.Input.{IsLong, array_len, held};
 ghost use Rattle.regroup_lines.specs.LineFaults.{line_fault_of};
 ghost use Rattle.regroup_lines.specs.Lines.{body_written, fault_named, fault_sent, lenient, line_after, long_fault, numbers_replaced, passes_mark, place_written, quotes_in, record_sent, text_sent};
 ghost use Rattle.regroup_lines.specs.Records.{after_text, line_reached};
-ghost use Rattle.regroup_lines.specs.Messages.{fault_message, messages};
+ghost use Rattle.regroup_lines.specs.Messages.{messages};
 ghost use Rattle.regroup_lines.specs.Places.{place_of};
 ghost use Rattle.regroup_lines.specs.declared.rules.Span.TheVariants.{Trimmed};
 ghost use Rattle.regroup_lines.specs.Sending.{Names, PassesLong, Regroups, RegroupsNaming, SendsBytes, SendsEach, SendsLine, by_writer};

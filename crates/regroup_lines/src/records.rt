@@ -1,6 +1,5 @@
 //! Where records of RFC 4180 end: a byte in quotes ends no field and no record.
 ghost use Rattle.std.specs.Prelude.{◌≡◌, ◌==◌, ◌&&◌, not};
-ghost use Rattle.std.specs.List.{count_by};
 ghost use Rattle.regroup_lines.specs.Lines.{quotes_in};
 ghost use Rattle.regroup_lines.specs.Records.{after_bare, after_byte, after_next, after_text, is_inside, is_open, line_reached};
 

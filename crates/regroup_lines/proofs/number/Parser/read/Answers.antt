@@ -1,6 +1,6 @@
 use Rattle.regroup_lines.proofs.Common.{DecimalResult, Err, FixedPoint, FormatData, List, MarksDecimals, MatchOption, None, Ok, Option, ParseDecimalError, Result, SFits, Some, ap, number_written, rules, subst, sym, text_fault, text_of, w128, ℕ, ◌∙◌, ◌≡◌}
 use Rattle.std.proofs.lemmas.Int.{to_z-of_z}
-use Rattle.regroup_lines.proofs.TextLemmas.{lenient-fault, lenient-read, number_in_text-accepted, number_in_text-refused, strict-accepted, strict-ambiguous, strict-refused}
+use Rattle.regroup_lines.proofs.TextLemmas.{lenient-accepted, lenient-refused, strict-accepted, strict-ambiguous, strict-refused}
 use Rattle.regroup_lines.proofs.number.Parser.read.Goals as goal
 
 -- the parser is one of the format
@@ -31,17 +31,12 @@ returns-in-None g c to =
 pub returns-in-Ok-from_formatted_bytes : goal.returns-in-Ok-from_formatted_bytes
 returns-in-Ok-from_formatted_bytes g c to =
     let from = g.F.Format.answers c.self.inside.format.now in
-    let text = c.args.text.now in
     let value = c.in-Ok-from_formatted_bytes.value in
     let fits : SFits w128 value = search rules in
-    let read = number_in_text-accepted from c.args.number text value c.in-Ok-from_formatted_bytes.ensures.number c.in-Ok-from_formatted_bytes.ensures.accepted in
-    rw (← c.self.view_is) (subst (λ reading. number_written reading from to c.args.number text ≡ Ok (text_of to value)) (sym c.in-Lenient.is) (lenient-read from to c.args.number text value read)
+    rw (← c.self.view_is, c.in-Lenient.is) (lenient-accepted from to c.args.number c.args.text.now value c.in-Ok-from_formatted_bytes.ensures.number c.in-Ok-from_formatted_bytes.ensures.accepted
     ∙ ap (λ n. Ok (text_of to n)) (sym (to_z-of_z w128 value fits)))
 
 pub returns-in-Err-from_formatted_bytes : goal.returns-in-Err-from_formatted_bytes
 returns-in-Err-from_formatted_bytes g c to =
-    let from = g.F.Format.answers c.self.inside.format.now in
-    let text = c.args.text.now in
-    rw (← c.self.view_is) (subst (λ reading. number_written reading from to c.args.number text ≡ Err (text_fault c.args.number text)) (sym c.in-Lenient.is)
-    (lenient-fault from to c.args.number text (text_fault c.args.number text)
-    (number_in_text-refused from c.args.number text _ c.in-Err-from_formatted_bytes.ensures.not_utf8 c.in-Err-from_formatted_bytes.ensures.refused)))
+    rw (← c.self.view_is, c.in-Lenient.is)
+    (lenient-refused (g.F.Format.answers c.self.inside.format.now) to c.args.number c.args.text.now _ c.in-Err-from_formatted_bytes.ensures.not_utf8 c.in-Err-from_formatted_bytes.ensures.refused)
