@@ -1,5 +1,5 @@
 -- The bytes that an input holds, read after read.
-use Rattle.regroup_lines.proofs.Common.{All, Bool, Consumes, Consumes-kept, Consumes-nil, Consumes-trans, EndsOrGoesOn, FindsEnd, FindsPiece, HasNoEnd, Input, IsAtEnd, IsRecord, Keeps, List, MatchOption, None, Option, Piece, Range, Reads, Some, Within, [], ap, append-nil, append_assoc, arith, array_len, bytes_at, drop, drop-append-le, drop-drop, drop-take, drop_at, eqb-true, false, false_from_ne_true, get_or, get_or-drop, get_or-take, held, is_some, length, length-drop, length-take, length-take-le, not, refl, slice_range, subst, sym, take, take-add, take-append-le, take_all, take_at, take_rest, true, ℕ, ◌++◌, ◌+◌, ◌-◌, ◌<◌, ◌==◌, ◌∙◌, ◌∷◌, ◌≡◌, ◌≤◌}
+use Rattle.regroup_lines.proofs.Common.{◌≢◌, eq-eqb, both_ways, All, Bool, Consumes, Consumes-kept, Consumes-nil, Consumes-trans, EndsOrGoesOn, FindsEnd, FindsPiece, HasNoEnd, Input, IsAtEnd, IsRecord, Keeps, List, MatchOption, None, Option, Piece, Range, Reads, Some, Within, [], ap, append-nil, append_assoc, arith, array_len, bytes_at, drop, drop-append-le, drop-drop, drop-take, drop_at, eqb-true, false, false_from_ne_true, get_or, get_or-drop, get_or-take, held, is_some, length, length-drop, length-take, length-take-le, not, refl, slice_range, subst, sym, take, take-add, take-append-le, take_all, take_at, take_rest, true, ℕ, ◌++◌, ◌+◌, ◌-◌, ◌<◌, ◌==◌, ◌∙◌, ◌∷◌, ◌≡◌, ◌≤◌}
 use Rattle.std.proofs.lemmas.List.Elements.{All-from_get_or}
 use borrow.Rule.Slice.PartMut.{put_mid, post_of}
 use Rattle.memchr.specs.Find.{IsFirstByte, is_byte}
@@ -80,13 +80,16 @@ module _ (byte : ℕ) (bytes : List ℕ) (start : ℕ) where
   pub none-there : IsFirstByte (is_byte byte) searched None → All (λ b. (b == byte) ≡ false) searched
   none-there nowhere = All-from_get_or (λ b. (b == byte) ≡ false) searched 0 (λ k inside. false_from_ne_true _ (nowhere k (omega arith) inside))
 
--- whether a byte follows
-pub ends_or_goes_on : (bytes : List ℕ) (a b : Option (List ℕ)) (read : Option ℕ) (end : Bool) → bytes ≡ [] → is_some read ≡ not end →
-    MatchOption read (Consumes a b [] × IsAtEnd b) (λ byte. Consumes a b (byte ∷ [])) → EndsOrGoesOn bytes a b end
-ends_or_goes_on bytes a b None true empty is read = (record { given = []; joined = append-nil bytes ∙ empty; consumed = read.0 }, read.1)
-ends_or_goes_on bytes a b (Some byte) false empty is read =
-    (byte ∷ [], record { given = byte ∷ []; joined = ap (λ l. l ++ byte ∷ []) empty; consumed = read }, omega arith)
-ends_or_goes_on bytes a b found end empty is read = absurd (cc)
+-- whether a byte follows, by how many were read
+pub ends_or_goes_on : (bytes buf : List ℕ) (a b : Option (List ℕ)) (n : ℕ) (end : Bool) → (n == 0) ≡ end → bytes ≡ [] → n ≤ length buf → 0 < length buf →
+    Consumes a b (take n buf) × (n ≡ 0 → 0 < length buf → IsAtEnd b) → EndsOrGoesOn bytes a b end
+ends_or_goes_on bytes buf a b n true is empty bound room read =
+    let none = eqb-true n 0 is in
+    (record { given = []; joined = append-nil bytes ∙ empty; consumed = subst (λ k. Consumes a b (take k buf)) none read.0 }, read.1 none room)
+ends_or_goes_on bytes buf a b n false is empty bound room read =
+    let some : n ≢ 0 = λ none. both_ways (n == 0) is (eq-eqb n 0 none) in
+    let text = take n buf in
+    (text, record { given = text; joined = ap (λ l. l ++ text) empty; consumed = read.0 }, omega (arith, some, length-take-le n buf bound))
 
 -- the record before the first byte that ends one
 pub record_found : (q : Option ℕ) (line_end : ℕ) (w : Within) (before bytes text left : List ℕ) (a b : Option (List ℕ)) (n : ℕ) → Reads before bytes a b → FindsEnd q line_end w bytes (Some n) → text ≡ take n bytes →

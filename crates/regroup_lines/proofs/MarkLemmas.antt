@@ -29,11 +29,11 @@ module _ (rules : Rules) (from to : FormatData) (number : ℕ) (text : List ℕ)
 
   module _ (b : Option (List ℕ)) (sound : SendsLine {T = done} rules.line_end rest s t (Ok tt)) where
     -- it is not, and the mark is not sent
-    pub mark-unsent : (f : Fault) → (f ≡ Write) × StopsWithin a b MARK → Sends_marked b (Err f)
-    mark-unsent f stops = marked b (Err f) (by rest sound)
+    pub mark-unsent : StopsWithin a b MARK → Sends_marked b (Err Write)
+    mark-unsent stops = marked b (Err Write) (by rest sound)
       where
-        by : (r : Result (List ℕ) Fault) → SendsLine {T = done} rules.line_end r s t (Ok tt) → SendsLine {T = done} rules.line_end (after MARK r) a b (Err f)
-        by (Ok text) is = (stops.0, StopsWithin_prefix a b MARK (ended_by rules.line_end text) stops.1)
+        by : (r : Result (List ℕ) Fault) → SendsLine {T = done} rules.line_end r s t (Ok tt) → SendsLine {T = done} rules.line_end (after MARK r) a b (Err Write)
+        by (Ok text) is = (refl, StopsWithin_prefix a b MARK (ended_by rules.line_end text) stops)
         by (Err g) is = absurd is
 
     -- or the mark is sent, and then the line

@@ -7,15 +7,10 @@ use Rattle.regroup_lines.specs.Fault.Fault.{Write}
 use Rattle.regroup_lines.specs.Lists.{one_field}
 use Rattle.regroup_lines.specs.declared.rules.Fields.{Fields}
 
--- what a call that sends a text does, if there is no fault in its place
-abbrev pub SendsIfOk : {T : Type 0} → Result (List ℕ) Fault → Option (List ℕ) → Option (List ℕ) → Result T Fault → Type 0
-SendsIfOk (Ok text) old new (Ok sent) = Appends old new text
-SendsIfOk (Ok text) old new (Err fault) = (fault ≡ Write) × StopsWithin old new text
-SendsIfOk (Err fault) old new result = ⊤
-
 -- what a call that sends a text does, or one that sends nothing and does not fail
 abbrev pub SendsIf : {T : Type 0} → (sends : Bool) → List ℕ → Option (List ℕ) → Option (List ℕ) → Result T Fault → Type 0
-SendsIf true text old new result = SendsIfOk (Ok text) old new result
+SendsIf true text old new (Ok sent) = Appends old new text
+SendsIf true text old new (Err fault) = (fault ≡ Write) × StopsWithin old new text
 SendsIf false text old new (Ok sent) = new ≡ old
 SendsIf false text old new (Err fault) = ⊥
 

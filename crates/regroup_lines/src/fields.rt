@@ -7,7 +7,7 @@ ghost use Rattle.num_format.specs.Format.{FormatData};
 ghost use Rattle.num_format.specs.Writing.{Sends};
 ghost use Rattle.regroup_lines.specs.Ended.{ended_by};
 ghost use Rattle.regroup_lines.specs.Csv.{bare_of, before_field, doubled, enclosed, field_with, front_of, is_barred, is_opened, is_quoted, needs_quotes, number_place, output_as, part_text, placed, quoted_len, quoted_of};
-ghost use Rattle.regroup_lines.specs.Fields.{IsOnly, SendsIf, SendsIfOk, SendsOrFails, SendsUnless};
+ghost use Rattle.regroup_lines.specs.Fields.{IsOnly, SendsIf, SendsOrFails, SendsUnless};
 ghost use Rattle.regroup_lines.specs.LineFaults.{line_fault_of};
 ghost use Rattle.regroup_lines.specs.Lines.{after, field_read, field_written, fields_of, fields_replaced, line_ended};
 ghost use Rattle.regroup_lines.specs.Numbers.{number_text};
@@ -18,7 +18,7 @@ use crate::ends::{find_end, len_without};
 use crate::fields::Quotes::{Doubled, Plain};
 use crate::job::Job;
 use crate::line_fault::LineFault;
-use crate::number::{Number, send_whole};
+use crate::number::Number;
 use crate::pass_on;
 use crate::records::{QUOTE, Within};
 use crate::rules::{Fields, Output, Rules, trim};
@@ -574,12 +574,4 @@ fn send_doubled<W: Write>(text: &[u8], w: &mut W) -> io::Result<()>
         }
     }
     Ok(())
-}
-
-/// Sends bytes.
-pub(crate) fn send_bytes<W: Write>(bytes: &[u8], w: &mut W) -> Result<(), LineFault<'static>>
-    ensures { SendsIfOk (Ok bytes.now) (W.contents w.old) (W.contents w.new)
-        (result_map_both (λ sent. sent) line_fault_of result) }
-{
-    send_whole(bytes, w).or(Err(LineFault::Write))
 }

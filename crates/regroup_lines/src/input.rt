@@ -1,6 +1,6 @@
 //! The input, piece by piece.
-ghost use Rattle.std.specs.Prelude.{◌≡◌, ◌+◌, ◌≤◌, ◌<◌, [], ◌∷◌, length, take, drop, IfErr, IfOk, OnErr, IsNone, MatchOption};
-ghost use Rattle.std.specs.Io.KnownBytes.{Consumes, IsAtEnd, Keeps};
+ghost use Rattle.std.specs.Prelude.{◌≡◌, ◌+◌, ◌≤◌, ◌<◌, [], length, take, drop, IfErr, IfOk, OnErr, IsNone};
+ghost use Rattle.std.specs.Io.KnownBytes.{IsAtEnd, Keeps};
 ghost use Rattle.regroup_lines.specs.LineFaults.{IsHalt, line_fault_of};
 ghost use Rattle.regroup_lines.specs.Lines.{quotes_in};
 
@@ -8,7 +8,6 @@ use crate::ends::find_end;
 use crate::line_fault::LineFault;
 use crate::records::Within;
 use crate::rules::Rules;
-use std::io;
 use std::io::{Read, Write};
 use std::ops::Range;
 
@@ -121,10 +120,11 @@ impl<'a> Input<'a> {
             return Ok(false);
         }
         flush_before_read(flushes, writer)?;
-        let Ok(byte) = read_byte(reader) else {
+        let mut byte = [0];
+        let Ok(count) = reader.read(&mut byte) else {
             return Err(LineFault::Read);
         };
-        Ok(byte.is_none())
+        Ok(count == 0)
     }
 
     /// Returns the bytes that are held.
@@ -186,18 +186,24 @@ impl<'a> Input<'a> {
             if searched == self.array.len() {
                 return Ok(None);
             }
-            flush_before_read(rules.flushes, writer)?;
-            let Ok(count) = self.read_more(reader) else {
-                return Err(LineFault::Read);
-            };
+            let count = self.read_more(rules.flushes, reader, writer)?;
             if count == 0 {
                 return Ok(None);
             }
         }
     }
 
-    /// Reads more bytes by one read, and returns how many.
-    fn read_more<R: Read>(&mut self, reader: &mut R) -> io::Result<usize>
+    /// Reads more bytes by one read, and returns how many. The writer is flushed before it, if `flushes` says so.
+    ///
+    /// # Errors
+    ///
+    /// Returns whether the read or the flush fails.
+    fn read_more<R: Read, W: Write>(
+        &mut self,
+        flushes: bool,
+        reader: &mut R,
+        writer: &mut W,
+    ) -> Result<usize, LineFault<'static>>
         requires { length (held self.old) < array_len self.old }
         ensures read { Reads (held self.old) (held self.new)
             (R.remaining reader.old) (R.remaining reader.new) }
@@ -205,11 +211,16 @@ impl<'a> Input<'a> {
         ensures end { IfOk result (λ count. count ≡ 0 → IsAtEnd (R.remaining reader.new)) }
         ensures failed { OnErr result (held self.new ≡ held self.old) }
         ensures len { array_len self.new ≡ array_len self.old }
+        ensures halt { IfErr result (λ fault. IsHalt flushes (line_fault_of fault)) }
+        ensures flushed { Keeps (W.contents writer.old) (W.contents writer.new) }
     {
+        flush_before_read(flushes, writer)?;
         self.move_to_front();
         let end = self.end;
         let room = self.array.len() - end;
-        let count = reader.read(&mut self.array[end..end + room.min(MAX_READ_LEN)])?;
+        let Ok(count) = reader.read(&mut self.array[end..end + room.min(MAX_READ_LEN)]) else {
+            return Err(LineFault::Read);
+        };
         self.end = end + count;
         Ok(count)
     }
@@ -238,17 +249,4 @@ fn flush_before_read<W: Write>(flushes: bool, writer: &mut W) -> Result<(), Line
         return Ok(());
     }
     writer.flush().or(Err(LineFault::Flush))
-}
-
-/// Reads one byte. Returns `None` if the reader ends.
-fn read_byte<R: Read>(reader: &mut R) -> io::Result<Option<u8>>
-    ensures byte { IfOk result (λ read. MatchOption read
-        (Consumes (R.remaining reader.old) (R.remaining reader.new) []
-        × IsAtEnd (R.remaining reader.new))
-        (λ byte. Consumes (R.remaining reader.old) (R.remaining reader.new) (byte ∷ []))) }
-    ensures failed { OnErr result (Keeps (R.remaining reader.old) (R.remaining reader.new)) }
-{
-    let mut byte = [0];
-    let count = reader.read(&mut byte)?;
-    Ok((count > 0).then_some(byte[0]))
 }

@@ -46,13 +46,13 @@ ghost use Rattle.regroup_lines.specs.Sending.{Names, PassesLong, Regroups, Regro
 
 use crate::ends::without_end;
 pub use crate::fault::{FieldCount, RegroupFault};
-use crate::fields::{regroup_fields, send_bytes};
+use crate::fields::regroup_fields;
 use crate::input::{Input, Piece};
 use crate::job::Job;
 use crate::line_fault::LineFault;
 pub use crate::list::field_list;
 pub use crate::message::{MAX_DISPLAYED_LEN, MAX_FAULT_MESSAGE_LEN, MAX_NAME_LEN, fault_message};
-use crate::number::{Around, Parser};
+use crate::number::{Around, Parser, send_whole};
 pub use crate::quoting::{MAX_QUOTED_LEN, quoted, shown};
 use crate::records::{Within, is_open, line_reached};
 use crate::rules::{MARK, trim};
@@ -504,8 +504,10 @@ fn regroup_marked<'a, W: Write, F: Format, G: Format>(
     let rest = &text[MARK.len()..];
     // Of a line at fault nothing is sent, so it is read before the mark is sent.
     regroup_numbers(job, rest, number, &mut io::sink())?;
-    send_bytes(&MARK, w)?;
-    regroup_numbers(job, rest, number, w)
+    match send_whole(&MARK, w) {
+        Ok(()) => regroup_numbers(job, rest, number, w),
+        Err(_) => Err(LineFault::Write),
+    }
 }
 
 /// Sends a line with its numbers regrouped, and the byte that ends it.

@@ -10,16 +10,18 @@ pub returns-then-end-bytes-clause-found : goal.returns-then-end-bytes-clause-fou
 returns-then-end-bytes-clause-found g c =
     Searched-found (Searched-on c.quotes.ensures c.held-bytes.ensures.value c.reads.invariant.2 c.find_end-end.ensures) c.held-bytes.result.now c.held-bytes.ensures.value c.if-end-bytes.true (c.find_end-end.ensures.found c.if-end-bytes.true)
 
-pub returns-in_default-clause-read : goal.returns-in_default-clause-read
-returns-in_default-clause-read g c = Reads-trans _ _ _ _ _ _ c.reads.invariant.0 c.in_default.ensures.read
+pub returns-in_err-count-clause-read : goal.returns-in_err-count-clause-read
+returns-in_err-count-clause-read g c = Reads-trans _ _ _ _ _ _ c.reads.invariant.0 c.in_err-count.ensures.read
 
-pub returns-in_default-clause-failed : goal.returns-in_default-clause-failed
-returns-in_default-clause-failed g c =
-    let same = c.in_default.ensures.failed in
-    let len = ap length same in (
+pub returns-in_err-count-clause-failed : goal.returns-in_err-count-clause-failed
+returns-in_err-count-clause-failed g c =
+    let same = c.in_err-count.ensures.failed in
+    let len = ap length same in
+    let failed : HasNoEnd (quotes_in c.args.rules.now.span) c.args.rules.now.line_end c.args.within (held c.read_more.new.self) × (length (held c.read_more.new.self) < array_len c.read_more.new.self) = (
       subst (HasNoEnd (quotes_in c.args.rules.now.span) c.args.rules.now.line_end c.args.within) (sym same) (Searched-past c.quotes.ensures c.held-bytes.ensures.value c.reads.invariant.2 c.find_end-end.ensures c.if-end-bytes.false),
       omega (arith, len, ap length c.held-bytes.ensures.value, c.held-bytes.ensures.fits, c.find_end-end.ensures.inside, c.if-end-bytes.false, c.if-searched-self.false),
-    )
+    ) in
+    OnErr-always _ _ failed
 
 pub returns-then-searched-self-clause-found : goal.returns-then-searched-self-clause-found
 returns-then-searched-self-clause-found g c =
@@ -27,34 +29,23 @@ returns-then-searched-self-clause-found g c =
 
 pub returns-then-count-eq0-clause-found : goal.returns-then-count-eq0-clause-found
 returns-then-count-eq0-clause-found g c =
-    let same = read-nothing _ _ _ _ c.in-Ok.ensures.read (omega (arith, c.in-Ok.ensures.count, c.if-count-eq0.true)) in
+    let same = read-nothing _ _ _ _ c.in_ok-count.ensures.read (omega (arith, c.in_ok-count.ensures.count, c.if-count-eq0.true)) in
     subst (HasNoEnd (quotes_in c.args.rules.now.span) c.args.rules.now.line_end c.args.within) (sym same) (Searched-past c.quotes.ensures c.held-bytes.ensures.value c.reads.invariant.2 c.find_end-end.ensures c.if-end-bytes.false)
 
-pub returns-in_err-flush_before_read-clause-failed : goal.returns-in_err-flush_before_read-clause-failed
-returns-in_err-flush_before_read-clause-failed g c =
-    let failed : HasNoEnd (quotes_in c.args.rules.now.span) c.args.rules.now.line_end c.args.within (held c.reads.self) × (length (held c.reads.self) < array_len c.reads.self) = (
-      Searched-past c.quotes.ensures c.held-bytes.ensures.value c.reads.invariant.2 c.find_end-end.ensures c.if-end-bytes.false,
-      omega (arith, ap length c.held-bytes.ensures.value, c.held-bytes.ensures.fits, c.find_end-end.ensures.inside, c.if-end-bytes.false, c.if-searched-self.false),
-    ) in
-    OnErr-always _ _ failed
-
-pub returns-in_err-flush_before_read-clause-flushed : goal.returns-in_err-flush_before_read-clause-flushed
-returns-in_err-flush_before_read-clause-flushed g c = Keeps-trans _ _ (g.W.Write.contents c.flush_before_read.new.writer) c.reads.invariant.4 c.in_err-flush_before_read.ensures.flushed
-
-pub returns-in_default-clause-flushed : goal.returns-in_default-clause-flushed
-returns-in_default-clause-flushed g c = Keeps-trans _ _ (g.W.Write.contents c.flush_before_read.new.writer) c.reads.invariant.4 c.in_ok-flush_before_read.ensures.flushed
+pub returns-in_err-count-clause-flushed : goal.returns-in_err-count-clause-flushed
+returns-in_err-count-clause-flushed g c = Keeps-trans _ _ _ c.reads.invariant.4 c.in_err-count.ensures.flushed
 
 pub returns-then-count-eq0-clause-flushed : goal.returns-then-count-eq0-clause-flushed
-returns-then-count-eq0-clause-flushed g c = Keeps-trans _ _ (g.W.Write.contents c.flush_before_read.new.writer) c.reads.invariant.4 c.in_ok-flush_before_read.ensures.flushed
+returns-then-count-eq0-clause-flushed g c = Keeps-trans _ _ _ c.reads.invariant.4 c.in_ok-count.ensures.flushed
 
 pub reads-preserved : goal.reads-preserved
 reads-preserved g c =
     let all : c.find_end-end.result.0 ≡ length (held c.reads.self) = omega (arith, ap length c.held-bytes.ensures.value, c.find_end-end.ensures.inside, c.if-end-bytes.false) in
-    let front = read-searched _ _ _ _ c.find_end-end.result.0 c.in-Ok.ensures.read all in
+    let front = read-searched _ _ _ _ c.find_end-end.result.0 c.in_ok-count.ensures.read all in
     let on = Searched-on c.quotes.ensures c.held-bytes.ensures.value c.reads.invariant.2 c.find_end-end.ensures in (
-      Reads-trans _ _ _ _ _ _ c.reads.invariant.0 c.in-Ok.ensures.read,
-      omega (arith, all, c.in-Ok.ensures.count),
+      Reads-trans _ _ _ _ _ _ c.reads.invariant.0 c.in_ok-count.ensures.read,
+      omega (arith, all, c.in_ok-count.ensures.count),
       record { none = subst (HasNoEnd (quotes_in c.args.rules.now.span) c.args.rules.now.line_end c.args.within) front on.none; there = on.there ∙ ap (after_text (quotes_in c.args.rules.now.span) c.args.within) front },
-      c.in-Ok.ensures.len ∙ c.reads.invariant.3,
-      Keeps-trans _ _ (g.W.Write.contents c.flush_before_read.new.writer) c.reads.invariant.4 c.in_ok-flush_before_read.ensures.flushed,
+      c.in_ok-count.ensures.len ∙ c.reads.invariant.3,
+      Keeps-trans _ _ _ c.reads.invariant.4 c.in_ok-count.ensures.flushed,
     )

@@ -2,20 +2,23 @@ use Rattle.regroup_lines.proofs.Common.{◌≤◌, ◌++◌, length, take, ap, s
 use Rattle.regroup_lines.proofs.InputLemmas.{Reads-kept, Reads-none, Reads-same, range-more, range-same}
 use Rattle.regroup_lines.proofs.input.Input.read_more.Goals as goal
 
-pub returns-in_err-count-clause-read : goal.returns-in_err-count-clause-read
-returns-in_err-count-clause-read g c =
+pub returns-in_err-flush_before_read-clause-read : goal.returns-in_err-flush_before_read-clause-read
+returns-in_err-flush_before_read-clause-read g c = Reads-none _ _
+
+pub returns-in_default-clause-read : goal.returns-in_default-clause-read
+returns-in_default-clause-read g c =
     let input = c.move_to_front.new.self in
     let same = range-same input.array.now c.read.new.buf input.start input.end _ input.ordered (omega arith) in
-    Reads-same _ _ _ _ _ (Reads-kept _ _ _ _ _ (Reads-none _ _) c.in_err-count.ensures.bytes) (same ∙ c.move_to_front.ensures.held)
+    Reads-same _ _ _ _ _ (Reads-kept _ _ _ _ _ (Reads-none _ _) c.in_default.ensures.bytes) (same ∙ c.move_to_front.ensures.held)
 
 pub returns-clause-read : goal.returns-clause-read
 returns-clause-read g c =
     let input = c.move_to_front.new.self in
-    let n = c.in_ok-count.count in
-    let fits : n ≤ length c.read.new.buf = c.in_ok-count.ensures.bound.0 in
+    let n = c.in-Ok.count in
+    let fits : n ≤ length c.read.new.buf = c.in-Ok.ensures.bound.0 in
     record {
       given = take n c.read.new.buf;
       joined = ap (λ l. l ++ take n c.read.new.buf) (sym c.move_to_front.ensures.held)
           ∙ sym (range-more input.array.now c.read.new.buf input.start input.end _ n input.ordered (omega arith) fits);
-      consumed = c.in_ok-count.ensures.bytes.0;
+      consumed = c.in-Ok.ensures.bytes.0;
     }
