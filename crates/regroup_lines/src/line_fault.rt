@@ -54,10 +54,17 @@ impl<'a> From<LineFault<'a>> for RegroupFault {
     /// the space of the copy.
     #[cold]
     #[inline(never)]
+    #[tactic(auto, using(crate::proofs::LineFaultLemmas::text_fault_utf8, crate::proofs::LineFaultLemmas::text_fault_bytes))]
     fn from(fault: LineFault<'a>) -> RegroupFault {
         match fault {
-            LineFault::NotANumber(number, text) => text_fault(number, text),
-            LineFault::NotAField(number, field, text) => field_fault(number, field, text),
+            LineFault::NotANumber(number, text) => match str::from_utf8(text) {
+                Ok(text) => RegroupFault::Line(number, error_of(text)),
+                Err(_) => RegroupFault::NotText(number),
+            },
+            LineFault::NotAField(number, field, text) => match str::from_utf8(text) {
+                Ok(text) => RegroupFault::Field(number, field, error_of(text)),
+                Err(_) => RegroupFault::FieldNotText(number, field),
+            },
             LineFault::FewFields(number, count) => RegroupFault::FewFields(number, count),
             LineFault::Unclosed(number) => RegroupFault::Unclosed(number),
             LineFault::Write => RegroupFault::Write,
@@ -66,28 +73,6 @@ impl<'a> From<LineFault<'a>> for RegroupFault {
             LineFault::Read => RegroupFault::Read,
             LineFault::Flush => RegroupFault::Flush,
         }
-    }
-}
-
-/// Returns the fault of a text that is not a number.
-#[tactic(auto, using(crate::proofs::LineFaultLemmas::text_fault_utf8, crate::proofs::LineFaultLemmas::text_fault_bytes))]
-fn text_fault(number: u64, text: &[u8]) -> RegroupFault
-    ensures { fault_of result ≡ text_fault number text.now }
-{
-    match str::from_utf8(text) {
-        Ok(text) => RegroupFault::Line(number, error_of(text)),
-        Err(_) => RegroupFault::NotText(number),
-    }
-}
-
-/// Returns the same of a text in the field of this number.
-#[tactic(auto, using(crate::proofs::LineFaultLemmas::text_fault_utf8, crate::proofs::LineFaultLemmas::text_fault_bytes))]
-fn field_fault(number: u64, field: u64, text: &[u8]) -> RegroupFault
-    ensures { fault_of result ≡ in_field field (text_fault number text.now) }
-{
-    match str::from_utf8(text) {
-        Ok(text) => RegroupFault::Field(number, field, error_of(text)),
-        Err(_) => RegroupFault::FieldNotText(number, field),
     }
 }
 

@@ -1,7 +1,7 @@
 //! Where records of RFC 4180 end: a byte in quotes ends no field and no record.
 ghost use Rattle.std.specs.Prelude.{◌≡◌, ◌==◌, ◌&&◌, not};
 ghost use Rattle.regroup_lines.specs.Lines.{quotes_in};
-ghost use Rattle.regroup_lines.specs.Records.{after_bare, after_byte, after_next, after_text, is_inside, is_open, line_reached};
+ghost use Rattle.regroup_lines.specs.Records.{after_byte, after_next, after_text, is_inside, is_open, line_reached};
 
 use crate::rules::Rules;
 
@@ -60,12 +60,11 @@ impl Within {
         ensures { result ≡ after_byte delimiter self byte }
     {
         match self {
-            Within::Start if byte == QUOTE => Within::Quoted,
-            Within::Start | Within::Bare => after_bare(delimiter, byte),
             Within::Quoted if byte == QUOTE => Within::Closing,
             Within::Quoted => Within::Quoted,
-            Within::Closing if byte == QUOTE => Within::Quoted,
-            Within::Closing => after_bare(delimiter, byte),
+            Within::Start | Within::Closing if byte == QUOTE => Within::Quoted,
+            _ if byte == delimiter => Within::Start,
+            _ => Within::Bare,
         }
     }
 
@@ -74,22 +73,7 @@ impl Within {
     pub(crate) fn is_inside(self) -> bool
         ensures { result ≡ is_inside self }
     {
-        match self {
-            Within::Quoted => true,
-            Within::Start | Within::Bare | Within::Closing => false,
-        }
-    }
-}
-
-/// Returns where the byte after this one is, which opens no quotes.
-#[inline]
-fn after_bare(delimiter: u8, byte: u8) -> Within
-    ensures { result ≡ after_bare delimiter byte }
-{
-    if byte == delimiter {
-        Within::Start
-    } else {
-        Within::Bare
+        matches!(self, Within::Quoted)
     }
 }
 

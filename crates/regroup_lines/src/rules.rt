@@ -136,10 +136,7 @@ impl Invalid {
     pub(crate) fn passes(self) -> bool
         ensures { result ≡ passes self }
     {
-        match self {
-            Invalid::Abort => false,
-            Invalid::Fail | Invalid::Warn | Invalid::Ignore => true,
-        }
+        !matches!(self, Invalid::Abort)
     }
 }
 
@@ -199,10 +196,7 @@ impl Quoting {
     pub(crate) fn keeps(self) -> bool
         ensures { result ≡ keeps self }
     {
-        match self {
-            Quoting::Keep => true,
-            Quoting::Necessary => false,
-        }
+        matches!(self, Quoting::Keep)
     }
 }
 
