@@ -19,9 +19,9 @@ use crate::fields::Quotes::{Doubled, Plain};
 use crate::job::Job;
 use crate::line_fault::LineFault;
 use crate::number::Number;
-use crate::pass_on;
 use crate::records::{QUOTE, Within};
 use crate::rules::{Fields, Output, Rules, trim};
+use crate::write_both;
 use num_format::to_formatted_string::write_whole;
 use num_format::{Buffer, Format};
 use num_format_decimal::DecimalBuffer;
@@ -153,7 +153,7 @@ fn end_line<W: Write>(
     if !sends {
         return Ok(());
     }
-    pass_on(rest, rules.line_end, w).or(Err(LineFault::Write))
+    write_both(rest, &[rules.line_end], w).or(Err(LineFault::Write))
 }
 
 /// Returns where the field ends that begins at `start`: at the next delimiter that is not in quotes, or at the end of the line.
@@ -219,25 +219,16 @@ fn send_unchanged<W: Write>(
         let sent = send_all(&[(Plain, field.passed), (Plain, field.text)], w);
         return sent.or(Err(LineFault::Write));
     }
-    let place = text_start(fields.quotes, field.text);
-    let sent = send_text(rules, fields, field, place, "", w);
-    sent.or(Err(LineFault::Write))
-}
-
-/// Returns where the text of a field begins: after the quote that opens the field, if there is one.
-fn text_start(quotes: bool, field: &[u8]) -> Place
-    ensures quoted { result.is_quoted ≡ (quotes && is_opened field.now) }
-    ensures start { result.start ≡ cond (quotes && is_opened field.now) 1 0 }
-    ensures end { result.end ≡ result.start }
-    ensures within { result.end ≤ length field.now }
-{
-    let is_quoted = quotes && is_opened(field);
+    // Its text begins after the quote that opens it, if there is one.
+    let is_quoted = fields.quotes && is_opened(field.text);
     let start = is_quoted as usize;
-    Place {
+    let place = Place {
         start,
         end: start,
         is_quoted,
-    }
+    };
+    let sent = send_text(rules, fields, field, place, "", w);
+    sent.or(Err(LineFault::Write))
 }
 
 /// Returns whether a field begins with a quote.
@@ -245,10 +236,7 @@ fn is_opened(field: &[u8]) -> bool
     ensures value { result ≡ is_opened field.now }
     ensures some { result ≡ true → 1 ≤ length field.now }
 {
-    match field {
-        [byte, ..] => *byte == QUOTE,
-        [] => false,
-    }
+    matches!(field, [QUOTE, ..])
 }
 
 /// Returns where the number is in a field, which may be in quotes.

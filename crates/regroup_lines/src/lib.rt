@@ -323,7 +323,7 @@ fn regroup_line<'a, W: Write, E: Write, X: Write, F: Format, G: Format>(
         (result_map_both (λ told. told) line_fault_of result) }
 {
     if number <= job.rules.header_lines {
-        return match pass_on(text, job.rules.line_end, w) {
+        return match write_both(text, &[job.rules.line_end], w) {
             Ok(()) => Ok(false),
             Err(_) => Err(LineFault::Write),
         };
@@ -566,7 +566,7 @@ fn regroup_place<'a, W: Write, F: Format, G: Format>(
 {
     let (start, end) = (place.start, place.end);
     if job.rules.passes_empty && start == end {
-        return pass_on(text, job.rules.line_end, w).or(Err(LineFault::Write));
+        return write_both(text, &[job.rules.line_end], w).or(Err(LineFault::Write));
     }
     let around = Around {
         before: &text[..start],
@@ -578,13 +578,6 @@ fn regroup_place<'a, W: Write, F: Format, G: Format>(
     value
         .send_line(&around, job.rules.line_end, w, job.to)
         .or(Err(LineFault::Write))
-}
-
-/// Sends a line as it is, and the byte that ends it.
-fn pass_on<W: Write>(text: &[u8], line_end: u8, w: &mut W) -> io::Result<()>
-    ensures { Sends result (W.contents w.old) (W.contents w.new) (ended_by line_end text.now) }
-{
-    write_both(text, &[line_end], w)
 }
 
 /// Writes bytes, and others after them.
