@@ -20,7 +20,7 @@ use crate::job::Job;
 use crate::line_fault::LineFault;
 use crate::number::Number;
 use crate::records::{QUOTE, Within};
-use crate::rules::{Fields, Output, Rules, trim};
+use crate::rules::{Fields, Output, Quoting, Rules, trim};
 use crate::write_both;
 use num_format::to_formatted_string::write_whole;
 use num_format::{Buffer, Format};
@@ -429,7 +429,7 @@ fn send_output<'a, W: Write>(
     let (after, end) = after.split_at(len_without(b'\r', after));
     let (front, quoted, bare) = text_around(is_quoted, before, after);
     let parts = [front, text, quoted, bare];
-    let is_kept = is_quoted && output.quoting.keeps();
+    let is_kept = is_quoted && matches!(output.quoting, Quoting::Keep);
     if is_kept || any_part_needs_quotes(output.delimiter, line_end, &parts) {
         send_all(
             &[

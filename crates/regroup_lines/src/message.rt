@@ -132,19 +132,18 @@ fn line_message(name: &str, line: Option<u64>, cause: &str) -> ArrayString<MAX_F
     requires { length cause.now ≤ MAX_CAUSE_LEN }
     ensures { result.bytes ≡ line_message name.now line cause.now }
 {
-    let mut message = ArrayString::new();
-    let Some(number) = line else {
-        return message;
-    };
-    let mut digits = itoa::Buffer::new();
-    message.push_str("regroup-lines: ");
-    message.push_str(shown::<MAX_NAME_LEN>(name.as_bytes()).as_str());
-    message.push(':');
-    message.push_str(digits.format(number));
-    message.push_str(": ");
-    message.push_str(cause);
-    message.push('\n');
-    message
+    match line {
+        None => ArrayString::new(),
+        Some(number) => joined!(
+            "regroup-lines: ",
+            shown::<MAX_NAME_LEN>(name.as_bytes()).as_str(),
+            ":",
+            itoa::Buffer::new().format(number),
+            ": ",
+            cause,
+            "\n"
+        ),
+    }
 }
 
 /// Returns what is said of the field of this number.

@@ -1,10 +1,9 @@
 //! How the lines of an input are regrouped, and where the numbers of a line are.
 ghost use Rattle.std.specs.Prelude.{◌≡◌, ◌<◌, ◌≤◌, ◌||◌, [], ◌∷◌, length, None, IfSome};
 ghost use Rattle.std.specs.Option.{is_some};
-ghost use Rattle.regroup_lines.specs.Csv.{keeps};
 ghost use Rattle.regroup_lines.specs.Lines.{passes, passes_mark, quotes_in, quotes_of};
 ghost use Rattle.regroup_lines.specs.Lists.{one_field};
-ghost use Rattle.regroup_lines.specs.Places.{are_enough, field_count, is_at_most, is_chosen, is_chosen_from, is_in_range, place_of, trimmed, wanted, wanted_of};
+ghost use Rattle.regroup_lines.specs.Places.{are_enough, field_count, is_at_most, is_chosen, is_chosen_from, place_of, trimmed, wanted, wanted_of};
 
 use crate::fault::FieldCount;
 use crate::records::QUOTE;
@@ -166,13 +165,6 @@ impl Rules<'_> {
 }
 
 impl FieldRange {
-    /// Returns whether the field of this number is in the range.
-    fn contains(&self, number: u64) -> bool
-        ensures { result ≡ is_in_range number self.now }
-    {
-        self.first <= number && self.reaches(number)
-    }
-
     /// Returns whether the number is at most that of the last field.
     fn reaches(&self, number: u64) -> bool
         ensures { result ≡ is_at_most number self.now.last }
@@ -188,15 +180,6 @@ impl FieldRange {
         ensures { result ≡ wanted_of self.now }
     {
         self.last.unwrap_or(self.first)
-    }
-}
-
-impl Quoting {
-    /// Returns whether a field that was in quotes is written in quotes.
-    pub(crate) fn keeps(self) -> bool
-        ensures { result ≡ keeps self }
-    {
-        matches!(self, Quoting::Keep)
     }
 }
 
@@ -238,7 +221,9 @@ impl Fields<'_> {
     pub(crate) fn contain(&self, number: u64) -> bool
         ensures { result ≡ is_chosen self.now.list.now number }
     {
-        self.list.iter().any(|range| range.contains(number))
+        self.list
+            .iter()
+            .any(|range| range.first <= number && range.reaches(number))
     }
 
     /// Returns whether the field of this number, or one after it, may have a number.
@@ -262,18 +247,12 @@ impl Fields<'_> {
     {
         FieldCount {
             found,
-            wanted: self.wanted(),
+            wanted: self
+                .list
+                .iter()
+                .fold(0, |most, range| most.max(range.wanted())),
             delimiter: self.delimiter,
         }
-    }
-
-    /// Returns how many fields are wanted of a line.
-    fn wanted(&self) -> u64
-        ensures { result ≡ wanted self.now.list.now }
-    {
-        self.list
-            .iter()
-            .fold(0, |most, range| most.max(range.wanted()))
     }
 }
 
