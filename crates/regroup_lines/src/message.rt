@@ -116,15 +116,14 @@ pub(crate) fn displayed(line: Option<u64>, cause: &str) -> ArrayString<MAX_DISPL
 fn few_text(count: FieldCount) -> ArrayString<MAX_CAUSE_LEN>
     ensures { result.bytes ≡ few_text count }
 {
-    let mut digits = itoa::Buffer::new();
-    let mut text = ArrayString::new();
-    text.push_str("too few fields: ");
-    text.push_str(digits.format(count.found));
-    text.push_str(" of ");
-    text.push_str(digits.format(count.wanted));
-    text.push_str(", separated by ");
-    text.push_str(quoted(&[count.delimiter]).as_str());
-    text
+    joined!(
+        "too few fields: ",
+        itoa::Buffer::new().format(count.found),
+        " of ",
+        itoa::Buffer::new().format(count.wanted),
+        ", separated by ",
+        quoted(&[count.delimiter]).as_str()
+    )
 }
 
 /// Returns a message with the name of the input and the number of a line before the cause, or nothing where no line is at fault.
