@@ -140,20 +140,9 @@ impl Number {
     }
 }
 
-/// Sends the bytes around a text, and the text between them.
-#[tactic(auto, using(crate::proofs::AroundLemmas::around_first, crate::proofs::AroundLemmas::around_second, crate::proofs::AroundLemmas::around_third, crate::proofs::AroundLemmas::around_whole))]
-fn send_between<W: Write>(around: &Around<'_>, text: &str, w: &mut W) -> Result<(), Unsent>
-    ensures { Sends result (W.contents w.old) (W.contents w.new)
-        (around.now.before.now ++ (text.now ++ around.now.after.now)) }
-{
-    send_whole(around.before, w)?;
-    send_whole(text.as_bytes(), w)?;
-    send_whole(around.after, w)
-}
-
-/// Does the same, and sends the byte that ends the line. A text with nothing around it is sent with that byte, by one write
-/// if that writes both.
-#[tactic(auto, using(crate::proofs::AroundLemmas::passed_prefix, crate::proofs::AroundLemmas::passed_suffix, crate::proofs::AroundLemmas::passed_whole))]
+/// Sends the bytes around a text, the text between them, and the byte that ends the line. A text with nothing around it is sent
+/// with that byte, by one write if that writes both.
+#[tactic(auto, using(crate::proofs::AroundLemmas::around_first, crate::proofs::AroundLemmas::around_second, crate::proofs::AroundLemmas::around_third, crate::proofs::AroundLemmas::around_fourth, crate::proofs::AroundLemmas::around_whole))]
 fn send_line_between<W: Write>(
     around: &Around<'_>,
     text: &str,
@@ -167,7 +156,9 @@ fn send_line_between<W: Write>(
     if around.before.is_empty() && around.after.is_empty() {
         return send_text(text, line_end, w);
     }
-    send_between(around, text, w)?;
+    send_whole(around.before, w)?;
+    send_whole(text.as_bytes(), w)?;
+    send_whole(around.after, w)?;
     send_whole(&[line_end], w)
 }
 
