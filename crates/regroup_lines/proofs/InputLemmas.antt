@@ -1,5 +1,5 @@
 -- The bytes that an input holds, read after read.
-use Rattle.regroup_lines.proofs.Common.{◌≢◌, eq-eqb, both_ways, All, Bool, Consumes, Consumes-kept, Consumes-nil, Consumes-trans, EndsOrGoesOn, FindsEnd, FindsPiece, HasNoEnd, Input, IsAtEnd, IsRecord, Keeps, List, MatchOption, None, Option, Piece, Range, Reads, Some, Within, [], ap, append-nil, append_assoc, arith, array_len, bytes_at, drop, drop-append-le, drop-drop, drop-take, drop_at, eqb-true, false, false_from_ne_true, get_or, get_or-drop, get_or-take, held, is_some, length, length-drop, length-take, length-take-le, not, refl, slice_range, subst, sym, take, take-add, take-append-le, take_all, take_at, take_rest, true, ℕ, ◌++◌, ◌+◌, ◌-◌, ◌<◌, ◌==◌, ◌∙◌, ◌∷◌, ◌≡◌, ◌≤◌}
+use Rattle.regroup_lines.proofs.Common.{◌≢◌, eq-eqb, both_ways, All, Bool, Consumes, Consumes-kept, Consumes-nil, Consumes-trans, EndsOrGoesOn, FindsEnd, FindsPiece, HasNoEnd, Input, IsAtEnd, IsRecord, Keeps, List, None, Option, Piece, Range, Reads, Some, Within, [], ap, append-nil, append_assoc, arith, array_len, bytes_at, drop, drop-append-le, drop-drop, drop-take, drop_at, eqb-true, false, false_from_ne_true, get_or, get_or-drop, get_or-take, held, length, length-drop, length-take, length-take-le, refl, slice_range, subst, sym, take, take-add, take-append-le, take_all, take_at, take_rest, true, ℕ, ◌++◌, ◌+◌, ◌-◌, ◌<◌, ◌==◌, ◌∙◌, ◌∷◌, ◌≡◌, ◌≤◌}
 use Rattle.std.proofs.lemmas.List.Elements.{All-from_get_or}
 use borrow.Rule.Slice.PartMut.{put_mid, post_of}
 use Rattle.memchr.specs.Find.{IsFirstByte, is_byte}

@@ -1,5 +1,5 @@
 -- What the lines of an input give that were sent, and how that ends.
-use Rattle.regroup_lines.proofs.Common.{◌≡◌, ℕ, ◌+◌, ◌<◌, ◌≤◌, ◌==◌, Bool, true, false, List, [], ◌∷◌, ◌++◌, length, Option, Some, None, Result, Ok, Err, refl, sym, ap, subst, ◌∙◌, arith, append_assoc, append-nil, ◌-◌, ◌^◌, ◌||◌, if◌then◌else◌, is_some, take, Appends, Consumes, IsAtEnd, Keeps, Range, Consumes-kept, Consumes-nil, Consumes-trans, length-append, FormatData, StopsWithin, ended_by, Fault, are_any, Flush, Read, Report, TooLong, TooMany, Unclosed, IsHalt, EndsOrGoesOn, FindsPiece, HasNoEnd, IsLong, IsRecord, IsStop, Reads, array_len, bytes_at, held, stop_result, stop_text, Regrouped, Sent, Stop, fault_named, line_after, long_fault, only_written, passed, passes, quotes_in, record_sent, regrouped, regrouped_after, returning, sending, sending_line, text_sent, Ended, Failed, Unflushed, Unread, messages, is_open, Names, PassesLong, Receives, ReceivesBytes, ReceivesEach, RegroupsNaming, Returns, SendsEach, Writer, by_writer, failed_by, failed_writer, text_to, Summary, Input, Piece, Rules, Start}
+use Rattle.regroup_lines.proofs.Common.{◌≡◌, ℕ, ◌+◌, ◌<◌, ◌≤◌, ◌==◌, Bool, true, false, List, [], ◌∷◌, ◌++◌, length, Option, Some, None, Result, Ok, Err, refl, sym, ap, subst, ◌∙◌, arith, append_assoc, append-nil, ◌-◌, ◌^◌, ◌||◌, is_some, take, Appends, Consumes, IsAtEnd, Keeps, Range, Consumes-kept, Consumes-nil, Consumes-trans, length-append, FormatData, StopsWithin, ended_by, Fault, are_any, Flush, Read, Report, TooLong, TooMany, Unclosed, IsHalt, EndsOrGoesOn, FindsPiece, HasNoEnd, IsLong, IsRecord, IsStop, Reads, array_len, bytes_at, held, stop_result, stop_text, Regrouped, Sent, Stop, fault_named, line_after, long_fault, only_written, passed, passes, quotes_in, record_sent, regrouped, regrouped_after, returning, sending, sending_line, text_sent, Ended, Failed, Unflushed, Unread, messages, is_open, Names, PassesLong, Receives, ReceivesBytes, ReceivesEach, RegroupsNaming, Returns, SendsEach, Writer, by_writer, failed_by, failed_writer, text_to, Summary, Input, Piece, Rules, Start}
 use Rattle.regroup_lines.specs.declared.input.Piece.TheVariants as piece
 use Rattle.regroup_lines.proofs.ChoiceLemmas.{either}
 use Rattle.regroup_lines.proofs.LineLemmas.{after-many, last_returned, line-next, long-next, long-stopped, long_fault-begun, long_fault-front, rest-empty, rest-halted, rest-line, rest-long}

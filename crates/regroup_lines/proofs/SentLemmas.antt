@@ -1,5 +1,5 @@
 -- No text is at fault of a write that failed.
-use Rattle.regroup_lines.proofs.Common.{None, failed_writer, ◌≡◌, ℕ, Bool, true, false, List, Result, Ok, Err, if◌then◌else◌, refl, sym, subst, nat_le, ⊤, FormatData, ended_by, Fault, Unclosed, body_sent, body_written, fault_named, fault_sent, passed, passes, quotes_in, record_sent, text_sent, is_open, Rules}
+use Rattle.regroup_lines.proofs.Common.{None, failed_writer, ◌≡◌, ℕ, List, Result, Ok, Err, refl, sym, subst, nat_le, ⊤, FormatData, ended_by, Fault, Unclosed, body_sent, body_written, fault_named, fault_sent, passed, passes, quotes_in, record_sent, text_sent, is_open, Rules}
 use Rattle.regroup_lines.proofs.ChoiceLemmas.{either}
 use Rattle.regroup_lines.proofs.NumberedLemmas.{body-numbered, numbered, with_number-sent}
 

@@ -1,5 +1,5 @@
 -- The number in the text of a line.
-use Rattle.regroup_lines.proofs.Common.{Bool, Err, Fault, FixedPoint, FormatData, HasUtf8Texts, IsUtf8, IsUtf8-from_is_utf8, Lenient, List, MarksDecimals, None, Ok, ParseDecimalError, ParsesDecimal, Refused, Result, Strict, ap, decimal_read, decimal_text, denoted, false, false_from_ne_true, is_utf8, is_utf8-from_IsUtf8, number_written, refl, result_map_both, sym, text_fault, text_of, true, ℕ, ℤ, ◌↔◌, ◌≡◌}
+use Rattle.regroup_lines.proofs.Common.{Bool, Err, FixedPoint, FormatData, HasUtf8Texts, IsUtf8, IsUtf8-from_is_utf8, Lenient, List, MarksDecimals, None, Ok, ParseDecimalError, ParsesDecimal, Refused, Result, Strict, ap, decimal_read, decimal_text, denoted, false, false_from_ne_true, is_utf8, is_utf8-from_IsUtf8, number_written, refl, sym, text_fault, text_of, true, ℕ, ℤ, ◌↔◌, ◌≡◌}
 use Rattle.num_format.specs.Kind.{signed}
 use Rattle.num_format.specs.ParseBytesError.{ParseBytesError}
 use Rattle.num_format.specs.ParseBytesError.TheVariants.{NotANumber, NotUtf8}

@@ -1,5 +1,5 @@
 -- What regrouping returns where it names no fault.
-use Rattle.regroup_lines.proofs.Common.{◌≡◌, ◌≢◌, ℕ, ◌+◌, ◌==◌, Bool, true, false, List, [], ◌∷◌, length, Option, Some, Result, Ok, Err, if◌then◌else◌, refl, sym, ap, subst, arith, nat_le, nat_lt, ⊤, result_map_both, Appends, length-append, FormatData, StopsWithin, ended_by, without_end, Fault, Reject, Report, TooMany, Unclosed, Write, Regrouped, Sent, Stop, body_sent, body_written, fault_sent, line_after, line_begun, line_sent, long_fault, long_returned, only_written, passes, quotes_in, records_of, regrouped, regrouped_parts, regrouped_rest, returning, sending_line, stop_returned, Ended, is_open, Receives, Regroups, RegroupsNaming, Returns, Writer, failed_by, text_to, Messages, Output, Rejects, Summary, Rules}
+use Rattle.regroup_lines.proofs.Common.{◌≡◌, ◌≢◌, ℕ, ◌+◌, ◌==◌, false, List, [], ◌∷◌, length, Option, Some, Result, Ok, Err, refl, sym, ap, subst, arith, nat_le, nat_lt, ⊤, result_map_both, Appends, length-append, FormatData, StopsWithin, ended_by, without_end, Fault, Reject, Report, TooMany, Unclosed, Write, Regrouped, Sent, Stop, body_sent, body_written, fault_sent, line_after, line_begun, line_sent, long_fault, long_returned, only_written, passes, quotes_in, records_of, regrouped, regrouped_parts, regrouped_rest, returning, sending_line, stop_returned, Ended, is_open, Receives, Regroups, RegroupsNaming, Returns, Writer, failed_by, text_to, Messages, Output, Rejects, Summary, Rules}
 use Rattle.regroup_lines.proofs.ChoiceLemmas.{either}
 use Rattle.regroup_lines.proofs.LineLemmas.{aborts-fault}
 

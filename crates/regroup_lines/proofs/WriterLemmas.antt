@@ -1,5 +1,5 @@
 -- What writers received of lines that are sent one after the other.
-use Rattle.regroup_lines.proofs.Common.{Appends, Appends-kept, Appends-nil, Appends-trans, Bool, Fault, FormatData, HasReceivedUpTo-none, Keeps, List, Messages, None, Option, Output, Reading, Receives, ReceivesBytes, ReceivesEach, ReceivesPrefix, Regrouped, Reject, Rejects, Report, Sent, Some, StopsWithin, StopsWithin_prefix, StopsWithin_suffix, Write, Writer, [], ap, append-nil, append_assoc, are_any, by_writer, bytes_to, failed_writer, false, fault_message, flat_map-append, is_some, joined, messages, only_written, passed, refl, sending, subst, sym, text_to, true, ℕ, ◌++◌, ◌||◌, ◌∙◌, ◌∷◌, ◌≡◌}
+use Rattle.regroup_lines.proofs.Common.{Appends, Appends-kept, Appends-nil, Appends-trans, Bool, Fault, FormatData, HasReceivedUpTo-none, Keeps, List, Messages, None, Option, Output, Reading, Receives, ReceivesBytes, ReceivesEach, ReceivesPrefix, Regrouped, Rejects, Sent, Some, StopsWithin, StopsWithin_prefix, StopsWithin_suffix, Writer, [], ap, append-nil, append_assoc, are_any, by_writer, bytes_to, false, fault_message, flat_map-append, is_some, joined, messages, only_written, passed, refl, sending, subst, sym, text_to, true, ℕ, ◌++◌, ◌||◌, ◌∙◌, ◌∷◌, ◌≡◌}
 
 pub joined-assoc : (a b c : Sent) → joined a (joined b c) ≡ joined (joined a b) c
 joined-assoc a b c =

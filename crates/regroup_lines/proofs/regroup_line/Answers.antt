@@ -1,5 +1,4 @@
 use Rattle.regroup_lines.proofs.Common.{Err, ap, ◌∙◌}
-use Rattle.regroup_lines.specs.declared.line_fault.LineFault.TheVariants as fault
 use Rattle.regroup_lines.proofs.ToldLemmas.{header-sent, stopped-each, text-passed, text-unsent, text-written, written-each}
 use Rattle.regroup_lines.proofs.regroup_line.Goals as goal
 

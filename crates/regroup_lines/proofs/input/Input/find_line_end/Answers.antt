@@ -1,4 +1,4 @@
-use Rattle.regroup_lines.proofs.Common.{◌≡◌, ◌≤◌, ◌∙◌, ◌<◌, length, ap, arith, subst, sym, Keeps-trans, OnErr-always, HasNoEnd, array_len, held, quotes_in, after_text}
+use Rattle.regroup_lines.proofs.Common.{◌≡◌, ◌∙◌, ◌<◌, length, ap, arith, subst, sym, Keeps-trans, OnErr-always, HasNoEnd, array_len, held, quotes_in, after_text}
 use Rattle.regroup_lines.proofs.InputLemmas.{Reads-trans, read-nothing, read-searched}
 use Rattle.regroup_lines.proofs.RecordLemmas.{Searched-found, Searched-on, Searched-past}
 use Rattle.regroup_lines.proofs.input.Input.find_line_end.Goals as goal

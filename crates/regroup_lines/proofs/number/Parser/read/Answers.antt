@@ -1,4 +1,4 @@
-use Rattle.regroup_lines.proofs.Common.{DecimalResult, Err, FixedPoint, FormatData, List, MarksDecimals, MatchOption, None, Ok, Option, ParseDecimalError, Result, SFits, Some, ap, number_written, rules, subst, sym, text_fault, text_of, w128, ℕ, ◌∙◌, ◌≡◌}
+use Rattle.regroup_lines.proofs.Common.{DecimalResult, FixedPoint, FormatData, List, MarksDecimals, MatchOption, None, Ok, Option, ParseDecimalError, Result, SFits, Some, ap, rules, subst, sym, text_of, w128, ℕ, ◌∙◌, ◌≡◌}
 use Rattle.std.proofs.lemmas.Int.{to_z-of_z}
 use Rattle.regroup_lines.proofs.TextLemmas.{lenient-accepted, lenient-refused, strict-accepted, strict-ambiguous, strict-refused}
 use Rattle.regroup_lines.proofs.number.Parser.read.Goals as goal
