@@ -176,8 +176,8 @@ fn field_end(fields: &Fields, text: &[u8], start: usize) -> usize
     .0
 }
 
-/// Reads the number in the field of this number, `count`, if it is chosen. If it `sends`, sends the bytes that are passed on before the field,
-/// and the field with that number regrouped.
+/// Reads the number in a field, if it is chosen. If it `sends`, sends the bytes that are passed on before the field, and the field with that
+/// number regrouped.
 fn regroup_field<'a, W: Write, F: Format, G: Format>(
     sends: bool,
     job: &Job<F, G>,

@@ -6,12 +6,12 @@ use num_format::Format;
 /// What each line of an input is regrouped by.
 #[derive(Drop)]
 pub(crate) struct Job<'a, F: Format, G: Format> {
-    /// How.
+    /// The rules.
     pub(crate) rules: &'a Rules<'a>,
     /// The name of the input, which messages have.
     pub(crate) name: &'a str,
-    /// What parses numbers.
+    /// What parses the numbers.
     pub(crate) parser: Parser<'a, F>,
-    /// The format that they are printed under.
+    /// The format that the numbers are printed under.
     pub(crate) to: &'a G,
 }
