@@ -47,7 +47,7 @@ pub(crate) struct Around<'a> {
     pub(crate) after: &'a [u8],
 }
 
-/// A parser of the numbers of an input, which asks their format for its symbols once. A contract sees it as the data of the format.
+/// A parser of the numbers of an input. Strict reading asks their format for its symbols once. A contract sees it as the data of the format.
 #[derive(Drop)]
 pub(crate) struct Parser<'a, F: Format> {
     /// The format.
