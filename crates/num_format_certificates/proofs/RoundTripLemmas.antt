@@ -22,100 +22,50 @@ use Rattle.num_format_parsing.specs.Reading.{denoted, figures, is_negative_text,
 use Rattle.num_format_int.specs.Text.{body_of, text_of}
 use Rattle.num_format_int.proofs.DigitLemmas.{AreDigits, digits-below_ten, digits_given, length-digits-le, number_from_digits-digits}
 use Rattle.num_format_int.proofs.GroupedLemmas.{grouped-Posix, of_either}
-use Rattle.num_format_parsing.proofs.CauseLemmas.{above_low, below_high, sign-kind}
 use Rattle.num_format_parsing.proofs.ReadingLemmas.{digits_among, digits_among-append, digits_among-first, digits_among-separated}
 pub use Rattle.num_format_parsing.proofs.SpellingLemmas.{is_negative-pos, signed_number-unsigned_abs}
 use Rattle.num_format_certificates.specs.RoundTrips.{ReadsBack, RoundTrips, HasNoNumeral, IsUnambiguous, printed_separator}
-use Rattle.num_format_certificates.proofs.TextCharacterLemmas.{chars-ascii_byte, separator_chars, chars-text_of, digits_among-separated-ge, no_other-separated, lowest_separates, printed-chars, utf8-text_of}
+use Rattle.num_format_certificates.proofs.TextCharacterLemmas.{chars-ascii_byte, separator_chars, chars-text_of, digits_among-separated-ge, lowest_separates, printed-chars, utf8-text_of}
 use Rattle.num_format_int.proofs.TextLemmas.{length-digits-i128-MIN}
 pub use Rattle.num_format_parsing.proofs.CommonLemmas.{empty_plain}
+use Rattle.num_format_parsing.proofs.SymbolLemmas.{plain-symbols}
+use Rattle.num_format_parsing.proofs.ToldLemmas.{AllowsLongest, Tells, tells-accepted, tells-same, tells-spelled}
+use Rattle.num_format_parsing.specs.Strict.{with_separators}
 
--- the values of a kind have at most that many digits, which are within its limit, a minus sign counted as one
-record IsWithinLimit (most : ℕ) (k : Kind) : Type 0 where
-  some : 0 < most
-  low : unsigned_abs k.low < 10 ^ most
-  high : unsigned_abs k.high < 10 ^ most
-  unsigned : k.has_negative ≡ false → pos 0 ≤ℤ k.low
-  limit : most + (if k.has_negative then 1 else 0) ≤ k.limit
+unsigned-allows : (bits limit : ℕ) → limit ≡ length (digits (2 ^ bits - 1)) → AllowsLongest (unsigned bits limit)
+unsigned-allows bits limit same = record { limit = same; low = λ wrong. absurd (cc); unsigned = λ _. omega (arith, ints) }
 
-unsigned-within : (bits limit : ℕ) → 0 < limit → 2 ^ bits < 10 ^ limit → IsWithinLimit limit (unsigned bits limit)
-unsigned-within bits limit some fits = record { some = some; low = omega arith; high = omega arith; unsigned = λ _. omega (arith, ints); limit = omega arith }
+nonzero-allows : (bits limit : ℕ) → limit ≡ length (digits (2 ^ bits - 1)) → AllowsLongest (nonzero bits limit)
+nonzero-allows bits limit same = record { limit = same; low = λ wrong. absurd (cc); unsigned = λ _. omega (arith, ints) }
 
-nonzero-within : (bits limit : ℕ) → 0 < limit → 2 ^ bits < 10 ^ limit → IsWithinLimit limit (nonzero bits limit)
-nonzero-within bits limit some fits = record { some = some; low = omega arith; high = omega arith; unsigned = λ _. omega (arith, ints); limit = omega arith }
+signed-allows : (bits limit : ℕ) → limit ≡ suc (length (digits (suc (2 ^ bits - 1)))) → AllowsLongest (signed bits limit)
+signed-allows bits limit same = record { limit = same; low = λ _. omega arith; unsigned = λ wrong. absurd (cc) }
 
-signed-within : (bits most : ℕ) → 0 < most → 0 < 2 ^ bits → 2 ^ bits < 10 ^ most → IsWithinLimit most (signed bits (suc most))
-signed-within bits most some given fits = record { some = some; low = omega arith; high = omega arith; unsigned = λ wrong. absurd (cc); limit = omega arith }
-
--- how many digits the values of a type have at most
-within_limit : (t : IntegerType) → (most : ℕ) × IsWithinLimit most (kind_of t)
-within_limit U8 = (3, unsigned-within 8 3 (lit< tt) (lit< tt))
-within_limit U16 = (5, unsigned-within 16 5 (lit< tt) (lit< tt))
-within_limit U32 = (10, unsigned-within 32 10 (lit< tt) (lit< tt))
-within_limit U64 = (20, unsigned-within 64 20 (lit< tt) (lit< tt))
-within_limit U128 = (39, unsigned-within 128 39 (lit< tt) (lit< tt))
-within_limit Usize = (20, unsigned-within 64 20 (lit< tt) (lit< tt))
-within_limit I8 = (3, signed-within 7 3 (lit< tt) (lit< tt) (lit< tt))
-within_limit I16 = (5, signed-within 15 5 (lit< tt) (lit< tt) (lit< tt))
-within_limit I32 = (10, signed-within 31 10 (lit< tt) (lit< tt) (lit< tt))
-within_limit I64 = (19, signed-within 63 19 (lit< tt) (lit< tt) (lit< tt))
-within_limit I128 = (39, signed-within 127 39 (lit< tt) (lit< tt) (lit< tt))
-within_limit Isize = (19, signed-within 63 19 (lit< tt) (lit< tt) (lit< tt))
-within_limit NonZeroU8 = (3, nonzero-within 8 3 (lit< tt) (lit< tt))
-within_limit NonZeroU16 = (5, nonzero-within 16 5 (lit< tt) (lit< tt))
-within_limit NonZeroU32 = (10, nonzero-within 32 10 (lit< tt) (lit< tt))
-within_limit NonZeroU64 = (20, nonzero-within 64 20 (lit< tt) (lit< tt))
-within_limit NonZeroU128 = (39, nonzero-within 128 39 (lit< tt) (lit< tt))
-within_limit NonZeroUsize = (20, nonzero-within 64 20 (lit< tt) (lit< tt))
-
--- the digits of a value are within the limit, a minus sign counted as one
-few_figures : (most : ℕ) (k : Kind) (z : ℤ) → IsWithinLimit most k → IsValueOf k z → length (digits (unsigned_abs z)) + (if is_negative z then 1 else 0) ≤ k.limit
-few_figures most k (pos n) within value =
-    let few = length-digits-le most n within.some (omega (arith, below_high n k.high value.below, within.high)) in
-    rw (is_negative-pos n) (omega (arith, few, within.limit))
-few_figures most k (negsuc n) within value =
-    let few = length-digits-le most (suc n) within.some (omega (arith, above_low n k.low value.above, within.low)) in
-    let limit : most + 1 ≤ k.limit = rw (sign-kind k (negsuc n) within.unsigned value refl) at within.limit in
-    omega (arith, few, limit)
-
--- a text that tells z: its figures are the digits of z, no other numeral is among them, and it is negative exactly if z is
-pub record Tells (f : FormatData) (z : ℤ) (text : List ℕ) : Type 0 where
-  pub figures : figures text ≡ digits (unsigned_abs z)
-  pub plain : list_any is_other_numeral (chars text) ≡ false
-  pub sign : is_negative_text f text ≡ is_negative z
-
--- it denotes z
-pub tells-same : (f : FormatData) (z : ℤ) (text : List ℕ) → Tells f z text → denoted f text ≡ z
-tells-same f z text tells =
-    ap (λ b. signed_number b (magnitude_of text)) tells.sign
-    ∙ ap (signed_number (is_negative z)) (ap (number_from_digits 10) tells.figures ∙ number_from_digits-digits (unsigned_abs z))
-    ∙ signed_number-unsigned_abs z
-
--- and it is accepted, if z is a value
-tells-accepted : (most : ℕ) (k : Kind) (f : FormatData) (z : ℤ) (text : List ℕ) → IsWithinLimit most k → IsValueOf k z → Tells f z text → ¬ (Refused k f text)
-tells-accepted most k f z text within value tells refused =
-    let long = ap length tells.figures in
-    elim refused [
-      | no_digit none ↦ omega (arith, digits_given (unsigned_abs z), long, ap length none)
-      | other_numeral some ↦ both_ways _ tells.plain some
-      | too_many_figures many ↦
-          let sign = ap {B = ℕ} (λ b. if b then 1 else 0) tells.sign in
-          omega (arith, few_figures most k z within value, many, long, sign)
-      | no_value wrong ↦ wrong (record {
-        sign = λ negative. sign-kind k z within.unsigned value (sym tells.sign ∙ negative);
-        value = subst (IsValueOf k) (sym (tells-same f z text tells)) value;
-      })
-    ]
-
--- as a number of an integer type
-pub accepted-from_tells : (t : IntegerType) (f : FormatData) (z : ℤ) (text : List ℕ) → IsValueOf (kind_of t) z → Tells f z text → ¬ (Refused (kind_of t) f text)
-accepted-from_tells t f z text value tells =
-    let limit = within_limit t in
-    tells-accepted limit.0 (kind_of t) f z text limit.1 value tells
+-- each type allows as many digits as its longest value has
+allows_longest : (t : IntegerType) → AllowsLongest (kind_of t)
+unfolding digits
+allows_longest U8 = unsigned-allows 8 3 refl
+allows_longest U16 = unsigned-allows 16 5 refl
+allows_longest U32 = unsigned-allows 32 10 refl
+allows_longest U64 = unsigned-allows 64 20 refl
+allows_longest U128 = unsigned-allows 128 39 refl
+allows_longest Usize = unsigned-allows 64 20 refl
+allows_longest I8 = signed-allows 7 4 refl
+allows_longest I16 = signed-allows 15 6 refl
+allows_longest I32 = signed-allows 31 11 refl
+allows_longest I64 = signed-allows 63 20 refl
+allows_longest I128 = signed-allows 127 40 refl
+allows_longest Isize = signed-allows 63 20 refl
+allows_longest NonZeroU8 = nonzero-allows 8 3 refl
+allows_longest NonZeroU16 = nonzero-allows 16 5 refl
+allows_longest NonZeroU32 = nonzero-allows 32 10 refl
+allows_longest NonZeroU64 = nonzero-allows 64 20 refl
+allows_longest NonZeroU128 = nonzero-allows 128 39 refl
+allows_longest NonZeroUsize = nonzero-allows 64 20 refl
 
 -- so a value reads back, if its text tells it
 pub reads_back-from_tells : (t : IntegerType) (f : FormatData) (z : ℤ) → IsValueOf (kind_of t) z → Tells f z (text_of f z) → ReadsBack (kind_of t) f z
-reads_back-from_tells t f z value tells = record { accepted = accepted-from_tells t f z (text_of f z) value tells; same = tells-same f z (text_of f z) tells }
+reads_back-from_tells t f z value tells = record { accepted = tells-accepted (kind_of t) f z (text_of f z) (allows_longest t) value tells; same = tells-same f z (text_of f z) tells }
 
 -- a minus sign without digits is no prefix of a text that begins with a digit
 pub no_prefix : (sign rest tail : List ℕ) (d : ℕ) → d < 10 → ¬ (sign ≡ []) → digits_among (chars sign) ≡ [] → ¬ ((48 + d) ∷ rest ≡ sign ++ tail)
@@ -130,34 +80,9 @@ pub separated-begins : (is_due : ℕ → Bool) (s ds : List ℕ) → 0 < length 
 separated-begins is_due s [] given below = absurd (omega arith)
 separated-begins is_due s (d ∷ ds) given below = (d, All-head (λ x. x < 10) d ds below, _, refl)
 
--- under a format that is not ambiguous, the text of z has the minus sign as a prefix exactly if z is negative
-sign-text_of : (f : FormatData) (z : ℤ) → IsUnambiguous f → is_negative_text f (text_of f z) ≡ is_negative z
-sign-text_of f (pos n) plain =
-    let body = body_of f n in
-    let begins = separated-begins (stands f.grouping (length (digits n))) f.separator (digits n) (digits_given n) (digits-below_ten n) in
-    let none : is_negative_text f body ≡ false = false_from_ne_true _ (λ prefix.
-    no_prefix f.minus_sign begins.2 _ begins.0 begins.1 plain.sign_given plain.sign.no_digit (sym begins.3 ∙ (starts_is Decides-eqb body f.minus_sign (is_negative_text f body) refl).0 prefix)) in
-    rw (is_negative-pos n) none
-sign-text_of f (negsuc n) plain = (starts_is Decides-eqb (text_of f (negsuc n)) f.minus_sign (is_negative_text f (text_of f (negsuc n))) refl).1 (body_of f (suc n)) refl
-
--- and it tells z
+-- under a format that is not ambiguous, the text of z tells z
 pub tells-text_of : (f : FormatData) (z : ℤ) → IsUtf8 f.minus_sign → IsUtf8 (printed_separator f.grouping f.separator) → IsUnambiguous f → Tells f z (text_of f z)
-tells-text_of f z sign separator plain =
-    let n = unsigned_abs z in
-    let sign_chars : List ℕ = if is_negative z then chars f.minus_sign else [] in
-    let body = grouped f.grouping (separator_chars f) (digits n) in
-    let whole = chars-text_of f z sign separator in
-    record {
-      figures =
-          ap digits_among whole ∙ digits_among-append sign_chars body
-          ∙ ap (λ ds. ds ++ digits_among body) (of_either (λ cs. digits_among cs ≡ []) refl (is_negative z) (chars f.minus_sign) plain.sign.no_digit)
-          ∙ digits_among-separated (stands f.grouping (length (digits n))) (separator_chars f) (digits n) plain.separator.no_digit (digits-below_ten n);
-      plain =
-          ap (list_any is_other_numeral) whole ∙ list_any-append is_other_numeral sign_chars body
-          ∙ or_from _ _ (of_either (λ cs. list_any is_other_numeral cs ≡ false) refl (is_negative z) (chars f.minus_sign) plain.sign.no_other)
-          (no_other-separated (stands f.grouping (length (digits n))) (separator_chars f) (digits n) plain.separator.no_other (digits-below_ten n));
-      sign = sign-text_of f z plain;
-    }
+tells-text_of f z sign separator plain = tells-spelled f z (text_of f z) (plain-symbols f plain sign separator) (with_separators refl)
 
 -- so every number reads back
 pub round_trips-from_unambiguous : (f : FormatData) → IsUtf8 f.minus_sign → IsUtf8 (printed_separator f.grouping f.separator) → IsUnambiguous f → RoundTrips f

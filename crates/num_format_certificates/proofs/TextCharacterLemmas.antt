@@ -66,17 +66,6 @@ digits_among-separated-ge is_due s (d ∷ ds) below =
     let both = ap length (digits_among-append separator (separated is_due s ds)) ∙ length-append (digits_among separator) (digits_among (separated is_due s ds)) in
     omega (arith, first, both, digits_among-separated-ge is_due s ds (All-tail (λ x. x < 10) d ds below))
 
--- with a separator that has no other numeral, there is none
-pub no_other-separated : (is_due : ℕ → Bool) (s ds : List ℕ) → list_any is_other_numeral s ≡ false → AreDigits ds → list_any is_other_numeral (separated is_due s ds) ≡ false
-no_other-separated is_due s [] none below = refl
-no_other-separated is_due s (d ∷ ds) none below =
-    let separator : List ℕ = if is_due (length ds) then s else [] in
-    let digit = is_other_numeral-digit (48 + d) (is_ascii_digit-digit d (All-head (λ x. x < 10) d ds below)) in
-    let rest = no_other-separated is_due s ds none (All-tail (λ x. x < 10) d ds below) in
-    or_from (is_other_numeral (48 + d)) (list_any is_other_numeral (separator ++ separated is_due s ds)) digit
-    (list_any-append is_other_numeral separator (separated is_due s ds)
-    ∙ or_from (list_any is_other_numeral separator) (list_any is_other_numeral (separated is_due s ds)) (of_either (λ cs. list_any is_other_numeral cs ≡ false) refl (is_due (length ds)) s none) rest)
-
 -- after the first k digits of `i128::MIN` the separator is printed
 pub record SeparatesAfter (k : ℕ) (g : Grouping) (s : List ℕ) : Type 0 where
   pub split : grouped g s (digits (2 ^ 127)) ≡ plain (take k (digits (2 ^ 127))) ++ (s ++ separated (stands g 39) s (drop k (digits (2 ^ 127))))

@@ -7,6 +7,7 @@ use Rattle.std.proofs.lemmas.Int.{ints}
 use Rattle.num_format_text.specs.declared.grouping.Grouping.{Grouping}
 use Rattle.num_format_text.specs.Format.{FormatData}
 use Rattle.num_format_int.specs.Kind.{Kind, IsValueOf, IsWithin, signed_number}
+use Rattle.num_format_int.proofs.DigitLemmas.{digits_given}
 use Rattle.num_format_parsing.specs.Parts.{number_in, HasBody, IsJudged}
 use Rattle.num_format_parsing.specs.Shapes.{HasPlainSymbols}
 use Rattle.num_format_parsing.specs.Strict.{SpellsNumber, StopsAt, IsExpected, IsCause, ParsesStrictly}
@@ -14,7 +15,7 @@ use Rattle.num_format_parsing.specs.declared.strict.Reading.{Reading}
 use Rattle.num_format_parsing.specs.declared.strict.Reading.TheVariants.{Number, TooLarge, Unspelled}
 use Rattle.num_format_parsing.specs.declared.strict.StrictError.{StrictError}
 use Rattle.num_format_parsing.specs.declared.strict.StrictError.TheVariants.{AmbiguousFormat, NotUtf8, Unexpected, NoDigit, Misspelled, OutOfRange}
-use Rattle.num_format_parsing.proofs.SpellingLemmas.{figures-spelled, is_negative-pos, spelled-once, unexpected-none, utf8-spelled}
+use Rattle.num_format_parsing.proofs.SpellingLemmas.{figures-spelled, is_negative-pos, no_other-spelled, spelled-once, unexpected-none}
 
 stops-not : (f : FormatData) (t : List ℕ) (a : ℕ) → StopsAt f t a → IsExpected f t → ⊥
 stops-not f t a stops expected = omega (arith, ap length (sym stops.rest ∙ expected.rest), length-drop a t, stops.inside)
@@ -25,9 +26,9 @@ stops-once f t a b p q = omega (arith, ap length (sym p.rest ∙ q.rest), length
 -- a text that spells a number is refused for no cause but that it is out of range
 spelled_cause : (k : Kind) (f : FormatData) (t : List ℕ) (z : ℤ) (e : StrictError) → HasPlainSymbols f → SpellsNumber f t z → IsCause k f t e → (e ≡ OutOfRange) × ¬ (IsValueOf k z)
 spelled_cause k f t z AmbiguousFormat s spells p = absurd (p s.unambiguous)
-spelled_cause k f t z NotUtf8 s spells p = absurd (p.1 (utf8-spelled f t z s spells))
-spelled_cause k f t z (Unexpected a) s spells p = absurd (stops-not f t a p.1 (record { utf8 = utf8-spelled f t z s spells; rest = unexpected-none f t z s spells }))
-spelled_cause k f t z NoDigit s spells p = absurd (figures-spelled f t z s spells p.1.none)
+spelled_cause k f t z NotUtf8 s spells p = absurd (p.1 ((no_other-spelled f t z s spells).utf8))
+spelled_cause k f t z (Unexpected a) s spells p = absurd (stops-not f t a p.1 (record { utf8 = (no_other-spelled f t z s spells).utf8; rest = unexpected-none f t z s spells }))
+spelled_cause k f t z NoDigit s spells p = absurd (omega (arith, digits_given (unsigned_abs z), ap length (sym (figures-spelled f t z s spells) ∙ p.1.none)))
 spelled_cause k f t z Misspelled s spells p = absurd (p.1.wrong z spells)
 spelled_cause k f t z OutOfRange s spells p = (refl, λ value. p.1.wrong (subst (IsValueOf k) (spelled-once f t z p.1.number s spells p.1.spelled) value))
 

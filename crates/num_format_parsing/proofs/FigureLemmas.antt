@@ -3,16 +3,16 @@ use Rattle.std.proofs.Common.{◌≡◌, ℕ, suc, ◌+◌, ◌-◌, ◌*◌, �
 use Rattle.std.specs.Prelude.{filter, map, All, encode_utf8}
 use Rattle.std.specs.Char.{is_ascii_digit}
 use Rattle.std.specs.Int.Digits.{number_from_digits, number_from_digits_after}
-use Rattle.std.specs.List.{list_any}
-use Rattle.std.specs.Str.{chars, encode_utf8_all, is_utf8}
-use Rattle.std.proofs.lemmas.Bool.{both_ways, cases_Bool, or_parts}
+use Rattle.std.specs.List.{count_by, list_any}
+use Rattle.std.specs.Str.{chars, encode_utf8_all}
+use Rattle.std.proofs.lemmas.Bool.{cases_Bool, or_parts}
 use Rattle.std.proofs.lemmas.Bool.Decides.{nat_tests}
 use Rattle.std.proofs.lemmas.Int.Digits.{number_after_ge}
-use Rattle.std.proofs.lemmas.List.{drop_more}
+use Rattle.std.proofs.lemmas.List.{drop_more, length-map}
+use Rattle.std.proofs.lemmas.List.Sums.{length-filter}
 use Rattle.std.proofs.lemmas.List.Elements.{All-nil, All-cons, All-head, All-tail, filter-append}
-use Rattle.std.proofs.lemmas.Str.{chars-encodes, encode_ascii, inside_one, IsUtf8-from_is_utf8, is_utf8-from_IsUtf8}
+use Rattle.std.proofs.lemmas.Str.{chars-encodes, encode_ascii, inside_one}
 use Rattle.num_format_int.specs.Digits.{digits}
-use Rattle.num_format_parsing.specs.Figures.{HasNoNumber, without_figure}
 use Rattle.num_format_parsing.specs.Reading.{figures}
 use Rattle.num_format_int.proofs.DigitLemmas.{digits-more, digits-small}
 use Rattle.num_format_parsing.proofs.ReadingLemmas.{digits_among-first, is_ascii_digit-digit}
@@ -80,13 +80,9 @@ pub figures-bytes : (t : List ℕ) → IsUtf8 t → figures t ≡ byte_figures t
 figures-bytes t (cs, (scalars, same)) =
     ap (map (λ c. c - 48)) (ap (filter is_ascii_digit) (ap chars (sym same) ∙ chars-encodes cs scalars) ∙ sym (filter-encodes cs) ∙ ap (filter is_ascii_digit) same)
 
--- bytes without a digit are no number
-pub no_digit : (most bound : ℕ) (t : List ℕ) → list_any is_ascii_digit t ≡ false → (¬ (IsUtf8 t)) ⊎ HasNoNumber most bound t
-no_digit most bound t none =
-    elim (cases_Bool (is_utf8 t)) [
-      | inl valid ↦ inr (without_figure (figures-bytes t (IsUtf8-from_is_utf8 t valid) ∙ figures-none t none))
-      | inr other ↦ inl (λ utf8. both_ways _ other (is_utf8-from_IsUtf8 t utf8))
-    ]
+-- and they are as many
+pub figures-counted : (t : List ℕ) → IsUtf8 t → length (figures t) ≡ count_by is_ascii_digit t
+figures-counted t utf8 = ap length (figures-bytes t utf8) ∙ length-map (filter is_ascii_digit t) (λ b. b - 48) ∙ length-filter is_ascii_digit t
 
 -- numbers below ten after a number that is not zero are its further digits
 pub digits-after : (m : ℕ) (ds : List ℕ) → 0 < m → All (λ d. d < 10) ds → digits (number_from_digits_after 10 m ds) ≡ digits m ++ ds

@@ -1,7 +1,7 @@
 -- Digits in groups.
 use Rattle.std.proofs.Common.{◌≡◌, ℕ, zero, suc, ◌+◌, ◌-◌, ◌*◌, ◌/◌, ◌%◌, ◌^◌, ◌<◌, ◌≤◌, ◌⊎◌, inl, inr, Bool, true, false, List, [], ◌∷◌, ◌++◌, length, refl, ap, ◌∙◌, sym, arith, take, drop, get_or, length-append, length-drop, length-take-le, take-append-drop, drop-drop, append_assoc, append-nil, subst, Option, Some, None, MatchOption}
 use Rattle.std.specs.Prelude.{◌↔◌}
-use Rattle.std.specs.Char.{is_ascii, is_ascii_digit}
+use Rattle.std.specs.Char.{is_ascii_digit}
 use Rattle.std.specs.Int.Digits.{number_from_digits}
 use Rattle.std.specs.List.{list_all}
 use Rattle.std.proofs.Math.Nat.{mod-add-mod}
@@ -10,7 +10,7 @@ use Rattle.std.proofs.lemmas.Bool.Decides.{nat_tests}
 use Rattle.std.proofs.lemmas.Int.Digits.{number_after_append}
 use Rattle.std.proofs.lemmas.List.{drop_at, length-map, nil_from_length, take_at, take_more}
 use Rattle.std.proofs.lemmas.List.Elements.{All-nil, All-cons, All-head, All-tail}
-use Rattle.std.proofs.lemmas.List.Folds.{list_all-append, list_all_at}
+use Rattle.std.proofs.lemmas.List.Folds.{list_all_at}
 use Rattle.std.proofs.lemmas.Nat.{mul-mod_first}
 use Rattle.num_format_int.specs.Grouped.{separated}
 use Rattle.num_format_int.specs.Groups.{plain, HasLastGroup, HasGroups, HasOnlyGroups, BeginsWithSeparator}
@@ -21,7 +21,7 @@ use Rattle.num_format_parsing.specs.Parts.{number_in, HasDigits, BeginsWithDigit
 use Rattle.num_format_parsing.specs.Shapes.{byte_figures}
 use Rattle.num_format_parsing.specs.Strict.{begins}
 use Rattle.num_format_parsing.proofs.FigureLemmas.{digit_char, figures-below, figures-digit}
-use Rattle.num_format_parsing.proofs.NumberLemmas.{digits-ascii, number-after}
+use Rattle.num_format_parsing.proofs.NumberLemmas.{number-after}
 use Rattle.num_format_parsing.proofs.ReadingLemmas.{digits_among-append, digits_among-first, is_ascii_digit-digit}
 use Rattle.num_format_parsing.proofs.UnreadLemmas.{begins-split, plain-first}
 
@@ -91,21 +91,6 @@ count-figures last size s t one none some long whole =
       λ least few longer. omega (arith, bytes, digits, counts.0, counts.1, whole.some, few, longer, long),
       λ three few. (λ short. omega (arith, bytes, digits, counts.0, counts.2 few, whole.few, few, short, three), omega (arith, bytes, digits, counts.0, counts.2 few, whole.few, few, three)),
     )
-
--- they are ASCII if the separator is
-group-ascii : (s : List ℕ) (count : ℕ) (t rest : List ℕ) → list_all is_ascii s ≡ true → BeginsWithGroup s count t rest → list_all is_ascii rest ≡ true → list_all is_ascii t ≡ true
-group-ascii s count t rest ascii g more =
-    ap (list_all is_ascii) g.same ∙ list_all-append is_ascii s (plain g.group ++ rest)
-    ∙ rw (ascii, list_all-append is_ascii (plain g.group) rest, digits-ascii (plain g.group) (all-plain g.group g.below)) more
-
-groups-ascii : (last size : ℕ) (s : List ℕ) (count : ℕ) (t : List ℕ) → list_all is_ascii s ≡ true → AreGroups last size s count t → list_all is_ascii t ≡ true
-groups-ascii last size s zero t ascii g = group-ascii s last t [] ascii g refl
-groups-ascii last size s (suc count) t ascii (rest, g, groups) = group-ascii s size t rest ascii g (groups-ascii last size s count rest ascii groups)
-
-pub whole-ascii : (last size : ℕ) (s t : List ℕ) → list_all is_ascii s ≡ true → IsInGroups last size s t → list_all is_ascii t ≡ true
-whole-ascii last size s t ascii whole =
-    ap (list_all is_ascii) whole.same ∙ list_all-append is_ascii (plain whole.first) whole.rest
-    ∙ rw (digits-ascii (plain whole.first) (all-plain whole.first whole.below)) (groups-ascii last size s whole.count whole.rest ascii whole.groups)
 
 -- groups are digits with their separators, of which one is due before them
 groups-due : (is_due : ℕ → Bool) (last size : ℕ) (s : List ℕ) (count : ℕ) (t : List ℕ) → HasLastGroup is_due last → HasGroups is_due size → 0 < size → byte_figures s ≡ [] →

@@ -1,5 +1,4 @@
 pub mod CauseLemmas
-pub mod CharacterLemmas
 pub mod CommonLemmas
 pub mod FigureLemmas
 pub mod GroupingLemmas
@@ -11,4 +10,5 @@ pub mod ReadingLemmas
 pub mod SpellingLemmas
 mod StrictExamples
 pub mod SymbolLemmas
+pub mod ToldLemmas
 pub mod UnreadLemmas

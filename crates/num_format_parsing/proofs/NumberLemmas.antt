@@ -1,5 +1,5 @@
 -- The number that digits write, whole and modulo a bound, and bytes of ASCII.
-use Rattle.std.proofs.Common.{IsUtf8, ◌≡◌, ℕ, zero, suc, ◌+◌, ◌-◌, ◌*◌, ◌^◌, ◌<◌, ◌≤◌, true, false, List, [], ◌∷◌, length, refl, ap, ◌∙◌, sym, arith, get_or, lit<, take, drop, ◌++◌, take-append-drop, append-nil}
+use Rattle.std.proofs.Common.{◌≡◌, ℕ, zero, suc, ◌+◌, ◌-◌, ◌*◌, ◌^◌, ◌<◌, ◌≤◌, true, false, List, [], ◌∷◌, length, refl, ap, ◌∙◌, sym, arith, get_or, lit<, take, drop, ◌++◌, take-append-drop, append-nil}
 use Rattle.std.specs.Char.{is_ascii, is_ascii_digit}
 use Rattle.std.specs.Int.Digits.{number_from_digits, number_from_digits_after, AllBelowBase}
 use Rattle.std.specs.List.{list_all, list_any}
@@ -8,17 +8,15 @@ use Rattle.std.proofs.Math.Nat.{add-mul, mul_assoc, mul_comm, pow-le-pow_right, 
 use Rattle.std.proofs.lemmas.Bool.{and_parts}
 use Rattle.std.proofs.lemmas.Bool.Decides.{nat_tests}
 use Rattle.std.proofs.lemmas.Int.Digits.{number_after_append, number_after_ge, number_lt, number_push}
-use Rattle.std.proofs.lemmas.List.{take_more, take_rest}
+use Rattle.std.proofs.lemmas.List.{take_more}
 use Rattle.std.proofs.lemmas.List.Elements.{All-head, All-tail}
-use Rattle.std.proofs.lemmas.List.Folds.{list_all-append}
-use Rattle.std.proofs.lemmas.Str.{chars-IsAscii, IsUtf8-from_ascii}
+use Rattle.std.proofs.lemmas.Str.{chars-IsAscii}
 use Rattle.std.proofs.lemmas.Str.Ascii.{IsAscii-nil, IsAscii-cons}
 use Rattle.num_format_int.proofs.DigitLemmas.{AreDigits}
 use Rattle.num_format_parsing.specs.Parts.{number_in}
 use Rattle.num_format_parsing.specs.Reading.{is_other_numeral}
 use Rattle.num_format_parsing.specs.Shapes.{byte_figures}
-use Rattle.num_format_parsing.specs.Figures.{HasFigures}
-use Rattle.num_format_parsing.proofs.FigureLemmas.{figures-below, figures-bytes, figures-digit, figures-other}
+use Rattle.num_format_parsing.proofs.FigureLemmas.{figures-below, figures-digit, figures-other}
 use Rattle.num_format_parsing.proofs.ReadingLemmas.{digits_among-append, is_other_numeral-ascii}
 
 ascii-all : (t : List ℕ) → list_all is_ascii t ≡ true → IsAscii t
@@ -79,42 +77,3 @@ pub number-before : (t : List ℕ) (i : ℕ) → number_in (take i t) ≤ number
 number-before t i =
     let whole = ap number_in (sym (take-append-drop i t)) ∙ ap (number_from_digits 10) (digits_among-append (take i t) (drop i t)) ∙ number_after_append 10 0 (byte_figures (take i t)) (byte_figures (drop i t)) in
     omega (arith, number_after_ge 10 (number_in (take i t)) (byte_figures (drop i t)) (lit< tt), whole)
-
--- digits are ASCII
-pub digits-ascii : (t : List ℕ) → list_all is_ascii_digit t ≡ true → list_all is_ascii t ≡ true
-digits-ascii [] all = refl
-digits-ascii (b ∷ t) all =
-    let both = and_parts (is_ascii_digit b) (list_all is_ascii_digit t) all in
-    let digit = both.0 in
-    let ascii : is_ascii b ≡ true = grind (arith, nat_tests, digit) in
-    rw ascii (digits-ascii t both.1)
-
--- bytes of ASCII write the number of their digits, if there are some and not too many
-pub ascii-figures : (most : ℕ) (t : List ℕ) (n : ℕ) → list_all is_ascii t ≡ true → n ≡ number_in t → 0 < length (byte_figures t) → length (byte_figures t) ≤ most → IsUtf8 t × HasFigures most t n
-ascii-figures most t n all number some few =
-    let utf8 = IsUtf8-from_ascii t (ascii-all t all) in
-    let same = figures-bytes t utf8 in
-    (utf8, record { number = number ∙ ap (number_from_digits 10) (sym same); some = rw same some; few = rw same few; plain = no_other-bytes t all })
-
--- a sign of one byte of ASCII that is no digit, or none
-pub sign-front : (t : List ℕ) (start : ℕ) → start ≤ 1 → 0 < length t → (start ≡ 1 → get_or t 0 0 < 128) → (start ≡ 1 → is_ascii_digit (get_or t 0 0) ≡ false) →
-    (list_all is_ascii (take start t) ≡ true) × (byte_figures (take start t) ≡ [])
-sign-front t zero one inside ascii digit = (refl, refl)
-sign-front [] (suc start) one inside ascii digit = absurd (omega (arith, inside))
-sign-front (b ∷ t) (suc zero) one inside ascii digit =
-    let low = ascii refl in
-    let test : is_ascii b ≡ true = grind (arith, nat_tests, low) in
-    (rw test refl, rw (digit refl) refl)
-sign-front (b ∷ t) (suc (suc start)) one inside ascii digit = absurd (omega (arith, one))
-
--- a text with or without a sign, of one byte of ASCII that is no digit, writes the number of the bytes after it
-pub figures-behind : (most start : ℕ) (t : List ℕ) (n : ℕ) → n ≡ number_in (take (length t - start) (drop start t)) → start ≤ 1 → 0 < length t → (start ≡ 1 → get_or t 0 0 < 128) → (start ≡ 1 → is_ascii_digit (get_or t 0 0) ≡ false) →
-    list_all is_ascii (take (length t - start) (drop start t)) ≡ true → 0 < length (byte_figures (take (length t - start) (drop start t))) → length (byte_figures (take (length t - start) (drop start t))) ≤ most →
-    IsUtf8 t × HasFigures most t n
-figures-behind most start t n number one inside ascii digit all some few =
-    let body = take (length t - start) (drop start t) in
-    let before : (list_all is_ascii (take start t) ≡ true) × (byte_figures (take start t) ≡ []) = sign-front t start one inside ascii digit in
-    let whole : t ≡ take start t ++ body = sym (take-append-drop start t) ∙ ap (λ xs. take start t ++ xs) (sym (take_rest t start)) in
-    let both : list_all is_ascii t ≡ true = ap (list_all is_ascii) whole ∙ list_all-append is_ascii (take start t) body ∙ rw before.0 all in
-    let same : byte_figures t ≡ byte_figures body = ap byte_figures whole ∙ digits_among-append (take start t) body ∙ rw before.1 refl in
-    ascii-figures most t n both (number ∙ ap (number_from_digits 10) (sym same)) (rw same some) (rw same few)

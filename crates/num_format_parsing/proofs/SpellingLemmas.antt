@@ -1,15 +1,18 @@
 -- The texts that spell a number.
-use Rattle.std.proofs.Common.{◌≡◌, ℕ, zero, suc, ◌+◌, ◌%◌, ◌<◌, ◌⊎◌, inl, inr, Bool, true, false, List, [], ◌∷◌, ◌++◌, length, refl, ap, ◌∙◌, sym, arith, take, drop, take-append-drop, length-append, lit<, subst, ℤ, pos, negsuc, unsigned_abs, IsUtf8}
+use Rattle.std.proofs.Common.{◌≡◌, ℕ, zero, suc, ◌+◌, ◌-◌, ◌%◌, ◌<◌, ◌⊎◌, inl, inr, Bool, true, false, List, [], ◌∷◌, ◌++◌, length, refl, ap, ◌∙◌, sym, arith, take, drop, length-append, lit<, subst, ℤ, pos, negsuc, unsigned_abs, IsUtf8}
 use Rattle.std.specs.Prelude.{if◌then◌else◌, nat_eq}
 use Rattle.std.specs.Int.{is_negative}
 use Rattle.std.specs.Int.Digits.{number_from_digits}
-use Rattle.std.specs.List.{starts_with}
+use Rattle.std.specs.Char.{is_ascii_digit}
+use Rattle.std.specs.List.{list_all, list_any, starts_with}
+use Rattle.std.specs.Str.{chars}
 use Rattle.std.proofs.lemmas.Bool.{cases_Bool}
 use Rattle.std.proofs.lemmas.Bool.Decides.{nat_tests, Decides-eqb}
-use Rattle.std.proofs.lemmas.List.{append_cancel_left}
+use Rattle.std.proofs.lemmas.List.{append_cancel_left, take_rest}
 use Rattle.std.proofs.lemmas.List.Elements.{All-head, All-tail}
 use Rattle.std.proofs.lemmas.Slice.Eq.{starts_is}
-use Rattle.std.proofs.lemmas.Str.{IsUtf8-nil, IsUtf8-append, IsUtf8-from_ascii}
+use Rattle.std.proofs.lemmas.List.Folds.{list_any-append}
+use Rattle.std.proofs.lemmas.Str.{chars-append, chars-nil, IsUtf8-nil, IsUtf8-append, IsUtf8-from_ascii}
 use Rattle.std.proofs.lemmas.Str.Ascii.{IsAscii-nil, IsAscii-cons}
 use Rattle.num_format_text.specs.declared.grouping.Grouping.{Grouping}
 use Rattle.num_format_text.specs.declared.grouping.Grouping.TheVariants.{Posix}
@@ -22,12 +25,14 @@ use Rattle.num_format_int.specs.Text.{text_of, body_of}
 use Rattle.num_format_int.proofs.DigitLemmas.{AreDigits, by_digits, digits-below_ten, digits-more, digits-small, digits_given, number_from_digits-digits}
 use Rattle.num_format_int.proofs.GroupedLemmas.{grouped-Posix, grouped-printed, grouped-short, of_either}
 use Rattle.num_format_parsing.specs.Parts.{number_in, IsBody, HasBody, HasReading}
-use Rattle.num_format_parsing.specs.Reading.{figures, is_negative_text, signed_number}
+use Rattle.num_format_parsing.specs.Reading.{figures, is_negative_text, is_other_numeral, signed_number}
 use Rattle.num_format_parsing.specs.Strict.{SpellsNumber, with_separators, without_separators, ungrouped, sign_len, unexpected, unread}
 use Rattle.num_format_parsing.specs.Shapes.{byte_figures, BeginsWithDigit, HasPlainSymbols, HasSign}
 use Rattle.num_format_parsing.specs.declared.strict.Reading.{Reading}
 use Rattle.num_format_parsing.specs.declared.strict.Reading.TheVariants.{Number, TooLarge, Unspelled}
 use Rattle.num_format_parsing.proofs.FigureLemmas.{figures-bytes, writes}
+use Rattle.num_format_parsing.proofs.GroupsLemmas.{plain-all}
+use Rattle.num_format_parsing.proofs.NumberLemmas.{no_other-bytes}
 use Rattle.num_format_parsing.proofs.ReadingLemmas.{digits_among-append, digits_among-separated, is_ascii_digit-digit}
 use Rattle.num_format_parsing.proofs.UnreadLemmas.{begins-given, begins-at_digit, unread-separated}
 
@@ -39,12 +44,13 @@ sign-behind f t negative start sign =
       | inr positive ↦ rw (positive) refl
     ])
 
-signed-sign : (b : Bool) (n : ℕ) → 0 < n → is_negative (signed_number b n) ≡ b
+-- the sign and the absolute value of a number that is made of them
+pub signed-sign : (b : Bool) (n : ℕ) → (b ≡ true → 0 < n) → is_negative (signed_number b n) ≡ b
 signed-sign true (suc n) some = refl
-signed-sign true zero some = absurd (omega arith)
+signed-sign true zero some = absurd (omega (arith, some refl))
 signed-sign false n some = grind (arith, nat_tests)
 
-signed-abs : (b : Bool) (n : ℕ) → unsigned_abs (signed_number b n) ≡ n
+pub signed-abs : (b : Bool) (n : ℕ) → unsigned_abs (signed_number b n) ≡ n
 signed-abs true zero = refl
 signed-abs true (suc n) = refl
 signed-abs false n = refl
@@ -53,7 +59,7 @@ signed-abs false n = refl
 pub text-signed : (f : FormatData) (negative : Bool) (n : ℕ) (ds : List ℕ) → 0 < n → digits n ≡ ds →
     text_of f (signed_number negative n) ≡ (if negative then f.minus_sign else []) ++ grouped f.grouping f.separator ds
 text-signed f negative n ds some same =
-    ap (λ (b : Bool). (if b then f.minus_sign else []) ++ body_of f (unsigned_abs (signed_number negative n))) (signed-sign negative n some)
+    ap (λ (b : Bool). (if b then f.minus_sign else []) ++ body_of f (unsigned_abs (signed_number negative n))) (signed-sign negative n (λ _. some))
     ∙ ap (λ ds. (if negative then f.minus_sign else []) ++ grouped f.grouping f.separator ds) (ap digits (signed-abs negative n) ∙ same)
 
 -- one zero spells zero
@@ -102,7 +108,7 @@ first-digit is_due s [] below some = absurd (omega arith)
 first-digit is_due s (d ∷ ds) below some = (d, (if is_due (length ds) then s else []) ++ separated is_due s ds, All-head (λ x. x < 10) d ds below, refl)
 
 -- a text that spells a number begins with the minus sign exactly if the number is negative
-sign-told : (f : FormatData) (t : List ℕ) (z : ℤ) → HasPlainSymbols f → IsTextOf f t z → is_negative_text f t ≡ is_negative z
+pub sign-told : (f : FormatData) (t : List ℕ) (z : ℤ) → HasPlainSymbols f → IsTextOf f t z → is_negative_text f t ≡ is_negative z
 sign-told f t z symbols told =
     let ds = digits (unsigned_abs z) in
     let of = told.of in
@@ -153,6 +159,14 @@ spells-body f t s body g negative start behind sign separator grouping begin eit
       | inr same ↦
           without_separators (split ∙ ap (λ b. front ++ b) (same ∙ sym (grouped-Posix f.separator ds)) ∙ sym (text-signed (ungrouped f) negative (number_in body) ds write.some write.same))
     ]
+
+-- and so do digits alone
+pub spells-digits : (f : FormatData) (t : List ℕ) (negative : Bool) (start n : ℕ) → HasSign f t negative start → BeginsWithDigit (take (length t - start) (drop start t)) → list_all is_ascii_digit (take (length t - start) (drop start t)) ≡ true →
+    n ≡ number_in (take (length t - start) (drop start t)) → SpellsNumber f t (signed_number negative n)
+spells-digits f t negative start n sign begin digits same =
+    let body = take (length t - start) (drop start t) in
+    subst (λ n. SpellsNumber f t (signed_number negative n)) (sym same)
+    (spells-body f t (printed_separator f.grouping f.separator) body f.grouping negative start (take_rest t start) sign refl refl begin (inr (plain-all body digits)))
 
 -- and no other bytes there do
 pub body-spelled : (f : FormatData) (t s : List ℕ) (g : Grouping) (negative : Bool) (start : ℕ) (z : ℤ) → HasSign f t negative start → s ≡ printed_separator f.grouping f.separator → g ≡ f.grouping →
@@ -237,36 +251,61 @@ reading-body k f t s body g negative start behind sign separator grouping begin 
 reading-body k f t s body g negative start behind sign separator grouping begin Unspelled other =
     λ z spells. other (subst (IsBody g s) (sym behind) (body-spelled f t s g negative start z sign separator grouping spells))
 
+-- what holds of digits, of a separator, and of two texts one after the other holds of separated digits
+separated-all : (P : List ℕ → Type 0) → P [] → ((d : ℕ) → d < 10 → P ((48 + d) ∷ [])) → ((xs ys : List ℕ) → P xs → P ys → P (xs ++ ys)) → (is_due : ℕ → Bool) (s ds : List ℕ) → P s → AreDigits ds → P (separated is_due s ds)
+separated-all P none digit both is_due s [] given below = none
+separated-all P none digit both is_due s (d ∷ ds) given below =
+    both ((48 + d) ∷ []) ((if is_due (length ds) then s else []) ++ separated is_due s ds) (digit d (All-head (λ x. x < 10) d ds below))
+    (both (if is_due (length ds) then s else []) (separated is_due s ds) (of_either P none (is_due (length ds)) s given)
+    (separated-all P none digit both is_due s ds given (All-tail (λ x. x < 10) d ds below)))
+
+utf8-digit : (d : ℕ) → d < 10 → IsUtf8 ((48 + d) ∷ [])
+utf8-digit d small = IsUtf8-from_ascii ((48 + d) ∷ []) (IsAscii-cons (48 + d) [] (omega arith) IsAscii-nil)
+
 -- separated digits are UTF-8, if the separator is
 pub utf8-separated : (is_due : ℕ → Bool) (s ds : List ℕ) → IsUtf8 s → AreDigits ds → IsUtf8 (separated is_due s ds)
-utf8-separated is_due s [] utf8 below = IsUtf8-nil
-utf8-separated is_due s (d ∷ ds) utf8 below =
-    let small : d < 10 = All-head (λ x. x < 10) d ds below in
-    IsUtf8-append ((48 + d) ∷ []) ((if is_due (length ds) then s else []) ++ separated is_due s ds)
-    (IsUtf8-from_ascii ((48 + d) ∷ []) (IsAscii-cons (48 + d) [] (omega arith) IsAscii-nil))
-    (IsUtf8-append (if is_due (length ds) then s else []) (separated is_due s ds)
-    (of_either IsUtf8 IsUtf8-nil (is_due (length ds)) s utf8)
-    (utf8-separated is_due s ds utf8 (All-tail (λ x. x < 10) d ds below)))
+utf8-separated = separated-all IsUtf8 IsUtf8-nil utf8-digit IsUtf8-append
 
--- a text that spells a number is UTF-8
-pub utf8-spelled : (f : FormatData) (t : List ℕ) (z : ℤ) → HasPlainSymbols f → SpellsNumber f t z → IsUtf8 t
-utf8-spelled f t z symbols spells =
+-- UTF-8 without a numeral but its digits
+pub record HasNoOtherNumeral (t : List ℕ) : Type 0 where
+  pub utf8 : IsUtf8 t
+  pub plain : list_any is_other_numeral (chars t) ≡ false
+
+no_other-nil : HasNoOtherNumeral []
+no_other-nil = record { utf8 = IsUtf8-nil; plain = ap (list_any is_other_numeral) chars-nil }
+
+no_other-append : (xs ys : List ℕ) → HasNoOtherNumeral xs → HasNoOtherNumeral ys → HasNoOtherNumeral (xs ++ ys)
+no_other-append xs ys p q = record {
+  utf8 = IsUtf8-append xs ys p.utf8 q.utf8;
+  plain = ap (list_any is_other_numeral) (chars-append xs ys p.utf8) ∙ list_any-append is_other_numeral (chars xs) (chars ys) ∙ rw (p.plain, q.plain) refl;
+}
+
+no_other-digit : (d : ℕ) → d < 10 → HasNoOtherNumeral ((48 + d) ∷ [])
+no_other-digit d small = record { utf8 = utf8-digit d small; plain = no_other-bytes ((48 + d) ∷ []) (grind (arith, nat_tests)) }
+
+-- so is a text that spells a number
+pub no_other-spelled : (f : FormatData) (t : List ℕ) (z : ℤ) → HasPlainSymbols f → SpellsNumber f t z → HasNoOtherNumeral t
+no_other-spelled f t z symbols spells =
     let told = text-spelled f t z spells in
     let of = told.of in
     let front : List ℕ = if is_negative z then f.minus_sign else [] in
-    subst IsUtf8 (sym (told.text ∙ ap (λ b. front ++ b) of.separated_same))
-    (IsUtf8-append front (separated of.is_due (printed_separator f.grouping f.separator) (digits (unsigned_abs z)))
-    (of_either IsUtf8 IsUtf8-nil (is_negative z) f.minus_sign symbols.sign_utf8)
-    (utf8-separated of.is_due (printed_separator f.grouping f.separator) (digits (unsigned_abs z)) symbols.separator_utf8 (digits-below_ten (unsigned_abs z))))
+    let separator : HasNoOtherNumeral (printed_separator f.grouping f.separator) = record { utf8 = symbols.separator_utf8; plain = symbols.unambiguous.separator.no_other } in
+    subst HasNoOtherNumeral (sym (told.text ∙ ap (λ b. front ++ b) of.separated_same))
+    (no_other-append front (separated of.is_due (printed_separator f.grouping f.separator) (digits (unsigned_abs z)))
+    (of_either HasNoOtherNumeral no_other-nil (is_negative z) f.minus_sign (record { utf8 = symbols.sign_utf8; plain = symbols.unambiguous.sign.no_other }))
+    (separated-all HasNoOtherNumeral no_other-nil no_other-digit no_other-append of.is_due (printed_separator f.grouping f.separator) (digits (unsigned_abs z)) separator (digits-below_ten (unsigned_abs z))))
 
--- has a digit
-pub figures-spelled : (f : FormatData) (t : List ℕ) (z : ℤ) → HasPlainSymbols f → SpellsNumber f t z → ¬ (figures t ≡ [])
-figures-spelled f t z symbols spells none =
-    let told = body-told f t (is_negative_text f t) (sign_len f t) z (sign-has f t symbols) spells in
-    let front = take (sign_len f t) t in
-    let parts : byte_figures t ≡ byte_figures front ++ byte_figures (drop (sign_len f t) t) =
-    ap byte_figures (sym (take-append-drop (sign_len f t) t)) ∙ digits_among-append front (drop (sign_len f t) t) in
-    omega (arith, ap length (sym parts ∙ sym (figures-bytes t (utf8-spelled f t z symbols spells)) ∙ none), length-append (byte_figures front) (byte_figures (drop (sign_len f t) t)), ap length told.figures, digits_given (unsigned_abs z))
+-- and its digits are those of the number
+pub figures-spelled : (f : FormatData) (t : List ℕ) (z : ℤ) → HasPlainSymbols f → SpellsNumber f t z → figures t ≡ digits (unsigned_abs z)
+figures-spelled f t z symbols spells =
+    let sign = sign-has f t symbols in
+    let told = body-told f t (is_negative_text f t) (sign_len f t) z sign spells in
+    let front : List ℕ = if is_negative_text f t then f.minus_sign else [] in
+    figures-bytes t (no_other-spelled f t z symbols spells).utf8
+    ∙ ap byte_figures (sign-behind f t (is_negative_text f t) (sign_len f t) sign)
+    ∙ digits_among-append front (drop (sign_len f t) t)
+    ∙ ap (λ ds. ds ++ byte_figures (drop (sign_len f t) t)) (of_either (λ x. byte_figures x ≡ []) refl (is_negative_text f t) f.minus_sign symbols.sign)
+    ∙ told.figures
 
 -- and no unexpected byte
 pub unexpected-none : (f : FormatData) (t : List ℕ) (z : ℤ) → HasPlainSymbols f → SpellsNumber f t z → unexpected f t ≡ []

@@ -1,5 +1,4 @@
 pub mod BytesError
-pub mod Figures
 pub mod Laws
 pub mod Parts
 pub mod Readable

@@ -1,5 +1,5 @@
 -- What is read of a text without its minus sign.
-use Rattle.std.specs.Prelude.{◌≡◌, ℕ, zero, suc, ℤ, ◌+◌, ◌*◌, ◌%◌, ◌^◌, ◌<◌, ◌≤◌, ◌⊎◌, Bool, true, false, List, [], ◌++◌, All, length, take, drop, slice_index, Result, MatchResult}
+use Rattle.std.specs.Prelude.{◌≡◌, ℕ, zero, suc, ℤ, ◌+◌, ◌*◌, ◌%◌, ◌^◌, ◌<◌, ◌≤◌, ◌⊎◌, Bool, true, false, List, [], ◌++◌, All, length, take, drop, slice_index, Result, MatchResult, ⊤}
 use Rattle.std.specs.Char.{is_ascii_digit}
 use Rattle.std.specs.Int.Digits.{number_from_digits}
 use Rattle.std.specs.List.{list_all}
@@ -8,7 +8,8 @@ use Rattle.num_format_text.specs.Format.{FormatData}
 use Rattle.num_format_int.specs.Grouped.{grouped}
 use Rattle.num_format_int.specs.Groups.{plain}
 use Rattle.num_format_int.specs.Kind.{Kind, IsValueOf, signed_number}
-use Rattle.num_format_parsing.specs.Shapes.{byte_figures}
+use Rattle.num_format_parsing.specs.Reading.{is_negative_text}
+use Rattle.num_format_parsing.specs.Shapes.{byte_figures, HasPlainSymbols}
 use Rattle.num_format_parsing.specs.Strict.{SpellsNumber, IsCause}
 use Rattle.num_format_parsing.specs.declared.strict.Reading.{Reading}
 use Rattle.num_format_parsing.specs.declared.strict.Reading.TheVariants.{Number, TooLarge, Unspelled}
@@ -73,6 +74,11 @@ abbrev pub HasReading : Kind → FormatData → List ℕ → Bool → Reading �
 HasReading k f t negative (Number n) = SpellsNumber f t (signed_number negative n)
 HasReading k f t negative TooLarge = (n : ℕ) × (¬ (IsValueOf k (signed_number negative n))) × SpellsNumber f t (signed_number negative n)
 HasReading k f t negative Unspelled = (z : ℤ) → ¬ (SpellsNumber f t z)
+
+-- the same, but of a text that is said to spell none nothing is known
+abbrev pub IsSpelling : Kind → FormatData → List ℕ → Bool → Reading → Type 0
+IsSpelling k f t negative Unspelled = ⊤
+IsSpelling k f t negative read = HasPlainSymbols f × (negative ≡ is_negative_text f t) × HasReading k f t negative read
 
 -- what is returned: a number that the text spells and that is a value of the kind, or the cause
 abbrev pub IsJudged : {X : Type 0} → Kind → (X → ℤ) → FormatData → List ℕ → Result X StrictError → Type 0

@@ -94,7 +94,7 @@ pub(crate) fn read_in_groups(
 /// The sizes of groups are numbers that the loop knows where it is compiled. It is a function of its own, so that other
 /// texts are parsed without its space.
 #[inline(never)]
-pub(crate) fn read_by_byte(text: &[u8], separator: &[u8], sizes: Sizes) -> Option<u64>
+fn read_by_byte(text: &[u8], separator: &[u8], sizes: Sizes) -> Option<u64>
     requires long { (SHORT_LEN ≤ length text.now) × (length text.now ≤ LONGEST_GROUPS) }
     requires plain { byte_figures separator.now ≡ [] }
     requires separator { length separator.now ≡ 1 }
@@ -137,7 +137,7 @@ fn read_by_length(text: &[u8], separator: &[u8], size: usize) -> Option<u64>
 /// Numbers of all lengths follow one another, and the processor mistakes a branch on the length of the first group. So
 /// each of the three digits is looked at, and where there are fewer, one of them twice.
 #[inline(always)]
-pub(crate) fn first_digits(text: &[u8]) -> Option<u64>
+fn first_digits(text: &[u8]) -> Option<u64>
     requires { (1 ≤ length text.now) × (length text.now ≤ 3) }
     ensures { IfSome result (λ n. (list_all is_ascii_digit text.now ≡ true) × (n ≡ number_in text.now)) }
 {
@@ -260,24 +260,6 @@ fn read_digits<A: Accumulator>(text: &[u8]) -> Part<A>
         figures: text.len(),
         magnitude,
     }
-}
-
-/// Returns the number of a text of digits alone, of which there are at most so many. It may return `None` for any text.
-///
-/// It is a function of its own, so that other texts are parsed without its space.
-#[inline(never)]
-pub(crate) fn few_figures(text: &[u8], most: usize) -> Option<u64>
-    ensures { IfSome result (λ n. (list_all is_ascii_digit text.now ≡ true) × (n ≡ number_in text.now)
-        × (length text.now ≤ most)) }
-{
-    if text.len() > most.min(SAFE_FIGURES) {
-        return None;
-    }
-    let first = read_digits::<u64>(text);
-    if first.figures < text.len() {
-        return None;
-    }
-    Some(first.magnitude)
 }
 
 /// Returns the digit that a byte is, or `None` if it is none.

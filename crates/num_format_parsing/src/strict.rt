@@ -8,7 +8,7 @@ ghost use Rattle.num_format_text.specs.Format.{FormatData};
 ghost use Rattle.num_format_int.specs.Grouped.{printed_separator};
 ghost use Rattle.num_format_int.specs.Kind.{IsValueOf, signed_number};
 ghost use Rattle.num_format_parsing.specs.Strict.{SpellsNumber, ParsesStrictly, IsUnambiguous, strict_message_of};
-ghost use Rattle.num_format_parsing.specs.Parts.{HasBody, HasReading, IsJudged};
+ghost use Rattle.num_format_parsing.specs.Parts.{HasBody, HasReading, IsJudged, IsSpelling};
 ghost use Rattle.num_format_parsing.specs.Shapes.{BeginsWithDigit, HasSign, byte_figures};
 ghost use Rattle.num_format_parsing.specs.declared.strict.StrictError.TheVariants as cause;
 
@@ -123,16 +123,48 @@ pub(crate) fn parse_strict<N: Sealed, F: Format>(
     requires { IsTrue is_text → IsUtf8 bytes.now }
     ensures { ParsesStrictly N.kind N.value (F.answers format.now) bytes.now result }
 {
-    // Many texts are short. What is needed of the separator is what its getter promises: that it is UTF-8.
-    if bytes.len() <= SHORT_LEN && format.has_common_symbols() {
-        format.separator().into_str();
-        let minus_sign = format.minus_sign().into_str();
-        let sign = sign_of(bytes, minus_sign);
-        if let Some(magnitude) = read_short(bytes, sign) {
-            return number_of(sign, magnitude as u128);
-        }
+    let minus_sign = format.minus_sign().into_str();
+    if let Some((sign, magnitude)) = read_few(bytes, minus_sign, format) {
+        return number_of(sign, magnitude as u128);
     }
-    StrictParser::new(format)?.parse_any(bytes, is_text)
+    StrictParser::with_sign(format, minus_sign)?.parse_any(bytes, is_text)
+}
+
+/// Returns whether the text of the bytes is negative under a format with this minus sign, and what is read of it. Under an
+/// ambiguous format a text spells no number.
+#[inline(always)]
+pub(crate) fn read_spelled<N: Sealed, F: Format>(
+    bytes: &[u8],
+    minus_sign: &str,
+    format: &F,
+) -> (bool, Reading)
+    requires { minus_sign.now ≡ (F.answers format.now).minus_sign }
+    ensures { IsSpelling N.kind (F.answers format.now) bytes.now result.0 result.1 }
+{
+    let Ok(parser) = StrictParser::with_sign(format, minus_sign) else {
+        return (false, Reading::Unspelled);
+    };
+    let sign = parser.sign(bytes);
+    (sign.is_negative, parser.read::<N>(bytes, sign))
+}
+
+/// Returns the sign of the number that a text of few bytes spells, and its absolute value. It may return `None` for any
+/// text.
+///
+/// Many texts are short. What is needed of the separator is what its getter promises: that it is UTF-8.
+#[inline(always)]
+pub(crate) fn read_few<F: Format>(bytes: &[u8], minus_sign: &str, format: &F) -> Option<(Sign, u64)>
+    requires { minus_sign.now ≡ (F.answers format.now).minus_sign }
+    ensures { IfSome result (λ read. HasSign (F.answers format.now) bytes.now read.0.is_negative read.0.len
+        × SpellsNumber (F.answers format.now) bytes.now (signed_number read.0.is_negative read.1)) }
+{
+    if bytes.len() > SHORT_LEN || !format.has_common_symbols() {
+        return None;
+    }
+    format.separator().into_str();
+    let sign = sign_of(bytes, minus_sign);
+    let magnitude = read_short(bytes, sign)?;
+    Some((sign, magnitude))
 }
 
 impl<'a, F: Format> StrictParser<'a, F> {
@@ -153,7 +185,17 @@ impl<'a, F: Format> StrictParser<'a, F> {
             (λ parser. (parser ≡ F.answers format.now) × IsUnambiguous (F.answers format.now))
             (λ e. (e ≡ cause.AmbiguousFormat) × ¬ (IsUnambiguous (F.answers format.now))) }
     {
-        let minus_sign = format.minus_sign().into_str();
+        StrictParser::with_sign(format, format.minus_sign().into_str())
+    }
+
+    /// Does the same where the minus sign of the format is known.
+    #[inline(always)]
+    fn with_sign(format: &'a F, minus_sign: &'a str) -> Result<StrictParser<'a, F>, StrictError>
+        requires { minus_sign.now ≡ (F.answers format.now).minus_sign }
+        ensures { MatchResult result
+            (λ parser. (parser ≡ F.answers format.now) × IsUnambiguous (F.answers format.now))
+            (λ e. (e ≡ cause.AmbiguousFormat) × ¬ (IsUnambiguous (F.answers format.now))) }
+    {
         let grouping = format.grouping();
         let separator = match grouping {
             Grouping::Posix => "",
@@ -265,14 +307,24 @@ impl<'a, F: Format> StrictParser<'a, F> {
         ensures { ParsesStrictly N.kind N.value self.now bytes.now result }
     {
         let sign = self.sign(bytes);
-        if let Some(magnitude) = self.read_directly(bytes, sign) {
-            return number_of(sign, magnitude as u128);
-        }
-        let separator = self.separator();
-        match read::<N>(bytes, sign, separator, self.grouping()) {
+        match self.read::<N>(bytes, sign) {
             Reading::Number(magnitude) => number_of(sign, magnitude),
             Reading::TooLarge => Err(StrictError::OutOfRange),
-            Reading::Unspelled => Err(cause(bytes, is_text, sign.len, separator.as_bytes())),
+            Reading::Unspelled => {
+                Err(cause(bytes, is_text, sign.len, self.separator().as_bytes()))
+            }
+        }
+    }
+
+    /// Returns what is read of a text of this sign.
+    #[inline(always)]
+    fn read<N: Sealed>(&self, text: &[u8], sign: Sign) -> Reading
+        requires { HasSign self.now text.now sign.is_negative sign.len }
+        ensures { HasReading N.kind self.now text.now sign.is_negative result }
+    {
+        match self.read_directly(text, sign) {
+            Some(magnitude) => Reading::Number(magnitude as u128),
+            None => read::<N>(text, sign, self.separator(), self.grouping()),
         }
     }
 

@@ -14,7 +14,7 @@ use unicode::properties::GeneralCategory;
 
 /// Returns whether a character is numeric and none of the digits `0` to `9`. In ASCII there is none,
 /// so the tables are asked about other characters alone.
-pub(crate) fn is_other_numeral(character: char) -> bool
+fn is_other_numeral(character: char) -> bool
     ensures { result ≡ is_other_numeral character }
 {
     !character.is_ascii()
@@ -76,7 +76,7 @@ fn is_common(symbol: &str) -> bool
 
 /// Returns whether a character of a text is numeric and none of the digits `0` to `9`.
 #[inline(never)]
-fn has_other_numeral(text: &str) -> bool
+pub(crate) fn has_other_numeral(text: &str) -> bool
     ensures { result ≡ list_any is_other_numeral (chars text.now) }
 {
     text.chars().any(is_other_numeral)

@@ -1,24 +1,8 @@
-use Rattle.std.proofs.Common.{◌∙◌, rules, IsUtf8}
-use Rattle.std.proofs.lemmas.Str.{IsUtf8-nil}
-use Rattle.num_format_text.specs.Characters.{HasCommonSymbols}
-use Rattle.num_format_text.specs.Format.{FormatData}
-use Rattle.num_format_parsing.specs.Shapes.{HasPlainSymbols}
 use Rattle.num_format_parsing.proofs.CauseLemmas.{parses-judged}
-use Rattle.num_format_parsing.proofs.CommonLemmas.{of_printed, unambiguous_from_common}
-use Rattle.num_format_parsing.proofs.SymbolLemmas.{plain-symbols}
 use Rattle.num_format_parsing.proofs.strict.parse_strict.Goals as goal
-
-plain : (f : FormatData) → HasCommonSymbols f → IsUtf8 f.minus_sign → IsUtf8 f.separator → HasPlainSymbols f
-plain f common sign separator = plain-symbols f (unambiguous_from_common f common) sign (of_printed IsUtf8 IsUtf8-nil f.grouping f.separator separator)
-
-pub read_short-requires : goal.read_short-requires
-read_short-requires g c =
-    let symbols = plain (g.F.Format.answers c.args.format.now) (c.has_common_symbols.ensures c.if-has_common_symbols.true) (search rules) (search rules) in
-    (c.sign_of-sign.ensures (g.F.Format.answers c.args.format.now) (c.into_str-minus_sign.ensures.same ∙ c.minus_sign.ensures) symbols).within
 
 pub returns-in-Some : goal.returns-in-Some
 returns-in-Some g c =
     let f = g.F.Format.answers c.args.format.now in
-    let symbols = plain f (c.has_common_symbols.ensures c.if-has_common_symbols.true) (search rules) (search rules) in
-    let sign = c.sign_of-sign.ensures f (c.into_str-minus_sign.ensures.same ∙ c.minus_sign.ensures) symbols in
-    parses-judged g.N.Sealed.kind g.N.Sealed.value f c.args.bytes.now c.number_of.result symbols (c.number_of.ensures f c.args.bytes.now sign (c.in-Some.ensures f sign))
+    let read = c.in-Some.ensures in
+    parses-judged g.N.Sealed.kind g.N.Sealed.value f c.args.bytes.now c.number_of.result read.0.symbols (c.number_of.ensures f c.args.bytes.now read.0 read.1)
