@@ -25,7 +25,7 @@ use Rattle.num_format_parsing.specs.Shapes.{HasSign, byte_figures}
 use Rattle.num_format_parsing.specs.Strict.{IsUnambiguous, ParsesStrictly, SpellsNumber, begins, ungrouped, with_separators, without_separators}
 use Rattle.num_format_parsing.specs.declared.strict.StrictError.{StrictError}
 use Rattle.num_format_parsing.specs.declared.strict.StrictError.TheVariants as strict
-use Rattle.num_format_parsing.proofs.SpellingLemmas.{sign-behind}
+use Rattle.num_format_parsing.proofs.SpellingLemmas.{signed-abs, signed-sign, sign-behind}
 use Rattle.num_format_certificates.proofs.RoundTripLemmas.{is_negative-pos, round_trips-from_unambiguous, signed_number-unsigned_abs}
 use Rattle.num_format_certificates.proofs.TextCharacterLemmas.{of_printed}
 use Rattle.num_format_decimal.specs.declared.parser.Fault.{Fault}
@@ -39,7 +39,7 @@ use Rattle.num_format_decimal.specs.Text.{mark_at}
 use Rattle.num_format_decimal.specs.Values.{HasUnits}
 use Rattle.num_format_decimal.proofs.MarkLemmas.{apart-printed, tail-cut, tail-signed, tells-signed, tells-spelled_decimal}
 use Rattle.num_format_decimal.proofs.ScaleLemmas.{grown}
-use Rattle.num_format_decimal.proofs.SpelledLemmas.{amount-before, ends-read, signed-abs, signed-sign, signed-spelled, spelled-signed}
+use Rattle.num_format_decimal.proofs.SpelledLemmas.{amount-before, ends-read, signed-spelled, spelled-signed}
 use Rattle.num_format_decimal.proofs.TextLemmas.{length-plain, mark-some}
 
 -- a number is an amount

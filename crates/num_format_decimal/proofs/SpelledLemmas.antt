@@ -24,23 +24,12 @@ use Rattle.num_format_parsing.specs.Strict.{ungrouped}
 use Rattle.num_format_parsing.proofs.FigureLemmas.{digits-after, figures-below}
 use Rattle.num_format_parsing.proofs.GroupsLemmas.{plain-all}
 use Rattle.num_format_parsing.proofs.ReadingLemmas.{is_ascii_digit-digit}
-use Rattle.num_format_certificates.proofs.RoundTripLemmas.{is_negative-pos}
+use Rattle.num_format_parsing.proofs.SpellingLemmas.{signed-abs, signed-sign}
 use Rattle.num_format_decimal.specs.FixedPoint.{FixedPoint, fixed_point}
 use Rattle.num_format_decimal.specs.Parsing.{SpellsDecimal, with_separators, without_separators}
 use Rattle.num_format_decimal.specs.Shapes.{IsAmount, IsSigned}
 use Rattle.num_format_decimal.specs.Text.{decimal_text, decimals_of, mark_at, unsigned_text}
 use Rattle.num_format_decimal.proofs.TextLemmas.{length-plain}
-
--- the sign and the absolute value of a number made of them
-pub signed-sign : (b : Bool) (n : ℕ) → (b ≡ true → 0 < n) → is_negative (signed_number b n) ≡ b
-signed-sign true zero some = absurd (omega (arith, some refl))
-signed-sign true (suc n) some = refl
-signed-sign false n some = is_negative-pos n
-
-pub signed-abs : (b : Bool) (n : ℕ) → unsigned_abs (signed_number b n) ≡ n
-signed-abs true zero = refl
-signed-abs true (suc n) = refl
-signed-abs false n = refl
 
 -- the text of a decimal is its sign and that of its absolute value
 signed-text : (f : FormatData) (b : Bool) (n k : ℕ) → (b ≡ true → 0 < n) → decimal_text f (fixed_point (signed_number b n) k) ≡ (if b then f.minus_sign else []) ++ unsigned_text f n k

@@ -119,6 +119,11 @@ impl DecimalBuffer {
         // Most numbers fit 64 bits, which take less time than 128.
         if n <= u64::MAX as u128 && scale < NINETEEN_DIGITS {
             let whole = self.put_decimals(n as u64, scale, format);
+            // Of many numbers all digits but one are decimals.
+            if scale > 0 && whole < 10 {
+                self.put_front(one_digit(whole));
+                return;
+            }
             put_body(whole as u128, self, format);
             return;
         }
