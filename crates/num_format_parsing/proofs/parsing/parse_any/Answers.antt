@@ -1,17 +1,18 @@
-use Rattle.std.proofs.Common.{◌≡◌, ℕ, ◌+◌, ◌<◌, ◌∙◌, inr, false, List, [], IsUtf8, Option, Some, None, ap, arith, length, subst, sym, ℤ}
+use Rattle.std.proofs.Common.{◌≡◌, ℕ, ◌+◌, ◌<◌, ◌∙◌, inl, inr, false, List, [], IsUtf8, Option, Some, None, ap, arith, length, subst, sym, ℤ}
 use Rattle.std.specs.Prelude.{MatchOption, if◌then◌else◌, nat_eq}
 use Rattle.std.specs.Int.Digits.{number_from_digits}
 use Rattle.std.specs.List.{list_any, starts_with}
-use Rattle.std.specs.Str.{chars}
-use Rattle.std.proofs.lemmas.Bool.{both_ways}
+use Rattle.std.specs.Str.{chars, is_utf8}
+use Rattle.std.proofs.lemmas.Bool.{both_ways, cases_Bool}
 use Rattle.std.proofs.lemmas.List.{nil_from_length}
+use Rattle.std.proofs.lemmas.Str.{IsUtf8-from_is_utf8, is_utf8-from_IsUtf8}
 use Rattle.num_format_text.specs.Format.{FormatData}
 use Rattle.num_format_int.specs.Kind.{Kind, signed_number}
 use Rattle.num_format_parsing.specs.Reading.{IsSignedValueOf, ParsesBytes, denoted, figures, is_negative_text, is_other_numeral, magnitude_of, no_digit, no_value, other_numeral, too_many_figures}
 use Rattle.num_format_parsing.proofs.CauseLemmas.{past-bound}
 use Rattle.num_format_parsing.proofs.FigureLemmas.{figures-bytes, figures-counted}
 use Rattle.num_format_parsing.proofs.parsing.parse_any.Goals as goal
-use Rattle.num_format_parsing.proofs.parsing.parse_any.Goals.{then-figures-eq0-via-then-figures-eq0, then-figures-eq0-via-else-figures-eq0+then-figures-most_figures}
+use Rattle.num_format_parsing.proofs.parsing.parse_any.Goals.{then-figures-eq0-via-then-figures-eq0, then-figures-eq0-via-else-figures-eq0+then-not-is_utf8}
 
 -- a value made of the sign and the number of a text is what the text denotes, if it has digits, not too many, and no other numeral
 made-of : {X : Type 0} (k : Kind) (value : X → ℤ) (f : FormatData) (t : List ℕ) (r : Option X) → IsUtf8 t → ¬ (figures t ≡ []) → ¬ (k.limit < length (figures t) + (if is_negative_text f t then 1 else 0)) → list_any is_other_numeral (chars t) ≡ false →
@@ -32,14 +33,22 @@ made-of k value f t (Some x) utf8 some few plain made = (
 pub returns-then-figures-eq0 : goal.returns-then-figures-eq0
 returns-then-figures-eq0 g c = λ f minus.
     let t = c.args.bytes.now in
+    elim c.then-figures-eq0.branch [
+      | then-figures-eq0-via-then-figures-eq0 w ↦ elim (cases_Bool (is_utf8 t)) [
+        | inl valid ↦
+            inr (no_digit (nil_from_length (figures t) (omega (arith, figures-counted t (IsUtf8-from_is_utf8 t valid), c.count_digits-figures.ensures, w.if-figures-eq0.true))))
+        | inr other ↦ inl (λ utf8. both_ways _ other (is_utf8-from_IsUtf8 t utf8))
+      ]
+      | then-figures-eq0-via-else-figures-eq0+then-not-is_utf8 w ↦ inl (λ utf8. both_ways _ w.if-not-is_utf8.true (w.is_utf8.ensures.1 utf8))
+    ]
+
+pub returns-then-figures-most_figures : goal.returns-then-figures-most_figures
+returns-then-figures-most_figures g c = λ f minus.
+    let t = c.args.bytes.now in
     let counted = figures-counted t (c.is_utf8.ensures.0 c.if-not-is_utf8.false) in
     let tested : c.is_prefix-is_negative.result ≡ is_negative_text f t = c.is_prefix-is_negative.ensures ∙ ap (starts_with nat_eq t) (c.as_bytes.ensures.value ∙ minus) in
     let one = ap {B = ℕ} (λ b. if b then 1 else 0) tested in
-    inr (elim c.then-figures-eq0.branch [
-      | then-figures-eq0-via-then-figures-eq0 w ↦ no_digit (nil_from_length (figures t) (omega (arith, counted, c.count_digits-figures.ensures, w.if-figures-eq0.true)))
-      | then-figures-eq0-via-else-figures-eq0+then-figures-most_figures w ↦
-          too_many_figures (omega (arith, one, counted, c.count_digits-figures.ensures, w.most_figures.ensures, w.if-figures-most_figures.true))
-    ])
+    inr (too_many_figures (omega (arith, one, counted, c.count_digits-figures.ensures, c.most_figures.ensures, c.if-figures-most_figures.true)))
 
 pub returns-in_err-exact_number : goal.returns-in_err-exact_number
 returns-in_err-exact_number g c = λ f minus.
