@@ -223,7 +223,7 @@ fn read_by_sizes<A: Accumulator>(
 
 /// Returns the number that the digits among bytes write, or `None` if it is not below the bound.
 ///
-/// Few texts have so many digits that they are parsed once more here.
+/// Few texts come here: those with more digits than are safe, and those that spell no number.
 #[cold]
 #[inline(never)]
 pub(crate) fn exact_number<A: Accumulator>(text: &[u8]) -> Option<A>
