@@ -75,7 +75,7 @@ HasReading k f t negative (Number n) = SpellsNumber f t (signed_number negative 
 HasReading k f t negative TooLarge = (n : ℕ) × (¬ (IsValueOf k (signed_number negative n))) × SpellsNumber f t (signed_number negative n)
 HasReading k f t negative Unspelled = (z : ℤ) → ¬ (SpellsNumber f t z)
 
--- the same, but of a text that is said to spell none nothing is known
+-- the same of a text whose sign is not known before; where it is said to spell no number, nothing is known of it
 abbrev pub IsSpelling : Kind → FormatData → List ℕ → Bool → Reading → Type 0
 IsSpelling k f t negative Unspelled = ⊤
 IsSpelling k f t negative read = HasPlainSymbols f × (negative ≡ is_negative_text f t) × HasReading k f t negative read
