@@ -33,7 +33,7 @@ pub use Rattle.regroup_lines.specs.Lines.{MARK, Regrouped, Sent, Stop, after, be
 pub use Rattle.regroup_lines.specs.Lines.Stop.{Ended, Endless, Failed, Unflushed, Unread}
 pub use Rattle.regroup_lines.specs.Messages.{before_in, before_rest, fault_message, messages}
 pub use Rattle.regroup_lines.specs.Places.{are_enough, field_count, is_at_most, is_chosen, is_chosen_from, is_enough, trimmed}
-pub use Rattle.regroup_lines.specs.Records.{EndsAt, after_byte, after_next, after_record_byte, after_text, has_end, is_inside, is_open, is_quote, line_reached, lines_ended, next_line, split_at}
+pub use Rattle.regroup_lines.specs.Records.{EndsAt, after_bare, after_byte, after_next, after_record_byte, after_text, has_end, is_inside, is_open, is_quote, line_reached, lines_ended, next_line, split_at}
 pub use Rattle.regroup_lines.specs.Sending.{Names, PassesLong, Receives, ReceivesBytes, ReceivesEach, ReceivesPrefix, Regroups, RegroupsNaming, Returns, SendsBytes, SendsEach, SendsLine, Writer, by_writer, bytes_to, failed_by, failed_writer, text_to}
 pub use Rattle.regroup_lines.specs.Sending.Writer.{Messages, Output, Rejects}
 pub use Rattle.regroup_lines.specs.declared.Summary.{Summary}

@@ -1,5 +1,5 @@
 -- Fields that may be in quotes.
-use Rattle.regroup_lines.proofs.Common.{Appends, Fields, List, None, Option, StopsWithin, StopsWithin_prefix, StopsWithin_suffix, [], ap, arith, drop, drop-drop, drop_more, false, field_with, flat_map, flat_map-append, get_or, is_opened, is_quote, length, map, ne_eqb, option_map, output_delimiter, passed_as, quoted_len, refl, subst, sym, take, take-append-drop, true, unwrap_or, ℕ, ◌++◌, ◌+◌, ◌<◌, ◌∙◌, ◌∷◌, ◌≡◌, ◌≢◌}
+use Rattle.regroup_lines.proofs.Common.{Appends, Bool, doubled, if◌then◌else◌, list_any, nat_eq, or_parts, Fields, List, None, Option, StopsWithin, StopsWithin_prefix, StopsWithin_suffix, [], ap, arith, drop, drop-drop, drop_more, false, field_with, flat_map, flat_map-append, get_or, is_opened, is_quote, length, map, ne_eqb, option_map, output_delimiter, passed_as, quoted_len, refl, subst, sym, take, take-append-drop, true, unwrap_or, ℕ, ◌++◌, ◌+◌, ◌<◌, ◌∙◌, ◌∷◌, ◌≡◌, ◌≢◌}
 use Rattle.regroup_lines.specs.declared.rules.Output.{Output}
 
 -- fields that are passed on as they are, and the byte between two
@@ -52,3 +52,17 @@ parts-unsent f parts i x a b c low sent stops =
     ∙ ap (λ l. flat_map f (take i parts ++ l)) (sym (drop_more parts i x low)) ∙ ap (flat_map f) (take-append-drop i parts) in
     subst (StopsWithin a c) cut
     (StopsWithin_suffix a b c (flat_map f (take i parts)) _ sent (StopsWithin_prefix b c (f (get_or parts i x)) (flat_map f (drop (i + 1) parts)) stops))
+
+-- a text without quotes
+doubled-none : (text : List ℕ) → list_any is_quote text ≡ false → doubled text ≡ text
+doubled-none [] none = refl
+doubled-none (b ∷ text) none =
+    let parts = or_parts (is_quote b) (list_any is_quote text) none in
+    ap (λ (q : Bool). (if q then b ∷ b ∷ [] else b ∷ []) ++ doubled text) parts.0 ∙ ap (λ l. b ∷ l) (doubled-none text parts.1)
+
+module _ (text : List ℕ) (a b : Option (List ℕ)) (none : list_any (λ c. nat_eq c 34) text ≡ false) where
+  pub unquoted_prefix : StopsWithin a b text → StopsWithin a b (doubled text)
+  unquoted_prefix stops = subst (StopsWithin a b) (sym (doubled-none text none)) stops
+
+  pub unquoted_whole : Appends a b text → Appends a b (doubled text)
+  unquoted_whole sent = subst (Appends a b) (sym (doubled-none text none)) sent

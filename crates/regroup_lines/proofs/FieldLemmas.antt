@@ -1,9 +1,9 @@
 -- What becomes of the fields of a line, field after field.
-use Rattle.regroup_lines.proofs.Common.{Appends-trans, Bool, Decides-ltb, Err, Fault, FewFields, FieldRange, Fields, FormatData, IsOnly, List, None, Ok, Option, Result, Rules, SendsOrFails, SendsUnless, Some, Start, StopsWithin_prefix, StopsWithin_suffix, [], after, ap, append-nil, append_assoc, are_enough, arith, before_as, before_field, drop, drop-drop, drop_at, ended_by, false, field_count, field_with, field_written, fields_of, fields_written, if◌then◌else◌, is_at_most, is_chosen, is_chosen_from, is_enough, is_some, join_with_byte, le-leb, leb-false, leb-true, length, line_ended, lt-leb, ltb-false, map, nat_le, nat_lt, one_field, option_map, or_from, or_parts, output_delimiter, passed_as, quotes_of, refl, result_map_both, slice_range, subst, sym, take, take-add, take_rest, true, unwrap_or, with_first, ℕ, ◌&&◌, ◌++◌, ◌+◌, ◌-◌, ◌<◌, ◌||◌, ◌∙◌, ◌∷◌, ◌≡◌, ◌≤◌}
+use Rattle.regroup_lines.proofs.Common.{Appends-trans, Bool, Decides-ltb, Err, Fault, FewFields, FieldRange, Fields, FormatData, IsOnly, List, None, Ok, Option, Result, Rules, SendsOrFails, SendsUnless, Some, Start, StopsWithin_prefix, StopsWithin_suffix, [], after, ap, append-nil, append_assoc, are_enough, arith, before_as, before_field, drop, drop_at, ended_by, false, field_count, field_with, field_written, fields_of, fields_written, if◌then◌else◌, is_at_most, is_chosen, is_chosen_from, is_enough, is_some, join_with_byte, le-leb, leb-false, leb-true, length, line_ended, lt-leb, ltb-false, map, nat_le, nat_lt, one_field, option_map, or_from, or_parts, output_delimiter, passed_as, quotes_of, refl, result_map_both, slice_range, subst, sym, take, take_rest, true, unwrap_or, with_first, ℕ, ◌&&◌, ◌++◌, ◌+◌, ◌-◌, ◌<◌, ◌||◌, ◌∙◌, ◌∷◌, ◌≡◌, ◌≤◌}
 use Rattle.std.proofs.lemmas.List.Folds.{drop_split}
 use Rattle.regroup_lines.specs.declared.rules.Output.{Output}
 use Rattle.regroup_lines.proofs.CsvLemmas.{delimiter-passed, passed-none}
-use Rattle.regroup_lines.proofs.RecordLemmas.{split-joined}
+use Rattle.regroup_lines.proofs.RecordLemmas.{slice-more, split-joined}
 
 -- a test that fails of a number fails of those above it
 at_most-later : (last : Option ℕ) (m n : ℕ) → m ≤ n → is_at_most m last ≡ false → is_at_most n last ≡ false
@@ -131,13 +131,6 @@ before-passed (b ∷ passed) = refl
 before-delimiter : (cs : Fields) (output : Option Output) → before_as output (cs.delimiter ∷ []) ≡ unwrap_or (option_map (λ (o : Output). o.delimiter) output) cs.delimiter ∷ []
 before-delimiter cs None = refl
 before-delimiter cs (Some output) = refl
-
-slice-more : (text : List ℕ) (a b c : ℕ) → a ≤ b → b ≤ c → slice_range text a c ≡ slice_range text a b ++ slice_range text b c
-slice-more text a b c low high =
-    let sum : c - a ≡ b - a + (c - b) = omega arith in
-    let there : a + (b - a) ≡ b = omega arith in
-    ap (λ n. take n (drop a text)) sum ∙ take-add (b - a) (c - b) (drop a text)
-    ∙ ap (λ l. slice_range text a b ++ take (c - b) l) (drop-drop (b - a) a text ∙ ap (λ n. drop n text) there)
 
 module _ (rules : Rules) (cs : Fields) (from to : FormatData) (number : ℕ) where
   abbrev d : ℕ

@@ -1,8 +1,6 @@
 -- The bytes that an input holds, read after read.
-use Rattle.regroup_lines.proofs.Common.{◌≢◌, eq-eqb, both_ways, All, Bool, Consumes, Consumes-kept, Consumes-nil, Consumes-trans, EndsOrGoesOn, FindsEnd, FindsPiece, HasNoEnd, Input, IsAtEnd, IsRecord, Keeps, List, None, Option, Piece, Range, Reads, Some, Within, [], ap, append-nil, append_assoc, arith, array_len, bytes_at, drop, drop-append-le, drop-drop, drop-take, drop_at, eqb-true, false, false_from_ne_true, get_or, get_or-drop, get_or-take, held, length, length-drop, length-take, length-take-le, refl, slice_range, subst, sym, take, take-add, take-append-le, take_all, take_at, take_rest, true, ℕ, ◌++◌, ◌+◌, ◌-◌, ◌<◌, ◌==◌, ◌∙◌, ◌∷◌, ◌≡◌, ◌≤◌}
-use Rattle.std.proofs.lemmas.List.Elements.{All-from_get_or}
+use Rattle.regroup_lines.proofs.Common.{◌≢◌, eq-eqb, both_ways, Bool, Consumes, Consumes-kept, Consumes-nil, Consumes-trans, EndsOrGoesOn, FindsEnd, FindsPiece, HasNoEnd, Input, IsAtEnd, IsRecord, Keeps, List, Option, Piece, Range, Reads, Some, Within, [], ap, append-nil, append_assoc, arith, array_len, bytes_at, drop, drop-append-le, drop-drop, drop-take, drop_at, eqb-true, false, held, length, length-drop, length-take-le, refl, slice_range, subst, sym, take, take-add, take-append-le, take_all, take_at, true, ℕ, ◌++◌, ◌+◌, ◌-◌, ◌<◌, ◌==◌, ◌∙◌, ◌∷◌, ◌≡◌, ◌≤◌}
 use borrow.Rule.Slice.PartMut.{put_mid, post_of}
-use Rattle.memchr.specs.Find.{IsFirstByte, is_byte}
 use Rattle.regroup_lines.specs.declared.input.Piece.TheVariants as piece
 
 -- a range of an array without its first n bytes
@@ -55,30 +53,6 @@ Reads-kept xs ys a b c first kept = record { given = first.given; joined = first
 -- the same bytes in other words
 pub Reads-same : (xs ys zs : List ℕ) (a b : Option (List ℕ)) → Reads xs ys a b → zs ≡ ys → Reads xs zs a b
 Reads-same xs ys zs a b first same = subst (λ l. Reads xs l a b) (sym same) first
-
--- a search from a place on, by what it returned in the slice there
-module _ (byte : ℕ) (bytes : List ℕ) (start : ℕ) where
-  abbrev searched : List ℕ
-  searched = take (length bytes - start) (drop start bytes)
-
-  module _ (k : ℕ) (found : IsFirstByte (is_byte byte) searched (Some k)) where
-    there : IsFirstByte (is_byte byte) (drop start bytes) (Some k)
-    there = subst (λ l. IsFirstByte (is_byte byte) l (Some k)) (take_rest bytes start) found
-
-    pub found-byte : get_or bytes (start + k) 0 ≡ byte
-    found-byte = sym (get_or-drop start bytes k 0) ∙ eqb-true _ _ there.1
-
-    pub none-before : All (λ b. (b == byte) ≡ false) (slice_range bytes start (start + k))
-    none-before =
-        let len : start + k - start ≡ k = omega arith in
-        subst (λ n. All (λ b. (b == byte) ≡ false) (take n (drop start bytes))) (sym len)
-        (All-from_get_or (λ b. (b == byte) ≡ false) (take k (drop start bytes)) 0 (λ j inside.
-        let low : j < k = omega (arith, length-take k (drop start bytes)) in
-        let same : get_or (take k (drop start bytes)) j 0 ≡ get_or (drop start bytes) j 0 = get_or-take k (drop start bytes) j 0 low in
-        subst (λ b. (b == byte) ≡ false) (sym same) (false_from_ne_true _ (there.0.before j (omega arith) low))))
-
-  pub none-there : IsFirstByte (is_byte byte) searched None → All (λ b. (b == byte) ≡ false) searched
-  none-there nowhere = All-from_get_or (λ b. (b == byte) ≡ false) searched 0 (λ k inside. false_from_ne_true _ (nowhere k (omega arith) inside))
 
 -- whether a byte follows, by how many were read
 pub ends_or_goes_on : (bytes buf : List ℕ) (a b : Option (List ℕ)) (n : ℕ) (end : Bool) → (n == 0) ≡ end → bytes ≡ [] → n ≤ length buf → 0 < length buf →

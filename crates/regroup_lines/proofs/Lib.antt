@@ -2,7 +2,7 @@
 pub mod AroundLemmas
 mod ChoiceLemmas
 mod Common
-mod CsvLemmas
+pub mod CsvLemmas
 mod DecimalLemmas
 mod Examples
 mod FieldLemmas

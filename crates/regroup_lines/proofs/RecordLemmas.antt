@@ -1,5 +1,7 @@
 -- Where records and their fields end, byte after byte.
-use Rattle.regroup_lines.proofs.Common.{◌≡◌, ℕ, ◌+◌, ◌-◌, ◌<◌, ◌≤◌, ◌==◌, Bool, true, false, List, [], ◌∷◌, ◌++◌, length, take, drop, get_or, slice_range, Option, Some, None, if◌then◌else◌, refl, sym, ap, subst, ◌∙◌, arith, append-nil, eq-eqb, take-append-drop, All, cond, ◌&&◌, not, suc, fold, join_with_byte, onto_first, eqb-true, or_from, or_parts, drop-drop, drop_more, get_or-drop, length-drop, take_all, take_more, fold-append, sum_by-append, take-add, FindsEnd, HasNoEnd, IsRecord, after_byte, after_next, after_record_byte, EndsAt, after_text, has_end, is_inside, line_reached, lines_ended, split_at, Within, Start}
+use Rattle.regroup_lines.proofs.Common.{◌≡◌, ℕ, ◌+◌, ◌-◌, ◌<◌, ◌≤◌, ◌==◌, Bool, true, false, List, [], ◌∷◌, ◌++◌, length, take, drop, get_or, slice_range, Option, Some, None, if◌then◌else◌, refl, sym, ap, subst, ◌∙◌, arith, append-nil, eq-eqb, take-append-drop, All, cond, ◌&&◌, not, suc, fold, join_with_byte, onto_first, eqb-true, or_from, or_parts, drop-drop, drop_more, get_or-drop, length-drop, take_all, take_more, fold-append, sum_by-append, take-add, FindsEnd, HasNoEnd, IsRecord, after_byte, after_next, after_record_byte, EndsAt, after_text, has_end, is_inside, line_reached, lines_ended, split_at, Within, after_bare, is_quote, Start}
+use Rattle.memchr.specs.Find.{is_byte2}
+use Rattle.regroup_lines.specs.declared.records.Within.TheVariants.{Bare, Closing, Quoted}
 
 -- what follows no byte, one byte and others, and two texts
 pub after-nil : (q : Option ℕ) (w : Within) → after_text q w [] ≡ w
@@ -13,6 +15,50 @@ after-step (Some d) w b text = refl
 pub after-append : (q : Option ℕ) (w : Within) (xs ys : List ℕ) → after_text q w (xs ++ ys) ≡ after_text q (after_text q w xs) ys
 after-append None w xs ys = refl
 after-append (Some d) w xs ys = fold-append (after_byte d) w xs ys
+
+-- what follows a text without quotes: outside quotes its last byte tells, and inside quotes it ends nothing
+bare-outside : (d b : ℕ) → is_inside (after_bare d b) ≡ false
+bare-outside d b = by (b == d)
+  where
+    by : (same : Bool) → is_inside (if same then Start else Bare) ≡ false
+    by true = refl
+    by false = refl
+
+after-unquoted : (d b : ℕ) (w : Within) → is_inside w ≡ false → is_quote b ≡ false → after_byte d w b ≡ after_bare d b
+after-unquoted d b Start outside plain = rw plain refl
+after-unquoted d b Bare outside plain = refl
+after-unquoted d b Quoted outside plain = absurd (cc)
+after-unquoted d b Closing outside plain = rw plain refl
+
+module _ (q : Option ℕ) (d : ℕ) (is : q ≡ Some d) where
+  abbrev Unquoted : List ℕ → Type 0
+  Unquoted text = All (λ b. is_quote b ≡ false) text
+
+  pub after-plain : (w : Within) (text : List ℕ) → is_inside w ≡ false → 1 ≤ length text → Unquoted text → after_text q w text ≡ after_byte d w (get_or text (length text - 1) 0)
+  after-plain w [] outside some none = absurd (omega arith)
+  after-plain w (b ∷ text) outside some none =
+      let last : length (b ∷ text) - 1 ≡ length text = omega arith in
+      ap (λ p. after_text p w (b ∷ text)) is ∙ by w b text outside none ∙ ap (λ n. after_byte d w (get_or (b ∷ text) n 0)) (sym last)
+    where
+      by : (w : Within) (b : ℕ) (text : List ℕ) → is_inside w ≡ false → Unquoted (b ∷ text) → fold (after_byte d) w (b ∷ text) ≡ after_byte d w (get_or (b ∷ text) (length text) 0)
+      by w b [] outside none = refl
+      by w b (c ∷ text) outside none =
+          let plain = none (suc (length text)) 0 (omega arith) in
+          let next = ap is_inside (after-unquoted d b w outside (none 0 b (omega arith))) ∙ bare-outside d b in
+          by (after_byte d w b) c text next (λ k x low. none (suc k) x (omega (arith, low)))
+          ∙ after-unquoted d _ (after_byte d w b) next plain ∙ sym (after-unquoted d _ w outside plain)
+
+  pub after-quoted : (w : Within) (text : List ℕ) → is_inside w ≡ true → Unquoted text → after_text q w text ≡ w
+  after-quoted Start text inside none = absurd (cc)
+  after-quoted Bare text inside none = absurd (cc)
+  after-quoted Closing text inside none = absurd (cc)
+  after-quoted Quoted text inside none = ap (λ p. after_text p Quoted text) is ∙ by text none
+    where
+      by : (text : List ℕ) → Unquoted text → fold (after_byte d) Quoted text ≡ Quoted
+      by [] none = refl
+      by (b ∷ text) none =
+          let first : after_byte d Quoted b ≡ Quoted = let plain = none 0 b (omega arith) in rw plain refl in
+          ap (λ w. fold (after_byte d) w text) first ∙ by text (λ k x low. none (suc k) x (omega (arith, low)))
 
 -- the list with these bytes before the first part
 abbrev pub onto : List ℕ → List (List ℕ) → List (List ℕ)
@@ -34,6 +80,13 @@ first-some b (part ∷ parts) = omega arith
 -- ranges of a text
 pub range-none : (text : List ℕ) (start : ℕ) → slice_range text start start ≡ []
 range-none text start = let none : start - start ≡ 0 = omega arith in ap (λ n. take n (drop start text)) none
+
+pub slice-more : (text : List ℕ) (a b c : ℕ) → a ≤ b → b ≤ c → slice_range text a c ≡ slice_range text a b ++ slice_range text b c
+slice-more text a b c low high =
+    let sum : c - a ≡ b - a + (c - b) = omega arith in
+    let there : a + (b - a) ≡ b = omega arith in
+    ap (λ n. take n (drop a text)) sum ∙ take-add (b - a) (c - b) (drop a text)
+    ∙ ap (λ l. slice_range text a b ++ take (c - b) l) (drop-drop (b - a) a text ∙ ap (λ n. drop n text) there)
 
 range-one : (text : List ℕ) (start at : ℕ) → start ≤ at → at < length text → slice_range text start (at + 1) ≡ slice_range text start at ++ get_or text at 0 ∷ []
 range-one text start at ordered low =
@@ -111,6 +164,18 @@ module _ (q : Option ℕ) (e : ℕ) where
   pub split-first : (w : Within) (xs ys : List ℕ) → IsRecord q e w xs → split_at q e w (xs ++ e ∷ ys) ≡ xs ∷ split_at q e Start ys
   split-first w xs ys is =
       split-more w xs (e ∷ ys) is.0 ∙ ap (onto xs) (ended-here (after_text q w xs) ys is.1) ∙ ap (λ l. l ∷ split_at q e Start ys) (append-nil xs)
+
+  -- a text without this byte, after those that were searched
+  module _ (w here there : Within) (bytes : List ℕ) (start searched at : ℕ) (low : start ≤ searched) (high : searched ≤ at) where
+    pub span-none : HasNoEnd q e w (slice_range bytes start searched) → (other : ℕ) → All (λ b. is_byte2 other e b ≡ false) (slice_range bytes searched at) → HasNoEnd q e w (slice_range bytes start at)
+    span-none none other plain =
+        subst (HasNoEnd q e w) (sym (slice-more bytes start searched at low high)) (end-append w (slice_range bytes start searched) (slice_range bytes searched at) none
+        (end-plain _ _ (λ k d inside. (or_parts _ _ (plain k d inside)).1)))
+
+    pub span-after : here ≡ after_text q w (slice_range bytes start searched) → there ≡ after_text q here (slice_range bytes searched at) → there ≡ after_text q w (slice_range bytes start at)
+    span-after so_far is =
+        is ∙ ap (λ v. after_text q v (slice_range bytes searched at)) so_far ∙ sym (after-append q w (slice_range bytes start searched) (slice_range bytes searched at))
+        ∙ ap (after_text q w) (sym (slice-more bytes start searched at low high))
 
   -- a field or a record from `start` on of which the bytes before `at` are searched, and then one more
   module _ (w : Within) (bytes : List ℕ) (start at : ℕ) (ordered : start ≤ at) (low : at < length bytes) (none : HasNoEnd q e w (slice_range bytes start at)) (here : Within)

@@ -1,13 +1,16 @@
 //! Where fields, lines and records end.
-ghost use Rattle.std.specs.Prelude.{◌≡◌, ◌==◌, ◌≤◌, ◌<◌, All, false, get_or, length, slice_range};
+ghost use Rattle.std.specs.Prelude.{◌≡◌, ◌≤◌, All, false, length, slice_range};
+ghost use Rattle.memchr.specs.Find.{is_byte2};
 ghost use Rattle.regroup_lines.specs.Ended.{len_without, without_end};
 ghost use Rattle.regroup_lines.specs.Records.{EndsAt};
 
-use crate::records::Within;
-use memchr::memchr;
+use crate::records::{QUOTE, Within};
+use memchr::memchr2;
 
 /// Searches bytes from a place on, of which the next is `within` a record, for the first one of this value that is not in quotes. Returns where
 /// it is, or how many bytes there are, and where that is in the record.
+///
+/// It goes from one quote or byte of this value to the next.
 #[inline]
 pub(crate) fn find_end(
     quotes: Option<u8>,
@@ -19,44 +22,31 @@ pub(crate) fn find_end(
     requires { start ≤ length bytes.now }
     ensures { EndsAt quotes end within bytes.now start result.0 result.1 }
 {
-    match quotes {
-        None if !within.is_inside() => (search(end, bytes, start), within),
-        _ => find_past_quotes(quotes, end, within, bytes, start),
-    }
-}
-
-/// Does the same byte after byte.
-fn find_past_quotes(
-    quotes: Option<u8>,
-    end: u8,
-    within: Within,
-    bytes: &[u8],
-    start: usize,
-) -> (usize, Within)
-    requires { start ≤ length bytes.now }
-    ensures { EndsAt quotes end within bytes.now start result.0 result.1 }
-{
-    let mut here = within;
-    for at in start..bytes.len() {
-        let byte = bytes[at];
-        if here.is_end(end, byte) {
+    let other = match quotes {
+        Some(_) => QUOTE,
+        None => end,
+    };
+    let (mut here, mut searched) = (within, start);
+    'stops: loop {
+        let at = search(other, end, bytes, searched);
+        here = here.after_plain(quotes, &bytes[searched..at]);
+        if at == bytes.len() || here.is_end(end, bytes[at]) {
             return (at, here);
         }
-        here = here.after_next(quotes, byte);
+        here = here.after_next(quotes, bytes[at]);
+        searched = at + 1;
     }
-    (bytes.len(), here)
 }
 
-/// Returns where the first byte of this value is from a place on, or how many bytes there are.
+/// Returns where the first byte of one of these values is from a place on, or how many bytes there are.
 #[inline]
-fn search(byte: u8, bytes: &[u8], start: usize) -> usize
+fn search(first: u8, second: u8, bytes: &[u8], start: usize) -> usize
     requires { start ≤ length bytes.now }
     ensures ordered { start ≤ result }
     ensures within { result ≤ length bytes.now }
-    ensures none { All (λ b. (b == byte) ≡ false) (slice_range bytes.now start result) }
-    ensures found { result < length bytes.now → get_or bytes.now result 0 ≡ byte }
+    ensures none { All (λ b. is_byte2 first second b ≡ false) (slice_range bytes.now start result) }
 {
-    match memchr(byte, &bytes[start..]) {
+    match memchr2(first, second, &bytes[start..]) {
         Some(index) => start + index,
         None => bytes.len(),
     }

@@ -551,15 +551,18 @@ fn send_part<W: Write>(part: &(Quotes, &[u8]), w: &mut W) -> io::Result<()>
 }
 
 /// Sends a text with each quote doubled.
+#[tactic(auto, using(crate::proofs::CsvLemmas::unquoted_prefix, crate::proofs::CsvLemmas::unquoted_whole))]
 fn send_doubled<W: Write>(text: &[u8], w: &mut W) -> io::Result<()>
     ensures { Sends result (W.contents w.old) (W.contents w.new) (doubled text.now) }
 {
+    if !text.contains(&QUOTE) {
+        write_whole(text, w)?;
+        return Ok(());
+    }
     for byte in text {
-        if *byte == QUOTE {
-            write_whole(&[QUOTE, QUOTE], w)?;
-        } else {
-            write_whole(&[*byte], w)?;
-        }
+        let twice = [*byte, *byte];
+        let len = if *byte == QUOTE { 2 } else { 1 };
+        write_whole(&twice[..len], w)?;
     }
     Ok(())
 }

@@ -1,7 +1,7 @@
 //! Where records of RFC 4180 end: a byte in quotes ends no field and no record.
-ghost use Rattle.std.specs.Prelude.{◌≡◌, ◌==◌, ◌&&◌, not};
+ghost use Rattle.std.specs.Prelude.{◌≡◌, ◌==◌, ◌&&◌, All, None, false, not};
 ghost use Rattle.regroup_lines.specs.Lines.{quotes_in};
-ghost use Rattle.regroup_lines.specs.Records.{after_byte, after_next, after_text, is_inside, is_open, line_reached};
+ghost use Rattle.regroup_lines.specs.Records.{after_byte, after_next, after_text, is_inside, is_open, is_quote, line_reached};
 
 use crate::rules::Rules;
 
@@ -43,6 +43,18 @@ impl Within {
         match quotes {
             Some(delimiter) => self.after_byte(delimiter, byte),
             None => self,
+        }
+    }
+
+    /// Returns where the byte after a text without quotes is.
+    #[inline]
+    pub(crate) fn after_plain(self, quotes: Option<u8>, text: &[u8]) -> Within
+        requires { ¬ (quotes ≡ None) → All (λ b. is_quote b ≡ false) text.now }
+        ensures { result ≡ after_text quotes self text.now }
+    {
+        match (quotes, text) {
+            (Some(delimiter), [.., last]) if !self.is_inside() => self.after_byte(delimiter, *last),
+            _ => self,
         }
     }
 
