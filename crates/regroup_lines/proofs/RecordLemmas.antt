@@ -1,6 +1,6 @@
 -- Where records and their fields end, byte after byte.
 use Rattle.regroup_lines.proofs.Common.{◌≡◌, ℕ, ◌+◌, ◌-◌, ◌<◌, ◌≤◌, ◌==◌, Bool, true, false, List, [], ◌∷◌, ◌++◌, length, take, drop, get_or, slice_range, Option, Some, None, if◌then◌else◌, refl, sym, ap, subst, ◌∙◌, arith, append-nil, eq-eqb, take-append-drop, All, cond, ◌&&◌, not, suc, fold, join_with_byte, onto_first, eqb-true, or_from, or_parts, drop-drop, drop_more, get_or-drop, length-drop, take_all, take_more, fold-append, sum_by-append, take-add, FindsEnd, HasNoEnd, IsRecord, after_byte, after_next, after_record_byte, EndsAt, after_text, has_end, is_inside, line_reached, lines_ended, split_at, Within, after_bare, is_quote, Start}
-use Rattle.memchr.specs.Find.{is_byte2}
+use Rattle.regroup_lines.specs.Records.{is_stop}
 use Rattle.regroup_lines.specs.declared.records.Within.TheVariants.{Bare, Closing, Quoted}
 
 -- what follows no byte, one byte and others, and two texts
@@ -165,12 +165,16 @@ module _ (q : Option ℕ) (e : ℕ) where
   split-first w xs ys is =
       split-more w xs (e ∷ ys) is.0 ∙ ap (onto xs) (ended-here (after_text q w xs) ys is.1) ∙ ap (λ l. l ∷ split_at q e Start ys) (append-nil xs)
 
+  no-stop : (p : Option ℕ) (b : ℕ) → is_stop p e b ≡ false → (b == e) ≡ false
+  no-stop None b plain = plain
+  no-stop (Some d) b plain = (or_parts (b == 34) (b == e) plain).1
+
   -- a text without this byte, after those that were searched
   module _ (w here there : Within) (bytes : List ℕ) (start searched at : ℕ) (low : start ≤ searched) (high : searched ≤ at) where
-    pub span-none : HasNoEnd q e w (slice_range bytes start searched) → (other : ℕ) → All (λ b. is_byte2 other e b ≡ false) (slice_range bytes searched at) → HasNoEnd q e w (slice_range bytes start at)
-    span-none none other plain =
+    pub span-none : HasNoEnd q e w (slice_range bytes start searched) → All (λ b. is_stop q e b ≡ false) (slice_range bytes searched at) → HasNoEnd q e w (slice_range bytes start at)
+    span-none none plain =
         subst (HasNoEnd q e w) (sym (slice-more bytes start searched at low high)) (end-append w (slice_range bytes start searched) (slice_range bytes searched at) none
-        (end-plain _ _ (λ k d inside. (or_parts _ _ (plain k d inside)).1)))
+        (end-plain _ _ (λ k d inside. no-stop q _ (plain k d inside))))
 
     pub span-after : here ≡ after_text q w (slice_range bytes start searched) → there ≡ after_text q here (slice_range bytes searched at) → there ≡ after_text q w (slice_range bytes start at)
     span-after so_far is =

@@ -1,10 +1,16 @@
 -- The number in the text of a line.
-use Rattle.regroup_lines.proofs.Common.{Bool, Err, FixedPoint, FormatData, HasUtf8Texts, IsUtf8, IsUtf8-from_is_utf8, Lenient, List, MarksDecimals, None, Ok, ParseDecimalError, ParsesDecimal, Refused, Result, Strict, ap, decimal_read, decimal_text, denoted, false, false_from_ne_true, is_utf8, is_utf8-from_IsUtf8, number_written, refl, sym, text_fault, text_of, true, ℕ, ℤ, ◌↔◌, ◌≡◌}
+use Rattle.regroup_lines.proofs.Common.{Bool, Err, append-nil, fixed_point, FixedPoint, FormatData, HasUtf8Texts, IsUtf8, IsUtf8-from_is_utf8, Lenient, List, MarksDecimals, None, Ok, ParseDecimalError, ParsesDecimal, Refused, Result, Strict, ap, decimal_read, decimal_text, denoted, false, false_from_ne_true, is_utf8, is_utf8-from_IsUtf8, number_written, refl, sym, text_fault, text_of, true, ℕ, ℤ, ◌↔◌, ◌≡◌}
 use Rattle.num_format.specs.Kind.{signed}
+use Rattle.std.proofs.Math.Nat.{div-one}
+use Rattle.std.specs.Prelude.{unsigned_abs}
 use Rattle.num_format.specs.ParseBytesError.{ParseBytesError}
 use Rattle.num_format.specs.ParseBytesError.TheVariants.{NotANumber, NotUtf8}
 use Rattle.num_format.proofs.ReadableLemmas.{readable-from_accepted, unreadable-from_refused}
 use Rattle.regroup_lines.proofs.DecimalLemmas.{decimal_read-ambiguous, decimal_read-parsed, decimal_read-refused, parsed-utf8}
+
+-- the text of a whole number as a decimal
+pub whole_text : (f : FormatData) (d : FixedPoint) (n : ℤ) → d ≡ fixed_point n 0 → decimal_text f d ≡ text_of f n
+whole_text f d n is = rw (is, div-one (unsigned_abs n), append-nil) refl
 
 module _ (from to : FormatData) (number : ℕ) (text : List ℕ) where
   -- the text of a number that is read strictly

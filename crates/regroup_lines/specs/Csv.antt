@@ -1,17 +1,16 @@
 -- The number in a field, which may be in quotes.
-use Rattle.std.specs.Borrow.{Bor}
 use Rattle.std.specs.Prelude.{ℕ, ◌+◌, ◌-◌, ◌==◌, nat_le, Bool, true, false, ◌&&◌, ◌||◌, cond, if◌then◌else◌, List, [], ◌∷◌, ◌++◌, length, take, drop, Option, None, Some}
 use Rattle.std.specs.List.{flat_map, list_any, slice_index}
 use Rattle.std.specs.Option.{option_map, unwrap_or}
 use Rattle.regroup_lines.specs.Ended.{len_without, without_end}
 use Rattle.regroup_lines.specs.Places.{trimmed}
 use Rattle.regroup_lines.specs.Records.{is_quote}
-use Rattle.regroup_lines.specs.declared.fields.Quotes.{Quotes}
-use Rattle.regroup_lines.specs.declared.fields.Quotes.TheVariants.{Doubled, Plain}
 use Rattle.regroup_lines.specs.declared.rules.Fields.{Fields}
 use Rattle.regroup_lines.specs.declared.rules.Output.{Output}
 use Rattle.regroup_lines.specs.declared.rules.Quoting.{Quoting}
 use Rattle.regroup_lines.specs.declared.rules.Quoting.TheVariants.{Keep, Necessary}
+use Rattle.regroup_lines.specs.declared.sending.Part.{Part}
+use Rattle.regroup_lines.specs.declared.sending.Part.TheVariants.{Doubled, Plain}
 
 -- whether a field begins with a quote, and has one at the end of this place
 abbrev pub is_quoted : List ℕ → ℕ × ℕ → Bool
@@ -73,9 +72,9 @@ abbrev pub bare_of : (is_quoted : Bool) → List ℕ → List ℕ
 bare_of is_quoted after = if is_quoted then drop 1 (drop (quoted_len after) after) else after
 
 -- a part of a text as it is sent
-abbrev pub part_text : Quotes × Bor (List ℕ) → List ℕ
-part_text (Plain, bytes) = bytes.now
-part_text (Doubled, bytes) = doubled bytes.now
+abbrev pub part_text : Part → List ℕ
+part_text (Plain bytes) = bytes.now
+part_text (Doubled bytes) = doubled bytes.now
 
 -- a text of a field as an output has it, with what is around it: in quotes if it has to be, or if it was and these are kept, and each quote
 -- is then doubled, as those are that were in quotes; a last carriage return may end the line

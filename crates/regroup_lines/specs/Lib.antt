@@ -10,7 +10,6 @@ pub mod LineFaults
 pub mod Lines
 pub mod Lists
 pub mod Messages
-pub mod Numbers
 pub mod Places
 pub mod Quoting
 pub mod Records

@@ -1,6 +1,7 @@
 -- Where lines, records of RFC 4180 and their fields end. A byte inside quotes ends none.
 use Rattle.std.specs.Prelude.{◌≡◌, ℕ, ◌+◌, ◌-◌, ◌^◌, ◌<◌, ◌≤◌, ◌==◌, get_or, length, min, slice_range, Bool, false, true, ◌&&◌, ◌||◌, not, if◌then◌else◌, List, [], ◌∷◌, Option, None, Some}
 use Rattle.std.specs.List.{count_by, fold, onto_first}
+use Rattle.memchr.specs.Find.{is_byte, is_byte2}
 use Rattle.regroup_lines.specs.declared.records.Within.{Within}
 use Rattle.regroup_lines.specs.declared.records.Within.TheVariants.{Start, Bare, Quoted, Closing}
 
@@ -46,6 +47,11 @@ split_at quotes end within (b ∷ text) =
 abbrev pub has_end : (quotes : Option ℕ) → (end : ℕ) → Within → List ℕ → Bool
 has_end quotes end within [] = false
 has_end quotes end within (b ∷ text) = ((b == end) && not (is_inside within)) || has_end quotes end (after_next quotes within b) text
+
+-- whether a search for a byte that ends a part looks at this one: it passes over the others
+abbrev pub is_stop : (quotes : Option ℕ) → (end : ℕ) → ℕ → Bool
+is_stop None end b = is_byte end b
+is_stop (Some delimiter) end b = is_byte2 34 end b
 
 -- a search of bytes from `start` on for the first one of this value that is not inside quotes: where it is, or how many bytes there are, and
 -- where that is in the record

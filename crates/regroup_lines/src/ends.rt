@@ -1,17 +1,16 @@
 //! Where fields, lines and records end.
 ghost use Rattle.std.specs.Prelude.{◌≡◌, ◌≤◌, All, false, length, slice_range};
-ghost use Rattle.memchr.specs.Find.{is_byte2};
 ghost use Rattle.regroup_lines.specs.Ended.{len_without, without_end};
-ghost use Rattle.regroup_lines.specs.Records.{EndsAt};
+ghost use Rattle.regroup_lines.specs.Records.{EndsAt, is_stop};
 
 use crate::records::{QUOTE, Within};
-use memchr::memchr2;
+use memchr::{memchr, memchr2};
 
 /// Searches bytes from a place on, of which the next is `within` a record, for the first one of this value that is not in quotes. Returns where
 /// it is, or how many bytes there are, and where that is in the record.
 ///
 /// It goes from one quote or byte of this value to the next.
-#[inline]
+#[inline(always)]
 pub(crate) fn find_end(
     quotes: Option<u8>,
     end: u8,
@@ -22,13 +21,9 @@ pub(crate) fn find_end(
     requires { start ≤ length bytes.now }
     ensures { EndsAt quotes end within bytes.now start result.0 result.1 }
 {
-    let other = match quotes {
-        Some(_) => QUOTE,
-        None => end,
-    };
     let (mut here, mut searched) = (within, start);
     'stops: loop {
-        let at = search(other, end, bytes, searched);
+        let at = search(quotes, end, bytes, searched);
         here = here.after_plain(quotes, &bytes[searched..at]);
         if at == bytes.len() || here.is_end(end, bytes[at]) {
             return (at, here);
@@ -38,15 +33,20 @@ pub(crate) fn find_end(
     }
 }
 
-/// Returns where the first byte of one of these values is from a place on, or how many bytes there are.
-#[inline]
-fn search(first: u8, second: u8, bytes: &[u8], start: usize) -> usize
+/// Returns where the first byte of this value is from a place on, or the first quote if fields may be in quotes, or how many bytes there are.
+#[inline(always)]
+fn search(quotes: Option<u8>, end: u8, bytes: &[u8], start: usize) -> usize
     requires { start ≤ length bytes.now }
     ensures ordered { start ≤ result }
     ensures within { result ≤ length bytes.now }
-    ensures none { All (λ b. is_byte2 first second b ≡ false) (slice_range bytes.now start result) }
+    ensures none { All (λ b. is_stop quotes end b ≡ false) (slice_range bytes.now start result) }
 {
-    match memchr2(first, second, &bytes[start..]) {
+    let rest = &bytes[start..];
+    let found = match quotes {
+        Some(_) => memchr2(QUOTE, end, rest),
+        None => memchr(end, rest),
+    };
+    match found {
         Some(index) => start + index,
         None => bytes.len(),
     }

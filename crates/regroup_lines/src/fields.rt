@@ -4,29 +4,27 @@ ghost use Rattle.std.specs.List.{flat_map, list_any};
 ghost use Rattle.std.specs.Option.{is_some, option_map};
 ghost use Rattle.std.specs.Result.{result_map_both};
 ghost use Rattle.num_format.specs.Format.{FormatData};
+ghost use Rattle.num_format_decimal.specs.Text.{decimal_text};
 ghost use Rattle.num_format.specs.Writing.{Sends};
 ghost use Rattle.regroup_lines.specs.Ended.{ended_by};
 ghost use Rattle.regroup_lines.specs.Csv.{bare_of, before_field, doubled, enclosed, field_with, front_of, is_barred, is_opened, is_quoted, needs_quotes, number_place, output_as, part_text, placed, quoted_len, quoted_of};
 ghost use Rattle.regroup_lines.specs.Fields.{IsOnly, SendsIf, SendsOrFails, SendsUnless};
 ghost use Rattle.regroup_lines.specs.LineFaults.{line_fault_of};
 ghost use Rattle.regroup_lines.specs.Lines.{after, field_read, field_written, fields_of, fields_replaced, line_ended};
-ghost use Rattle.regroup_lines.specs.Numbers.{number_text};
 ghost use Rattle.regroup_lines.specs.Places.{trimmed};
 ghost use Rattle.regroup_lines.specs.Sending.{SendsLine};
 
 use crate::ends::{find_end, len_without};
-use crate::fields::Quotes::{Doubled, Plain};
 use crate::job::Job;
 use crate::line_fault::LineFault;
-use crate::number::Number;
 use crate::records::{QUOTE, Within};
 use crate::rules::{Fields, Output, Quoting, Rules, trim};
-use crate::write_both;
-use num_format::to_formatted_string::write_whole;
-use num_format::{Buffer, Format};
-use num_format_decimal::DecimalBuffer;
+use crate::sending::Part::{Doubled, Plain};
+use crate::sending::{Unsent, send_all, send_both, send_whole};
+use num_format::Format;
+use num_format_decimal::{Decimal, DecimalBuffer};
 use std::io::Write;
-use std::{io, slice};
+use std::slice;
 
 /// Where the number is in a field, and whether quotes are around it.
 #[derive(Clone, Copy)]
@@ -47,15 +45,6 @@ struct Field<'a> {
     passed: &'a [u8],
     /// Its bytes.
     text: &'a [u8],
-}
-
-/// How the quotes of a text are sent.
-#[derive(Clone, Copy)]
-enum Quotes {
-    /// As they are.
-    Plain,
-    /// Each one twice.
-    Doubled,
 }
 
 /// Sends a line with the number in each chosen field regrouped, and the byte that ends it.
@@ -153,7 +142,7 @@ fn end_line<W: Write>(
     if !sends {
         return Ok(());
     }
-    write_both(rest, &[rules.line_end], w).or(Err(LineFault::Write))
+    send_both(rest, &[rules.line_end], w).or(Err(LineFault::Write))
 }
 
 /// Returns where the field ends that begins at `start`: at the next delimiter that is not in quotes, or at the end of the line.
@@ -195,7 +184,14 @@ fn regroup_field<'a, W: Write, F: Format, G: Format>(
     }
     let place = place_in(fields.quotes, field.text);
     match read_field(job, fields.quotes, place, field.text, number) {
-        Ok(Some(value)) => send_value(sends, job, fields, field, place, &value, w),
+        Ok(Some(value)) => {
+            if !sends {
+                return Ok(());
+            }
+            let text = DecimalBuffer::of(&value, job.to);
+            let sent = send_text(job.rules, fields, field, place, text.as_str(), w);
+            sent.or(Err(LineFault::Write))
+        }
         Ok(None) => send_unchanged(sends, job.rules, fields, field, w),
         Err(fault) => Err(fault.in_field(field.count)),
     }
@@ -216,7 +212,7 @@ fn send_unchanged<W: Write>(
         return Ok(());
     }
     if fields.output.is_none() {
-        let sent = send_all(&[(Plain, field.passed), (Plain, field.text)], w);
+        let sent = send_both(field.passed, field.text, w);
         return sent.or(Err(LineFault::Write));
     }
     // Its text begins after the quote that opens it, if there is one.
@@ -284,11 +280,11 @@ fn read_field<'a, F: Format, G: Format>(
     place: Place,
     field: &'a [u8],
     number: u64,
-) -> Result<Option<Number>, LineFault<'a>>
+) -> Result<Option<Decimal>, LineFault<'a>>
     requires place { (place.start, place.end) ≡ number_place quotes field.now }
     requires ordered { place.start ≤ place.end }
     requires within { place.end ≤ length field.now }
-    ensures { (to : FormatData) → result_map_both (option_map (number_text to)) line_fault_of result
+    ensures { (to : FormatData) → result_map_both (option_map (decimal_text to)) line_fault_of result
         ≡ field_read job.now.rules.now quotes job.now.parser to number field.now }
 {
     let (start, end) = (place.start, place.end);
@@ -312,39 +308,6 @@ fn is_any_barred(line_end: u8, text: &[u8]) -> bool
     text.iter().any(|byte| *byte == QUOTE || *byte == line_end)
 }
 
-/// Sends a field with the text of a number at this place, and the bytes that are passed on before it, if it `sends`.
-fn send_value<W: Write, F: Format, G: Format>(
-    sends: bool,
-    job: &Job<F, G>,
-    fields: &Fields,
-    field: &Field<'_>,
-    place: Place,
-    value: &Number,
-    w: &mut W,
-) -> Result<(), LineFault<'static>>
-    requires ordered { place.start ≤ place.end }
-    requires within { place.end ≤ length field.now.text.now }
-    ensures { SendsIf sends
-        (before_field fields.now field.now.passed.now
-        ++ placed fields.now job.now.rules.now.line_end place.is_quoted (take place.start field.now.text.now) (drop place.end field.now.text.now) (number_text (G.answers job.now.to.now) value.now))
-        (W.contents w.old) (W.contents w.new) (result_map_both (λ sent. sent) line_fault_of result) }
-{
-    if !sends {
-        return Ok(());
-    }
-    let sent = match value {
-        Number::Whole(value) => {
-            let text = Buffer::of(value, job.to);
-            send_text(job.rules, fields, field, place, text.as_str(), w)
-        }
-        Number::Decimal(value) => {
-            let text = DecimalBuffer::of(value, job.to);
-            send_text(job.rules, fields, field, place, text.as_str(), w)
-        }
-    };
-    sent.or(Err(LineFault::Write))
-}
-
 /// Sends a field with a text at this place, after the bytes that are passed on before it.
 #[tactic(auto, using(crate::proofs::AroundLemmas::passed_prefix, crate::proofs::AroundLemmas::passed_suffix, crate::proofs::AroundLemmas::passed_whole))]
 fn send_text<W: Write>(
@@ -354,14 +317,14 @@ fn send_text<W: Write>(
     place: Place,
     text: &str,
     w: &mut W,
-) -> io::Result<()>
+) -> Result<(), Unsent>
     requires ordered { place.start ≤ place.end }
     requires within { place.end ≤ length field.now.text.now }
     ensures { Sends result (W.contents w.old) (W.contents w.new)
         (before_field fields.now field.now.passed.now
         ++ placed fields.now rules.now.line_end place.is_quoted (take place.start field.now.text.now) (drop place.end field.now.text.now) text.now) }
 {
-    write_whole(before_field(fields, field.passed), w)?;
+    send_whole(before_field(fields, field.passed), w)?;
     let (before, _) = field.text.split_at(place.start);
     let (_, after) = field.text.split_at(place.end);
     let (line_end, text) = (rules.line_end, text.as_bytes());
@@ -390,25 +353,25 @@ fn send_enclosed<'a, W: Write>(
     after: &'a [u8],
     text: &'a [u8],
     w: &mut W,
-) -> io::Result<()>
+) -> Result<(), Unsent>
     ensures { Sends result (W.contents w.old) (W.contents w.new) (enclosed fields.now line_end is_quoted before.now after.now text.now) }
 {
     if !fields.quotes || !any_needs_quotes(fields.delimiter, line_end, text) {
-        return send_all(&[(Plain, before), (Plain, text), (Plain, after)], w);
+        return send_all(&[Plain(before), Plain(text), Plain(after)], w);
     }
     if is_quoted {
-        return send_all(&[(Plain, before), (Doubled, text), (Plain, after)], w);
+        return send_all(&[Plain(before), Doubled(text), Plain(after)], w);
     }
     // A last carriage return may end the line.
     let (blanks, end) = after.split_at(len_without(b'\r', after));
     send_all(
         &[
-            (Plain, b"\""),
-            (Plain, before),
-            (Doubled, text),
-            (Plain, blanks),
-            (Plain, b"\""),
-            (Plain, end),
+            Plain(b"\""),
+            Plain(before),
+            Doubled(text),
+            Plain(blanks),
+            Plain(b"\""),
+            Plain(end),
         ],
         w,
     )
@@ -423,7 +386,7 @@ fn send_output<'a, W: Write>(
     after: &'a [u8],
     text: &'a [u8],
     w: &mut W,
-) -> io::Result<()>
+) -> Result<(), Unsent>
     ensures { Sends result (W.contents w.old) (W.contents w.new) (output_as output.now line_end is_quoted before.now after.now text.now) }
 {
     let (after, end) = after.split_at(len_without(b'\r', after));
@@ -433,24 +396,24 @@ fn send_output<'a, W: Write>(
     if is_kept || any_part_needs_quotes(output.delimiter, line_end, &parts) {
         send_all(
             &[
-                (Plain, b"\""),
-                (Doubled, front),
-                (Doubled, text),
-                (Plain, quoted),
-                (Doubled, bare),
-                (Plain, b"\""),
-                (Plain, end),
+                Plain(b"\""),
+                Doubled(front),
+                Doubled(text),
+                Plain(quoted),
+                Doubled(bare),
+                Plain(b"\""),
+                Plain(end),
             ],
             w,
         )
     } else {
         send_all(
             &[
-                (Plain, front),
-                (Plain, text),
-                (Plain, quoted),
-                (Plain, bare),
-                (Plain, end),
+                Plain(front),
+                Plain(text),
+                Plain(quoted),
+                Plain(bare),
+                Plain(end),
             ],
             w,
         )
@@ -525,44 +488,4 @@ fn needs_quotes(delimiter: u8, line_end: u8, byte: u8) -> bool
     ensures { result ≡ needs_quotes delimiter line_end byte }
 {
     byte == QUOTE || byte == delimiter || byte == line_end || byte == b'\r' || byte == b'\n'
-}
-
-/// Sends the parts of a text in turn.
-fn send_all<W: Write>(parts: &[(Quotes, &[u8])], w: &mut W) -> io::Result<()>
-    ensures { Sends result (W.contents w.old) (W.contents w.new) (flat_map part_text parts.now) }
-{
-    for part in parts {
-        send_part(part, w)?;
-    }
-    Ok(())
-}
-
-/// Sends a part of a text.
-fn send_part<W: Write>(part: &(Quotes, &[u8]), w: &mut W) -> io::Result<()>
-    ensures { Sends result (W.contents w.old) (W.contents w.new) (part_text part.now) }
-{
-    match part {
-        (Plain, text) => {
-            write_whole(text, w)?;
-            Ok(())
-        }
-        (Doubled, text) => send_doubled(text, w),
-    }
-}
-
-/// Sends a text with each quote doubled.
-#[tactic(auto, using(crate::proofs::CsvLemmas::unquoted_prefix, crate::proofs::CsvLemmas::unquoted_whole))]
-fn send_doubled<W: Write>(text: &[u8], w: &mut W) -> io::Result<()>
-    ensures { Sends result (W.contents w.old) (W.contents w.new) (doubled text.now) }
-{
-    if !text.contains(&QUOTE) {
-        write_whole(text, w)?;
-        return Ok(());
-    }
-    for byte in text {
-        let twice = [*byte, *byte];
-        let len = if *byte == QUOTE { 2 } else { 1 };
-        write_whole(&twice[..len], w)?;
-    }
-    Ok(())
 }

@@ -29,10 +29,10 @@ mod number;
 mod quoting;
 mod records;
 pub mod rules;
+mod sending;
 
 ghost use Rattle.std.specs.Prelude.{◌≡◌, ◌+◌, ◌++◌, [], ◌≤◌, length, true};
 ghost use Rattle.std.specs.Result.{result_map_both};
-ghost use Rattle.num_format.specs.Writing.{Sends};
 ghost use Rattle.regroup_lines.specs.Ended.{ended_by};
 ghost use Rattle.regroup_lines.specs.Fault.{are_any, fault_of};
 ghost use Rattle.regroup_lines.specs.Input.{IsLong, array_len, held};
@@ -52,13 +52,16 @@ use crate::job::Job;
 use crate::line_fault::LineFault;
 pub use crate::list::field_list;
 pub use crate::message::{MAX_DISPLAYED_LEN, MAX_FAULT_MESSAGE_LEN, MAX_NAME_LEN, fault_message};
-use crate::number::{Around, Parser, send_whole};
+use crate::number::Parser;
 pub use crate::quoting::{MAX_QUOTED_LEN, quoted, shown};
 use crate::records::{Within, is_open, line_reached};
 use crate::rules::{MARK, trim};
 pub use crate::rules::{FieldRange, Fields, Invalid, Output, Quoting, Reading, Rules, Span};
+use crate::sending::Part::Plain;
+use crate::sending::{send_all, send_both, send_whole};
 use num_format::Format;
 use num_format::to_formatted_string::write_whole;
+use num_format_decimal::DecimalBuffer;
 use std::io;
 use std::io::{Read, Write};
 use std::ops::Range;
@@ -102,8 +105,7 @@ pub struct Summary {
 ///
 /// Of each line, all digits and a minus sign at its start are parsed. Each character that is not numeric is ignored,
 /// as [`parse_formatted`](num_format::parsing::ParseFormatted::parse_formatted) does. So a carriage
-/// return before the newline is ignored too, but counts as a byte of the line. A line and its newline
-/// are written together, by one write if that writes all of them.
+/// return before the newline is ignored too, but counts as a byte of the line.
 ///
 /// # Errors
 ///
@@ -323,7 +325,7 @@ fn regroup_line<'a, W: Write, E: Write, X: Write, F: Format, G: Format>(
         (result_map_both (λ told. told) line_fault_of result) }
 {
     if number <= job.rules.header_lines {
-        return match write_both(text, &[job.rules.line_end], w) {
+        return match send_both(text, &[job.rules.line_end], w) {
             Ok(()) => Ok(false),
             Err(_) => Err(LineFault::Write),
         };
@@ -465,9 +467,9 @@ fn pass_bytes<W: Write, X: Write>(
         (bytes.now ++ end.now) (result_map_both (λ sent. sent) line_fault_of result) }
 {
     if rules.rejects {
-        write_both(bytes, end, x).or(Err(LineFault::Reject))
+        send_both(bytes, end, x).or(Err(LineFault::Reject))
     } else {
-        write_both(bytes, end, w).or(Err(LineFault::Write))
+        send_both(bytes, end, w).or(Err(LineFault::Write))
     }
 }
 
@@ -566,26 +568,17 @@ fn regroup_place<'a, W: Write, F: Format, G: Format>(
 {
     let (start, end) = (place.start, place.end);
     if job.rules.passes_empty && start == end {
-        return write_both(text, &[job.rules.line_end], w).or(Err(LineFault::Write));
+        return send_both(text, &[job.rules.line_end], w).or(Err(LineFault::Write));
     }
-    let around = Around {
-        before: &text[..start],
-        after: &text[end..],
-    };
     let value = job
         .parser
         .read(job.rules.reading, &text[start..end], number)?;
-    value
-        .send_line(&around, job.rules.line_end, w, job.to)
-        .or(Err(LineFault::Write))
-}
-
-/// Writes bytes, and others after them.
-#[tactic(auto, using(crate::proofs::AroundLemmas::passed_prefix, crate::proofs::AroundLemmas::passed_suffix, crate::proofs::AroundLemmas::passed_whole))]
-fn write_both<W: Write>(first: &[u8], second: &[u8], w: &mut W) -> io::Result<()>
-    ensures { Sends result (W.contents w.old) (W.contents w.new) (first.now ++ second.now) }
-{
-    write_whole(first, w)?;
-    write_whole(second, w)?;
-    Ok(())
+    let number = DecimalBuffer::of(&value, job.to);
+    let parts = [
+        Plain(&text[..start]),
+        Plain(number.as_str().as_bytes()),
+        Plain(&text[end..]),
+        Plain(&[job.rules.line_end]),
+    ];
+    send_all(&parts, w).or(Err(LineFault::Write))
 }

@@ -7,7 +7,7 @@ pub returns-then-at-bytes : goal.returns-then-at-bytes
 returns-then-at-bytes c = record {
   ordered = omega (arith, c.stops.invariant.0, c.search-at.ensures.ordered);
   inside = c.search-at.ensures.within;
-  none = span-none c.args.quotes c.args.end c.args.within c.stops.here c.after_plain-here.result c.args.bytes.now c.args.start c.stops.searched c.search-at.result c.stops.invariant.0 c.search-at.ensures.ordered c.stops.invariant.2 _ c.search-at.ensures.none;
+  none = span-none c.args.quotes c.args.end c.args.within c.stops.here c.after_plain-here.result c.args.bytes.now c.args.start c.stops.searched c.search-at.result c.stops.invariant.0 c.search-at.ensures.ordered c.stops.invariant.2 c.search-at.ensures.none;
   after = span-after c.args.quotes c.args.end c.args.within c.stops.here c.after_plain-here.result c.args.bytes.now c.args.start c.stops.searched c.search-at.result c.stops.invariant.0 c.search-at.ensures.ordered c.stops.invariant.3 c.after_plain-here.ensures;
   found = λ low. elim c.then-at-bytes.branch [
     | then-at-bytes-via-then-at-bytes w ↦ absurd (omega (arith, low, w.if-at-bytes.true))
@@ -21,7 +21,7 @@ pub stops-preserved : goal.stops-preserved
 stops-preserved c =
     let low : c.search-at.result < length c.args.bytes.now = omega (arith, c.search-at.ensures.within, c.if-at-bytes.false) in
     let ordered : c.args.start ≤ c.search-at.result = omega (arith, c.stops.invariant.0, c.search-at.ensures.ordered) in
-    let none = span-none c.args.quotes c.args.end c.args.within c.stops.here c.after_plain-here.result c.args.bytes.now c.args.start c.stops.searched c.search-at.result c.stops.invariant.0 c.search-at.ensures.ordered c.stops.invariant.2 _ c.search-at.ensures.none in
+    let none = span-none c.args.quotes c.args.end c.args.within c.stops.here c.after_plain-here.result c.args.bytes.now c.args.start c.stops.searched c.search-at.result c.stops.invariant.0 c.search-at.ensures.ordered c.stops.invariant.2 c.search-at.ensures.none in
     let after = span-after c.args.quotes c.args.end c.args.within c.stops.here c.after_plain-here.result c.args.bytes.now c.args.start c.stops.searched c.search-at.result c.stops.invariant.0 c.search-at.ensures.ordered c.stops.invariant.3 c.after_plain-here.ensures in (
       omega arith,
       omega arith,

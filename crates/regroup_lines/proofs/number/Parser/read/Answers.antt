@@ -1,6 +1,6 @@
-use Rattle.regroup_lines.proofs.Common.{DecimalResult, FixedPoint, FormatData, List, MarksDecimals, MatchOption, None, Ok, Option, ParseDecimalError, Result, SFits, Some, ap, rules, subst, sym, text_of, w128, ℕ, ◌∙◌, ◌≡◌}
+use Rattle.regroup_lines.proofs.Common.{DecimalResult, FixedPoint, FormatData, List, MarksDecimals, MatchOption, None, Ok, Option, ParseDecimalError, Result, SFits, Some, ap, fixed_point, rules, subst, sym, w128, ℕ, ◌∙◌, ◌≡◌}
 use Rattle.std.proofs.lemmas.Int.{to_z-of_z}
-use Rattle.regroup_lines.proofs.TextLemmas.{lenient-accepted, lenient-refused, strict-accepted, strict-ambiguous, strict-refused}
+use Rattle.regroup_lines.proofs.TextLemmas.{lenient-accepted, lenient-refused, strict-accepted, strict-ambiguous, strict-refused, whole_text}
 use Rattle.regroup_lines.proofs.number.Parser.read.Goals as goal
 
 -- the parser is one of the format
@@ -33,8 +33,10 @@ returns-in-Ok-from_formatted_bytes g c to =
     let from = g.F.Format.answers c.self.inside.format.now in
     let value = c.in-Ok-from_formatted_bytes.value in
     let fits : SFits w128 value = search rules in
-    rw (← c.self.view_is, c.in-Lenient.is) (lenient-accepted from to c.args.number c.args.text.now value c.in-Ok-from_formatted_bytes.ensures.number c.in-Ok-from_formatted_bytes.ensures.accepted
-    ∙ ap (λ n. Ok (text_of to n)) (sym (to_z-of_z w128 value fits)))
+    let whole = c.from.ensures ∙ ap (λ n. fixed_point n 0) (to_z-of_z w128 value fits) in
+    rw (← c.self.view_is, c.in-Lenient.is)
+    (lenient-accepted from to c.args.number c.args.text.now value c.in-Ok-from_formatted_bytes.ensures.number c.in-Ok-from_formatted_bytes.ensures.accepted
+    ∙ ap Ok (sym (whole_text to c.from.result value whole)))
 
 pub returns-in-Err-from_formatted_bytes : goal.returns-in-Err-from_formatted_bytes
 returns-in-Err-from_formatted_bytes g c to =

@@ -1,5 +1,5 @@
 use Rattle.regroup_lines.proofs.Common.{Appends, flat_map, part_text, take}
-use Rattle.regroup_lines.proofs.fields.send_all.Given as goal
+use Rattle.regroup_lines.proofs.sending.send_all.Given as goal
 
 -- the parts so far were sent
 abbrev pub invariant-loop-part : goal.invariant-loop-part

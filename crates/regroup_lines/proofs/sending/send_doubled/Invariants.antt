@@ -1,5 +1,5 @@
 use Rattle.regroup_lines.proofs.Common.{Appends, doubled, take}
-use Rattle.regroup_lines.proofs.fields.send_doubled.Given as goal
+use Rattle.regroup_lines.proofs.sending.send_doubled.Given as goal
 
 -- the bytes so far were sent
 abbrev pub invariant-loop-byte : goal.invariant-loop-byte

@@ -1,6 +1,6 @@
 use Rattle.regroup_lines.proofs.Common.{arith, err_from_is_err_and, length, part_text, ◌<◌}
 use Rattle.regroup_lines.proofs.CsvLemmas.{parts-unsent}
-use Rattle.regroup_lines.proofs.fields.send_all.Goals as goal
+use Rattle.regroup_lines.proofs.sending.send_all.Goals as goal
 
 pub returns-in_err-send_part : goal.returns-in_err-send_part
 returns-in_err-send_part g c =

@@ -1,0 +1,81 @@
+//! Writes of texts in parts.
+ghost use Rattle.std.specs.Prelude.{◌++◌};
+ghost use Rattle.std.specs.List.{flat_map};
+ghost use Rattle.num_format.specs.Writing.{Sends};
+ghost use Rattle.regroup_lines.specs.Csv.{doubled, part_text};
+
+use crate::records::QUOTE;
+use num_format::to_formatted_string::write_whole;
+use std::io::Write;
+
+/// A write failed, or wrote no bytes.
+///
+/// Which error it was is not kept, since no fault names it, and each call would copy the space of an error of std.
+#[derive(Clone, Copy)]
+pub(crate) struct Unsent;
+
+/// A part of a text.
+#[derive(Clone, Copy)]
+pub(crate) enum Part<'a> {
+    /// These bytes.
+    Plain(&'a [u8]),
+    /// These bytes, with each quote doubled.
+    Doubled(&'a [u8]),
+}
+
+/// Sends the parts of a text in turn.
+#[inline]
+pub(crate) fn send_all<W: Write>(parts: &[Part<'_>], w: &mut W) -> Result<(), Unsent>
+    ensures { Sends result (W.contents w.old) (W.contents w.new) (flat_map part_text parts.now) }
+{
+    for part in parts {
+        send_part(part, w)?;
+    }
+    Ok(())
+}
+
+/// Sends a part of a text.
+#[inline]
+fn send_part<W: Write>(part: &Part<'_>, w: &mut W) -> Result<(), Unsent>
+    ensures { Sends result (W.contents w.old) (W.contents w.new) (part_text part.now) }
+{
+    match part {
+        Part::Plain(text) => send_whole(text, w),
+        Part::Doubled(text) => send_doubled(text, w),
+    }
+}
+
+/// Sends a text with each quote doubled.
+#[tactic(auto, using(crate::proofs::CsvLemmas::unquoted_prefix, crate::proofs::CsvLemmas::unquoted_whole))]
+fn send_doubled<W: Write>(text: &[u8], w: &mut W) -> Result<(), Unsent>
+    ensures { Sends result (W.contents w.old) (W.contents w.new) (doubled text.now) }
+{
+    if !text.contains(&QUOTE) {
+        return send_whole(text, w);
+    }
+    for byte in text {
+        let twice = [*byte, *byte];
+        let len = if *byte == QUOTE { 2 } else { 1 };
+        send_whole(&twice[..len], w)?;
+    }
+    Ok(())
+}
+
+/// Sends bytes, and others after them.
+#[inline]
+pub(crate) fn send_both<W: Write>(first: &[u8], second: &[u8], w: &mut W) -> Result<(), Unsent>
+    ensures { Sends result (W.contents w.old) (W.contents w.new) (first.now ++ second.now) }
+{
+    send_all(&[Part::Plain(first), Part::Plain(second)], w)
+}
+
+/// Sends bytes.
+#[inline]
+pub(crate) fn send_whole<W: Write>(bytes: &[u8], w: &mut W) -> Result<(), Unsent>
+    ensures { Sends result (W.contents w.old) (W.contents w.new) bytes.now }
+{
+    match write_whole(bytes, w) {
+        Ok(_) => Ok(()),
+        Err(_) => Err(Unsent),
+    }
+}
