@@ -24,7 +24,7 @@ pub(crate) enum Part<'a> {
 }
 
 /// Sends the parts of a text in turn.
-#[inline]
+#[inline(always)]
 pub(crate) fn send_all<W: Write>(parts: &[Part<'_>], w: &mut W) -> Result<(), Unsent>
     ensures { Sends result (W.contents w.old) (W.contents w.new) (flat_map part_text parts.now) }
 {
@@ -35,7 +35,7 @@ pub(crate) fn send_all<W: Write>(parts: &[Part<'_>], w: &mut W) -> Result<(), Un
 }
 
 /// Sends a part of a text.
-#[inline]
+#[inline(always)]
 fn send_part<W: Write>(part: &Part<'_>, w: &mut W) -> Result<(), Unsent>
     ensures { Sends result (W.contents w.old) (W.contents w.new) (part_text part.now) }
 {
