@@ -41,7 +41,6 @@ ghost use Rattle.regroup_lines.specs.Lines.{body_written, fault_named, fault_sen
 ghost use Rattle.regroup_lines.specs.Records.{after_text, line_reached};
 ghost use Rattle.regroup_lines.specs.Messages.{messages};
 ghost use Rattle.regroup_lines.specs.Places.{place_of};
-ghost use Rattle.regroup_lines.specs.declared.rules.Span.TheVariants.{Trimmed};
 ghost use Rattle.regroup_lines.specs.Sending.{Names, PassesLong, Regroups, RegroupsNaming, SendsBytes, SendsEach, SendsLine, by_writer};
 
 use crate::ends::without_end;
@@ -513,8 +512,6 @@ fn regroup_marked<'a, W: Write, F: Format, G: Format>(
 }
 
 /// Sends a line with its numbers regrouped, and the byte that ends it.
-///
-/// It is inlined, so that a line that is a number alone takes neither a call for its span nor a jump through a table.
 #[inline(always)]
 fn regroup_numbers<'a, W: Write, F: Format, G: Format>(
     job: &Job<F, G>,
@@ -525,31 +522,12 @@ fn regroup_numbers<'a, W: Write, F: Format, G: Format>(
     ensures { SendsLine job.now.rules.now.line_end (numbers_replaced job.now.rules.now.span job.now.rules.now job.now.parser (G.answers job.now.to.now) number text.now)
         (W.contents w.old) (W.contents w.new) (result_map_both (λ sent. sent) line_fault_of result) }
 {
-    match &job.rules.span {
-        Span::Trimmed => {
-            let place = trim(text, 0..text.len());
-            regroup_place(job, text, place, number, w)
-        }
-        _ => regroup_span(job, text, number, w),
-    }
-}
-
-/// Does the same of the other spans: all bytes of the line, or fields.
-#[inline(never)]
-fn regroup_span<'a, W: Write, F: Format, G: Format>(
-    job: &Job<F, G>,
-    text: &'a [u8],
-    number: u64,
-    w: &mut W,
-) -> Result<(), LineFault<'a>>
-    requires { ¬ (job.now.rules.now.span ≡ Trimmed) }
-    ensures { SendsLine job.now.rules.now.line_end (numbers_replaced job.now.rules.now.span job.now.rules.now job.now.parser (G.answers job.now.to.now) number text.now)
-        (W.contents w.old) (W.contents w.new) (result_map_both (λ sent. sent) line_fault_of result) }
-{
-    match &job.rules.span {
-        Span::Fields(fields) => regroup_fields(job, fields, text, number, w),
-        _ => regroup_place(job, text, 0..text.len(), number, w),
-    }
+    let place = match &job.rules.span {
+        Span::Trimmed => trim(text, 0..text.len()),
+        Span::Line => 0..text.len(),
+        Span::Fields(fields) => return regroup_fields(job, fields, text, number, w),
+    };
+    regroup_place(job, text, place, number, w)
 }
 
 /// Sends a line with the number at a place regrouped, and the byte that ends it.
