@@ -1,5 +1,5 @@
 -- What is written in place of a line depends on the line's number in the fault alone.
-use Rattle.regroup_lines.proofs.Common.{failed_writer, Bool, Err, Fault, FewFields, Field, FieldNotText, Fields, FormatData, Lenient, Line, List, MARK, None, NotText, Ok, Option, ParseNumber, Reading, Refusal, Result, Rules, Some, Span, Strict, TooMany, [], after, ap, are_enough, between, body_written, cut_text, decimal_read, decimal_text, drop, false, field_count, field_read, field_with, field_written, fields_of, fields_written, if◌then◌else◌, in_field, is_barred, is_chosen, is_utf8, join_with_byte, length, list_any, number_place, number_read, number_written, numbers_replaced, ok_or, option_map, output_delimiter, passes_mark, place_written, refl, result_map_both, slice_range, take, text_fault, text_of, trimmed, true, with_first, ℕ, ℤ, ◌&&◌, ◌++◌, ◌+◌, ◌==◌, ◌∙◌, ◌∷◌, ◌≡◌}
+use Rattle.regroup_lines.proofs.Common.{failed_writer, Bool, Err, Fault, FewFields, Field, FieldNotText, Fields, FormatData, Lenient, Line, List, MARK, None, NotText, Ok, Option, ParseNumber, Reading, Refusal, Result, Rules, Some, Span, Strict, TooMany, [], after, ap, are_enough, between, body_written, cut_text, decimal_read, decimal_text, drop, false, field_count, field_read, field_with, field_written, fields_of, fields_written, if◌then◌else◌, in_field, is_barred, is_chosen, is_utf8, join_with_byte, length, list_any, nat_le, number_place, number_read, number_written, numbers_replaced, ok_or, option_map, output_delimiter, passes_mark, place_written, refl, result_map_both, slice_range, take, text_fault, text_of, trimmed, true, with_first, ℕ, ℤ, ◌&&◌, ◌++◌, ◌+◌, ◌==◌, ◌∙◌, ◌∷◌, ◌≡◌}
 use Rattle.regroup_lines.specs.declared.rules.Span.TheVariants as span
 
 -- the same fault of a text, in the line of this number
@@ -100,9 +100,9 @@ module _ (rules : Rules) (from to : FormatData) (n m : ℕ) where
       ap (result_map_both (join_with_byte (output_delimiter fields)) (λ fault. fault)) (all_fields fields 0 (fields_of fields text)) ∙ mapped n (join_with_byte (output_delimiter fields)) (fields_written rules fields from to m 0 (fields_of fields text))
 
   -- but a byte order mark
-  pub body-numbered : (text : List ℕ) → passes_mark rules.span n text ≡ passes_mark rules.span m text → body_written rules from to n text ≡ numbered n (body_written rules from to m text)
-  body-numbered text marks =
+  pub body-numbered : (text : List ℕ) → nat_le n rules.header_lines ≡ nat_le m rules.header_lines → passes_mark rules.span n text ≡ passes_mark rules.span m text →
+      body_written rules from to n text ≡ numbered n (body_written rules from to m text)
+  body-numbered text headers marks =
       let rest = drop (length MARK) text in
-      ap (λ (marked : Bool). if marked then after MARK (numbers_replaced rules.span rules from to n rest) else numbers_replaced rules.span rules from to n text) marks
-      ∙ either n (passes_mark rules.span m text) _ _ _ _
-      (ap (after MARK) (numbers rules.span rest) ∙ mapped n (λ written. MARK ++ written) (numbers_replaced rules.span rules from to m rest)) (numbers rules.span text)
+      rw (headers, marks) (either n (nat_le m rules.header_lines) (Ok text) (Ok text) _ _ refl (either n (passes_mark rules.span m text) _ _ _ _
+      (ap (after MARK) (numbers rules.span rest) ∙ mapped n (λ written. MARK ++ written) (numbers_replaced rules.span rules from to m rest)) (numbers rules.span text)))

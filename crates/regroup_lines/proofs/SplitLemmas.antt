@@ -47,9 +47,9 @@ module _ (rules : Rules) (from to : FormatData) (n m : ℕ) where
   body-same text (Ok t) = record { written = refl; rejected = refl; named = refl }
   body-same text (Err f) = fault-same (with_number n f) f (ended_by rules.line_end text)
 
-  text-same : (text : List ℕ) → nat_le n rules.header_lines ≡ false → nat_le m rules.header_lines ≡ false → passes_mark rules.span n text ≡ passes_mark rules.span m text →
+  text-same : (text : List ℕ) → nat_le n rules.header_lines ≡ nat_le m rules.header_lines → passes_mark rules.span n text ≡ passes_mark rules.span m text →
       SameLine (text_sent rules from to n text) (text_sent rules from to m text)
-  text-same text at_n at_m marks = rw (at_n, at_m, body-numbered rules from to n m text marks) (body-same text (body_written rules from to m text))
+  text-same text headers marks = rw (body-numbered rules from to n m text headers marks) (body-same text (body_written rules from to m text))
 
   faulty-same : (is : Bool) (f g : Fault) (bytes : List ℕ) (x y : Result Sent Fault) → SameLine x y → SameLine (if is then fault_sent rules f bytes else x) (if is then fault_sent rules g bytes else y)
   faulty-same true f g bytes x y same = fault-same f g bytes
@@ -163,7 +163,7 @@ module _ (rules : Rules) (most : ℕ) (from to : FormatData) where
   line-same none n k p q text fewer_lines below some plain = many-case rules from to p q most (n + 1) (k + 1) (nat_lt most (n + 1)) _ _ refl (fewer most (n + 1) (k + 1) (omega (arith, fewer_lines)))
       (faulty-same rules from to p q (nat_lt rules.max_line_len (length text)) (long_fault rules p text) (long_fault rules q text) (ended_by rules.line_end text) _ _
       (faulty-same rules from to p q (is_open (quotes_in rules.span) text) (Unclosed p) (Unclosed q) (ended_by rules.line_end (without_end rules.line_end text)) _ _
-      (text-same rules from to p q text (past-header p rules.header_lines none (omega (arith, some, below))) (past-header q rules.header_lines none some)
+      (text-same rules from to p q text (past-header p rules.header_lines none (omega (arith, some, below)) ∙ sym (past-header q rules.header_lines none some))
       (same-mark rules.span p q text below some plain))))
 
   shifts : (none : rules.header_lines ≡ 0) (n k p q before total : ℕ) (parts : List (List ℕ)) → n ≡ before + k → q ≤ p → 0 < q → (q ≡ 1 → IsPlain parts) → (run n p parts).returned ≡ Some (Ok total) →

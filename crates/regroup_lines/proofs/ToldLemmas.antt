@@ -1,5 +1,5 @@
 -- What is sent of one line and told of it.
-use Rattle.regroup_lines.proofs.Common.{◌≡◌, ◌≢◌, ◌∙◌, ℕ, ◌<◌, ◌≤◌, Bool, true, false, List, [], Option, None, Some, Result, Ok, Err, refl, sym, ap, subst, Appends, result_map_both, result_or, is_utf8, Appends-nil, le-leb, lt-leb, FormatData, Sends, StopsWithin, ended_by, without_end, Fault, are_any, in_field, Line, NotText, Report, Unclosed, Write, line_fault_of, Sent, body_sent, body_written, fault_named, fault_sent, only_written, passed, passes, quotes_in, record_sent, text_sent, messages, is_open, Names, SendsBytes, bytes_to, SendsEach, SendsLine, Writer, by_writer, failed_writer, text_to, Output, Rejects, LineFault, Rules}
+use Rattle.regroup_lines.proofs.Common.{◌≡◌, ◌≢◌, ◌∙◌, ℕ, Bool, true, false, List, [], Option, None, Some, Result, Ok, Err, refl, sym, ap, subst, Appends, result_map_both, result_or, is_utf8, Appends-nil, FormatData, Sends, StopsWithin, ended_by, without_end, Fault, are_any, in_field, Line, NotText, Report, Unclosed, Write, line_fault_of, Sent, body_sent, body_written, fault_named, fault_sent, only_written, passed, passes, quotes_in, record_sent, text_sent, messages, is_open, Names, SendsBytes, bytes_to, SendsEach, SendsLine, Writer, by_writer, failed_writer, text_to, Output, Rejects, LineFault, Rules}
 use Rattle.regroup_lines.specs.declared.line_fault.LineFault.TheVariants as fault
 use Rattle.regroup_lines.proofs.ChoiceLemmas.{either}
 use Rattle.regroup_lines.proofs.LineLemmas.{passes-fault}
@@ -87,14 +87,8 @@ other_fault (fault.NotAField number field text) other is = field_other field _ (
 other_fault fault.Write other is = other refl
 other_fault f other is = cc
 
--- a header, and a line that is none
+-- a line of an input
 module _ (rules : Rules) (from to : FormatData) (number : ℕ) (text : List ℕ) where
-  pub header-sent : number ≤ rules.header_lines → text_sent rules from to number text ≡ Ok (only_written (ended_by rules.line_end text))
-  header-sent within = rw (le-leb number rules.header_lines within) refl
-
-  text-body : rules.header_lines < number → text_sent rules from to number text ≡ body_sent rules text (body_written rules from to number text)
-  text-body below = rw (lt-leb number rules.header_lines below) refl
-
   -- a record with quotes that are closed, or not
   pub closed-record : is_open (quotes_in rules.span) text ≡ false → record_sent rules from to number text ≡ text_sent rules from to number text
   closed-record closed = rw closed refl
@@ -102,8 +96,8 @@ module _ (rules : Rules) (from to : FormatData) (number : ℕ) (text : List ℕ)
   pub open-record : is_open (quotes_in rules.span) text ≡ true → record_sent rules from to number text ≡ fault_sent rules (Unclosed number) (ended_by rules.line_end (without_end rules.line_end text))
   open-record unclosed = rw unclosed refl
 
-  -- a line that is none, by what is written in place of it
-  module _ (name : List ℕ) (below : rules.header_lines < number) (a b d x : Option (List ℕ)) (call : Result (Unit {0}) LineFault)
+  -- by what is written in place of it
+  module _ (name : List ℕ) (a b d x : Option (List ℕ)) (call : Result (Unit {0}) LineFault)
       (sends : SendsLine rules.line_end (body_written rules from to number text) a b (result_map_both (λ sent. sent) line_fault_of call)) where
     abbrev Sends_text : (new : Writer → Option (List ℕ)) → Result Bool Fault → Type 0
     Sends_text new result = SendsEach name rules.reading from (text_sent rules from to number text) (by_writer a d x) new result
@@ -112,12 +106,12 @@ module _ (rules : Rules) (from to : FormatData) (number : ℕ) (text : List ℕ)
     sends_as r is = subst (λ r. SendsLine rules.line_end (body_written rules from to number text) a b (result_map_both (λ sent. sent) line_fault_of r)) is sends
 
     pub text-written : (done : Unit {0}) → call ≡ Ok done → Sends_text (by_writer b d x) (Ok false)
-    text-written done is = rw (text-body below) (body-each rules name from a b d x text (body_written rules from to number text) (sends_as (Ok done) is))
+    text-written done is = body-each rules name from a b d x text (body_written rules from to number text) (sends_as (Ok done) is)
 
     pub text-unsent : call ≡ Err fault.Write → Sends_text (by_writer b d x) (Err Write)
-    text-unsent is = rw (text-body below) (body-unsent rules name from a b d x text (body_written rules from to number text) (body_written-sent rules from to number text) (sends_as (Err fault.Write) is))
+    text-unsent is = body-unsent rules name from a b d x text (body_written rules from to number text) (body_written-sent rules from to number text) (sends_as (Err fault.Write) is)
 
     pub text-passed : (f : LineFault) → f ≢ fault.Write → call ≡ Err f → (c : Writer → Option (List ℕ)) (result : Result Bool Fault) →
         SendsEach name rules.reading from (fault_sent rules (line_fault_of f) (ended_by rules.line_end text)) (by_writer b d x) c result → Sends_text c result
     text-passed f other is c result passed =
-        rw (text-body below) (body-passed rules name from a b d x text (body_written rules from to number text) (line_fault_of f) c result (other_fault f other) (sends_as (Err f) is) passed)
+        body-passed rules name from a b d x text (body_written rules from to number text) (line_fault_of f) c result (other_fault f other) (sends_as (Err f) is) passed

@@ -1,5 +1,5 @@
 -- What regrouping returns where it names no fault.
-use Rattle.regroup_lines.proofs.Common.{◌≡◌, ◌≢◌, ℕ, ◌+◌, ◌==◌, false, List, [], ◌∷◌, length, Option, Some, Result, Ok, Err, refl, sym, ap, subst, arith, nat_le, nat_lt, ⊤, result_map_both, Appends, length-append, FormatData, StopsWithin, ended_by, without_end, Fault, Reject, Report, TooMany, Unclosed, Write, Regrouped, Sent, Stop, body_sent, body_written, fault_sent, line_after, line_begun, line_sent, long_fault, long_returned, only_written, passes, quotes_in, records_of, regrouped, regrouped_parts, regrouped_rest, returning, sending_line, stop_returned, Ended, is_open, Receives, Regroups, RegroupsNaming, Returns, Writer, failed_by, text_to, Messages, Output, Rejects, Summary, Rules}
+use Rattle.regroup_lines.proofs.Common.{◌≡◌, ◌≢◌, ℕ, ◌+◌, ◌==◌, false, List, [], ◌∷◌, length, Option, Some, Result, Ok, Err, refl, sym, ap, subst, arith, nat_lt, ⊤, result_map_both, Appends, length-append, FormatData, StopsWithin, ended_by, without_end, Fault, Reject, Report, TooMany, Unclosed, Write, Regrouped, Sent, Stop, body_sent, body_written, fault_sent, line_after, line_begun, line_sent, long_fault, long_returned, only_written, passes, quotes_in, records_of, regrouped, regrouped_parts, regrouped_rest, returning, sending_line, stop_returned, Ended, is_open, Receives, Regroups, RegroupsNaming, Returns, Writer, failed_by, text_to, Messages, Output, Rejects, Summary, Rules}
 use Rattle.regroup_lines.proofs.ChoiceLemmas.{either}
 use Rattle.regroup_lines.proofs.LineLemmas.{aborts-fault}
 
@@ -28,7 +28,7 @@ module _ (rules : Rules) (aborts : passes rules.invalid ≡ false) (most : ℕ) 
       either IsUnnamed (nat_lt most (count + 1)) (Err TooMany) _ tt
       (either IsUnnamed (nat_lt rules.max_line_len (length text)) _ _ (fault-unnamed (long_fault rules number text) (ended_by rules.line_end text))
       (either IsUnnamed (is_open (quotes_in rules.span) text) _ _ (fault-unnamed (Unclosed number) (ended_by rules.line_end (without_end rules.line_end text)))
-      (either IsUnnamed (nat_le number rules.header_lines) (Ok (only_written (ended_by rules.line_end text))) _ refl (body-unnamed text (body_written rules from to number text)))))
+      (body-unnamed text (body_written rules from to number text))))
 
   sending-unnamed : (line : Result Sent Fault) (rest : Regrouped) → IsUnnamed line → IsBare rest.sent → IsBare (sending_line line rest).sent
   sending-unnamed (Ok sent) rest none after = rw (none, after) refl

@@ -161,9 +161,10 @@ passes_mark span.Line number text = false
 passes_mark span.Trimmed number text = (number == 1) && begins_with_mark text
 passes_mark (span.Fields fields) number text = (number == 1) && begins_with_mark text
 
--- a line that is no header
+-- what is written in place of a line: a header is passed on as it is
 abbrev pub body_written : Rules → FormatData → FormatData → ℕ → List ℕ → Result (List ℕ) Fault
 body_written rules from to number text =
+    if nat_le number rules.header_lines then Ok text else
     if passes_mark rules.span number text then after MARK (numbers_replaced rules.span rules from to number (drop (length MARK) text)) else
     numbers_replaced rules.span rules from to number text
 
@@ -196,8 +197,7 @@ body_sent rules text (Err fault) = fault_sent rules fault (ended_by rules.line_e
 
 -- what is sent of the text of a line, or its fault
 abbrev pub text_sent : Rules → FormatData → FormatData → ℕ → List ℕ → Result Sent Fault
-text_sent rules from to number text =
-    if nat_le number rules.header_lines then Ok (only_written (ended_by rules.line_end text)) else body_sent rules text (body_written rules from to number text)
+text_sent rules from to number text = body_sent rules text (body_written rules from to number text)
 
 -- the rules that read the whole of each line leniently
 abbrev pub lenient : Rules

@@ -37,7 +37,7 @@ ghost use Rattle.regroup_lines.specs.Ended.{ended_by};
 ghost use Rattle.regroup_lines.specs.Fault.{are_any, fault_of};
 ghost use Rattle.regroup_lines.specs.Input.{IsLong, array_len, held};
 ghost use Rattle.regroup_lines.specs.LineFaults.{line_fault_of};
-ghost use Rattle.regroup_lines.specs.Lines.{body_written, fault_named, fault_sent, lenient, line_after, long_fault, numbers_replaced, passes_mark, place_written, quotes_in, record_sent, text_sent};
+ghost use Rattle.regroup_lines.specs.Lines.{MARK, after, body_written, fault_named, fault_sent, lenient, line_after, long_fault, numbers_replaced, passes_mark, place_written, quotes_in, record_sent, text_sent};
 ghost use Rattle.regroup_lines.specs.Records.{after_text, line_reached};
 ghost use Rattle.regroup_lines.specs.Messages.{messages};
 ghost use Rattle.regroup_lines.specs.Places.{place_of};
@@ -104,7 +104,8 @@ pub struct Summary {
 ///
 /// Of each line, all digits and a minus sign at its start are parsed. Each character that is not numeric is ignored,
 /// as [`parse_formatted`](num_format::parsing::ParseFormatted::parse_formatted) does. So a carriage
-/// return before the newline is ignored too, but counts as a byte of the line.
+/// return before the newline is ignored too, but counts as a byte of the line. A line takes two writes or
+/// more, so a buffered writer takes less time.
 ///
 /// # Errors
 ///
@@ -323,12 +324,6 @@ fn regroup_line<'a, W: Write, E: Write, X: Write, F: Format, G: Format>(
         (by_writer (W.contents w.old) (E.contents e.old) (X.contents x.old)) (by_writer (W.contents w.new) (E.contents e.new) (X.contents x.new))
         (result_map_both (λ told. told) line_fault_of result) }
 {
-    if number <= job.rules.header_lines {
-        return match send_both(text, &[job.rules.line_end], w) {
-            Ok(()) => Ok(false),
-            Err(_) => Err(LineFault::Write),
-        };
-    }
     match regroup_body(job, text, number, w) {
         Ok(()) => Ok(false),
         Err(fault) => match fault {
@@ -472,7 +467,7 @@ fn pass_bytes<W: Write, X: Write>(
     }
 }
 
-/// Sends a line that is no header, with its numbers regrouped and a byte order mark passed on, and the byte that ends it.
+/// Sends a line with its numbers regrouped, and the byte that ends it. A header, and a byte order mark, are passed on.
 fn regroup_body<'a, W: Write, F: Format, G: Format>(
     job: &Job<F, G>,
     text: &'a [u8],
@@ -482,27 +477,28 @@ fn regroup_body<'a, W: Write, F: Format, G: Format>(
     ensures { SendsLine job.now.rules.now.line_end (body_written job.now.rules.now job.now.parser (G.answers job.now.to.now) number text.now)
         (W.contents w.old) (W.contents w.new) (result_map_both (λ sent. sent) line_fault_of result) }
 {
+    if number <= job.rules.header_lines {
+        return send_both(text, &[job.rules.line_end], w).or(Err(LineFault::Write));
+    }
     if !job.rules.span.passes_mark(number, text) {
         return regroup_numbers(job, text, number, w);
     }
-    regroup_marked(job, text, number, w)
+    regroup_marked(job, &text[MARK.len()..], number, w)
 }
 
-/// Sends the same of a line that begins with a byte order mark. It is a cold call, so that other lines are regrouped
+/// Sends a byte order mark, and then the same of the rest of its line. It is a cold call, so that other lines are regrouped
 /// without its space.
 #[cold]
 #[inline(never)]
 fn regroup_marked<'a, W: Write, F: Format, G: Format>(
     job: &Job<F, G>,
-    text: &'a [u8],
+    rest: &'a [u8],
     number: u64,
     w: &mut W,
 ) -> Result<(), LineFault<'a>>
-    requires { passes_mark job.now.rules.now.span number text.now ≡ true }
-    ensures { SendsLine job.now.rules.now.line_end (body_written job.now.rules.now job.now.parser (G.answers job.now.to.now) number text.now)
+    ensures { SendsLine job.now.rules.now.line_end (after MARK (numbers_replaced job.now.rules.now.span job.now.rules.now job.now.parser (G.answers job.now.to.now) number rest.now))
         (W.contents w.old) (W.contents w.new) (result_map_both (λ sent. sent) line_fault_of result) }
 {
-    let rest = &text[MARK.len()..];
     // Of a line at fault nothing is sent, so it is read before the mark is sent.
     regroup_numbers(job, rest, number, &mut io::sink())?;
     match send_whole(&MARK, w) {
