@@ -1,5 +1,4 @@
 -- The proofs of this crate.
-pub mod AroundLemmas
 mod ChoiceLemmas
 mod Common
 pub mod CsvLemmas

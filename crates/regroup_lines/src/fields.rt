@@ -20,7 +20,7 @@ use crate::line_fault::LineFault;
 use crate::records::{QUOTE, Within};
 use crate::rules::{Fields, Output, Quoting, Rules, trim};
 use crate::sending::Part::{Doubled, Plain};
-use crate::sending::{Unsent, send_all, send_both, send_whole};
+use crate::sending::{Unsent, send_all, send_both};
 use num_format::Format;
 use num_format_decimal::{Decimal, DecimalBuffer};
 use std::io::Write;
@@ -45,6 +45,21 @@ struct Field<'a> {
     passed: &'a [u8],
     /// Its bytes.
     text: &'a [u8],
+}
+
+/// A field with a text in place of its number.
+#[derive(Clone, Copy)]
+struct Written<'a> {
+    /// The bytes that are sent before it.
+    passed: &'a [u8],
+    /// Whether quotes are around the text.
+    is_quoted: bool,
+    /// The bytes before the text.
+    before: &'a [u8],
+    /// The text.
+    text: &'a [u8],
+    /// The bytes after the text.
+    after: &'a [u8],
 }
 
 /// Sends a line with the number in each chosen field regrouped, and the byte that ends it.
@@ -309,7 +324,6 @@ fn is_any_barred(line_end: u8, text: &[u8]) -> bool
 }
 
 /// Sends a field with a text at this place, after the bytes that are passed on before it.
-#[tactic(auto, using(crate::proofs::AroundLemmas::passed_prefix, crate::proofs::AroundLemmas::passed_suffix, crate::proofs::AroundLemmas::passed_whole))]
 fn send_text<W: Write>(
     rules: &Rules,
     fields: &Fields,
@@ -324,13 +338,18 @@ fn send_text<W: Write>(
         (before_field fields.now field.now.passed.now
         ++ placed fields.now rules.now.line_end place.is_quoted (take place.start field.now.text.now) (drop place.end field.now.text.now) text.now) }
 {
-    send_whole(before_field(fields, field.passed), w)?;
     let (before, _) = field.text.split_at(place.start);
     let (_, after) = field.text.split_at(place.end);
-    let (line_end, text) = (rules.line_end, text.as_bytes());
+    let written = Written {
+        passed: before_field(fields, field.passed),
+        is_quoted: place.is_quoted,
+        before,
+        text: text.as_bytes(),
+        after,
+    };
     match &fields.output {
-        Some(output) => send_output(output, line_end, place.is_quoted, before, after, text, w),
-        None => send_enclosed(fields, line_end, place.is_quoted, before, after, text, w),
+        Some(output) => send_output(output, rules.line_end, &written, w),
+        None => send_enclosed(fields, rules.line_end, &written, w),
     }
 }
 
@@ -344,80 +363,75 @@ fn before_field<'a>(fields: &'a Fields, passed: &'a [u8]) -> &'a [u8]
     }
 }
 
-/// Sends a text of a field that is passed on but for its number, and what is around it.
-fn send_enclosed<'a, W: Write>(
+/// Sends a field that is passed on but for its number.
+fn send_enclosed<W: Write>(
     fields: &Fields,
     line_end: u8,
-    is_quoted: bool,
-    before: &'a [u8],
-    after: &'a [u8],
-    text: &'a [u8],
+    field: &Written<'_>,
     w: &mut W,
 ) -> Result<(), Unsent>
-    ensures { Sends result (W.contents w.old) (W.contents w.new) (enclosed fields.now line_end is_quoted before.now after.now text.now) }
+    ensures { Sends result (W.contents w.old) (W.contents w.new)
+        (field.now.passed.now ++ enclosed fields.now line_end field.now.is_quoted field.now.before.now field.now.after.now field.now.text.now) }
 {
+    let (passed, before, text, after) = (field.passed, field.before, field.text, field.after);
     if !fields.quotes || !any_needs_quotes(fields.delimiter, line_end, text) {
-        return send_all(&[Plain(before), Plain(text), Plain(after)], w);
+        let parts = [Plain(passed), Plain(before), Plain(text), Plain(after)];
+        return send_all(&parts, w);
     }
-    if is_quoted {
-        return send_all(&[Plain(before), Doubled(text), Plain(after)], w);
+    if field.is_quoted {
+        let parts = [Plain(passed), Plain(before), Doubled(text), Plain(after)];
+        return send_all(&parts, w);
     }
     // A last carriage return may end the line.
     let (blanks, end) = after.split_at(len_without(b'\r', after));
-    send_all(
-        &[
-            Plain(b"\""),
-            Plain(before),
-            Doubled(text),
-            Plain(blanks),
-            Plain(b"\""),
-            Plain(end),
-        ],
-        w,
-    )
+    let parts = [
+        Plain(passed),
+        Plain(b"\""),
+        Plain(before),
+        Doubled(text),
+        Plain(blanks),
+        Plain(b"\""),
+        Plain(end),
+    ];
+    send_all(&parts, w)
 }
 
-/// Sends a text of a field as an output has it, and what is around it.
-fn send_output<'a, W: Write>(
+/// Sends a field as an output has it.
+fn send_output<W: Write>(
     output: &Output,
     line_end: u8,
-    is_quoted: bool,
-    before: &'a [u8],
-    after: &'a [u8],
-    text: &'a [u8],
+    field: &Written<'_>,
     w: &mut W,
 ) -> Result<(), Unsent>
-    ensures { Sends result (W.contents w.old) (W.contents w.new) (output_as output.now line_end is_quoted before.now after.now text.now) }
+    ensures { Sends result (W.contents w.old) (W.contents w.new)
+        (field.now.passed.now ++ output_as output.now line_end field.now.is_quoted field.now.before.now field.now.after.now field.now.text.now) }
 {
-    let (after, end) = after.split_at(len_without(b'\r', after));
-    let (front, quoted, bare) = text_around(is_quoted, before, after);
-    let parts = [front, text, quoted, bare];
-    let is_kept = is_quoted && matches!(output.quoting, Quoting::Keep);
-    if is_kept || any_part_needs_quotes(output.delimiter, line_end, &parts) {
-        send_all(
-            &[
-                Plain(b"\""),
-                Doubled(front),
-                Doubled(text),
-                Plain(quoted),
-                Doubled(bare),
-                Plain(b"\""),
-                Plain(end),
-            ],
-            w,
-        )
-    } else {
-        send_all(
-            &[
-                Plain(front),
-                Plain(text),
-                Plain(quoted),
-                Plain(bare),
-                Plain(end),
-            ],
-            w,
-        )
+    let (passed, text) = (field.passed, field.text);
+    let (after, end) = field.after.split_at(len_without(b'\r', field.after));
+    let (front, quoted, bare) = text_around(field.is_quoted, field.before, after);
+    let is_kept = field.is_quoted && matches!(output.quoting, Quoting::Keep);
+    if is_kept || any_part_needs_quotes(output.delimiter, line_end, &[front, text, quoted, bare]) {
+        let parts = [
+            Plain(passed),
+            Plain(b"\""),
+            Doubled(front),
+            Doubled(text),
+            Plain(quoted),
+            Doubled(bare),
+            Plain(b"\""),
+            Plain(end),
+        ];
+        return send_all(&parts, w);
     }
+    let parts = [
+        Plain(passed),
+        Plain(front),
+        Plain(text),
+        Plain(quoted),
+        Plain(bare),
+        Plain(end),
+    ];
+    send_all(&parts, w)
 }
 
 /// Returns the text of a field around its number, of which these bytes are before it and after it, without the quotes around the field: what is
