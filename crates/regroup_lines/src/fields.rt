@@ -161,6 +161,7 @@ fn end_line<W: Write>(
 }
 
 /// Returns where the field ends that begins at `start`: at the next delimiter that is not in quotes, or at the end of the line.
+#[inline(always)]
 fn field_end(fields: &Fields, text: &[u8], start: usize) -> usize
     requires { start ≤ length text.now }
     ensures ordered { start ≤ result }
@@ -289,6 +290,7 @@ fn is_quoted(field: &[u8], start: usize, end: usize) -> bool
 /// # Errors
 ///
 /// Returns the fault of a field that has no number.
+#[inline(always)]
 fn read_field<'a, F: Format, G: Format>(
     job: &Job<F, G>,
     quotes: bool,

@@ -62,7 +62,7 @@ fn send_doubled<W: Write>(text: &[u8], w: &mut W) -> Result<(), Unsent>
 }
 
 /// Sends bytes, and others after them.
-#[inline]
+#[inline(always)]
 pub(crate) fn send_both<W: Write>(first: &[u8], second: &[u8], w: &mut W) -> Result<(), Unsent>
     ensures { Sends result (W.contents w.old) (W.contents w.new) (first.now ++ second.now) }
 {
