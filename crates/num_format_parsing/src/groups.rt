@@ -165,35 +165,49 @@ pub(crate) fn read_text<A: Accumulator>(
     if first.figures == text.len() {
         return Some(first);
     }
-    read_grouped(text, first, separator.as_bytes(), grouping)
+    let whole = read_grouped(text, first, separator.as_bytes(), grouping);
+    if whole.figures == 0 {
+        return None;
+    }
+    Some(whole)
 }
 
-/// Returns the whole of a text that does not end with its first digits, or `None` if it spells no number.
+/// Returns the whole of a text that does not end with its first digits, or a part of no digits if it spells no number.
 ///
-/// It is a function of its own, so that digits alone are read without its space.
+/// It is a function of its own, so that digits alone are read without its space. A part of 64 bits is returned in
+/// registers, and an `Option` of it would be returned in memory.
 #[inline(never)]
 fn read_grouped<A: Accumulator>(
     text: &[u8],
     first: Part<A>,
     separator: &[u8],
     grouping: Grouping,
-) -> Option<Part<A>>
+) -> Part<A>
     requires begin { BeginsWithDigits text.now first.figures }
     requires read { HasDigits A.bound (take first.figures text.now) first.figures (A.number first.magnitude) }
     requires plain { byte_figures separator.now ≡ [] }
-    ensures { MatchOption result (¬ (IsBody grouping separator.now text.now))
-        (λ whole. IsBody grouping separator.now text.now
-        × HasDigits A.bound text.now whole.figures (A.number whole.magnitude)) }
+    ensures none { result.figures ≡ 0 → ¬ (IsBody grouping separator.now text.now) }
+    ensures some { 0 < result.figures → IsBody grouping separator.now text.now
+        × HasDigits A.bound text.now result.figures (A.number result.magnitude) }
 {
-    let sizes = grouping.sizes()?;
+    let magnitude = A::zero();
+    let none = Part {
+        figures: 0,
+        magnitude,
+    };
+    let Some(sizes) = grouping.sizes() else {
+        return none;
+    };
     if separator.is_empty() {
-        return None;
+        return none;
     }
-    let whole = read_by_sizes(text, first, separator, sizes)?;
+    let Some(whole) = read_by_sizes(text, first, separator, sizes) else {
+        return none;
+    };
     if whole.figures < sizes.least {
-        return None;
+        return none;
     }
-    Some(whole)
+    whole
 }
 
 /// Returns the whole text, if groups of these sizes follow the first part.

@@ -7,7 +7,7 @@ ghost use Rattle.std.specs.Prelude.{◌≡◌, ◌↔◌, ℕ, List, Bool, [], �
 ghost use Rattle.num_format_text.specs.Format.{FormatData};
 ghost use Rattle.num_format_int.specs.Grouped.{printed_separator};
 ghost use Rattle.num_format_int.specs.Kind.{IsValueOf, signed_number};
-ghost use Rattle.num_format_parsing.specs.Strict.{SpellsNumber, ParsesStrictly, IsUnambiguous, strict_message_of};
+ghost use Rattle.num_format_parsing.specs.Strict.{SpellsNumber, ParsesStrictly, HasNoNumeral, IsUnambiguous, strict_message_of};
 ghost use Rattle.num_format_parsing.specs.Parts.{HasBody, HasReading, IsJudged, IsSpelling};
 ghost use Rattle.num_format_parsing.specs.Shapes.{BeginsWithDigit, HasSign, byte_figures};
 ghost use Rattle.num_format_parsing.specs.declared.strict.StrictError.TheVariants as cause;
@@ -17,7 +17,7 @@ use crate::groups::{
     LONGEST_GROUPS, SHORT_LEN, exact_number, read_in_groups, read_short, read_text,
 };
 use crate::parsing::{Accumulator, FromFormattedStr, SAFE_FIGURES};
-use crate::symbols::{Sign, is_plain, sign_of};
+use crate::symbols::{Sign, is_plain, is_simple, sign_of};
 use num_format_int::sealed::Sealed;
 use num_format_text::{Format, Grouping};
 use std::fmt;
@@ -110,6 +110,18 @@ fn is_unambiguous<F: Format>(format: &F, minus_sign: &str, separator: &str) -> b
     if format.has_common_symbols() {
         return true;
     }
+    if !minus_sign.is_empty() && is_simple(minus_sign) && is_simple(separator) {
+        return true;
+    }
+    are_plain(minus_sign, separator)
+}
+
+/// Returns whether the minus sign is not empty, and neither symbol has a digit or another numeric character.
+#[cold]
+#[inline(never)]
+fn are_plain(minus_sign: &str, separator: &str) -> bool
+    ensures { IsTrue result ↔ ((¬ (minus_sign.now ≡ [])) × HasNoNumeral minus_sign.now × HasNoNumeral separator.now) }
+{
     !minus_sign.is_empty() && is_plain(minus_sign) && is_plain(separator)
 }
 
@@ -354,7 +366,7 @@ pub(crate) enum Reading {
 }
 
 /// Returns what is read of a text.
-#[inline]
+#[inline(always)]
 fn read<N: Sealed>(text: &[u8], sign: Sign, separator: &str, grouping: Grouping) -> Reading
     requires within { sign.len ≤ length text.now }
     requires plain { byte_figures separator.now ≡ [] }
@@ -380,7 +392,7 @@ fn read<N: Sealed>(text: &[u8], sign: Sign, separator: &str, grouping: Grouping)
 ///
 /// Most texts are short: their digits fit 64 bits, which take less time than 128. Whether a type is wide is
 /// known where the code is compiled.
-#[inline]
+#[inline(always)]
 fn read_body<N: Sealed>(text: &[u8], separator: &str, grouping: Grouping) -> Reading
     requires begin { BeginsWithDigit text.now }
     requires plain { byte_figures separator.now ≡ [] }
@@ -390,14 +402,14 @@ fn read_body<N: Sealed>(text: &[u8], separator: &str, grouping: Grouping) -> Rea
     if !N::is_wide() {
         return read_by::<u64>(text, separator, grouping);
     }
-    if seems_wide(text) {
-        return read_wide(text, separator, grouping);
+    if !seems_wide(text) {
+        match read_by::<u64>(text, separator, grouping) {
+            Reading::Number(magnitude) => return Reading::Number(magnitude),
+            Reading::TooLarge => {}
+            Reading::Unspelled => return Reading::Unspelled,
+        }
     }
-    match read_by::<u64>(text, separator, grouping) {
-        Reading::Number(magnitude) => Reading::Number(magnitude),
-        Reading::TooLarge => read_wide(text, separator, grouping),
-        Reading::Unspelled => Reading::Unspelled,
-    }
+    read_wide(text, separator, grouping)
 }
 
 /// Returns whether a text seems to have more digits than fit 64 bits. One with a separator before its last three digits
@@ -408,9 +420,20 @@ fn seems_wide(bytes: &[u8]) -> bool {
     len > SAFE_FIGURES && (len > LONGEST_GROUPS || bytes[len - 4].is_ascii_digit())
 }
 
-/// It is a function of its own, so that shorter texts are parsed without its space.
-#[inline(never)]
+/// Returns what is read of a text of any length. The space of the call's result is this function's, so that it is cleared
+/// for such texts alone.
+#[inline(always)]
 fn read_wide(text: &[u8], separator: &str, grouping: Grouping) -> Reading
+    requires begin { BeginsWithDigit text.now }
+    requires plain { byte_figures separator.now ≡ [] }
+    ensures { HasBody (λ n. 2 ^ 128 ≤ n) grouping separator.now text.now result }
+{
+    read_apart(text, separator, grouping)
+}
+
+/// Does the same. It is a function of its own, so that shorter texts are parsed without its space.
+#[inline(never)]
+fn read_apart(text: &[u8], separator: &str, grouping: Grouping) -> Reading
     requires begin { BeginsWithDigit text.now }
     requires plain { byte_figures separator.now ≡ [] }
     ensures { HasBody (λ n. 2 ^ 128 ≤ n) grouping separator.now text.now result }

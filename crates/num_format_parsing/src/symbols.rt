@@ -26,8 +26,7 @@ fn is_other_numeral(character: char) -> bool
         )
 }
 
-/// Returns whether no character of a symbol is a digit or otherwise numeric. Most symbols are one byte, or one of those
-/// that locales have, and need no look at characters.
+/// Returns whether no character of a symbol is a digit or otherwise numeric.
 ///
 /// ```rust
 /// is_plain("-")    // true
@@ -37,20 +36,20 @@ fn is_other_numeral(character: char) -> bool
 pub fn is_plain(symbol: &str) -> bool
     ensures { IsTrue result ↔ HasNoNumeral symbol.now }
 {
+    is_simple(symbol) || !has_digit(symbol.as_bytes()) && !has_other_numeral(symbol)
+}
+
+/// Returns whether no character of a symbol is a digit or otherwise numeric, without a look at characters. It may return
+/// `false` for any symbol, and does not for most, which are in ASCII, or one of those that locales have.
+#[inline(always)]
+pub(crate) fn is_simple(symbol: &str) -> bool
+    ensures { IsTrue result → HasNoNumeral symbol.now }
+{
     let bytes = symbol.as_bytes();
     if bytes.len() == 1 && is_ascii(bytes) {
         return !bytes[0].is_ascii_digit();
     }
-    if is_common(symbol) {
-        return true;
-    }
-    if has_digit(bytes) {
-        return false;
-    }
-    if is_ascii(bytes) {
-        return true;
-    }
-    !has_other_numeral(symbol)
+    is_common(symbol) || !has_digit(bytes) && is_ascii(bytes)
 }
 
 /// Returns whether a symbol is one of those that many locales have: a no-break space, narrow or not, an apostrophe, or the

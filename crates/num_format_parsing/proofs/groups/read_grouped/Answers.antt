@@ -1,44 +1,40 @@
-use Rattle.std.proofs.Common.{◌≡◌, ◌<◌, ◌≤◌, ◌∙◌, length, arith, sym, rules}
+use Rattle.std.proofs.Common.{◌≡◌, ◌<◌, ◌≤◌, ◌∙◌, length, arith, sym}
 use Rattle.std.proofs.lemmas.Bool.Decides.{nat_tests}
 use Rattle.num_format_int.proofs.GroupedLemmas.{grouped-empty, grouped-none}
-use Rattle.num_format_parsing.specs.Parts.{IsBody}
 use Rattle.num_format_parsing.specs.Shapes.{byte_figures}
 use Rattle.num_format_parsing.proofs.GroupingLemmas.{body-groups, lacks-digits, lacks-groups, lacks-separator, shape-bounds}
 use Rattle.num_format_parsing.proofs.groups.read_grouped.Goals as goal
 
-pub returns-in_err-sizes : goal.returns-in_err-sizes
-returns-in_err-sizes g c =
-    let a = c.args in
-    let none : ¬ (IsBody a.grouping a.separator.now a.text.now) =
-    lacks-separator a.grouping a.separator.now a.text.now a.first.figures c.requires.begin (grouped-none a.grouping c.in_err-sizes.ensures a.separator.now (byte_figures a.text.now)) in
-    search rules
-
-pub returns-then-is_empty : goal.returns-then-is_empty
-returns-then-is_empty g c =
+pub returns-then-is_empty-clause-none : goal.returns-then-is_empty-clause-none
+returns-then-is_empty-clause-none g c = λ zero.
     let a = c.args in
     let empty = sym c.is_empty.ensures ∙ c.if-is_empty.true in
     let none : length a.separator.now ≡ 0 = grind (arith, nat_tests, empty) in
     lacks-separator a.grouping a.separator.now a.text.now a.first.figures c.requires.begin (grouped-empty a.grouping a.separator.now (byte_figures a.text.now) none)
 
 pub read_by_sizes-requires-clause-size : goal.read_by_sizes-requires-clause-size
-read_by_sizes-requires-clause-size g c = shape-bounds c.in_ok-sizes.sizes c.in_ok-sizes.ensures.shape
+read_by_sizes-requires-clause-size g c = shape-bounds c.in-Some.sizes c.in-Some.ensures.shape
 
-pub returns-in_err-whole : goal.returns-in_err-whole
-returns-in_err-whole g c =
+pub returns-in_default-clause-none : goal.returns-in_default-clause-none
+returns-in_default-clause-none g c = λ zero.
     let a = c.args in
-    let none : ¬ (IsBody a.grouping a.separator.now a.text.now) =
-    lacks-groups a.grouping a.separator.now a.text.now a.first.figures c.requires.begin c.in_ok-sizes.sizes c.in_ok-sizes.ensures c.in_err-whole.ensures in
-    search rules
+    lacks-separator a.grouping a.separator.now a.text.now a.first.figures c.requires.begin (grouped-none a.grouping c.in_default.ensures a.separator.now (byte_figures a.text.now))
 
-pub returns-then-whole-sizes : goal.returns-then-whole-sizes
-returns-then-whole-sizes g c =
+pub returns-in_default-read_by_sizes-clause-none :
+    goal.returns-in_default-read_by_sizes-clause-none
+returns-in_default-read_by_sizes-clause-none g c = λ zero.
     let a = c.args in
-    let few : length (byte_figures a.text.now) < c.in_ok-sizes.sizes.least = omega (arith, c.in_ok-whole.ensures.1.figures, c.if-whole-sizes.true) in
-    lacks-digits a.grouping a.separator.now a.text.now a.first.figures c.requires.begin c.in_ok-sizes.sizes c.in_ok-sizes.ensures few
+    lacks-groups a.grouping a.separator.now a.text.now a.first.figures c.requires.begin c.in-Some.sizes c.in-Some.ensures c.in_default-read_by_sizes.ensures
 
-pub returns : goal.returns
-returns g c =
+pub returns-then-whole-sizes-clause-none : goal.returns-then-whole-sizes-clause-none
+returns-then-whole-sizes-clause-none g c = λ zero.
     let a = c.args in
-    let read = c.in_ok-whole.ensures in
-    let many : c.in_ok-sizes.sizes.least ≤ length (byte_figures a.text.now) = omega (arith, read.1.figures, c.if-whole-sizes.false) in
-    (body-groups a.grouping c.in_ok-sizes.sizes c.in_ok-sizes.ensures a.separator.now a.text.now c.requires.plain read.0 many, read.1)
+    let few : length (byte_figures a.text.now) < c.in-Some.sizes.least = omega (arith, c.in-Some-read_by_sizes.ensures.1.figures, c.if-whole-sizes.true) in
+    lacks-digits a.grouping a.separator.now a.text.now a.first.figures c.requires.begin c.in-Some.sizes c.in-Some.ensures few
+
+pub returns-clause-some : goal.returns-clause-some
+returns-clause-some g c = λ some.
+    let a = c.args in
+    let read = c.in-Some-read_by_sizes.ensures in
+    let many : c.in-Some.sizes.least ≤ length (byte_figures a.text.now) = omega (arith, read.1.figures, c.if-whole-sizes.false) in
+    (body-groups a.grouping c.in-Some.sizes c.in-Some.ensures a.separator.now a.text.now c.requires.plain read.0 many, read.1)

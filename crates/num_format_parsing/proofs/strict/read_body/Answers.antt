@@ -8,12 +8,7 @@ returns-then-not-is_wide g c =
     let within : IsWithin (2 ^ 64) g.N.Sealed.kind = rw c.if-not-is_wide.true at c.is_wide.ensures.within in
     reading-past (2 ^ 64) g.N.Sealed.kind within c.args.grouping c.args.separator.now c.args.text.now c.read_by.result c.read_by.ensures
 
-pub returns-then-seems_wide : goal.returns-then-seems_wide
-returns-then-seems_wide g c =
+pub returns : goal.returns
+returns g c =
     let within : IsWithin (2 ^ 128) g.N.Sealed.kind = rw c.if-not-is_wide.false at c.is_wide.ensures.within in
     reading-past (2 ^ 128) g.N.Sealed.kind within c.args.grouping c.args.separator.now c.args.text.now c.read_wide.result c.read_wide.ensures
-
-pub returns-in-TooLarge : goal.returns-in-TooLarge
-returns-in-TooLarge g c =
-    let within : IsWithin (2 ^ 128) g.N.Sealed.kind = rw c.if-not-is_wide.false at c.is_wide.ensures.within in
-    reading-past (2 ^ 128) g.N.Sealed.kind within c.args.grouping c.args.separator.now c.args.text.now c.read_wide-in-TooLarge.result c.read_wide-in-TooLarge.ensures
