@@ -53,8 +53,8 @@ pub(crate) fn read_short(text: &[u8], sign: Sign) -> Option<u64>
     first_digits(body)
 }
 
-/// Returns the absolute value of the number that a text spells in groups with a separator of one byte. It may return
-/// `None` for any text, and does so where the digits may not fit 64 bits.
+/// Returns the absolute value of the number that a text spells in groups with a separator. It may return `None` for any
+/// text, and does so where the digits may not fit 64 bits.
 ///
 /// A text of digits alone has a digit where the last separator would be.
 #[inline(always)]
@@ -73,13 +73,13 @@ pub(crate) fn read_in_groups(
 {
     let sizes = grouping.sizes()?;
     let separator = separator.as_bytes();
+    let body = &text[sign.len..];
     if separator.len() != 1 {
-        return None;
+        return read_by_bytes(body, separator, sizes);
     }
     if text[text.len() - 4] != separator[0] {
         return None;
     }
-    let body = &text[sign.len..];
     if body.len() <= sizes.least || body.len() > LONGEST_GROUPS {
         return None;
     }
@@ -129,6 +129,50 @@ fn read_by_length(text: &[u8], separator: &[u8], size: usize) -> Option<u64>
     }
     let magnitude = first_digits(&text[..figures])?;
     let whole = read_groups(text, Part { figures, magnitude }, separator, 3, size)?;
+    Some(whole.magnitude)
+}
+
+/// Returns the number in a text of groups of three with a separator of more bytes. It may return `None` for any text.
+#[inline(always)]
+fn read_by_bytes(text: &[u8], separator: &[u8], sizes: Sizes) -> Option<u64>
+    requires { byte_figures separator.now ≡ [] }
+    ensures { IfSome result (λ n. BeginsWithDigit text.now × IsInGroups sizes.last sizes.size separator.now text.now
+        × (n ≡ number_in text.now) × (sizes.least ≤ length (byte_figures text.now))) }
+{
+    let width = separator.len();
+    if sizes.size != 3 || sizes.last != 3 || width == 0 || width > 8 {
+        return None;
+    }
+    if text.len() <= width + 3 || text.len() > SAFE_FIGURES + 6 * width {
+        return None;
+    }
+    if text[text.len() - width - 3] != separator[0] {
+        return None;
+    }
+    if !begins_with_digit(text) {
+        return None;
+    }
+    read_by_width(text, separator, sizes.least)
+}
+
+/// Does the same. It is a function of its own, so that other texts are parsed without its space.
+#[inline(never)]
+fn read_by_width(text: &[u8], separator: &[u8], least: usize) -> Option<u64>
+    requires long { length separator.now + 3 < length text.now }
+    requires plain { byte_figures separator.now ≡ [] }
+    requires separator { 0 < length separator.now }
+    ensures { IfSome result (λ n. IsInGroups 3 3 separator.now text.now × (n ≡ number_in text.now)
+        × (least ≤ length (byte_figures text.now))) }
+{
+    let figures = (text.len() - separator.len() - 3) % (separator.len() + 3);
+    if figures == 0 || figures > 3 || text[figures] != separator[0] {
+        return None;
+    }
+    let magnitude = first_digits(&text[..figures])?;
+    let whole = read_groups(text, Part { figures, magnitude }, separator, 3, 3)?;
+    if whole.figures < least || whole.figures > SAFE_FIGURES {
+        return None;
+    }
     Some(whole.magnitude)
 }
 

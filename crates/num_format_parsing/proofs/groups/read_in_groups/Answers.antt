@@ -24,3 +24,15 @@ returns c = IfSome_then c.read_by_byte.result c.read_by_byte.ensures (λ n read 
     let grouped = body-groups a.grouping sizes by s body plain read.0 many in
     subst (λ n. SpellsNumber f t (signed_number a.sign.is_negative n)) (sym read.1)
     (spells-body f t s body a.grouping a.sign.is_negative start (take_rest t start) sign (c.as_bytes-separator.ensures.value ∙ separator) grouping (c.begins_with_digit.ensures.0 c.if-not-begins_with_digit.false) grouped))
+
+pub returns-then-separator-ne1 : goal.returns-then-separator-ne1
+returns-then-separator-ne1 c = IfSome_then c.read_by_bytes.result c.read_by_bytes.ensures (λ n read f sign separator grouping.
+    let a = c.args in
+    let t = a.text.now in
+    let start = a.sign.len in
+    let s = c.as_bytes-separator.result.now in
+    let body = take (length t - start) (drop start t) in
+    let plain = ap byte_figures c.as_bytes-separator.ensures.value ∙ c.requires.plain in
+    let grouped = body-groups a.grouping c.in_ok-sizes.sizes c.in_ok-sizes.ensures s body plain read.1 read.3 in
+    subst (λ n. SpellsNumber f t (signed_number a.sign.is_negative n)) (sym read.2)
+    (spells-body f t s body a.grouping a.sign.is_negative start (take_rest t start) sign (c.as_bytes-separator.ensures.value ∙ separator) grouping read.0 grouped))
