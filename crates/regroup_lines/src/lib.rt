@@ -56,8 +56,7 @@ pub use crate::quoting::{MAX_QUOTED_LEN, quoted, shown};
 use crate::records::{Within, is_open, line_reached};
 use crate::rules::{MARK, trim};
 pub use crate::rules::{FieldRange, Fields, Invalid, Output, Quoting, Reading, Rules, Span};
-use crate::sending::Part::Plain;
-use crate::sending::{send_all, send_both, send_whole};
+use crate::sending::{send_between, send_both, send_whole};
 use num_format::Format;
 use num_format::to_formatted_string::write_whole;
 use num_format_decimal::DecimalBuffer;
@@ -104,8 +103,8 @@ pub struct Summary {
 ///
 /// Of each line, all digits and a minus sign at its start are parsed. Each character that is not numeric is ignored,
 /// as [`parse_formatted`](num_format::parsing::ParseFormatted::parse_formatted) does. So a carriage
-/// return before the newline is ignored too, but counts as a byte of the line. A line takes two writes or
-/// more, so a buffered writer takes less time.
+/// return before the newline is ignored too, but counts as a byte of the line. A line and its newline
+/// are written together, by one write if that writes all of them.
 ///
 /// # Errors
 ///
@@ -548,11 +547,7 @@ fn regroup_place<'a, W: Write, F: Format, G: Format>(
         .parser
         .read(job.rules.reading, &text[start..end], number)?;
     let number = DecimalBuffer::of(&value, job.to);
-    let parts = [
-        Plain(&text[..start]),
-        Plain(number.as_str().as_bytes()),
-        Plain(&text[end..]),
-        Plain(&[job.rules.line_end]),
-    ];
-    send_all(&parts, w).or(Err(LineFault::Write))
+    let (before, after) = (&text[..start], &text[end..]);
+    let sent = send_between(before, number.as_str(), after, job.rules.line_end, w);
+    sent.or(Err(LineFault::Write))
 }

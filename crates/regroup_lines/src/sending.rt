@@ -1,12 +1,18 @@
 //! Writes of texts in parts.
-ghost use Rattle.std.specs.Prelude.{◌++◌};
+ghost use Rattle.std.specs.Prelude.{◌<◌, ◌++◌, length};
 ghost use Rattle.std.specs.List.{flat_map};
 ghost use Rattle.num_format.specs.Writing.{Sends};
 ghost use Rattle.regroup_lines.specs.Csv.{doubled, part_text};
+ghost use Rattle.regroup_lines.specs.Ended.{ended_by};
 
 use crate::records::QUOTE;
+use arrayvec::ArrayVec;
 use num_format::to_formatted_string::write_whole;
+use num_format_decimal::MAX_DECIMAL_LEN;
 use std::io::Write;
+
+/// The most bytes of a line that is a number, with the byte that ends it.
+const MAX_SENT_LINE_LEN: usize = MAX_DECIMAL_LEN + 1;
 
 /// A write failed, or wrote no bytes.
 ///
@@ -59,6 +65,41 @@ fn send_doubled<W: Write>(text: &[u8], w: &mut W) -> Result<(), Unsent>
         send_whole(&twice[..len], w)?;
     }
     Ok(())
+}
+
+/// Sends the bytes of a line around a number, the number between them, and the byte that ends the line.
+pub(crate) fn send_between<'a, W: Write>(
+    before: &'a [u8],
+    number: &'a str,
+    after: &'a [u8],
+    line_end: u8,
+    w: &mut W,
+) -> Result<(), Unsent>
+    requires { length number.now < MAX_SENT_LINE_LEN }
+    ensures { Sends result (W.contents w.old) (W.contents w.new)
+        (ended_by line_end (before.now ++ (number.now ++ after.now))) }
+{
+    if before.is_empty() && after.is_empty() {
+        return send_line(number, line_end, w);
+    }
+    let parts = [
+        Part::Plain(before),
+        Part::Plain(number.as_bytes()),
+        Part::Plain(after),
+        Part::Plain(&[line_end]),
+    ];
+    send_all(&parts, w)
+}
+
+/// Sends a number and the byte that ends its line, by one write if that writes both: so no other process writes between them.
+fn send_line<W: Write>(number: &str, line_end: u8, w: &mut W) -> Result<(), Unsent>
+    requires { length number.now < MAX_SENT_LINE_LEN }
+    ensures { Sends result (W.contents w.old) (W.contents w.new) (ended_by line_end number.now) }
+{
+    let mut line = ArrayVec::<u8, MAX_SENT_LINE_LEN>::new();
+    line.try_extend_from_slice(number.as_bytes()).unwrap();
+    line.push(line_end);
+    send_whole(line.as_slice(), w)
 }
 
 /// Sends bytes, and others after them.

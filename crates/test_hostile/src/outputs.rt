@@ -47,25 +47,25 @@ type Case<'a> = (&'a [ReadStep], &'a [Step], Ended, &'a str, usize, usize);
 /// The lines from `en` to `en-IN`.
 #[rattlefmt::skip]
 const CASES: [Case<'static>; 19] = [
-    (&[], &[], Ended::Lines(2), "10,00,000\n-5\n", 2, 4),
-    (&[Give(5), Give(5)], &[], Ended::Lines(2), "10,00,000\n-5\n", 4, 4),
-    (&[], &[Take(4), Take(5), Take(1), Take(1)], Ended::Lines(2), "10,00,000\n-5\n", 2, 6),
-    (&[Give(9)], &[Take(9), Take(9), Take(9)], Ended::Lines(2), "10,00,000\n-5\n", 3, 4),
+    (&[], &[], Ended::Lines(2), "10,00,000\n-5\n", 2, 2),
+    (&[Give(5), Give(5)], &[], Ended::Lines(2), "10,00,000\n-5\n", 4, 2),
+    (&[], &[Take(4), Take(5), Take(1), Take(1)], Ended::Lines(2), "10,00,000\n-5\n", 2, 5),
+    (&[Give(9)], &[Take(9), Take(9), Take(9)], Ended::Lines(2), "10,00,000\n-5\n", 3, 3),
     (&[ReadStep::Fail], &[], Ended::FailedRead, "", 1, 0),
     (&[ReadStep::Interrupt], &[], Ended::FailedRead, "", 1, 0),
     (&[Give(8), ReadStep::Fail], &[], Ended::FailedRead, "", 2, 0),
-    (&[Give(9), ReadStep::Interrupt], &[Take(6)], Ended::FailedRead, "10,00,000\n", 2, 3),
-    (&[Give(12), ReadStep::Fail], &[], Ended::FailedRead, "10,00,000\n-5\n", 2, 4),
+    (&[Give(9), ReadStep::Interrupt], &[Take(6)], Ended::FailedRead, "10,00,000\n", 2, 2),
+    (&[Give(12), ReadStep::Fail], &[], Ended::FailedRead, "10,00,000\n-5\n", 2, 2),
     (&[], &[Step::Fail], Ended::FailedWrite, "", 1, 1),
     (&[], &[Step::Interrupt], Ended::FailedWrite, "", 1, 1),
     (&[], &[Zero], Ended::FailedWrite, "", 1, 1),
     (&[], &[Take(4), Step::Fail], Ended::FailedWrite, "10,0", 1, 2),
     (&[], &[Take(9), Zero], Ended::FailedWrite, "10,00,000", 1, 2),
-    (&[Give(4)], &[Take(9), Take(1), Step::Interrupt], Ended::FailedWrite, "10,00,000\n", 2, 3),
-    (&[], &[Take(9), Take(1), Take(2), Step::Fail], Ended::FailedWrite, "10,00,000\n-5", 1, 4),
-    (&[], &[Take(9), Take(1), Take(2), Zero, Take(9)], Ended::FailedWrite, "10,00,000\n-5", 1, 4),
+    (&[Give(4)], &[Take(10), Step::Interrupt], Ended::FailedWrite, "10,00,000\n", 2, 2),
+    (&[], &[Take(10), Take(2), Step::Fail], Ended::FailedWrite, "10,00,000\n-5", 1, 3),
+    (&[], &[Take(10), Take(2), Zero, Take(9)], Ended::FailedWrite, "10,00,000\n-5", 1, 3),
     (&[Give(9), ReadStep::Fail], &[Zero], Ended::FailedWrite, "", 1, 1),
-    (&[Give(12), ReadStep::Fail], &[Take(9), Take(1), Zero], Ended::FailedWrite, "10,00,000\n", 1, 3),
+    (&[Give(12), ReadStep::Fail], &[Take(10), Zero], Ended::FailedWrite, "10,00,000\n", 1, 2),
 ];
 
 fn reader<'a>(case: &Case<'a>) -> ScriptedReader<'a> {
