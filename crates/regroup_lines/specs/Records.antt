@@ -48,7 +48,7 @@ abbrev pub has_end : (quotes : Option ℕ) → (end : ℕ) → Within → List �
 has_end quotes end within [] = false
 has_end quotes end within (b ∷ text) = ((b == end) && not (is_inside within)) || has_end quotes end (after_next quotes within b) text
 
--- whether a search for a byte that ends a part looks at this one: it passes over the others
+-- whether a byte ends parts or, where there may be quotes, is one (34): no other byte can end a part, or say what is inside quotes
 abbrev pub is_stop : (quotes : Option ℕ) → (end : ℕ) → ℕ → Bool
 is_stop None end b = is_byte end b
 is_stop (Some delimiter) end b = is_byte2 34 end b

@@ -1,5 +1,5 @@
 //! Where fields, lines and records end.
-ghost use Rattle.std.specs.Prelude.{◌≡◌, ◌≤◌, All, false, length, slice_range};
+ghost use Rattle.std.specs.Prelude.{◌≡◌, ◌≤◌, ◌<◌, All, false, get_or, length, slice_range, true};
 ghost use Rattle.regroup_lines.specs.Ended.{len_without, without_end};
 ghost use Rattle.regroup_lines.specs.Records.{EndsAt, is_stop};
 
@@ -40,6 +40,7 @@ fn search(quotes: Option<u8>, end: u8, bytes: &[u8], start: usize) -> usize
     ensures ordered { start ≤ result }
     ensures within { result ≤ length bytes.now }
     ensures none { All (λ b. is_stop quotes end b ≡ false) (slice_range bytes.now start result) }
+    ensures found { result < length bytes.now → is_stop quotes end (get_or bytes.now result 0) ≡ true }
 {
     let rest = &bytes[start..];
     let found = match quotes {
