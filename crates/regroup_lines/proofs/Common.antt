@@ -32,7 +32,7 @@ pub use Rattle.regroup_lines.specs.LineFaults.{IsHalt, line_fault_of, text_fault
 pub use Rattle.regroup_lines.specs.Lines.{MARK, Regrouped, Sent, Stop, after, begins_with_mark, between, body_sent, body_written, fault_named, fault_sent, field_read, field_written, fields_of, fields_replaced, fields_written, joined, lenient, line_after, line_begun, line_ended, line_sent, long_fault, long_returned, number_written, numbers_replaced, only_written, passed, passes, passes_mark, place_written, quotes_in, quotes_of, record_sent, records_of, regrouped, regrouped_after, regrouped_parts, regrouped_rest, returning, sending, sending_line, stop_returned, text_sent, with_first}
 pub use Rattle.regroup_lines.specs.Lines.Stop.{Ended, Endless, Failed, Unflushed, Unread}
 pub use Rattle.regroup_lines.specs.Messages.{before_in, before_rest, fault_message, messages}
-pub use Rattle.regroup_lines.specs.Places.{are_enough, field_count, is_at_most, is_chosen, is_chosen_from, is_enough, trimmed}
+pub use Rattle.regroup_lines.specs.Places.{are_enough, field_count, is_at_most, is_chosen, is_chosen_from, is_enough, one_field, trimmed}
 pub use Rattle.regroup_lines.specs.Records.{EndsAt, after_bare, after_byte, after_next, after_record_byte, after_text, has_end, is_inside, is_open, is_quote, line_reached, lines_ended, next_line, split_at}
 pub use Rattle.regroup_lines.specs.Sending.{Names, PassesLong, Receives, ReceivesBytes, ReceivesEach, ReceivesPrefix, Regroups, RegroupsNaming, Returns, SendsBytes, SendsEach, SendsLine, Writer, by_writer, bytes_to, failed_by, failed_writer, text_to}
 pub use Rattle.regroup_lines.specs.Sending.Writer.{Messages, Output, Rejects}
@@ -53,7 +53,6 @@ pub use Rattle.num_format_decimal.specs.Parsing.{DecimalResult, IsDecimalCause, 
 pub use Rattle.num_format_decimal.specs.declared.parsing.ParseDecimalError.{ParseDecimalError}
 pub use Rattle.regroup_lines.specs.Csv.{before_as, before_field, doubled, field_with, is_barred, is_opened, number_place, output_delimiter, part_text, passed_as, quoted_len}
 pub use Rattle.regroup_lines.specs.Fields.{IsOnly, SendsOrFails, SendsUnless}
-pub use Rattle.regroup_lines.specs.Lists.{counted, field_number, is_dash, one_field, range_between, range_in, ranges_in, with_range}
 pub use Rattle.regroup_lines.specs.declared.rules.FieldRange.{FieldRange}
 pub use Rattle.regroup_lines.specs.declared.rules.Fields.{Fields}
 pub use Rattle.regroup_lines.specs.declared.rules.Span.{Span}

@@ -8,7 +8,6 @@ mod FieldLemmas
 mod InputLemmas
 pub mod LineFaultLemmas
 mod LineLemmas
-mod ListLemmas
 mod LongLemmas
 mod MarkLemmas
 mod NumberedLemmas

@@ -4,7 +4,7 @@ use Rattle.std.specs.Io.KnownBytes.{Appends}
 use Rattle.num_format.specs.Writing.{StopsWithin}
 use Rattle.regroup_lines.specs.Fault.{Fault}
 use Rattle.regroup_lines.specs.Fault.Fault.{Write}
-use Rattle.regroup_lines.specs.Lists.{one_field}
+use Rattle.regroup_lines.specs.Places.{one_field}
 use Rattle.regroup_lines.specs.declared.rules.Fields.{Fields}
 
 -- what a call that sends a text does, or one that sends nothing and does not fail

@@ -8,7 +8,6 @@ pub mod Input
 pub mod Laws
 pub mod LineFaults
 pub mod Lines
-pub mod Lists
 pub mod Messages
 pub mod Places
 pub mod Quoting

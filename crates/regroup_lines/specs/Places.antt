@@ -17,6 +17,10 @@ trimmed text place =
     let start = place.0 + prefix_len is_ascii_whitespace (slice_range text place.0 place.1) in
     (start, place.1 - suffix_len is_ascii_whitespace (slice_range text start place.1))
 
+-- one field
+abbrev pub one_field : ℕ → FieldRange
+one_field number = record { first = number; last = Some number }
+
 -- whether a number is at most the last one of a range, which may have none
 abbrev pub is_at_most : ℕ → Option ℕ → Bool
 is_at_most n None = true

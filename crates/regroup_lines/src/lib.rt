@@ -13,7 +13,7 @@
 //! str::from_utf8(&out)                                                 // Ok("10,00,000\n-5\n")
 //! ```
 //!
-//! The input is read into an array, and parsed there. Only [`field_list`] allocates.
+//! The input is read into an array, and parsed there.
 #![tactic(auto)]
 
 mod ends;
@@ -23,7 +23,6 @@ mod input;
 mod job;
 pub mod laws;
 mod line_fault;
-mod list;
 mod message;
 mod number;
 mod quoting;
@@ -49,7 +48,6 @@ use crate::fields::regroup_fields;
 use crate::input::{Input, Piece};
 use crate::job::Job;
 use crate::line_fault::LineFault;
-pub use crate::list::field_list;
 pub use crate::message::{MAX_DISPLAYED_LEN, MAX_FAULT_MESSAGE_LEN, MAX_NAME_LEN, fault_message};
 use crate::number::Parser;
 pub use crate::quoting::{MAX_QUOTED_LEN, quoted, shown};

@@ -2,8 +2,7 @@
 ghost use Rattle.std.specs.Prelude.{◌≡◌, ◌<◌, ◌≤◌, ◌||◌, [], ◌∷◌, length, None, IfSome};
 ghost use Rattle.std.specs.Option.{is_some};
 ghost use Rattle.regroup_lines.specs.Lines.{passes, passes_mark, quotes_in, quotes_of};
-ghost use Rattle.regroup_lines.specs.Lists.{one_field};
-ghost use Rattle.regroup_lines.specs.Places.{are_enough, field_count, is_at_most, is_chosen, is_chosen_from, place_of, trimmed, wanted, wanted_of};
+ghost use Rattle.regroup_lines.specs.Places.{are_enough, field_count, is_at_most, is_chosen, is_chosen_from, one_field, place_of, trimmed, wanted, wanted_of};
 
 use crate::fault::FieldCount;
 use crate::records::QUOTE;

@@ -1,4 +1,5 @@
 pub mod FaultyLemmas
 pub mod InputLemmas
+pub mod ListLemmas
 pub mod SplitLemmas
 pub mod StreamLemmas

@@ -2,6 +2,7 @@
 pub mod Ending
 pub mod Files
 pub mod Inputs
+pub mod Lists
 pub mod Options
 pub mod Stream
 pub mod Words

@@ -19,6 +19,7 @@
 mod ending;
 mod files;
 mod inputs;
+mod list;
 mod options;
 mod watched;
 mod words;
@@ -36,12 +37,13 @@ ghost use Rattle.regroup_stream.specs.Stream.{RegroupsAll, Runs, end_of_result};
 use crate::ending::Ending;
 pub use crate::files::FileFault;
 pub use crate::inputs::{Open, Unread, run_all};
+pub use crate::list::field_list;
 pub use crate::options::{OptionFault, Options};
 use crate::watched::Watched;
 pub use crate::words::{Ambiguity, Formats, Misuse, Source, formats_named, refuse_arguments};
 use num_format::CustomFormat;
 pub use regroup_lines::{
-    FieldRange, Fields, Invalid, Output, Quoting, Reading, Rules, Span, field_list,
+    FieldRange, Fields, Invalid, Output, Quoting, Reading, Rules, Span,
 };
 use regroup_lines::{RegroupFault, Summary, fault_message, regroup_at_most};
 use std::io::{BufWriter, ErrorKind, Read, Write};

@@ -1,6 +1,8 @@
-use Rattle.regroup_lines.proofs.Common.{None, Some, ap, field_number, one_field, option_map, rules, sym, ◌∙◌, ◌≡◌}
-use Rattle.regroup_lines.proofs.ListLemmas.{range-none, range-some}
-use Rattle.regroup_lines.proofs.list.range_in.Goals as goal
+use Rattle.std.proofs.Common.{None, Some, ap, rules, sym, ◌∙◌, ◌≡◌}
+use Rattle.regroup_stream.specs.Lists.{field_number, one_field}
+use Rattle.std.specs.Option.{option_map}
+use Rattle.regroup_stream.proofs.ListLemmas.{range-none, range-some}
+use Rattle.regroup_stream.proofs.list.range_in.Goals as goal
 
 pub returns-in_err-number-in-None : goal.returns-in_err-number-in-None
 returns-in_err-number-in-None c =

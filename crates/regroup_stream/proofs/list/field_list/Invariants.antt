@@ -1,5 +1,8 @@
-use Rattle.regroup_lines.proofs.Common.{drop, length, option_map, ranges_in, slice_split, ◌++◌, ◌==◌, ◌≡◌}
-use Rattle.regroup_lines.proofs.list.field_list.Given as goal
+use Rattle.std.proofs.Common.{drop, length, ◌++◌, ◌==◌, ◌≡◌}
+use Rattle.std.specs.Option.{option_map}
+use Rattle.regroup_stream.specs.Lists.{ranges_in}
+use Rattle.std.specs.List.{slice_split}
+use Rattle.regroup_stream.proofs.list.field_list.Given as goal
 
 -- the ranges of the parts so far, and those of the parts that are left
 abbrev pub invariant-loop-part : goal.invariant-loop-part

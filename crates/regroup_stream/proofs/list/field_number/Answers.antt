@@ -1,6 +1,8 @@
-use Rattle.regroup_lines.proofs.Common.{is_ascii_digit, list_all, rules, true, ◌∙◌, ◌≡◌}
-use Rattle.regroup_lines.proofs.ListLemmas.{number-err, number-ok}
-use Rattle.regroup_lines.proofs.list.field_number.Goals as goal
+use Rattle.std.specs.Char.{is_ascii_digit}
+use Rattle.std.specs.List.{list_all}
+use Rattle.std.proofs.Common.{rules, true, ◌∙◌, ◌≡◌}
+use Rattle.regroup_stream.proofs.ListLemmas.{number-err, number-ok}
+use Rattle.regroup_stream.proofs.list.field_number.Goals as goal
 
 pub returns-in-Ok : goal.returns-in-Ok
 returns-in-Ok c =

@@ -4,6 +4,7 @@ use Rattle.std.specs.Char.{is_ascii_digit}
 use Rattle.std.specs.List.{after_first, before_first, list_all, position_or_len, slice_split}
 use Rattle.std.specs.Option.{option_map}
 use Rattle.std.specs.Str.Parse.{digits_value}
+use Rattle.regroup_lines.specs.Places.{one_field}
 use Rattle.regroup_lines.specs.declared.rules.FieldRange.{FieldRange}
 
 -- the number, if it is one of a field: they are counted from 1, and a `u64` holds them
@@ -26,10 +27,6 @@ range_between [] [] = None
 range_between [] (b ∷ after) = range_from_to (Some 1) (field_number (b ∷ after))
 range_between (b ∷ before) [] = option_map (λ first. record { first = first; last = None }) (field_number (b ∷ before))
 range_between (b ∷ before) (c ∷ after) = range_from_to (field_number (b ∷ before)) (field_number (c ∷ after))
-
--- one field
-abbrev pub one_field : ℕ → FieldRange
-one_field number = record { first = number; last = Some number }
 
 -- whether a byte is `-`
 abbrev pub is_dash : ℕ → Bool

@@ -3,9 +3,9 @@ ghost use Rattle.std.specs.Prelude.{◌≡◌, IfOk};
 ghost use Rattle.std.specs.Char.{is_ascii_digit};
 ghost use Rattle.std.specs.List.{list_all};
 ghost use Rattle.std.specs.Option.{option_map};
-ghost use Rattle.regroup_lines.specs.Lists.{counted, field_number, list_read, range_between, range_from_to, range_in};
+ghost use Rattle.regroup_stream.specs.Lists.{counted, field_number, list_read, range_between, range_from_to, range_in};
 
-use crate::rules::FieldRange;
+use regroup_lines::FieldRange;
 use std::alloc::{AllocError, Global};
 
 /// Returns the ranges that a list names, as that of `cut`: its parts, between commas, are each `N`, `N-M`, `N-` or

@@ -1,8 +1,12 @@
-use Rattle.regroup_lines.proofs.Common.{None, Some, [], ap, arith, drop, length, length_push, option_map, range_in, ranges_in, rules, slice_split, sym, ◌++◌, ◌==◌, ◌∙◌, ◌∷◌, ◌≡◌}
+use Rattle.std.proofs.Common.{None, Some, [], ap, arith, drop, length, rules, sym, ◌++◌, ◌==◌, ◌∙◌, ◌∷◌, ◌≡◌}
+use Rattle.std.proofs.lemmas.List.{length_push}
+use Rattle.std.specs.Option.{option_map}
+use Rattle.regroup_stream.specs.Lists.{range_in, ranges_in}
+use Rattle.std.specs.List.{slice_split}
 use Rattle.std.proofs.lemmas.Iterator.Consumers.{YieldsList-end, YieldsList-turn}
 use Rattle.std.proofs.lemmas.Iterator.Splits.{YieldsList-from_str_split}
-use Rattle.regroup_lines.proofs.ListLemmas.{ranges-all, ranges-next, ranges-refused}
-use Rattle.regroup_lines.proofs.list.field_list.Goals as goal
+use Rattle.regroup_stream.proofs.ListLemmas.{ranges-all, ranges-next, ranges-refused}
+use Rattle.regroup_stream.proofs.list.field_list.Goals as goal
 
 pub returns-in_default : goal.returns-in_default
 returns-in_default c =

@@ -1,6 +1,17 @@
 -- The ranges that a list names.
-use Rattle.regroup_lines.proofs.Common.{Bool, Decides-ltb, Err, FieldRange, List, MatchOption, None, Ok, OkIff, Option, Result, Some, [], after_first, all_ascii_digits, ap, append-nil, append_assoc, arith, before_first, counted, drop, drop_all, drop_more, false, false_from_ne_true, field_number, get_or, if◌then◌else◌, is_ascii_digit, is_dash, length, list_all, nat_lt, one_field, option_map, position_or_len, range_between, ranges_in, refl, subst, sym, true, with_range, ℕ, ◌&&◌, ◌++◌, ◌+◌, ◌<◌, ◌^◌, ◌∙◌, ◌∷◌, ◌≡◌}
-use Rattle.regroup_lines.specs.Lists.{range_in}
+use Rattle.std.proofs.Common.{Bool, Err, List, None, Ok, Option, Result, Some, [], ap, append-nil, append_assoc, arith, drop, false, get_or, if◌then◌else◌, length, refl, subst, sym, true, ℕ, ◌++◌, ◌+◌, ◌<◌, ◌^◌, ◌∙◌, ◌∷◌, ◌≡◌}
+use Rattle.std.proofs.lemmas.Bool.Decides.{Decides-ltb}
+use Rattle.regroup_lines.specs.declared.rules.FieldRange.{FieldRange}
+use Rattle.std.specs.Prelude.{MatchOption, nat_lt, ◌&&◌}
+use Rattle.std.specs.Result.{OkIff}
+use Rattle.std.specs.List.{after_first, before_first, list_all, position_or_len}
+use Rattle.std.specs.Str.{all_ascii_digits}
+use Rattle.regroup_stream.specs.Lists.{counted, field_number, is_dash, one_field, range_between, ranges_in, with_range}
+use Rattle.std.proofs.lemmas.List.{drop_all, drop_more}
+use Rattle.std.proofs.lemmas.Bool.{false_from_ne_true}
+use Rattle.std.specs.Char.{is_ascii_digit}
+use Rattle.std.specs.Option.{option_map}
+use Rattle.regroup_stream.specs.Lists.{range_in}
 use Rattle.std.specs.Borrow.{Bor}
 use Rattle.std.specs.Str.Parse.{ParsesUnsigned, digits_value}
 use Rattle.std.proofs.lemmas.Str.Parse.{IsNumeralModel, numerals_by_value, parse_digits, tells_all_ascii_digits}
