@@ -2,7 +2,6 @@
 mod ChoiceLemmas
 mod Common
 pub mod CsvLemmas
-mod DecimalLemmas
 mod Examples
 mod FieldLemmas
 mod InputLemmas

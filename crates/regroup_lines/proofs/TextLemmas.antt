@@ -6,7 +6,7 @@ use Rattle.std.specs.Prelude.{unsigned_abs}
 use Rattle.num_format.specs.ParseBytesError.{ParseBytesError}
 use Rattle.num_format.specs.ParseBytesError.TheVariants.{NotANumber, NotUtf8}
 use Rattle.num_format.proofs.ReadableLemmas.{readable-from_accepted, unreadable-from_refused}
-use Rattle.regroup_lines.proofs.DecimalLemmas.{decimal_read-ambiguous, decimal_read-parsed, decimal_read-refused, parsed-utf8}
+use Rattle.regroup_faults.proofs.DecimalLemmas.{decimal_read-ambiguous, decimal_read-parsed, decimal_read-refused, parsed-utf8}
 
 -- the text of a whole number as a decimal
 pub whole_text : (f : FormatData) (d : FixedPoint) (n : ℤ) → d ≡ fixed_point n 0 → decimal_text f d ≡ text_of f n

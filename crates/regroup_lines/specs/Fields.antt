@@ -2,8 +2,8 @@
 use Rattle.std.specs.Prelude.{◌≡◌, ℕ, ◌<◌, Bool, true, false, List, [], ◌∷◌, Option, None, Result, Ok, Err}
 use Rattle.std.specs.Io.KnownBytes.{Appends}
 use Rattle.num_format.specs.Writing.{StopsWithin}
-use Rattle.regroup_lines.specs.Fault.{Fault}
-use Rattle.regroup_lines.specs.Fault.Fault.{Write}
+use Rattle.regroup_faults.specs.Fault.{Fault}
+use Rattle.regroup_faults.specs.Fault.Fault.{Write}
 use Rattle.regroup_lines.specs.Places.{one_field}
 use Rattle.regroup_lines.specs.declared.rules.Fields.{Fields}
 

@@ -3,8 +3,8 @@ use Rattle.std.specs.Prelude.{◌≡◌, ℕ, ◌+◌, ◌<◌, ◌≤◌, Bool,
 use Rattle.std.specs.Io.KnownBytes.{Consumes, IsAtEnd}
 use Rattle.std.specs.declared.ops.Range.{Range}
 use Rattle.regroup_lines.specs.Ended.{ended_by}
-use Rattle.regroup_lines.specs.Fault.{Fault}
-use Rattle.regroup_lines.specs.Fault.Fault.{Flush, Read, TooMany}
+use Rattle.regroup_faults.specs.Fault.{Fault}
+use Rattle.regroup_faults.specs.Fault.Fault.{Flush, Read, TooMany}
 use Rattle.regroup_lines.specs.Lines.{Stop, quotes_in}
 use Rattle.regroup_lines.specs.Lines.Stop.{Ended, Endless, Failed, Unflushed, Unread}
 use Rattle.regroup_lines.specs.Records.{after_text, has_end, is_inside}

@@ -2,7 +2,7 @@
 use Rattle.std.specs.Prelude.{◌≡◌, ℕ, ◌+◌, false, ◌||◌, List, ◌++◌, Some, Ok}
 use Rattle.num_format.specs.Format.{FormatData}
 use Rattle.regroup_lines.specs.Ended.{ended_by}
-use Rattle.regroup_lines.specs.Fault.{are_any}
+use Rattle.regroup_faults.specs.Fault.{are_any}
 use Rattle.regroup_lines.specs.Lines.{Regrouped, begins_with_mark, quotes_in, regrouped}
 use Rattle.regroup_lines.specs.Lines.Stop.{Ended}
 use Rattle.regroup_lines.specs.Records.{is_left_open}

@@ -3,8 +3,8 @@ use Rattle.std.specs.Prelude.{◌≡◌, ℕ, Bool, true, if◌then◌else◌, L
 use Rattle.std.specs.Str.{is_utf8}
 use Rattle.num_format.specs.Cut.{cut_text}
 use Rattle.num_format.specs.Refusal.{ParseNumber}
-use Rattle.regroup_lines.specs.Fault.{Fault, in_field}
-use Rattle.regroup_lines.specs.Fault.Fault.{FewFields, Flush, Line, NotText, Read, Reject, Report, Unclosed, Write}
+use Rattle.regroup_faults.specs.Fault.{Fault, in_field}
+use Rattle.regroup_faults.specs.Fault.Fault.{FewFields, Flush, Line, NotText, Read, Reject, Report, Unclosed, Write}
 use Rattle.regroup_lines.specs.declared.line_fault.LineFault.{LineFault}
 use Rattle.regroup_lines.specs.declared.line_fault.LineFault.TheVariants as fault
 

@@ -12,9 +12,9 @@ use Rattle.num_format_decimal.specs.Text.{decimal_text}
 use Rattle.num_format.specs.Readable.{number_read}
 use Rattle.regroup_lines.specs.Ended.{ended_by, without_end}
 use Rattle.regroup_lines.specs.Csv.{field_with, is_barred, number_place, output_delimiter}
-use Rattle.regroup_lines.specs.Decimals.{decimal_read}
-use Rattle.regroup_lines.specs.Fault.{Fault, in_field}
-use Rattle.regroup_lines.specs.Fault.Fault.{TooMany, TooLong, FewFields, Flush, Read, NotText, Line, Unclosed}
+use Rattle.regroup_faults.specs.Decimals.{decimal_read}
+use Rattle.regroup_faults.specs.Fault.{Fault, in_field}
+use Rattle.regroup_faults.specs.Fault.Fault.{TooMany, TooLong, FewFields, Flush, Read, NotText, Line, Unclosed}
 use Rattle.regroup_lines.specs.LineFaults.{text_fault}
 use Rattle.regroup_lines.specs.Places.{are_enough, field_count, is_chosen, trimmed}
 use Rattle.regroup_lines.specs.Records.{is_open, is_quote, line_reached, next_line, split_at}
@@ -22,8 +22,8 @@ use Rattle.regroup_lines.specs.declared.records.Within.TheVariants.{Start}
 use Rattle.regroup_lines.specs.declared.rules.Fields.{Fields}
 use Rattle.regroup_lines.specs.declared.rules.Invalid.{Invalid}
 use Rattle.regroup_lines.specs.declared.rules.Invalid.TheVariants.{Abort, Fail, Warn, Ignore}
-use Rattle.regroup_lines.specs.declared.rules.Reading.{Reading}
-use Rattle.regroup_lines.specs.declared.rules.Reading.TheVariants.{Lenient, Strict}
+use Rattle.regroup_faults.specs.declared.Reading.{Reading}
+use Rattle.regroup_faults.specs.declared.Reading.TheVariants.{Lenient, Strict}
 use Rattle.regroup_lines.specs.declared.rules.Rules.{Rules}
 use Rattle.regroup_lines.specs.declared.rules.Span.{Span}
 use Rattle.regroup_lines.specs.declared.rules.Span.TheVariants as span

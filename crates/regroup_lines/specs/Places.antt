@@ -4,7 +4,7 @@ use Rattle.std.specs.Char.{is_ascii_whitespace}
 use Rattle.std.specs.List.{fold, list_all, list_any, prefix_len, suffix_len}
 use Rattle.std.specs.Option.{unwrap_or}
 use Rattle.std.specs.declared.ops.Range.{Range}
-use Rattle.regroup_lines.specs.declared.fault.FieldCount.{FieldCount}
+use Rattle.regroup_faults.specs.declared.fault.FieldCount.{FieldCount}
 use Rattle.regroup_lines.specs.declared.rules.FieldRange.{FieldRange}
 
 -- a place as clauses compare it

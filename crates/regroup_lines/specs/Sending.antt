@@ -4,15 +4,15 @@ use Rattle.std.specs.Io.KnownBytes.{Appends, Consumes, IsAtEnd}
 use Rattle.num_format.specs.Format.{FormatData}
 use Rattle.num_format.specs.Writing.{HasReceivedUpTo, StopsWithin}
 use Rattle.regroup_lines.specs.Ended.{ended_by}
-use Rattle.regroup_lines.specs.Fault.{Fault, are_any}
-use Rattle.regroup_lines.specs.Fault.Fault.{Reject, Report, Write}
+use Rattle.regroup_faults.specs.Fault.{Fault, are_any}
+use Rattle.regroup_faults.specs.Fault.Fault.{Reject, Report, Write}
 use Rattle.regroup_lines.specs.Input.{IsLong, IsStop, Reads, stop_result, stop_text}
 use Rattle.regroup_lines.specs.Lines.{Regrouped, Sent, Stop, line_after, quotes_in, regrouped}
 use Rattle.regroup_lines.specs.Lines.Stop.{Ended, Endless, Unflushed}
-use Rattle.regroup_lines.specs.Messages.{messages}
+use Rattle.regroup_faults.specs.Messages.{messages}
 use Rattle.regroup_lines.specs.Records.{is_open}
 use Rattle.regroup_lines.specs.declared.Summary.{Summary}
-use Rattle.regroup_lines.specs.declared.rules.Reading.{Reading}
+use Rattle.regroup_faults.specs.declared.Reading.{Reading}
 use Rattle.regroup_lines.specs.declared.rules.Rules.{Rules}
 
 -- the writers: of the output, of the messages that name faults, and of rejected lines

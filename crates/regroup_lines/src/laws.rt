@@ -2,10 +2,10 @@
 //!
 //! The contract of each function is a law. There is nothing to compute, so the bodies are empty.
 ghost use Rattle.num_format.specs.Equality.{EqualityLaw};
-ghost use Rattle.regroup_lines.specs.Fault.{fault_of};
+ghost use Rattle.regroup_faults.specs.Fault.{fault_of};
 ghost use Rattle.regroup_lines.specs.Laws.{SplitLaw};
 
-use crate::fault::RegroupFault;
+use regroup_faults::RegroupFault;
 
 /// Two faults are equal by `==` exactly if they are the same fault, of the same line and with an equal
 /// error, and so are a fault and its clone, which needs no memory.

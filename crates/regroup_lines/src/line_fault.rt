@@ -2,12 +2,12 @@
 ghost use Rattle.std.specs.Prelude.{◌≡◌};
 ghost use Rattle.num_format.specs.Cut.{cut_text};
 ghost use Rattle.num_format.specs.Refusal.{ParseNumber, refusal_of};
-ghost use Rattle.regroup_lines.specs.Fault.{fault_of, in_field};
+ghost use Rattle.regroup_faults.specs.Fault.{fault_of, in_field};
 ghost use Rattle.regroup_lines.specs.LineFaults.{line_fault_of, text_fault};
 
-use crate::fault::{FieldCount, RegroupFault};
 use num_format::error::cut;
 use num_format::{Error, ErrorKind};
+use regroup_faults::{FieldCount, RegroupFault};
 use std::str;
 
 /// Why a line was not read or not sent. It borrows the text, and so has a few bytes, where a [`RegroupFault`] keeps a copy.

@@ -7,11 +7,11 @@ ghost use Rattle.regroup_lines.specs.LineFaults.{line_fault_of};
 ghost use Rattle.regroup_lines.specs.Lines.{number_written};
 
 use crate::line_fault::LineFault;
-use crate::rules::Reading;
 use num_format::Format;
 use num_format::laws::format_data;
 use num_format::parsing::FromFormattedStr;
 use num_format_decimal::{Decimal, DecimalParser};
+use regroup_faults::Reading;
 use std::marker::Model;
 
 /// A parser of the numbers of an input. Strict reading asks their format for its symbols once. A contract sees it as the data of the format.

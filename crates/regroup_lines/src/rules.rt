@@ -4,22 +4,12 @@ ghost use Rattle.std.specs.Option.{is_some};
 ghost use Rattle.regroup_lines.specs.Lines.{passes, passes_mark, quotes_in, quotes_of};
 ghost use Rattle.regroup_lines.specs.Places.{are_enough, field_count, is_at_most, is_chosen, is_chosen_from, one_field, place_of, trimmed, wanted, wanted_of};
 
-use crate::fault::FieldCount;
 use crate::records::QUOTE;
+use regroup_faults::{FieldCount, Reading};
 use std::ops::Range;
 
 /// The bytes of a byte order mark, the character U+FEFF.
 pub(crate) const MARK: [u8; 3] = [0xEF, 0xBB, 0xBF];
-
-/// How the text of a number is read.
-#[derive(Clone, Copy, Debug, PartialEq, Eq)]
-pub enum Reading {
-    /// A decimal, exactly as it is printed under the format, grouped or not. It is printed with as many decimals
-    /// as it has.
-    Strict,
-    /// The digits and a minus sign at the start, as a whole number. Each character that is not numeric is ignored.
-    Lenient,
-}
 
 /// What is done with a line at fault. It is sent as it is, but for [`Invalid::Abort`]: to the output, or to the writer of
 /// rejected lines.

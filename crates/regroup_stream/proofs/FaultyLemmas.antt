@@ -3,10 +3,10 @@ use Rattle.std.proofs.Common.{◌≡◌, Bool, true, false, List, ℕ, Err, refl
 use Rattle.std.specs.Prelude.{Option}
 use Rattle.std.specs.declared.io.ErrorKind.{ErrorKind}
 use Rattle.num_format.specs.Format.{FormatData}
-use Rattle.regroup_lines.specs.Fault.{fault_of}
-use Rattle.regroup_lines.specs.Messages.{fault_message}
-use Rattle.regroup_lines.specs.declared.fault.RegroupFault.{RegroupFault}
-use Rattle.regroup_lines.specs.declared.fault.RegroupFault.TheVariants as fault
+use Rattle.regroup_faults.specs.Fault.{fault_of}
+use Rattle.regroup_faults.specs.Messages.{fault_message}
+use Rattle.regroup_faults.specs.declared.fault.RegroupFault.{RegroupFault}
+use Rattle.regroup_faults.specs.declared.fault.RegroupFault.TheVariants as fault
 use Rattle.regroup_lines.specs.declared.rules.Rules.{Rules}
 use Rattle.regroup_stream.specs.Ending.End.{Faulty}
 use Rattle.regroup_stream.specs.Stream.{end_of_result}

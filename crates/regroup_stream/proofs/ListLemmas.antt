@@ -6,7 +6,7 @@ use Rattle.std.specs.Prelude.{MatchOption, nat_lt, ◌&&◌}
 use Rattle.std.specs.Result.{OkIff}
 use Rattle.std.specs.List.{after_first, before_first, list_all, position_or_len}
 use Rattle.std.specs.Str.{all_ascii_digits}
-use Rattle.regroup_stream.specs.Lists.{counted, field_number, is_dash, one_field, range_between, ranges_in, with_range}
+use Rattle.regroup_stream.specs.Lists.{counted, field_number, is_dash, range_between, ranges_in, with_range}
 use Rattle.std.proofs.lemmas.List.{drop_all, drop_more}
 use Rattle.std.proofs.lemmas.Bool.{false_from_ne_true}
 use Rattle.std.specs.Char.{is_ascii_digit}
@@ -61,14 +61,14 @@ module _ (text : List ℕ) (r : Option (Bor (List ℕ) × Bor (List ℕ))) (spli
       (λ x. (position_or_len is_dash text < length text) × (x.0.now ≡ before_first is_dash text) × (x.1.now ≡ after_first is_dash text))
   at = split_once_first 45 text r split (omega arith)
 
-pub range-none : (text : List ℕ) (r : Option (Bor (List ℕ) × Bor (List ℕ))) → r ≡ None → IsSplitOnceResult 45 text r → range_in text ≡ option_map one_field (field_number text)
+pub range-none : (text : List ℕ) (r : Option (Bor (List ℕ) × Bor (List ℕ))) → r ≡ None → IsSplitOnceResult 45 text r → range_in text ≡ range_between text text
 unfolding range_in
 range-none text r is split =
     let none : position_or_len is_dash text ≡ length text =
     subst (λ r. MatchOption r (position_or_len is_dash text ≡ length text)
     (λ x. (position_or_len is_dash text < length text) × (x.0.now ≡ before_first is_dash text) × (x.1.now ≡ after_first is_dash text))) is (at text r split) in
     let over : nat_lt (position_or_len is_dash text) (length text) ≡ false = false_from_ne_true _ (λ yes. let below = (Decides-ltb (position_or_len is_dash text) (length text)).0 yes in omega (arith, below, none)) in
-    ap (λ b. if b then range_between (before_first is_dash text) (after_first is_dash text) else option_map one_field (field_number text)) over
+    ap (λ b. if b then range_between (before_first is_dash text) (after_first is_dash text) else range_between text text) over
 
 pub range-some : (text : List ℕ) (r : Option (Bor (List ℕ) × Bor (List ℕ))) (x : Bor (List ℕ) × Bor (List ℕ)) → r ≡ Some x → IsSplitOnceResult 45 text r →
     range_between x.0.now x.1.now ≡ range_in text
@@ -80,7 +80,7 @@ range-some text r x is split =
     let below : nat_lt (position_or_len is_dash text) (length text) ≡ true = (Decides-ltb (position_or_len is_dash text) (length text)).1 found.0 in
     ap (λ before. range_between before x.1.now) found.1
     ∙ ap (range_between (before_first is_dash text)) found.2
-    ∙ sym (ap (λ b. if b then range_between (before_first is_dash text) (after_first is_dash text) else option_map one_field (field_number text)) below)
+    ∙ sym (ap (λ b. if b then range_between (before_first is_dash text) (after_first is_dash text) else range_between text text) below)
 
 -- the ranges of parts, part after part
 module _ (parts : List (List ℕ)) (n : ℕ) (items : List FieldRange)

@@ -6,7 +6,7 @@ use Rattle.std.specs.declared.io.ErrorKind.{ErrorKind}
 use Rattle.std.proofs.KnownBytes.{Appends-kept}
 use Rattle.num_format.specs.Format.{FormatData}
 use Rattle.num_format.specs.Writing.{HasReceivedUpTo}
-use Rattle.regroup_lines.specs.Fault.{Fault}
+use Rattle.regroup_faults.specs.Fault.{Fault}
 use Rattle.regroup_lines.specs.Lines.{regrouped}
 use Rattle.regroup_lines.specs.Sending.{Receives, RegroupsNaming, Writer, by_writer, failed_by, text_to}
 use Rattle.regroup_lines.specs.Sending.Writer.{Messages, Output, Rejects}

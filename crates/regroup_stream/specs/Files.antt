@@ -9,7 +9,7 @@ use Rattle.num_format.specs.English.{english}
 use Rattle.num_format.specs.Format.{FormatData}
 use Rattle.num_format.specs.Json.{Fault, fault_of, format_in}
 use Rattle.num_format.specs.Json.Fault.{Missing, TooLong, WrongKind}
-use Rattle.regroup_lines.specs.Quoting.{quoted}
+use Rattle.regroup_faults.specs.Quoting.{quoted}
 use Rattle.regroup_stream.specs.Ending.{failure_message}
 use Rattle.regroup_stream.specs.declared.files.FileFault.{FileFault}
 use Rattle.regroup_stream.specs.declared.files.FileFault.TheVariants as fault

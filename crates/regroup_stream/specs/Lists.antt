@@ -4,7 +4,6 @@ use Rattle.std.specs.Char.{is_ascii_digit}
 use Rattle.std.specs.List.{after_first, before_first, list_all, position_or_len, slice_split}
 use Rattle.std.specs.Option.{option_map}
 use Rattle.std.specs.Str.Parse.{digits_value}
-use Rattle.regroup_lines.specs.Places.{one_field}
 use Rattle.regroup_lines.specs.declared.rules.FieldRange.{FieldRange}
 
 -- the number, if it is one of a field: they are counted from 1, and a `u64` holds them
@@ -32,11 +31,10 @@ range_between (b ∷ before) (c ∷ after) = range_from_to (field_number (b ∷ 
 abbrev pub is_dash : ℕ → Bool
 is_dash b = b == 45
 
--- the fields that a part of a list names: `N`, `N-M`, `N-` or `-M`
+-- the fields that a part of a list names: `N`, which is `N-N`, `N-M`, `N-` or `-M`
 unfoldable pub range_in : List ℕ → Option FieldRange
 range_in text =
-    if nat_lt (position_or_len is_dash text) (length text) then range_between (before_first is_dash text) (after_first is_dash text) else
-    option_map one_field (field_number text)
+    if nat_lt (position_or_len is_dash text) (length text) then range_between (before_first is_dash text) (after_first is_dash text) else range_between text text
 
 -- a range before others, if each is one
 abbrev pub with_range : Option FieldRange → Option (List FieldRange) → Option (List FieldRange)

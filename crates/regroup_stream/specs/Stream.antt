@@ -2,9 +2,9 @@
 use Rattle.std.specs.Prelude.{◌≡◌, ℕ, ◌-◌, ◌^◌, List, [], Option, None, Result, Ok, Err}
 use Rattle.std.specs.declared.io.ErrorKind.{ErrorKind}
 use Rattle.num_format.specs.Format.{FormatData}
-use Rattle.regroup_lines.specs.Fault.{Fault}
-use Rattle.regroup_lines.specs.Fault.Fault.{TooMany, Read, Write, Report, Reject, Flush}
-use Rattle.regroup_lines.specs.Messages.{fault_message}
+use Rattle.regroup_faults.specs.Fault.{Fault}
+use Rattle.regroup_faults.specs.Fault.Fault.{TooMany, Read, Write, Report, Reject, Flush}
+use Rattle.regroup_faults.specs.Messages.{fault_message}
 use Rattle.regroup_lines.specs.Sending.{RegroupsNaming, Writer, by_writer}
 use Rattle.regroup_lines.specs.Sending.Writer.{Messages, Output, Rejects}
 use Rattle.regroup_lines.specs.declared.Summary.{Summary}

@@ -13,12 +13,12 @@ use Rattle.num_format.specs.Grouping.TheVariants.{Posix}
 use Rattle.num_format.specs.GroupingNames.{grouping_named}
 use Rattle.num_format.specs.Lookup.{LooksUpTag}
 use Rattle.num_format_decimal.specs.Marks.{MarksDecimals}
-use Rattle.regroup_lines.specs.declared.rules.Reading.{Reading}
-use Rattle.regroup_lines.specs.declared.rules.Reading.TheVariants.{Lenient, Strict}
+use Rattle.regroup_faults.specs.declared.Reading.{Reading}
+use Rattle.regroup_faults.specs.declared.Reading.TheVariants.{Lenient, Strict}
 use Rattle.num_format.specs.Building.{built, choices_of, chosen, custom_format}
 use Rattle.num_format.specs.Constants.{MAX_DEC_LEN, MAX_MIN_LEN, MAX_SEP_LEN}
 use Rattle.num_format.specs.English.{english}
-use Rattle.regroup_lines.specs.Quoting.{quoted}
+use Rattle.regroup_faults.specs.Quoting.{quoted}
 use Rattle.regroup_lines.specs.Ended.{line}
 use Rattle.regroup_stream.specs.Files.{HoldsFormat, Unfit, unfit_message, unfit_of}
 use Rattle.regroup_stream.specs.Files.Unfit.{Unread}

@@ -2,7 +2,7 @@
 ghost use Rattle.std.specs.Prelude.{◌≡◌, ◌≤◌, ◌++◌, length, OnOk};
 ghost use Rattle.std.specs.Result.{result_map_both};
 ghost use Rattle.num_format.specs.Json.{fault_of};
-ghost use Rattle.regroup_lines.specs.Quoting.{quoted};
+ghost use Rattle.regroup_faults.specs.Quoting.{quoted};
 ghost use Rattle.regroup_stream.specs.Files.{HoldsFormat, completed, json_cause, unfit_message, unfit_of, with_text_at};
 ghost use Rattle.serde_json.specs.View.{view};
 

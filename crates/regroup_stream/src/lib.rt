@@ -28,7 +28,7 @@ ghost use Rattle.std.specs.Prelude.{◌≡◌, ◌+◌, [], None, length};
 ghost use Rattle.std.specs.Io.Buffered.{writer_buffer, writer_contents};
 ghost use Rattle.std.specs.Io.KnownBytes.{Keeps};
 ghost use Rattle.std.specs.Result.{result_map_both};
-ghost use Rattle.regroup_lines.specs.Fault.{fault_of};
+ghost use Rattle.regroup_faults.specs.Fault.{fault_of};
 ghost use Rattle.regroup_stream.specs.Ending.{Finishes, end_of, end_of_lines};
 ghost use Rattle.regroup_stream.specs.Ending.End.{IsOutput, Unopened};
 ghost use Rattle.regroup_lines.specs.Sending.{by_writer};

@@ -42,13 +42,7 @@ fn range_in(part: &str) -> Option<FieldRange>
 {
     match part.split_once('-') {
         Some((before, after)) => range_between(before, after),
-        None => {
-            let number = field_number(part)?;
-            Some(FieldRange {
-                first: number,
-                last: Some(number),
-            })
-        }
+        None => range_between(part, part),
     }
 }
 

@@ -1,7 +1,8 @@
-use Rattle.regroup_lines.proofs.Common.{flat_map, take, ◌*◌, ◌≡◌, ◌≤◌}
+use Rattle.std.specs.List.{flat_map}
+use Rattle.std.proofs.Common.{take, ◌*◌, ◌≡◌, ◌≤◌}
 use Rattle.arrayvec.specs.ArrayString.{array_string_len}
-use Rattle.regroup_lines.specs.Quoting.{shown_byte}
-use Rattle.regroup_lines.proofs.quoting.shown.Given as goal
+use Rattle.regroup_faults.specs.Quoting.{shown_byte}
+use Rattle.regroup_faults.proofs.quoting.shown.Given as goal
 
 -- each byte so far
 abbrev pub invariant-loop-byte : goal.invariant-loop-byte

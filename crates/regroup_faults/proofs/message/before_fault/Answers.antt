@@ -1,6 +1,8 @@
-use Rattle.regroup_lines.proofs.Common.{◌≡◌, ◌∙◌, IsUtf8, length, true, arith, rules, sym, nat_lt, Decides-ltb}
-use Rattle.regroup_lines.proofs.DecimalLemmas.{before-parsed, before-refused}
-use Rattle.regroup_lines.proofs.message.before_fault.Goals as goal
+use Rattle.std.proofs.Common.{◌≡◌, ◌∙◌, IsUtf8, length, true, arith, rules, sym}
+use Rattle.std.specs.Prelude.{nat_lt}
+use Rattle.std.proofs.lemmas.Bool.Decides.{Decides-ltb}
+use Rattle.regroup_faults.proofs.DecimalLemmas.{before-parsed, before-refused}
+use Rattle.regroup_faults.proofs.message.before_fault.Goals as goal
 
 pub returns-in-Ok : goal.returns-in-Ok
 returns-in-Ok g c =

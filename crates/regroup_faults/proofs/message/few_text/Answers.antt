@@ -1,5 +1,5 @@
-use Rattle.regroup_lines.proofs.Common.{append_assoc}
-use Rattle.regroup_lines.proofs.message.few_text.Goals as goal
+use Rattle.std.proofs.Common.{append_assoc}
+use Rattle.regroup_faults.proofs.message.few_text.Goals as goal
 
 pub returns : goal.returns
 returns c = simp (

@@ -8,14 +8,13 @@ use Rattle.num_format_decimal.specs.Parsing.{unexpected_in_decimal}
 use Rattle.num_format_decimal.specs.declared.decimal.TheConstants.{MAX_SCALE}
 use Rattle.num_format_decimal.specs.declared.parsing.ParseDecimalError.{ParseDecimalError}
 use Rattle.num_format_decimal.specs.declared.parsing.ParseDecimalError.TheVariants.{Unexpected}
-use Rattle.regroup_lines.specs.Quoting.{quoted, shown}
-use Rattle.regroup_lines.specs.Ended.{line}
-use Rattle.regroup_lines.specs.Decimals.{marks_decimals, scale_below}
-use Rattle.regroup_lines.specs.Fault.{Fault, line_of}
-use Rattle.regroup_lines.specs.Fault.Fault.{TooMany, TooLong, FewFields, Read, NotText, FieldNotText, Line, Field, Unclosed, Write, Report, Reject, Flush}
-use Rattle.regroup_lines.specs.declared.fault.FieldCount.{FieldCount}
-use Rattle.regroup_lines.specs.declared.rules.Reading.{Reading}
-use Rattle.regroup_lines.specs.declared.rules.Reading.TheVariants.{Lenient, Strict}
+use Rattle.regroup_faults.specs.Quoting.{quoted, shown}
+use Rattle.regroup_faults.specs.Decimals.{marks_decimals, scale_below}
+use Rattle.regroup_faults.specs.Fault.{Fault, line_of}
+use Rattle.regroup_faults.specs.Fault.Fault.{TooMany, TooLong, FewFields, Read, NotText, FieldNotText, Line, Field, Unclosed, Write, Report, Reject, Flush}
+use Rattle.regroup_faults.specs.declared.fault.FieldCount.{FieldCount}
+use Rattle.regroup_faults.specs.declared.Reading.{Reading}
+use Rattle.regroup_faults.specs.declared.Reading.TheVariants.{Lenient, Strict}
 
 -- the text that an error keeps, if it keeps one
 abbrev pub kept_in : Refusal → List ℕ
@@ -106,7 +105,7 @@ message_of_fault fault = displayed (line_of fault) (cause None fault)
 -- a message about the line of this number, if a line is at fault
 abbrev pub line_message : (name : List ℕ) → (line : Option ℕ) → List ℕ → List ℕ
 line_message name None cause = []
-line_message name (Some number) cause = line (codes "regroup-lines: " ++ (shown_name name ++ (codes ":" ++ (decimal number ++ (codes ": " ++ cause)))))
+line_message name (Some number) cause = codes "regroup-lines: " ++ (shown_name name ++ (codes ":" ++ (decimal number ++ (codes ": " ++ (cause ++ codes "\n")))))
 
 -- the message that names the fault of a line, in an input of this name that is read under the format; other faults have none
 abbrev pub fault_message : (name : List ℕ) → Reading → FormatData → Fault → List ℕ

@@ -1,15 +1,14 @@
 //! Why lines were not regrouped to the end.
 ghost use Rattle.std.specs.Prelude.{◌≡◌, Some};
-ghost use Rattle.regroup_lines.specs.Fault.{fault_of, line_of};
-ghost use Rattle.regroup_lines.specs.Messages.{message_of_fault};
+ghost use Rattle.regroup_faults.specs.Fault.{fault_of, line_of};
+ghost use Rattle.regroup_faults.specs.Messages.{message_of_fault};
 
 use crate::message::{MAX_DISPLAYED_LEN, cause, displayed};
 use arrayvec::ArrayString;
 use num_format::Error;
 use std::fmt;
 
-/// Why [`regroup_lines`](crate::regroup_lines) or [`regroup_at_most`](crate::regroup_at_most) stopped.
-/// Lines are numbered from 1, and so are the fields of a line, or of a record of RFC 4180.
+/// Why the lines of an input were not regrouped to the end. Lines are numbered from 1, and so are the fields of a line, or of a record of RFC 4180.
 ///
 /// ```rust
 /// println!(rt; "{}", RegroupFault::TooLong(2, 4096))    // line 2: more than 4096 bytes

@@ -1,12 +1,12 @@
 //! The messages that name faults.
 ghost use Rattle.std.specs.Prelude.{◌≡◌, ◌≤◌, length};
 ghost use Rattle.num_format.specs.Refusal.{refusal_of};
-ghost use Rattle.regroup_lines.specs.Fault.{fault_of};
-ghost use Rattle.regroup_lines.specs.Messages.{before_fault, before_in, byte_text, cause, displayed, fault_message, few_text, field_cause, kept_in, line_message, refused_in, refused_text};
+ghost use Rattle.regroup_faults.specs.Fault.{fault_of};
+ghost use Rattle.regroup_faults.specs.Messages.{before_fault, before_in, byte_text, cause, displayed, fault_message, few_text, field_cause, kept_in, line_message, refused_in, refused_text};
 
+use crate::Reading;
 use crate::fault::{FieldCount, RegroupFault};
 use crate::quoting::{MAX_QUOTED_LEN, quoted, shown};
-use crate::rules::Reading;
 use arrayvec::ArrayString;
 use num_format::laws::format_data;
 use num_format::{Error, ErrorKind, Format};

@@ -1,7 +1,22 @@
 -- The definition of the decimal that a text spells is what strict parsing returns.
-use Rattle.regroup_lines.proofs.Common.{Bool, Decides, Decides-and, Decides-like, Decides-ltb, Decides-not, Decides-or, Err, FitsSigned, FixedPoint, FormatData, HasUtf8Texts, IsDecimalCause, IsExpectedDecimal, IsPlainFormat, IsUtf8, List, MarksDecimals, MatchOption, None, Ok, Option, ParseDecimalError, ParsesDecimal, Result, Some, SpellsDecimal, SpellsNone, [], ap, arith, before_in, before_rest, both_ways, cases_Bool, denoted, denoted_at, drop, false, false_from_ne_true, figures, fits_i128, fixed_point, has_no_numeral, if◌then◌else◌, inl, inr, is_sign, length, length-drop, negsuc, not-true, not_from_false, option_map, pos, refl, subst, suc, sym, true, unexpected_in_decimal, w128, with_separators, without_separators, zero, ℕ, ℤ, ◌&&◌, ◌+◌, ◌-◌, ◌<◌, ◌^◌, ◌↔◌, ◌∙◌, ◌∷◌, ◌≡◌, ◌≢◌, ◌≤◌}
-use Rattle.regroup_lines.specs.Decimals.{decimal_read, is_spelled_at, marks_decimals, scale_below}
-use Rattle.regroup_lines.specs.Messages.{before_unexpected}
+use Rattle.std.proofs.Common.{Bool, Decides, Err, IsUtf8, List, None, Ok, Option, Result, Some, [], ap, arith, drop, false, if◌then◌else◌, inl, inr, length, refl, subst, sym, true, ℕ, ◌+◌, ◌-◌, ◌<◌, ◌^◌, ◌∙◌, ◌∷◌, ◌≡◌, ◌≢◌, ◌≤◌}
+use Rattle.std.proofs.lemmas.Bool.Decides.{Decides-and, Decides-like, Decides-ltb, Decides-not, Decides-or}
+use Rattle.std.specs.Prelude.{FitsSigned, MatchOption, negsuc, pos, suc, zero, ℤ, ◌&&◌, ◌↔◌}
+use Rattle.num_format_decimal.specs.FixedPoint.{FixedPoint, fixed_point}
+use Rattle.num_format.specs.Format.{FormatData, HasUtf8Texts}
+use Rattle.num_format_decimal.specs.Parsing.{IsDecimalCause, IsExpectedDecimal, ParsesDecimal, SpellsDecimal, SpellsNone, unexpected_in_decimal, with_separators, without_separators}
+use Rattle.num_format_decimal.specs.Marks.{IsPlainFormat, MarksDecimals}
+use Rattle.num_format_decimal.specs.declared.parsing.ParseDecimalError.{ParseDecimalError}
+use Rattle.regroup_faults.specs.Messages.{before_in, before_rest}
+use Rattle.std.proofs.lemmas.Bool.{both_ways, cases_Bool, false_from_ne_true, not-true, not_from_false}
+use Rattle.num_format.specs.Reading.{denoted, figures}
+use Rattle.regroup_faults.specs.Decimals.{denoted_at, has_no_numeral, is_sign}
+use Rattle.num_format.specs.Readable.{fits_i128}
+use Rattle.std.proofs.lemmas.List.{length-drop}
+use Rattle.std.specs.Option.{option_map}
+use Rattle.std.specs.Int.{w128}
+use Rattle.regroup_faults.specs.Decimals.{decimal_read, is_spelled_at, marks_decimals, scale_below}
+use Rattle.regroup_faults.specs.Messages.{before_unexpected}
 use Rattle.std.proofs.lemmas.Slice.Eq.{bytes_eq-Decides}
 use Rattle.num_format.specs.Grouped.{printed_separator}
 use Rattle.num_format.specs.Strict.{HasNoNumeral}

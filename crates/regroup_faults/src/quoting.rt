@@ -1,7 +1,7 @@
 //! Texts in messages.
 ghost use Rattle.std.specs.Prelude.{◌≡◌, ◌+◌, ◌/◌, ◌<◌, ◌≤◌, ◌++◌, IsTrue};
 ghost use Rattle.arrayvec.specs.ArrayString.{array_string_len};
-ghost use Rattle.regroup_lines.specs.Quoting.{hex_digit, is_shown, quoted, shown, shown_byte};
+ghost use Rattle.regroup_faults.specs.Quoting.{hex_digit, is_shown, quoted, shown, shown_byte};
 
 use arrayvec::ArrayString;
 

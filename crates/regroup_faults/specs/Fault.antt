@@ -1,9 +1,9 @@
 -- Faults as clauses compare them.
 use Rattle.std.specs.Prelude.{ℕ, Bool, true, false, List, [], ◌∷◌, Option, None, Some}
 use Rattle.num_format.specs.Refusal.{Refusal, refusal_of}
-use Rattle.regroup_lines.specs.declared.fault.FieldCount.{FieldCount}
-use Rattle.regroup_lines.specs.declared.fault.RegroupFault.{RegroupFault}
-use Rattle.regroup_lines.specs.declared.fault.RegroupFault.TheVariants as fault
+use Rattle.regroup_faults.specs.declared.fault.FieldCount.{FieldCount}
+use Rattle.regroup_faults.specs.declared.fault.RegroupFault.{RegroupFault}
+use Rattle.regroup_faults.specs.declared.fault.RegroupFault.TheVariants as fault
 
 -- a fault, with the number of its line, and of its field where a text in a chosen field is at fault; of a line that is too long, with how many bytes it may have, and of
 -- one with too few fields with how many it has;

@@ -1,0 +1,5 @@
+-- The definitions that the contracts of this crate use.
+pub mod Decimals
+pub mod Fault
+pub mod Messages
+pub mod Quoting
