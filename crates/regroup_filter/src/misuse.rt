@@ -1,7 +1,7 @@
 //! What is said of arguments that are refused, in the words of the GNU programs.
 
 use clap::error::ErrorKind;
-use regroup_lines::quoted;
+use regroup_faults::quoted;
 use std::alloc::{AllocError, Global};
 
 /// Returns what is wrong with the arguments, by an error of the command line.

@@ -6,7 +6,7 @@ use crate::files::MAX_CAUSE_LEN;
 use crate::{CLOSED, FAILED, FAULTY, REGROUPED};
 use arrayvec::ArrayString;
 use num_format::to_formatted_string::write_whole;
-use regroup_lines::{MAX_FAULT_MESSAGE_LEN, MAX_NAME_LEN, shown};
+use regroup_faults::{MAX_FAULT_MESSAGE_LEN, MAX_NAME_LEN, shown};
 use std::io;
 use std::io::Write;
 

@@ -10,7 +10,7 @@ use crate::ending::failure_message;
 use arrayvec::ArrayString;
 use num_format::CustomFormat;
 use num_format::json::{JsonFault, format_from_value};
-use regroup_lines::{MAX_FAULT_MESSAGE_LEN, MAX_QUOTED_LEN, quoted};
+use regroup_faults::{MAX_FAULT_MESSAGE_LEN, MAX_QUOTED_LEN, quoted};
 use serde_json::Value;
 use std::alloc::{AllocError, Global};
 use std::io::ErrorKind;

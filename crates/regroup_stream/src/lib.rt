@@ -42,10 +42,9 @@ pub use crate::options::{OptionFault, Options};
 use crate::watched::Watched;
 pub use crate::words::{Ambiguity, Formats, Misuse, Source, formats_named, refuse_arguments};
 use num_format::CustomFormat;
-pub use regroup_lines::{
-    FieldRange, Fields, Invalid, Output, Quoting, Reading, Rules, Span,
-};
-use regroup_lines::{RegroupFault, Summary, fault_message, regroup_at_most};
+use regroup_faults::fault_message;
+pub use regroup_lines::{FieldRange, Fields, Invalid, Output, Quoting, Reading, Rules, Span};
+use regroup_lines::{RegroupFault, Summary, regroup_at_most};
 use std::io::{BufWriter, ErrorKind, Read, Write};
 
 /// The status where each line was regrouped, or passed on.

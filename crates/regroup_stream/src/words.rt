@@ -13,7 +13,7 @@ use crate::{FAILED, MISUSED};
 use arrayvec::ArrayString;
 use num_format::{CustomFormat, Grouping, Locale};
 use num_format_decimal::marks_decimals;
-use regroup_lines::{MAX_FAULT_MESSAGE_LEN, Reading, quoted};
+use regroup_faults::{MAX_FAULT_MESSAGE_LEN, Reading, quoted};
 use std::alloc::{AllocError, Global};
 use std::io::{ErrorKind, Write};
 

@@ -3,9 +3,8 @@
 use crate::{ReadStep, Scripted, ScriptedReader};
 use num_format::error::cut;
 use num_format::{CustomFormat, Error, ErrorKind, Format, Grouping, Locale};
-use regroup_lines::{
-    Invalid, Reading, RegroupFault, Rules, Span, fault_message, regroup_at_most, regroup_lines,
-};
+use regroup_faults::fault_message;
+use regroup_lines::{Invalid, Reading, RegroupFault, Rules, Span, regroup_at_most, regroup_lines};
 use std::alloc::Global;
 use std::io;
 use std::process::Abort;
