@@ -1,6 +1,6 @@
 -- Powers of ten, signs, and units at other scales.
 use Rattle.std.proofs.Common.{◌≡◌, ℕ, zero, suc, ◌+◌, ◌-◌, ◌*◌, ◌/◌, ◌%◌, ◌^◌, ◌<◌, ◌≤◌, Bool, true, false, refl, ap, ◌∙◌, sym, subst, inl, inr, arith, ℤ, pos, negsuc, unsigned_abs}
-use Rattle.std.specs.Prelude.{◌+ℤ◌, ◌-ℤ◌, ◌*ℤ◌, ◌≤ℤ◌, neg_ℤ, not, FitsSigned, ◌≢◌, if◌then◌else◌}
+use Rattle.std.specs.Prelude.{◌*ℤ◌, ◌≤ℤ◌, neg_ℤ, not, FitsSigned, ◌≢◌, if◌then◌else◌}
 use Rattle.std.specs.Int.{cast_signed, is_negative, w128, IsNonZero, NotMinOverMinusOne}
 use Rattle.std.proofs.Math.Nat.{div-add-mod, div-eq_of_lt-le, div-lt_self, div-mul-le_self, div-one, mod-eq-sub-div-mul, mod-eq_of_lt, mod-lt, mod-one, mul-le-mul_left, mul-add-mod_self_left, mul-mod_left, one-le-pow, pow-le-pow_right, pow-suc, zero-mod}
 use Rattle.std.proofs.lemmas.Bool.{cases_lt}
@@ -46,13 +46,6 @@ power_nonzero z e same = subst (λ x. IsNonZero w128 x) (sym same) (power_positi
 pub power_not_minus_one : (x z : ℤ) (e : ℕ) → e ≤ 38 → z ≡ pos (10 ^ e) → NotMinOverMinusOne w128 x z
 power_not_minus_one x z e few same =
     subst (λ y. NotMinOverMinusOne w128 x y) (sym same) (λ all. absurd (omega (arith, power_le e few, all)))
-
-pub zero_minus : (n : ℕ) → pos 0 -ℤ pos n ≡ neg_ℤ (pos n)
-zero_minus zero = refl
-zero_minus (suc n) = omega (arith, ints)
-
-pub zero_plus : (n : ℕ) → pos 0 +ℤ pos n ≡ pos n
-zero_plus n = omega (arith, ints)
 
 signed_mul : (b : Bool) (n k : ℕ) → signed_number b (n * k) ≡ signed_number b n *ℤ pos k
 signed_mul false n k = refl

@@ -1,6 +1,6 @@
 //! The type [`Decimal`], and what is converted to it.
-ghost use Rattle.std.specs.Prelude.{◌≡◌, ◌<◌, ◌≤◌, ◌^◌, pos, unsigned_abs, FitsSigned, IfErr, SomeIff};
-ghost use Rattle.std.specs.Int.{is_negative, w128};
+ghost use Rattle.std.specs.Prelude.{◌≡◌, ◌<◌, ◌≤◌, ◌^◌, pos, unsigned_abs, IfErr, SomeIff};
+ghost use Rattle.std.specs.Int.{is_negative};
 ghost use Rattle.std.specs.Result.{OkIff};
 ghost use Rattle.num_format_int.specs.Kind.{signed_number};
 ghost use Rattle.num_format_decimal.specs.FixedPoint.{fixed_point};
@@ -8,6 +8,7 @@ ghost use Rattle.num_format_decimal.specs.Values.{HasUnits, whole};
 ghost use Rattle.num_format_decimal.specs.declared.error.DecimalError.TheVariants.{OutOfRange, ScaleTooLarge};
 
 use crate::error::DecimalError;
+use num_format_int::sealed::Sealed;
 use std::marker::Model;
 
 /// The largest scale: the most decimals that a number has.
@@ -83,7 +84,7 @@ impl Decimal {
         ensures { let d = fixed_point (signed_number is_negative magnitude) scale in
             SomeIff result (HasUnits d) d }
     {
-        let units = with_sign(is_negative, magnitude)?;
+        let units = i128::from_sign_and_magnitude(is_negative, magnitude)?;
         Some(Decimal::of(units, scale))
     }
 
@@ -127,19 +128,6 @@ impl Decimal {
         ensures bound { result ≤ MAX_SCALE }
     {
         self.scale as u8
-    }
-}
-
-/// Returns the number with that sign and that absolute value, or `None` if it is no `i128`.
-#[tactic(auto, using(crate::proofs::ScaleLemmas::zero_minus, crate::proofs::ScaleLemmas::zero_plus))]
-pub(crate) fn with_sign(is_negative: bool, magnitude: u128) -> Option<i128>
-    ensures { let z = signed_number is_negative magnitude in
-        SomeIff result (FitsSigned w128 z) z }
-{
-    if is_negative {
-        0i128.checked_sub_unsigned(magnitude)
-    } else {
-        i128::try_from(magnitude).ok()
     }
 }
 
