@@ -1,7 +1,6 @@
 -- The decimal that a text spells, as a value.
 use Rattle.std.specs.Prelude.{ℕ, ◌+◌, zero, suc, Bool, not, ◌&&◌, ◌||◌, if◌then◌else◌, List, [], Option, None, Some}
 use Rattle.std.specs.List.{list_any}
-use Rattle.std.specs.Option.{option_map}
 use Rattle.std.specs.Str.{bytes_eq, chars}
 use Rattle.num_format.specs.Format.{FormatData}
 use Rattle.num_format.specs.Grouped.{printed_separator}
@@ -27,21 +26,17 @@ marks_decimals format =
     let separator = printed_separator format.grouping format.separator in
     is_sign format.minus_sign && (has_no_numeral separator && (is_sign format.decimal && not (bytes_eq format.decimal separator)))
 
--- the number that the digits of the text write, with so many of them as decimals
-abbrev pub denoted_at : FormatData → List ℕ → (scale : ℕ) → FixedPoint
-denoted_at format text scale = fixed_point (denoted format text) scale
+-- the decimal that the text spells, grouped or not, with the most decimals below a bound: its units are the number that the digits write
+unfoldable pub spelled_below : FormatData → List ℕ → (bound : ℕ) → Option FixedPoint
+spelled_below format text zero = None
+spelled_below format text (suc scale) =
+    let decimal = fixed_point (denoted format text) scale in
+    if bytes_eq text (decimal_text format decimal) || bytes_eq text (decimal_text (ungrouped format) decimal) then Some decimal else spelled_below format text scale
 
--- whether the text is that of this decimal, grouped or not
-unfoldable pub is_spelled_at : FormatData → List ℕ → (scale : ℕ) → Bool
-is_spelled_at format text scale =
-    bytes_eq text (decimal_text format (denoted_at format text scale)) || bytes_eq text (decimal_text (ungrouped format) (denoted_at format text scale))
-
--- the largest number of decimals below a bound for which it is
-unfoldable pub scale_below : FormatData → List ℕ → (bound : ℕ) → Option ℕ
-scale_below format text zero = None
-scale_below format text (suc n) = if is_spelled_at format text n then Some n else scale_below format text n
+-- the same of any scale that there is
+abbrev pub spelled : FormatData → List ℕ → Option FixedPoint
+spelled format text = spelled_below format text (MAX_SCALE + 1)
 
 -- the decimal that the text spells, if decimals can be told under the format, and the digits are those of an i128
 unfoldable pub decimal_read : FormatData → List ℕ → Option FixedPoint
-decimal_read format text =
-    if marks_decimals format && fits_i128 (denoted format text) then option_map (denoted_at format text) (scale_below format text (MAX_SCALE + 1)) else None
+decimal_read format text = if marks_decimals format && fits_i128 (denoted format text) then spelled format text else None

@@ -4,12 +4,12 @@ use Rattle.std.specs.Fmt.{decimal}
 use Rattle.std.specs.List.{flat_map}
 use Rattle.num_format.specs.Format.{FormatData}
 use Rattle.num_format.specs.Refusal.{Refusal, Capacity, Other, ParseLocale, ParseNumber}
+use Rattle.num_format_decimal.specs.FixedPoint.{FixedPoint}
 use Rattle.num_format_decimal.specs.Parsing.{unexpected_in_decimal}
-use Rattle.num_format_decimal.specs.declared.decimal.TheConstants.{MAX_SCALE}
 use Rattle.num_format_decimal.specs.declared.parsing.ParseDecimalError.{ParseDecimalError}
 use Rattle.num_format_decimal.specs.declared.parsing.ParseDecimalError.TheVariants.{Unexpected}
 use Rattle.regroup_faults.specs.Quoting.{quoted, shown}
-use Rattle.regroup_faults.specs.Decimals.{marks_decimals, scale_below}
+use Rattle.regroup_faults.specs.Decimals.{marks_decimals, spelled}
 use Rattle.regroup_faults.specs.Fault.{Fault, line_of}
 use Rattle.regroup_faults.specs.Fault.Fault.{TooMany, TooLong, FewFields, Read, NotText, FieldNotText, Line, Field, Unclosed, Write, Report, Reject, Flush}
 use Rattle.regroup_faults.specs.declared.fault.FieldCount.{FieldCount}
@@ -33,16 +33,16 @@ abbrev pub before_rest : (text rest : List ℕ) → Option ℕ
 before_rest text [] = None
 before_rest text (b ∷ rest) = Some (length text - length (b ∷ rest))
 
--- nothing where there is a scale
-abbrev pub unless_spelled : (scale before : Option ℕ) → Option ℕ
+-- nothing where there is a decimal
+abbrev pub unless_spelled : Option FixedPoint → (before : Option ℕ) → Option ℕ
 unless_spelled None before = before
-unless_spelled (Some scale) before = None
+unless_spelled (Some decimal) before = None
 
 -- how many bytes of a text that spells no decimal are before the first one that strict parsing does not expect, if there is one, and
 -- decimals can be told under the format
 unfoldable pub before_unexpected : FormatData → List ℕ → Option ℕ
 before_unexpected from text =
-    if marks_decimals from then unless_spelled (scale_below from text (MAX_SCALE + 1)) (before_rest text (unexpected_in_decimal from text)) else None
+    if marks_decimals from then unless_spelled (spelled from text) (before_rest text (unexpected_in_decimal from text)) else None
 
 -- the same by how the text is read: lenient reading names no byte, nor strict reading in a text of 253 bytes or more, which may have been
 -- cut, since an error keeps 256 bytes at most, and whole characters

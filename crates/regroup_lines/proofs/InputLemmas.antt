@@ -1,5 +1,6 @@
 -- The bytes that an input holds, read after read.
-use Rattle.regroup_lines.proofs.Common.{◌≢◌, eq-eqb, both_ways, Bool, Consumes, Consumes-kept, Consumes-nil, Consumes-trans, EndsOrGoesOn, FindsEnd, FindsPiece, HasNoEnd, Input, IsAtEnd, IsRecord, Keeps, List, Option, Piece, Range, Reads, Some, Within, [], ap, append-nil, append_assoc, arith, array_len, bytes_at, drop, drop-append-le, drop-drop, drop-take, drop_at, eqb-true, false, held, length, length-drop, length-take-le, refl, slice_range, subst, sym, take, take-add, take-append-le, take_all, take_at, true, ℕ, ◌++◌, ◌+◌, ◌-◌, ◌<◌, ◌==◌, ◌∙◌, ◌∷◌, ◌≡◌, ◌≤◌}
+use Rattle.regroup_lines.proofs.Common.{◌≢◌, eq-eqb, both_ways, Bool, get_or, is_inside, Consumes, Consumes-kept, Consumes-nil, Consumes-trans, EndsOrGoesOn, FindsPiece, HasNoEnd, Input, IsAtEnd, IsRecord, Keeps, List, Option, Piece, Range, Reads, Searched, Within, [], ap, append-nil, append_assoc, arith, array_len, bytes_at, drop, drop-append-le, drop-drop, drop-take, drop_at, eqb-true, false, held, length, length-drop, length-take-le, refl, slice_range, subst, sym, take, take-add, take-append-le, take_all, take_at, true, ℕ, ◌++◌, ◌+◌, ◌-◌, ◌<◌, ◌==◌, ◌∙◌, ◌∷◌, ◌≡◌, ◌≤◌}
+use Rattle.regroup_lines.proofs.RecordLemmas.{Ends, Ends-on, Ends-parts, Ends-record, Ends-same, Searched-all, Searched-longer}
 use borrow.Rule.Slice.PartMut.{put_mid, post_of}
 use Rattle.regroup_lines.specs.declared.input.Piece.TheVariants as piece
 
@@ -47,31 +48,22 @@ pub Reads-more : (xs ys more : List ℕ) (a b c : Option (List ℕ)) → Reads x
 Reads-more xs ys more a b c first second = Reads-trans xs ys (ys ++ more) a b c first (record { given = more; joined = refl; consumed = second })
 
 -- a read that fails
-pub Reads-kept : (xs ys : List ℕ) (a b c : Option (List ℕ)) → Reads xs ys a b → Keeps b c → Reads xs ys a c
-Reads-kept xs ys a b c first kept = record { given = first.given; joined = first.joined; consumed = Consumes-kept a b c first.given first.consumed kept }
+pub Reads-kept : (xs ys : List ℕ) (a b : Option (List ℕ)) → ys ≡ xs → Keeps a b → Reads xs ys a b
+Reads-kept xs ys a b same kept = record { given = []; joined = append-nil xs ∙ sym same; consumed = Consumes-kept a a b [] (Consumes-nil a) kept }
 
--- the same bytes in other words
-pub Reads-same : (xs ys zs : List ℕ) (a b : Option (List ℕ)) → Reads xs ys a b → zs ≡ ys → Reads xs zs a b
-Reads-same xs ys zs a b first same = subst (λ l. Reads xs l a b) (sym same) first
+-- a read that gives nothing
+read-nothing : (xs ys : List ℕ) (a b : Option (List ℕ)) → Reads xs ys a b → length ys ≤ length xs → ys ≡ xs
+read-nothing xs ys a b read same = sym (take_all (length xs) ys same) ∙ ap (take (length xs)) (sym read.joined) ∙ take_at xs read.given (length xs) refl
 
 -- whether a byte follows, by how many were read
-pub ends_or_goes_on : (bytes buf : List ℕ) (a b : Option (List ℕ)) (n : ℕ) (end : Bool) → (n == 0) ≡ end → bytes ≡ [] → n ≤ length buf → 0 < length buf →
-    Consumes a b (take n buf) × (n ≡ 0 → 0 < length buf → IsAtEnd b) → EndsOrGoesOn bytes a b end
-ends_or_goes_on bytes buf a b n true is empty bound room read =
+pub ends_or_goes_on : (bytes read : List ℕ) (a b : Option (List ℕ)) (n : ℕ) (end : Bool) → (n == 0) ≡ end → bytes ≡ [] → Reads bytes read a b → length read ≡ length bytes + n → (n ≡ 0 → IsAtEnd b) →
+    EndsOrGoesOn bytes a b end
+ends_or_goes_on bytes read a b n true is empty reads len at_end =
     let none = eqb-true n 0 is in
-    (record { given = []; joined = append-nil bytes ∙ empty; consumed = subst (λ k. Consumes a b (take k buf)) none read.0 }, read.1 none room)
-ends_or_goes_on bytes buf a b n false is empty bound room read =
+    (subst (λ l. Reads bytes l a b) (read-nothing bytes read a b reads (omega (arith, len, none)) ∙ empty) reads, at_end none)
+ends_or_goes_on bytes read a b n false is empty reads len at_end =
     let some : n ≢ 0 = λ none. both_ways (n == 0) is (eq-eqb n 0 none) in
-    let text = take n buf in
-    (text, record { given = text; joined = ap (λ l. l ++ text) empty; consumed = read.0 }, omega (arith, some, length-take-le n buf bound))
-
--- the record before the first byte that ends one
-pub record_found : (q : Option ℕ) (line_end : ℕ) (w : Within) (before bytes text left : List ℕ) (a b : Option (List ℕ)) (n : ℕ) → Reads before bytes a b → FindsEnd q line_end w bytes (Some n) → text ≡ take n bytes →
-    left ≡ drop (n + 1) bytes → Reads before (text ++ line_end ∷ left) a b × IsRecord q line_end w text
-record_found q line_end w before bytes text left a b n read found is_text is_left = (
-  Reads-same before bytes (text ++ line_end ∷ left) a b read (rw (is_text, is_left) (sym found.1)),
-  subst (IsRecord q line_end w) (sym is_text) found.2,
-)
+    (read, reads, omega (arith, some, len))
 
 -- a piece that was found, in other words
 module _ (q : Option ℕ) (e : ℕ) (w : Within) (before : List ℕ) (input : Input) (a b : Option (List ℕ)) (found : Piece) (finds : FindsPiece q e w before input a b found) (place : Range ℕ) (text : List ℕ) (same : text ≡ bytes_at input place) where
@@ -81,13 +73,47 @@ module _ (q : Option ℕ) (e : ℕ) (w : Within) (before : List ℕ) (input : In
   pub found-rest : found ≡ piece.Rest place → Reads before text a b × HasNoEnd q e w text × (length text < array_len input) × IsAtEnd b
   found-rest is = subst (λ l. Reads before l a b × HasNoEnd q e w l × (length l < array_len input) × IsAtEnd b) (sym same) (subst (FindsPiece q e w before input a b) is finds)
 
--- after a read, the bytes that were held before it are those that were searched
-pub read-front : (xs ys : List ℕ) (a b : Option (List ℕ)) (n : ℕ) → Reads xs ys a b → n ≡ length xs → take n ys ≡ xs
-read-front xs ys a b n read searched = ap (take n) (sym read.joined) ∙ take_at xs read.given n (sym searched)
+-- the bytes that are held, and the array
+pub held_len : (input : Input) → length (held input) ≡ input.end - input.start
+held_len input =
+    length-take-le (input.end - input.start) (drop input.start input.array.now) (omega (arith, length-drop input.start input.array.now))
 
-pub read-searched : (xs ys : List ℕ) (a b : Option (List ℕ)) (n : ℕ) → Reads xs ys a b → n ≡ length xs → take n xs ≡ take n ys
-read-searched xs ys a b n read all = take_all n xs (omega (arith, all)) ∙ sym (read-front xs ys a b n read all)
+-- a search of the bytes that are held, of which the first n are searched
+module _ (input : Input) {p q : Option ℕ} {e : ℕ} {w here after : Within} {rest : List ℕ} {n len : ℕ} (same : p ≡ q) (so_far : Searched q e w (held input) n here)
+    (is : rest ≡ slice_range input.array.now (input.start + n) input.end) (more : Searched p e here rest len after) (found : len < length rest → (get_or rest len 0 ≡ e) × (is_inside after ≡ false)) where
+  rest_is : rest ≡ drop n (held input)
+  rest_is = is ∙ range-later input.array.now input.start input.end n (omega (arith, held_len input))
 
--- a read that gives nothing
-pub read-nothing : (xs ys : List ℕ) (a b : Option (List ℕ)) → Reads xs ys a b → length ys ≤ length xs → ys ≡ xs
-read-nothing xs ys a b read same = sym (take_all (length xs) ys same) ∙ read-front xs ys a b (length xs) read refl
+  ends : Ends q e w (held input) (n + len) after
+  ends = Ends-on so_far (Ends-same same rest_is (more, found))
+
+  pub held_more : len < length rest → n + len < length (held input)
+  held_more low = omega (arith, low, ap length rest_is, length-drop n (held input))
+
+  -- up to the byte that ends a record
+  pub record_found : {before : List ℕ} {a b : Option (List ℕ)} → Reads before (held input) a b → n + len < length (held input) → (text left : List ℕ) →
+      text ≡ take (n + len) (held input) → left ≡ drop (n + len + 1) (held input) → Reads before (text ++ e ∷ left) a b × IsRecord q e w text
+  record_found {before} {a} {b} read low text left is_text is_left = rw (is_text, is_left) (subst (λ l. Reads before l a b) (Ends-parts ends low) read, Ends-record ends low)
+
+  -- up to their end
+  module _ (all : length rest ≤ len) where
+    pub held_all : n + len ≡ length (held input)
+    held_all = let inside = ends.0.inside in omega (arith, all, inside, ap length rest_is, length-drop n (held input))
+
+    pub held_none : HasNoEnd q e w (held input)
+    held_none = Searched-all ends.0 (omega (arith, held_all))
+
+    pub held_room : n + len ≢ array_len input → length (held input) < array_len input
+    held_room room = omega (arith, held_all, held_len input)
+
+    -- and then a read
+    module _ {read : List ℕ} {b c : Option (List ℕ)} (reads : Reads (held input) read b c) where
+      pub Searched-read : Searched q e w read (n + len) after
+      Searched-read = subst (λ l. Searched q e w l (n + len) after) reads.joined (Searched-longer ends.0 reads.given)
+
+      pub rest_found : {before : List ℕ} {a : Option (List ℕ)} → Reads before (held input) a b → length read ≤ length (held input) → (text : List ℕ) → text ≡ take (n + len) read →
+          Reads before text a c × HasNoEnd q e w text × (text ≡ held input)
+      rest_found {before} {a} first nothing text is_text =
+          let none = read-nothing (held input) read b c reads nothing in
+          let same_text : text ≡ held input = is_text ∙ ap (take (n + len)) none ∙ take_all (n + len) (held input) (omega (arith, held_all)) in
+          (subst (λ l. Reads before l a c) (none ∙ sym same_text) (Reads-trans before (held input) read a b c first reads), subst (HasNoEnd q e w) (sym same_text) held_none, same_text)

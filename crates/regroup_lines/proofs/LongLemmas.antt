@@ -1,7 +1,7 @@
 -- A record that is too long, piece by piece.
-use Rattle.regroup_lines.proofs.Common.{◌≡◌, ℕ, ◌+◌, ◌<◌, ◌≤◌, true, false, List, [], ◌∷◌, ◌++◌, length, Bool, Option, Some, None, Result, Ok, Err, refl, sym, ap, subst, ◌∙◌, arith, append_assoc, ◌-◌, ◌^◌, is_some, IsAtEnd, Keeps, result_map_both, length-append, ended_by, Fault, Flush, Read, TooMany, HasNoEnd, IsLong, IsRecord, IsStop, Reads, stop_result, stop_text, IsHalt, Stop, quotes_in, Ended, Endless, Failed, Unflushed, Unread, after_text, is_inside, line_reached, next_line, PassesLong, ReceivesBytes, SendsBytes, Writer, by_writer, failed_by, failed_writer, Within, Start, Rules}
+use Rattle.regroup_lines.proofs.Common.{◌≡◌, ℕ, ◌+◌, ◌<◌, ◌≤◌, true, false, List, [], ◌∷◌, ◌++◌, length, Bool, Option, Some, None, Result, Ok, Err, refl, sym, ap, subst, ◌∙◌, arith, append_assoc, ◌-◌, ◌^◌, is_some, IsAtEnd, Keeps, result_map_both, length-append, ended_by, Fault, Flush, Read, TooMany, HasNoEnd, IsLong, IsRecord, IsStop, Reads, stop_result, stop_text, IsHalt, Stop, quotes_in, Ended, Endless, Failed, Unflushed, Unread, after_byte, after_text, fold-append, is_inside, line_reached, next_line, PassesLong, ReceivesBytes, SendsBytes, Writer, by_writer, failed_by, failed_writer, Within, Start, Rules}
 use Rattle.regroup_lines.proofs.InputLemmas.{Reads-more, Reads-none}
-use Rattle.regroup_lines.proofs.RecordLemmas.{after-append, end-append, reached-append}
+use Rattle.regroup_lines.proofs.RecordLemmas.{end-append, reached-append}
 use Rattle.regroup_lines.proofs.WriterLemmas.{ReceivesBytes-after, received-kept}
 
 -- so many pieces of a record were sent: no byte is held that was not
@@ -53,7 +53,7 @@ module _ (rules : Rules) (n0 n2 : ℕ) (begun : List ℕ) (r0 : Option (List ℕ
       whole = so_far.text ++ text
 
       after_more : after_text q within text ≡ after_text q Start whole
-      after_more = ap (λ w. after_text q w text) so_far.after ∙ sym (after-append q Start so_far.text text)
+      after_more = ap (λ w. after_text q w text) so_far.after ∙ sym (fold-append (after_byte q) Start so_far.text text)
 
       reached_more : line_reached q e n1 text ≡ line_reached q e n0 whole
       reached_more = ap (λ n. line_reached q e n text) so_far.reached ∙ reached-append q e n0 so_far.text text

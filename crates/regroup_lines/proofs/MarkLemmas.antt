@@ -1,5 +1,6 @@
 -- A line that begins with a byte order mark.
-use Rattle.regroup_lines.proofs.Common.{ℕ, List, ◌++◌, Option, Result, Ok, Err, refl, arith, Appends, Appends-trans, StopsWithin, ended_by, HasReceivedUpTo-none, StopsWithin_prefix, StopsWithin_suffix, Fault, Write, MARK, after, SendsLine}
+use Rattle.num_format.proofs.WritingLemmas.{StopsWithin-none}
+use Rattle.regroup_lines.proofs.Common.{ℕ, List, Option, Result, Ok, Err, refl, arith, Appends, Appends-trans, StopsWithin, ended_by, StopsWithin_prefix, StopsWithin_suffix, Fault, Write, MARK, after, SendsLine}
 
 abbrev done : Type 0
 done = Unit {0}
@@ -10,12 +11,7 @@ module _ (e : ℕ) (rest : Result (List ℕ) Fault) (s t a : Option (List ℕ)) 
 
   -- the line is at fault, or a write of it fails where nothing is received
   pub mark-fault : (f : Fault) → SendsLine {T = done} e rest s t (Err f) → Sends_marked a (Err f)
-  mark-fault f sends = by rest sends
-    where
-      by : (r : Result (List ℕ) Fault) → SendsLine {T = done} e r s t (Err f) → SendsLine {T = done} e (after MARK r) a a (Err f)
-      by (Ok text) sends =
-          (sends.0, record { rest = MARK ++ ended_by e text; unfinished = omega arith; received = HasReceivedUpTo-none a (MARK ++ ended_by e text) })
-      by (Err g) sends = (sends.0, refl)
+  mark-fault f sends = grind (arith, StopsWithin-none)
 
   module _ (b : Option (List ℕ)) (sound : SendsLine {T = done} e rest s t (Ok tt)) where
     -- it is not, and the mark is not sent

@@ -1,9 +1,9 @@
 -- What is written in place of a line depends on the line's number in the fault alone.
-use Rattle.regroup_lines.proofs.Common.{failed_writer, Bool, Err, Fault, FewFields, Field, FieldNotText, Fields, FormatData, Lenient, Line, List, MARK, None, NotText, Ok, Option, ParseNumber, Reading, Refusal, Result, Rules, Some, Span, Strict, TooMany, [], after, ap, are_enough, between, body_written, cut_text, decimal_read, decimal_text, drop, false, field_count, field_read, field_with, field_written, fields_of, fields_written, if◌then◌else◌, in_field, is_barred, is_chosen, is_utf8, join_with_byte, length, list_any, nat_le, number_place, number_read, number_written, numbers_replaced, ok_or, option_map, output_delimiter, passes_mark, place_written, refl, result_map_both, slice_range, take, text_fault, text_of, trimmed, true, with_first, ℕ, ℤ, ◌&&◌, ◌++◌, ◌+◌, ◌==◌, ◌∙◌, ◌∷◌, ◌≡◌}
+use Rattle.regroup_lines.proofs.Common.{failed_writer, Bool, Err, Fault, FewFields, Field, FieldNotText, Fields, FormatData, Lenient, Line, List, MARK, None, NotText, Ok, Option, ParseNumber, Reading, Refusal, Result, Rules, Some, Span, Strict, TooMany, [], after, ap, are_enough, between, body_written, cases_Bool, cut_text, inl, inr, decimal_read, decimal_text, drop, false, field_count, field_read, field_with, field_written, fields_of, fields_written, if◌then◌else◌, in_field, is_barred, is_chosen, is_utf8, join_with_byte, length, list_any, nat_le, number_place, number_read, number_written, numbers_replaced, ok_or, option_map, output_delimiter, passes_mark, place_written, refl, result_map_both, slice_range, take, text_fault, text_of, trimmed, true, with_first, ℕ, ℤ, ◌&&◌, ◌++◌, ◌+◌, ◌==◌, ◌∙◌, ◌∷◌, ◌≡◌}
 use Rattle.regroup_lines.specs.declared.rules.Span.TheVariants as span
 
 -- the same fault of a text, in the line of this number
-pub with_number : ℕ → Fault → Fault
+abbrev pub with_number : ℕ → Fault → Fault
 with_number n (NotText m) = NotText n
 with_number n (FieldNotText m k) = FieldNotText n k
 with_number n (Line m refusal) = Line n refusal
@@ -16,22 +16,17 @@ numbered n written = result_map_both (λ text. text) (with_number n) written
 
 -- it is no failed write
 pub with_number-sent : (n : ℕ) (fault : Fault) → failed_writer (with_number n fault) ≡ None
-unfolding with_number
 with_number-sent n (NotText m) = refl
 with_number-sent n fault = refl
 
 in_field-numbered : (n k : ℕ) (fault : Fault) → in_field k (with_number n fault) ≡ with_number n (in_field k fault)
-unfolding with_number
 in_field-numbered n k (NotText m) = refl
 in_field-numbered n k fault = refl
 
-mapped : {T U : Type 0} (n : ℕ) (f : T → U) (written : Result T Fault) → result_map_both f (λ fault. fault) (numbered n written) ≡ numbered n (result_map_both f (λ fault. fault) written)
-mapped n f (Ok text) = refl
-mapped n f (Err fault) = refl
-
-in_field_mapped : {T U : Type 0} (n k : ℕ) (f : T → U) (written : Result T Fault) → result_map_both f (in_field k) (numbered n written) ≡ numbered n (result_map_both f (in_field k) written)
-in_field_mapped n k f (Ok text) = refl
-in_field_mapped n k f (Err fault) = ap Err (in_field-numbered n k fault)
+mapped : {T U : Type 0} (n : ℕ) (f : T → U) (g : Fault → Fault) → ((fault : Fault) → g (with_number n fault) ≡ with_number n (g fault)) → (written : Result T Fault) →
+    result_map_both f g (numbered n written) ≡ numbered n (result_map_both f g written)
+mapped n f g same (Ok text) = refl
+mapped n f g same (Err fault) = ap Err (same fault)
 
 first : (n : ℕ) (x : Result (List ℕ) Fault) (xs : Result (List (List ℕ)) Fault) → with_first (numbered n x) (numbered n xs) ≡ numbered n (with_first x xs)
 first n (Ok text) (Ok texts) = refl
@@ -44,48 +39,41 @@ either n true a b c d one other = one
 either n false a b c d one other = other
 
 module _ (rules : Rules) (from to : FormatData) (n m : ℕ) where
-  lenient : (is : Bool) (r : Result ℤ Refusal) → (if is then result_map_both (text_of to) (Line n) r else Err (NotText n)) ≡ numbered n (if is then result_map_both (text_of to) (Line m) r else Err (NotText m))
-  unfolding with_number
-  lenient true (Ok value) = refl
-  lenient true (Err refusal) = refl
-  lenient false r = refl
+  of_value : (r : Result ℤ Refusal) → result_map_both (text_of to) (Line n) r ≡ numbered n (result_map_both (text_of to) (Line m) r)
+  of_value (Ok value) = refl
+  of_value (Err refusal) = refl
 
-  strict : (is : Bool) (o : Option (List ℕ)) (refusal : Refusal) → (if is then ok_or o (Line n refusal) else Err (NotText n)) ≡ numbered n (if is then ok_or o (Line m refusal) else Err (NotText m))
-  unfolding with_number
-  strict true (Some text) refusal = refl
-  strict true None refusal = refl
-  strict false o refusal = refl
-
-  fault : (is : Bool) (refusal : Refusal) → (if is then Line n refusal else NotText n) ≡ with_number n (if is then Line m refusal else NotText m)
-  unfolding with_number
-  fault true refusal = refl
-  fault false refusal = refl
+  of_text : (o : Option (List ℕ)) (refusal : Refusal) → ok_or o (Line n refusal) ≡ numbered n (ok_or o (Line m refusal))
+  of_text (Some text) refusal = refl
+  of_text None refusal = refl
 
   number : (reading : Reading) (text : List ℕ) → number_written reading from to n text ≡ numbered n (number_written reading from to m text)
-  number Lenient text = lenient (is_utf8 text) (number_read from text)
-  number Strict text = strict (is_utf8 text) (option_map (decimal_text to) (decimal_read from text)) (ParseNumber (cut_text text))
+  number Lenient text = either n (is_utf8 text) _ _ (Err (NotText n)) (Err (NotText m)) (of_value (number_read from text)) refl
+  number Strict text = either n (is_utf8 text) _ _ (Err (NotText n)) (Err (NotText m)) (of_text (option_map (decimal_text to) (decimal_read from text)) (ParseNumber (cut_text text))) refl
+
+  fault : (text : List ℕ) → text_fault n text ≡ with_number n (text_fault m text)
+  fault text = elim (cases_Bool (is_utf8 text)) [ inl is ↦ rw is refl | inr other ↦ rw other refl ]
 
   place : (text : List ℕ) (at : ℕ × ℕ) → place_written rules from to n text at ≡ numbered n (place_written rules from to m text at)
   place text at =
       let bytes = slice_range text at.0 at.1 in
       either n (rules.passes_empty && (at.0 == at.1)) (Ok text) (Ok text) _ _ refl
-      (ap (between (take at.0 text) (drop at.1 text)) (number rules.reading bytes) ∙ mapped n (λ number. take at.0 text ++ (number ++ drop at.1 text)) (number_written rules.reading from to m bytes))
+      (ap (between (take at.0 text) (drop at.1 text)) (number rules.reading bytes) ∙ mapped n (λ number. take at.0 text ++ (number ++ drop at.1 text)) (λ fault. fault) (λ fault. refl) (number_written rules.reading from to m bytes))
 
   read : (quotes : Bool) (field : List ℕ) → field_read rules quotes from to n field ≡ numbered n (field_read rules quotes from to m field)
   read quotes field =
       let at = number_place quotes field in
       let text = slice_range field at.0 at.1 in
       either n (rules.passes_empty && (at.0 == at.1)) (Ok None) (Ok None) _ _ refl
-      (either n (quotes && list_any (is_barred rules.line_end) text) (Err (text_fault n text)) (Err (text_fault m text)) _ _ (ap Err (fault (is_utf8 text) (ParseNumber (cut_text text))))
-      (ap (result_map_both Some (λ fault. fault)) (number rules.reading text) ∙ mapped n Some (number_written rules.reading from to m text)))
+      (either n (quotes && list_any (is_barred rules.line_end) text) (Err (text_fault n text)) (Err (text_fault m text)) _ _ (ap Err (fault text))
+      (ap (result_map_both Some (λ fault. fault)) (number rules.reading text) ∙ mapped n Some (λ fault. fault) (λ fault. refl) (number_written rules.reading from to m text)))
 
   one_field : (fields : Fields) (k : ℕ) (chosen : Bool) (field : List ℕ) → field_written rules fields from to n k chosen field ≡ numbered n (field_written rules fields from to m k chosen field)
   one_field fields k true field =
-      ap (result_map_both (field_with fields rules.line_end field) (in_field k)) (read fields.quotes field) ∙ in_field_mapped n k (field_with fields rules.line_end field) (field_read rules fields.quotes from to m field)
+      ap (result_map_both (field_with fields rules.line_end field) (in_field k)) (read fields.quotes field) ∙ mapped n (field_with fields rules.line_end field) (in_field k) (in_field-numbered n k) (field_read rules fields.quotes from to m field)
   one_field fields k false field = refl
 
   all_fields : (fields : Fields) (before : ℕ) (texts : List (List ℕ)) → fields_written rules fields from to n before texts ≡ numbered n (fields_written rules fields from to m before texts)
-  unfolding with_number
   all_fields fields before [] = either n (are_enough fields.list.now before) (Ok []) (Ok []) (Err (FewFields n (field_count fields.delimiter fields.list.now before))) (Err (FewFields m (field_count fields.delimiter fields.list.now before))) refl refl
   all_fields fields before (text ∷ texts) =
       let chosen = is_chosen fields.list.now (before + 1) in
@@ -97,7 +85,7 @@ module _ (rules : Rules) (from to : FormatData) (n m : ℕ) where
   numbers span.Line text = place text (0, length text)
   numbers span.Trimmed text = place text (trimmed text (0, length text))
   numbers (span.Fields fields) text =
-      ap (result_map_both (join_with_byte (output_delimiter fields)) (λ fault. fault)) (all_fields fields 0 (fields_of fields text)) ∙ mapped n (join_with_byte (output_delimiter fields)) (fields_written rules fields from to m 0 (fields_of fields text))
+      ap (result_map_both (join_with_byte (output_delimiter fields)) (λ fault. fault)) (all_fields fields 0 (fields_of fields text)) ∙ mapped n (join_with_byte (output_delimiter fields)) (λ fault. fault) (λ fault. refl) (fields_written rules fields from to m 0 (fields_of fields text))
 
   -- but a byte order mark
   pub body-numbered : (text : List ℕ) → nat_le n rules.header_lines ≡ nat_le m rules.header_lines → passes_mark rules.span n text ≡ passes_mark rules.span m text →
@@ -105,4 +93,4 @@ module _ (rules : Rules) (from to : FormatData) (n m : ℕ) where
   body-numbered text headers marks =
       let rest = drop (length MARK) text in
       rw (headers, marks) (either n (nat_le m rules.header_lines) (Ok text) (Ok text) _ _ refl (either n (passes_mark rules.span m text) _ _ _ _
-      (ap (after MARK) (numbers rules.span rest) ∙ mapped n (λ written. MARK ++ written) (numbers_replaced rules.span rules from to m rest)) (numbers rules.span text)))
+      (ap (after MARK) (numbers rules.span rest) ∙ mapped n (λ written. MARK ++ written) (λ fault. fault) (λ fault. refl) (numbers_replaced rules.span rules from to m rest)) (numbers rules.span text)))

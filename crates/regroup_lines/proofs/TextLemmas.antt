@@ -1,12 +1,12 @@
 -- The number in the text of a line.
-use Rattle.regroup_lines.proofs.Common.{Bool, Err, append-nil, fixed_point, FixedPoint, FormatData, HasUtf8Texts, IsUtf8, IsUtf8-from_is_utf8, Lenient, List, MarksDecimals, None, Ok, ParseDecimalError, ParsesDecimal, Refused, Result, Strict, ap, decimal_read, decimal_text, denoted, false, false_from_ne_true, is_utf8, is_utf8-from_IsUtf8, number_written, refl, sym, text_fault, text_of, true, ℕ, ℤ, ◌↔◌, ◌≡◌}
+use Rattle.regroup_lines.proofs.Common.{ParseDecimalError, Result, DecimalResult, LineFault, line_fault_of, result_map_both, result_or, ◌∙◌, Err, append-nil, fixed_point, FixedPoint, FormatData, HasUtf8Texts, IsUtf8, IsUtf8-from_is_utf8, Lenient, List, Ok, ParsesDecimal, Refused, Strict, ap, cases_Bool, decimal_text, denoted, false, false_from_ne_true, inl, inr, is_utf8, is_utf8-from_IsUtf8, number_written, refl, sym, text_fault, text_of, ℕ, ℤ, ◌≡◌}
 use Rattle.num_format.specs.Kind.{signed}
 use Rattle.std.proofs.Math.Nat.{div-one}
 use Rattle.std.specs.Prelude.{unsigned_abs}
 use Rattle.num_format.specs.ParseBytesError.{ParseBytesError}
 use Rattle.num_format.specs.ParseBytesError.TheVariants.{NotANumber, NotUtf8}
 use Rattle.num_format.proofs.ReadableLemmas.{readable-from_accepted, unreadable-from_refused}
-use Rattle.regroup_faults.proofs.DecimalLemmas.{decimal_read-ambiguous, decimal_read-parsed, decimal_read-refused, parsed-utf8}
+use Rattle.regroup_faults.proofs.DecimalLemmas.{decimal_read-none, decimal_read-parsed, parsed-utf8}
 
 -- the text of a whole number as a decimal
 pub whole_text : (f : FormatData) (d : FixedPoint) (n : ℤ) → d ≡ fixed_point n 0 → decimal_text f d ≡ text_of f n
@@ -14,19 +14,18 @@ whole_text f d n is = rw (is, div-one (unsigned_abs n), append-nil) refl
 
 module _ (from to : FormatData) (number : ℕ) (text : List ℕ) where
   -- the text of a number that is read strictly
-  pub strict-accepted : HasUtf8Texts from → (d : FixedPoint) → ParsesDecimal from text d → number_written Strict from to number text ≡ Ok (decimal_text to d)
+  strict-accepted : HasUtf8Texts from → (d : FixedPoint) → ParsesDecimal from text d → number_written Strict from to number text ≡ Ok (decimal_text to d)
   strict-accepted utf8 d parsed = rw (is_utf8-from_IsUtf8 text (parsed-utf8 from utf8 text d parsed), decimal_read-parsed from utf8 text d parsed) refl
 
-  strict-none : (utf8 : Bool) → is_utf8 text ≡ utf8 → decimal_read from text ≡ None → number_written Strict from to number text ≡ Err (text_fault number text)
-  strict-none true utf8 none = rw (utf8, none) refl
-  strict-none false utf8 none = rw utf8 refl
+  pub strict-refused : HasUtf8Texts from → ((d : FixedPoint) → ¬ (ParsesDecimal from text d)) → number_written Strict from to number text ≡ Err (text_fault number text)
+  strict-refused utf8 refused =
+      let none = decimal_read-none from utf8 text refused in
+      elim (cases_Bool (is_utf8 text)) [ inl is ↦ rw (is, none) refl | inr other ↦ rw other refl ]
 
-  pub strict-refused : HasUtf8Texts from → (r : Result FixedPoint ParseDecimalError) (e : ParseDecimalError) → r ≡ Err e →
-      ((d : FixedPoint) → (r ≡ Ok d) ↔ ParsesDecimal from text d) → number_written Strict from to number text ≡ Err (text_fault number text)
-  strict-refused utf8 r e failed exactly = strict-none (is_utf8 text) refl (decimal_read-refused from utf8 text r e failed exactly)
-
-  pub strict-ambiguous : HasUtf8Texts from → ¬ (MarksDecimals from) → number_written Strict from to number text ≡ Err (text_fault number text)
-  strict-ambiguous utf8 ambiguous = strict-none (is_utf8 text) refl (decimal_read-ambiguous from utf8 text ambiguous)
+  pub strict-read : HasUtf8Texts from → (r : Result FixedPoint ParseDecimalError) → DecimalResult from text r → (fault : LineFault) → line_fault_of fault ≡ text_fault number text →
+      number_written Strict from to number text ≡ result_map_both (decimal_text to) line_fault_of (result_or r (Err fault))
+  strict-read utf8 (Ok d) result fault same = strict-accepted utf8 d ((result.decimal d).0 refl)
+  strict-read utf8 (Err e) result fault same = strict-refused utf8 (λ d parsed. let is = (result.decimal d).1 parsed in absurd (cc is)) ∙ ap Err (sym same)
 
   -- and leniently
   pub lenient-accepted : (n : ℤ) → n ≡ denoted from text → IsUtf8 text × ¬ (Refused (signed 127 40) from text) → number_written Lenient from to number text ≡ Ok (text_of to n)

@@ -57,9 +57,9 @@ module _ (rules : Rules) (name : List ℕ) (from : FormatData) where
       by_passing : (c : Writer → Option (List ℕ)) (result : Result Bool Fault) → Sends_each (Ok (passed rules.rejects faults bytes)) old c result → Sends_each (fault_sent rules f bytes) old c result
       by_passing c result sends = subst (λ sent. Sends_each sent old c result) (sym (passes-fault rules f bytes does)) sends
 
-      pub fault-unnamed : (g : Fault) → Named named (Err g) → Sends_each (fault_sent rules f bytes) old (by_writer s t2 x) (Err Report)
+      pub fault-unnamed : (g : Fault) → Named named (Err g) → Sends_each (fault_sent rules f bytes) old (by_writer s t2 x) (Err g)
       fault-unnamed g names =
-          by_passing (by_writer s t2 x) (Err Report) (refl, unnamed-stopped name rules.reading from s t t2 x (passed rules.rejects faults bytes) (subst (λ h. Named h (Err g)) same names).1)
+          subst (λ h. Sends_each (fault_sent rules f bytes) old (by_writer s t2 x) (Err h)) (sym names.0) (by_passing (by_writer s t2 x) (Err Report) (refl, unnamed-stopped name rules.reading from s t t2 x (passed rules.rejects faults bytes) (subst (λ h. Named h (Err g)) same names).1))
 
       module _ (any : Bool) (names : Named named (Ok any)) (c : Option (List ℕ) → Writer → Option (List ℕ)) where
         abbrev Sends_bytes : Result (Unit {0}) Fault → Type 0

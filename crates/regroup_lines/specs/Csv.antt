@@ -1,5 +1,5 @@
 -- The number in a field, which may be in quotes.
-use Rattle.std.specs.Prelude.{ℕ, ◌+◌, ◌-◌, ◌==◌, nat_le, Bool, true, false, ◌&&◌, ◌||◌, cond, if◌then◌else◌, List, [], ◌∷◌, ◌++◌, length, take, drop, Option, None, Some}
+use Rattle.std.specs.Prelude.{ℕ, ◌+◌, ◌-◌, ◌==◌, nat_le, Bool, true, false, ◌&&◌, ◌||◌, cond, if◌then◌else◌, List, [], ◌∷◌, ◌++◌, length, slice_range, take, drop, Option, None, Some}
 use Rattle.std.specs.List.{flat_map, list_any, slice_index}
 use Rattle.std.specs.Option.{option_map, unwrap_or}
 use Rattle.regroup_lines.specs.Ended.{len_without, without_end}
@@ -34,15 +34,6 @@ doubled text = flat_map (λ b. if is_quote b then b ∷ b ∷ [] else b ∷ []) 
 abbrev pub needs_quotes : (delimiter line_end : ℕ) → ℕ → Bool
 needs_quotes delimiter line_end b = is_quote b || (b == delimiter || (b == line_end || (b == 13 || b == 10)))
 
--- a text between the bytes of a field around it, in quotes if there may be quotes, and they are there or have to be: they end before a last
--- carriage return, which may end the line
-abbrev pub enclosed : Fields → (line_end : ℕ) → (is_quoted : Bool) → (before after : List ℕ) → List ℕ → List ℕ
-enclosed fields line_end is_quoted before after text =
-    if fields.quotes && list_any (needs_quotes fields.delimiter line_end) text then
-    if is_quoted then before ++ (doubled text ++ after) else
-    34 ∷ (before ++ (doubled text ++ (take (len_without 13 after) after ++ 34 ∷ drop (len_without 13 after) after)))
-    else before ++ (text ++ after)
-
 -- whether a field that was in quotes is written in quotes
 abbrev pub keeps : Quoting → Bool
 keeps Keep = true
@@ -59,57 +50,44 @@ quoted_len [] = 0
 quoted_len (b ∷ []) = if is_quote b then 0 else 1
 quoted_len (b ∷ c ∷ text) = if is_quote b then if is_quote c then 2 + quoted_len text else 0 else 1 + quoted_len (c ∷ text)
 
--- what is before a number in a field, without the quote that opens the field, if one does
-abbrev pub front_of : (is_quoted : Bool) → List ℕ → List ℕ
-front_of is_quoted before = if is_quoted then drop 1 before else before
-
--- what is after the number in quotes
-abbrev pub quoted_of : (is_quoted : Bool) → List ℕ → List ℕ
-quoted_of is_quoted after = if is_quoted then take (quoted_len after) after else []
-
--- what is after that, without the quote that closes the field
-abbrev pub bare_of : (is_quoted : Bool) → List ℕ → List ℕ
-bare_of is_quoted after = if is_quoted then drop 1 (drop (quoted_len after) after) else after
-
 -- a part of a text as it is sent
 abbrev pub part_text : Part → List ℕ
 part_text (Plain bytes) = bytes.now
 part_text (Doubled bytes) = doubled bytes.now
 
--- a text of a field as an output has it, with what is around it: in quotes if it has to be, or if it was and these are kept, and each quote
--- is then doubled, as those are that were in quotes; a last carriage return may end the line
+-- a text of a field as an output has it, with what is around it but for the quote that opens it, if one does: in quotes if it has to be, or if
+-- it was and these are kept, and each quote is doubled, as those are that were in quotes; a last carriage return may end the line
 abbrev pub output_as : Output → (line_end : ℕ) → (is_quoted : Bool) → (before after : List ℕ) → List ℕ → List ℕ
 output_as output line_end is_quoted before after text =
-    let front = front_of is_quoted before in
-    let quoted = quoted_of is_quoted (without_end 13 after) in
-    let bare = bare_of is_quoted (without_end 13 after) in
-    let end = drop (len_without 13 after) after in
-    if (is_quoted && keeps output.quoting) || list_any (list_any (needs_quotes output.delimiter line_end)) (front ∷ text ∷ quoted ∷ bare ∷ []) then
-    34 ∷ (doubled front ++ (doubled text ++ (quoted ++ (doubled bare ++ 34 ∷ end))))
-    else front ++ (text ++ (quoted ++ (bare ++ end)))
+    let inner = without_end 13 after in
+    let quoted = if is_quoted then take (quoted_len inner) inner else [] in
+    let bare = if is_quoted then drop (quoted_len inner + 1) inner else inner in
+    let is_enclosed = (is_quoted && keeps output.quoting) || list_any (list_any (needs_quotes output.delimiter line_end)) (before ∷ text ∷ quoted ∷ bare ∷ []) in
+    let quote = if is_enclosed then 34 ∷ [] else [] in
+    quote ++ (doubled before ++ (doubled text ++ (quoted ++ (doubled bare ++ (quote ++ drop (len_without 13 after) after)))))
 
--- the same by how the fields are written, if they are not passed on
-abbrev pub placed_as : Option Output → Fields → (line_end : ℕ) → (is_quoted : Bool) → (before after : List ℕ) → List ℕ → List ℕ
-placed_as None fields line_end is_quoted before after text = enclosed fields line_end is_quoted before after text
-placed_as (Some output) fields line_end is_quoted before after text = output_as output line_end is_quoted before after text
-
--- a text between the bytes of a field around it
-abbrev pub placed : Fields → (line_end : ℕ) → (is_quoted : Bool) → (before after : List ℕ) → List ℕ → List ℕ
-placed fields = placed_as fields.output fields
+-- a text between the bytes of a field around it: they are passed on if there is no output, but where the text needs quotes and has none
+abbrev pub placed : Option Output → Fields → (line_end : ℕ) → (is_quoted : Bool) → (before after : List ℕ) → List ℕ → List ℕ
+placed (Some output) fields line_end is_quoted before after text = output_as output line_end is_quoted before after text
+placed None fields line_end is_quoted before after text =
+    if is_quoted then 34 ∷ (before ++ (doubled text ++ after)) else
+    if fields.quotes && list_any (needs_quotes fields.delimiter line_end) text then output_as (record { delimiter = fields.delimiter; quoting = Necessary }) line_end is_quoted before after text else
+    before ++ (text ++ after)
 
 -- a field without a number by how the fields are written
 abbrev pub passed_as : Option Output → Fields → (line_end : ℕ) → (field : List ℕ) → List ℕ
 passed_as None fields line_end field = field
 passed_as (Some output) fields line_end field =
     let is_quoted = fields.quotes && is_opened field in
-    output_as output line_end is_quoted (take (cond is_quoted 1 0) field) (drop (cond is_quoted 1 0) field) []
+    output_as output line_end is_quoted [] (drop (cond is_quoted 1 0) field) []
 
 -- a field with this text in place of that of the number, if there is one
 abbrev pub field_with : Fields → (line_end : ℕ) → (field : List ℕ) → Option (List ℕ) → List ℕ
 field_with fields line_end field None = passed_as fields.output fields line_end field
 field_with fields line_end field (Some text) =
     let place = number_place fields.quotes field in
-    placed fields line_end (fields.quotes && is_quoted field (trimmed field (0, length field))) (take place.0 field) (drop place.1 field) text
+    let opens = fields.quotes && is_quoted field (trimmed field (0, length field)) in
+    placed fields.output fields line_end opens (slice_range field (cond opens 1 0) place.0) (drop place.1 field) text
 
 -- the byte between two fields that are written
 abbrev pub output_delimiter : Fields → ℕ

@@ -1,5 +1,5 @@
 -- What is read from the input, piece by piece.
-use Rattle.std.specs.Prelude.{◌≡◌, ℕ, ◌+◌, ◌<◌, ◌≤◌, Bool, true, false, List, [], ◌∷◌, ◌++◌, length, take, drop, slice_range, Option, None, Some, Result, Ok, Err, ⊤, ◌^◌, ◌-◌}
+use Rattle.std.specs.Prelude.{◌≡◌, ℕ, ◌<◌, ◌≤◌, Bool, true, false, List, [], ◌∷◌, ◌++◌, length, slice_range, Option, None, Some, Result, Ok, Err, ⊤, ◌^◌, ◌-◌}
 use Rattle.std.specs.Io.KnownBytes.{Consumes, IsAtEnd}
 use Rattle.std.specs.declared.ops.Range.{Range}
 use Rattle.regroup_lines.specs.Ended.{ended_by}
@@ -34,11 +34,6 @@ HasNoEnd quotes line_end within bytes = has_end quotes line_end within bytes ≡
 -- bytes that end outside quotes, and before which no record ends
 abbrev pub IsRecord : (quotes : Option ℕ) → (line_end : ℕ) → Within → List ℕ → Type 0
 IsRecord quotes line_end within bytes = HasNoEnd quotes line_end within bytes × (is_inside (after_text quotes within bytes) ≡ false)
-
--- how many bytes stand before the first one that ends a record, or nothing where there is none
-abbrev pub FindsEnd : (quotes : Option ℕ) → (line_end : ℕ) → Within → List ℕ → Option ℕ → Type 0
-FindsEnd quotes line_end within bytes None = HasNoEnd quotes line_end within bytes
-FindsEnd quotes line_end within bytes (Some len) = (len < length bytes) × (bytes ≡ take len bytes ++ line_end ∷ drop (len + 1) bytes) × IsRecord quotes line_end within (take len bytes)
 
 -- the bytes that were held, and those that the reader gave, are these
 pub record Reads (held read : List ℕ) (old new : Option (List ℕ)) : Type 0 where

@@ -26,10 +26,6 @@ abbrev pub is_at_most : ℕ → Option ℕ → Bool
 is_at_most n None = true
 is_at_most n (Some last) = nat_le n last
 
--- whether the field of this number is in the range
-abbrev pub is_in_range : ℕ → FieldRange → Bool
-is_in_range n range = nat_le range.first n && is_at_most n range.last
-
 -- how many fields a line has to have for a range: as many as the number of its last one, or else of its first one
 abbrev pub wanted_of : FieldRange → ℕ
 wanted_of range = unwrap_or range.last range.first
@@ -38,9 +34,9 @@ wanted_of range = unwrap_or range.last range.first
 abbrev pub is_enough : ℕ → FieldRange → Bool
 is_enough count range = nat_le (wanted_of range) count
 
--- whether the field of this number is chosen
+-- whether the field of this number is chosen: it is in a range
 abbrev pub is_chosen : List FieldRange → ℕ → Bool
-is_chosen list n = list_any (is_in_range n) list
+is_chosen list n = list_any (λ range. nat_le range.first n && is_at_most n range.last) list
 
 -- whether one of this number or above may be
 abbrev pub is_chosen_from : List FieldRange → ℕ → Bool

@@ -1,9 +1,9 @@
 -- Where lines, records of RFC 4180 and their fields end. A byte inside quotes ends none.
-use Rattle.std.specs.Prelude.{◌≡◌, ℕ, ◌+◌, ◌-◌, ◌^◌, ◌<◌, ◌≤◌, ◌==◌, get_or, length, min, slice_range, Bool, false, true, ◌&&◌, ◌||◌, not, if◌then◌else◌, List, [], ◌∷◌, Option, None, Some}
+use Rattle.std.specs.Prelude.{◌≡◌, ℕ, ◌+◌, ◌-◌, ◌^◌, ◌≤◌, ◌==◌, length, min, take, Bool, false, true, ◌&&◌, ◌||◌, not, if◌then◌else◌, List, [], ◌∷◌, Option, None, Some}
 use Rattle.std.specs.List.{count_by, fold, onto_first}
 use Rattle.memchr.specs.Find.{is_byte, is_byte2}
 use Rattle.regroup_lines.specs.declared.records.Within.{Within}
-use Rattle.regroup_lines.specs.declared.records.Within.TheVariants.{Start, Bare, Quoted, Closing}
+use Rattle.regroup_lines.specs.declared.records.Within.TheVariants.{Start, Bare, Quoted}
 
 -- whether a byte is a quote
 abbrev pub is_quote : ℕ → Bool
@@ -14,57 +14,48 @@ abbrev pub is_inside : Within → Bool
 is_inside Start = false
 is_inside Bare = false
 is_inside Quoted = true
-is_inside Closing = false
 
 -- what follows a byte outside quotes that opens none
 abbrev pub after_bare : (delimiter : ℕ) → ℕ → Within
 after_bare delimiter b = if b == delimiter then Start else Bare
 
--- what follows a byte: a quote opens a field only as its first byte, and closes it unless another quote follows
-abbrev pub after_byte : (delimiter : ℕ) → Within → ℕ → Within
-after_byte delimiter Start b = if is_quote b then Quoted else after_bare delimiter b
-after_byte delimiter Bare b = after_bare delimiter b
-after_byte delimiter Quoted b = if is_quote b then Closing else Quoted
-after_byte delimiter Closing b = if is_quote b then Quoted else after_bare delimiter b
-
--- the same, by the delimiter of the fields that may be in quotes, if they may
-abbrev pub after_next : (quotes : Option ℕ) → Within → ℕ → Within
-after_next None within b = within
-after_next (Some delimiter) within b = after_byte delimiter within b
+-- what follows a byte, by the delimiter of the fields that may be in quotes, if they may: a quote opens quotes as the first byte of a field and,
+-- as the second of two, again after one that closes them
+abbrev pub after_byte : (quotes : Option ℕ) → Within → ℕ → Within
+after_byte None within b = within
+after_byte (Some delimiter) Start b = if is_quote b then Quoted else after_bare delimiter b
+after_byte (Some delimiter) Bare b = after_bare delimiter b
+after_byte (Some delimiter) Quoted b = if is_quote b then Start else Quoted
 
 -- what follows a text
 abbrev pub after_text : (quotes : Option ℕ) → Within → List ℕ → Within
-after_text None within text = within
-after_text (Some delimiter) within text = fold (after_byte delimiter) within text
+after_text quotes within text = fold (after_byte quotes) within text
 
 -- the parts of a text between bytes of this value that are not inside quotes
 abbrev pub split_at : (quotes : Option ℕ) → (end : ℕ) → Within → List ℕ → List (List ℕ)
 split_at quotes end within [] = [] ∷ []
 split_at quotes end within (b ∷ text) =
-    if (b == end) && not (is_inside within) then [] ∷ split_at quotes end Start text else onto_first b (split_at quotes end (after_next quotes within b) text)
+    if (b == end) && not (is_inside within) then [] ∷ split_at quotes end Start text else onto_first b (split_at quotes end (after_byte quotes within b) text)
 
 -- whether there is such a byte
 abbrev pub has_end : (quotes : Option ℕ) → (end : ℕ) → Within → List ℕ → Bool
 has_end quotes end within [] = false
-has_end quotes end within (b ∷ text) = ((b == end) && not (is_inside within)) || has_end quotes end (after_next quotes within b) text
+has_end quotes end within (b ∷ text) = ((b == end) && not (is_inside within)) || has_end quotes end (after_byte quotes within b) text
 
 -- whether a byte ends parts or, where there may be quotes, is one (34): no other byte can end a part, or say what is inside quotes
 abbrev pub is_stop : (quotes : Option ℕ) → (end : ℕ) → ℕ → Bool
 is_stop None end b = is_byte end b
 is_stop (Some delimiter) end b = is_byte2 34 end b
 
--- a search of bytes from `start` on for the first one of this value that is not inside quotes: where it is, or how many bytes there are, and
--- where that is in the record
-pub record EndsAt (quotes : Option ℕ) (end : ℕ) (within : Within) (bytes : List ℕ) (start at : ℕ) (there : Within) : Type 0 where
-  pub ordered : start ≤ at
-  pub inside : at ≤ length bytes
-  pub none : has_end quotes end within (slice_range bytes start at) ≡ false
-  pub after : there ≡ after_text quotes within (slice_range bytes start at)
-  pub found : at < length bytes → (get_or bytes at 0 ≡ end) × (is_inside there ≡ false)
+-- the first n bytes of a text, none of which ends a part, and where the byte after them is
+pub record Searched (quotes : Option ℕ) (end : ℕ) (within : Within) (text : List ℕ) (n : ℕ) (here : Within) : Type 0 where
+  pub inside : n ≤ length text
+  pub none : has_end quotes end within (take n text) ≡ false
+  pub there : here ≡ after_text quotes within (take n text)
 
 -- what follows a byte of several records
 abbrev pub after_record_byte : (quotes : Option ℕ) → (end : ℕ) → Within → ℕ → Within
-after_record_byte quotes end within b = if (b == end) && not (is_inside within) then Start else after_next quotes within b
+after_record_byte quotes end within b = if (b == end) && not (is_inside within) then Start else after_byte quotes within b
 
 -- whether records end inside quotes
 abbrev pub is_left_open : (quotes : Option ℕ) → (end : ℕ) → List ℕ → Bool

@@ -4,9 +4,8 @@ ghost use Rattle.std.specs.Io.KnownBytes.{IsAtEnd, Keeps};
 ghost use Rattle.regroup_lines.specs.LineFaults.{IsHalt, line_fault_of};
 ghost use Rattle.regroup_lines.specs.Lines.{quotes_in};
 
-use crate::ends::find_end;
 use crate::line_fault::LineFault;
-use crate::records::Within;
+use crate::records::{Within, find_end};
 use crate::rules::Rules;
 use std::io::{Read, Write};
 use std::ops::Range;
@@ -38,7 +37,7 @@ pub(crate) struct Input<'a> {
 }
 
 impl<'a> Input<'a> {
-    ghost use Rattle.regroup_lines.specs.Input.{EndsOrGoesOn, FindsEnd, FindsPiece, HasNoEnd, IsInArray, Reads, array_len, bytes_at, held};
+    ghost use Rattle.regroup_lines.specs.Input.{EndsOrGoesOn, FindsPiece, HasNoEnd, IsInArray, Reads, array_len, bytes_at, held};
     ghost use Rattle.regroup_lines.specs.Lines.{quotes_in};
 
     /// Returns an input of which nothing was read.
@@ -85,45 +84,46 @@ impl<'a> Input<'a> {
         ensures halt { IfErr result (λ fault. IsHalt rules.now.flushes (line_fault_of fault)) }
         ensures flushed { Keeps (W.contents writer.old) (W.contents writer.new) }
     {
-        let found = self.find_line_end(rules, within, reader, writer)?;
-        let len = self.held().len();
-        match found {
-            Some(len) => {
-                let line = self.take(len);
+        let quotes = rules.quotes();
+        let (mut here, mut searched) = (within, 0);
+        'reads: loop {
+            let place = self.start + searched..self.end;
+            let rest = self.bytes(place);
+            let (len, after) = find_end(quotes, rules.line_end, here, rest);
+            if len < rest.len() {
+                let line = self.take(searched + len);
                 self.start += 1;
-                Ok(Piece::Line(line))
+                return Ok(Piece::Line(line));
             }
-            None if len < self.array.len() => Ok(Piece::Rest(self.take(len))),
-            None => Ok(Piece::TooLong),
+            here = after;
+            searched += len;
+            if searched == self.array.len() {
+                return Ok(Piece::TooLong);
+            }
+            let count = self.read_more(rules.flushes, reader, writer)?;
+            if count == 0 {
+                return Ok(Piece::Rest(self.take(searched)));
+            }
         }
     }
 
     /// Returns whether nothing is held and the reader ends. The writer is flushed before a read, if `flushes` says so.
-    ///
-    /// # Errors
-    ///
-    /// Returns why a read or a flush fails.
     pub(crate) fn is_at_end<R: Read, W: Write>(
-        &self,
+        &mut self,
         flushes: bool,
         reader: &mut R,
         writer: &mut W,
     ) -> Result<bool, LineFault<'static>>
-        ensures end { IfOk result (EndsOrGoesOn (held self.now)
-            (R.remaining reader.old) (R.remaining reader.new)) }
-        ensures failed { OnErr result ((held self.now ≡ [])
-            × Keeps (R.remaining reader.old) (R.remaining reader.new)) }
+        requires { 0 < array_len self.old }
+        ensures end { IfOk result (EndsOrGoesOn (held self.old) (R.remaining reader.old) (R.remaining reader.new)) }
+        ensures failed { OnErr result ((held self.old ≡ []) × Keeps (R.remaining reader.old) (R.remaining reader.new)) }
         ensures halt { IfErr result (λ fault. IsHalt flushes (line_fault_of fault)) }
         ensures flushed { Keeps (W.contents writer.old) (W.contents writer.new) }
     {
         if !self.held().is_empty() {
             return Ok(false);
         }
-        flush_before_read(flushes, writer)?;
-        let mut byte = [0];
-        let Ok(count) = reader.read(&mut byte) else {
-            return Err(LineFault::Read);
-        };
+        let count = self.read_more(flushes, reader, writer)?;
         Ok(count == 0)
     }
 
@@ -149,55 +149,7 @@ impl<'a> Input<'a> {
         start..self.start
     }
 
-    /// Reads until a byte that ends a line is held, and with it the record, and returns how many bytes stand before it. Returns
-    /// `None` if the array is full or the reader ends before that.
-    ///
-    /// # Errors
-    ///
-    /// Returns whether the first call that fails is a read or a flush. What was read before is held.
-    fn find_line_end<R: Read, W: Write>(
-        &mut self,
-        rules: &Rules,
-        within: Within,
-        reader: &mut R,
-        writer: &mut W,
-    ) -> Result<Option<usize>, LineFault<'static>>
-        ensures read { Reads (held self.old) (held self.new)
-            (R.remaining reader.old) (R.remaining reader.new) }
-        ensures found { IfOk result (FindsEnd (quotes_in rules.now.span) rules.now.line_end within (held self.new)) }
-        ensures end { IfOk result (λ found. IsNone found → length (held self.new) < array_len self.new
-            → IsAtEnd (R.remaining reader.new)) }
-        ensures failed { OnErr result (HasNoEnd (quotes_in rules.now.span) rules.now.line_end within (held self.new)
-            × (length (held self.new) < array_len self.new)) }
-        ensures len { array_len self.new ≡ array_len self.old }
-        ensures halt { IfErr result (λ fault. IsHalt rules.now.flushes (line_fault_of fault)) }
-        ensures flushed { Keeps (W.contents writer.old) (W.contents writer.new) }
-    {
-        let mut here = within;
-        let mut searched = 0;
-        'reads: loop {
-            let bytes = self.held();
-            let (end, after) = find_end(rules.quotes(), rules.line_end, here, bytes, searched);
-            if end < bytes.len() {
-                return Ok(Some(end));
-            }
-            here = after;
-            searched = end;
-            if searched == self.array.len() {
-                return Ok(None);
-            }
-            let count = self.read_more(rules.flushes, reader, writer)?;
-            if count == 0 {
-                return Ok(None);
-            }
-        }
-    }
-
     /// Reads more bytes by one read, and returns how many. The writer is flushed before it, if `flushes` says so.
-    ///
-    /// # Errors
-    ///
-    /// Returns whether the read or the flush fails.
     fn read_more<R: Read, W: Write>(
         &mut self,
         flushes: bool,
@@ -209,12 +161,14 @@ impl<'a> Input<'a> {
             (R.remaining reader.old) (R.remaining reader.new) }
         ensures count { IfOk result (λ count. length (held self.new) ≡ length (held self.old) + count) }
         ensures end { IfOk result (λ count. count ≡ 0 → IsAtEnd (R.remaining reader.new)) }
-        ensures failed { OnErr result (held self.new ≡ held self.old) }
+        ensures failed { OnErr result ((held self.new ≡ held self.old) × Keeps (R.remaining reader.old) (R.remaining reader.new)) }
         ensures len { array_len self.new ≡ array_len self.old }
         ensures halt { IfErr result (λ fault. IsHalt flushes (line_fault_of fault)) }
         ensures flushed { Keeps (W.contents writer.old) (W.contents writer.new) }
     {
-        flush_before_read(flushes, writer)?;
+        if flushes && writer.flush().is_err() {
+            return Err(LineFault::Flush);
+        }
         self.move_to_front();
         let end = self.end;
         let room = self.array.len() - end;
@@ -238,15 +192,4 @@ impl<'a> Input<'a> {
             self.end = end - start;
         }
     }
-}
-
-/// Flushes the writer, if it is flushed before each read.
-fn flush_before_read<W: Write>(flushes: bool, writer: &mut W) -> Result<(), LineFault<'static>>
-    ensures halt { IfErr result (λ fault. IsHalt flushes (line_fault_of fault)) }
-    ensures flushed { Keeps (W.contents writer.old) (W.contents writer.new) }
-{
-    if !flushes {
-        return Ok(());
-    }
-    writer.flush().or(Err(LineFault::Flush))
 }

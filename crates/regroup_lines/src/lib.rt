@@ -16,7 +16,6 @@
 //! The input is read into an array, and parsed there.
 #![tactic(auto)]
 
-mod ends;
 mod fields;
 mod input;
 mod job;
@@ -39,13 +38,12 @@ ghost use Rattle.regroup_faults.specs.Messages.{messages};
 ghost use Rattle.regroup_lines.specs.Places.{place_of};
 ghost use Rattle.regroup_lines.specs.Sending.{Names, PassesLong, Regroups, RegroupsNaming, SendsBytes, SendsEach, SendsLine, by_writer};
 
-use crate::ends::without_end;
 use crate::fields::regroup_fields;
 use crate::input::{Input, Piece};
 use crate::job::Job;
 use crate::line_fault::LineFault;
 use crate::number::Parser;
-use crate::records::{Within, is_open, line_reached};
+use crate::records::{Within, is_open, line_reached, without_end};
 use crate::rules::{MARK, trim};
 pub use crate::rules::{FieldRange, Fields, Invalid, Output, Quoting, Rules, Span};
 use crate::sending::{send_between, send_both, send_whole};
@@ -216,7 +214,7 @@ pub fn regroup_at_most<R: Read, W: Write, E: Write, X: Write, F: Format, G: Form
     let mut input = Input::new(buffer);
     let mut has_faults = false;
     let mut number = 1;
-    for count in 0..most {
+    for lines in 0..most {
         match input.next_piece(rules, Within::Start, r, w)? {
             Piece::Line(place) => {
                 let text = input.bytes(place);
@@ -226,13 +224,10 @@ pub fn regroup_at_most<R: Read, W: Write, E: Write, X: Write, F: Format, G: Form
             Piece::Rest(place) => {
                 let rest = input.bytes(place);
                 if rest.is_empty() {
-                    return Ok(Summary {
-                        lines: count,
-                        has_faults,
-                    });
+                    return Ok(Summary { lines, has_faults });
                 }
                 has_faults |= regroup_last(&job, rest, number, w, e, x)?;
-                let lines = count + 1;
+                let lines = lines + 1;
                 return Ok(Summary { lines, has_faults });
             }
             Piece::TooLong => {
@@ -242,20 +237,17 @@ pub fn regroup_at_most<R: Read, W: Write, E: Write, X: Write, F: Format, G: Form
                 }
                 has_faults |= name_fault(&job, &fault, e)?;
                 if send_long(rules, &mut number, &mut input, r, w, x)? {
-                    let lines = count + 1;
+                    let lines = lines + 1;
                     return Ok(Summary { lines, has_faults });
                 }
             }
         }
     }
-    if input.is_at_end(rules.flushes, r, w)? {
-        Ok(Summary {
-            lines: most,
-            has_faults,
-        })
-    } else {
-        Err(RegroupFault::TooMany)
+    if !input.is_at_end(rules.flushes, r, w)? {
+        return Err(RegroupFault::TooMany);
     }
+    let lines = most;
+    Ok(Summary { lines, has_faults })
 }
 
 /// Returns the number of the line after a record that begins in the line of this number.
@@ -345,9 +337,7 @@ fn pass_fault<'a, W: Write, E: Write, X: Write, F: Format, G: Format>(
     if !job.rules.invalid.passes() {
         return Err(fault);
     }
-    let Ok(is_named) = name_fault(job, &RegroupFault::from(fault), e) else {
-        return Err(LineFault::Report);
-    };
+    let is_named = name_fault(job, &RegroupFault::from(fault), e)?;
     pass_bytes(job.rules, text, &[job.rules.line_end], w, x)?;
     Ok(is_named)
 }
@@ -357,17 +347,17 @@ fn name_fault<E: Write, F: Format, G: Format>(
     job: &Job<F, G>,
     fault: &RegroupFault,
     e: &mut E,
-) -> Result<bool, RegroupFault>
+) -> Result<bool, LineFault<'static>>
     ensures { Names (messages job.now.name.now job.now.rules.now.reading job.now.parser (fault_named job.now.rules.now.invalid (fault_of fault.now)))
         (are_any (fault_named job.now.rules.now.invalid (fault_of fault.now)))
-        (E.contents e.old) (E.contents e.new) (result_map_both (λ told. told) fault_of result) }
+        (E.contents e.old) (E.contents e.new) (result_map_both (λ told. told) line_fault_of result) }
 {
     match job.rules.invalid {
         Invalid::Abort | Invalid::Ignore => Ok(false),
         Invalid::Fail | Invalid::Warn => {
             let parser = &job.parser;
             let message = fault_message(job.name, job.rules.reading, fault, parser.format);
-            write_whole(message.as_str().as_bytes(), e).or(Err(RegroupFault::Report))?;
+            write_whole(message.as_str().as_bytes(), e).or(Err(LineFault::Report))?;
             Ok(true)
         }
     }

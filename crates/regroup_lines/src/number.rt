@@ -46,11 +46,7 @@ impl<'a, F: Format> Parser<'a, F> {
         Parser { format, decimals }
     }
 
-    /// Returns the number that a text in the line of this number is.
-    ///
-    /// # Errors
-    ///
-    /// Returns the fault of a text that does not parse.
+    /// Returns the number that a text in the line of this number is, or the fault of a text that does not parse.
     #[inline(always)]
     pub(crate) fn read<'t>(
         &self,
@@ -61,17 +57,13 @@ impl<'a, F: Format> Parser<'a, F> {
         ensures { (to : FormatData) → number_written reading self.now to number text.now
             ≡ result_map_both (decimal_text to) line_fault_of result }
     {
-        match reading {
-            Reading::Strict => match &self.decimals {
-                Some(parser) => match parser.parse_bytes(text) {
-                    Ok(value) => Ok(value),
-                    Err(_) => Err(LineFault::NotANumber(number, text)),
-                },
-                None => Err(LineFault::NotANumber(number, text)),
-            },
-            Reading::Lenient => match i128::from_formatted_bytes(text, self.format) {
+        let fault = LineFault::NotANumber(number, text);
+        match (reading, &self.decimals) {
+            (Reading::Strict, Some(parser)) => parser.parse_bytes(text).or(Err(fault)),
+            (Reading::Strict, None) => Err(fault),
+            (Reading::Lenient, _) => match i128::from_formatted_bytes(text, self.format) {
                 Ok(value) => Ok(Decimal::from(value)),
-                Err(_) => Err(LineFault::NotANumber(number, text)),
+                Err(_) => Err(fault),
             },
         }
     }

@@ -1,24 +1,25 @@
-//! Where records of RFC 4180 end: a byte in quotes ends no field and no record.
-ghost use Rattle.std.specs.Prelude.{◌≡◌, ◌==◌, ◌&&◌, All, None, false, not};
+//! Where fields, lines and records of RFC 4180 end: a byte in quotes ends no field and no record.
+ghost use Rattle.std.specs.Prelude.{◌≡◌, ◌≤◌, ◌<◌, All, None, false, get_or, length};
+ghost use Rattle.memchr.specs.Find.{IsFirstByte};
+ghost use Rattle.regroup_lines.specs.Ended.{len_without, without_end};
 ghost use Rattle.regroup_lines.specs.Lines.{quotes_in};
-ghost use Rattle.regroup_lines.specs.Records.{after_byte, after_next, after_text, is_inside, is_open, is_quote, line_reached};
+ghost use Rattle.regroup_lines.specs.Records.{Searched, after_byte, after_text, is_inside, is_open, is_quote, is_stop, line_reached};
 
 use crate::rules::Rules;
+use memchr::{memchr, memchr2};
 
 /// The byte around a field that has a delimiter, a newline or this byte.
 pub(crate) const QUOTE: u8 = b'"';
 
-/// Where the next byte of a record is. A quote opens a field only as its first byte.
+/// Where the next byte of a record is.
 #[derive(Clone, Copy, Debug, PartialEq, Eq)]
 pub(crate) enum Within {
-    /// At the start of a field.
+    /// Where a quote opens quotes: at the start of a field, or after a quote in quotes, which closes them unless it is one of two.
     Start,
-    /// In a field, and not in quotes.
+    /// In a field, where a quote opens none.
     Bare,
     /// In quotes.
     Quoted,
-    /// After a quote in quotes. It closes the field, unless it is followed by another quote.
-    Closing,
 }
 
 impl Within {
@@ -27,54 +28,35 @@ impl Within {
     pub(crate) fn after(self, rules: &Rules, text: &[u8]) -> Within
         ensures { result ≡ after_text (quotes_in rules.now.span) self text.now }
     {
-        match rules.quotes() {
-            Some(delimiter) => text
-                .iter()
-                .fold(self, |within, byte| within.after_byte(delimiter, *byte)),
-            None => self,
-        }
+        let quotes = rules.quotes();
+        text.iter()
+            .fold(self, |within, byte| within.after_byte(quotes, *byte))
     }
 
-    /// Returns where the byte after this one is, if the fields between these delimiters may be in quotes.
+    /// Returns where the byte after a text without quotes is: in quotes no other byte matters, and outside them the last one tells.
     #[inline]
-    pub(crate) fn after_next(self, quotes: Option<u8>, byte: u8) -> Within
-        ensures { result ≡ after_next quotes self byte }
-    {
-        match quotes {
-            Some(delimiter) => self.after_byte(delimiter, byte),
-            None => self,
-        }
-    }
-
-    /// Returns where the byte after a text without quotes is.
-    #[inline]
-    pub(crate) fn after_plain(self, quotes: Option<u8>, text: &[u8]) -> Within
+    fn after_plain(self, quotes: Option<u8>, text: &[u8]) -> Within
         requires { ¬ (quotes ≡ None) → All (λ b. is_quote b ≡ false) text.now }
         ensures { result ≡ after_text quotes self text.now }
     {
-        match (quotes, text) {
-            (Some(delimiter), [.., last]) if !self.is_inside() => self.after_byte(delimiter, *last),
+        match text {
+            [.., last] if !self.is_inside() => self.after_byte(quotes, *last),
             _ => self,
         }
     }
 
-    /// Returns whether this byte ends the field or the record.
+    /// Returns where the byte after this one is, by the delimiter of the fields that may be in quotes, if they may.
     #[inline]
-    pub(crate) fn is_end(self, end: u8, byte: u8) -> bool
-        ensures { result ≡ ((byte == end) && not (is_inside self)) }
+    fn after_byte(self, quotes: Option<u8>, byte: u8) -> Within
+        ensures { result ≡ after_byte quotes self byte }
     {
-        byte == end && !self.is_inside()
-    }
-
-    /// Returns where the byte after this one is.
-    #[inline]
-    fn after_byte(self, delimiter: u8, byte: u8) -> Within
-        ensures { result ≡ after_byte delimiter self byte }
-    {
+        let Some(delimiter) = quotes else {
+            return self;
+        };
         match self {
-            Within::Quoted if byte == QUOTE => Within::Closing,
+            Within::Quoted if byte == QUOTE => Within::Start,
             Within::Quoted => Within::Quoted,
-            Within::Start | Within::Closing if byte == QUOTE => Within::Quoted,
+            Within::Start if byte == QUOTE => Within::Quoted,
             _ if byte == delimiter => Within::Start,
             _ => Within::Bare,
         }
@@ -82,10 +64,62 @@ impl Within {
 
     /// Returns whether the byte is in quotes.
     #[inline]
-    pub(crate) fn is_inside(self) -> bool
+    fn is_inside(self) -> bool
         ensures { result ≡ is_inside self }
     {
         matches!(self, Within::Quoted)
+    }
+}
+
+/// Searches a text, of which the first byte is `within` a record, for the first byte of this value that is not in quotes. Returns where it is,
+/// or how many bytes there are, and where that is in the record.
+///
+/// It goes from one quote or byte of this value to the next.
+#[inline(always)]
+pub(crate) fn find_end(quotes: Option<u8>, end: u8, within: Within, text: &[u8]) -> (usize, Within)
+    ensures searched { Searched quotes end within text.now result.0 result.1 }
+    ensures found { result.0 < length text.now → (get_or text.now result.0 0 ≡ end) × (is_inside result.1 ≡ false) }
+{
+    let (mut here, mut searched) = (within, 0);
+    'stops: loop {
+        let rest = &text[searched..];
+        let len = search(quotes, end, rest).unwrap_or(rest.len());
+        here = here.after_plain(quotes, &rest[..len]);
+        searched += len;
+        if searched == text.len() || (text[searched] == end && !here.is_inside()) {
+            return (searched, here);
+        }
+        here = here.after_byte(quotes, text[searched]);
+        searched += 1;
+    }
+}
+
+/// Returns where the first byte of this value is, or the first quote if fields may be in quotes.
+#[inline(always)]
+fn search(quotes: Option<u8>, end: u8, text: &[u8]) -> Option<usize>
+    ensures { IsFirstByte (is_stop quotes end) text.now result }
+{
+    match quotes {
+        Some(_) => memchr2(QUOTE, end, text),
+        None => memchr(end, text),
+    }
+}
+
+/// Returns a text without this byte at its end.
+pub(crate) fn without_end(end: u8, text: &[u8]) -> &[u8]
+    ensures { result.now ≡ without_end end text.now }
+{
+    &text[..len_without(end, text)]
+}
+
+/// Returns how many bytes a text has without this byte at its end.
+pub(crate) fn len_without(end: u8, text: &[u8]) -> usize
+    ensures value { result ≡ len_without end text.now }
+    ensures within { result ≤ length text.now }
+{
+    match text {
+        [.., last] if *last == end => text.len() - 1,
+        _ => text.len(),
     }
 }
 
@@ -101,11 +135,9 @@ pub(crate) fn is_open(rules: &Rules, text: &[u8]) -> bool
 pub(crate) fn line_reached(rules: &Rules, number: u64, text: &[u8]) -> u64
     ensures { result ≡ line_reached (quotes_in rules.now.span) rules.now.line_end number text.now }
 {
-    match rules.quotes() {
-        Some(_) => {
-            let ends = text.iter().filter(|byte| **byte == rules.line_end);
-            number.saturating_add(ends.count() as u64)
-        }
-        None => number,
+    if rules.quotes().is_none() {
+        return number;
     }
+    let ends = text.iter().filter(|byte| **byte == rules.line_end).count();
+    number.saturating_add(ends as u64)
 }

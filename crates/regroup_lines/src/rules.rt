@@ -2,7 +2,7 @@
 ghost use Rattle.std.specs.Prelude.{◌≡◌, ◌<◌, ◌≤◌, ◌||◌, [], ◌∷◌, length, None, IfSome};
 ghost use Rattle.std.specs.Option.{is_some};
 ghost use Rattle.regroup_lines.specs.Lines.{passes, passes_mark, quotes_in, quotes_of};
-ghost use Rattle.regroup_lines.specs.Places.{are_enough, field_count, is_at_most, is_chosen, is_chosen_from, one_field, place_of, trimmed, wanted, wanted_of};
+ghost use Rattle.regroup_lines.specs.Places.{are_enough, field_count, is_at_most, is_chosen, is_chosen_from, one_field, place_of, trimmed, wanted_of};
 
 use crate::records::QUOTE;
 use regroup_faults::{FieldCount, Reading};
@@ -133,10 +133,7 @@ impl Span<'_> {
     pub(crate) fn passes_mark(&self, number: u64, text: &[u8]) -> bool
         ensures { result ≡ passes_mark self.now number text.now }
     {
-        match self {
-            Span::Line => false,
-            Span::Trimmed | Span::Fields(_) => number == 1 && text.starts_with(&MARK),
-        }
+        !matches!(self, Span::Line) && number == 1 && text.starts_with(&MARK)
     }
 }
 
@@ -158,10 +155,7 @@ impl FieldRange {
     fn reaches(&self, number: u64) -> bool
         ensures { result ≡ is_at_most number self.now.last }
     {
-        match self.last {
-            Some(last) => number <= last,
-            None => true,
-        }
+        self.last.is_none_or(|last| number <= last)
     }
 
     /// Returns how many fields a line has to have for it.
@@ -192,18 +186,11 @@ impl Fields<'_> {
     pub(crate) fn only(&self) -> Option<u64>
         ensures { IfSome result (λ number. (0 < number) × (self.now.list.now ≡ one_field number ∷ []) × (self.now.output ≡ None)) }
     {
-        match (self.list, &self.output) {
-            (
-                [
-                    FieldRange {
-                        first,
-                        last: Some(last),
-                    },
-                ],
-                None,
-            ) if first == last && *first > 0 => Some(*first),
-            _ => None,
-        }
+        let [range] = self.list else {
+            return None;
+        };
+        let is_only = range.last == Some(range.first) && range.first > 0 && self.output.is_none();
+        is_only.then_some(range.first)
     }
 
     /// Returns whether the field of this number has a number.

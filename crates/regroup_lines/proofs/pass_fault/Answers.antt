@@ -2,19 +2,21 @@ use Rattle.regroup_lines.proofs.Common.{◌∙◌, sym, err_from_is_err_and, end
 use Rattle.regroup_lines.proofs.ToldLemmas.{fault-passed, fault-unnamed, fault-unpassed}
 use Rattle.regroup_lines.proofs.pass_fault.Goals as goal
 
-pub returns-in_default : goal.returns-in_default
-returns-in_default g c =
-    fault-unnamed c.args.job.now.rules.now c.args.job.now.name.now c.args.job.now.parser (line_fault_of c.args.fault) (ended_by c.args.job.now.rules.now.line_end c.args.text.now) (sym c.passes.ensures ∙ c.if-not-passes.false)
-    (fault_of c.from.result) c.from.ensures _ _ _ _ (fault_of c.in_default.field-0) c.in_default.ensures
+pub returns-in_err-is_named : goal.returns-in_err-is_named
+returns-in_err-is_named g c =
+    let p = err_from_is_err_and c.from_residual.result c.from_residual.ensures.1 in
+    rw (p.1, p.2)
+    (fault-unnamed c.args.job.now.rules.now c.args.job.now.name.now c.args.job.now.parser (line_fault_of c.args.fault) (ended_by c.args.job.now.rules.now.line_end c.args.text.now) (sym c.passes.ensures ∙ c.if-not-passes.false)
+    (fault_of c.from.result) c.from.ensures _ _ _ _ (line_fault_of c.in_err-is_named.field-0.0) c.in_err-is_named.ensures)
 
 pub returns-in_err-pass_bytes : goal.returns-in_err-pass_bytes
 returns-in_err-pass_bytes g c =
-    let p = err_from_is_err_and c.from_residual.result c.from_residual.ensures.1 in
+    let p = err_from_is_err_and c.from_residual-in_err-pass_bytes.result c.from_residual-in_err-pass_bytes.ensures.1 in
     rw (p.1, p.2)
     (fault-unpassed c.args.job.now.rules.now c.args.job.now.name.now c.args.job.now.parser (line_fault_of c.args.fault) (ended_by c.args.job.now.rules.now.line_end c.args.text.now) (sym c.passes.ensures ∙ c.if-not-passes.false)
-    (fault_of c.from.result) c.from.ensures _ _ _ _ c.in-Ok.is_named c.in-Ok.ensures _ (line_fault_of c.in_err-pass_bytes.field-0.0) c.in_err-pass_bytes.ensures)
+    (fault_of c.from.result) c.from.ensures _ _ _ _ c.in_ok-is_named.is_named c.in_ok-is_named.ensures _ (line_fault_of c.in_err-pass_bytes.field-0.0) c.in_err-pass_bytes.ensures)
 
 pub returns : goal.returns
 returns g c =
     fault-passed c.args.job.now.rules.now c.args.job.now.name.now c.args.job.now.parser (line_fault_of c.args.fault) (ended_by c.args.job.now.rules.now.line_end c.args.text.now) (sym c.passes.ensures ∙ c.if-not-passes.false)
-    (fault_of c.from.result) c.from.ensures _ _ _ _ c.in-Ok.is_named c.in-Ok.ensures _ c.in_ok-pass_bytes.ensures
+    (fault_of c.from.result) c.from.ensures _ _ _ _ c.in_ok-is_named.is_named c.in_ok-is_named.ensures _ c.in_ok-pass_bytes.ensures

@@ -1,15 +1,15 @@
 use Rattle.regroup_lines.proofs.Common.{◌≤◌, ◌++◌, length, take, ap, sym, ◌∙◌, arith}
-use Rattle.regroup_lines.proofs.InputLemmas.{Reads-kept, Reads-none, Reads-same, range-more, range-same}
+use Rattle.regroup_lines.proofs.InputLemmas.{Reads-kept, Reads-none, range-more, range-same}
 use Rattle.regroup_lines.proofs.input.Input.read_more.Goals as goal
 
-pub returns-in_err-flush_before_read-clause-read : goal.returns-in_err-flush_before_read-clause-read
-returns-in_err-flush_before_read-clause-read g c = Reads-none _ _
+pub returns-then-is_err-clause-read : goal.returns-then-is_err-clause-read
+returns-then-is_err-clause-read g c = Reads-none _ _
 
 pub returns-in_default-clause-read : goal.returns-in_default-clause-read
 returns-in_default-clause-read g c =
     let input = c.move_to_front.new.self in
     let same = range-same input.array.now c.read.new.buf input.start input.end _ input.ordered (omega arith) in
-    Reads-same _ _ _ _ _ (Reads-kept _ _ _ _ _ (Reads-none _ _) c.in_default.ensures.bytes) (same ∙ c.move_to_front.ensures.held)
+    Reads-kept _ _ _ _ (same ∙ c.move_to_front.ensures.held) c.in_default.ensures.bytes
 
 pub returns-clause-read : goal.returns-clause-read
 returns-clause-read g c =

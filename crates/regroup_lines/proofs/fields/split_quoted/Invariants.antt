@@ -1,5 +1,5 @@
 use Rattle.regroup_lines.proofs.Common.{drop, length, quoted_len, ◌+◌, ◌-◌, ◌≡◌, ◌≤◌}
-use Rattle.regroup_lines.proofs.fields.quoted_len.Given as goal
+use Rattle.regroup_lines.proofs.fields.split_quoted.Given as goal
 
 -- no quote so far closes the field
 abbrev pub invariant-bytes : goal.invariant-bytes
