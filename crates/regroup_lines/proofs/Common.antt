@@ -52,7 +52,7 @@ pub use Rattle.num_format_decimal.specs.Marks.{IsPlainFormat, MarksDecimals}
 pub use Rattle.num_format_decimal.specs.Parsing.{DecimalResult, IsDecimalCause, IsExpectedDecimal, ParsesDecimal, SpellsDecimal, SpellsNone, unexpected_in_decimal, with_separators, without_separators}
 pub use Rattle.num_format_decimal.specs.declared.parsing.ParseDecimalError.{ParseDecimalError}
 pub use Rattle.regroup_lines.specs.Csv.{before_as, before_field, doubled, field_with, is_barred, is_opened, number_place, output_delimiter, part_text, passed_as, quoted_len}
-pub use Rattle.regroup_lines.specs.Fields.{IsOnly, SendsIf}
+pub use Rattle.regroup_lines.specs.Fields.{IsOnly, SendsBut, SendsIf, SentBut}
 pub use Rattle.regroup_lines.specs.declared.rules.FieldRange.{FieldRange}
 pub use Rattle.regroup_lines.specs.declared.rules.Fields.{Fields}
 pub use Rattle.regroup_lines.specs.declared.rules.Span.{Span}

@@ -1,7 +1,15 @@
 -- What becomes of the fields of a line, field after field.
-use Rattle.regroup_lines.proofs.Common.{Appends-trans, Bool, Decides-ltb, Err, Fault, FewFields, FieldRange, Fields, FormatData, IsOnly, List, None, Ok, Option, Result, Rules, SendsIf, Start, StopsWithin_prefix, StopsWithin_suffix, Within, [], after, ap, append-nil, append_assoc, are_enough, arith, before_field, drop, drop_at, ended_by, false, field_count, field_written, fields_of, fields_written, if◌then◌else◌, is_chosen, is_chosen_from, is_some, join_with_byte, le-leb, leb-false, leb-true, length, line_ended, lt-leb, ltb-false, nat_lt, one_field, output_delimiter, quotes_of, refl, result_map_both, slice_range, subst, sym, take, take_rest, true, with_first, inl, inr, ⊤, ℕ, ◌&&◌, ◌++◌, ◌+◌, ◌-◌, ◌<◌, ◌∙◌, ◌∷◌, ◌≡◌, ◌≤◌, length-drop}
+use Rattle.regroup_lines.proofs.Common.{Appends, Appends-nil, Appends-trans, fold, ◌||◌, is_opened, Some, cond, doubled, Bool, Decides-ltb, Err, Fault, FewFields, FieldRange, Fields, FormatData, IsOnly, List, None, Ok, Option, Result, Rules, Sends, SendsBut, SendsIf, SentBut, Start, passed_as, StopsWithin, Write, StopsWithin_prefix, StopsWithin_suffix, Within, [], after, ap, append-nil, append_assoc, are_enough, arith, before_field, drop, drop_at, ended_by, false, field_count, field_written, fields_of, fields_written, if◌then◌else◌, is_chosen, is_chosen_from, is_some, join_with_byte, le-leb, leb-false, leb-true, length, line_ended, lt-leb, ltb-false, nat_lt, one_field, output_delimiter, quotes_of, refl, result_map_both, slice_range, subst, sym, take, take_rest, true, with_first, inl, inr, ⊤, ℕ, ◌&&◌, ◌++◌, ◌+◌, ◌-◌, ◌<◌, ◌∙◌, ◌∷◌, ◌≡◌, ◌≤◌, length-drop}
+use Rattle.std.proofs.lemmas.List.{take-take}
 use Rattle.std.proofs.lemmas.List.Folds.{drop_split}
-use Rattle.std.specs.Prelude.{◌⊎◌}
+use Rattle.std.specs.Prelude.{◌⊎◌, ◌^◌, min}
+use Rattle.regroup_lines.specs.Places.{first_of}
+use Rattle.regroup_lines.specs.Csv.{output_as, output_of, placed, placed_as}
+use Rattle.regroup_lines.specs.declared.rules.Output.{Output}
+use Rattle.std.specs.Result.{result_and}
+use mir.Val.{bool_byte}
+use Rattle.regroup_lines.specs.declared.sending.Unsent.{Unsent}
+use Rattle.regroup_lines.proofs.InputLemmas.{range-later}
 use Rattle.regroup_lines.proofs.RecordLemmas.{Ends, Ends-same, slice-more, split-joined, split-last, split-next, split-some}
 
 pub and_false : (x y : Bool) → y ≡ false → (x && y) ≡ false
@@ -19,6 +27,25 @@ chosen_from-later (range ∷ list) n past = grind (arith, leb-false, lt-leb, cho
 enough-all : (list : List FieldRange) (count : ℕ) → is_chosen_from list (count + 1) ≡ false → are_enough list count ≡ true
 enough-all [] count past = refl
 enough-all (range ∷ list) count past = grind (arith, leb-false, le-leb, enough-all list count)
+
+-- before the first of them none is chosen, and nothing is written in another way
+before-first : (list : List FieldRange) (most n : ℕ) → n < fold (λ first range. min first range.first) most list → (n < most) × (is_chosen list n ≡ false)
+before-first [] most n before = (before, refl)
+before-first (range ∷ list) most n before =
+    let rest = before-first list (min most range.first) n before in
+    let low = rest.0 in
+    let none = rest.1 in
+    (omega (arith, low), grind (arith, low, none, leb-false, lt-leb))
+
+pub first-none : (cs : Fields) (n : ℕ) → n < first_of cs.output cs.list.now → (cs.output ≡ None) × (is_chosen cs.list.now n ≡ false)
+first-none cs n before = let none = before-first cs.list.now _ n before in (by cs.output none.0, none.1)
+  where
+    by : (output : Option Output) → n < (if is_some output then 0 else 2 ^ 64 - 1) → output ≡ None
+    by None low = refl
+    by (Some output) low = absurd (omega (arith, low))
+
+pub changed-chosen : (cs : Fields) (n : ℕ) → (is_some cs.output || is_chosen cs.list.now n) ≡ true → cs.output ≡ None → is_chosen cs.list.now n ≡ true
+changed-chosen cs n changes none = sym (ap (λ o. is_some o || is_chosen cs.list.now n) none) ∙ changes
 
 -- where only one field has a number, none after it has one
 one-past : (one count : ℕ) → is_chosen (one_field one ∷ []) count ≡ true → is_chosen_from (one_field one ∷ []) (count + 1) ≡ false
@@ -70,8 +97,11 @@ followed (Err fault) rest = Err fault
 after-followed : (p q : List ℕ) (first rest : Result (List ℕ) Fault) → after p (followed (after q first) rest) ≡ followed (after (p ++ q) first) rest
 after-followed p q first rest = grind (arith, append_assoc)
 
-after-none : (written : Result (List ℕ) Fault) → after [] written ≡ written
-after-none written = grind arith
+after-after : (p q : List ℕ) (written : Result (List ℕ) Fault) → after p (after q written) ≡ after (p ++ q) written
+after-after p q written = grind (arith, append_assoc)
+
+after-fault : (p : List ℕ) (written : Result (List ℕ) Fault) (f : Fault) → after p written ≡ Err f → written ≡ Err f
+after-fault p written f is = grind arith
 
 ended-after : (e : ℕ) (p x : List ℕ) (enough : Bool) (f : Fault) → after p (if enough then Ok (ended_by e x) else Err f) ≡ (if enough then Ok (ended_by e (p ++ x)) else Err f)
 ended-after e p x enough f = grind (arith, append_assoc)
@@ -83,6 +113,82 @@ module _ (known : Type 0) (s : Bool) (first rest : Result (List ℕ) Fault) (saf
 
   sent-then : (c : Option (List ℕ)) (r : Result (Unit {0}) Fault) → SendsIf s ⊤ first a b (Ok tt) → SendsIf s known rest b c r → SendsIf s known (followed first rest) a c r
   sent-then c r sends more = grind (arith, Appends-trans, StopsWithin_suffix)
+
+-- what a call does that sends nothing, or all but the bytes at the end of a text
+module _ (left : ℕ → List ℕ) (text : List ℕ) (from : ℕ) (a : Option (List ℕ)) where
+  pub unsent-but : (s : Bool) → text ≡ left from → SentBut s left (Ok text) a a from
+  unsent-but true is = record { sent = []; whole = ap Ok is; received = Appends-nil a }
+  unsent-but false is = record { sent = []; whole = ap Ok is; received = (refl, refl) }
+
+  pub read-but : (s : Bool) → s ≡ false → left from ≡ [] → SentBut s left (Ok text) a a from
+  read-but true reads none = absurd (cc)
+  read-but false reads none = record { sent = text; whole = ap Ok (sym (ap (λ l. text ++ l) none ∙ append-nil text)); received = (refl, refl) }
+
+  pub sent-but : (b : Option (List ℕ)) (sent : List ℕ) → text ≡ sent ++ left from → (r : Result (Unit {0}) Unsent) → Sends r a b sent →
+      SendsBut true left (Ok text) a b (result_map_both (λ n. n) (λ unsent. Write) (result_and r (Ok from)))
+  sent-but b sent is (Ok done) sends = record { sent = sent; whole = ap Ok is; received = sends.whole }
+  sent-but b sent is (Err unsent) sends = (refl, subst (StopsWithin a b) (sym is) (StopsWithin_prefix a b sent (left from) sends.prefix))
+
+  pub whole-but : (b : Option (List ℕ)) (sent : List ℕ) → text ≡ sent → left from ≡ [] → (r : Result (Unit {0}) Unsent) → Sends r a b sent →
+      SendsBut true left (Ok text) a b (result_map_both (λ n. n) (λ unsent. Write) (result_and r (Ok from)))
+  whole-but b sent same none = sent-but b sent (same ∙ sym (ap (λ l. sent ++ l) none ∙ append-nil sent))
+
+pub read-written : (left : ℕ → List ℕ) (b text : List ℕ) (from : ℕ) (a : Option (List ℕ)) (s : Bool) (written : Result (List ℕ) Fault) → Ok text ≡ written → s ≡ false → left from ≡ [] → SentBut s left (after b written) a a from
+read-written left b text from a s written is reads none = subst (λ w. SentBut s left (after b w) a a from) is (read-but left (b ++ text) from a s reads none)
+
+pub none_between : (text : List ℕ) (n : ℕ) → slice_range text n n ≡ []
+none_between text n = let none : n - n ≡ 0 = omega arith in ap (λ k. take k (drop n text)) none
+
+-- what is sent before a field
+pub before-plain : (cs : Fields) (passed : List ℕ) → cs.output ≡ None → before_field cs passed ≡ passed
+before-plain cs passed none = grind arith
+
+-- a field that is written anew, and one that is passed on but for its text
+pub placed-anew : (cs : Fields) (e : ℕ) (quoted : Bool) (field : List ℕ) (from to : ℕ) (text : List ℕ) (output : Output) → output_of cs e quoted text ≡ Some output →
+    placed cs e quoted field (from, to) text ≡ output_as output e quoted (slice_range field (bool_byte quoted) from) (slice_range field to (length field)) text
+placed-anew cs e quoted field from to text output is =
+    ap (λ o. placed_as o e quoted field (from, to) text) is ∙ by quoted ∙ ap (λ l. output_as output e quoted (slice_range field (bool_byte quoted) from) l text) (sym (take_rest field to))
+  where
+    by : (q : Bool) → output_as output e q (slice_range field (cond q 1 0) from) (drop to field) text ≡ output_as output e q (slice_range field (bool_byte q) from) (drop to field) text
+    by true = refl
+    by false = refl
+
+pub passed-anew : (cs : Fields) (e : ℕ) (field : List ℕ) (output : Output) (quoted : Bool) → cs.output ≡ Some output → quoted ≡ (cs.quotes && is_opened field) →
+    passed_as cs.output cs e field ≡ output_as output e quoted [] (slice_range field (bool_byte quoted) (length field)) []
+passed-anew cs e field output quoted is opens =
+    ap (λ o. passed_as o cs e field) is ∙ ap (λ q. output_as output e q [] (drop (cond q 1 0) field) []) (sym opens) ∙ by quoted ∙ ap (λ l. output_as output e quoted [] l []) (sym (take_rest field (bool_byte quoted)))
+  where
+    by : (q : Bool) → output_as output e q [] (drop (cond q 1 0) field) [] ≡ output_as output e q [] (drop (bool_byte q) field) []
+    by true = refl
+    by false = refl
+
+output-none : (cs : Fields) (e : ℕ) (quoted : Bool) (text : List ℕ) → output_of cs e quoted text ≡ None → cs.output ≡ None
+output-none cs e quoted text is = grind arith
+
+slice-front : (line : List ℕ) (start end n : ℕ) → start + n ≤ end → slice_range line start (start + n) ≡ take n (slice_range line start end)
+slice-front line start end n within =
+    let one : start + n - start ≡ n = omega arith in
+    let less : n ≤ end - start = omega arith in
+    ap (λ k. take k (drop start line)) one ∙ sym (take-take n (end - start) (drop start line) less)
+
+pub placed-plain : (cs : Fields) (e : ℕ) (quoted : Bool) (line : List ℕ) (sent start end from to : ℕ) (text : List ℕ) → sent ≤ start → start + to ≤ end → from ≤ to → output_of cs e quoted text ≡ None →
+    before_field cs (slice_range line sent start) ++ placed cs e quoted (slice_range line start end) (from, to) text
+    ≡ (slice_range line sent (start + from) ++ (if quoted then doubled text else text)) ++ slice_range line (start + to) end
+placed-plain cs e quoted line sent start end from to text low within ordered is =
+    let field = slice_range line start end in
+    let new = if quoted then doubled text else text in
+    let front : slice_range line sent (start + from) ≡ slice_range line sent start ++ take from field =
+    slice-more line sent start (start + from) low (omega arith) ∙ ap (λ l. slice_range line sent start ++ l) (slice-front line start end from (omega arith)) in
+    ap (λ b. b ++ placed cs e quoted field (from, to) text) (before-plain cs _ (output-none cs e quoted text is))
+    ∙ ap (λ o. slice_range line sent start ++ placed_as o e quoted field (from, to) text) is
+    ∙ ap (λ l. slice_range line sent start ++ (take from field ++ (new ++ l))) (sym (range-later line start end to within))
+    ∙ rw front (simp append_assoc)
+
+pub passed-plain : (cs : Fields) (e : ℕ) (line : List ℕ) (sent start end : ℕ) → sent ≤ start → start ≤ end → cs.output ≡ None →
+    before_field cs (slice_range line sent start) ++ passed_as cs.output cs e (slice_range line start end) ≡ slice_range line sent end
+passed-plain cs e line sent start end low ordered none =
+    ap (λ b. b ++ passed_as cs.output cs e (slice_range line start end)) (before-plain cs _ none) ∙ ap (λ o. slice_range line sent start ++ passed_as o cs e (slice_range line start end)) none
+    ∙ sym (slice-more line sent start end low ordered)
 
 sent-known : (known : Type 0) (s : Bool) (written : Result (List ℕ) Fault) (a b : Option (List ℕ)) (r : Result (Unit {0}) Fault) → SendsIf s ⊤ written a b r → SendsIf s known written a b r
 sent-known known s written a b r sends = grind arith
@@ -162,10 +268,7 @@ module _ (rules : Rules) (cs : Fields) (from to : FormatData) (number : ℕ) whe
       let ends = sym is ∙ line_from-past count fields none past ∙ line_ended-past count (tail_of d fields) past in
       absurd (cc)
 
-  -- what is sent before a field, and between two
-  before-plain : (passed : List ℕ) → cs.output ≡ None → before_field cs passed ≡ passed
-  before-plain passed none = grind arith
-
+  -- what is sent between two fields
   before-delimiter : before_field cs (cs.delimiter ∷ []) ≡ d ∷ []
   before-delimiter = grind arith
 
@@ -197,13 +300,10 @@ module _ (rules : Rules) (cs : Fields) (from to : FormatData) (number : ℕ) whe
         by [] none = absurd (omega arith)
         by (field ∷ fields) more = refl
 
-    none_between : slice_range text end end ≡ []
-    none_between = let none : end - end ≡ 0 = omega arith in ap (λ n. take n (drop end text)) none
-
     -- it is passed on
     passed : sent ≤ start → cs.output ≡ None → is_chosen cs.list.now (count + 1) ≡ false → so_far ≡ left sent
     passed low none plain =
-        rw (split, before-plain (slice_range text sent start) none, one_written-plain count (slice_range text start end) none plain, slice-more text sent start end low ordered) refl
+        rw (split, before-plain cs (slice_range text sent start) none, one_written-plain count (slice_range text start end) none plain, slice-more text sent start end low ordered) refl
 
     -- it is the last one, or the last one that is written, or another is after it
     module _ (at : ℕ) (low : at ≤ end) where
@@ -225,9 +325,9 @@ module _ (rules : Rules) (cs : Fields) (from to : FormatData) (number : ℕ) whe
           by : (cs.output ≡ None) ⊎ (at ≡ end) → slice_range text at end ++ d ∷ [] ≡ before_field cs (slice_range text at (end + 1))
           by (inl none) =
               ap (λ b. slice_range text at end ++ b ∷ []) (delimiter-plain none) ∙ ap (λ l. slice_range text at end ++ l) (sym (delimiter some))
-              ∙ sym (slice-more text at end (end + 1) low (omega arith)) ∙ sym (before-plain _ none)
+              ∙ sym (slice-more text at end (end + 1) low (omega arith)) ∙ sym (before-plain cs _ none)
           by (inr same) =
-              ap (λ k. slice_range text k end ++ d ∷ []) same ∙ ap (λ l. l ++ d ∷ []) none_between
+              ap (λ k. slice_range text k end ++ d ∷ []) same ∙ ap (λ l. l ++ d ∷ []) (none_between text end)
               ∙ sym (ap (λ k. before_field cs (slice_range text k (end + 1))) same ∙ ap (before_field cs) (delimiter some) ∙ before-delimiter)
 
     -- what a call did with it: it is passed on, or it was sent
@@ -238,16 +338,17 @@ module _ (rules : Rules) (cs : Fields) (from to : FormatData) (number : ℕ) whe
       abbrev pub IsWritten : Type 0
       IsWritten = cs.output ≡ None → is_chosen cs.list.now (count + 1) ≡ true
 
-      abbrev field_sent : Result (Unit {0}) Fault → Type 0
-      field_sent r = SendsIf s ⊤ (after (before_field cs (slice_range text sent start)) (one_written count (slice_range text start end))) a b r
+      abbrev field_sent : Result ℕ Fault → Type 0
+      field_sent r = SendsBut s (λ from. slice_range text from end) (after (before_field cs (slice_range text sent start)) (one_written count (slice_range text start end))) a b r
 
       abbrev pub Done : (from : ℕ) → Type 0
       Done from =
-          ((from ≡ sent) × (b ≡ a) × (cs.output ≡ None) × (is_chosen cs.list.now (count + 1) ≡ false)) ⊎ ((from ≡ end) × IsWritten × field_sent (Ok tt))
+          ((from ≡ sent) × (b ≡ a) × (cs.output ≡ None) × (is_chosen cs.list.now (count + 1) ≡ false))
+          ⊎ (IsWritten × (from ≤ end) × ((cs.output ≡ None) ⊎ (from ≡ end)) × field_sent (Ok from))
 
       low-done : (from : ℕ) → Done from → from ≤ end
       low-done from (inl done) = let same = done.0 in omega arith
-      low-done from (inr done) = let same = done.0 in omega arith
+      low-done from (inr done) = done.1
 
       pub written-stop : IsWritten → (f : Fault) → field_sent (Err f) → SendsIf s known so_far a b (Err f)
       written-stop written f sends =
@@ -258,10 +359,11 @@ module _ (rules : Rules) (cs : Fields) (from to : FormatData) (number : ℕ) whe
       onward from (inl done) c r more =
           subst (λ x. SendsIf s known x a c r) (sym (passed low done.2 done.3 ∙ sym (ap left done.0))) (subst (λ w. SendsIf s known (left from) w c r) done.1 more)
       onward from (inr done) c r more =
-          let same : left from ≡ line_from (d ∷ []) (count + 1) rest =
-          ap left done.0 ∙ ap (λ l. after l (line_from (d ∷ []) (count + 1) rest)) none_between ∙ after-none _ in
-          subst (λ x. SendsIf s known x a c r) (sym (ap (line_from (before_field cs (slice_range text sent start)) count) split))
-          (sent-then known s _ _ (line_from-safe s (count + 1) rest done.1) a b c r done.2 (subst (λ x. SendsIf s known x b c r) same more))
+          let part = done.3 in
+          let next = line_from (d ∷ []) (count + 1) rest in
+          subst (λ x. SendsIf s known x a c r)
+          (after-after part.sent (slice_range text from end) next ∙ sym (ap (line_from (before_field cs (slice_range text sent start)) count) split ∙ ap (λ first. followed first next) part.whole))
+          (sent-then known s (Ok part.sent) (left from) (λ f is. line_from-safe s (count + 1) rest done.0 f (after-fault (slice_range text from end) next f is)) a b c r part.received more)
 
       pub done-last : (from : ℕ) → Done from → end ≤ length text → (rest ≡ []) ⊎ ((cs.output ≡ None) × (is_chosen_from cs.list.now (count + 1 + 1) ≡ false)) →
           (c : Option (List ℕ)) (r : Result (Unit {0}) Fault) → SendsIf s ⊤ (line_ended rules cs number (count + 1) (slice_range text from (length text))) b c r → SendsIf s known so_far a c r
@@ -276,4 +378,4 @@ module _ (rules : Rules) (cs : Fields) (from to : FormatData) (number : ℕ) whe
         where
           by : Done from → (cs.output ≡ None) ⊎ (from ≡ end)
           by (inl done) = inl done.2
-          by (inr done) = inr done.0
+          by (inr done) = done.2

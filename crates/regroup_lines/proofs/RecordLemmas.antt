@@ -1,8 +1,7 @@
 -- Where records and their fields end, byte after byte.
 use Rattle.regroup_lines.proofs.Common.{take_rest, ◌≡◌, ℕ, ◌+◌, ◌-◌, ◌<◌, ◌≤◌, ◌==◌, Bool, true, false, List, [], ◌∷◌, ◌++◌, length, take, drop, get_or, slice_range, Option, Some, None, refl, sym, ap, subst, ◌∙◌, arith, eq-eqb, take-append-drop, All, cases_Bool, inl, inr, cond, ◌&&◌, not, suc, fold, join_with_byte, onto_first, eqb-true, or_from, or_parts, drop-drop, drop_more, length-drop, take_all, take_more, take-append-le, false_from_ne_true, get_or-drop, length-append, zero, fold-append, sum_by-append, take-add, unwrap_or, HasNoEnd, IsRecord, after_byte, after_record_byte, Searched, after_text, has_end, is_inside, line_reached, lines_ended, split_at, Within, after_bare, is_quote, Start}
-use Rattle.memchr.specs.Find.{IsFirstByte, Nowhere, Passes}
+use Rattle.memchr.specs.Find.{IsFirstByte, Nowhere, Passes, is_byte, is_byte2}
 use Rattle.regroup_lines.proofs.ChoiceLemmas.{either}
-use Rattle.regroup_lines.specs.Records.{is_stop}
 use Rattle.regroup_lines.specs.declared.records.Within.TheVariants.{Bare, Quoted}
 
 -- what follows a text where there are no quotes
@@ -11,33 +10,31 @@ after-none w [] = refl
 after-none w (b ∷ text) = after-none w text
 
 -- what follows a text without quotes: outside quotes its last byte tells, and inside quotes it ends nothing
-abbrev Unquoted : Option ℕ → List ℕ → Type 0
-Unquoted q text = ¬ (q ≡ None) → All (λ b. is_quote b ≡ false) text
+abbrev Unquoted : List ℕ → Type 0
+Unquoted text = All (λ b. is_quote b ≡ false) text
 
 after-unquoted : (d b : ℕ) (w : Within) → is_inside w ≡ false → is_quote b ≡ false → after_byte (Some d) w b ≡ after_bare d b
 after-unquoted d b Start outside plain = rw plain refl
 after-unquoted d b Bare outside plain = refl
 after-unquoted d b Quoted outside plain = absurd (cc)
 
-pub after-last : (q : Option ℕ) (w : Within) (text : List ℕ) → is_inside w ≡ false → 1 ≤ length text → Unquoted q text → after_byte q w (get_or text (length text - 1) 0) ≡ after_text q w text
+pub after-last : (q : Option ℕ) (w : Within) (text : List ℕ) → is_inside w ≡ false → 1 ≤ length text → Unquoted text → after_byte q w (get_or text (length text - 1) 0) ≡ after_text q w text
 after-last None w text outside some plain = after-none w text
 after-last (Some d) w [] outside some plain = absurd (omega arith)
 after-last (Some d) w (b ∷ []) outside some plain = refl
 after-last (Some d) w (b ∷ c ∷ text) outside some plain =
     let last : length (b ∷ c ∷ text) - 1 ≡ suc (length (c ∷ text) - 1) = omega arith in
-    let none = plain (λ none. absurd (cc)) in
-    let here = none (suc (length (c ∷ text) - 1)) 0 (omega arith) in
-    let next = ap is_inside (after-unquoted d b w outside (none 0 b (omega arith))) ∙ either (λ v. is_inside v ≡ false) (b == d) Start Bare refl refl in
+    let here = plain (suc (length (c ∷ text) - 1)) 0 (omega arith) in
+    let next = ap is_inside (after-unquoted d b w outside (plain 0 b (omega arith))) ∙ either (λ v. is_inside v ≡ false) (b == d) Start Bare refl refl in
     ap (λ n. after_byte (Some d) w (get_or (b ∷ c ∷ text) n 0)) last ∙ after-unquoted d _ w outside here ∙ sym (after-unquoted d _ (after_byte (Some d) w b) next here)
-    ∙ after-last (Some d) (after_byte (Some d) w b) (c ∷ text) next (omega arith) (λ is k x low. none (suc k) x (omega (arith, low)))
+    ∙ after-last (Some d) (after_byte (Some d) w b) (c ∷ text) next (omega arith) (λ k x low. plain (suc k) x (omega (arith, low)))
 
-pub after-quoted : (q : Option ℕ) (w : Within) (text : List ℕ) → is_inside w ≡ true → Unquoted q text → w ≡ after_text q w text
+pub after-quoted : (q : Option ℕ) (w : Within) (text : List ℕ) → is_inside w ≡ true → Unquoted text → w ≡ after_text q w text
 after-quoted None w text inside plain = after-none w text
 after-quoted (Some d) Quoted [] inside plain = refl
 after-quoted (Some d) Quoted (b ∷ text) inside plain =
-    let none = plain (λ none. absurd (cc)) in
-    let first : is_quote b ≡ false = none 0 b (omega arith) in
-    rw first (after-quoted (Some d) Quoted text refl (λ is k x low. none (suc k) x (omega (arith, low))))
+    let first : is_quote b ≡ false = plain 0 b (omega arith) in
+    rw first (after-quoted (Some d) Quoted text refl (λ k x low. plain (suc k) x (omega (arith, low))))
 after-quoted (Some d) w text inside plain = absurd (cc)
 
 pub slice-more : (text : List ℕ) (a b c : ℕ) → a ≤ b → b ≤ c → slice_range text a c ≡ slice_range text a b ++ slice_range text b c
@@ -125,24 +122,25 @@ module _ (q : Option ℕ) (e : ℕ) where
             ∙ onto-append b (split_at q e (after_byte q w b) front) (split_at q e Start back) (split-some (after_byte q w b) front))
       ]
 
-  -- a text without bytes that a search stops at
-  no-stop : (p : Option ℕ) (b : ℕ) → is_stop p e b ≡ false → (b == e) ≡ false
-  no-stop None b plain = plain
-  no-stop (Some d) b plain = (or_parts (b == 34) (b == e) plain).1
+  -- a text without bytes that a search for this one stops at
+  module _ (stops : ℕ → Bool) (other : (b : ℕ) → stops b ≡ false → (b == e) ≡ false) where
+    end-plain : (w : Within) (text : List ℕ) (n : ℕ) → Nowhere (Passes stops text) 0 n → HasNoEnd q e w (take n text)
+    end-plain w text zero none = refl
+    end-plain w [] (suc n) none = refl
+    end-plain w (b ∷ text) (suc n) none =
+        let plain = other b (false_from_ne_true _ (none 0 (omega arith) (omega arith))) in
+        or_from _ _ (ap (λ same. same && not (is_inside w)) plain) (end-plain (after_byte q w b) text n (λ k above low. none (suc k) (omega arith) (omega (arith, low))))
 
-  end-plain : (w : Within) (text : List ℕ) (n : ℕ) → Nowhere (Passes (is_stop q e) text) 0 n → HasNoEnd q e w (take n text)
-  end-plain w text zero none = refl
-  end-plain w [] (suc n) none = refl
-  end-plain w (b ∷ text) (suc n) none =
-      let other = no-stop q b (false_from_ne_true _ (none 0 (omega arith) (omega arith))) in
-      or_from _ _ (ap (λ same. same && not (is_inside w)) other) (end-plain (after_byte q w b) text n (λ k above low. none (suc k) (omega arith) (omega (arith, low))))
+    Searched-to : {w after : Within} {text : List ℕ} {n : ℕ} (found : Option ℕ) → IsFirstByte stops text found → n ≡ unwrap_or found (length text) → after ≡ after_text q w (take n text) →
+        Searched q e w text n after
+    Searched-to {w} {after} {text} {n} None is same there = record { inside = omega (arith, same); none = rw same (end-plain w text (length text) is); there = there }
+    Searched-to {w} {after} {text} {n} (Some k) is same there =
+        let low = is.0.high in
+        record { inside = omega (arith, same, low); none = rw same (end-plain w text k is.0.before); there = there }
 
-  Searched-to : {w after : Within} {text : List ℕ} {n : ℕ} (found : Option ℕ) → IsFirstByte (is_stop q e) text found → n ≡ unwrap_or found (length text) → after ≡ after_text q w (take n text) →
-      Searched q e w text n after
-  Searched-to {w} {after} {text} {n} None is same there = record { inside = omega (arith, same); none = rw same (end-plain w text (length text) is); there = there }
-  Searched-to {w} {after} {text} {n} (Some k) is same there =
-      let low = is.0.high in
-      record { inside = omega (arith, same, low); none = rw same (end-plain w text k is.0.before); there = there }
+-- a text where there are no quotes
+pub Searched-unquoted : (q : Option ℕ) (e : ℕ) (w : Within) (text : List ℕ) (n : ℕ) (found : Option ℕ) → q ≡ None → IsFirstByte (is_byte e) text found → n ≡ unwrap_or found (length text) → Searched q e w text n w
+Searched-unquoted q e w text n found none is same = Searched-to q e (is_byte e) (λ b other. other) found is same (rw none (after-none w (take n text)))
 
 -- where the first bytes of a text end: at its end, or before a byte that ends a part
 abbrev pub Ends : Option ℕ → ℕ → Within → List ℕ → ℕ → Within → Type 0
@@ -165,9 +163,9 @@ module _ {q : Option ℕ} {e : ℕ} {w here : Within} {text : List ℕ} {n : ℕ
         there = more.there ∙ ap (λ v. after_text q v (take m (drop n text))) so_far.there ∙ sym (fold-append (after_byte q) w (take n text) (take m (drop n text))) ∙ ap (after_text q w) (sym sum);
       }
 
-  pub Searched-search : {m : ℕ} {after : Within} (found : Option ℕ) → IsFirstByte (is_stop q e) (slice_range text n (length text)) found → m ≡ unwrap_or found (length (slice_range text n (length text))) →
+  pub Searched-search : {m : ℕ} {after : Within} (found : Option ℕ) → IsFirstByte (is_byte2 34 e) (slice_range text n (length text)) found → m ≡ unwrap_or found (length (slice_range text n (length text))) →
       after ≡ after_text q here (take m (slice_range text n (length text))) → Searched q e w text (n + m) after
-  Searched-search {m} {after} found is same there = Searched-on (subst (λ l. Searched q e here l m after) (take_rest text n) (Searched-to q e found is same there))
+  Searched-search {m} {after} found is same there = Searched-on (subst (λ l. Searched q e here l m after) (take_rest text n) (Searched-to q e (is_byte2 34 e) (λ b plain. (or_parts (b == 34) (b == e) plain).1) found is same there))
 
   pub Ends-on : {m : ℕ} {after : Within} → Ends q e here (drop n text) m after → Ends q e w text (n + m) after
   Ends-on {m} {after} ends =

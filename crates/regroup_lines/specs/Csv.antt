@@ -1,5 +1,5 @@
 -- The number in a field, which may be in quotes.
-use Rattle.std.specs.Prelude.{ℕ, ◌+◌, ◌-◌, ◌==◌, nat_le, Bool, true, false, ◌&&◌, ◌||◌, cond, if◌then◌else◌, List, [], ◌∷◌, ◌++◌, length, slice_range, take, drop, Option, None, Some}
+use Rattle.std.specs.Prelude.{ℕ, ◌+◌, ◌-◌, ◌==◌, nat_le, Bool, true, false, ◌&&◌, ◌||◌, cond, not, is_some, if◌then◌else◌, List, [], ◌∷◌, ◌++◌, length, slice_range, take, drop, Option, None, Some}
 use Rattle.std.specs.List.{flat_map, list_any, slice_index}
 use Rattle.std.specs.Option.{option_map, unwrap_or}
 use Rattle.regroup_lines.specs.Ended.{len_without, without_end}
@@ -32,7 +32,7 @@ doubled text = flat_map (λ b. if is_quote b then b ∷ b ∷ [] else b ∷ []) 
 
 -- whether a field with this byte has to be in quotes
 abbrev pub needs_quotes : (delimiter line_end : ℕ) → ℕ → Bool
-needs_quotes delimiter line_end b = is_quote b || (b == delimiter || (b == line_end || (b == 13 || b == 10)))
+needs_quotes delimiter line_end b = is_quote b || (b == 13 || (b == 10 || (b == delimiter || b == line_end)))
 
 -- whether a field that was in quotes is written in quotes
 abbrev pub keeps : Quoting → Bool
@@ -66,13 +66,19 @@ output_as output line_end is_quoted before after text =
     let quote = if is_enclosed then 34 ∷ [] else [] in
     quote ++ (doubled before ++ (doubled text ++ (quoted ++ (doubled bare ++ (quote ++ drop (len_without 13 after) after)))))
 
--- a text between the bytes of a field around it: they are passed on if there is no output, but where the text needs quotes and has none
-abbrev pub placed : Option Output → Fields → (line_end : ℕ) → (is_quoted : Bool) → (before after : List ℕ) → List ℕ → List ℕ
-placed (Some output) fields line_end is_quoted before after text = output_as output line_end is_quoted before after text
-placed None fields line_end is_quoted before after text =
-    if is_quoted then 34 ∷ (before ++ (doubled text ++ after)) else
-    if fields.quotes && list_any (needs_quotes fields.delimiter line_end) text then output_as (record { delimiter = fields.delimiter; quoting = Necessary }) line_end is_quoted before after text else
-    before ++ (text ++ after)
+-- how a field with this text is written, if it is written anew: as the output says, or in the quotes that the text needs and the field has not
+abbrev pub output_of : Fields → (line_end : ℕ) → (is_quoted : Bool) → List ℕ → Option Output
+output_of fields line_end is_quoted text =
+    if not (is_some fields.output) && (fields.quotes && (not is_quoted && list_any (needs_quotes fields.delimiter line_end) text))
+    then Some (record { delimiter = fields.delimiter; quoting = Necessary }) else fields.output
+
+-- a field with a text at a place in it, by how it is written: else the bytes around that place are passed on
+abbrev pub placed_as : Option Output → (line_end : ℕ) → (is_quoted : Bool) → (field : List ℕ) → ℕ × ℕ → List ℕ → List ℕ
+placed_as (Some output) line_end is_quoted field place text = output_as output line_end is_quoted (slice_range field (cond is_quoted 1 0) place.0) (drop place.1 field) text
+placed_as None line_end is_quoted field place text = take place.0 field ++ ((if is_quoted then doubled text else text) ++ drop place.1 field)
+
+abbrev pub placed : Fields → (line_end : ℕ) → (is_quoted : Bool) → (field : List ℕ) → ℕ × ℕ → List ℕ → List ℕ
+placed fields line_end is_quoted field place text = placed_as (output_of fields line_end is_quoted text) line_end is_quoted field place text
 
 -- a field without a number by how the fields are written
 abbrev pub passed_as : Option Output → Fields → (line_end : ℕ) → (field : List ℕ) → List ℕ
@@ -85,9 +91,7 @@ passed_as (Some output) fields line_end field =
 abbrev pub field_with : Fields → (line_end : ℕ) → (field : List ℕ) → Option (List ℕ) → List ℕ
 field_with fields line_end field None = passed_as fields.output fields line_end field
 field_with fields line_end field (Some text) =
-    let place = number_place fields.quotes field in
-    let opens = fields.quotes && is_quoted field (trimmed field (0, length field)) in
-    placed fields.output fields line_end opens (slice_range field (cond opens 1 0) place.0) (drop place.1 field) text
+    placed fields line_end (fields.quotes && is_quoted field (trimmed field (0, length field))) field (number_place fields.quotes field) text
 
 -- the byte between two fields that are written
 abbrev pub output_delimiter : Fields → ℕ

@@ -1,15 +1,14 @@
 -- What calls do with the fields of a line.
-use Rattle.std.specs.Prelude.{◌≡◌, ℕ, ◌<◌, Bool, true, false, List, [], ◌∷◌, Option, None, Some, Result, Ok, Err}
+use Rattle.std.specs.Prelude.{◌≡◌, ℕ, ◌<◌, ◌≤◌, Bool, true, false, List, [], ◌∷◌, ◌++◌, Option, None, Some, Result, Ok, Err, ⊤}
 use Rattle.std.specs.Io.KnownBytes.{Appends}
 use Rattle.num_format.specs.Format.{FormatData}
 use Rattle.num_format.specs.Writing.{StopsWithin}
-use Rattle.num_format_decimal.specs.FixedPoint.{FixedPoint}
 use Rattle.num_format_decimal.specs.Text.{decimal_text}
 use Rattle.regroup_lines.specs.Csv.{field_with, placed}
 use Rattle.regroup_faults.specs.Fault.{Fault}
 use Rattle.regroup_faults.specs.Fault.Fault.{Write}
 use Rattle.regroup_lines.specs.Places.{one_field}
-use Rattle.regroup_lines.specs.declared.fields.Around.{Around}
+use Rattle.regroup_lines.specs.declared.fields.Found.{Found}
 use Rattle.regroup_lines.specs.declared.rules.Fields.{Fields}
 
 -- what a call that sends a text does, or one that sends nothing: a fault in place of the text is returned, where this is known of it
@@ -19,11 +18,28 @@ SendsIf true known (Ok text) old new (Err fault) = (fault ≡ Write) × StopsWit
 SendsIf false known (Ok text) old new result = (result ≡ Ok tt) × (new ≡ old)
 SendsIf sends known (Err fault) old new result = known → (result ≡ Err fault) × (new ≡ old)
 
+-- a call sent a text but for the bytes at its end, which begin at this place, or it sends nothing
+pub record SentBut (sends : Bool) (left : ℕ → List ℕ) (written : Result (List ℕ) Fault) (old new : Option (List ℕ)) (from : ℕ) : Type 0 where
+  pub sent : List ℕ
+  pub whole : written ≡ Ok (sent ++ left from)
+  pub received : SendsIf sends ⊤ (Ok sent) old new (Ok tt)
+
+-- what a call that does so does: it returns that place
+abbrev pub SendsBut : (sends : Bool) → (left : ℕ → List ℕ) → Result (List ℕ) Fault → (old new : Option (List ℕ)) → Result ℕ Fault → Type 0
+SendsBut sends left written old new (Ok from) = SentBut sends left written old new from
+SendsBut sends left written old new (Err fault) = SendsIf sends ⊤ written old new (Err fault)
+
 -- exactly one field has a number, and all other bytes are passed on
 abbrev pub IsOnly : Fields → Type 0
 IsOnly fields = (one : ℕ) × ((0 < one) × (fields.list.now ≡ one_field one ∷ []) × (fields.output ≡ None))
 
--- a field as it is written, by the number that was read in it, if one was, and what is around that
-abbrev pub field_as : Fields → (line_end : ℕ) → (to : FormatData) → (field : List ℕ) → Option (Around × FixedPoint) → List ℕ
+-- a number is at a place in a field of so many bytes, and after a quote if it is in quotes
+pub record IsFoundIn (len : ℕ) (found : Found) : Type 0 where
+  pub inside : found.is_quoted ≡ true → 1 ≤ found.start
+  pub ordered : found.start ≤ found.end
+  pub within : found.end ≤ len
+
+-- a field as it is written, by the number that was found in it, if one was
+abbrev pub field_as : Fields → (line_end : ℕ) → (to : FormatData) → (field : List ℕ) → Option Found → List ℕ
 field_as fields line_end to field None = field_with fields line_end field None
-field_as fields line_end to field (Some found) = placed fields.output fields line_end found.0.is_quoted found.0.before.now found.0.after.now (decimal_text to found.1)
+field_as fields line_end to field (Some found) = placed fields line_end found.is_quoted field (found.start, found.end) (decimal_text to found.value)

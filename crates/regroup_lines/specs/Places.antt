@@ -1,11 +1,12 @@
 -- Where the number is in a text, and which fields of a line have one. A place is from the first of two numbers on and before the second.
-use Rattle.std.specs.Prelude.{ℕ, ◌+◌, ◌-◌, max, nat_le, Bool, true, ◌&&◌, List, slice_range, Option, None, Some}
+use Rattle.std.specs.Prelude.{ℕ, ◌+◌, ◌-◌, ◌^◌, max, min, is_some, if◌then◌else◌, nat_le, Bool, true, ◌&&◌, List, slice_range, Option, None, Some}
 use Rattle.std.specs.Char.{is_ascii_whitespace}
 use Rattle.std.specs.List.{fold, list_all, list_any, prefix_len, suffix_len}
 use Rattle.std.specs.Option.{unwrap_or}
 use Rattle.std.specs.declared.ops.Range.{Range}
 use Rattle.regroup_faults.specs.declared.fault.FieldCount.{FieldCount}
 use Rattle.regroup_lines.specs.declared.rules.FieldRange.{FieldRange}
+use Rattle.regroup_lines.specs.declared.rules.Output.{Output}
 
 -- a place as clauses compare it
 abbrev pub place_of : Range ℕ → ℕ × ℕ
@@ -41,6 +42,10 @@ is_chosen list n = list_any (λ range. nat_le range.first n && is_at_most n rang
 -- whether one of this number or above may be
 abbrev pub is_chosen_from : List FieldRange → ℕ → Bool
 is_chosen_from list n = list_any (λ range. is_at_most n range.last) list
+
+-- no field before the one of this number is written in another way than it was read: where there is an output, each may be
+abbrev pub first_of : Option Output → List FieldRange → ℕ
+first_of output list = fold (λ first range. min first range.first) (if is_some output then 0 else 2 ^ 64 - 1) list
 
 -- whether a line of so many fields has all that are wanted of it
 abbrev pub are_enough : List FieldRange → ℕ → Bool

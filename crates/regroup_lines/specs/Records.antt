@@ -42,11 +42,6 @@ abbrev pub has_end : (quotes : Option ℕ) → (end : ℕ) → Within → List �
 has_end quotes end within [] = false
 has_end quotes end within (b ∷ text) = ((b == end) && not (is_inside within)) || has_end quotes end (after_byte quotes within b) text
 
--- whether a byte ends parts or, where there may be quotes, is one (34): no other byte can end a part, or say what is inside quotes
-abbrev pub is_stop : (quotes : Option ℕ) → (end : ℕ) → ℕ → Bool
-is_stop None end b = is_byte end b
-is_stop (Some delimiter) end b = is_byte2 34 end b
-
 -- the first n bytes of a text, none of which ends a part, and where the byte after them is
 pub record Searched (quotes : Option ℕ) (end : ℕ) (within : Within) (text : List ℕ) (n : ℕ) (here : Within) : Type 0 where
   pub inside : n ≤ length text

@@ -1,14 +1,15 @@
 //! The fields of a line, or of a record of RFC 4180: those that are chosen have a number each, which may be in quotes.
-ghost use Rattle.std.specs.Prelude.{◌≡◌, ◌≤◌, ◌+◌, ◌&&◌, ◌++◌, drop, length, take, true, ⊤};
+ghost use Rattle.std.specs.Prelude.{◌≡◌, ◌⊎◌, ◌≤◌, ◌+◌, ◌-◌, ◌&&◌, ◌++◌, IfOk, IfSome, None, Ok, Some, drop, length, slice_range, take, true, ⊤};
 ghost use Rattle.std.specs.List.{list_any};
 ghost use Rattle.std.specs.Result.{result_map_both};
 ghost use Rattle.num_format.specs.Format.{FormatData};
 ghost use Rattle.num_format.specs.Writing.{Sends};
-ghost use Rattle.regroup_lines.specs.Csv.{before_field, is_barred, is_opened, is_quoted, needs_quotes, number_place, output_as, placed, quoted_len};
+ghost use Rattle.regroup_faults.specs.Fault.Fault.{Write};
+ghost use Rattle.regroup_lines.specs.Csv.{before_field, is_barred, is_opened, is_quoted, needs_quotes, number_place, output_as, output_of, passed_as, quoted_len};
 ghost use Rattle.regroup_lines.specs.Ended.{ended_by};
 ghost use Rattle.regroup_lines.specs.LineFaults.{line_fault_of};
 ghost use Rattle.regroup_lines.specs.Lines.{after, field_written, fields_replaced, line_ended};
-ghost use Rattle.regroup_lines.specs.Places.{place_of, trimmed};
+ghost use Rattle.regroup_lines.specs.Places.{is_chosen, place_of, trimmed};
 ghost use Rattle.regroup_lines.specs.Sending.{SendsLine};
 
 use crate::job::Job;
@@ -37,14 +38,32 @@ struct Line<'a, F: Format, G: Format> {
 /// A field that may be written in another way than it was read.
 #[derive(Clone, Copy)]
 struct Field<'a> {
+    /// Its line.
+    line: &'a [u8],
     /// Its number.
     count: u64,
-    /// Whether it has a number.
-    is_chosen: bool,
-    /// The bytes that are passed on before it.
-    passed: &'a [u8],
-    /// Its bytes.
-    text: &'a [u8],
+    /// Where the bytes begin that are passed on before it.
+    sent: usize,
+    /// Where it begins.
+    start: usize,
+    /// Where it ends.
+    end: usize,
+    ghost after_sent: { sent ≤ start },
+    ghost ordered: { start ≤ end },
+    ghost within: { end ≤ length line.now },
+}
+
+/// The number in a field.
+#[derive(Clone, Copy)]
+struct Found {
+    /// Whether it is in quotes.
+    is_quoted: bool,
+    /// Where it begins in the field.
+    start: usize,
+    /// Where it ends in the field.
+    end: usize,
+    /// The number.
+    value: Decimal,
 }
 
 /// What is around a text in a field.
@@ -85,7 +104,7 @@ pub(crate) fn regroup_fields<'a, W: Write, F: Format, G: Format>(
 }
 
 impl<F: Format, G: Format> Line<'_, F, G> {
-    ghost use Rattle.regroup_lines.specs.Fields.{IsOnly, SendsIf, field_as};
+    ghost use Rattle.regroup_lines.specs.Fields.{IsFoundIn, IsOnly, SendsBut, SendsIf, field_as};
 
     /// Reads the number in each chosen field of a line, and sends the line with these numbers regrouped, and the byte that ends it.
     ///
@@ -96,24 +115,26 @@ impl<F: Format, G: Format> Line<'_, F, G> {
             (W.contents w.old) (W.contents w.new) (result_map_both (λ sent. sent) line_fault_of result) }
     {
         let fields = self.fields;
+        let (quotes, delimiter, first) = (fields.quotes(), fields.delimiter, fields.first());
         let (mut sent, mut start, mut count) = (0, 0, 0);
         'fields: loop {
-            let (quotes, delimiter) = (fields.quotes(), fields.delimiter);
             let (len, _) = find_end(quotes, delimiter, Within::Start, &text[start..]);
             let end = start + len;
             count += 1;
-            let is_chosen = fields.contain(count);
-            if is_chosen || fields.output.is_some() {
+            if count >= first && fields.changes_at(count) {
                 let field = Field {
+                    line: text,
                     count,
-                    is_chosen,
-                    passed: &text[sent..start],
-                    text: &text[start..end],
+                    sent,
+                    start,
+                    end,
                 };
-                self.regroup_field(&field, w)?;
-                sent = end;
+                sent = self.regroup_field(&field, w)?;
+                if !fields.changes_from(count + 1) {
+                    return self.end(count, &text[sent..], w);
+                }
             }
-            if end == text.len() || !fields.change(count + 1) {
+            if end == text.len() {
                 return self.end(count, &text[sent..], w);
             }
             start = end + 1;
@@ -121,6 +142,7 @@ impl<F: Format, G: Format> Line<'_, F, G> {
     }
 
     /// Sends the rest of a line of so many fields, and the byte that ends it. Returns a fault if the fields are too few.
+    #[inline(always)]
     fn end<W: Write>(&self, count: u64, rest: &[u8], w: &mut W) -> Result<(), LineFault<'static>>
         ensures { SendsIf self.now.sends ⊤ (line_ended self.now.job.now.rules.now self.now.fields.now self.now.number count rest.now)
             (W.contents w.old) (W.contents w.new) (result_map_both (λ sent. sent) line_fault_of result) }
@@ -134,76 +156,153 @@ impl<F: Format, G: Format> Line<'_, F, G> {
         send_both(rest, &[self.job.rules.line_end], w).or(Err(LineFault::Write))
     }
 
-    /// Reads the number in a field, if it is chosen, and sends what is passed on before the field, and the field with that number regrouped.
-    fn regroup_field<'t, W: Write>(&self, field: &Field<'t>, w: &mut W) -> Result<(), LineFault<'t>>
-        ensures { SendsIf self.now.sends ⊤
-            (after (before_field self.now.fields.now field.now.passed.now) (field_written self.now.job.now.rules.now self.now.fields.now self.now.job.now.parser (G.answers self.now.job.now.to.now) self.now.number field.now.count field.now.is_chosen field.now.text.now))
-            (W.contents w.old) (W.contents w.new) (result_map_both (λ sent. sent) line_fault_of result) }
+    /// Reads the number in a field, if it is chosen, and sends what is passed on before the field, and the field with that number regrouped,
+    /// but for bytes at its end that are passed on. Returns where they begin.
+    fn regroup_field<'t, W: Write>(
+        &self,
+        field: &Field<'t>,
+        w: &mut W,
+    ) -> Result<usize, LineFault<'t>>
+        ensures sent { SendsBut self.now.sends (λ from. slice_range field.now.line.now from field.now.end)
+            (after (before_field self.now.fields.now (slice_range field.now.line.now field.now.sent field.now.start))
+            (field_written self.now.job.now.rules.now self.now.fields.now self.now.job.now.parser (G.answers self.now.job.now.to.now) self.now.number field.now.count (is_chosen self.now.fields.now.list.now field.now.count) (slice_range field.now.line.now field.now.start field.now.end)))
+            (W.contents w.old) (W.contents w.new) (result_map_both (λ from. from) line_fault_of result) }
+        ensures within { IfOk result (λ from. from ≤ field.now.end) }
+        ensures anew { IfOk result (λ from. (self.now.fields.now.output ≡ None) ⊎ (from ≡ field.now.end)) }
     {
         match self.read(field) {
             Err(fault) => Err(fault),
-            Ok(_) if !self.sends => Ok(()),
-            Ok(found) => self.send(field, &found, w).or(Err(LineFault::Write)),
+            Ok(_) if !self.sends => Ok(field.end),
+            Ok(Some(found)) => self.send(field, &found, w).or(Err(LineFault::Write)),
+            Ok(None) => self.pass(field, w).or(Err(LineFault::Write)),
         }
     }
 
-    /// Reads the number in a field, and returns it with what is around it, if the field is chosen and may not be empty. Where fields may be in
-    /// quotes, no number has a quote or a line end.
+    /// Reads the number in a field, and returns it with its place, if the field is chosen and may not be empty. Where fields may be in quotes, no
+    /// number has a quote or a line end.
     #[inline(always)]
-    fn read<'t>(&self, field: &Field<'t>) -> Result<Option<(Around<'t>, Decimal)>, LineFault<'t>>
-        ensures { (to : FormatData) → result_map_both (field_as self.now.fields.now self.now.job.now.rules.now.line_end to field.now.text.now) line_fault_of result
-            ≡ field_written self.now.job.now.rules.now self.now.fields.now self.now.job.now.parser to self.now.number field.now.count field.now.is_chosen field.now.text.now }
+    fn read<'t>(&self, field: &Field<'t>) -> Result<Option<Found>, LineFault<'t>>
+        ensures number { (to : FormatData) → result_map_both (field_as self.now.fields.now self.now.job.now.rules.now.line_end to (slice_range field.now.line.now field.now.start field.now.end)) line_fault_of result
+            ≡ field_written self.now.job.now.rules.now self.now.fields.now self.now.job.now.parser to self.now.number field.now.count (is_chosen self.now.fields.now.list.now field.now.count) (slice_range field.now.line.now field.now.start field.now.end) }
+        ensures place { IfOk result (λ found. IfSome found (IsFoundIn (field.now.end - field.now.start))) }
     {
-        if !field.is_chosen {
+        if !self.fields.contain(field.count) {
             return Ok(None);
         }
         let (rules, quotes) = (self.job.rules, self.fields.quotes);
-        let (place, is_quoted) = place_in(quotes, field.text);
+        let text = &field.line[field.start..field.end];
+        let (place, is_quoted) = place_in(quotes, text);
         let (start, end) = (place.start, place.end);
         if rules.passes_empty && start == end {
             return Ok(None);
         }
-        let text = &field.text[start..end];
+        let text = &text[start..end];
         if quotes && is_any_barred(rules.line_end, text) {
             return Err(LineFault::NotAField(self.number, field.count, text));
         }
-        let around = Around {
-            is_quoted,
-            before: &field.text[is_quoted as usize..start],
-            after: &field.text[end..],
-        };
         match self.job.parser.read(rules.reading, text, self.number) {
-            Ok(value) => Ok(Some((around, value))),
+            Ok(value) => Ok(Some(Found {
+                is_quoted,
+                start,
+                end,
+                value,
+            })),
             Err(fault) => Err(fault.in_field(field.count)),
         }
     }
 
-    /// Sends what is passed on before a field, and the field with the number that was found in it regrouped.
-    fn send<W: Write>(
-        &self,
-        field: &Field<'_>,
-        found: &Option<(Around<'_>, Decimal)>,
-        w: &mut W,
-    ) -> Result<(), Unsent>
-        ensures { Sends result (W.contents w.old) (W.contents w.new) (before_field self.now.fields.now field.now.passed.now
-            ++ field_as self.now.fields.now self.now.job.now.rules.now.line_end (G.answers self.now.job.now.to.now) field.now.text.now found.now) }
+    /// Sends what is passed on before a field, and the field with the number that was found in it regrouped, but for the bytes after the number, if
+    /// they are passed on. Returns where they begin.
+    fn send<W: Write>(&self, field: &Field<'_>, found: &Found, w: &mut W) -> Result<usize, Unsent>
+        requires { IsFoundIn (field.now.end - field.now.start) found.now }
+        ensures sent { SendsBut true (λ from. slice_range field.now.line.now from field.now.end)
+            (Ok (before_field self.now.fields.now (slice_range field.now.line.now field.now.sent field.now.start)
+            ++ field_as self.now.fields.now self.now.job.now.rules.now.line_end (G.answers self.now.job.now.to.now) (slice_range field.now.line.now field.now.start field.now.end) (Some found.now)))
+            (W.contents w.old) (W.contents w.new) (result_map_both (λ from. from) (λ unsent. Write) result) }
+        ensures within { IfOk result (λ from. from ≤ field.now.end) }
+        ensures anew { IfOk result (λ from. (self.now.fields.now.output ≡ None) ⊎ (from ≡ field.now.end)) }
     {
-        let (fields, line_end) = (self.fields, self.job.rules.line_end);
-        let passed = field.passed;
-        if let Some((around, value)) = found {
-            let text = DecimalBuffer::of(value, self.job.to);
-            return send_text(fields, line_end, passed, *around, text.as_str(), w);
+        let (line, line_end) = (field.line, self.job.rules.line_end);
+        let is_quoted = found.is_quoted;
+        let number = DecimalBuffer::of(&found.value, self.job.to);
+        let text = number.as_str().as_bytes();
+        match self.output_of(is_quoted, text) {
+            Some(output) => {
+                let passed = before_field(self.fields, &line[field.sent..field.start]);
+                let field_text = &line[field.start..field.end];
+                let around = Around {
+                    is_quoted,
+                    before: &field_text[is_quoted as usize..found.start],
+                    after: &field_text[found.end..],
+                };
+                send_output(output, line_end, passed, around, text, w).and(Ok(field.end))
+            }
+            None => {
+                let before = Plain(&line[field.sent..field.start + found.start]);
+                let text = if is_quoted {
+                    Doubled(text)
+                } else {
+                    Plain(text)
+                };
+                send_all(&[before, text], w).and(Ok(field.start + found.end))
+            }
         }
-        if fields.output.is_none() {
-            return send_both(passed, field.text, w);
+    }
+
+    /// Sends what is passed on before a field, and the field, where all fields are written anew. Returns where the bytes begin that were not sent.
+    fn pass<W: Write>(&self, field: &Field<'_>, w: &mut W) -> Result<usize, Unsent>
+        ensures sent { SendsBut self.now.sends (λ from. slice_range field.now.line.now from field.now.end)
+            (Ok (before_field self.now.fields.now (slice_range field.now.line.now field.now.sent field.now.start)
+            ++ passed_as self.now.fields.now.output self.now.fields.now self.now.job.now.rules.now.line_end (slice_range field.now.line.now field.now.start field.now.end)))
+            (W.contents w.old) (W.contents w.new) (result_map_both (λ from. from) (λ unsent. Write) result) }
+        ensures within { IfOk result (λ from. from ≤ field.now.end) }
+        ensures anew { IfOk result (λ from. (self.now.fields.now.output ≡ None) ⊎ (from ≡ field.now.end)) }
+    {
+        let Some(output) = self.fields.output else {
+            return Ok(field.sent);
+        };
+        if !self.sends {
+            return Ok(field.end);
         }
-        let is_quoted = fields.quotes && is_opened(field.text);
+        let text = &field.line[field.start..field.end];
+        let is_quoted = self.fields.quotes && is_opened(text);
         let around = Around {
             is_quoted,
             before: &[],
-            after: &field.text[is_quoted as usize..],
+            after: &text[is_quoted as usize..],
         };
-        send_text(fields, line_end, passed, around, "", w)
+        let passed = before_field(self.fields, &field.line[field.sent..field.start]);
+        let line_end = self.job.rules.line_end;
+        send_output(output, line_end, passed, around, b"", w).and(Ok(field.end))
+    }
+
+    /// Returns how a field with this text is written, if it is written anew: as the output says, or with the quotes that the text needs and the
+    /// field has not.
+    fn output_of(&self, is_quoted: bool, text: &[u8]) -> Option<Output>
+        ensures { result ≡ output_of self.now.fields.now self.now.job.now.rules.now.line_end is_quoted text.now }
+    {
+        let (fields, line_end) = (self.fields, self.job.rules.line_end);
+        if fields.output.is_none()
+            && fields.quotes
+            && !is_quoted
+            && needs_quotes(fields.delimiter, line_end, text)
+        {
+            return Some(Output {
+                delimiter: fields.delimiter,
+                quoting: Quoting::Necessary,
+            });
+        }
+        fields.output
+    }
+}
+
+/// Returns what is sent before a field that is written anew, in place of the bytes that are passed on: an output has its own delimiter.
+fn before_field<'a>(fields: &'a Fields, passed: &'a [u8]) -> &'a [u8]
+    ensures { result.now ≡ before_field fields.now passed.now }
+{
+    match &fields.output {
+        Some(output) if !passed.is_empty() => slice::from_ref(&output.delimiter),
+        _ => passed,
     }
 }
 
@@ -237,51 +336,6 @@ fn is_opened(field: &[u8]) -> bool
     ensures some { result ≡ true → 1 ≤ length field.now }
 {
     matches!(field, [QUOTE, ..])
-}
-
-/// Sends what is passed on before a field, and the field with this text.
-fn send_text<'a, W: Write>(
-    fields: &Fields,
-    line_end: u8,
-    passed: &'a [u8],
-    around: Around<'a>,
-    text: &'a str,
-    w: &mut W,
-) -> Result<(), Unsent>
-    ensures { Sends result (W.contents w.old) (W.contents w.new) (before_field fields.now passed.now
-        ++ placed fields.now.output fields.now line_end around.entry.is_quoted around.entry.before.now around.entry.after.now text.now) }
-{
-    let (before, text, after) = (around.before, text.as_bytes(), around.after);
-    match &fields.output {
-        Some(output) => {
-            // An output has its own delimiter.
-            let delimiter = slice::from_ref(&output.delimiter);
-            let passed = if passed.is_empty() { passed } else { delimiter };
-            send_output(*output, line_end, passed, around, text, w)
-        }
-        None if around.is_quoted => {
-            let quote = Plain(b"\"");
-            let parts = [
-                Plain(passed),
-                quote,
-                Plain(before),
-                Doubled(text),
-                Plain(after),
-            ];
-            send_all(&parts, w)
-        }
-        None if fields.quotes && needs_quotes(fields.delimiter, line_end, text) => {
-            let output = Output {
-                delimiter: fields.delimiter,
-                quoting: Quoting::Necessary,
-            };
-            send_output(output, line_end, passed, around, text, w)
-        }
-        None => {
-            let parts = [Plain(passed), Plain(before), Plain(text), Plain(after)];
-            send_all(&parts, w)
-        }
-    }
 }
 
 /// Sends what is passed on before a field, and the field with this text as an output has it.
@@ -352,10 +406,6 @@ fn needs_quotes(delimiter: u8, line_end: u8, text: &[u8]) -> bool
     ensures { result ≡ list_any (needs_quotes delimiter line_end) text.now }
 {
     text.iter().any(|byte| {
-        *byte == QUOTE
-            || *byte == delimiter
-            || *byte == line_end
-            || *byte == b'\r'
-            || *byte == b'\n'
+        matches!(*byte, QUOTE | b'\r' | b'\n') || *byte == delimiter || *byte == line_end
     })
 }

@@ -2,9 +2,8 @@
 //!
 //! Any file may be changed. `specs/Lines.antt` says what is written, and `regroup_stream` stands on it.
 //!
-//! [`regroup_lines`] parses each line of its input under one format, and prints the number under
-//! another. A line ends before a newline, the byte 10. Bytes after the last newline are a line, unless
-//! there are none.
+//! [`regroup_lines`] parses each line of its input under one format, and prints the number under another. A line ends before a newline,
+//! the byte 10. Bytes after the last newline are a line, unless there are none.
 //!
 //! ```rust
 //! let mut reader = "1,000000\n-5".as_bytes();
@@ -93,10 +92,9 @@ pub struct Summary {
 /// str::from_utf8(&out)                                              // Ok("1.000\n7\n")
 /// ```
 ///
-/// Of each line, all digits and a minus sign at its start are parsed. Each character that is not numeric is ignored,
-/// as [`parse_formatted`](num_format::parsing::ParseFormatted::parse_formatted) does. So a carriage
-/// return before the newline is ignored too, but counts as a byte of the line. A line and its newline
-/// are written together, by one write if that writes all of them.
+/// Of each line, all digits and a minus sign at its start are parsed. Each character that is not numeric is ignored, as
+/// [`parse_formatted`](num_format::parsing::ParseFormatted::parse_formatted) does. So a carriage return before the newline is ignored too,
+/// but counts as a byte of the line. A line and its newline are written together, by one write if that writes all of them.
 ///
 /// # Errors
 ///
@@ -104,15 +102,13 @@ pub struct Summary {
 ///
 /// - [`TooMany`](RegroupFault::TooMany): a byte follows the 1,000,000th line.
 /// - [`TooLong`](RegroupFault::TooLong): the line has more than 4,096 bytes, without its newline.
-/// - [`Read`](RegroupFault::Read): a read failed before the end of the line, also one that was
-///   interrupted. What was read of the line is no line.
+/// - [`Read`](RegroupFault::Read): a read failed before the end of the line, also one that was interrupted. What was read of it is no line.
 /// - [`NotText`](RegroupFault::NotText): the line is not UTF-8.
 /// - [`Line`](RegroupFault::Line): the line does not parse.
 /// - [`Write`](RegroupFault::Write): a write failed, also one that was interrupted, or wrote no bytes.
 ///
-/// On `Write` the writer received a prefix of the lines up to the one that was written, and not all of
-/// it; on any other fault, exactly the lines before. How far `r` was read beyond the fault is not
-/// stated.
+/// On `Write` the writer received a prefix of the lines up to the one that was written, and not all of it; on any other fault, exactly the lines
+/// before. How far `r` was read beyond the fault is not stated.
 pub fn regroup_lines<R: Read, W: Write, F: Format, G: Format>(
     r: &mut R,
     w: &mut W,
@@ -139,9 +135,8 @@ pub fn regroup_lines<R: Read, W: Write, F: Format, G: Format>(
     Ok(summary.lines)
 }
 
-/// Regroups the lines of `r`, at most this many, as the rules say. The messages that name faults are sent to `e`, and have
-/// the name of the input. Lines at fault are sent to `x` in place of `w` if the rules say so. The input is read into `buffer`, which has one
-/// byte more than a line may have.
+/// Regroups the lines of `r`, at most this many, as the rules say. The messages that name faults are sent to `e`, and have the name of the input.
+/// Lines at fault are sent to `x` in place of `w` if the rules say so. The input is read into `buffer`, which has one byte more than a line.
 ///
 /// ```rust
 /// let rules = Rules {
@@ -177,10 +172,9 @@ pub fn regroup_lines<R: Read, W: Write, F: Format, G: Format>(
 ///
 /// # Errors
 ///
-/// Returns the first fault, of those of [`regroup_lines`], that is not passed on.
-/// [`TooMany`](RegroupFault::TooMany) is that a byte follows the last of these lines, and
-/// [`Report`](RegroupFault::Report) that a write to `e` failed. The line of that message is not sent.
-/// [`Reject`](RegroupFault::Reject) is that a write to `x` failed.
+/// Returns the first fault, of those of [`regroup_lines`], that is not passed on. [`TooMany`](RegroupFault::TooMany) is that a byte follows the last
+/// of these lines, [`Reject`](RegroupFault::Reject) that a write to `x` failed, and [`Report`](RegroupFault::Report) that a write to `e` failed.
+/// The line of that message is not sent.
 /// [`Unclosed`](RegroupFault::Unclosed) is that a record has quotes that are not closed where the input ends, or in as many bytes as a record
 /// may have.
 /// [`Flush`](RegroupFault::Flush) is that a flush of `w` before a read failed, if the rules ask for flushes: as on `Read`,

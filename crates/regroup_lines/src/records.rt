@@ -1,9 +1,8 @@
 //! Where fields, lines and records of RFC 4180 end: a byte in quotes ends no field and no record.
-ghost use Rattle.std.specs.Prelude.{◌≡◌, ◌≤◌, ◌<◌, All, None, false, get_or, length};
-ghost use Rattle.memchr.specs.Find.{IsFirstByte};
+ghost use Rattle.std.specs.Prelude.{◌≡◌, ◌≤◌, ◌<◌, All, false, get_or, length};
 ghost use Rattle.regroup_lines.specs.Ended.{len_without, without_end};
 ghost use Rattle.regroup_lines.specs.Lines.{quotes_in};
-ghost use Rattle.regroup_lines.specs.Records.{Searched, after_byte, after_text, is_inside, is_open, is_quote, is_stop, line_reached};
+ghost use Rattle.regroup_lines.specs.Records.{Searched, after_byte, after_text, is_inside, is_open, is_quote, line_reached};
 
 use crate::rules::Rules;
 use memchr::{memchr, memchr2};
@@ -36,7 +35,7 @@ impl Within {
     /// Returns where the byte after a text without quotes is: in quotes no other byte matters, and outside them the last one tells.
     #[inline]
     fn after_plain(self, quotes: Option<u8>, text: &[u8]) -> Within
-        requires { ¬ (quotes ≡ None) → All (λ b. is_quote b ≡ false) text.now }
+        requires { All (λ b. is_quote b ≡ false) text.now }
         ensures { result ≡ after_text quotes self text.now }
     {
         match text {
@@ -80,10 +79,13 @@ pub(crate) fn find_end(quotes: Option<u8>, end: u8, within: Within, text: &[u8])
     ensures searched { Searched quotes end within text.now result.0 result.1 }
     ensures found { result.0 < length text.now → (get_or text.now result.0 0 ≡ end) × (is_inside result.1 ≡ false) }
 {
+    if quotes.is_none() && !within.is_inside() {
+        return (memchr(end, text).unwrap_or(text.len()), within);
+    }
     let (mut here, mut searched) = (within, 0);
     'stops: loop {
         let rest = &text[searched..];
-        let len = search(quotes, end, rest).unwrap_or(rest.len());
+        let len = memchr2(QUOTE, end, rest).unwrap_or(rest.len());
         here = here.after_plain(quotes, &rest[..len]);
         searched += len;
         if searched == text.len() || (text[searched] == end && !here.is_inside()) {
@@ -91,17 +93,6 @@ pub(crate) fn find_end(quotes: Option<u8>, end: u8, within: Within, text: &[u8])
         }
         here = here.after_byte(quotes, text[searched]);
         searched += 1;
-    }
-}
-
-/// Returns where the first byte of this value is, or the first quote if fields may be in quotes.
-#[inline(always)]
-fn search(quotes: Option<u8>, end: u8, text: &[u8]) -> Option<usize>
-    ensures { IsFirstByte (is_stop quotes end) text.now result }
-{
-    match quotes {
-        Some(_) => memchr2(QUOTE, end, text),
-        None => memchr(end, text),
     }
 }
 

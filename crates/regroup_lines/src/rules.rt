@@ -2,7 +2,7 @@
 ghost use Rattle.std.specs.Prelude.{◌≡◌, ◌<◌, ◌≤◌, ◌||◌, [], ◌∷◌, length, None, IfSome};
 ghost use Rattle.std.specs.Option.{is_some};
 ghost use Rattle.regroup_lines.specs.Lines.{passes, passes_mark, quotes_in, quotes_of};
-ghost use Rattle.regroup_lines.specs.Places.{are_enough, field_count, is_at_most, is_chosen, is_chosen_from, one_field, place_of, trimmed, wanted_of};
+ghost use Rattle.regroup_lines.specs.Places.{are_enough, field_count, first_of, is_at_most, is_chosen, is_chosen_from, one_field, place_of, trimmed, wanted_of};
 
 use crate::records::QUOTE;
 use regroup_faults::{FieldCount, Reading};
@@ -167,8 +167,24 @@ impl FieldRange {
 }
 
 impl Fields<'_> {
+    /// Returns a number such that no field before that one is written in another way than it was read.
+    pub(crate) fn first(&self) -> u64
+        ensures { result ≡ first_of self.now.output self.now.list.now }
+    {
+        let most = if self.output.is_some() { 0 } else { u64::MAX };
+        let ranges = self.list.iter();
+        ranges.fold(most, |first, range| first.min(range.first))
+    }
+
+    /// Returns whether the field of this number may be written in another way than it was read.
+    pub(crate) fn changes_at(&self, number: u64) -> bool
+        ensures { result ≡ (is_some self.now.output || is_chosen self.now.list.now number) }
+    {
+        self.output.is_some() || self.contain(number)
+    }
+
     /// Returns whether the field of this number, or one after it, may be written in another way than it was read.
-    pub(crate) fn change(&self, number: u64) -> bool
+    pub(crate) fn changes_from(&self, number: u64) -> bool
         ensures { result ≡ (is_some self.now.output || is_chosen_from self.now.list.now number) }
     {
         self.output.is_some() || self.reach(number)
