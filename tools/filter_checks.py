@@ -202,6 +202,10 @@ def check_rejects(tally, program):
                 ended = run([program, "en", "de", "--rejects=given"], stderr=subprocess.PIPE, cwd=folder, **streams)
                 found = (ended.returncode, ended.stderr, given.read_bytes())
                 tally.compare(f"the file of {way}", found, (2, in_use, b"1,000\nx\n"))
+        with rejects.open("ab") as stream:
+            ended = run([program, "en", "de", "given", "--rejects=rejects"], stdout=subprocess.PIPE, stderr=stream, cwd=folder)
+            found = (ended.returncode, ended.stdout, rejects.read_bytes())
+            tally.compare("the file of stderr", found, (2, b"", 2 * b"x\n" + in_use.replace(b"given", b"rejects", 1)))
 
 
 def random_record(randomly):

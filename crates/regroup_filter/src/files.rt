@@ -62,20 +62,21 @@ impl<'a> Files<'a> {
         }
     }
 
-    /// Creates the file of rejected lines, if it has a name.
+    /// Creates the file of rejected lines, if it has a name. These words name the formats.
     ///
     /// # Errors
     ///
-    /// Returns why it is not created: it cannot be, or is one of the inputs or the output.
+    /// Returns why it is not created: it cannot be, or is read, or is standard output or standard error.
     pub(crate) fn create<'n>(
         &self,
         name: Option<&'n str>,
+        words: &[&str],
         inputs: &[&str],
     ) -> Result<Rejects, Misuse<'n>> {
         let Some(name) = name else {
             return Ok(Rejects::Nowhere(io::sink()));
         };
-        if self.uses(name, inputs) {
+        if self.uses(name, words, inputs) {
             return Err(Misuse::BadFile(name, FileFault::InUse));
         }
         match File::create(self.rt, name) {
@@ -84,16 +85,28 @@ impl<'a> Files<'a> {
         }
     }
 
-    /// Returns whether the file of this name is the output or one of the inputs.
-    fn uses(&self, name: &str, inputs: &[&str]) -> bool {
+    /// Returns whether the file of this name is written already, or is read: as one of the inputs, or for the format of `@FILE`.
+    fn uses(&self, name: &str, words: &[&str], inputs: &[&str]) -> bool {
         let Some(id) = FileId::named(self.rt, name) else {
             return false;
         };
+        let is_format = |word: &&str| match word.strip_prefix("@") {
+            Some(path) => self.is(path, id),
+            None => false,
+        };
+        let is_input = |input: &&str| {
+            let path = if *input == "-" { "/dev/stdin" } else { *input };
+            self.is(path, id)
+        };
         self.output == Some(id)
-            || inputs.iter().any(|input| {
-                let path = if *input == "-" { "/dev/stdin" } else { *input };
-                FileId::named(self.rt, path) == Some(id)
-            })
+            || self.is("/dev/stderr", id)
+            || words.iter().any(is_format)
+            || inputs.iter().any(is_input)
+    }
+
+    /// Returns whether the file at a path is this one.
+    fn is(&self, path: &str, id: FileId) -> bool {
+        FileId::named(self.rt, path) == Some(id)
     }
 }
 

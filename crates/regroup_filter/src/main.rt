@@ -95,8 +95,8 @@ fn refuse(rt: &HostRuntime, cause: &str) -> u8 {
 ///
 /// Returns an error if there is no memory for the buffers.
 fn regroup_files(rt: &HostRuntime, matches: &ArgMatches<'_>, rules: &Rules) -> io::Result<u8> {
-    let [from, to] = words_of(matches);
-    let (from, to) = (Word::read(rt, from), Word::read(rt, to));
+    let words = words_of(matches);
+    let (from, to) = (Word::read(rt, words[0]), Word::read(rt, words[1]));
     let formats = match formats_named(rt.alloc(), rules.reading, from.source(), to.source()) {
         Ok(formats) => formats,
         Err(misuse) => return Ok(misuse.send(&mut rt.stderr())),
@@ -104,7 +104,7 @@ fn regroup_files(rt: &HostRuntime, matches: &ArgMatches<'_>, rules: &Rules) -> i
     let (names, inputs, mut err) = (files_of(matches), Files::new(rt), rt.stderr());
     let capacity = capacity_of(matches, CAPACITY);
     let mut buffer = vec![in rt.alloc(); 0; rules.max_line_len as usize + 1]?;
-    let rejects = match inputs.create(matches.get_str("rejects"), names) {
+    let rejects = match inputs.create(matches.get_str("rejects"), &words, names) {
         Ok(rejects) => rejects,
         Err(misuse) => return Ok(misuse.send(&mut err)),
     };

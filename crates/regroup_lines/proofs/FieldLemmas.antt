@@ -1,5 +1,5 @@
 -- What becomes of the fields of a line, field after field.
-use Rattle.regroup_lines.proofs.Common.{Appends, Appends-nil, Appends-trans, fold, ◌||◌, is_opened, Some, cond, doubled, Bool, Decides-ltb, Err, Fault, FewFields, FieldRange, Fields, FormatData, IsOnly, List, None, Ok, Option, Result, Rules, Sends, SendsBut, SendsIf, SentBut, Start, passed_as, StopsWithin, Write, StopsWithin_prefix, StopsWithin_suffix, Within, [], after, ap, append-nil, append_assoc, are_enough, arith, before_field, drop, drop_at, ended_by, false, field_count, field_written, fields_of, fields_written, if◌then◌else◌, is_chosen, is_chosen_from, is_some, join_with_byte, le-leb, leb-false, leb-true, length, line_ended, lt-leb, ltb-false, nat_lt, one_field, output_delimiter, quotes_of, refl, result_map_both, slice_range, subst, sym, take, take_rest, true, with_first, inl, inr, ⊤, ℕ, ◌&&◌, ◌++◌, ◌+◌, ◌-◌, ◌<◌, ◌∙◌, ◌∷◌, ◌≡◌, ◌≤◌, length-drop}
+use Rattle.regroup_lines.proofs.Common.{Appends-nil, Appends-trans, fold, ◌||◌, is_opened, Some, cond, doubled, Bool, Decides-ltb, Err, Fault, FewFields, FieldRange, Fields, FormatData, IsOnly, List, None, Ok, Option, Result, Rules, Sends, SendsBut, SendsIf, SentBut, Start, passed_as, StopsWithin, Write, StopsWithin_prefix, StopsWithin_suffix, Within, [], after, ap, append-nil, append_assoc, are_enough, arith, before_field, drop, drop_at, ended_by, false, field_count, field_written, fields_of, fields_written, if◌then◌else◌, is_chosen, is_chosen_from, is_some, join_with_byte, le-leb, leb-false, leb-true, length, line_ended, lt-leb, ltb-false, nat_lt, one_field, output_delimiter, quotes_of, refl, result_map_both, slice_range, subst, sym, take, take_rest, true, with_first, inl, inr, ⊤, ℕ, ◌&&◌, ◌++◌, ◌+◌, ◌-◌, ◌<◌, ◌∙◌, ◌∷◌, ◌≡◌, ◌≤◌, length-drop}
 use Rattle.std.proofs.lemmas.List.{take-take}
 use Rattle.std.proofs.lemmas.List.Folds.{drop_split}
 use Rattle.std.specs.Prelude.{◌⊎◌, ◌^◌, min}

@@ -1,7 +1,6 @@
 -- Where lines, records of RFC 4180 and their fields end. A byte inside quotes ends none.
 use Rattle.std.specs.Prelude.{◌≡◌, ℕ, ◌+◌, ◌-◌, ◌^◌, ◌≤◌, ◌==◌, length, min, take, Bool, false, true, ◌&&◌, ◌||◌, not, if◌then◌else◌, List, [], ◌∷◌, Option, None, Some}
 use Rattle.std.specs.List.{count_by, fold, onto_first}
-use Rattle.memchr.specs.Find.{is_byte, is_byte2}
 use Rattle.regroup_lines.specs.declared.records.Within.{Within}
 use Rattle.regroup_lines.specs.declared.records.Within.TheVariants.{Start, Bare, Quoted}
 
