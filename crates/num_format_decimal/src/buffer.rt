@@ -47,9 +47,22 @@ impl Model for DecimalBuffer {
 }
 
 impl DecimalBuffer {
-    /// Returns a buffer with the text of the number: the format's minus sign if the units are negative, then
-    /// the digits before the decimals, with the format's separator between groups, and where the scale is
-    /// above zero the format's decimal mark and as many digits.
+    /// Returns a buffer with the empty text.
+    ///
+    /// ```rust
+    /// DecimalBuffer::new().as_str()    // ""
+    /// ```
+    #[inline(always)]
+    pub fn new() -> DecimalBuffer
+        ensures { result ≡ [] }
+    {
+        DecimalBuffer {
+            inner: [0; MAX_DECIMAL_LEN],
+            start: MAX_DECIMAL_LEN,
+        }
+    }
+
+    /// Returns a buffer with the text of the number, as [`write_formatted`](DecimalBuffer::write_formatted) has it.
     ///
     /// ```rust
     /// DecimalBuffer::of(&Decimal::new(5, 2)?, &Locale::en).as_str()    // "0.05"
@@ -59,12 +72,32 @@ impl DecimalBuffer {
     pub fn of<F: Format>(d: &Decimal, format: &F) -> DecimalBuffer
         ensures { result ≡ decimal_text (F.answers format.now) d.now }
     {
-        let mut buffer = DecimalBuffer {
-            inner: [0; MAX_DECIMAL_LEN],
-            start: MAX_DECIMAL_LEN,
-        };
-        buffer.put_text(d, format);
+        let mut buffer = DecimalBuffer::new();
+        buffer.write_formatted(d, format);
         buffer
+    }
+
+    /// Writes the number in place of the buffer's text, and returns the length of the new text in bytes.
+    ///
+    /// The text is the format's minus sign if the units are negative, then the digits before the decimals, with the
+    /// format's separator between groups, and where the scale is above zero the format's decimal mark and as many digits.
+    ///
+    /// ```rust
+    /// let mut buffer = DecimalBuffer::new();
+    /// buffer.write_formatted(&Decimal::new(123450, 2)?, &Locale::en)    // 8
+    /// buffer.as_str()                                                   // "1,234.50"
+    /// ```
+    #[inline(never)]
+    pub fn write_formatted<F: Format>(&mut self, d: &Decimal, format: &F) -> usize
+        ensures text { self.new ≡ decimal_text (F.answers format.now) d.now }
+        ensures length { result ≡ length self.new }
+    {
+        self.start = MAX_DECIMAL_LEN;
+        self.put_unsigned(d, format);
+        if d.is_negative() {
+            self.put_symbol(format.minus_sign().into_str());
+        }
+        MAX_DECIMAL_LEN - self.start
     }
 
     /// Returns the text.
@@ -89,20 +122,6 @@ impl DecimalBuffer {
         ensures fits { length result.now ≤ MAX_DECIMAL_LEN }
     {
         self.as_str().as_bytes()
-    }
-
-    /// Prepends the text of a number to the empty text.
-    ///
-    /// It is a call: a buffer on which [`of`](DecimalBuffer::of) makes one call is not copied when it is returned.
-    #[inline(never)]
-    fn put_text<F: Format>(&mut self, d: &Decimal, format: &F)
-        requires { self.old ≡ [] }
-        ensures { self.new ≡ decimal_text (F.answers format.now) d.now }
-    {
-        self.put_unsigned(d, format);
-        if d.is_negative() {
-            self.put_symbol(format.minus_sign().into_str());
-        }
     }
 
     /// Prepends the text of a number without its sign to the empty text: the digits before the decimals, grouped as

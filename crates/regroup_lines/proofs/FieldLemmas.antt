@@ -1,9 +1,9 @@
 -- What becomes of the fields of a line, field after field.
-use Rattle.regroup_lines.proofs.Common.{Appends-nil, Appends-trans, fold, ◌||◌, is_opened, Some, cond, doubled, Bool, Decides-ltb, Err, Fault, FewFields, FieldRange, Fields, FormatData, IsOnly, List, None, Ok, Option, Result, Rules, Sends, SendsBut, SendsIf, SentBut, Start, passed_as, StopsWithin, Write, StopsWithin_prefix, StopsWithin_suffix, Within, [], after, ap, append-nil, append_assoc, are_enough, arith, before_field, drop, drop_at, ended_by, false, field_count, field_written, fields_of, fields_written, if◌then◌else◌, is_chosen, is_chosen_from, is_some, join_with_byte, le-leb, leb-false, leb-true, length, line_ended, lt-leb, ltb-false, nat_lt, one_field, output_delimiter, quotes_of, refl, result_map_both, slice_range, subst, sym, take, take_rest, true, with_first, inl, inr, ⊤, ℕ, ◌&&◌, ◌++◌, ◌+◌, ◌-◌, ◌<◌, ◌∙◌, ◌∷◌, ◌≡◌, ◌≤◌, length-drop}
+use Rattle.regroup_lines.proofs.Common.{Appends-nil, Appends-trans, fold, ◌||◌, is_opened, Some, cond, doubled, Bool, Decides-ltb, Err, Fault, FewFields, FieldRange, Fields, FormatData, IsOnly, List, None, Ok, Option, Result, Rules, Sends, SendsBut, SendsIf, SentBut, Start, passed_as, StopsWithin, Write, StopsWithin_prefix, StopsWithin_suffix, Within, [], after, ap, append-nil, append_assoc, are_enough, arith, before_field, drop, drop-drop, drop_at, ended_by, false, field_count, field_written, fields_of, fields_written, if◌then◌else◌, is_chosen, is_chosen_from, is_some, join_with_byte, le-leb, leb-false, leb-true, length, line_ended, lt-leb, ltb-false, nat_lt, one_field, output_delimiter, quotes_of, refl, result_map_both, slice_range, subst, sym, take, take_rest, true, with_first, inl, inr, ⊤, ℕ, ◌&&◌, ◌++◌, ◌+◌, ◌-◌, ◌<◌, ◌∙◌, ◌∷◌, ◌≡◌, ◌≤◌, length-drop}
 use Rattle.std.proofs.lemmas.List.{take-take}
 use Rattle.std.proofs.lemmas.List.Folds.{drop_split}
-use Rattle.std.specs.Prelude.{◌⊎◌, ◌^◌, min}
-use Rattle.regroup_lines.specs.Places.{first_of}
+use Rattle.std.specs.Prelude.{◌⊎◌, min}
+use Rattle.regroup_lines.specs.Places.{is_begun, least_of, next_of}
 use Rattle.regroup_lines.specs.Csv.{output_as, output_of, placed, placed_as}
 use Rattle.regroup_lines.specs.declared.rules.Output.{Output}
 use Rattle.std.specs.Result.{result_and}
@@ -28,42 +28,67 @@ enough-all : (list : List FieldRange) (count : ℕ) → is_chosen_from list (cou
 enough-all [] count past = refl
 enough-all (range ∷ list) count past = grind (arith, leb-false, le-leb, enough-all list count)
 
--- before the first of them none is chosen, and nothing is written in another way
-before-first : (list : List FieldRange) (most n : ℕ) → n < fold (λ first range. min first range.first) most list → (n < most) × (is_chosen list n ≡ false)
-before-first [] most n before = (before, refl)
-before-first (range ∷ list) most n before =
-    let rest = before-first list (min most range.first) n before in
-    let low = rest.0 in
-    let none = rest.1 in
-    (omega (arith, low), grind (arith, low, none, leb-false, lt-leb))
+-- the bytes of each field from one number on and before the next one are passed on, or of each from that one on
+abbrev pub IsNext : Fields → (from : ℕ) → (next : Option ℕ) → Type 0
+IsNext cs from None = (cs.output ≡ None) × (is_chosen_from cs.list.now from ≡ false)
+IsNext cs from (Some next) = (cs.output ≡ None → is_begun cs.list.now next ≡ true) × ((n : ℕ) → from ≤ n → n < next → (cs.output ≡ None) × (is_chosen cs.list.now n ≡ false))
 
-pub first-none : (cs : Fields) (n : ℕ) → n < first_of cs.output cs.list.now → (cs.output ≡ None) × (is_chosen cs.list.now n ≡ false)
-first-none cs n before = let none = before-first cs.list.now _ n before in (by cs.output none.0, none.1)
+module _ (from : ℕ) where
+  abbrev Below : ℕ → Option ℕ → Type 0
+  Below n None = ⊤
+  Below n (Some next) = n < next
+
+  -- the same by ranges, and by the number that other ranges gave
+  abbrev IsLeast : List FieldRange → (before next : Option ℕ) → Type 0
+  IsLeast list before None = (before ≡ None) × (is_chosen_from list from ≡ false)
+  IsLeast list before (Some next) = ((before ≡ Some next) ⊎ (is_begun list next ≡ true)) × ((n : ℕ) → from ≤ n → n < next → Below n before × (is_chosen list n ≡ false))
+
+  least-more : (range : FieldRange) (list : List FieldRange) (before next : Option ℕ) → IsLeast list (least_of from before range) next → IsLeast (range ∷ list) before next
+  least-more range list before None least = grind arith
+  least-more range list before (Some next) least =
+      (grind (arith, le-leb, least.0), λ n low below. let rest = least.1 n low below in (grind (arith, rest), grind (arith, rest, leb-false, lt-leb, le-leb)))
+
+  least-is : (list : List FieldRange) (before : Option ℕ) → IsLeast list before (fold (least_of from) before list)
+  least-is [] None = (refl, refl)
+  least-is [] (Some next) = (inl refl, λ n low below. (below, refl))
+  least-is (range ∷ list) before = least-more range list before (fold (least_of from) (least_of from before range) list) (least-is list (least_of from before range))
+
+pub next-is : (cs : Fields) (from : ℕ) → IsNext cs from (next_of cs.output cs.list.now from)
+next-is cs from = by cs.output refl
   where
-    by : (output : Option Output) → n < (if is_some output then 0 else 2 ^ 64 - 1) → output ≡ None
-    by None low = refl
-    by (Some output) low = absurd (omega (arith, low))
+    of : (next : Option ℕ) → cs.output ≡ None → IsLeast from cs.list.now None next → IsNext cs from next
+    of None none least = (none, least.1)
+    of (Some next) none least = (λ none. elim least.0 [ inl absent ↦ absurd (cc) | inr begun ↦ begun ], λ n low below. (none, (least.1 n low below).1))
 
-pub changed-chosen : (cs : Fields) (n : ℕ) → (is_some cs.output || is_chosen cs.list.now n) ≡ true → cs.output ≡ None → is_chosen cs.list.now n ≡ true
-changed-chosen cs n changes none = sym (ap (λ o. is_some o || is_chosen cs.list.now n) none) ∙ changes
+    by : (output : Option Output) → cs.output ≡ output → IsNext cs from (next_of output cs.list.now from)
+    by None is = of (fold (least_of from) None cs.list.now) is (least-is from cs.list.now None)
+    by (Some output) is = (λ none. absurd (cc), λ n low below. absurd (omega (arith, low, below)))
+
+pub next-later : (cs : Fields) (from : ℕ) (next : Option ℕ) → IsNext cs from next → IsNext cs (from + 1) next
+next-later cs from None is = (is.0, chosen_from-later cs.list.now from is.1)
+next-later cs from (Some next) is = (is.0, λ n low below. is.1 n (omega (arith, low)) below)
+
+pub begun-later : (list : List FieldRange) (n m : ℕ) → n ≤ m → is_begun list n ≡ true → is_begun list m ≡ true
+begun-later [] n m low begun = begun
+begun-later (range ∷ list) n m low begun = grind (arith, le-leb, leb-true, begun-later list n m low)
 
 -- where only one field has a number, none after it has one
-one-past : (one count : ℕ) → is_chosen (one_field one ∷ []) count ≡ true → is_chosen_from (one_field one ∷ []) (count + 1) ≡ false
-one-past one count chosen = grind (arith, leb-true, lt-leb)
+one-past : (one count : ℕ) → is_begun (one_field one ∷ []) count ≡ true → is_chosen_from (one_field one ∷ []) (count + 1) ≡ false
+one-past one count begun = grind (arith, leb-true, lt-leb)
 
 -- an output that there is not
 pub none-from_not_some : {T : Type 0} (o : Option T) → is_some o ≡ false → o ≡ None
 none-from_not_some o is = grind arith
 
 -- a field, and those after it, by where it ends
-pub split-ended : (cs : Fields) (quotes : Option ℕ) → quotes ≡ quotes_of cs → (text : List ℕ) (start len : ℕ) (there : Within) → start ≤ length text →
-    Ends quotes cs.delimiter Start (slice_range text start (length text)) len there →
+pub split-ended : (cs : Fields) (quotes : Option ℕ) → quotes ≡ quotes_of cs → (text left : List ℕ) (start len : ℕ) (there : Within) → start ≤ length text → left ≡ drop start text →
+    Ends quotes cs.delimiter Start left len there →
     (rest : List (List ℕ)) × (fields_of cs (drop start text) ≡ slice_range text start (start + len) ∷ rest) × (start + len ≡ length text → rest ≡ [])
     × (start + len < length text → rest ≡ fields_of cs (drop (start + len + 1) text)) × (start + len ≤ length text)
-split-ended cs quotes same text start len there low ends = by (nat_lt (start + len) (length text)) refl
+split-ended cs quotes same text left start len there low is ends = by (nat_lt (start + len) (length text)) refl
   where
     here : Ends (quotes_of cs) cs.delimiter Start (drop start text) len there
-    here = Ends-same same (take_rest text start) ends
+    here = Ends-same same is ends
 
     within : start + len ≤ length text
     within = let inside = here.0.inside in omega (arith, inside, low, length-drop start text)
@@ -77,6 +102,12 @@ split-ended cs quotes same text start len there low ends = by (nat_lt (start + l
     by false is =
         let over = ltb-false (start + len) (length text) is in
         ([], split-last text start len here (omega (arith, over, within)), (λ last. refl), (λ low. absurd (omega (arith, over, low))), within)
+
+-- what is left of a text after more of it
+pub left-later : (text left : List ℕ) (start n : ℕ) → left ≡ drop start text → slice_range left (n + 1) (length left) ≡ drop (start + n + 1) text
+left-later text left start n is =
+    let onward : start + (n + 1) ≡ start + n + 1 = omega arith in
+    take_rest left (n + 1) ∙ ap (drop (n + 1)) is ∙ drop-drop (n + 1) start text ∙ ap (λ k. drop k text) onward
 
 -- what is after a field
 abbrev pub tail_of : ℕ → List (List ℕ) → List ℕ
@@ -190,7 +221,7 @@ passed-plain cs e line sent start end low ordered none =
     ap (λ b. b ++ passed_as cs.output cs e (slice_range line start end)) (before-plain cs _ none) ∙ ap (λ o. slice_range line sent start ++ passed_as o cs e (slice_range line start end)) none
     ∙ sym (slice-more line sent start end low ordered)
 
-sent-known : (known : Type 0) (s : Bool) (written : Result (List ℕ) Fault) (a b : Option (List ℕ)) (r : Result (Unit {0}) Fault) → SendsIf s ⊤ written a b r → SendsIf s known written a b r
+pub sent-known : (known : Type 0) (s : Bool) (written : Result (List ℕ) Fault) (a b : Option (List ℕ)) (r : Result (Unit {0}) Fault) → SendsIf s ⊤ written a b r → SendsIf s known written a b r
 sent-known known s written a b r sends = grind arith
 
 module _ (rules : Rules) (cs : Fields) (from to : FormatData) (number : ℕ) where
@@ -243,29 +274,30 @@ module _ (rules : Rules) (cs : Fields) (from to : FormatData) (number : ℕ) whe
   one_written-plain : (count : ℕ) (field : List ℕ) → cs.output ≡ None → is_chosen cs.list.now (count + 1) ≡ false → one_written count field ≡ Ok field
   one_written-plain count field none plain = rw (plain, none) refl
 
-  line_from-past : (count : ℕ) (fields : List (List ℕ)) → cs.output ≡ None → is_chosen_from cs.list.now (count + 1) ≡ false →
-      line_from (d ∷ []) count fields ≡ line_ended rules cs number count (tail_of d fields)
-  line_from-past count [] none past = refl
-  line_from-past count (field ∷ fields) none past =
-      let later = chosen_from-later cs.list.now (count + 1) past in
+  line_from-past : (b : List ℕ) (count : ℕ) (field : List ℕ) (fields : List (List ℕ)) → cs.output ≡ None → is_chosen_from cs.list.now (count + 1) ≡ false →
+      line_from b count (field ∷ fields) ≡ Ok (ended_by e (b ++ join_with_byte d (field ∷ fields)))
+  line_from-past b count field [] none past =
+      rw (one_written-plain count field none (chosen-none cs.list.now (count + 1) past), line_ended-past (count + 1) [] (chosen_from-later cs.list.now (count + 1) past)) refl
+  line_from-past b count field (next ∷ fields) none past =
       rw (
         one_written-plain count field none (chosen-none cs.list.now (count + 1) past),
-        line_from-past (count + 1) fields none later,
-        line_ended-past (count + 1) (tail_of d fields) later,
-        line_ended-past count (tail_of d (field ∷ fields)) past,
-        joined-after e d (d ∷ []) field fields,
-      ) refl
+        line_from-past (d ∷ []) (count + 1) next fields none (chosen_from-later cs.list.now (count + 1) past),
+      ) (simp append_assoc)
+
+  tail_from-past : (count : ℕ) (fields : List (List ℕ)) → cs.output ≡ None → is_chosen_from cs.list.now (count + 1) ≡ false → line_from (d ∷ []) count fields ≡ Ok (ended_by e (tail_of d fields))
+  tail_from-past count [] none past = line_ended-past count [] past
+  tail_from-past count (field ∷ fields) none past = line_from-past (d ∷ []) count field fields none past
 
   -- after a field that is written there is no fault, where it is the only one
-  line_from-safe : (s : Bool) (count : ℕ) (fields : List (List ℕ)) → (cs.output ≡ None → is_chosen cs.list.now count ≡ true) →
+  line_from-safe : (s : Bool) (count : ℕ) (fields : List (List ℕ)) → (cs.output ≡ None → is_begun cs.list.now count ≡ true) →
       (f : Fault) → line_from (d ∷ []) count fields ≡ Err f → (s ≡ true → IsOnly cs) → s ≡ false
   line_from-safe false count fields written f is known = refl
   line_from-safe true count fields written f is known =
       let only = known refl in
-      let none = only.1.2 in
+      let none = only.2 in
       let past : is_chosen_from cs.list.now (count + 1) ≡ false =
-      ap (λ l. is_chosen_from l (count + 1)) only.1.1 ∙ one-past only.0 count (sym (ap (λ l. is_chosen l count) only.1.1) ∙ written none) in
-      let ends = sym is ∙ line_from-past count fields none past ∙ line_ended-past count (tail_of d fields) past in
+      ap (λ l. is_chosen_from l (count + 1)) only.1 ∙ one-past only.0 count (sym (ap (λ l. is_begun l count) only.1) ∙ written none) in
+      let ends = sym is ∙ tail_from-past count fields none past in
       absurd (cc)
 
   -- what is sent between two fields
@@ -274,6 +306,23 @@ module _ (rules : Rules) (cs : Fields) (from to : FormatData) (number : ℕ) whe
 
   delimiter-plain : cs.output ≡ None → d ≡ cs.delimiter
   delimiter-plain none = rw none refl
+
+  -- no field is changed from here on
+  pub done-past : (text : List ℕ) (sent start count : ℕ) → sent ≤ start → start ≤ length text → cs.output ≡ None → is_chosen_from cs.list.now (count + 1) ≡ false →
+      line_from (before_field cs (slice_range text sent start)) count (fields_of cs (drop start text)) ≡ line_ended rules cs number count (slice_range text sent (length text))
+  done-past text sent start count low within none past =
+      by (fields_of cs (drop start text)) (split-some (quotes_of cs) cs.delimiter Start (drop start text))
+      ∙ ap (λ l. Ok (ended_by e l))
+      (ap (λ l. l ++ join_with_byte d (fields_of cs (drop start text))) (before-plain cs (slice_range text sent start) none)
+      ∙ ap (λ b. slice_range text sent start ++ join_with_byte b (fields_of cs (drop start text))) (delimiter-plain none)
+      ∙ ap (λ l. slice_range text sent start ++ l) (split-joined (quotes_of cs) cs.delimiter Start (drop start text) ∙ sym (take_rest text start))
+      ∙ sym (slice-more text sent start (length text) low within))
+      ∙ sym (line_ended-past count (slice_range text sent (length text)) past)
+    where
+      by : (fields : List (List ℕ)) → 0 < length fields →
+          line_from (before_field cs (slice_range text sent start)) count fields ≡ Ok (ended_by e (before_field cs (slice_range text sent start) ++ join_with_byte d fields))
+      by [] some = absurd (omega arith)
+      by (field ∷ fields) some = line_from-past (before_field cs (slice_range text sent start)) count field fields none past
 
   -- a field of a line, by what a call did with it: the bytes before `sent` were sent, and it begins at `start` and is before `rest`
   module _ (text : List ℕ) (start end count : ℕ) (rest : List (List ℕ)) (split : fields_of cs (drop start text) ≡ slice_range text start end ∷ rest) (ordered : start ≤ end) (sent : ℕ) where
@@ -307,17 +356,11 @@ module _ (rules : Rules) (cs : Fields) (from to : FormatData) (number : ℕ) whe
 
     -- it is the last one, or the last one that is written, or another is after it
     module _ (at : ℕ) (low : at ≤ end) where
-      left-ended : end ≤ length text → line_from (d ∷ []) (count + 1) rest ≡ line_ended rules cs number (count + 1) (drop end text) → left at ≡ line_ended rules cs number (count + 1) (slice_range text at (length text))
-      left-ended within is =
-          ap (after (slice_range text at end)) is ∙ ended-after e (slice_range text at end) (drop end text) (are_enough cs.list.now (count + 1)) (few (count + 1))
+      left-last : end ≤ length text → rest ≡ [] → left at ≡ line_ended rules cs number (count + 1) (slice_range text at (length text))
+      left-last within none =
+          ap (after (slice_range text at end)) (ap (line_from (d ∷ []) (count + 1)) none ∙ ap (line_ended rules cs number (count + 1)) (sym (tail ∙ ap (tail_of cs.delimiter) none)))
+          ∙ ended-after e (slice_range text at end) (drop end text) (are_enough cs.list.now (count + 1)) (few (count + 1))
           ∙ ap (line_ended rules cs number (count + 1)) (ap (λ l. slice_range text at end ++ l) (sym (take_rest text end)) ∙ sym (slice-more text at end (length text) low within))
-
-      left-last : end ≤ length text → (rest ≡ []) ⊎ ((cs.output ≡ None) × (is_chosen_from cs.list.now (count + 1 + 1) ≡ false)) →
-          left at ≡ line_ended rules cs number (count + 1) (slice_range text at (length text))
-      left-last within (inl none) =
-          left-ended within (ap (line_from (d ∷ []) (count + 1)) none ∙ ap (line_ended rules cs number (count + 1)) (sym (tail ∙ ap (tail_of cs.delimiter) none)))
-      left-last within (inr past) =
-          left-ended within (line_from-past (count + 1) rest past.0 past.1 ∙ ap (line_ended rules cs number (count + 1)) (ap (λ b. tail_of b rest) (delimiter-plain past.0) ∙ sym tail))
 
       left-next : 0 < length rest → (cs.output ≡ None) ⊎ (at ≡ end) → left at ≡ line_from (before_field cs (slice_range text at (end + 1))) (count + 1) rest
       left-next some which = line_from-after (slice_range text at end) (count + 1) rest some ∙ ap (λ b. line_from b (count + 1) rest) (by which)
@@ -336,7 +379,7 @@ module _ (rules : Rules) (cs : Fields) (from to : FormatData) (number : ℕ) whe
       known = s ≡ true → IsOnly cs
 
       abbrev pub IsWritten : Type 0
-      IsWritten = cs.output ≡ None → is_chosen cs.list.now (count + 1) ≡ true
+      IsWritten = cs.output ≡ None → is_begun cs.list.now (count + 1) ≡ true
 
       abbrev field_sent : Result ℕ Fault → Type 0
       field_sent r = SendsBut s (λ from. slice_range text from end) (after (before_field cs (slice_range text sent start)) (one_written count (slice_range text start end))) a b r
@@ -365,7 +408,7 @@ module _ (rules : Rules) (cs : Fields) (from to : FormatData) (number : ℕ) whe
           (after-after part.sent (slice_range text from end) next ∙ sym (ap (line_from (before_field cs (slice_range text sent start)) count) split ∙ ap (λ first. followed first next) part.whole))
           (sent-then known s (Ok part.sent) (left from) (λ f is. line_from-safe s (count + 1) rest done.0 f (after-fault (slice_range text from end) next f is)) a b c r part.received more)
 
-      pub done-last : (from : ℕ) → Done from → end ≤ length text → (rest ≡ []) ⊎ ((cs.output ≡ None) × (is_chosen_from cs.list.now (count + 1 + 1) ≡ false)) →
+      pub done-last : (from : ℕ) → Done from → end ≤ length text → rest ≡ [] →
           (c : Option (List ℕ)) (r : Result (Unit {0}) Fault) → SendsIf s ⊤ (line_ended rules cs number (count + 1) (slice_range text from (length text))) b c r → SendsIf s known so_far a c r
       done-last from done within last c r sends =
           onward from done c r (subst (λ x. SendsIf s known x b c r) (sym (left-last from (low-done from done) within last)) (sent-known known s _ b c r sends))

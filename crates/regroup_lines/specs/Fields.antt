@@ -29,9 +29,9 @@ abbrev pub SendsBut : (sends : Bool) → (left : ℕ → List ℕ) → Result (L
 SendsBut sends left written old new (Ok from) = SentBut sends left written old new from
 SendsBut sends left written old new (Err fault) = SendsIf sends ⊤ written old new (Err fault)
 
--- exactly one field has a number, and all other bytes are passed on
+-- no field but one may have a number, and all other bytes are passed on
 abbrev pub IsOnly : Fields → Type 0
-IsOnly fields = (one : ℕ) × ((0 < one) × (fields.list.now ≡ one_field one ∷ []) × (fields.output ≡ None))
+IsOnly fields = (one : ℕ) × (fields.list.now ≡ one_field one ∷ []) × (fields.output ≡ None)
 
 -- a number is at a place in a field of so many bytes, and after a quote if it is in quotes
 pub record IsFoundIn (len : ℕ) (found : Found) : Type 0 where

@@ -1,5 +1,5 @@
 -- Where the number is in a text, and which fields of a line have one. A place is from the first of two numbers on and before the second.
-use Rattle.std.specs.Prelude.{ℕ, ◌+◌, ◌-◌, ◌^◌, max, min, is_some, if◌then◌else◌, nat_le, Bool, true, ◌&&◌, List, slice_range, Option, None, Some}
+use Rattle.std.specs.Prelude.{ℕ, ◌+◌, ◌-◌, max, min, if◌then◌else◌, nat_le, Bool, true, ◌&&◌, List, is_some, slice_range, Option, None, Some}
 use Rattle.std.specs.Char.{is_ascii_whitespace}
 use Rattle.std.specs.List.{fold, list_all, list_any, prefix_len, suffix_len}
 use Rattle.std.specs.Option.{unwrap_or}
@@ -43,9 +43,18 @@ is_chosen list n = list_any (λ range. nat_le range.first n && is_at_most n rang
 abbrev pub is_chosen_from : List FieldRange → ℕ → Bool
 is_chosen_from list n = list_any (λ range. is_at_most n range.last) list
 
--- no field before the one of this number is written in another way than it was read: where there is an output, each may be
-abbrev pub first_of : Option Output → List FieldRange → ℕ
-first_of output list = fold (λ first range. min first range.first) (if is_some output then 0 else 2 ^ 64 - 1) list
+-- the least number of a first field in ranges that reach a field, by that of other ranges and one range more
+abbrev pub least_of : (from : ℕ) → Option ℕ → FieldRange → Option ℕ
+least_of from next range = if is_at_most from range.last then Some (min (unwrap_or next range.first) range.first) else next
+
+-- no field from one number on and before that one is written in another way than it was read, nor any from there on if it is none: where
+-- there is an output, each may be
+abbrev pub next_of : Option Output → List FieldRange → (from : ℕ) → Option ℕ
+next_of output list from = if is_some output then Some from else fold (least_of from) None list
+
+-- whether a range begins at the field of this number or before it
+abbrev pub is_begun : List FieldRange → ℕ → Bool
+is_begun list n = list_any (λ range. nat_le range.first n) list
 
 -- whether a line of so many fields has all that are wanted of it
 abbrev pub are_enough : List FieldRange → ℕ → Bool

@@ -96,7 +96,7 @@ pub(crate) fn regroup_fields<'a, W: Write, F: Format, G: Format>(
         number,
     };
     // Of a line at fault nothing is sent, so all numbers are read first, but for one alone.
-    if fields.only().is_none() {
+    if !fields.are_single() {
         line.regroup(text, w)?;
     }
     line.sends = true;
@@ -115,29 +115,31 @@ impl<F: Format, G: Format> Line<'_, F, G> {
             (W.contents w.old) (W.contents w.new) (result_map_both (λ sent. sent) line_fault_of result) }
     {
         let fields = self.fields;
-        let (quotes, delimiter, first) = (fields.quotes(), fields.delimiter, fields.first());
-        let (mut sent, mut start, mut count) = (0, 0, 0);
+        let (quotes, delimiter) = (fields.quotes(), fields.delimiter);
+        let (mut sent, mut count, mut rest) = (0, 0, text);
+        let mut changed = fields.next(1);
         'fields: loop {
-            let (len, _) = find_end(quotes, delimiter, Within::Start, &text[start..]);
-            let end = start + len;
+            let Some(next) = changed else {
+                return self.end(count, &text[sent..], w);
+            };
+            let (len, _) = find_end(quotes, delimiter, Within::Start, rest);
             count += 1;
-            if count >= first && fields.changes_at(count) {
+            if count >= next {
+                let start = text.len() - rest.len();
                 let field = Field {
                     line: text,
                     count,
                     sent,
                     start,
-                    end,
+                    end: start + len,
                 };
                 sent = self.regroup_field(&field, w)?;
-                if !fields.changes_from(count + 1) {
-                    return self.end(count, &text[sent..], w);
-                }
+                changed = fields.next(count + 1);
             }
-            if end == text.len() {
+            if len == rest.len() {
                 return self.end(count, &text[sent..], w);
             }
-            start = end + 1;
+            rest = &rest[len + 1..];
         }
     }
 
@@ -224,7 +226,8 @@ impl<F: Format, G: Format> Line<'_, F, G> {
     {
         let (line, line_end) = (field.line, self.job.rules.line_end);
         let is_quoted = found.is_quoted;
-        let number = DecimalBuffer::of(&found.value, self.job.to);
+        let mut number = DecimalBuffer::new();
+        number.write_formatted(&found.value, self.job.to);
         let text = number.as_str().as_bytes();
         match self.output_of(is_quoted, text) {
             Some(output) => {

@@ -524,7 +524,8 @@ fn regroup_place<'a, W: Write, F: Format, G: Format>(
     let value = job
         .parser
         .read(job.rules.reading, &text[start..end], number)?;
-    let number = DecimalBuffer::of(&value, job.to);
+    let mut number = DecimalBuffer::new();
+    number.write_formatted(&value, job.to);
     let (before, after) = (&text[..start], &text[end..]);
     let sent = send_between(before, number.as_str(), after, job.rules.line_end, w);
     sent.or(Err(LineFault::Write))

@@ -1,8 +1,8 @@
 //! How the lines of an input are regrouped, and where the numbers of a line are.
-ghost use Rattle.std.specs.Prelude.{◌≡◌, ◌<◌, ◌≤◌, ◌||◌, [], ◌∷◌, length, None, IfSome};
-ghost use Rattle.std.specs.Option.{is_some};
+ghost use Rattle.std.specs.Prelude.{◌≡◌, ◌≤◌, length, true, None, IfSome};
+ghost use Rattle.regroup_lines.specs.Fields.{IsOnly};
 ghost use Rattle.regroup_lines.specs.Lines.{passes, passes_mark, quotes_in, quotes_of};
-ghost use Rattle.regroup_lines.specs.Places.{are_enough, field_count, first_of, is_at_most, is_chosen, is_chosen_from, one_field, place_of, trimmed, wanted_of};
+ghost use Rattle.regroup_lines.specs.Places.{are_enough, field_count, is_at_most, is_chosen, least_of, next_of, place_of, trimmed, wanted_of};
 
 use crate::records::QUOTE;
 use regroup_faults::{FieldCount, Reading};
@@ -158,6 +158,17 @@ impl FieldRange {
         self.last.is_none_or(|last| number <= last)
     }
 
+    /// Returns the number of the first field or this one, whichever is less, if the fields reach the one that is asked for: else this one.
+    fn least(&self, from: u64, next: Option<u64>) -> Option<u64>
+        ensures { result ≡ least_of from next self.now }
+    {
+        if self.reaches(from) {
+            Some(next.unwrap_or(self.first).min(self.first))
+        } else {
+            next
+        }
+    }
+
     /// Returns how many fields a line has to have for it.
     fn wanted(&self) -> u64
         ensures { result ≡ wanted_of self.now }
@@ -167,27 +178,17 @@ impl FieldRange {
 }
 
 impl Fields<'_> {
-    /// Returns a number such that no field before that one is written in another way than it was read.
-    pub(crate) fn first(&self) -> u64
-        ensures { result ≡ first_of self.now.output self.now.list.now }
+    /// Returns a number such that no field from this one on and before that one is written in another way than it was read, or `None` if none
+    /// from this one on is.
+    pub(crate) fn next(&self, from: u64) -> Option<u64>
+        ensures { result ≡ next_of self.now.output self.now.list.now from }
     {
-        let most = if self.output.is_some() { 0 } else { u64::MAX };
-        let ranges = self.list.iter();
-        ranges.fold(most, |first, range| first.min(range.first))
-    }
-
-    /// Returns whether the field of this number may be written in another way than it was read.
-    pub(crate) fn changes_at(&self, number: u64) -> bool
-        ensures { result ≡ (is_some self.now.output || is_chosen self.now.list.now number) }
-    {
-        self.output.is_some() || self.contain(number)
-    }
-
-    /// Returns whether the field of this number, or one after it, may be written in another way than it was read.
-    pub(crate) fn changes_from(&self, number: u64) -> bool
-        ensures { result ≡ (is_some self.now.output || is_chosen_from self.now.list.now number) }
-    {
-        self.output.is_some() || self.reach(number)
+        if self.output.is_some() {
+            return Some(from);
+        }
+        self.list
+            .iter()
+            .fold(None, |next, range| range.least(from, next))
     }
 
     /// Returns the delimiter, if fields may be in quotes and it is no quote.
@@ -198,15 +199,14 @@ impl Fields<'_> {
         (self.quotes && self.delimiter != QUOTE).then_some(self.delimiter)
     }
 
-    /// Returns the number of the field, if exactly one has a number, and all other bytes are passed on.
-    pub(crate) fn only(&self) -> Option<u64>
-        ensures { IfSome result (λ number. (0 < number) × (self.now.list.now ≡ one_field number ∷ []) × (self.now.output ≡ None)) }
+    /// Returns whether at most one field has a number, and all other bytes are passed on.
+    pub(crate) fn are_single(&self) -> bool
+        ensures { result ≡ true → IsOnly self.now }
     {
-        let [range] = self.list else {
-            return None;
-        };
-        let is_only = range.last == Some(range.first) && range.first > 0 && self.output.is_none();
-        is_only.then_some(range.first)
+        match self.list {
+            [range] => range.last == Some(range.first) && self.output.is_none(),
+            _ => false,
+        }
     }
 
     /// Returns whether the field of this number has a number.
@@ -216,13 +216,6 @@ impl Fields<'_> {
         self.list
             .iter()
             .any(|range| range.first <= number && range.reaches(number))
-    }
-
-    /// Returns whether the field of this number, or one after it, may have a number.
-    fn reach(&self, number: u64) -> bool
-        ensures { result ≡ is_chosen_from self.now.list.now number }
-    {
-        self.list.iter().any(|range| range.reaches(number))
     }
 
     /// Returns whether a line of so many fields has all that are wanted of it.

@@ -8,7 +8,7 @@ pub returns-in-Some-clause-sent : goal.returns-in-Some-clause-sent
 returns-in-Some-clause-sent g c =
     let field = c.args.field.now in
     let found = c.args.found.now in
-    let is = c.as_bytes-text.ensures.value ∙ c.as_str.ensures.same ∙ c.of-number.ensures in
+    let is = c.as_bytes-text.ensures.value ∙ c.as_str.ensures.same ∙ c.write_formatted.ensures.text in
     let anew = placed-anew c.args.self.now.fields.now c.args.self.now.job.now.rules.now.line_end found.is_quoted (slice_range field.line.now field.start field.end) found.start found.end c.as_bytes-text.result.now c.in-Some.output
     (sym c.output_of.ensures ∙ c.in-Some.is) in
     rw c.and.ensures (whole-but (λ from. slice_range field.line.now from field.end) _ field.end _ _ _ (cc (anew, is, c.before_field-passed.ensures)) (none_between field.line.now field.end) c.send_output.result c.send_output.ensures)
@@ -18,7 +18,7 @@ returns-after-is_quoted-clause-sent g c =
     let field = c.args.field.now in
     let found = c.args.found.now in
     let text = decimal_text (g.G.Format.answers c.args.self.now.job.now.to.now) found.value in
-    let is : c.as_bytes-text.result.now ≡ text = c.as_bytes-text.ensures.value ∙ c.as_str.ensures.same ∙ c.of-number.ensures in
+    let is : c.as_bytes-text.result.now ≡ text = c.as_bytes-text.ensures.value ∙ c.as_str.ensures.same ∙ c.write_formatted.ensures.text in
     let fields = c.args.self.now.fields.now in
     let line_end = c.args.self.now.job.now.rules.now.line_end in
     let part : part_text c.if-is_quoted.text ≡ (if found.is_quoted then doubled text else text) = elim c.if-is_quoted.branch [
