@@ -32,8 +32,7 @@ impl Decimal {
         self.checked_sum(other, !is_negative)
     }
 
-    /// Returns the negated number at the same scale, or `None` if its units are no `i128`: those of
-    /// `i128::MIN`.
+    /// Returns the negated number at the same scale, or `None` if its units are no `i128`: those of `i128::MIN`.
     ///
     /// ```rust
     /// Decimal::new(150, 2)?.checked_neg()    // Some(-1.50)

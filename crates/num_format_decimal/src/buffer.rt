@@ -66,7 +66,6 @@ impl DecimalBuffer {
     ///
     /// ```rust
     /// DecimalBuffer::of(&Decimal::new(5, 2)?, &Locale::en).as_str()    // "0.05"
-    /// DecimalBuffer::of(&Decimal::from(1234), &Locale::en).as_str()    // "1,234"
     /// ```
     #[inline(always)]
     pub fn of<F: Format>(d: &Decimal, format: &F) -> DecimalBuffer

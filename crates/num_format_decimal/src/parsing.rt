@@ -98,8 +98,7 @@ impl Decimal {
         DecimalParser::new(format)?.parse(text)
     }
 
-    /// Returns the decimal that the text of these bytes spells, as [`from_strict_str`](Decimal::from_strict_str)
-    /// does.
+    /// Returns the decimal that the text of these bytes spells, as [`from_strict_str`](Decimal::from_strict_str) does.
     ///
     /// ```rust
     /// Decimal::from_strict_bytes(b"1\xFF", &Locale::en)    // Err(NotUtf8)

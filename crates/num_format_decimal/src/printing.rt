@@ -63,8 +63,7 @@ impl Decimal {
         ensures { Writes result (W.contents w.old) (W.contents w.new)
             (decimal_text (F.answers format.now) self.now) }
     {
-        let buffer = DecimalBuffer::of(self, format);
-        write_whole(buffer.as_bytes(), w)
+        write_whole(DecimalBuffer::of(self, format).as_bytes(), w)
     }
 
     /// Returns the text of the number as a new string.
@@ -84,8 +83,7 @@ impl Decimal {
         ensures { IfOk result
             (λ text. string_bytes text ≡ decimal_text (F.answers format.now) self.now) }
     {
-        let buffer = DecimalBuffer::of(self, format);
-        String::from_str(alloc, buffer.as_str())
+        String::from_str(alloc, DecimalBuffer::of(self, format).as_str())
     }
 
     /// Returns the number, to be displayed under the format. It needs no memory, and a width counts: see
@@ -127,8 +125,7 @@ impl<'a, F: Format> fmt::Display for FormattedDecimal<'a, F> {
 
     #[tactic(auto, using(num_format_writers::proofs::ColumnLemmas::writes_plain))]
     fn fmt<W: fmt::Write>(&self, f: &mut fmt::Formatter<W>) -> fmt::Result {
-        let buffer = DecimalBuffer::of(self.d, self.format);
-        write_filled(buffer.as_str(), f)
+        write_filled(DecimalBuffer::of(self.d, self.format).as_str(), f)
     }
 }
 

@@ -1,8 +1,8 @@
 -- What becomes of the fields of a line, field after field.
-use Rattle.regroup_lines.proofs.Common.{Appends-nil, Appends-trans, fold, ◌||◌, is_opened, Some, cond, doubled, Bool, Decides-ltb, Err, Fault, FewFields, FieldRange, Fields, FormatData, IsOnly, List, None, Ok, Option, Result, Rules, Sends, SendsBut, SendsIf, SentBut, Start, passed_as, StopsWithin, Write, StopsWithin_prefix, StopsWithin_suffix, Within, [], after, ap, append-nil, append_assoc, are_enough, arith, before_field, drop, drop-drop, drop_at, ended_by, false, field_count, field_written, fields_of, fields_written, if◌then◌else◌, is_chosen, is_chosen_from, is_some, join_with_byte, le-leb, leb-false, leb-true, length, line_ended, lt-leb, ltb-false, nat_lt, one_field, output_delimiter, quotes_of, refl, result_map_both, slice_range, subst, sym, take, take_rest, true, with_first, inl, inr, ⊤, ℕ, ◌&&◌, ◌++◌, ◌+◌, ◌-◌, ◌<◌, ◌∙◌, ◌∷◌, ◌≡◌, ◌≤◌, length-drop}
+use Rattle.regroup_lines.proofs.Common.{Appends-nil, Appends-trans, fold, is_opened, Some, cond, doubled, Bool, Decides-ltb, Err, Fault, FewFields, FieldRange, Fields, FormatData, IsOnly, List, None, Ok, Option, Result, Rules, Sends, SendsBut, SendsIf, SentBut, Start, passed_as, StopsWithin, Write, StopsWithin_prefix, StopsWithin_suffix, Within, [], after, ap, append-nil, append_assoc, are_enough, arith, before_field, drop, drop-append-le, drop-drop, drop_at, ended_by, false, field_count, field_written, fields_of, fields_written, if◌then◌else◌, is_chosen, is_chosen_from, is_some, join_with_byte, le-leb, leb-false, leb-true, length, line_ended, lt-leb, ltb-false, nat_lt, one_field, output_delimiter, quotes_of, refl, result_map_both, slice_range, subst, sym, take, take_rest, true, with_first, inl, inr, ⊤, ℕ, ◌&&◌, ◌++◌, ◌+◌, ◌-◌, ◌<◌, ◌∙◌, ◌∷◌, ◌≡◌, ◌≤◌, length-drop}
 use Rattle.std.proofs.lemmas.List.{take-take}
 use Rattle.std.proofs.lemmas.List.Folds.{drop_split}
-use Rattle.std.specs.Prelude.{◌⊎◌, min}
+use Rattle.std.specs.Prelude.{◌⊎◌}
 use Rattle.regroup_lines.specs.Places.{is_begun, least_of, next_of}
 use Rattle.regroup_lines.specs.Csv.{output_as, output_of, placed, placed_as}
 use Rattle.regroup_lines.specs.declared.rules.Output.{Output}
@@ -108,6 +108,10 @@ pub left-later : (text left : List ℕ) (start n : ℕ) → left ≡ drop start 
 left-later text left start n is =
     let onward : start + (n + 1) ≡ start + n + 1 = omega arith in
     take_rest left (n + 1) ∙ ap (drop (n + 1)) is ∙ drop-drop (n + 1) start text ∙ ap (λ k. drop k text) onward
+
+-- what is left of a text, and the byte that ends it
+rest-ended : (e : ℕ) (text ended : List ℕ) (n : ℕ) → n ≤ length text → ended ≡ ended_by e text → slice_range ended n (length ended) ≡ ended_by e (slice_range text n (length text))
+rest-ended e text ended n low is = take_rest ended n ∙ ap (drop n) is ∙ drop-append-le n text (e ∷ []) low ∙ ap (ended_by e) (sym (take_rest text n))
 
 -- what is after a field
 abbrev pub tail_of : ℕ → List (List ℕ) → List ℕ
@@ -234,12 +238,16 @@ module _ (rules : Rules) (cs : Fields) (from to : FormatData) (number : ℕ) whe
   abbrev few : ℕ → Fault
   few count = FewFields number (field_count cs.delimiter cs.list.now count)
 
+  -- what ends a line of so many fields
+  abbrev line_with : ℕ → List ℕ → Result (List ℕ) Fault
+  line_with count rest = line_ended cs number count (ended_by e rest)
+
   abbrev one_written : ℕ → List ℕ → Result (List ℕ) Fault
   one_written count field = field_written rules cs from to number (count + 1) (is_chosen cs.list.now (count + 1)) field
 
   -- the fields that so many others are before, with these bytes before the first, and the byte that ends the line
   abbrev pub line_from : List ℕ → ℕ → List (List ℕ) → Result (List ℕ) Fault
-  line_from b count [] = line_ended rules cs number count []
+  line_from b count [] = line_with count []
   line_from b count (field ∷ fields) = followed (after b (one_written count field)) (line_from (d ∷ []) (count + 1) fields)
 
   line_from-is : (b : List ℕ) (f : List (List ℕ) → List ℕ) → f [] ≡ ended_by e [] → ((t : List ℕ) (texts : List (List ℕ)) → f (t ∷ texts) ≡ (b ++ t) ++ ended_by e (tail_of d texts)) →
@@ -268,7 +276,7 @@ module _ (rules : Rules) (cs : Fields) (from to : FormatData) (number : ℕ) whe
   line_from-after b count (field ∷ fields) some = after-followed b (d ∷ []) (one_written count field) (line_from (d ∷ []) (count + 1) fields)
 
   -- fields that are passed on
-  line_ended-past : (count : ℕ) (text : List ℕ) → is_chosen_from cs.list.now (count + 1) ≡ false → line_ended rules cs number count text ≡ Ok (ended_by e text)
+  line_ended-past : (count : ℕ) (text : List ℕ) → is_chosen_from cs.list.now (count + 1) ≡ false → line_with count text ≡ Ok (ended_by e text)
   line_ended-past count text past = rw (enough-all cs.list.now count past) refl
 
   one_written-plain : (count : ℕ) (field : List ℕ) → cs.output ≡ None → is_chosen cs.list.now (count + 1) ≡ false → one_written count field ≡ Ok field
@@ -308,9 +316,9 @@ module _ (rules : Rules) (cs : Fields) (from to : FormatData) (number : ℕ) whe
   delimiter-plain none = rw none refl
 
   -- no field is changed from here on
-  pub done-past : (text : List ℕ) (sent start count : ℕ) → sent ≤ start → start ≤ length text → cs.output ≡ None → is_chosen_from cs.list.now (count + 1) ≡ false →
-      line_from (before_field cs (slice_range text sent start)) count (fields_of cs (drop start text)) ≡ line_ended rules cs number count (slice_range text sent (length text))
-  done-past text sent start count low within none past =
+  pub done-past : (text ended : List ℕ) → ended ≡ ended_by e text → (sent start count : ℕ) → sent ≤ start → start ≤ length text → cs.output ≡ None → is_chosen_from cs.list.now (count + 1) ≡ false →
+      line_from (before_field cs (slice_range text sent start)) count (fields_of cs (drop start text)) ≡ line_ended cs number count (slice_range ended sent (length ended))
+  done-past text ended is sent start count low within none past =
       by (fields_of cs (drop start text)) (split-some (quotes_of cs) cs.delimiter Start (drop start text))
       ∙ ap (λ l. Ok (ended_by e l))
       (ap (λ l. l ++ join_with_byte d (fields_of cs (drop start text))) (before-plain cs (slice_range text sent start) none)
@@ -318,6 +326,7 @@ module _ (rules : Rules) (cs : Fields) (from to : FormatData) (number : ℕ) whe
       ∙ ap (λ l. slice_range text sent start ++ l) (split-joined (quotes_of cs) cs.delimiter Start (drop start text) ∙ sym (take_rest text start))
       ∙ sym (slice-more text sent start (length text) low within))
       ∙ sym (line_ended-past count (slice_range text sent (length text)) past)
+      ∙ ap (line_ended cs number count) (sym (rest-ended e text ended sent (omega (arith, low, within)) is))
     where
       by : (fields : List (List ℕ)) → 0 < length fields →
           line_from (before_field cs (slice_range text sent start)) count fields ≡ Ok (ended_by e (before_field cs (slice_range text sent start) ++ join_with_byte d fields))
@@ -356,11 +365,11 @@ module _ (rules : Rules) (cs : Fields) (from to : FormatData) (number : ℕ) whe
 
     -- it is the last one, or the last one that is written, or another is after it
     module _ (at : ℕ) (low : at ≤ end) where
-      left-last : end ≤ length text → rest ≡ [] → left at ≡ line_ended rules cs number (count + 1) (slice_range text at (length text))
+      left-last : end ≤ length text → rest ≡ [] → left at ≡ line_with (count + 1) (slice_range text at (length text))
       left-last within none =
-          ap (after (slice_range text at end)) (ap (line_from (d ∷ []) (count + 1)) none ∙ ap (line_ended rules cs number (count + 1)) (sym (tail ∙ ap (tail_of cs.delimiter) none)))
+          ap (after (slice_range text at end)) (ap (line_from (d ∷ []) (count + 1)) none ∙ ap (line_with (count + 1)) (sym (tail ∙ ap (tail_of cs.delimiter) none)))
           ∙ ended-after e (slice_range text at end) (drop end text) (are_enough cs.list.now (count + 1)) (few (count + 1))
-          ∙ ap (line_ended rules cs number (count + 1)) (ap (λ l. slice_range text at end ++ l) (sym (take_rest text end)) ∙ sym (slice-more text at end (length text) low within))
+          ∙ ap (line_with (count + 1)) (ap (λ l. slice_range text at end ++ l) (sym (take_rest text end)) ∙ sym (slice-more text at end (length text) low within))
 
       left-next : 0 < length rest → (cs.output ≡ None) ⊎ (at ≡ end) → left at ≡ line_from (before_field cs (slice_range text at (end + 1))) (count + 1) rest
       left-next some which = line_from-after (slice_range text at end) (count + 1) rest some ∙ ap (λ b. line_from b (count + 1) rest) (by which)
@@ -408,10 +417,12 @@ module _ (rules : Rules) (cs : Fields) (from to : FormatData) (number : ℕ) whe
           (after-after part.sent (slice_range text from end) next ∙ sym (ap (line_from (before_field cs (slice_range text sent start)) count) split ∙ ap (λ first. followed first next) part.whole))
           (sent-then known s (Ok part.sent) (left from) (λ f is. line_from-safe s (count + 1) rest done.0 f (after-fault (slice_range text from end) next f is)) a b c r part.received more)
 
-      pub done-last : (from : ℕ) → Done from → end ≤ length text → rest ≡ [] →
-          (c : Option (List ℕ)) (r : Result (Unit {0}) Fault) → SendsIf s ⊤ (line_ended rules cs number (count + 1) (slice_range text from (length text))) b c r → SendsIf s known so_far a c r
-      done-last from done within last c r sends =
-          onward from done c r (subst (λ x. SendsIf s known x b c r) (sym (left-last from (low-done from done) within last)) (sent-known known s _ b c r sends))
+      pub done-last : (ended : List ℕ) → ended ≡ ended_by e text → (from : ℕ) → Done from → end ≤ length text → rest ≡ [] →
+          (c : Option (List ℕ)) (r : Result (Unit {0}) Fault) → SendsIf s ⊤ (line_ended cs number (count + 1) (slice_range ended from (length ended))) b c r → SendsIf s known so_far a c r
+      done-last ended is from done within last c r sends =
+          let low = low-done from done in
+          let same = left-last from low within last ∙ ap (line_ended cs number (count + 1)) (sym (rest-ended e text ended from (omega (arith, low, within)) is)) in
+          onward from done c r (subst (λ x. SendsIf s known x b c r) (sym same) (sent-known known s _ b c r sends))
 
       pub done-next : (from : ℕ) → Done from → rest ≡ fields_of cs (drop (end + 1) text) → (c : Option (List ℕ)) (r : Result (Unit {0}) Fault) →
           SendsIf s known (line_from (before_field cs (slice_range text from (end + 1))) (count + 1) (fields_of cs (drop (end + 1) text))) b c r → SendsIf s known so_far a c r

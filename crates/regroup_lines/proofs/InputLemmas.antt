@@ -1,6 +1,8 @@
 -- The bytes that an input holds, read after read.
-use Rattle.regroup_lines.proofs.Common.{◌≢◌, eq-eqb, both_ways, Bool, get_or, is_inside, Consumes, Consumes-kept, Consumes-nil, Consumes-trans, EndsOrGoesOn, FindsPiece, HasNoEnd, Input, IsAtEnd, IsRecord, Keeps, List, Option, Piece, Range, Reads, Searched, Within, [], ap, append-nil, append_assoc, arith, array_len, bytes_at, drop, drop-append-le, drop-drop, drop-take, drop_at, eqb-true, false, held, length, length-drop, length-take-le, refl, slice_range, subst, sym, take, take-add, take-append-le, take_all, take_at, true, ℕ, ◌++◌, ◌+◌, ◌-◌, ◌<◌, ◌==◌, ◌∙◌, ◌∷◌, ◌≡◌, ◌≤◌}
+use Rattle.regroup_lines.proofs.Common.{◌≢◌, eq-eqb, both_ways, Bool, get_or, is_inside, Consumes, Consumes-kept, Consumes-nil, Consumes-trans, EndsOrGoesOn, FindsPiece, HasNoEnd, Input, IsAtEnd, IsRecord, Keeps, List, Option, Piece, Range, Reads, Searched, Within, [], ap, append-nil, append_assoc, arith, array_len, bytes_at, drop, drop-append-le, drop-drop, drop-take, drop_at, ended_by, eqb-true, false, held, length, length-drop, length-take-le, refl, slice_range, subst, sym, take, take-add, take-append-le, take_all, take_at, take_rest, true, ℕ, ◌++◌, ◌+◌, ◌-◌, ◌<◌, ◌==◌, ◌∙◌, ◌∷◌, ◌≡◌, ◌≤◌}
 use Rattle.regroup_lines.proofs.RecordLemmas.{Ends, Ends-on, Ends-parts, Ends-record, Ends-same, Searched-all, Searched-longer}
+use Rattle.std.proofs.lemmas.List.{take_more}
+use Rattle.regroup_lines.specs.Input.{IsEndedAt}
 use borrow.Rule.Slice.PartMut.{put_mid, post_of}
 use Rattle.regroup_lines.specs.declared.input.Piece.TheVariants as piece
 
@@ -65,6 +67,10 @@ ends_or_goes_on bytes read a b n false is empty reads len at_end =
     let some : n ≢ 0 = λ none. both_ways (n == 0) is (eq-eqb n 0 none) in
     (read, reads, omega (arith, some, len))
 
+-- a text at a place, and the byte that ends it
+pub ended-at : (e : ℕ) (input : Input) (place : Range ℕ) (text ended : List ℕ) → text ≡ bytes_at input place → ended ≡ slice_range input.array.now place.start (place.end + 1) → IsEndedAt e input place → ended ≡ ended_by e text
+ended-at e input place text ended same is at_place = is ∙ at_place.2 ∙ ap (ended_by e) (sym same)
+
 -- a piece that was found, in other words
 module _ (q : Option ℕ) (e : ℕ) (w : Within) (before : List ℕ) (input : Input) (a b : Option (List ℕ)) (found : Piece) (finds : FindsPiece q e w before input a b found) (place : Range ℕ) (text : List ℕ) (same : text ≡ bytes_at input place) where
   pub found-line : found ≡ piece.Line place → Reads before (text ++ e ∷ held input) a b × IsRecord q e w text × (length text < array_len input)
@@ -80,9 +86,9 @@ held_len input =
 
 -- a search of the bytes that are held, of which the first n are searched
 module _ (input : Input) {p q : Option ℕ} {e : ℕ} {w here after : Within} {rest : List ℕ} {n len : ℕ} (same : p ≡ q) (so_far : Searched q e w (held input) n here)
-    (is : rest ≡ slice_range input.array.now (input.start + n) input.end) (more : Searched p e here rest len after) (found : len < length rest → (get_or rest len 0 ≡ e) × (is_inside after ≡ false)) where
+    (is : rest ≡ slice_range (held input) n (length (held input))) (more : Searched p e here rest len after) (found : len < length rest → (get_or rest len 0 ≡ e) × (is_inside after ≡ false)) where
   rest_is : rest ≡ drop n (held input)
-  rest_is = is ∙ range-later input.array.now input.start input.end n (omega (arith, held_len input))
+  rest_is = is ∙ take_rest (held input) n
 
   ends : Ends q e w (held input) (n + len) after
   ends = Ends-on so_far (Ends-same same rest_is (more, found))
@@ -94,6 +100,10 @@ module _ (input : Input) {p q : Option ℕ} {e : ℕ} {w here after : Within} {r
   pub record_found : {before : List ℕ} {a b : Option (List ℕ)} → Reads before (held input) a b → n + len < length (held input) → (text left : List ℕ) →
       text ≡ take (n + len) (held input) → left ≡ drop (n + len + 1) (held input) → Reads before (text ++ e ∷ left) a b × IsRecord q e w text
   record_found {before} {a} {b} read low text left is_text is_left = rw (is_text, is_left) (subst (λ l. Reads before l a b) (Ends-parts ends low) read, Ends-record ends low)
+
+  pub record_ended : len < length rest → take (n + len + 1) (held input) ≡ take (n + len) (held input) ++ e ∷ []
+  record_ended low =
+      take_more (held input) (n + len) 0 (held_more low) ∙ ap (λ b. take (n + len) (held input) ++ b ∷ []) (ends.1 (held_more low)).0
 
   -- up to their end
   module _ (all : length rest ≤ len) where
@@ -111,9 +121,9 @@ module _ (input : Input) {p q : Option ℕ} {e : ℕ} {w here after : Within} {r
       pub Searched-read : Searched q e w read (n + len) after
       Searched-read = subst (λ l. Searched q e w l (n + len) after) reads.joined (Searched-longer ends.0 reads.given)
 
-      pub rest_found : {before : List ℕ} {a : Option (List ℕ)} → Reads before (held input) a b → length read ≤ length (held input) → (text : List ℕ) → text ≡ take (n + len) read →
+      pub rest_found : {before : List ℕ} {a : Option (List ℕ)} → Reads before (held input) a b → length read ≤ length (held input) → (text : List ℕ) → text ≡ read →
           Reads before text a c × HasNoEnd q e w text × (text ≡ held input)
       rest_found {before} {a} first nothing text is_text =
           let none = read-nothing (held input) read b c reads nothing in
-          let same_text : text ≡ held input = is_text ∙ ap (take (n + len)) none ∙ take_all (n + len) (held input) (omega (arith, held_all)) in
+          let same_text : text ≡ held input = is_text ∙ none in
           (subst (λ l. Reads before l a c) (none ∙ sym same_text) (Reads-trans before (held input) read a b c first reads), subst (HasNoEnd q e w) (sym same_text) held_none, same_text)

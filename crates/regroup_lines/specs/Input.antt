@@ -1,5 +1,5 @@
 -- What is read from the input, piece by piece.
-use Rattle.std.specs.Prelude.{◌≡◌, ℕ, ◌<◌, ◌≤◌, Bool, true, false, List, [], ◌∷◌, ◌++◌, length, slice_range, Option, None, Some, Result, Ok, Err, ⊤, ◌^◌, ◌-◌}
+use Rattle.std.specs.Prelude.{◌≡◌, ℕ, ◌+◌, ◌<◌, ◌≤◌, Bool, true, false, List, [], ◌∷◌, ◌++◌, length, slice_range, Option, None, Some, Result, Ok, Err, ⊤, ◌^◌, ◌-◌}
 use Rattle.std.specs.Io.KnownBytes.{Consumes, IsAtEnd}
 use Rattle.std.specs.declared.ops.Range.{Range}
 use Rattle.regroup_lines.specs.Ended.{ended_by}
@@ -10,6 +10,7 @@ use Rattle.regroup_lines.specs.Lines.Stop.{Ended, Endless, Failed, Unflushed, Un
 use Rattle.regroup_lines.specs.Records.{after_text, has_end, is_inside}
 use Rattle.regroup_lines.specs.declared.input.Input.{Input}
 use Rattle.regroup_lines.specs.declared.input.Piece.{Piece}
+use Rattle.regroup_lines.specs.declared.input.Record.{Record}
 use Rattle.regroup_lines.specs.declared.input.Piece.TheVariants.{Line, Rest, TooLong}
 use Rattle.regroup_lines.specs.declared.records.Within.{Within}
 use Rattle.regroup_lines.specs.declared.records.Within.TheVariants.{Start}
@@ -50,11 +51,20 @@ FindsPiece quotes line_end within before input old new (Rest place) =
 FindsPiece quotes line_end within before input old new TooLong =
     Reads before (held input) old new × HasNoEnd quotes line_end within (held input) × (array_len input ≤ length (held input))
 
--- the place of the piece is in the array
-abbrev pub IsInArray : Input → Piece → Type 0
-IsInArray input (Line place) = (place.start ≤ place.end) × (place.end ≤ array_len input)
-IsInArray input (Rest place) = (place.start ≤ place.end) × (place.end ≤ array_len input)
-IsInArray input TooLong = ⊤
+-- a place is in the array, and after it the byte that ends a line
+abbrev pub IsEndedAt : (line_end : ℕ) → Input → Range ℕ → Type 0
+IsEndedAt line_end input place =
+    (place.start ≤ place.end) × (place.end < array_len input) × (slice_range input.array.now place.start (place.end + 1) ≡ ended_by line_end (bytes_at input place))
+
+-- so is that of the piece
+abbrev pub IsInArray : (line_end : ℕ) → Input → Piece → Type 0
+IsInArray line_end input (Line place) = IsEndedAt line_end input place
+IsInArray line_end input (Rest place) = IsEndedAt line_end input place
+IsInArray line_end input TooLong = ⊤
+
+-- a record has the byte that ends it
+abbrev pub IsEnded : (line_end : ℕ) → Record → Type 0
+IsEnded line_end r = r.ended.now ≡ ended_by line_end r.text.now
 
 -- no byte is held and the reader ends, or there is a byte
 abbrev pub EndsOrGoesOn : List ℕ → Option (List ℕ) → Option (List ℕ) → Bool → Type 0

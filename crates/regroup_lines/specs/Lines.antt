@@ -130,10 +130,9 @@ fields_replaced fields rules from to number text =
 abbrev pub after : List ℕ → Result (List ℕ) Fault → Result (List ℕ) Fault
 after bytes written = result_map_both (λ text. bytes ++ text) (λ fault. fault) written
 
--- what ends a line of so many fields, or the fault of one with too few
-abbrev pub line_ended : Rules → Fields → (number count : ℕ) → (rest : List ℕ) → Result (List ℕ) Fault
-line_ended rules fields number count rest =
-    if are_enough fields.list.now count then Ok (ended_by rules.line_end rest) else Err (FewFields number (field_count fields.delimiter fields.list.now count))
+-- what is left of a line of so many fields, with the byte that ends it, or the fault of one with too few
+abbrev pub line_ended : Fields → (number count : ℕ) → (rest : List ℕ) → Result (List ℕ) Fault
+line_ended fields number count rest = if are_enough fields.list.now count then Ok rest else Err (FewFields number (field_count fields.delimiter fields.list.now count))
 
 -- a line with the numbers where the rules say replaced
 abbrev pub numbers_replaced : Span → Rules → FormatData → FormatData → ℕ → List ℕ → Result (List ℕ) Fault

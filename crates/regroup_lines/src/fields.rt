@@ -7,17 +7,19 @@ ghost use Rattle.num_format.specs.Writing.{Sends};
 ghost use Rattle.regroup_faults.specs.Fault.Fault.{Write};
 ghost use Rattle.regroup_lines.specs.Csv.{before_field, is_barred, is_opened, is_quoted, needs_quotes, number_place, output_as, output_of, passed_as, quoted_len};
 ghost use Rattle.regroup_lines.specs.Ended.{ended_by};
+ghost use Rattle.regroup_lines.specs.Input.{IsEnded};
 ghost use Rattle.regroup_lines.specs.LineFaults.{line_fault_of};
 ghost use Rattle.regroup_lines.specs.Lines.{after, field_written, fields_replaced, line_ended};
 ghost use Rattle.regroup_lines.specs.Places.{is_chosen, place_of, trimmed};
 ghost use Rattle.regroup_lines.specs.Sending.{SendsLine};
 
+use crate::input::Record;
 use crate::job::Job;
 use crate::line_fault::LineFault;
 use crate::records::{QUOTE, Within, find_end, len_without};
 use crate::rules::{Fields, Output, Quoting, trim};
 use crate::sending::Part::{Doubled, Plain};
-use crate::sending::{Unsent, send_all, send_both};
+use crate::sending::{Unsent, send_all, send_whole};
 use num_format::Format;
 use num_format_decimal::{Decimal, DecimalBuffer};
 use std::io::Write;
@@ -82,25 +84,25 @@ struct Around<'a> {
 pub(crate) fn regroup_fields<'a, W: Write, F: Format, G: Format>(
     job: &Job<F, G>,
     fields: &Fields,
-    text: &'a [u8],
-    number: u64,
+    line: &Record<'a>,
     w: &mut W,
 ) -> Result<(), LineFault<'a>>
-    ensures { SendsLine job.now.rules.now.line_end (fields_replaced fields.now job.now.rules.now job.now.parser (G.answers job.now.to.now) number text.now)
+    requires { IsEnded job.now.rules.now.line_end line.now }
+    ensures { SendsLine job.now.rules.now.line_end (fields_replaced fields.now job.now.rules.now job.now.parser (G.answers job.now.to.now) line.now.number line.now.text.now)
         (W.contents w.old) (W.contents w.new) (result_map_both (λ sent. sent) line_fault_of result) }
 {
-    let mut line = Line {
+    let mut walk = Line {
         sends: false,
         job,
         fields,
-        number,
+        number: line.number,
     };
     // Of a line at fault nothing is sent, so all numbers are read first, but for one alone.
     if !fields.are_single() {
-        line.regroup(text, w)?;
+        walk.regroup(line.text, line.ended, w)?;
     }
-    line.sends = true;
-    line.regroup(text, w)
+    walk.sends = true;
+    walk.regroup(line.text, line.ended, w)
 }
 
 impl<F: Format, G: Format> Line<'_, F, G> {
@@ -109,7 +111,13 @@ impl<F: Format, G: Format> Line<'_, F, G> {
     /// Reads the number in each chosen field of a line, and sends the line with these numbers regrouped, and the byte that ends it.
     ///
     /// Bytes that are passed on are sent with those after them, once the next number is read.
-    fn regroup<'t, W: Write>(&self, text: &'t [u8], w: &mut W) -> Result<(), LineFault<'t>>
+    fn regroup<'t, W: Write>(
+        &self,
+        text: &'t [u8],
+        ended: &'t [u8],
+        w: &mut W,
+    ) -> Result<(), LineFault<'t>>
+        requires { ended.now ≡ ended_by self.now.job.now.rules.now.line_end text.now }
         ensures { SendsIf self.now.sends (self.now.sends ≡ true → IsOnly self.now.fields.now)
             (result_map_both (ended_by self.now.job.now.rules.now.line_end) (λ fault. fault) (fields_replaced self.now.fields.now self.now.job.now.rules.now self.now.job.now.parser (G.answers self.now.job.now.to.now) self.now.number text.now))
             (W.contents w.old) (W.contents w.new) (result_map_both (λ sent. sent) line_fault_of result) }
@@ -120,7 +128,7 @@ impl<F: Format, G: Format> Line<'_, F, G> {
         let mut changed = fields.next(1);
         'fields: loop {
             let Some(next) = changed else {
-                return self.end(count, &text[sent..], w);
+                return self.end(count, &ended[sent..], w);
             };
             let (len, _) = find_end(quotes, delimiter, Within::Start, rest);
             count += 1;
@@ -137,16 +145,16 @@ impl<F: Format, G: Format> Line<'_, F, G> {
                 changed = fields.next(count + 1);
             }
             if len == rest.len() {
-                return self.end(count, &text[sent..], w);
+                return self.end(count, &ended[sent..], w);
             }
             rest = &rest[len + 1..];
         }
     }
 
-    /// Sends the rest of a line of so many fields, and the byte that ends it. Returns a fault if the fields are too few.
+    /// Sends the rest of a line of so many fields, with the byte that ends it. Returns a fault if the fields are too few.
     #[inline(always)]
     fn end<W: Write>(&self, count: u64, rest: &[u8], w: &mut W) -> Result<(), LineFault<'static>>
-        ensures { SendsIf self.now.sends ⊤ (line_ended self.now.job.now.rules.now self.now.fields.now self.now.number count rest.now)
+        ensures { SendsIf self.now.sends ⊤ (line_ended self.now.fields.now self.now.number count rest.now)
             (W.contents w.old) (W.contents w.new) (result_map_both (λ sent. sent) line_fault_of result) }
     {
         if !self.fields.are_enough(count) {
@@ -155,7 +163,7 @@ impl<F: Format, G: Format> Line<'_, F, G> {
         if !self.sends {
             return Ok(());
         }
-        send_both(rest, &[self.job.rules.line_end], w).or(Err(LineFault::Write))
+        send_whole(rest, w).or(Err(LineFault::Write))
     }
 
     /// Reads the number in a field, if it is chosen, and sends what is passed on before the field, and the field with that number regrouped,

@@ -1,5 +1,5 @@
 //! The input, piece by piece.
-ghost use Rattle.std.specs.Prelude.{◌≡◌, ◌+◌, ◌≤◌, ◌<◌, [], length, take, drop, IfErr, IfOk, OnErr, IsNone};
+ghost use Rattle.std.specs.Prelude.{◌≡◌, ◌+◌, ◌≤◌, ◌<◌, [], length, slice_range, take, drop, IfErr, IfOk, OnErr, IsNone};
 ghost use Rattle.std.specs.Io.KnownBytes.{IsAtEnd, Keeps};
 ghost use Rattle.regroup_lines.specs.LineFaults.{IsHalt, line_fault_of};
 ghost use Rattle.regroup_lines.specs.Lines.{quotes_in};
@@ -17,10 +17,21 @@ const MAX_READ_LEN: usize = 65536;
 pub(crate) enum Piece {
     /// A line, or a record, without the byte that ends it.
     Line(Range<usize>),
-    /// What stands after the last line, where the reader ended.
+    /// What stands after the last line, where the reader ended. The byte that ends lines was put after it.
     Rest(Range<usize>),
     /// The bytes that are held: as many as the array has, and none of them ends a line or its record.
     TooLong,
+}
+
+/// A line, or a record.
+#[derive(Clone, Copy)]
+pub(crate) struct Record<'a> {
+    /// The number of the line in which it begins.
+    pub(crate) number: u64,
+    /// Its text.
+    pub(crate) text: &'a [u8],
+    /// Its text, and the byte that ends it.
+    pub(crate) ended: &'a [u8],
 }
 
 /// The bytes that were read and belong to no piece yet: those that are held.
@@ -37,7 +48,7 @@ pub(crate) struct Input<'a> {
 }
 
 impl<'a> Input<'a> {
-    ghost use Rattle.regroup_lines.specs.Input.{EndsOrGoesOn, FindsPiece, HasNoEnd, IsInArray, Reads, array_len, bytes_at, held};
+    ghost use Rattle.regroup_lines.specs.Input.{EndsOrGoesOn, FindsPiece, HasNoEnd, IsEndedAt, IsInArray, Reads, array_len, bytes_at, held};
     ghost use Rattle.regroup_lines.specs.Lines.{quotes_in};
 
     /// Returns an input of which nothing was read.
@@ -52,13 +63,21 @@ impl<'a> Input<'a> {
         }
     }
 
-    /// Returns the bytes at a place of the array.
-    pub(crate) fn bytes(&self, place: Range<usize>) -> &[u8]
+    /// Returns the record at a place of the array, which is followed by the byte that ends it.
+    #[inline]
+    pub(crate) fn line(&self, place: Range<usize>, number: u64) -> Record<'_>
         requires ordered { place.start ≤ place.end }
-        requires within { place.end ≤ array_len self.now }
-        ensures { result.now ≡ bytes_at self.now place }
+        requires within { place.end < array_len self.now }
+        ensures number { result.number ≡ number }
+        ensures text { result.text.now ≡ bytes_at self.now place }
+        ensures ended { result.ended.now ≡ slice_range self.now.array.now place.start (place.end + 1) }
     {
-        &self.array[place]
+        let (start, end) = (place.start, place.end);
+        Record {
+            number,
+            text: &self.array[start..end],
+            ended: &self.array[start..end + 1],
+        }
     }
 
     /// Returns the next piece, reading as much as it takes. Its first byte is `within` a record. The writer is flushed before
@@ -76,7 +95,7 @@ impl<'a> Input<'a> {
     ) -> Result<Piece, LineFault<'static>>
         ensures piece { IfOk result (FindsPiece (quotes_in rules.now.span) rules.now.line_end within (held self.old) self.new
             (R.remaining reader.old) (R.remaining reader.new)) }
-        ensures place { IfOk result (IsInArray self.new) }
+        ensures place { IfOk result (IsInArray rules.now.line_end self.new) }
         ensures len { array_len self.new ≡ array_len self.old }
         ensures failed { OnErr result (Reads (held self.old) (held self.new)
             (R.remaining reader.old) (R.remaining reader.new) × HasNoEnd (quotes_in rules.now.span) rules.now.line_end within (held self.new)
@@ -87,13 +106,10 @@ impl<'a> Input<'a> {
         let quotes = rules.quotes();
         let (mut here, mut searched) = (within, 0);
         'reads: loop {
-            let place = self.start + searched..self.end;
-            let rest = self.bytes(place);
+            let rest = &self.held()[searched..];
             let (len, after) = find_end(quotes, rules.line_end, here, rest);
             if len < rest.len() {
-                let line = self.take(searched + len);
-                self.start += 1;
-                return Ok(Piece::Line(line));
+                return Ok(Piece::Line(self.take_ended(searched + len)));
             }
             here = after;
             searched += len;
@@ -102,7 +118,7 @@ impl<'a> Input<'a> {
             }
             let count = self.read_more(rules.flushes, reader, writer)?;
             if count == 0 {
-                return Ok(Piece::Rest(self.take(searched)));
+                return Ok(Piece::Rest(self.take_rest(rules.line_end)));
             }
         }
     }
@@ -135,18 +151,43 @@ impl<'a> Input<'a> {
         &self.array[self.start..self.end]
     }
 
-    /// Takes so many of the bytes that are held, and returns their place.
-    pub(crate) fn take(&mut self, len: usize) -> Range<usize>
-        requires { len ≤ length (held self.old) }
+    /// Takes the bytes that are held.
+    pub(crate) fn clear(&mut self)
+        ensures none { held self.new ≡ [] }
+        ensures len { array_len self.new ≡ array_len self.old }
+    {
+        self.start = self.end;
+    }
+
+    /// Takes so many of the bytes that are held, and the one after them. Returns the place of the first ones.
+    fn take_ended(&mut self, len: usize) -> Range<usize>
+        requires { len < length (held self.old) }
         ensures ordered { result.start ≤ result.end }
-        ensures within { result.end ≤ array_len self.new }
+        ensures within { result.end < array_len self.new }
         ensures len { array_len self.new ≡ array_len self.old }
         ensures taken { bytes_at self.new result ≡ take len (held self.old) }
-        ensures left { held self.new ≡ drop len (held self.old) }
+        ensures ended { slice_range self.new.array.now result.start (result.end + 1) ≡ take (len + 1) (held self.old) }
+        ensures left { held self.new ≡ drop (len + 1) (held self.old) }
     {
         let start = self.start;
-        self.start = start + len;
-        start..self.start
+        let end = start + len;
+        self.start = end + 1;
+        start..end
+    }
+
+    /// Takes all bytes that are held, and puts the byte that ends a line after them. Returns their place.
+    #[cold]
+    fn take_rest(&mut self, line_end: u8) -> Range<usize>
+        requires { length (held self.old) < array_len self.old }
+        ensures len { array_len self.new ≡ array_len self.old }
+        ensures taken { bytes_at self.new result ≡ held self.old }
+        ensures ended { IsEndedAt line_end self.new result }
+    {
+        self.move_to_front();
+        let (start, end) = (self.start, self.end);
+        self.array[end] = line_end;
+        self.start = end;
+        start..end
     }
 
     /// Reads more bytes by one read, and returns how many. The writer is flushed before it, if `flushes` says so.

@@ -29,7 +29,7 @@ ghost use Rattle.std.specs.Prelude.{◌≡◌, ◌+◌, ◌++◌, [], ◌≤◌,
 ghost use Rattle.std.specs.Result.{result_map_both};
 ghost use Rattle.regroup_lines.specs.Ended.{ended_by};
 ghost use Rattle.regroup_faults.specs.Fault.{are_any, fault_of};
-ghost use Rattle.regroup_lines.specs.Input.{IsLong, array_len, held};
+ghost use Rattle.regroup_lines.specs.Input.{IsEnded, IsLong, array_len, held};
 ghost use Rattle.regroup_lines.specs.LineFaults.{line_fault_of};
 ghost use Rattle.regroup_lines.specs.Lines.{MARK, after, body_written, fault_named, fault_sent, lenient, line_after, long_fault, numbers_replaced, passes_mark, place_written, quotes_in, record_sent, text_sent};
 ghost use Rattle.regroup_lines.specs.Records.{after_text, line_reached};
@@ -38,14 +38,14 @@ ghost use Rattle.regroup_lines.specs.Places.{place_of};
 ghost use Rattle.regroup_lines.specs.Sending.{Names, PassesLong, Regroups, RegroupsNaming, SendsBytes, SendsEach, SendsLine, by_writer};
 
 use crate::fields::regroup_fields;
-use crate::input::{Input, Piece};
+use crate::input::{Input, Piece, Record};
 use crate::job::Job;
 use crate::line_fault::LineFault;
 use crate::number::Parser;
-use crate::records::{Within, is_open, line_reached, without_end};
+use crate::records::{Within, is_open, len_without, line_reached};
 use crate::rules::{MARK, trim};
 pub use crate::rules::{FieldRange, Fields, Invalid, Output, Quoting, Rules, Span};
-use crate::sending::{send_between, send_both, send_whole};
+use crate::sending::{send_between, send_whole};
 use num_format::Format;
 use num_format::to_formatted_string::write_whole;
 use num_format_decimal::DecimalBuffer;
@@ -53,7 +53,6 @@ use regroup_faults::fault_message;
 pub use regroup_faults::{FieldCount, Reading, RegroupFault};
 use std::io;
 use std::io::{Read, Write};
-use std::ops::Range;
 
 /// The most bytes of a line of [`regroup_lines`], without its newline.
 pub const MAX_LINE_LEN: usize = 4096;
@@ -173,14 +172,12 @@ pub fn regroup_lines<R: Read, W: Write, F: Format, G: Format>(
 /// # Errors
 ///
 /// Returns the first fault, of those of [`regroup_lines`], that is not passed on. [`TooMany`](RegroupFault::TooMany) is that a byte follows the last
-/// of these lines, [`Reject`](RegroupFault::Reject) that a write to `x` failed, and [`Report`](RegroupFault::Report) that a write to `e` failed.
-/// The line of that message is not sent.
-/// [`Unclosed`](RegroupFault::Unclosed) is that a record has quotes that are not closed where the input ends, or in as many bytes as a record
-/// may have.
-/// [`Flush`](RegroupFault::Flush) is that a flush of `w` before a read failed, if the rules ask for flushes: as on `Read`,
-/// the writers received exactly the lines before, and what was read of a long line that is passed on. `x` is not flushed.
-/// Where fields are chosen, [`FewFields`](RegroupFault::FewFields) is that a line has too few, and
-/// [`FieldNotText`](RegroupFault::FieldNotText) and [`Field`](RegroupFault::Field) are in place of `NotText` and `Line`.
+/// of these lines, [`Reject`](RegroupFault::Reject) that a write to `x` failed, and [`Report`](RegroupFault::Report) that a write to `e` failed. The
+/// line of that message is not sent. [`Unclosed`](RegroupFault::Unclosed) is that a record has quotes that are not closed where the input ends, or in
+/// as many bytes as a record may have. [`Flush`](RegroupFault::Flush) is that a flush of `w` before a read failed, if the rules ask for flushes: as
+/// on `Read`, the writers received exactly the lines before, and what was read of a long line that is passed on. `x` is not flushed. Where fields are
+/// chosen, [`FewFields`](RegroupFault::FewFields) is that a line has too few, and [`FieldNotText`](RegroupFault::FieldNotText) and
+/// [`Field`](RegroupFault::Field) are in place of `NotText` and `Line`.
 pub fn regroup_at_most<R: Read, W: Write, E: Write, X: Write, F: Format, G: Format>(
     most: u64,
     rules: &Rules,
@@ -206,21 +203,20 @@ pub fn regroup_at_most<R: Read, W: Write, E: Write, X: Write, F: Format, G: Form
         to,
     };
     let mut input = Input::new(buffer);
-    let mut has_faults = false;
-    let mut number = 1;
+    let (mut number, mut has_faults) = (1, false);
     for lines in 0..most {
         match input.next_piece(rules, Within::Start, r, w)? {
             Piece::Line(place) => {
-                let text = input.bytes(place);
-                has_faults |= regroup_line(&job, text, number, w, e, x)?;
-                number = line_after(rules, number, text);
+                let line = input.line(place, number);
+                has_faults |= regroup_line(&job, &line, w, e, x)?;
+                number = line_after(rules, number, line.text);
             }
             Piece::Rest(place) => {
-                let rest = input.bytes(place);
-                if rest.is_empty() {
+                let line = input.line(place, number);
+                if line.text.is_empty() {
                     return Ok(Summary { lines, has_faults });
                 }
-                has_faults |= regroup_last(&job, rest, number, w, e, x)?;
+                has_faults |= regroup_last(&job, &line, w, e, x)?;
                 let lines = lines + 1;
                 return Ok(Summary { lines, has_faults });
             }
@@ -271,60 +267,59 @@ fn long_fault(rules: &Rules, number: u64, input: &Input<'_>) -> RegroupFault
 #[inline(never)]
 fn regroup_last<'a, W: Write, E: Write, X: Write, F: Format, G: Format>(
     job: &Job<F, G>,
-    text: &'a [u8],
-    number: u64,
+    line: &Record<'a>,
     w: &mut W,
     e: &mut E,
     x: &mut X,
 ) -> Result<bool, LineFault<'a>>
-    ensures { SendsEach job.now.name.now job.now.rules.now.reading job.now.parser (record_sent job.now.rules.now job.now.parser (G.answers job.now.to.now) number text.now)
+    requires { IsEnded job.now.rules.now.line_end line.now }
+    ensures { SendsEach job.now.name.now job.now.rules.now.reading job.now.parser (record_sent job.now.rules.now job.now.parser (G.answers job.now.to.now) line.now.number line.now.text.now)
         (by_writer (W.contents w.old) (E.contents e.old) (X.contents x.old)) (by_writer (W.contents w.new) (E.contents e.new) (X.contents x.new))
         (result_map_both (λ told. told) line_fault_of result) }
 {
-    if is_open(job.rules, text) {
-        let fault = LineFault::Unclosed(number);
-        let text = without_end(job.rules.line_end, text);
-        return pass_fault(job, fault, text, w, e, x);
+    if is_open(job.rules, line.text) {
+        let ended = &line.ended[..len_without(job.rules.line_end, line.text) + 1];
+        return pass_fault(job, LineFault::Unclosed(line.number), ended, w, e, x);
     }
-    regroup_line(job, text, number, w, e, x)
+    regroup_line(job, line, w, e, x)
 }
 
 /// Sends what is written in place of the text of a line, and the byte that ends it, and before them the message that names
 /// its fault, if there is one. Returns whether there is.
 fn regroup_line<'a, W: Write, E: Write, X: Write, F: Format, G: Format>(
     job: &Job<F, G>,
-    text: &'a [u8],
-    number: u64,
+    line: &Record<'a>,
     w: &mut W,
     e: &mut E,
     x: &mut X,
 ) -> Result<bool, LineFault<'a>>
-    ensures { SendsEach job.now.name.now job.now.rules.now.reading job.now.parser (text_sent job.now.rules.now job.now.parser (G.answers job.now.to.now) number text.now)
+    requires { IsEnded job.now.rules.now.line_end line.now }
+    ensures { SendsEach job.now.name.now job.now.rules.now.reading job.now.parser (text_sent job.now.rules.now job.now.parser (G.answers job.now.to.now) line.now.number line.now.text.now)
         (by_writer (W.contents w.old) (E.contents e.old) (X.contents x.old)) (by_writer (W.contents w.new) (E.contents e.new) (X.contents x.new))
         (result_map_both (λ told. told) line_fault_of result) }
 {
-    match regroup_body(job, text, number, w) {
+    match regroup_body(job, line, w) {
         Ok(()) => Ok(false),
         Err(fault) => match fault {
             LineFault::Write => Err(LineFault::Write),
-            _ => pass_fault(job, fault, text, w, e, x),
+            _ => pass_fault(job, fault, line.ended, w, e, x),
         },
     }
 }
 
-/// Sends a line at fault as it is, and the byte that ends it, to the output or, if the rules say so, to the writer of rejected lines, and before
-/// them the message that names the fault. Returns whether there is a message.
+/// Sends a line at fault, with the byte that ends it, to the output or, if the rules say so, to the writer of rejected lines, and before it the
+/// message that names the fault. Returns whether there is a message.
 #[cold]
 #[inline(never)]
 fn pass_fault<'a, W: Write, E: Write, X: Write, F: Format, G: Format>(
     job: &Job<F, G>,
     fault: LineFault<'a>,
-    text: &[u8],
+    ended: &[u8],
     w: &mut W,
     e: &mut E,
     x: &mut X,
 ) -> Result<bool, LineFault<'a>>
-    ensures { SendsEach job.now.name.now job.now.rules.now.reading job.now.parser (fault_sent job.now.rules.now (line_fault_of fault.entry) (ended_by job.now.rules.now.line_end text.now))
+    ensures { SendsEach job.now.name.now job.now.rules.now.reading job.now.parser (fault_sent job.now.rules.now (line_fault_of fault.entry) ended.now)
         (by_writer (W.contents w.old) (E.contents e.old) (X.contents x.old)) (by_writer (W.contents w.new) (E.contents e.new) (X.contents x.new))
         (result_map_both (λ told. told) line_fault_of result) }
 {
@@ -332,7 +327,7 @@ fn pass_fault<'a, W: Write, E: Write, X: Write, F: Format, G: Format>(
         return Err(fault);
     }
     let is_named = name_fault(job, &RegroupFault::from(fault), e)?;
-    pass_bytes(job.rules, text, &[job.rules.line_end], w, x)?;
+    pass_bytes(job.rules, ended, w, x)?;
     Ok(is_named)
 }
 
@@ -357,9 +352,8 @@ fn name_fault<E: Write, F: Format, G: Format>(
     }
 }
 
-/// Sends a record that is too long, piece by piece: the bytes that are held, which it begins with, and those up to the byte
-/// that ends it or the end of the input, and that byte. Returns whether the input ended. The number of its line goes on to that
-/// of the next record.
+/// Sends a record that is too long, piece by piece: the bytes that are held, which it begins with, and those up to the byte that ends it or the end
+/// of the input, and that byte. Returns whether the input ended. The number of its line goes on to that of the next record.
 #[cold]
 fn send_long<R: Read, W: Write, X: Write>(
     rules: &Rules,
@@ -381,14 +375,13 @@ fn send_long<R: Read, W: Write, X: Write>(
     for _ in 0..u64::MAX {
         match input.next_piece(rules, within, r, w) {
             Ok(Piece::Line(place)) => {
-                let text = input.bytes(place);
-                pass_bytes(rules, text, &[rules.line_end], w, x)?;
-                *number = line_after(rules, *number, text);
+                let line = input.line(place, *number);
+                pass_bytes(rules, line.ended, w, x)?;
+                *number = line_after(rules, *number, line.text);
                 return Ok(false);
             }
             Ok(Piece::Rest(place)) => {
-                let text = input.bytes(place);
-                pass_bytes(rules, text, &[rules.line_end], w, x)?;
+                pass_bytes(rules, input.line(place, *number).ended, w, x)?;
                 return Ok(true);
             }
             Ok(Piece::TooLong) => send_held(rules, &mut within, number, input, w, x)?,
@@ -418,68 +411,71 @@ fn send_held<W: Write, X: Write>(
     ensures within { within.new ≡ after_text (quotes_in rules.now.span) within.old (held input.old) }
     ensures number { number.new ≡ line_reached (quotes_in rules.now.span) rules.now.line_end number.old (held input.old) }
 {
-    let len = input.held().len();
-    let place = input.take(len);
-    let bytes = input.bytes(place);
+    let bytes = input.held();
     *within = within.after(rules, bytes);
     *number = line_reached(rules, *number, bytes);
-    pass_bytes(rules, bytes, &[], w, x)
+    let sent = pass_bytes(rules, bytes, w, x);
+    input.clear();
+    sent
 }
 
-/// Sends bytes at fault, and others after them, to the output or, if the rules say so, to the writer of rejected lines.
+/// Sends bytes at fault to the output or, if the rules say so, to the writer of rejected lines.
 fn pass_bytes<W: Write, X: Write>(
     rules: &Rules,
     bytes: &[u8],
-    end: &[u8],
     w: &mut W,
     x: &mut X,
 ) -> Result<(), LineFault<'static>>
     ensures { SendsBytes rules.now.rejects (λ told. by_writer (W.contents w.old) told (X.contents x.old)) (λ told. by_writer (W.contents w.new) told (X.contents x.new))
-        (bytes.now ++ end.now) (result_map_both (λ sent. sent) line_fault_of result) }
+        bytes.now (result_map_both (λ sent. sent) line_fault_of result) }
 {
     if rules.rejects {
-        send_both(bytes, end, x).or(Err(LineFault::Reject))
+        send_whole(bytes, x).or(Err(LineFault::Reject))
     } else {
-        send_both(bytes, end, w).or(Err(LineFault::Write))
+        send_whole(bytes, w).or(Err(LineFault::Write))
     }
 }
 
 /// Sends a line with its numbers regrouped, and the byte that ends it. A header, and a byte order mark, are passed on.
 fn regroup_body<'a, W: Write, F: Format, G: Format>(
     job: &Job<F, G>,
-    text: &'a [u8],
-    number: u64,
+    line: &Record<'a>,
     w: &mut W,
 ) -> Result<(), LineFault<'a>>
-    ensures { SendsLine job.now.rules.now.line_end (body_written job.now.rules.now job.now.parser (G.answers job.now.to.now) number text.now)
+    requires { IsEnded job.now.rules.now.line_end line.now }
+    ensures { SendsLine job.now.rules.now.line_end (body_written job.now.rules.now job.now.parser (G.answers job.now.to.now) line.now.number line.now.text.now)
         (W.contents w.old) (W.contents w.new) (result_map_both (λ sent. sent) line_fault_of result) }
 {
-    if number <= job.rules.header_lines {
-        return send_both(text, &[job.rules.line_end], w).or(Err(LineFault::Write));
+    if line.number <= job.rules.header_lines {
+        return send_whole(line.ended, w).or(Err(LineFault::Write));
     }
-    if !job.rules.span.passes_mark(number, text) {
-        return regroup_numbers(job, text, number, w);
+    if !job.rules.span.passes_mark(line.number, line.text) {
+        return regroup_numbers(job, line, w);
     }
-    regroup_marked(job, &text[MARK.len()..], number, w)
+    let rest = Record {
+        number: line.number,
+        text: &line.text[MARK.len()..],
+        ended: &line.ended[MARK.len()..],
+    };
+    regroup_marked(job, &rest, w)
 }
 
-/// Sends a byte order mark, and then the same of the rest of its line. It is a cold call, so that other lines are regrouped
-/// without its space.
+/// Sends a byte order mark, and then the same of the rest of its line. It is a cold call, so that other lines are regrouped without its space.
 #[cold]
 #[inline(never)]
 fn regroup_marked<'a, W: Write, F: Format, G: Format>(
     job: &Job<F, G>,
-    rest: &'a [u8],
-    number: u64,
+    rest: &Record<'a>,
     w: &mut W,
 ) -> Result<(), LineFault<'a>>
-    ensures { SendsLine job.now.rules.now.line_end (after MARK (numbers_replaced job.now.rules.now.span job.now.rules.now job.now.parser (G.answers job.now.to.now) number rest.now))
+    requires { IsEnded job.now.rules.now.line_end rest.now }
+    ensures { SendsLine job.now.rules.now.line_end (after MARK (numbers_replaced job.now.rules.now.span job.now.rules.now job.now.parser (G.answers job.now.to.now) rest.now.number rest.now.text.now))
         (W.contents w.old) (W.contents w.new) (result_map_both (λ sent. sent) line_fault_of result) }
 {
     // Of a line at fault nothing is sent, so it is read before the mark is sent.
-    regroup_numbers(job, rest, number, &mut io::sink())?;
+    regroup_numbers(job, rest, &mut io::sink())?;
     match send_whole(&MARK, w) {
-        Ok(()) => regroup_numbers(job, rest, number, w),
+        Ok(()) => regroup_numbers(job, rest, w),
         Err(_) => Err(LineFault::Write),
     }
 }
@@ -488,45 +484,28 @@ fn regroup_marked<'a, W: Write, F: Format, G: Format>(
 #[inline(always)]
 fn regroup_numbers<'a, W: Write, F: Format, G: Format>(
     job: &Job<F, G>,
-    text: &'a [u8],
-    number: u64,
+    line: &Record<'a>,
     w: &mut W,
 ) -> Result<(), LineFault<'a>>
-    ensures { SendsLine job.now.rules.now.line_end (numbers_replaced job.now.rules.now.span job.now.rules.now job.now.parser (G.answers job.now.to.now) number text.now)
+    requires { IsEnded job.now.rules.now.line_end line.now }
+    ensures { SendsLine job.now.rules.now.line_end (numbers_replaced job.now.rules.now.span job.now.rules.now job.now.parser (G.answers job.now.to.now) line.now.number line.now.text.now)
         (W.contents w.old) (W.contents w.new) (result_map_both (λ sent. sent) line_fault_of result) }
 {
-    let place = match &job.rules.span {
+    let (rules, text) = (job.rules, line.text);
+    let place = match &rules.span {
         Span::Trimmed => trim(text, 0..text.len()),
         Span::Line => 0..text.len(),
-        Span::Fields(fields) => return regroup_fields(job, fields, text, number, w),
+        Span::Fields(fields) => return regroup_fields(job, fields, line, w),
     };
-    regroup_place(job, text, place, number, w)
-}
-
-/// Sends a line with the number at a place regrouped, and the byte that ends it.
-#[inline(always)]
-fn regroup_place<'a, W: Write, F: Format, G: Format>(
-    job: &Job<F, G>,
-    text: &'a [u8],
-    place: Range<usize>,
-    number: u64,
-    w: &mut W,
-) -> Result<(), LineFault<'a>>
-    requires ordered { place.start ≤ place.end }
-    requires within { place.end ≤ length text.now }
-    ensures { SendsLine job.now.rules.now.line_end (place_written job.now.rules.now job.now.parser (G.answers job.now.to.now) number text.now (place_of place))
-        (W.contents w.old) (W.contents w.new) (result_map_both (λ sent. sent) line_fault_of result) }
-{
     let (start, end) = (place.start, place.end);
-    if job.rules.passes_empty && start == end {
-        return send_both(text, &[job.rules.line_end], w).or(Err(LineFault::Write));
+    if rules.passes_empty && start == end {
+        return send_whole(line.ended, w).or(Err(LineFault::Write));
     }
-    let value = job
-        .parser
-        .read(job.rules.reading, &text[start..end], number)?;
+    let (parser, digits) = (&job.parser, &text[start..end]);
+    let value = parser.read(rules.reading, digits, line.number)?;
     let mut number = DecimalBuffer::new();
     number.write_formatted(&value, job.to);
     let (before, after) = (&text[..start], &text[end..]);
-    let sent = send_between(before, number.as_str(), after, job.rules.line_end, w);
+    let sent = send_between(before, number.as_str(), after, rules.line_end, w);
     sent.or(Err(LineFault::Write))
 }

@@ -50,8 +50,7 @@ impl<'a> LineFault<'a> {
 impl<'a> From<LineFault<'a>> for RegroupFault {
     ghost from_gives = { λ line fault. fault_of fault ≡ line_fault_of line };
 
-    /// Returns the fault with a copy of the text. It is a cold call, so that lines without a fault are regrouped without
-    /// the space of the copy.
+    /// Returns the fault with a copy of the text. It is a cold call, so that lines without a fault are regrouped without the space of the copy.
     #[cold]
     #[inline(never)]
     #[tactic(auto, using(crate::proofs::LineFaultLemmas::text_fault_utf8, crate::proofs::LineFaultLemmas::text_fault_bytes))]

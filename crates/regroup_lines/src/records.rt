@@ -1,6 +1,6 @@
 //! Where fields, lines and records of RFC 4180 end: a byte in quotes ends no field and no record.
 ghost use Rattle.std.specs.Prelude.{◌≡◌, ◌≤◌, ◌<◌, All, false, get_or, length};
-ghost use Rattle.regroup_lines.specs.Ended.{len_without, without_end};
+ghost use Rattle.regroup_lines.specs.Ended.{len_without};
 ghost use Rattle.regroup_lines.specs.Lines.{quotes_in};
 ghost use Rattle.regroup_lines.specs.Records.{Searched, after_byte, after_text, is_inside, is_open, is_quote, line_reached};
 
@@ -94,13 +94,6 @@ pub(crate) fn find_end(quotes: Option<u8>, end: u8, within: Within, text: &[u8])
         here = here.after_byte(quotes, text[searched]);
         searched += 1;
     }
-}
-
-/// Returns a text without this byte at its end.
-pub(crate) fn without_end(end: u8, text: &[u8]) -> &[u8]
-    ensures { result.now ≡ without_end end text.now }
-{
-    &text[..len_without(end, text)]
 }
 
 /// Returns how many bytes a text has without this byte at its end.

@@ -11,8 +11,7 @@ use std::ops::Range;
 /// The bytes of a byte order mark, the character U+FEFF.
 pub(crate) const MARK: [u8; 3] = [0xEF, 0xBB, 0xBF];
 
-/// What is done with a line at fault. It is sent as it is, but for [`Invalid::Abort`]: to the output, or to the writer of
-/// rejected lines.
+/// What is done with a line at fault. It is sent as it is, but for [`Invalid::Abort`]: to the output, or to the writer of rejected lines.
 #[derive(Clone, Copy, Debug, PartialEq, Eq)]
 pub enum Invalid {
     /// Its fault is returned, and no line after it is read.
@@ -186,9 +185,8 @@ impl Fields<'_> {
         if self.output.is_some() {
             return Some(from);
         }
-        self.list
-            .iter()
-            .fold(None, |next, range| range.least(from, next))
+        let ranges = self.list.iter();
+        ranges.fold(None, |next, range| range.least(from, next))
     }
 
     /// Returns the delimiter, if fields may be in quotes and it is no quote.
@@ -203,19 +201,15 @@ impl Fields<'_> {
     pub(crate) fn are_single(&self) -> bool
         ensures { result ≡ true → IsOnly self.now }
     {
-        match self.list {
-            [range] => range.last == Some(range.first) && self.output.is_none(),
-            _ => false,
-        }
+        matches!(self.list, [range] if range.last == Some(range.first)) && self.output.is_none()
     }
 
     /// Returns whether the field of this number has a number.
     pub(crate) fn contain(&self, number: u64) -> bool
         ensures { result ≡ is_chosen self.now.list.now number }
     {
-        self.list
-            .iter()
-            .any(|range| range.first <= number && range.reaches(number))
+        let mut ranges = self.list.iter();
+        ranges.any(|range| range.first <= number && range.reaches(number))
     }
 
     /// Returns whether a line of so many fields has all that are wanted of it.
@@ -230,12 +224,10 @@ impl Fields<'_> {
     pub(crate) fn counted(&self, found: u64) -> FieldCount
         ensures { result ≡ field_count self.now.delimiter self.now.list.now found }
     {
+        let ranges = self.list.iter();
         FieldCount {
             found,
-            wanted: self
-                .list
-                .iter()
-                .fold(0, |most, range| most.max(range.wanted())),
+            wanted: ranges.fold(0, |most, range| most.max(range.wanted())),
             delimiter: self.delimiter,
         }
     }

@@ -102,14 +102,6 @@ fn send_line<W: Write>(number: &str, line_end: u8, w: &mut W) -> Result<(), Unse
     send_whole(line.as_slice(), w)
 }
 
-/// Sends bytes, and others after them.
-#[inline(always)]
-pub(crate) fn send_both<W: Write>(first: &[u8], second: &[u8], w: &mut W) -> Result<(), Unsent>
-    ensures { Sends result (W.contents w.old) (W.contents w.new) (first.now ++ second.now) }
-{
-    send_all(&[Part::Plain(first), Part::Plain(second)], w)
-}
-
 /// Sends bytes.
 #[inline]
 pub(crate) fn send_whole<W: Write>(bytes: &[u8], w: &mut W) -> Result<(), Unsent>

@@ -1,4 +1,4 @@
-use Rattle.regroup_lines.proofs.Common.{rules, true, ◌∙◌, ◌<◌, ◌≤◌, ◌≡◌, length, subst, sym, arith, err_from_is_err_and, fault_of, line_fault_of, IsInArray, held, passes}
+use Rattle.regroup_lines.proofs.Common.{rules, true, ◌∙◌, ◌<◌, ◌≤◌, ◌≡◌, length, sym, arith, err_from_is_err_and, fault_of, line_fault_of, held, passes}
 use Rattle.regroup_lines.proofs.ProgressLemmas.{Progress-long, Progress-next, Progress-none, Regroups-all, Regroups-empty, Regroups-halted, Regroups-last, Regroups-last_fault, Regroups-line, Regroups-long, Regroups-long_ended, Regroups-long_failed, Regroups-long_unnamed, Regroups-many, Regroups-unread}
 use Rattle.regroup_lines.proofs.regroup_at_most.Goals as goal
 use Rattle.regroup_lines.proofs.regroup_at_most.Goals.{in-Line+in_ok-has_faults-in-Line, in-TooLong+else-not-passes+in_ok-has_faults-in-TooLong+in_ok-send_long-in-TooLong+else-branch}
@@ -15,39 +15,27 @@ returns-in_err-place g c =
     let p = err_from_is_err_and c.from_residual.result c.from_residual.ensures.1 in
     rw (p.1, p.2, ← c.new.ensures) (Regroups-halted c.args.rules.now _ _ _ _ _ _ _ _ _ (omega arith) _ _ _ _ _ _ _ c.loop-lines.invariant.0 c.in_err-place.ensures.flushed _ failed.0 failed.1 short _ c.in_err-place.ensures.halt)
 
-pub bytes-text-requires-clause-ordered : goal.bytes-text-requires-clause-ordered
-bytes-text-requires-clause-ordered g c = (subst (IsInArray c.next_piece.new.self) c.in-Line.is c.in_ok-place.ensures.place).0
-
-pub bytes-text-requires-clause-within : goal.bytes-text-requires-clause-within
-bytes-text-requires-clause-within g c = (subst (IsInArray c.next_piece.new.self) c.in-Line.is c.in_ok-place.ensures.place).1
-
-pub bytes-rest-requires-clause-ordered : goal.bytes-rest-requires-clause-ordered
-bytes-rest-requires-clause-ordered g c = (subst (IsInArray c.next_piece.new.self) c.in-Rest.is c.in_ok-place.ensures.place).0
-
-pub bytes-rest-requires-clause-within : goal.bytes-rest-requires-clause-within
-bytes-rest-requires-clause-within g c = (subst (IsInArray c.next_piece.new.self) c.in-Rest.is c.in_ok-place.ensures.place).1
-
 pub returns-in_err-has_faults-in-Line : goal.returns-in_err-has_faults-in-Line
 returns-in_err-has_faults-in-Line g c =
     let p = err_from_is_err_and c.from_residual-in_err-has_faults-in-Line.result c.from_residual-in_err-has_faults-in-Line.ensures.1 in
     rw (p.1, p.2, ← c.new.ensures) (Regroups-line c.args.rules.now _ _ _ _ _ _ _ _ _ (omega arith) _ _ _ _ _ _ _ c.loop-lines.invariant.0 c.in_ok-place.ensures.flushed c.next_piece.new.self _ c.in_ok-place.ensures.piece _ c.in-Line.is (c.in_ok-place.ensures.len ∙ c.loop-lines.invariant.1)
-    c.bytes-text.result.now c.bytes-text.ensures (line_fault_of c.in_err-has_faults-in-Line.field-0.0) _ c.in_err-has_faults-in-Line.ensures)
+    c.line-line.result.text.now c.line-line.ensures.text (line_fault_of c.in_err-has_faults-in-Line.field-0.0) _ (rw c.line-line.ensures.number at c.in_err-has_faults-in-Line.ensures))
 
 pub returns-then-is_empty : goal.returns-then-is_empty
 returns-then-is_empty g c =
     rw (← c.new.ensures) (Regroups-empty c.args.rules.now _ _ _ _ _ _ _ _ _ (omega arith) _ _ _ _ _ _ _ c.loop-lines.invariant.0 c.in_ok-place.ensures.flushed c.next_piece.new.self _ c.in_ok-place.ensures.piece _ c.in-Rest.is (c.in_ok-place.ensures.len ∙ c.loop-lines.invariant.1)
-    c.bytes-rest.result.now c.bytes-rest.ensures (sym c.is_empty.ensures ∙ c.if-is_empty.true))
+    c.line-line-in-Rest.result.text.now c.line-line-in-Rest.ensures.text (sym c.is_empty.ensures ∙ c.if-is_empty.true))
 
 pub returns-in_err-has_faults-in-Rest : goal.returns-in_err-has_faults-in-Rest
 returns-in_err-has_faults-in-Rest g c =
     let p = err_from_is_err_and c.from_residual-in_err-has_faults-in-Rest.result c.from_residual-in_err-has_faults-in-Rest.ensures.1 in
     rw (p.1, p.2, ← c.new.ensures) (Regroups-last_fault c.args.rules.now _ _ _ _ _ _ _ _ _ (omega arith) _ _ _ _ _ _ _ c.loop-lines.invariant.0 c.in_ok-place.ensures.flushed c.next_piece.new.self _ c.in_ok-place.ensures.piece _ c.in-Rest.is (c.in_ok-place.ensures.len ∙ c.loop-lines.invariant.1)
-    c.bytes-rest.result.now c.bytes-rest.ensures (sym c.is_empty.ensures ∙ c.if-is_empty.false) _ (line_fault_of c.in_err-has_faults-in-Rest.field-0.0) c.in_err-has_faults-in-Rest.ensures)
+    c.line-line-in-Rest.result.text.now c.line-line-in-Rest.ensures.text (sym c.is_empty.ensures ∙ c.if-is_empty.false) _ (line_fault_of c.in_err-has_faults-in-Rest.field-0.0) (rw c.line-line-in-Rest.ensures.number at c.in_err-has_faults-in-Rest.ensures))
 
 pub returns-in-Rest : goal.returns-in-Rest
 returns-in-Rest g c =
     rw (← c.new.ensures) (Regroups-last c.args.rules.now _ _ _ _ _ _ _ _ _ (omega arith) _ _ _ _ _ _ _ c.loop-lines.invariant.0 c.in_ok-place.ensures.flushed c.next_piece.new.self _ c.in_ok-place.ensures.piece _ c.in-Rest.is (c.in_ok-place.ensures.len ∙ c.loop-lines.invariant.1)
-    c.bytes-rest.result.now c.bytes-rest.ensures (sym c.is_empty.ensures ∙ c.if-is_empty.false) _ c.in_ok-has_faults-in-Rest.field-0 c.in_ok-has_faults-in-Rest.ensures)
+    c.line-line-in-Rest.result.text.now c.line-line-in-Rest.ensures.text (sym c.is_empty.ensures ∙ c.if-is_empty.false) _ c.in_ok-has_faults-in-Rest.field-0 (rw c.line-line-in-Rest.ensures.number at c.in_ok-has_faults-in-Rest.ensures))
 
 pub returns-then-not-passes : goal.returns-then-not-passes
 returns-then-not-passes g c =
@@ -79,7 +67,7 @@ loop-lines-preserved g c =
       | in-Line+in_ok-has_faults-in-Line w ↦
           rw (w.r-is, w.w-is, w.e-is, w.x-is, w.input-is, w.has_faults-is, w.number-is, w.line_after-number.ensures) (
             Progress-next c.args.rules.now _ _ _ _ _ _ _ _ _ few _ _ _ _ _ _ _ c.loop-lines.invariant.0 c.in_ok-place.ensures.flushed c.next_piece.new.self _ c.in_ok-place.ensures.piece _ w.in-Line.is (c.in_ok-place.ensures.len ∙ c.loop-lines.invariant.1)
-                w.bytes-text.result.now w.bytes-text.ensures w.in_ok-has_faults-in-Line.field-0 _ w.in_ok-has_faults-in-Line.ensures,
+                w.line-line.result.text.now w.line-line.ensures.text w.in_ok-has_faults-in-Line.field-0 _ (rw w.line-line.ensures.number at w.in_ok-has_faults-in-Line.ensures),
             c.in_ok-place.ensures.len ∙ c.loop-lines.invariant.1,
           )
       | in-TooLong+else-not-passes+in_ok-has_faults-in-TooLong+in_ok-send_long-in-TooLong+else-branch w ↦

@@ -1,5 +1,5 @@
-use Rattle.regroup_lines.proofs.Common.{◌∙◌, ◌≤◌, Err, Ok, arith, subst, ◌-◌, ◌^◌, err_from_is_err_and, FindsPiece, held, line_fault_of, quotes_in}
-use Rattle.regroup_lines.proofs.InputLemmas.{found-line, found-rest}
+use Rattle.regroup_lines.proofs.Common.{◌∙◌, ◌≤◌, Err, Ok, arith, subst, ◌-◌, ◌^◌, err_from_is_err_and, FindsPiece, IsInArray, held, line_fault_of, quotes_in}
+use Rattle.regroup_lines.proofs.InputLemmas.{ended-at, found-line, found-rest}
 use Rattle.regroup_lines.proofs.LongLemmas.{PassesLong-endless, PassesLong-first, PassesLong-halted, PassesLong-line, PassesLong-rest, PassesLong-unsent, SentLong-next}
 use Rattle.regroup_lines.proofs.send_long.Goals as goal
 
@@ -10,25 +10,29 @@ returns-in_err-send_held-clause-passes g c =
 
 pub returns-in_err-pass_bytes-in-Ok-Line-clause-passes : goal.returns-in_err-pass_bytes-in-Ok-Line-clause-passes
 returns-in_err-pass_bytes-in-Ok-Line-clause-passes g c =
-    let found = found-line (quotes_in c.args.rules.now.span) c.args.rules.now.line_end c.loop.within (held c.loop.input) c.next_piece.new.self (g.R.Read.remaining c.loop.r) (g.R.Read.remaining c.next_piece.new.reader) _ c.in-Ok-Line.ensures.piece c.in-Ok-Line.place _ c.bytes-text.ensures c.in-Ok-Line.field-0-is in
+    let found = found-line (quotes_in c.args.rules.now.span) c.args.rules.now.line_end c.loop.within (held c.loop.input) c.next_piece.new.self (g.R.Read.remaining c.loop.r) (g.R.Read.remaining c.next_piece.new.reader) _ c.in-Ok-Line.ensures.piece c.in-Ok-Line.place _ c.line-line.ensures.text c.in-Ok-Line.field-0-is in
+    let ended = ended-at c.args.rules.now.line_end c.next_piece.new.self c.in-Ok-Line.place _ _ c.line-line.ensures.text c.line-line.ensures.ended (subst (IsInArray c.args.rules.now.line_end c.next_piece.new.self) c.in-Ok-Line.field-0-is c.in-Ok-Line.ensures.place) in
     let p = err_from_is_err_and c.from_residual-in_err-pass_bytes-in-Ok-Line.result c.from_residual-in_err-pass_bytes-in-Ok-Line.ensures.1 in
-    rw (p.1, p.2) (PassesLong-line c.args.rules.now c.args.number.now c.loop.number _ _ _ _ _ _ _ _ _ _ _ _ _ c.loop.invariant.0 c.in-Ok-Line.ensures.flushed _ (held c.next_piece.new.self) found.0 found.1 (Err (line_fault_of c.in_err-pass_bytes-in-Ok-Line.field-0.0)) c.in_err-pass_bytes-in-Ok-Line.ensures (λ done is. absurd (cc)))
+    rw (p.1, p.2) (PassesLong-line c.args.rules.now c.args.number.now c.loop.number _ _ _ _ _ _ _ _ _ _ _ _ _ c.loop.invariant.0 c.in-Ok-Line.ensures.flushed _ (held c.next_piece.new.self) found.0 found.1 (Err (line_fault_of c.in_err-pass_bytes-in-Ok-Line.field-0.0)) (rw ended at c.in_err-pass_bytes-in-Ok-Line.ensures) (λ done is. absurd (cc)))
 
 pub returns-in-Ok-Line-clause-passes : goal.returns-in-Ok-Line-clause-passes
 returns-in-Ok-Line-clause-passes g c =
-    let found = found-line (quotes_in c.args.rules.now.span) c.args.rules.now.line_end c.loop.within (held c.loop.input) c.next_piece.new.self (g.R.Read.remaining c.loop.r) (g.R.Read.remaining c.next_piece.new.reader) _ c.in-Ok-Line.ensures.piece c.in-Ok-Line.place _ c.bytes-text.ensures c.in-Ok-Line.field-0-is in
-    PassesLong-line c.args.rules.now c.args.number.now c.line_after.result _ _ _ _ _ _ _ _ _ _ _ _ _ c.loop.invariant.0 c.in-Ok-Line.ensures.flushed _ (held c.next_piece.new.self) found.0 found.1 (Ok tt) c.in_ok-pass_bytes-in-Ok-Line.ensures (λ done is. c.line_after.ensures)
+    let found = found-line (quotes_in c.args.rules.now.span) c.args.rules.now.line_end c.loop.within (held c.loop.input) c.next_piece.new.self (g.R.Read.remaining c.loop.r) (g.R.Read.remaining c.next_piece.new.reader) _ c.in-Ok-Line.ensures.piece c.in-Ok-Line.place _ c.line-line.ensures.text c.in-Ok-Line.field-0-is in
+    let ended = ended-at c.args.rules.now.line_end c.next_piece.new.self c.in-Ok-Line.place _ _ c.line-line.ensures.text c.line-line.ensures.ended (subst (IsInArray c.args.rules.now.line_end c.next_piece.new.self) c.in-Ok-Line.field-0-is c.in-Ok-Line.ensures.place) in
+    PassesLong-line c.args.rules.now c.args.number.now c.line_after.result _ _ _ _ _ _ _ _ _ _ _ _ _ c.loop.invariant.0 c.in-Ok-Line.ensures.flushed _ (held c.next_piece.new.self) found.0 found.1 (Ok tt) (rw ended at c.in_ok-pass_bytes-in-Ok-Line.ensures) (λ done is. c.line_after.ensures)
 
 pub returns-in_err-pass_bytes-in-Ok-Rest-clause-passes : goal.returns-in_err-pass_bytes-in-Ok-Rest-clause-passes
 returns-in_err-pass_bytes-in-Ok-Rest-clause-passes g c =
-    let found = found-rest (quotes_in c.args.rules.now.span) c.args.rules.now.line_end c.loop.within (held c.loop.input) c.next_piece.new.self (g.R.Read.remaining c.loop.r) (g.R.Read.remaining c.next_piece.new.reader) _ c.in-Ok-Rest.ensures.piece c.in-Ok-Rest.place _ c.bytes-text-in-Ok-Rest.ensures c.in-Ok-Rest.field-0-is in
+    let found = found-rest (quotes_in c.args.rules.now.span) c.args.rules.now.line_end c.loop.within (held c.loop.input) c.next_piece.new.self (g.R.Read.remaining c.loop.r) (g.R.Read.remaining c.next_piece.new.reader) _ c.in-Ok-Rest.ensures.piece c.in-Ok-Rest.place _ c.line.ensures.text c.in-Ok-Rest.field-0-is in
+    let ended = ended-at c.args.rules.now.line_end c.next_piece.new.self c.in-Ok-Rest.place _ _ c.line.ensures.text c.line.ensures.ended (subst (IsInArray c.args.rules.now.line_end c.next_piece.new.self) c.in-Ok-Rest.field-0-is c.in-Ok-Rest.ensures.place) in
     let p = err_from_is_err_and c.from_residual-in_err-pass_bytes-in-Ok-Rest.result c.from_residual-in_err-pass_bytes-in-Ok-Rest.ensures.1 in
-    rw (p.1, p.2) (PassesLong-rest c.args.rules.now c.args.number.now c.loop.number _ _ _ _ _ _ _ _ _ _ _ _ _ c.loop.invariant.0 c.in-Ok-Rest.ensures.flushed _ found.0 found.1 (held c.next_piece.new.self) found.3 (Err (line_fault_of c.in_err-pass_bytes-in-Ok-Rest.field-0.0)) c.in_err-pass_bytes-in-Ok-Rest.ensures)
+    rw (p.1, p.2) (PassesLong-rest c.args.rules.now c.args.number.now c.loop.number _ _ _ _ _ _ _ _ _ _ _ _ _ c.loop.invariant.0 c.in-Ok-Rest.ensures.flushed _ found.0 found.1 (held c.next_piece.new.self) found.3 (Err (line_fault_of c.in_err-pass_bytes-in-Ok-Rest.field-0.0)) (rw ended at c.in_err-pass_bytes-in-Ok-Rest.ensures))
 
 pub returns-in-Ok-Rest-clause-passes : goal.returns-in-Ok-Rest-clause-passes
 returns-in-Ok-Rest-clause-passes g c =
-    let found = found-rest (quotes_in c.args.rules.now.span) c.args.rules.now.line_end c.loop.within (held c.loop.input) c.next_piece.new.self (g.R.Read.remaining c.loop.r) (g.R.Read.remaining c.next_piece.new.reader) _ c.in-Ok-Rest.ensures.piece c.in-Ok-Rest.place _ c.bytes-text-in-Ok-Rest.ensures c.in-Ok-Rest.field-0-is in
-    PassesLong-rest c.args.rules.now c.args.number.now c.loop.number _ _ _ _ _ _ _ _ _ _ _ _ _ c.loop.invariant.0 c.in-Ok-Rest.ensures.flushed _ found.0 found.1 (held c.next_piece.new.self) found.3 (Ok tt) c.in_ok-pass_bytes-in-Ok-Rest.ensures
+    let found = found-rest (quotes_in c.args.rules.now.span) c.args.rules.now.line_end c.loop.within (held c.loop.input) c.next_piece.new.self (g.R.Read.remaining c.loop.r) (g.R.Read.remaining c.next_piece.new.reader) _ c.in-Ok-Rest.ensures.piece c.in-Ok-Rest.place _ c.line.ensures.text c.in-Ok-Rest.field-0-is in
+    let ended = ended-at c.args.rules.now.line_end c.next_piece.new.self c.in-Ok-Rest.place _ _ c.line.ensures.text c.line.ensures.ended (subst (IsInArray c.args.rules.now.line_end c.next_piece.new.self) c.in-Ok-Rest.field-0-is c.in-Ok-Rest.ensures.place) in
+    PassesLong-rest c.args.rules.now c.args.number.now c.loop.number _ _ _ _ _ _ _ _ _ _ _ _ _ c.loop.invariant.0 c.in-Ok-Rest.ensures.flushed _ found.0 found.1 (held c.next_piece.new.self) found.3 (Ok tt) (rw ended at c.in_ok-pass_bytes-in-Ok-Rest.ensures)
 
 pub returns-in_err-send_held-in-Ok-TooLong-clause-passes : goal.returns-in_err-send_held-in-Ok-TooLong-clause-passes
 returns-in_err-send_held-in-Ok-TooLong-clause-passes g c =

@@ -1,4 +1,4 @@
-use Rattle.regroup_lines.proofs.Common.{IsOnly, SendsIf, Some, ap, arith, before_field, drop, length-drop, slice_range, err_from_is_err_and, fields_of, false, inl, inr, is_chosen, is_chosen_from, None, is_some, length, refl, or_parts, subst, sym, true, ◌+◌, ◌-◌, ◌∙◌, ◌≡◌, ◌≤◌}
+use Rattle.regroup_lines.proofs.Common.{IsOnly, SendsIf, Some, ap, arith, before_field, drop, length-drop, slice_range, err_from_is_err_and, fields_of, inl, inr, length, refl, subst, sym, true, ◌+◌, ◌-◌, ◌∙◌, ◌≡◌, ◌≤◌}
 use Rattle.regroup_lines.proofs.FieldLemmas.{IsNext, begun-later, done-last, done-next, done-past, left-later, line_from, line_from-first, next-is, next-later, sent-known, split-ended, written-stop}
 use Rattle.regroup_lines.proofs.fields.Line.regroup.Goals as goal
 use Rattle.regroup_lines.proofs.fields.Line.regroup.Goals.{else-count-next, then-count-next+in_ok-sent}
@@ -23,7 +23,7 @@ returns-in_default g c =
     let start = length c.args.text.now - length c.fields.rest.now in
     let past = rw c.in_default.is at c.fields.invariant.4 in
     c.fields.invariant.5 _ _
-    (rw (done-past line.job.now.rules.now line.fields.now line.job.now.parser (g.G.Format.answers line.job.now.to.now) line.number c.args.text.now c.fields.sent start c.fields.count c.fields.invariant.0 (omega arith) past.0 past.1)
+    (rw (done-past line.job.now.rules.now line.fields.now line.job.now.parser (g.G.Format.answers line.job.now.to.now) line.number c.args.text.now c.args.ended.now c.requires c.fields.sent start c.fields.count c.fields.invariant.0 (omega arith) past.0 past.1)
     (sent-known _ line.sends _ _ _ _ c.end.ensures))
 
 pub returns-in_err-sent : goal.returns-in_err-sent
@@ -45,7 +45,7 @@ returns-then-len-rest g c =
     let split = split-ended fields _ c.quotes-quotes.ensures c.args.text.now c.fields.rest.now start _ _ (omega arith) c.fields.invariant.3 (c.find_end-len.ensures.searched, c.find_end-len.ensures.found) in
     let next = rw c.in-Some.is at c.fields.invariant.4 in
     c.fields.invariant.5 _ _ (done-last line.job.now.rules.now fields _ _ _ c.args.text.now start (start + c.find_end-len.result.0) c.fields.count split.0 split.1 (omega arith) c.fields.sent c.fields.invariant.0
-    line.sends (g.W.Write.contents c.fields.w) (g.W.Write.contents c.if-count-next.w) c.if-count-next.sent
+    line.sends (g.W.Write.contents c.fields.w) (g.W.Write.contents c.if-count-next.w) c.args.ended.now c.requires c.if-count-next.sent
     (elim c.if-count-next.branch [
       | then-count-next+in_ok-sent w ↦
           inr (

@@ -1,37 +1,30 @@
-use Rattle.regroup_lines.proofs.Common.{◌+◌, ◌≤◌, ◌<◌, length, drop, ap, ◌∙◌, arith, sym, subst, drop-drop, length-drop, length-take, Keeps-trans, OnErr-always, HasNoEnd, Reads, array_len, held, quotes_in}
-use Rattle.regroup_lines.proofs.InputLemmas.{Reads-trans, Searched-read, held_all, held_len, held_more, held_none, held_room, range-later, record_found, rest_found}
+use Rattle.regroup_lines.proofs.Common.{◌+◌, ◌≤◌, ◌<◌, length, ap, ◌∙◌, arith, slice_range, sym, subst, length-take, Keeps-trans, OnErr-always, HasNoEnd, Reads, array_len, ended_by, held, quotes_in}
+use Rattle.regroup_lines.proofs.InputLemmas.{Reads-trans, Searched-read, held_all, held_len, held_more, held_none, held_room, record_ended, record_found, rest_found}
 use Rattle.regroup_lines.proofs.input.Input.next_piece.Goals as goal
-
-pub bytes-rest-requires-clause-ordered : goal.bytes-rest-requires-clause-ordered
-bytes-rest-requires-clause-ordered g c =
-    omega (arith, held_len c.reads.self)
-
-pub invariant_of-self-clause-ordered : goal.invariant_of-self-clause-ordered
-invariant_of-self-clause-ordered g c =
-    let low = held_more c.reads.self c.quotes-quotes.ensures c.reads.invariant.1 c.bytes-rest.ensures c.find_end-len.ensures.searched c.find_end-len.ensures.found c.if-len-rest.true in
-    omega (arith, low, ap length c.take-line.ensures.left, length-drop (c.reads.searched + c.find_end-len.result.0) (held c.reads.self), held_len c.take-line.new.self)
 
 pub returns-then-len-rest-clause-piece : goal.returns-then-len-rest-clause-piece
 returns-then-len-rest-clause-piece g c =
-    let n = c.reads.searched + c.find_end-len.result.0 in
-    let bytes = held c.reads.self in
-    let low = held_more c.reads.self c.quotes-quotes.ensures c.reads.invariant.1 c.bytes-rest.ensures c.find_end-len.ensures.searched c.find_end-len.ensures.found c.if-len-rest.true in
-    let input = c.take-line.new.self in
-    let next : input.start + 1 ≤ input.end = omega (arith, low, ap length c.take-line.ensures.left, length-drop n bytes, held_len input) in
-    let line = record_found c.reads.self c.quotes-quotes.ensures c.reads.invariant.1 c.bytes-rest.ensures c.find_end-len.ensures.searched c.find_end-len.ensures.found c.reads.invariant.0 low _ _ c.take-line.ensures.taken
-    (range-later input.array.now input.start input.end 1 next ∙ ap (drop 1) c.take-line.ensures.left ∙ drop-drop 1 n bytes) in
-    (line.0, line.1, omega (arith, low, ap length c.take-line.ensures.taken, length-take n bytes, held_len c.reads.self, c.take-line.ensures.len))
+    let taken = c.take_ended.ensures in
+    let low = held_more c.reads.self c.quotes-quotes.ensures c.reads.invariant.1 (ap (λ l. slice_range l c.reads.searched (length l)) c.held.ensures.value) c.find_end-len.ensures.searched c.find_end-len.ensures.found c.if-len-rest.true in
+    let line = record_found c.reads.self c.quotes-quotes.ensures c.reads.invariant.1 (ap (λ l. slice_range l c.reads.searched (length l)) c.held.ensures.value) c.find_end-len.ensures.searched c.find_end-len.ensures.found c.reads.invariant.0 low _ _ taken.taken taken.left in
+    (line.0, line.1, omega (arith, low, ap length taken.taken, length-take (c.reads.searched + c.find_end-len.result.0) (held c.reads.self), held_len c.reads.self, taken.len))
+
+pub returns-then-len-rest-clause-place : goal.returns-then-len-rest-clause-place
+returns-then-len-rest-clause-place g c =
+    let taken = c.take_ended.ensures in
+    let ended = record_ended c.reads.self c.quotes-quotes.ensures c.reads.invariant.1 (ap (λ l. slice_range l c.reads.searched (length l)) c.held.ensures.value) c.find_end-len.ensures.searched c.find_end-len.ensures.found c.if-len-rest.true in
+    (taken.ordered, taken.within, taken.ended ∙ ended ∙ ap (ended_by c.args.rules.now.line_end) (sym taken.taken))
 
 pub returns-then-searched-self-clause-piece : goal.returns-then-searched-self-clause-piece
 returns-then-searched-self-clause-piece g c =
-    let all = held_all c.reads.self c.quotes-quotes.ensures c.reads.invariant.1 c.bytes-rest.ensures c.find_end-len.ensures.searched c.find_end-len.ensures.found c.if-len-rest.false in
-    (c.reads.invariant.0, held_none c.reads.self c.quotes-quotes.ensures c.reads.invariant.1 c.bytes-rest.ensures c.find_end-len.ensures.searched c.find_end-len.ensures.found c.if-len-rest.false, omega (arith, all, c.if-searched-self.true))
+    let all = held_all c.reads.self c.quotes-quotes.ensures c.reads.invariant.1 (ap (λ l. slice_range l c.reads.searched (length l)) c.held.ensures.value) c.find_end-len.ensures.searched c.find_end-len.ensures.found c.if-len-rest.false in
+    (c.reads.invariant.0, held_none c.reads.self c.quotes-quotes.ensures c.reads.invariant.1 (ap (λ l. slice_range l c.reads.searched (length l)) c.held.ensures.value) c.find_end-len.ensures.searched c.find_end-len.ensures.found c.if-len-rest.false, omega (arith, all, c.if-searched-self.true))
 
 pub returns-in_err-count-clause-failed : goal.returns-in_err-count-clause-failed
 returns-in_err-count-clause-failed g c =
     let same = c.in_err-count.ensures.failed.0 in
-    let none = held_none c.reads.self c.quotes-quotes.ensures c.reads.invariant.1 c.bytes-rest.ensures c.find_end-len.ensures.searched c.find_end-len.ensures.found c.if-len-rest.false in
-    let room = held_room c.reads.self c.quotes-quotes.ensures c.reads.invariant.1 c.bytes-rest.ensures c.find_end-len.ensures.searched c.find_end-len.ensures.found c.if-len-rest.false c.if-searched-self.false in
+    let none = held_none c.reads.self c.quotes-quotes.ensures c.reads.invariant.1 (ap (λ l. slice_range l c.reads.searched (length l)) c.held.ensures.value) c.find_end-len.ensures.searched c.find_end-len.ensures.found c.if-len-rest.false in
+    let room = held_room c.reads.self c.quotes-quotes.ensures c.reads.invariant.1 (ap (λ l. slice_range l c.reads.searched (length l)) c.held.ensures.value) c.find_end-len.ensures.searched c.find_end-len.ensures.found c.if-len-rest.false c.if-searched-self.false in
     let failed : Reads (held c.args.self.now) (held c.read_more.new.self) (g.R.Read.remaining c.args.reader.now) (g.R.Read.remaining c.read_more.new.reader)
     × HasNoEnd (quotes_in c.args.rules.now.span) c.args.rules.now.line_end c.args.within (held c.read_more.new.self) × (length (held c.read_more.new.self) < array_len c.read_more.new.self) = (
       Reads-trans _ _ _ _ _ _ c.reads.invariant.0 c.in_err-count.ensures.read,
@@ -43,10 +36,10 @@ returns-in_err-count-clause-failed g c =
 pub returns-then-count-eq0-clause-piece : goal.returns-then-count-eq0-clause-piece
 returns-then-count-eq0-clause-piece g c =
     let read = c.in_ok-count.ensures in
-    let room = held_room c.reads.self c.quotes-quotes.ensures c.reads.invariant.1 c.bytes-rest.ensures c.find_end-len.ensures.searched c.find_end-len.ensures.found c.if-len-rest.false c.if-searched-self.false in
+    let room = held_room c.reads.self c.quotes-quotes.ensures c.reads.invariant.1 (ap (λ l. slice_range l c.reads.searched (length l)) c.held.ensures.value) c.find_end-len.ensures.searched c.find_end-len.ensures.found c.if-len-rest.false c.if-searched-self.false in
     let nothing : length (held c.read_more.new.self) ≤ length (held c.reads.self) = omega (arith, read.count, c.if-count-eq0.true) in
-    let rest = rest_found c.reads.self c.quotes-quotes.ensures c.reads.invariant.1 c.bytes-rest.ensures c.find_end-len.ensures.searched c.find_end-len.ensures.found c.if-len-rest.false read.read c.reads.invariant.0 nothing _ c.take.ensures.taken in
-    (rest.0, rest.1, omega (arith, room, ap length rest.2, c.take.ensures.len, read.len), read.end c.if-count-eq0.true)
+    let rest = rest_found c.reads.self c.quotes-quotes.ensures c.reads.invariant.1 (ap (λ l. slice_range l c.reads.searched (length l)) c.held.ensures.value) c.find_end-len.ensures.searched c.find_end-len.ensures.found c.if-len-rest.false read.read c.reads.invariant.0 nothing _ c.take_rest.ensures.taken in
+    (rest.0, rest.1, omega (arith, room, ap length rest.2, c.take_rest.ensures.len, read.len), read.end c.if-count-eq0.true)
 
 pub returns-in_err-count-clause-flushed : goal.returns-in_err-count-clause-flushed
 returns-in_err-count-clause-flushed g c = Keeps-trans _ _ _ c.reads.invariant.3 c.in_err-count.ensures.flushed
@@ -58,7 +51,7 @@ pub reads-preserved : goal.reads-preserved
 reads-preserved g c =
     let read = c.in_ok-count.ensures in (
       Reads-trans _ _ _ _ _ _ c.reads.invariant.0 read.read,
-      Searched-read c.reads.self c.quotes-quotes.ensures c.reads.invariant.1 c.bytes-rest.ensures c.find_end-len.ensures.searched c.find_end-len.ensures.found c.if-len-rest.false read.read,
+      Searched-read c.reads.self c.quotes-quotes.ensures c.reads.invariant.1 (ap (λ l. slice_range l c.reads.searched (length l)) c.held.ensures.value) c.find_end-len.ensures.searched c.find_end-len.ensures.found c.if-len-rest.false read.read,
       read.len ∙ c.reads.invariant.2,
       Keeps-trans _ _ _ c.reads.invariant.3 read.flushed,
     )
