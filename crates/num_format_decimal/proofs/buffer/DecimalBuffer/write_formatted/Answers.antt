@@ -1,4 +1,4 @@
-use Rattle.std.proofs.Common.{arith, drop, rules, sym, ◌∙◌}
+use Rattle.std.proofs.Common.{arith, rules}
 use Rattle.std.proofs.lemmas.List.{drop_all}
 use Rattle.num_format_decimal.proofs.buffer.DecimalBuffer.write_formatted.Goals as goal
 
