@@ -80,7 +80,7 @@ struct Around<'a> {
 }
 
 /// Sends a line with the number in each chosen field regrouped, and the byte that ends it.
-#[inline(never)]
+#[inline(always)]
 pub(crate) fn regroup_fields<'a, W: Write, F: Format, G: Format>(
     job: &Job<F, G>,
     fields: &Fields,
