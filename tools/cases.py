@@ -62,11 +62,12 @@ def check(tally, program, cases, files):
 
 
 def is_tried(case):
-    """Whether `rt try --cases` can run a case: a word is a line of UTF-8 there, and no output is long."""
+    """Whether `rt try --cases` can run a case: a word is a line of UTF-8 there, no output is long, and standard error is a
+    file, which regroup-lines takes for no rejects."""
     words = b"".join(case.words)
     is_text = words.decode(errors="replace").encode() == words
     is_short = len(case.out or b"") <= MOST_TRIED and len(case.err or b"") <= MOST_TRIED
-    return is_text and b"\n" not in words and is_short
+    return is_text and b"\n" not in words and b"/dev/stderr" not in case.words and is_short
 
 
 def check_tried(tally, crate, cases, files):
@@ -94,7 +95,7 @@ def check_tried(tally, crate, cases, files):
             tally.add(case.name, f"it did not end: {shown(ended.stderr)}")
     left = len(cases) - len(tried)
     if left:
-        tally.skip(f"{left} cases of {crate}", "`rt try` takes no such words, or no outputs as long; --prove runs them")
+        tally.skip(f"{left} cases of {crate}", "`rt try` takes no such words, no outputs as long, or no /dev/stderr; --prove runs them")
 
 
 def outputs(printed):
