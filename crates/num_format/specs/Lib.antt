@@ -19,8 +19,8 @@ pub use Rattle.num_format_parsing.specs.BytesError
 pub use Rattle.num_format_parsing.specs.Readable
 pub use Rattle.num_format_parsing.specs.Reading
 pub use Rattle.num_format_parsing.specs.Strict
-pub use Rattle.num_format_parsing.specs.declared.parsing.ParseBytesError
-pub use Rattle.num_format_parsing.specs.declared.strict.StrictError
+pub use Rattle.num_format_parsing.specs.declared.error.ParseBytesError
+pub use Rattle.num_format_parsing.specs.declared.error.StrictError
 pub use Rattle.num_format_locale.specs.Entry
 pub use Rattle.num_format_locale.specs.Families
 pub use Rattle.num_format_locale.specs.Groupings

@@ -71,8 +71,9 @@ pub mod error {
 
 /// Parsing: the traits, a parser that is kept, and the errors.
 pub mod parsing {
-    pub use num_format_parsing::parsing::{FromFormattedStr, ParseBytesError, ParseFormatted};
-    pub use num_format_parsing::strict::{StrictError, StrictParser};
+    pub use num_format_parsing::error::{ParseBytesError, StrictError};
+    pub use num_format_parsing::parsing::{FromFormattedStr, ParseFormatted};
+    pub use num_format_parsing::strict::StrictParser;
 }
 
 /// Writing into a string or a writer.

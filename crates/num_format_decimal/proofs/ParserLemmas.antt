@@ -23,8 +23,8 @@ use Rattle.num_format_int.proofs.GroupedLemmas.{grouped-Posix, grouped-short}
 use Rattle.num_format_parsing.specs.Reading.{is_negative_text}
 use Rattle.num_format_parsing.specs.Shapes.{HasSign, byte_figures}
 use Rattle.num_format_parsing.specs.Strict.{IsUnambiguous, ParsesStrictly, SpellsNumber, begins, ungrouped, with_separators, without_separators}
-use Rattle.num_format_parsing.specs.declared.strict.StrictError.{StrictError}
-use Rattle.num_format_parsing.specs.declared.strict.StrictError.TheVariants as strict
+use Rattle.num_format_parsing.specs.declared.error.StrictError.{StrictError}
+use Rattle.num_format_parsing.specs.declared.error.StrictError.TheVariants as strict
 use Rattle.num_format_parsing.proofs.SpellingLemmas.{signed-abs, signed-sign, sign-behind}
 use Rattle.num_format_certificates.proofs.RoundTripLemmas.{is_negative-pos, round_trips-from_unambiguous, signed_number-unsigned_abs}
 use Rattle.num_format_certificates.proofs.TextCharacterLemmas.{of_printed}

@@ -9,8 +9,8 @@ use Rattle.num_format_text.specs.Format.{FormatData}
 use Rattle.num_format_int.specs.Digits.{digits}
 use Rattle.num_format_int.specs.Grouped.{grouped}
 use Rattle.num_format_int.specs.Kind.{signed_number}
-use Rattle.num_format_parsing.specs.declared.strict.StrictError.{StrictError}
-use Rattle.num_format_parsing.specs.declared.strict.StrictError.TheVariants.{OutOfRange}
+use Rattle.num_format_parsing.specs.declared.error.StrictError.{StrictError}
+use Rattle.num_format_parsing.specs.declared.error.StrictError.TheVariants.{OutOfRange}
 use Rattle.num_format_decimal.specs.declared.decimal.TheConstants.{MAX_SCALE}
 use Rattle.num_format_decimal.specs.declared.parser.Fault.{Fault}
 use Rattle.num_format_decimal.specs.declared.parser.Fault.TheVariants.{TooLarge, Unspelled}

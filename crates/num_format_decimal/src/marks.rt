@@ -1,10 +1,8 @@
 //! The check of a format's decimal mark.
 ghost use Rattle.std.specs.Prelude.{◌↔◌, IsTrue};
-ghost use Rattle.num_format_decimal.specs.Marks.{IsMark, MarksDecimals};
+ghost use Rattle.num_format_decimal.specs.Marks.{MarksDecimals};
 
 use crate::parser::DecimalParser;
-use num_format_parsing::causes::begins_with;
-use num_format_parsing::symbols::is_plain;
 use num_format_text::Format;
 
 /// Returns whether every whole number reads back under the format, and the decimal mark cannot be taken for anything
@@ -21,19 +19,4 @@ pub fn marks_decimals<F: Format>(format: &F) -> bool
     ensures { IsTrue result ↔ MarksDecimals (F.answers format.now) }
 {
     DecimalParser::new(format).is_ok()
-}
-
-/// Returns whether a decimal mark is neither empty nor the separator that is printed, and no character of it is
-/// numeric.
-#[inline(always)]
-pub(crate) fn is_mark(mark: &str, separator: &str) -> bool
-    ensures { IsTrue result ↔ IsMark mark.now separator.now }
-{
-    if mark.is_empty() {
-        return false;
-    }
-    if begins_with(mark.as_bytes(), separator.as_bytes()) && mark == separator {
-        return false;
-    }
-    is_plain(mark)
 }

@@ -1,10 +1,10 @@
 //! A parser of decimals under one format.
-ghost use Rattle.std.specs.Prelude.{◌≡◌, ◌++◌, ◌<◌, ◌≤◌, true, IsTrue, IsUtf8, MatchOption, MatchResult, drop, length};
+ghost use Rattle.std.specs.Prelude.{◌≡◌, ◌↔◌, ◌++◌, ◌<◌, ◌≤◌, true, IsTrue, IsUtf8, MatchOption, MatchResult, drop, length};
 ghost use Rattle.std.specs.Char.{is_ascii_digit};
 ghost use Rattle.std.specs.List.{list_all};
 ghost use Rattle.num_format_parsing.specs.Strict.{unexpected};
 ghost use Rattle.num_format_decimal.specs.FixedPoint.{FixedPoint};
-ghost use Rattle.num_format_decimal.specs.Marks.{IsPlainFormat, MarksDecimals};
+ghost use Rattle.num_format_decimal.specs.Marks.{IsMark, IsPlainFormat, MarksDecimals};
 ghost use Rattle.num_format_decimal.specs.Parsing.{AtScaleResult, DecimalResult, IsDecimalCause, SpellsDecimal, after_mark, unexpected_in_decimal};
 ghost use Rattle.num_format_decimal.specs.Shapes.{HasAmount, HasReading, IsCut, fault_of};
 ghost use Rattle.num_format_decimal.specs.Text.{mark_at};
@@ -12,13 +12,13 @@ ghost use Rattle.num_format_decimal.specs.declared.decimal.TheConstants.{MAX_SCA
 ghost use Rattle.num_format_decimal.specs.declared.parsing.ParseDecimalError.TheVariants as cause;
 
 use crate::decimal::{Decimal, MAX_SCALE};
-use crate::marks::is_mark;
 use crate::parsing::{ParseAtScaleError, ParseDecimalError};
 use crate::reading::{joined, trailing_digits, whole_number};
 use crate::rounding::Rounding;
-use num_format_parsing::FromFormattedStr;
-use num_format_parsing::causes::{begins_with, expected_end, has_digit, is_utf8};
-use num_format_parsing::strict::{StrictError, StrictParser};
+use num_format_parsing::bytes::{begins_with, has_digit, is_utf8};
+use num_format_parsing::causes::expected_end;
+use num_format_parsing::symbols::is_plain;
+use num_format_parsing::{FromFormattedStr, StrictError, StrictParser};
 use num_format_text::Format;
 use std::marker::Model;
 
@@ -338,5 +338,85 @@ fn fault_of(error: StrictError) -> Fault
     match error {
         StrictError::OutOfRange => Fault::TooLarge,
         _ => Fault::Unspelled,
+    }
+}
+
+/// Returns whether a decimal mark is neither empty nor the separator that is printed, and no character of it is
+/// numeric.
+#[inline(always)]
+fn is_mark(mark: &str, separator: &str) -> bool
+    ensures { IsTrue result ↔ IsMark mark.now separator.now }
+{
+    if mark.is_empty() {
+        return false;
+    }
+    if begins_with(mark.as_bytes(), separator.as_bytes()) && mark == separator {
+        return false;
+    }
+    is_plain(mark)
+}
+
+impl Decimal {
+    /// Returns the decimal that the text spells: its scale is the number of digits after the mark.
+    ///
+    /// ```rust
+    /// Decimal::from_strict_str("1,234.50", &Locale::en)    // Ok(1234.50)
+    /// Decimal::from_strict_str("1234.5", &Locale::en)      // Ok(1234.5)
+    /// Decimal::from_strict_str(".5", &Locale::en)          // Err(Misspelled)
+    /// Decimal::from_strict_str("1.234.5", &Locale::en)     // Err(Unexpected { at: 5 })
+    /// ```
+    ///
+    /// # Errors
+    ///
+    /// A [`ParseDecimalError`], but not `NotUtf8`.
+    pub fn from_strict_str<F: Format>(text: &str, format: &F) -> Result<Decimal, ParseDecimalError>
+        ensures { DecimalResult (F.answers format.now) text.now result }
+    {
+        DecimalParser::new(format)?.parse(text)
+    }
+
+    /// Returns the decimal that the text of these bytes spells, as [`from_strict_str`](Decimal::from_strict_str) does.
+    ///
+    /// ```rust
+    /// Decimal::from_strict_bytes(b"1\xFF", &Locale::en)    // Err(NotUtf8)
+    /// ```
+    ///
+    /// # Errors
+    ///
+    /// A [`ParseDecimalError`].
+    pub fn from_strict_bytes<F: Format>(
+        bytes: &[u8],
+        format: &F,
+    ) -> Result<Decimal, ParseDecimalError>
+        ensures { DecimalResult (F.answers format.now) bytes.now result }
+    {
+        DecimalParser::new(format)?.parse_bytes(bytes)
+    }
+
+    /// Returns the decimal that the text spells at another scale: the same number, or an error.
+    ///
+    /// For amounts of one currency, however many decimals they are written with.
+    ///
+    /// ```rust
+    /// Decimal::parse_at_scale("1,234.5", 2, &Locale::en)    // Ok(1234.50)
+    /// Decimal::parse_at_scale("1.255", 2, &Locale::en)      // Err(Rescale(DigitsLost))
+    /// Decimal::parse_at_scale("1.", 2, &Locale::en)         // Err(Parse(Misspelled))
+    /// ```
+    ///
+    /// # Errors
+    ///
+    /// That of [`from_strict_str`](Decimal::from_strict_str), or that of [`rescale`](Decimal::rescale) under
+    /// [`Rounding::Exact`].
+    pub fn parse_at_scale<F: Format>(
+        text: &str,
+        scale: u8,
+        format: &F,
+    ) -> Result<Decimal, ParseAtScaleError>
+        ensures { AtScaleResult (F.answers format.now) text.now scale result }
+    {
+        match DecimalParser::new(format) {
+            Ok(parser) => parser.parse_at_scale(text, scale),
+            Err(error) => Err(ParseAtScaleError::Parse(error)),
+        }
     }
 }

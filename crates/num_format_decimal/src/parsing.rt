@@ -2,15 +2,14 @@
 //!
 //! A text *spells* a decimal if it is the text of the decimal under the format, or that text without separators.
 ghost use Rattle.std.specs.Prelude.{Some, ℕ, List, string_bytes};
-ghost use Rattle.num_format_decimal.specs.Parsing.{AtScaleResult, DecimalResult, at_scale_message_of, parse_message_of};
+ghost use Rattle.num_format_decimal.specs.Parsing.{DecimalResult, at_scale_message_of, parse_message_of};
 
 use crate::decimal::Decimal;
 use crate::error::DecimalError;
-use crate::parser::DecimalParser;
 use num_format_text::Format;
 use std::fmt;
 
-/// Why a text was refused as a decimal: the first of these causes, but `OutOfRange` if the text spells a decimal.
+/// Why a text was refused as a decimal: the first of these causes. One that spells a decimal is not `Misspelled`.
 #[derive(Clone, Copy, Debug, PartialEq, Eq, Hash)]
 pub enum ParseDecimalError {
     /// The format is ambiguous, so no text is parsed under it: [`marks_decimals`](crate::marks_decimals) is false.
@@ -78,71 +77,6 @@ impl fmt::Display for ParseAtScaleError {
 }
 
 impl std::error::Error for ParseAtScaleError {}
-
-impl Decimal {
-    /// Returns the decimal that the text spells: its scale is the number of digits after the mark.
-    ///
-    /// ```rust
-    /// Decimal::from_strict_str("1,234.50", &Locale::en)    // Ok(1234.50)
-    /// Decimal::from_strict_str("1234.5", &Locale::en)      // Ok(1234.5)
-    /// Decimal::from_strict_str(".5", &Locale::en)          // Err(Misspelled)
-    /// Decimal::from_strict_str("1.234.5", &Locale::en)     // Err(Unexpected { at: 5 })
-    /// ```
-    ///
-    /// # Errors
-    ///
-    /// A [`ParseDecimalError`], but not `NotUtf8`.
-    pub fn from_strict_str<F: Format>(text: &str, format: &F) -> Result<Decimal, ParseDecimalError>
-        ensures { DecimalResult (F.answers format.now) text.now result }
-    {
-        DecimalParser::new(format)?.parse(text)
-    }
-
-    /// Returns the decimal that the text of these bytes spells, as [`from_strict_str`](Decimal::from_strict_str) does.
-    ///
-    /// ```rust
-    /// Decimal::from_strict_bytes(b"1\xFF", &Locale::en)    // Err(NotUtf8)
-    /// ```
-    ///
-    /// # Errors
-    ///
-    /// A [`ParseDecimalError`].
-    pub fn from_strict_bytes<F: Format>(
-        bytes: &[u8],
-        format: &F,
-    ) -> Result<Decimal, ParseDecimalError>
-        ensures { DecimalResult (F.answers format.now) bytes.now result }
-    {
-        DecimalParser::new(format)?.parse_bytes(bytes)
-    }
-
-    /// Returns the decimal that the text spells at another scale: the same number, or an error.
-    ///
-    /// For amounts of one currency, however many decimals they are written with.
-    ///
-    /// ```rust
-    /// Decimal::parse_at_scale("1,234.5", 2, &Locale::en)    // Ok(1234.50)
-    /// Decimal::parse_at_scale("1.255", 2, &Locale::en)      // Err(Rescale(DigitsLost))
-    /// Decimal::parse_at_scale("1.", 2, &Locale::en)         // Err(Parse(Misspelled))
-    /// ```
-    ///
-    /// # Errors
-    ///
-    /// That of [`from_strict_str`](Decimal::from_strict_str), or that of [`rescale`](Decimal::rescale) under
-    /// [`Rounding::Exact`].
-    pub fn parse_at_scale<F: Format>(
-        text: &str,
-        scale: u8,
-        format: &F,
-    ) -> Result<Decimal, ParseAtScaleError>
-        ensures { AtScaleResult (F.answers format.now) text.now scale result }
-    {
-        match DecimalParser::new(format) {
-            Ok(parser) => parser.parse_at_scale(text, scale),
-            Err(error) => Err(ParseAtScaleError::Parse(error)),
-        }
-    }
-}
 
 /// A text that can be parsed as a decimal.
 pub trait ParseDecimal {

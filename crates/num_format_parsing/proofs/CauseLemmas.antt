@@ -11,10 +11,10 @@ use Rattle.num_format_int.proofs.DigitLemmas.{digits_given}
 use Rattle.num_format_parsing.specs.Parts.{number_in, HasBody, IsJudged}
 use Rattle.num_format_parsing.specs.Shapes.{HasPlainSymbols}
 use Rattle.num_format_parsing.specs.Strict.{SpellsNumber, StopsAt, IsExpected, IsCause, ParsesStrictly}
-use Rattle.num_format_parsing.specs.declared.strict.Reading.{Reading}
-use Rattle.num_format_parsing.specs.declared.strict.Reading.TheVariants.{Number, TooLarge, Unspelled}
-use Rattle.num_format_parsing.specs.declared.strict.StrictError.{StrictError}
-use Rattle.num_format_parsing.specs.declared.strict.StrictError.TheVariants.{AmbiguousFormat, NotUtf8, Unexpected, NoDigit, Misspelled, OutOfRange}
+use Rattle.num_format_parsing.specs.declared.reading.Reading.{Reading}
+use Rattle.num_format_parsing.specs.declared.reading.Reading.TheVariants.{Number, TooLarge, Unspelled}
+use Rattle.num_format_parsing.specs.declared.error.StrictError.{StrictError}
+use Rattle.num_format_parsing.specs.declared.error.StrictError.TheVariants.{AmbiguousFormat, NotUtf8, Unexpected, NoDigit, Misspelled, OutOfRange}
 use Rattle.num_format_parsing.proofs.SpellingLemmas.{figures-spelled, is_negative-pos, no_other-spelled, spelled-once, unexpected-none}
 
 stops-not : (f : FormatData) (t : List ℕ) (a : ℕ) → StopsAt f t a → IsExpected f t → ⊥

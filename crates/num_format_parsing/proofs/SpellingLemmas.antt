@@ -28,8 +28,8 @@ use Rattle.num_format_parsing.specs.Parts.{number_in, IsBody, HasBody, HasReadin
 use Rattle.num_format_parsing.specs.Reading.{figures, is_negative_text, is_other_numeral, signed_number}
 use Rattle.num_format_parsing.specs.Strict.{SpellsNumber, with_separators, without_separators, ungrouped, sign_len, unexpected, unread}
 use Rattle.num_format_parsing.specs.Shapes.{byte_figures, BeginsWithDigit, HasPlainSymbols, HasSign}
-use Rattle.num_format_parsing.specs.declared.strict.Reading.{Reading}
-use Rattle.num_format_parsing.specs.declared.strict.Reading.TheVariants.{Number, TooLarge, Unspelled}
+use Rattle.num_format_parsing.specs.declared.reading.Reading.{Reading}
+use Rattle.num_format_parsing.specs.declared.reading.Reading.TheVariants.{Number, TooLarge, Unspelled}
 use Rattle.num_format_parsing.proofs.FigureLemmas.{figures-bytes, writes}
 use Rattle.num_format_parsing.proofs.GroupsLemmas.{plain-all}
 use Rattle.num_format_parsing.proofs.NumberLemmas.{no_other-bytes}

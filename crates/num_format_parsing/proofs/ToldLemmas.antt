@@ -14,7 +14,7 @@ use Rattle.num_format_parsing.specs.Parts.{IsSpelling}
 use Rattle.num_format_parsing.specs.Reading.{denoted, figures, is_negative_text, is_other_numeral, magnitude_of, signed_number, Refused, no_digit, other_numeral, too_many_figures, no_value, ParsesBytes}
 use Rattle.num_format_parsing.specs.Shapes.{HasPlainSymbols}
 use Rattle.num_format_parsing.specs.Strict.{SpellsNumber}
-use Rattle.num_format_parsing.specs.declared.strict.Reading.TheVariants.{Number, TooLarge}
+use Rattle.num_format_parsing.specs.declared.reading.Reading.TheVariants.{Number, TooLarge}
 use Rattle.num_format_parsing.proofs.CauseLemmas.{above_low, below_high, sign-kind}
 use Rattle.num_format_parsing.proofs.SpellingLemmas.{figures-spelled, is_negative-pos, no_other-spelled, sign-told, signed_number-unsigned_abs, text-spelled}
 

@@ -1,7 +1,7 @@
 -- The errors of parsing bytes, and their messages.
 use Rattle.std.specs.Prelude.{ℕ, List, codes}
-use Rattle.num_format_parsing.specs.declared.parsing.ParseBytesError.{ParseBytesError}
-use Rattle.num_format_parsing.specs.declared.parsing.ParseBytesError.TheVariants.{NotUtf8, NotANumber}
+use Rattle.num_format_parsing.specs.declared.error.ParseBytesError.{ParseBytesError}
+use Rattle.num_format_parsing.specs.declared.error.ParseBytesError.TheVariants.{NotUtf8, NotANumber}
 
 -- the message of an error
 abbrev pub bytes_message_of : ParseBytesError → List ℕ

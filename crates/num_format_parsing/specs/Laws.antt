@@ -6,8 +6,8 @@ use Rattle.num_format_text.specs.Format.{FormatData}
 use Rattle.num_format_int.specs.Kind.{I128, Kind, kind_of}
 use Rattle.num_format_parsing.specs.Readable.{is_readable}
 use Rattle.num_format_parsing.specs.Reading.{denoted, Refused}
-use Rattle.num_format_parsing.specs.declared.strict.StrictError.{StrictError}
-use Rattle.num_format_parsing.specs.declared.strict.StrictError.TheVariants.{Unexpected}
+use Rattle.num_format_parsing.specs.declared.error.StrictError.{StrictError}
+use Rattle.num_format_parsing.specs.declared.error.StrictError.TheVariants.{Unexpected}
 
 -- of the data of a format, the minus sign alone decides which number a text denotes, and whether the text is refused
 pub record MinusSignLaw : Type 0 where

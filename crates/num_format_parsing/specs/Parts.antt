@@ -11,9 +11,9 @@ use Rattle.num_format_int.specs.Kind.{Kind, IsValueOf, signed_number}
 use Rattle.num_format_parsing.specs.Reading.{is_negative_text}
 use Rattle.num_format_parsing.specs.Shapes.{byte_figures, HasPlainSymbols}
 use Rattle.num_format_parsing.specs.Strict.{SpellsNumber, IsCause}
-use Rattle.num_format_parsing.specs.declared.strict.Reading.{Reading}
-use Rattle.num_format_parsing.specs.declared.strict.Reading.TheVariants.{Number, TooLarge, Unspelled}
-use Rattle.num_format_parsing.specs.declared.strict.StrictError.{StrictError}
+use Rattle.num_format_parsing.specs.declared.reading.Reading.{Reading}
+use Rattle.num_format_parsing.specs.declared.reading.Reading.TheVariants.{Number, TooLarge, Unspelled}
+use Rattle.num_format_parsing.specs.declared.error.StrictError.{StrictError}
 
 -- the number that the digits among bytes write
 abbrev pub number_in : List ℕ → ℕ

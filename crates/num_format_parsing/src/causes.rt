@@ -1,14 +1,13 @@
 //! Why a text spells no number: the second pass over it, which finds the place of a fault.
-ghost use Rattle.std.specs.Prelude.{◌≡◌, ◌↔◌, ℤ, ◌<◌, ◌≤◌, IsTrue, drop, length, IsUtf8};
-ghost use Rattle.std.specs.Char.{is_ascii_digit};
-ghost use Rattle.std.specs.List.{list_any};
+ghost use Rattle.std.specs.Prelude.{◌≡◌, ℤ, ◌≤◌, IsTrue, drop, length, IsUtf8};
 ghost use Rattle.num_format_text.specs.Format.{FormatData};
 ghost use Rattle.num_format_int.specs.Grouped.{printed_separator};
 ghost use Rattle.num_format_int.specs.Kind.{Kind};
-ghost use Rattle.num_format_parsing.specs.Strict.{SpellsNumber, IsCause, begins, unread, sign_len};
-ghost use Rattle.num_format_parsing.specs.Shapes.{BeginsWithDigit, HasPlainSymbols};
+ghost use Rattle.num_format_parsing.specs.Strict.{SpellsNumber, IsCause, unread, sign_len};
+ghost use Rattle.num_format_parsing.specs.Shapes.{HasPlainSymbols};
 
-use crate::strict::StrictError;
+use crate::bytes::{begins_with, has_digit, is_utf8};
+use crate::error::StrictError;
 
 /// Returns why a text is refused that spells no number. `start` is the length of its minus sign.
 #[cold]
@@ -33,20 +32,6 @@ pub(crate) fn cause(bytes: &[u8], is_text: bool, start: usize, separator: &[u8])
     StrictError::Misspelled
 }
 
-/// Returns whether the bytes are UTF-8.
-pub fn is_utf8(bytes: &[u8], is_text: bool) -> bool
-    requires { IsTrue is_text → IsUtf8 bytes.now }
-    ensures { IsTrue result ↔ IsUtf8 bytes.now }
-{
-    if is_text {
-        return true;
-    }
-    match str::from_utf8(bytes) {
-        Ok(_) => true,
-        Err(_) => false,
-    }
-}
-
 /// Returns the place after digits and whole separators, from the start on. A separator is tried first.
 pub fn expected_end(text: &[u8], start: usize, separator: &[u8]) -> usize
     requires { start ≤ length text.now }
@@ -64,42 +49,4 @@ pub fn expected_end(text: &[u8], start: usize, separator: &[u8]) -> usize
         }
     }
     place
-}
-
-/// Returns whether a text begins with a separator that is not empty. Most bytes are not even its first, and
-/// most separators are one byte.
-#[inline]
-pub fn begins_with(text: &[u8], separator: &[u8]) -> bool
-    requires { 0 < length text.now }
-    ensures { result ≡ begins separator.now text.now }
-{
-    if separator.is_empty() {
-        return false;
-    }
-    let byte = text[0];
-    let first = separator[0];
-    if byte != first {
-        return false;
-    }
-    separator.len() == 1 || text.starts_with(separator)
-}
-
-/// Returns whether the first byte is a digit other than zero.
-#[inline]
-pub(crate) fn begins_with_digit(text: &[u8]) -> bool
-    ensures { IsTrue result ↔ BeginsWithDigit text.now }
-{
-    if text.is_empty() {
-        return false;
-    }
-    let first = text[0];
-    first.is_ascii_digit() && first != b'0'
-}
-
-/// Returns whether a digit stands among the bytes.
-#[inline]
-pub fn has_digit(text: &[u8]) -> bool
-    ensures { result ≡ list_any is_ascii_digit text.now }
-{
-    text.iter().any(|byte| byte.is_ascii_digit())
 }

@@ -1,18 +1,20 @@
 //! Texts of digits, alone or in groups with a separator between them.
 //!
 //! A function that is not passed a sign takes the text without its minus sign.
-ghost use Rattle.std.specs.Prelude.{◌≡◌, ◌↔◌, List, ◌+◌, ◌-◌, ◌^◌, ◌<◌, ◌≤◌, [], false, true, length, drop, take, slice_index, IsTrue, IfSome, MatchOption};
+ghost use Rattle.std.specs.Prelude.{◌≡◌, ◌+◌, ◌-◌, ◌^◌, ◌<◌, ◌≤◌, [], IfSome, MatchOption, drop, false, length};
+ghost use Rattle.std.specs.Prelude.{slice_index, take, true};
 ghost use Rattle.std.specs.Char.{is_ascii_digit};
 ghost use Rattle.std.specs.List.{list_all};
 ghost use Rattle.num_format_text.specs.Format.{FormatData};
 ghost use Rattle.num_format_int.specs.Grouped.{printed_separator};
 ghost use Rattle.num_format_int.specs.Kind.{signed_number};
-ghost use Rattle.num_format_parsing.specs.Parts.{AppendsGroup, BeginsWithDigits, BeginsWithGroup, HasDigits, IsBody, IsInGroups, number_in};
+ghost use Rattle.num_format_parsing.specs.Parts.{AppendsGroup, BeginsWithDigits, BeginsWithGroup, HasDigits, IsBody};
+ghost use Rattle.num_format_parsing.specs.Parts.{IsInGroups, number_in};
 ghost use Rattle.num_format_parsing.specs.Shapes.{BeginsWithDigit, HasSign, byte_figures};
 ghost use Rattle.num_format_parsing.specs.Strict.{SpellsNumber};
 
-use crate::causes::{begins_with, begins_with_digit};
-use crate::parsing::{Accumulator, SAFE_FIGURES};
+use crate::accumulator::{Accumulator, SAFE_FIGURES};
+use crate::bytes::{begins_with, begins_with_digit};
 use crate::symbols::Sign;
 use num_format_text::Grouping;
 use num_format_text::grouping::Sizes;
@@ -36,8 +38,8 @@ const FIRST_WEIGHTS: [u64; 4] = [0, 0, 10, 100];
 /// What the digit between them counts for.
 const MIDDLE_WEIGHTS: [u64; 4] = [0, 0, 0, 10];
 
-/// Returns the absolute value of the number that a text spells, if it has at most three bytes after its minus sign. It may
-/// return `None` for any text.
+/// Returns the absolute value of the number that a text spells, if it has at most three bytes after its minus sign. It
+/// may return `None` for any text.
 ///
 /// Such a text is parsed alike, whatever the separator and the grouping.
 #[inline(always)]

@@ -5,8 +5,7 @@
 ghost use Rattle.num_format_parsing.specs.Laws.{MinusSignLaw, ReadableLaw, StrictErrorHashLaw};
 ghost use Rattle.num_format_text.specs.Equality.{EqualityLaw, HashLaw};
 
-use crate::parsing::ParseBytesError;
-use crate::strict::StrictError;
+use crate::error::{ParseBytesError, StrictError};
 use std::hash::Hash;
 
 /// Which number a text denotes, and whether it is refused, depends on the minus sign of the format, and
@@ -23,13 +22,15 @@ pub fn readable()
 /// Two errors of parsing bytes are equal by `==` exactly if they are the same variant, a clone is the same
 /// variant, and different ones are hashed differently.
 pub fn bytes_errors()
-    ensures equality { EqualityLaw (λ e. e) ⟦<ParseBytesError as PartialEq>⟧.eq ⟦<ParseBytesError as Clone>⟧.is_clone ⟦<ParseBytesError as Clone>⟧.is_infallible }
+    ensures equality { EqualityLaw (λ e. e) ⟦<ParseBytesError as PartialEq>⟧.eq
+        ⟦<ParseBytesError as Clone>⟧.is_clone ⟦<ParseBytesError as Clone>⟧.is_infallible }
     ensures hash { HashLaw (λ e. e) ⟦<ParseBytesError as Hash>⟧.hash_input }
 {}
 
 /// Two errors of strict parsing are equal by `==` exactly if they are the same variant with the same
 /// place, and so are an error and its clone. Different ones are hashed differently.
 pub fn strict_errors()
-    ensures equality { EqualityLaw (λ e. e) ⟦<StrictError as PartialEq>⟧.eq ⟦<StrictError as Clone>⟧.is_clone ⟦<StrictError as Clone>⟧.is_infallible }
+    ensures equality { EqualityLaw (λ e. e) ⟦<StrictError as PartialEq>⟧.eq
+        ⟦<StrictError as Clone>⟧.is_clone ⟦<StrictError as Clone>⟧.is_infallible }
     ensures hash { StrictErrorHashLaw ⟦<StrictError as Hash>⟧.hash_input }
 {}

@@ -1,14 +1,22 @@
 //! Texts as whole numbers.
 //!
-//! Any file may be changed: `parsing` has what is promised, and the other modules how it is done.
+//! Each file imports only earlier ones of `bytes`, `symbols`, `accumulator`, `groups`, `reading`, `error`, `causes`,
+//! `parsing`, `strict`, `lenient` and `laws`. Any may be changed: `parsing` and `error` have what is promised, and the
+//! others how it is done.
 #![tactic(auto)]
 
+mod accumulator;
+pub mod bytes;
 pub mod causes;
+pub mod error;
 mod groups;
 pub mod laws;
+mod lenient;
 pub mod parsing;
+mod reading;
 pub mod strict;
 pub mod symbols;
 
+pub use error::{ParseBytesError, StrictError};
 pub use parsing::{FromFormattedStr, ParseFormatted};
-pub use strict::{StrictError, StrictParser};
+pub use strict::StrictParser;

@@ -1,72 +1,22 @@
-//! Strict parsing: a text that is exactly as a number is printed, or the cause of its refusal.
-//!
-//! A text *spells* a number if it is the text of the number under the format, or that text without
-//! separators. Strict parsing returns the number that a text spells, and refuses every other text. It refuses
-//! every text under a format that is ambiguous.
-ghost use Rattle.std.specs.Prelude.{◌≡◌, ◌↔◌, ℕ, List, Bool, [], ◌^◌, ◌<◌, ◌≤◌, length, Some, IsTrue, IsUtf8, IfSome, MatchResult};
+//! Strict parsing: the number that a text spells, or why it spells none.
+ghost use Rattle.std.specs.Prelude.{◌≡◌, ◌↔◌, ℕ, List, [], ◌<◌, IsTrue, IsUtf8, IfSome, MatchResult};
 ghost use Rattle.num_format_text.specs.Format.{FormatData};
 ghost use Rattle.num_format_int.specs.Grouped.{printed_separator};
-ghost use Rattle.num_format_int.specs.Kind.{IsValueOf, signed_number};
-ghost use Rattle.num_format_parsing.specs.Strict.{SpellsNumber, ParsesStrictly, HasNoNumeral, IsUnambiguous, strict_message_of};
-ghost use Rattle.num_format_parsing.specs.Parts.{HasBody, HasReading, IsJudged, IsSpelling};
-ghost use Rattle.num_format_parsing.specs.Shapes.{BeginsWithDigit, HasSign, byte_figures};
-ghost use Rattle.num_format_parsing.specs.declared.strict.StrictError.TheVariants as cause;
+ghost use Rattle.num_format_int.specs.Kind.{signed_number};
+ghost use Rattle.num_format_parsing.specs.Strict.{SpellsNumber, ParsesStrictly, HasNoNumeral, IsUnambiguous};
+ghost use Rattle.num_format_parsing.specs.Parts.{HasReading, IsJudged, IsSpelling};
+ghost use Rattle.num_format_parsing.specs.Shapes.{HasSign};
+ghost use Rattle.num_format_parsing.specs.declared.error.StrictError.TheVariants as cause;
 
-use crate::causes::{begins_with_digit, cause};
-use crate::groups::{
-    LONGEST_GROUPS, SHORT_LEN, exact_number, read_in_groups, read_short, read_text,
-};
-use crate::parsing::{Accumulator, FromFormattedStr, SAFE_FIGURES};
+use crate::causes::cause;
+use crate::error::StrictError;
+use crate::groups::{LONGEST_GROUPS, SHORT_LEN, read_in_groups, read_short};
+use crate::parsing::FromFormattedStr;
+use crate::reading::{Reading, read};
 use crate::symbols::{Sign, is_plain, is_simple, sign_of};
 use num_format_int::sealed::Sealed;
 use num_format_text::{Format, Grouping};
-use std::fmt;
 use std::marker::Model;
-
-/// Why a text was refused by strict parsing. The causes are tried in this order.
-///
-/// It takes 16 bytes, and does not keep the text.
-#[derive(Clone, Copy, Debug, PartialEq, Eq, Hash)]
-pub enum StrictError {
-    /// The format is ambiguous, so no text is parsed under it: its minus sign is empty, or its minus sign or a separator
-    /// that its grouping prints has a digit or another numeric character.
-    AmbiguousFormat,
-    /// The bytes are not UTF-8.
-    NotUtf8,
-    /// The first `at` bytes are the minus sign, if the text begins with it, and then digits and whole
-    /// separators. The next byte belongs to neither. A separator counts only if the grouping prints one.
-    Unexpected {
-        /// The number of bytes before the unexpected one.
-        at: usize,
-    },
-    /// No byte is unexpected, and the text has no digit.
-    NoDigit,
-    /// No byte is unexpected, and the text is that of no number, grouped or not:
-    /// under `en` these are `01`, `1,23`, `1234,567` and `-0`.
-    Misspelled,
-    /// The text spells a number that is no value of the type.
-    OutOfRange,
-}
-
-impl fmt::Display for StrictError {
-    ghost output = { λ error. Some (strict_message_of error) };
-
-    ghost styled_output = { λ error _. Some (strict_message_of error) };
-
-    /// Writes the message alone, whatever width or fill is asked for.
-    fn fmt<W: fmt::Write>(&self, f: &mut fmt::Formatter<W>) -> fmt::Result {
-        f.write_str(match self {
-            StrictError::AmbiguousFormat => "The format is ambiguous.",
-            StrictError::NotUtf8 => "The bytes are not UTF-8.",
-            StrictError::Unexpected { .. } => "The text has an unexpected byte.",
-            StrictError::NoDigit => "The text has no digit.",
-            StrictError::Misspelled => "The text is not as the number is printed.",
-            StrictError::OutOfRange => "The number is no value of the type.",
-        })
-    }
-}
-
-impl std::error::Error for StrictError {}
 
 /// A parser of texts under one format, which is not ambiguous. It asks the format for its symbols once.
 ///
@@ -104,7 +54,8 @@ impl<'a, F: Format> Model for StrictParser<'a, F> {
 #[inline(always)]
 fn is_unambiguous<F: Format>(format: &F, minus_sign: &str, separator: &str) -> bool
     requires sign { minus_sign.now ≡ (F.answers format.now).minus_sign }
-    requires separator { separator.now ≡ printed_separator (F.answers format.now).grouping (F.answers format.now).separator }
+    requires separator { separator.now
+        ≡ printed_separator (F.answers format.now).grouping (F.answers format.now).separator }
     ensures { IsTrue result ↔ IsUnambiguous (F.answers format.now) }
 {
     if format.has_common_symbols() {
@@ -142,8 +93,8 @@ pub(crate) fn parse_strict<N: Sealed, F: Format>(
     StrictParser::with_sign(format, minus_sign)?.parse_any(bytes, is_text)
 }
 
-/// Returns whether the text of the bytes is negative under a format with this minus sign, and what is read of it. Under an
-/// ambiguous format a text spells no number.
+/// Returns whether the text of the bytes is negative under a format with this minus sign, and what is read of it. A
+/// text spells no number under an ambiguous format.
 #[inline(always)]
 pub(crate) fn read_spelled<N: Sealed, F: Format>(
     bytes: &[u8],
@@ -184,8 +135,7 @@ impl<'a, F: Format> StrictParser<'a, F> {
     ///
     /// # Errors
     ///
-    /// [`StrictError::AmbiguousFormat`] if the minus sign is empty, or it or a separator that the grouping prints has a
-    /// digit or another numeric character. No locale is ambiguous.
+    /// [`StrictError::AmbiguousFormat`] exactly if the format is.
     ///
     /// ```rust
     /// let format = CustomFormat::builder().separator("7").build()?;
@@ -351,112 +301,6 @@ impl<'a, F: Format> StrictParser<'a, F> {
             return read_short(text, sign);
         }
         read_in_groups(text, sign, self.separator, self.grouping)
-    }
-}
-
-/// What was read of a text.
-#[derive(Clone, Copy)]
-pub(crate) enum Reading {
-    /// The text spells a number, whose absolute value this is.
-    Number(u128),
-    /// The text spells a number that is no value of the type.
-    TooLarge,
-    /// The text spells no number.
-    Unspelled,
-}
-
-/// Returns what is read of a text.
-#[inline(always)]
-fn read<N: Sealed>(text: &[u8], sign: Sign, separator: &str, grouping: Grouping) -> Reading
-    requires within { sign.len ≤ length text.now }
-    requires plain { byte_figures separator.now ≡ [] }
-    ensures { (f : FormatData) → HasSign f text.now sign.is_negative sign.len
-        → separator.now ≡ printed_separator f.grouping f.separator → grouping ≡ f.grouping
-        → HasReading N.kind f text.now sign.is_negative result }
-{
-    let body = &text[sign.len..];
-    if begins_with_digit(body) {
-        return read_body::<N>(body, separator, grouping);
-    }
-    if text.len() != 1 {
-        return Reading::Unspelled;
-    }
-    let byte = text[0];
-    if byte != b'0' {
-        return Reading::Unspelled;
-    }
-    Reading::Number(0)
-}
-
-/// Returns what is read of a text that begins with a digit other than zero.
-///
-/// Most texts are short: their digits fit 64 bits, which take less time than 128. Whether a type is wide is
-/// known where the code is compiled.
-#[inline(always)]
-fn read_body<N: Sealed>(text: &[u8], separator: &str, grouping: Grouping) -> Reading
-    requires begin { BeginsWithDigit text.now }
-    requires plain { byte_figures separator.now ≡ [] }
-    ensures { HasBody (λ n. (negative : Bool) → ¬ (IsValueOf N.kind (signed_number negative n)))
-        grouping separator.now text.now result }
-{
-    if !N::is_wide() {
-        return read_by::<u64>(text, separator, grouping);
-    }
-    if !seems_wide(text) {
-        match read_by::<u64>(text, separator, grouping) {
-            Reading::Number(magnitude) => return Reading::Number(magnitude),
-            Reading::TooLarge => {}
-            Reading::Unspelled => return Reading::Unspelled,
-        }
-    }
-    read_wide(text, separator, grouping)
-}
-
-/// Returns whether a text seems to have more digits than fit 64 bits. One with a separator before its last three digits
-/// has so many only if it has more than [`LONGEST_GROUPS`] bytes.
-#[inline(always)]
-fn seems_wide(bytes: &[u8]) -> bool {
-    let len = bytes.len();
-    len > SAFE_FIGURES && (len > LONGEST_GROUPS || bytes[len - 4].is_ascii_digit())
-}
-
-/// Returns what is read of a text of any length. The space of the call's result is this function's, so that it is cleared
-/// for such texts alone.
-#[inline(always)]
-fn read_wide(text: &[u8], separator: &str, grouping: Grouping) -> Reading
-    requires begin { BeginsWithDigit text.now }
-    requires plain { byte_figures separator.now ≡ [] }
-    ensures { HasBody (λ n. 2 ^ 128 ≤ n) grouping separator.now text.now result }
-{
-    read_apart(text, separator, grouping)
-}
-
-/// Does the same. It is a function of its own, so that shorter texts are parsed without its space.
-#[inline(never)]
-fn read_apart(text: &[u8], separator: &str, grouping: Grouping) -> Reading
-    requires begin { BeginsWithDigit text.now }
-    requires plain { byte_figures separator.now ≡ [] }
-    ensures { HasBody (λ n. 2 ^ 128 ≤ n) grouping separator.now text.now result }
-{
-    read_by::<u128>(text, separator, grouping)
-}
-
-/// Returns what is read of a text by way of the accumulator. A number past its bound is too large.
-#[inline]
-fn read_by<A: Accumulator>(text: &[u8], separator: &str, grouping: Grouping) -> Reading
-    requires begin { BeginsWithDigit text.now }
-    requires plain { byte_figures separator.now ≡ [] }
-    ensures { HasBody (λ n. A.bound ≤ n) grouping separator.now text.now result }
-{
-    let Some(whole) = read_text::<A>(text, separator, grouping) else {
-        return Reading::Unspelled;
-    };
-    if whole.figures <= A::safe_figures() {
-        return Reading::Number(whole.magnitude.number());
-    }
-    match exact_number::<A>(text) {
-        Some(magnitude) => Reading::Number(magnitude.number()),
-        None => Reading::TooLarge,
     }
 }
 

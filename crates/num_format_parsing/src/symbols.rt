@@ -1,15 +1,13 @@
 //! The symbols of a format: whether they have numerals, and which sign a text has.
-ghost use Rattle.std.specs.Prelude.{◌≡◌, ◌↔◌, true, false, IsTrue};
-ghost use Rattle.std.specs.Char.{is_ascii, is_ascii_digit};
-ghost use Rattle.std.specs.List.{list_all, list_any, starts_with};
-ghost use Rattle.std.specs.Prelude.{nat_eq};
+ghost use Rattle.std.specs.Prelude.{◌≡◌, ◌↔◌, IsTrue};
+ghost use Rattle.std.specs.List.{list_any};
 ghost use Rattle.std.specs.Str.{chars};
 ghost use Rattle.num_format_text.specs.Format.{FormatData};
 ghost use Rattle.num_format_parsing.specs.Reading.{is_other_numeral};
 ghost use Rattle.num_format_parsing.specs.Strict.{HasNoNumeral};
 ghost use Rattle.num_format_parsing.specs.Shapes.{HasPlainSymbols, HasSign};
 
-use crate::causes::has_digit;
+use crate::bytes::{has_digit, is_ascii, is_prefix};
 use unicode::properties::GeneralCategory;
 
 /// Returns whether a character is numeric and none of the digits `0` to `9`. In ASCII there is none,
@@ -39,8 +37,8 @@ pub fn is_plain(symbol: &str) -> bool
     is_simple(symbol) || !has_digit(symbol.as_bytes()) && !has_other_numeral(symbol)
 }
 
-/// Returns whether no character of a symbol is a digit or otherwise numeric, without a look at characters. It may return
-/// `false` for any symbol, and does not for most, which are in ASCII, or one of those that locales have.
+/// Returns whether no character of a symbol is a digit or otherwise numeric, by its bytes. It may return `false` for
+/// any symbol, and does not for most, which are in ASCII, or one of those that locales have.
 #[inline(always)]
 pub(crate) fn is_simple(symbol: &str) -> bool
     ensures { IsTrue result → HasNoNumeral symbol.now }
@@ -52,25 +50,12 @@ pub(crate) fn is_simple(symbol: &str) -> bool
     is_common(symbol) || !has_digit(bytes) && is_ascii(bytes)
 }
 
-/// Returns whether a symbol is one of those that many locales have: a no-break space, narrow or not, an apostrophe, or the
-/// minus sign.
+/// Returns whether a symbol is one that many locales have: a no-break space, narrow or not, an apostrophe, or U+2212.
 #[inline(always)]
 fn is_common(symbol: &str) -> bool
     ensures { IsTrue result → HasNoNumeral symbol.now }
 {
-    if symbol == "\u{202f}" {
-        return true;
-    }
-    if symbol == "\u{a0}" {
-        return true;
-    }
-    if symbol == "\u{2019}" {
-        return true;
-    }
-    if symbol == "\u{2212}" {
-        return true;
-    }
-    false
+    matches!(symbol, "\u{202f}" | "\u{a0}" | "\u{2019}" | "\u{2212}")
 }
 
 /// Returns whether a character of a text is numeric and none of the digits `0` to `9`.
@@ -79,14 +64,6 @@ pub(crate) fn has_other_numeral(text: &str) -> bool
     ensures { result ≡ list_any is_other_numeral (chars text.now) }
 {
     text.chars().any(is_other_numeral)
-}
-
-/// Returns whether all bytes are ASCII.
-#[inline(always)]
-fn is_ascii(bytes: &[u8]) -> bool
-    ensures { result ≡ list_all is_ascii bytes.now }
-{
-    bytes.iter().all(|byte| byte.is_ascii())
 }
 
 /// Whether a text is negative, and the length of its minus sign in bytes, which is else 0.
@@ -100,8 +77,8 @@ pub struct Sign {
 
 /// Returns the sign of a text.
 ///
-/// Most minus signs are one byte. The length is then computed from the comparison, since the processor mistakes a branch
-/// on the sign.
+/// Most minus signs are one byte. The length is then computed from the comparison, since the processor mistakes a
+/// branch on the sign.
 #[inline(always)]
 pub(crate) fn sign_of(text: &[u8], minus_sign: &str) -> Sign
     ensures { (f : FormatData) → minus_sign.now ≡ f.minus_sign → HasPlainSymbols f
@@ -131,16 +108,4 @@ fn compared_sign(text: &[u8], minus_sign: &str) -> Sign
     let is_negative = is_prefix(text, minus_sign.as_bytes());
     let len = if is_negative { minus_sign.len() } else { 0 };
     Sign { is_negative, len }
-}
-
-/// Returns whether a text begins with a prefix. Most are one byte, whose comparison takes less time than a
-/// call.
-#[inline]
-pub(crate) fn is_prefix(text: &[u8], prefix: &[u8]) -> bool
-    ensures { result ≡ starts_with nat_eq text.now prefix.now }
-{
-    if prefix.len() == 1 && !text.is_empty() {
-        return text[0] == prefix[0];
-    }
-    text.starts_with(prefix)
 }

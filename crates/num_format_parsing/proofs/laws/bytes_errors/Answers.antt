@@ -1,8 +1,8 @@
 use Rattle.std.proofs.Common.{ℕ, zero, suc, refl}
 use Rattle.std.specs.Hash.{le_bytes}
 use Rattle.num_format_text.proofs.HashLemmas.{first_byte, hashed_apart}
-use Rattle.num_format_parsing.specs.declared.parsing.ParseBytesError.{ParseBytesError}
-use Rattle.num_format_parsing.specs.declared.parsing.ParseBytesError.TheVariants.{NotUtf8, NotANumber}
+use Rattle.num_format_parsing.specs.declared.error.ParseBytesError.{ParseBytesError}
+use Rattle.num_format_parsing.specs.declared.error.ParseBytesError.TheVariants.{NotUtf8, NotANumber}
 use Rattle.num_format_parsing.proofs.laws.bytes_errors.Goals as goal
 
 -- the variant of a number

@@ -3,8 +3,8 @@ use Rattle.num_format_text.specs.Format.{FormatData}
 use Rattle.num_format_int.specs.Kind.{Kind}
 use Rattle.num_format_parsing.specs.Parts.{HasReading, IsSpelling}
 use Rattle.num_format_parsing.specs.Shapes.{HasSign}
-use Rattle.num_format_parsing.specs.declared.strict.Reading.{Reading}
-use Rattle.num_format_parsing.specs.declared.strict.Reading.TheVariants.{Number, TooLarge, Unspelled}
+use Rattle.num_format_parsing.specs.declared.reading.Reading.{Reading}
+use Rattle.num_format_parsing.specs.declared.reading.Reading.TheVariants.{Number, TooLarge, Unspelled}
 use Rattle.num_format_parsing.proofs.strict.read_spelled.Goals as goal
 
 spelling : (k : Kind) (f : FormatData) (t : List ℕ) (negative : Bool) (start : ℕ) → HasSign f t negative start → (read : Reading) → HasReading k f t negative read → IsSpelling k f t negative read

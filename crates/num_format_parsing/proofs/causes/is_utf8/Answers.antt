@@ -1,5 +1,0 @@
-use Rattle.std.proofs.Common.{refl}
-use Rattle.num_format_parsing.proofs.causes.is_utf8.Goals as goal
-
-pub returns-then-is_text : goal.returns-then-is_text
-returns-then-is_text c = (λ _. c.requires c.if-is_text.true, λ _. refl)
