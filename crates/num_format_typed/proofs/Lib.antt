@@ -1,0 +1,4 @@
+pub mod LawLemmas
+pub mod LocaleLemmas
+pub mod RewritingLemmas
+pub mod SignLemmas

@@ -1,0 +1,29 @@
+-- A text without its sign.
+use Rattle.std.proofs.Common.{◌≡◌, ℕ, true, false, List, [], ◌∷◌, ◌++◌, length, refl, ap, ◌∙◌, sym, drop, inl, inr}
+use Rattle.std.specs.Prelude.{encode_utf8, nat_eq}
+use Rattle.std.specs.List.{starts_with}
+use Rattle.std.specs.Str.{chars, encode_utf8_all}
+use Rattle.std.proofs.lemmas.Bool.{cases_Bool}
+use Rattle.std.proofs.lemmas.Bool.Decides.{Decides-eqb}
+use Rattle.std.proofs.lemmas.Slice.Eq.{starts_is}
+use Rattle.std.proofs.lemmas.Str.{encode_same}
+
+-- whether a text starts with a prefix
+pub starts : (t p : List ℕ) → t ≡ p ++ drop (length p) t → starts_with nat_eq t p ≡ true
+starts t p same = (starts_is Decides-eqb t p (starts_with nat_eq t p) refl).1 (drop (length p) t) same
+
+pub starts-not : (t p : List ℕ) → ((rest : List ℕ) → t ≡ p ++ rest → ⊥) → starts_with nat_eq t p ≡ false
+starts-not t p lacks =
+    elim (cases_Bool (starts_with nat_eq t p)) [
+      | inl begins ↦ absurd (lacks (drop (length p) t) ((starts_is Decides-eqb t p (starts_with nat_eq t p) refl).0 begins))
+      | inr other ↦ other
+    ]
+
+-- a text without its first character
+pub first-dropped : (t rest : List ℕ) (c : ℕ) → chars t ≡ c ∷ chars rest → t ≡ encode_utf8 c ++ rest → encode_utf8_all (chars t) ≡ t → rest ≡ encode_utf8_all (drop 1 (chars t))
+first-dropped t rest c first split whole =
+    let same : encode_utf8 c ++ encode_utf8_all (chars rest) ≡ encode_utf8 c ++ rest = sym (ap encode_utf8_all first) ∙ whole ∙ split in
+    sym (ap (λ cs. encode_utf8_all (drop 1 cs)) first ∙ (encode_same c c (encode_utf8_all (chars rest)) rest same).1)
+
+pub none-dropped : (t : List ℕ) → chars t ≡ [] → encode_utf8_all (chars t) ≡ t → t ≡ encode_utf8_all (drop 1 (chars t))
+none-dropped t none whole = sym whole ∙ ap encode_utf8_all none ∙ ap (λ cs. encode_utf8_all (drop 1 cs)) (sym none)

@@ -1,0 +1,14 @@
+use Rattle.std.proofs.Common.{◌≡◌, ◌++◌, length}
+use denote.Shadow.{shadow}
+use denote.Text.{Utf8}
+use Rattle.num_format_typed.specs.Rewriting.{images}
+use Rattle.num_format_typed.proofs.rewriting.rewrite.Given as goal
+
+-- the bytes so far, and those of what is left, are all
+abbrev pub invariant-loop-c : goal.invariant-loop-c
+invariant-loop-c g l =
+    shadow (Utf8 l.left)
+    × (l.prefix ++ images (g.I.Image.image l.map) l.text ≡ l.rewritten.bytes ++ images (g.I.Image.image l.map) l.left)
+
+abbrev pub decreases-loop-c : goal.decreases-loop-c
+decreases-loop-c g l = length l.left

@@ -1,0 +1,4 @@
+pub mod Classes
+pub mod Laws
+pub mod Rewriting
+pub mod Typed

@@ -1,0 +1,35 @@
+-- Texts rewritten character by character.
+use Rattle.std.specs.Prelude.{if◌then◌else◌, ℕ, ◌+◌, ◌-◌, nat_le, Bool, List, [], ◌∷◌, encode_utf8, length, map}
+use Rattle.std.specs.List.{list_all}
+use Rattle.std.specs.Str.{chars, encode_utf8_all}
+
+-- characters without those that pass a test, at the start and at the end
+abbrev pub trim_front : (ℕ → Bool) → List ℕ → List ℕ
+trim_front p [] = []
+trim_front p (c ∷ cs) = if p c then trim_front p cs else c ∷ cs
+
+abbrev pub trim_end : (ℕ → Bool) → List ℕ → List ℕ
+trim_end p [] = []
+trim_end p (c ∷ cs) = if list_all p (c ∷ cs) then [] else c ∷ trim_end p cs
+
+-- a text without such characters at its start, at its end, and at both
+abbrev pub without_front : (ℕ → Bool) → List ℕ → List ℕ
+without_front p t = encode_utf8_all (trim_front p (chars t))
+
+abbrev pub without_end : (ℕ → Bool) → List ℕ → List ℕ
+without_end p t = encode_utf8_all (trim_end p (chars t))
+
+abbrev pub without_ends : (ℕ → Bool) → List ℕ → List ℕ
+without_ends p t = without_end p (without_front p t)
+
+-- a text with the image of each character in its place
+abbrev pub images : (ℕ → ℕ) → List ℕ → List ℕ
+images image t = encode_utf8_all (map image (chars t))
+
+-- the bytes of the characters in front whose images take no more than so many bytes
+abbrev pub bytes_within : (ℕ → ℕ) → ℕ → List ℕ → ℕ
+bytes_within image room [] = 0
+bytes_within image room (c ∷ cs) =
+    if nat_le (length (encode_utf8 (image c))) room
+    then length (encode_utf8 c) + bytes_within image (room - length (encode_utf8 (image c))) cs
+    else 0

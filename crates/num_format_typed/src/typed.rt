@@ -1,0 +1,634 @@
+//! Parsing texts as people type them.
+ghost use Rattle.std.specs.Prelude.{◌≡◌, ◌↔◌, ◌++◌, ◌<◌, ◌≤◌, ℕ, [], IsTrue, MatchOption, MatchResult, IsUtf8, drop, length, Err, nat_eq, true, false};
+ghost use Rattle.std.specs.List.{find, list_any, starts_with};
+ghost use Rattle.std.specs.Str.{chars, encode_utf8_all};
+ghost use Rattle.num_format_decimal.specs.declared.buffer.TheConstants.{MAX_DECIMAL_LEN};
+ghost use Rattle.num_format_decimal.specs.Marks.{MarksDecimals};
+ghost use Rattle.num_format_decimal.specs.Parsing.{DecimalResult};
+ghost use Rattle.num_format_parsing.specs.Strict.{ParsesStrictly};
+ghost use Rattle.num_format_parsing.specs.declared.error.StrictError.TheVariants as strict;
+ghost use Rattle.num_format_typed.specs.Classes.{class_of, is_of};
+ghost use Rattle.num_format_typed.specs.Rewriting.{without_ends};
+ghost use Rattle.num_format_typed.specs.Typed.{IsTypable, ParsesTyped, RescaleResult, TypedAtScaleResult, TypedDecimalResult, at_any_scale, begins_with, body_of, core_of, has_class, has_minus, has_shared, is_nonzero_digit, is_own, is_shared_in, own_char, place_in, placed, placed_decimal, put, separator_of, sign_of, trimmed, typed_message_of, typed_text, unsigned};
+
+use crate::classes::Class;
+use crate::rewriting::{Image, bytes_within, rewrite, split_first, without_end, without_front};
+use arrayvec::ArrayString;
+use num_format_decimal::{
+    Decimal, DecimalParser, MAX_DECIMAL_LEN, ParseAtScaleError, ParseDecimalError, Rounding,
+};
+use num_format_parsing::{FromFormattedStr, StrictError, StrictParser};
+use num_format_text::Format;
+use std::fmt;
+use std::marker::Model;
+
+/// Why a text was refused as a typed number. `E` is the error of strict parsing.
+#[derive(Clone, Copy, Debug, PartialEq, Eq)]
+pub enum TypedError<E> {
+    /// With the characters of the format in it, the text has more bytes than the text of any number.
+    TooLong,
+    /// The cause of strict parsing. A place counts the bytes of the text that was given.
+    Number(E),
+}
+
+impl<E: fmt::Display> fmt::Display for TypedError<E> {
+    ghost output = { λ error. typed_message_of E.output error };
+
+    ghost styled_output = { λ error style. typed_message_of (λ e. E.styled_output e style) error };
+
+    fn fmt<W: fmt::Write>(&self, f: &mut fmt::Formatter<W>) -> fmt::Result {
+        match self {
+            TypedError::TooLong => f.write_str("The text is too long."),
+            TypedError::Number(error) => fmt::Display::fmt(error, f),
+        }
+    }
+}
+
+impl<E: fmt::Display + fmt::Debug + Drop> std::error::Error for TypedError<E> {}
+
+/// The symbols of a format that stand between digits.
+#[derive(Clone, Copy)]
+pub struct Symbols<'a> {
+    separator: &'a str,
+    mark: &'a str,
+}
+
+impl<'a> Image for Symbols<'a> {
+    ghost image = { λ symbols. put symbols.separator.now symbols.mark.now };
+
+    fn image(&self, c: char) -> char {
+        let Some(class) = Class::of(c) else {
+            return c;
+        };
+        if let Some(own) = first_of(self.separator, class) {
+            return own;
+        }
+        first_of(self.mark, class).unwrap_or(c)
+    }
+}
+
+impl<'a> Symbols<'a> {
+    /// Returns whether each character of a text is put for itself.
+    fn are_own(&self, text: &str) -> bool
+        ensures { result ≡ is_own self.now.separator.now self.now.mark.now text.now }
+    {
+        text.chars().all(|c| self.image(c) == c)
+    }
+
+    /// Returns whether a text has a character that could be typed for one of the symbols.
+    fn share(&self, text: &str) -> bool
+        ensures { result ≡ has_shared self.now.separator.now self.now.mark.now text.now }
+    {
+        text.chars().any(|c| self.shares(c))
+    }
+
+    /// Returns whether a symbol has a character of the class of this one.
+    fn shares(&self, c: char) -> bool
+        ensures { result ≡ is_shared_in self.now.separator.now self.now.mark.now (class_of c) }
+    {
+        match Class::of(c) {
+            Some(class) => has_class(self.separator, class) || has_class(self.mark, class),
+            None => false,
+        }
+    }
+}
+
+/// Returns the first character of a class in a text.
+fn first_of(text: &str, class: Class) -> Option<char>
+    ensures { result ≡ find (is_of class) (chars text.now) }
+{
+    text.chars().find(|c| class.has(*c))
+}
+
+/// Returns whether a text has a character of a class.
+fn has_class(text: &str, class: Class) -> bool
+    ensures { result ≡ has_class class text.now }
+{
+    text.chars().any(|c| class.has(c))
+}
+
+/// Returns whether a text begins with a character of a class.
+fn begins_with(text: &str, class: Class) -> bool
+    ensures { result ≡ begins_with class text.now }
+{
+    match split_first(text) {
+        Some((c, _)) => class.has(c),
+        None => false,
+    }
+}
+
+/// Returns a text without a prefix, or `None` if it does not begin with it.
+fn strip<'t>(text: &'t str, prefix: &str) -> Option<&'t str>
+    ensures { MatchOption result (starts_with nat_eq text.now prefix.now ≡ false)
+        (λ rest. (starts_with nat_eq text.now prefix.now ≡ true) × (rest.now ≡ drop (length prefix.now) text.now)) }
+{
+    match text.strip_prefix(prefix) {
+        Some(rest) => Some(rest),
+        None => None,
+    }
+}
+
+/// Returns a text without its first character.
+fn without_first(text: &str) -> &str
+    ensures value { result.now ≡ encode_utf8_all (drop 1 (chars text.now)) }
+    ensures bound { length result.now ≤ length text.now }
+{
+    match split_first(text) {
+        Some((_, rest)) => rest,
+        None => text,
+    }
+}
+
+/// A parser of typed texts under one format. It asks the format for its symbols once.
+///
+/// A contract sees it as the data of its format.
+///
+/// ```rust
+/// let parser = TypedParser::new(&Locale::fr)?;
+/// parser.parse::<i32>("1 234")        // Ok(1234)
+/// parser.parse_decimal("1 234,50")    // Ok(1234.50)
+/// ```
+#[derive(Drop)]
+pub struct TypedParser<'a, F: Format> {
+    numbers: StrictParser<'a, F>,
+    decimals: Option<DecimalParser<'a, F>>,
+    minus_sign: &'a str,
+    core: &'a str,
+    symbols: Symbols<'a>,
+}
+
+impl<'a, F: Format> Model for TypedParser<'a, F> {
+    ghost use Rattle.std.specs.Prelude.{◌≡◌, MatchOption};
+    ghost use Rattle.num_format_text.specs.Format.{FormatData};
+    ghost use Rattle.num_format_decimal.specs.Marks.{MarksDecimals};
+    ghost use Rattle.num_format_typed.specs.Typed.{IsTypable, core_of, separator_of};
+
+    ghost Value = { FormatData };
+
+    ghost view = { λ p. p.numbers };
+
+    ghost invariant = { λ p. (p.minus_sign.now ≡ p.numbers.minus_sign)
+        × (p.core.now ≡ core_of p.numbers)
+        × (p.symbols.separator.now ≡ separator_of p.numbers)
+        × (p.symbols.mark.now ≡ p.numbers.decimal)
+        × IsTypable p.numbers
+        × MatchOption p.decimals (¬ (MarksDecimals p.numbers)) (λ d. (d ≡ p.numbers) × MarksDecimals p.numbers) };
+}
+
+impl<'a, F: Format> TypedParser<'a, F> {
+    /// Returns a parser of typed texts under the format.
+    ///
+    /// # Errors
+    ///
+    /// [`StrictError::AmbiguousFormat`] exactly if strict parsing refuses the format, if its separator and its mark
+    /// have two characters of one class, as `'` and U+2019, or if its minus sign begins with a space or a plus sign, or
+    /// has a character of a class of which the separator or the mark has one.
+    pub fn new(format: &'a F) -> Result<TypedParser<'a, F>, StrictError>
+        ensures { MatchResult result
+            (λ parser. (parser ≡ F.answers format.now) × IsTypable (F.answers format.now))
+            (λ e. (e ≡ strict.AmbiguousFormat) × ¬ (IsTypable (F.answers format.now))) }
+    {
+        let minus_sign = format.minus_sign().into_str();
+        let mark = format.decimal().into_str();
+        let Ok(numbers) = StrictParser::new(format) else {
+            return Err(StrictError::AmbiguousFormat);
+        };
+        let symbols = Symbols {
+            separator: numbers.separator(),
+            mark,
+        };
+        let core = without_ends(minus_sign, Class::Direction);
+        if core.is_empty() || begins_with(core, Class::End) || begins_with(core, Class::Plus) {
+            return Err(StrictError::AmbiguousFormat);
+        }
+        if !symbols.are_own(symbols.separator) || !symbols.are_own(mark) || symbols.share(core) {
+            return Err(StrictError::AmbiguousFormat);
+        }
+        Ok(TypedParser {
+            numbers,
+            decimals: DecimalParser::new(format).ok(),
+            minus_sign,
+            core,
+            symbols,
+        })
+    }
+
+    /// Returns the number that a person means by the text: the one that strict parsing returns of it with the format's
+    /// own characters in place of those that were typed.
+    ///
+    /// ```rust
+    /// let parser = TypedParser::new(&Locale::de_CH)?;
+    /// parser.parse::<i32>("+1'234")     // Ok(1234), where de-CH prints U+2019
+    /// parser.parse::<i32>("1'23")       // Err(Number(Misspelled))
+    /// ```
+    ///
+    /// # Errors
+    ///
+    /// A [`TypedError`], but not `AmbiguousFormat` and `NotUtf8`.
+    #[inline]
+    pub fn parse<N: FromFormattedStr>(&self, text: &str) -> Result<N, TypedError<StrictError>>
+        ensures { ParsesTyped N.kind N.value self.now text.now result }
+    {
+        match self.numbers().parse(text) {
+            Ok(number) => Ok(number),
+            Err(_) => self.parse_rewritten(text),
+        }
+    }
+
+    /// Returns the number that a person means by the text of the bytes.
+    ///
+    /// # Errors
+    ///
+    /// As [`parse`](TypedParser::parse), and `NotUtf8`.
+    #[inline]
+    pub fn parse_bytes<N: FromFormattedStr>(
+        &self,
+        bytes: &[u8],
+    ) -> Result<N, TypedError<StrictError>>
+        ensures { ParsesTyped N.kind N.value self.now bytes.now result }
+    {
+        match self.numbers().parse_bytes(bytes) {
+            Ok(number) => Ok(number),
+            Err(_) => match str::from_utf8(bytes) {
+                Ok(text) => self.parse_rewritten(text),
+                Err(_) => Err(TypedError::Number(StrictError::NotUtf8)),
+            },
+        }
+    }
+
+    /// Returns the number that a text means which strict parsing refuses.
+    #[cold]
+    #[inline(never)]
+    fn parse_rewritten<N: FromFormattedStr>(&self, text: &str) -> Result<N, TypedError<StrictError>>
+        requires typable { IsTypable self.now }
+        requires refused { (e : StrictError) × ParsesStrictly N.kind N.value self.now text.now (Err e) }
+        ensures { ParsesTyped N.kind N.value self.now text.now result }
+    {
+        let Some(typed) = self.rewrite(text) else {
+            return Err(TypedError::TooLong);
+        };
+        match self.numbers().parse(typed.as_str()) {
+            Ok(number) => Ok(number),
+            Err(error) => Err(TypedError::Number(self.placed(text, error))),
+        }
+    }
+
+    /// Returns the decimal that a person means by the text, with as many decimals as were typed.
+    ///
+    /// ```rust
+    /// let parser = TypedParser::new(&Locale::fr)?;
+    /// parser.parse_decimal("1 234,50")    // Ok(1234.50)
+    /// parser.parse_decimal("-0,00")       // Ok(0.00)
+    /// ```
+    ///
+    /// # Errors
+    ///
+    /// As [`parse`](TypedParser::parse), but with the causes of decimals, and `AmbiguousFormat` if the mark is the
+    /// separator, or no mark.
+    #[inline]
+    pub fn parse_decimal(&self, text: &str) -> Result<Decimal, TypedError<ParseDecimalError>>
+        ensures { TypedDecimalResult self.now text.now result }
+    {
+        let Some(decimals) = self.decimals() else {
+            return Err(TypedError::Number(ParseDecimalError::AmbiguousFormat));
+        };
+        match decimals.parse(text) {
+            Ok(decimal) => Ok(decimal),
+            Err(_) => self.parse_rewritten_decimal(decimals, text),
+        }
+    }
+
+    /// Returns the decimal that a person means by the text of the bytes.
+    ///
+    /// # Errors
+    ///
+    /// As [`parse_decimal`](TypedParser::parse_decimal), and `NotUtf8`.
+    #[inline]
+    pub fn parse_decimal_bytes(
+        &self,
+        bytes: &[u8],
+    ) -> Result<Decimal, TypedError<ParseDecimalError>>
+        ensures { TypedDecimalResult self.now bytes.now result }
+    {
+        let Some(decimals) = self.decimals() else {
+            return Err(TypedError::Number(ParseDecimalError::AmbiguousFormat));
+        };
+        match decimals.parse_bytes(bytes) {
+            Ok(decimal) => Ok(decimal),
+            Err(_) => match str::from_utf8(bytes) {
+                Ok(text) => self.parse_rewritten_decimal(decimals, text),
+                Err(_) => Err(TypedError::Number(ParseDecimalError::NotUtf8)),
+            },
+        }
+    }
+
+    /// Returns the decimal that a text means which strict parsing refuses.
+    #[cold]
+    #[inline(never)]
+    fn parse_rewritten_decimal(
+        &self,
+        decimals: &DecimalParser<'a, F>,
+        text: &str,
+    ) -> Result<Decimal, TypedError<ParseDecimalError>>
+        requires same { decimals.now ≡ self.now }
+        requires typable { IsTypable self.now }
+        requires marks { MarksDecimals self.now }
+        requires refused { (e : ParseDecimalError) × DecimalResult self.now text.now (Err e) }
+        ensures { TypedDecimalResult self.now text.now result }
+    {
+        let Some(typed) = self.rewrite(text) else {
+            return Err(TypedError::TooLong);
+        };
+        match decimals.parse(typed.as_str()) {
+            Ok(decimal) => Ok(decimal),
+            Err(error) => Err(TypedError::Number(self.placed_decimal(text, error))),
+        }
+    }
+
+    /// Returns the decimal that a person means by the text at another scale: the same number, or an error.
+    ///
+    /// ```rust
+    /// TypedParser::new(&Locale::fr)?.parse_at_scale("1 234,5", 2)    // Ok(1234.50)
+    /// ```
+    ///
+    /// # Errors
+    ///
+    /// As [`parse_decimal`](TypedParser::parse_decimal), and that of [`rescale`](Decimal::rescale) under
+    /// [`Rounding::Exact`].
+    pub fn parse_at_scale(
+        &self,
+        text: &str,
+        scale: u8,
+    ) -> Result<Decimal, TypedError<ParseAtScaleError>>
+        ensures { TypedAtScaleResult self.now text.now scale result }
+    {
+        match self.parse_decimal(text) {
+            Ok(decimal) => at_scale(decimal, scale),
+            Err(error) => Err(at_any_scale(error)),
+        }
+    }
+
+    /// Returns the decimal that a person means by the text of the bytes at another scale.
+    ///
+    /// # Errors
+    ///
+    /// As [`parse_at_scale`](TypedParser::parse_at_scale), and `NotUtf8`.
+    pub fn parse_bytes_at_scale(
+        &self,
+        bytes: &[u8],
+        scale: u8,
+    ) -> Result<Decimal, TypedError<ParseAtScaleError>>
+        ensures { TypedAtScaleResult self.now bytes.now scale result }
+    {
+        match self.parse_decimal_bytes(bytes) {
+            Ok(decimal) => at_scale(decimal, scale),
+            Err(error) => Err(at_any_scale(error)),
+        }
+    }
+
+    /// Returns the strict parser. The contract says what is known of the format.
+    #[inline(always)]
+    fn numbers(&self) -> &StrictParser<'a, F>
+        ensures same { result.now ≡ self.now }
+        ensures typable { IsTypable self.now }
+    {
+        &self.numbers
+    }
+
+    /// Returns the strict parser of decimals, if the format marks decimals.
+    #[inline(always)]
+    fn decimals(&self) -> Option<&DecimalParser<'a, F>>
+        ensures marks { MatchOption result (¬ (MarksDecimals self.now))
+            (λ decimals. (decimals.now ≡ self.now) × MarksDecimals self.now) }
+        ensures typable { IsTypable self.now }
+    {
+        self.decimals.as_ref()
+    }
+
+    /// Returns what a typed text stands for, or `None` if it is too long.
+    fn rewrite(&self, text: &str) -> Option<ArrayString<MAX_DECIMAL_LEN>>
+        ensures { MatchOption result (MAX_DECIMAL_LEN < length (typed_text self.now text.now))
+            (λ typed. typed.bytes ≡ typed_text self.now text.now) }
+    {
+        let inner = without_ends(text, Class::End);
+        let body = self.body(inner);
+        rewrite(self.sign(inner, body), body, &self.symbols)
+    }
+
+    /// Returns what follows the sign of a trimmed text.
+    fn body<'t>(&self, text: &'t str) -> &'t str
+        ensures value { result.now ≡ body_of self.now text.now }
+        ensures bound { length result.now ≤ length text.now }
+    {
+        without_front(self.unsigned(text), Class::Direction)
+    }
+
+    /// Returns a trimmed text without its sign.
+    fn unsigned<'t>(&self, text: &'t str) -> &'t str
+        ensures value { result.now ≡ unsigned self.now text.now }
+        ensures bound { length result.now ≤ length text.now }
+    {
+        if let Some(rest) = strip(text, self.core) {
+            return rest;
+        }
+        if begins_with(text, Class::Minus) || begins_with(text, Class::Plus) {
+            return without_first(text);
+        }
+        text
+    }
+
+    /// Returns the sign of what a trimmed text of this body stands for.
+    fn sign(&self, text: &str, body: &str) -> &'a str
+        requires { body.now ≡ body_of self.now text.now }
+        ensures { result.now ≡ sign_of self.now text.now }
+    {
+        if self.has_minus(text) && has_nonzero_digit(body) {
+            return self.minus_sign;
+        }
+        if body.as_bytes().starts_with(self.core.as_bytes()) {
+            return self.minus_sign;
+        }
+        ""
+    }
+
+    /// Returns whether a trimmed text begins with a minus sign.
+    fn has_minus(&self, text: &str) -> bool
+        ensures { result ≡ has_minus self.now text.now }
+    {
+        text.as_bytes().starts_with(self.core.as_bytes()) || begins_with(text, Class::Minus)
+    }
+
+    /// Returns an error with its place in the text that was given.
+    #[cold]
+    fn placed(&self, text: &str, error: StrictError) -> StrictError
+        ensures { result ≡ placed (place_in self.now text.now) error }
+    {
+        match error {
+            StrictError::Unexpected { at } => StrictError::Unexpected {
+                at: self.place(text, at),
+            },
+            _ => error,
+        }
+    }
+
+    /// Does the same for a decimal.
+    #[cold]
+    fn placed_decimal(&self, text: &str, error: ParseDecimalError) -> ParseDecimalError
+        ensures { result ≡ placed_decimal (place_in self.now text.now) error }
+    {
+        match error {
+            ParseDecimalError::Unexpected { at } => ParseDecimalError::Unexpected {
+                at: self.place(text, at),
+            },
+            _ => error,
+        }
+    }
+
+    /// Returns the place in a text of a place in what it stands for.
+    fn place(&self, text: &str, at: usize) -> usize
+        ensures { result ≡ place_in self.now text.now at }
+    {
+        let front = without_front(text, Class::End);
+        let inner = without_end(front, Class::End);
+        let body = self.body(inner);
+        let start = text.len() - front.len() + (inner.len() - body.len());
+        let room = at.saturating_sub(self.sign(inner, body).len());
+        start + bytes_within(room, body, &self.symbols)
+    }
+}
+
+/// Returns a decimal at another scale.
+fn at_scale(decimal: Decimal, scale: u8) -> Result<Decimal, TypedError<ParseAtScaleError>>
+    ensures { RescaleResult decimal scale result }
+{
+    match decimal.rescale(scale, Rounding::Exact) {
+        Ok(rescaled) => Ok(rescaled),
+        Err(error) => Err(TypedError::Number(ParseAtScaleError::Rescale(error))),
+    }
+}
+
+/// Returns why a text is refused at any scale.
+fn at_any_scale(error: TypedError<ParseDecimalError>) -> TypedError<ParseAtScaleError>
+    ensures { result ≡ at_any_scale error }
+{
+    match error {
+        TypedError::TooLong => TypedError::TooLong,
+        TypedError::Number(error) => TypedError::Number(ParseAtScaleError::Parse(error)),
+    }
+}
+
+/// Returns a text without the characters of a class at both ends.
+fn without_ends(text: &str, class: Class) -> &str
+    ensures value { result.now ≡ without_ends (is_of class) text.now }
+    ensures bound { length result.now ≤ length text.now }
+{
+    without_end(without_front(text, class), class)
+}
+
+/// Returns whether a text has a digit 1 to 9.
+fn has_nonzero_digit(text: &str) -> bool
+    ensures { result ≡ list_any is_nonzero_digit text.now }
+{
+    text.bytes().any(|byte| matches!(byte, b'1'..=b'9'))
+}
+
+/// Returns the number that a person means by the text under a format.
+///
+/// The text is taken as a person types it: spaces of any kind, any apostrophe and `-` stand for those of the format.
+/// (No data type is meant.)
+///
+/// ```rust
+/// parse_typed::<i32, _>("-1 234", &Locale::fr)    // Ok(-1234)
+/// parse_typed::<i32, _>("1,234", &Locale::fr)     // Err(Number(Unexpected { at: 1 }))
+/// ```
+///
+/// # Errors
+///
+/// As [`TypedParser::parse`], and `AmbiguousFormat` as [`TypedParser::new`].
+pub fn parse_typed<N: FromFormattedStr, F: Format>(
+    text: &str,
+    format: &F,
+) -> Result<N, TypedError<StrictError>>
+    ensures { ParsesTyped N.kind N.value (F.answers format.now) text.now result }
+{
+    match TypedParser::new(format) {
+        Ok(parser) => parser.parse(text),
+        Err(error) => Err(TypedError::Number(error)),
+    }
+}
+
+/// Returns the number that a person means by the text of the bytes under a format.
+///
+/// # Errors
+///
+/// As [`parse_typed`], and `NotUtf8`.
+pub fn parse_typed_bytes<N: FromFormattedStr, F: Format>(
+    bytes: &[u8],
+    format: &F,
+) -> Result<N, TypedError<StrictError>>
+    ensures { ParsesTyped N.kind N.value (F.answers format.now) bytes.now result }
+{
+    match TypedParser::new(format) {
+        Ok(parser) => parser.parse_bytes(bytes),
+        Err(error) => Err(TypedError::Number(error)),
+    }
+}
+
+/// Returns the decimal that a person means by the text under a format. (No data type is meant.)
+///
+/// ```rust
+/// parse_typed_decimal("1'234.50", &Locale::de_CH)    // Ok(1234.50)
+/// parse_typed_decimal(".5", &Locale::en)             // Err(Number(Misspelled))
+/// ```
+///
+/// # Errors
+///
+/// As [`TypedParser::parse_decimal`], and `AmbiguousFormat` as [`TypedParser::new`].
+pub fn parse_typed_decimal<F: Format>(
+    text: &str,
+    format: &F,
+) -> Result<Decimal, TypedError<ParseDecimalError>>
+    ensures { TypedDecimalResult (F.answers format.now) text.now result }
+{
+    match TypedParser::new(format) {
+        Ok(parser) => parser.parse_decimal(text),
+        Err(_) => Err(TypedError::Number(ParseDecimalError::AmbiguousFormat)),
+    }
+}
+
+/// Returns the decimal that a person means by the text of the bytes under a format.
+///
+/// # Errors
+///
+/// As [`parse_typed_decimal`], and `NotUtf8`.
+pub fn parse_typed_decimal_bytes<F: Format>(
+    bytes: &[u8],
+    format: &F,
+) -> Result<Decimal, TypedError<ParseDecimalError>>
+    ensures { TypedDecimalResult (F.answers format.now) bytes.now result }
+{
+    match TypedParser::new(format) {
+        Ok(parser) => parser.parse_decimal_bytes(bytes),
+        Err(_) => Err(TypedError::Number(ParseDecimalError::AmbiguousFormat)),
+    }
+}
+
+/// Returns the decimal that a person means by the text at another scale: the same number, or an error.
+///
+/// # Errors
+///
+/// As [`TypedParser::parse_at_scale`], and `AmbiguousFormat` as [`TypedParser::new`].
+pub fn parse_typed_at_scale<F: Format>(
+    text: &str,
+    scale: u8,
+    format: &F,
+) -> Result<Decimal, TypedError<ParseAtScaleError>>
+    ensures { TypedAtScaleResult (F.answers format.now) text.now scale result }
+{
+    match TypedParser::new(format) {
+        Ok(parser) => parser.parse_at_scale(text, scale),
+        Err(_) => Err(TypedError::Number(ParseAtScaleError::Parse(
+            ParseDecimalError::AmbiguousFormat,
+        ))),
+    }
+}
