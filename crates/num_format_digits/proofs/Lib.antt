@@ -1,0 +1,3 @@
+pub mod SetLemmas
+pub mod TagLemmas
+pub mod TextLemmas

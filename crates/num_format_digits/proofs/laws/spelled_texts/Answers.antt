@@ -1,0 +1,34 @@
+-- num_format_digits/proofs/laws/spelled_texts/Answers.antt
+use Rattle.std.proofs.Common.{◌≡◌, ◌∙◌, ℕ, ℤ, List, ap, refl, subst, sym, IsUtf8}
+use Rattle.std.proofs.lemmas.Str.{IsUtf8-nil}
+use Rattle.num_format_text.specs.Format.{FormatData}
+use Rattle.num_format_parsing.specs.Shapes.{HasPlainSymbols}
+use Rattle.num_format_parsing.specs.Strict.{SpellsNumber}
+use Rattle.num_format_parsing.proofs.CommonLemmas.{of_printed}
+use Rattle.num_format_parsing.proofs.SpellingLemmas.{no_other-spelled}
+use Rattle.num_format_parsing.proofs.SymbolLemmas.{plain-symbols}
+use Rattle.num_format_digits.specs.Digits.{HasOneSet, IsZero, ascii_of, in_digits}
+use Rattle.num_format_digits.specs.Laws.{SpellsIn}
+use Rattle.num_format_digits.proofs.TextLemmas.{one_set, reads_back}
+use Rattle.num_format_digits.proofs.laws.spelled_texts.Goals as goal
+
+-- what spells n is shown, and is of one set
+shown : (z : ℕ) (f : FormatData) (t a : List ℕ) (n : ℤ) → IsZero z → HasPlainSymbols f → SpellsNumber f a n → t ≡ in_digits z a → HasOneSet z t × SpellsNumber f (ascii_of z t) n
+shown z f t a n is symbols spells same =
+    let other = no_other-spelled f a n symbols spells in
+    let back = reads_back z a is other.utf8 other.plain in
+    (subst (HasOneSet z) (sym same) back.0, subst (λ x. SpellsNumber f x n) (sym (ap (ascii_of z) same ∙ back.1)) spells)
+
+-- one way and the other
+there : (z : ℕ) (f : FormatData) (t : List ℕ) (n : ℤ) → IsZero z → HasPlainSymbols f → SpellsIn z f t n → HasOneSet z t × SpellsNumber f (ascii_of z t) n
+there z f t n is symbols (SpellsIn.with_separators same) = shown z f t _ n is symbols (SpellsNumber.with_separators refl) same
+there z f t n is symbols (SpellsIn.without_separators same) = shown z f t _ n is symbols (SpellsNumber.without_separators refl) same
+
+back : (z : ℕ) (f : FormatData) (t a : List ℕ) (n : ℤ) → in_digits z a ≡ t → SpellsNumber f a n → SpellsIn z f t n
+back z f t a n same (SpellsNumber.with_separators e) = SpellsIn.with_separators (sym same ∙ ap (in_digits z) e)
+back z f t a n same (SpellsNumber.without_separators e) = SpellsIn.without_separators (sym same ∙ ap (in_digits z) e)
+
+pub returns : goal.returns
+returns c = λ z f t n is unambiguous texts utf8.
+    let symbols = plain-symbols f unambiguous texts.minus_sign (of_printed IsUtf8 IsUtf8-nil f.grouping f.separator texts.separator) in
+    (there z f t n is symbols, λ both. back z f t (ascii_of z t) n (one_set z t is utf8 both.0) both.1)

@@ -1,0 +1,5 @@
+pub mod Digits
+pub mod Laws
+pub mod Parsing
+pub mod Sets
+pub mod Tags

@@ -1,0 +1,50 @@
+-- What parsing a text in a digit set returns.
+use Rattle.std.specs.Prelude.{◌≡◌, ◌⊎◌, ℕ, ℤ, ◌<◌, ◌≤◌, List, length, Some, Result, Ok, Err, MatchResult}
+use Rattle.std.specs.Str.{chars}
+use Rattle.num_format_text.specs.Format.{FormatData}
+use Rattle.num_format_int.specs.Kind.{Kind}
+use Rattle.num_format_parsing.specs.Strict.{IsUnambiguous, ParsesStrictly}
+use Rattle.num_format_parsing.specs.declared.error.StrictError.{StrictError}
+use Rattle.num_format_parsing.specs.declared.error.StrictError.TheVariants as strict
+use Rattle.num_format_decimal.specs.FixedPoint.{FixedPoint}
+use Rattle.num_format_decimal.specs.Marks.{MarksDecimals}
+use Rattle.num_format_decimal.specs.Parsing.{DecimalResult}
+use Rattle.num_format_decimal.specs.declared.buffer.TheConstants.{MAX_DECIMAL_LEN}
+use Rattle.num_format_decimal.specs.declared.parsing.ParseDecimalError.{ParseDecimalError}
+use Rattle.num_format_decimal.specs.declared.parsing.ParseDecimalError.TheVariants as decimal
+use Rattle.num_format_typed.specs.Rewriting.{bytes_within}
+use Rattle.num_format_typed.specs.Typed.{placed, placed_decimal}
+use Rattle.num_format_digits.specs.Digits.{HasOneSet, ascii_of, other_from, plain_char}
+use Rattle.num_format_digits.specs.declared.parsing.DigitsError.{DigitsError}
+use Rattle.num_format_digits.specs.declared.parsing.DigitsError.TheVariants.{OtherNumeral, TooLong, Number}
+
+-- a text is not one of the set's digits, or too long
+abbrev pub IsTextCause : {E : Type 0} → ℕ → List ℕ → DigitsError E → Type 0
+IsTextCause z t (OtherNumeral at) = other_from z 0 (chars t) ≡ Some at
+IsTextCause z t TooLong = HasOneSet z t × (MAX_DECIMAL_LEN < length (ascii_of z t))
+IsTextCause z t (Number e) = ⊥
+
+-- the place in a text of the character for which a place in the text with 0 to 9 stands
+abbrev pub place_in : ℕ → List ℕ → ℕ → ℕ
+place_in z t at = bytes_within (plain_char z) at (chars t)
+
+-- when a text is refused for a cause, where a format has to be taken, and the text with 0 to 9 is parsed as the relation says: first if
+-- the format is not
+abbrev pub IsDigitsCause : {X E : Type 0} → Type 0 → E → ((ℕ → ℕ) → E → E) → (List ℕ → Result X E → Type 0) → ℕ → List ℕ → DigitsError E → Type 0
+IsDigitsCause Taken ambiguous place parses z t (Number e) =
+    (¬ Taken × (e ≡ ambiguous))
+    ⊎ (HasOneSet z t × (length (ascii_of z t) ≤ MAX_DECIMAL_LEN)
+        × ((inner : _) × parses (ascii_of z t) (Err inner) × (e ≡ place (place_in z t) inner)))
+IsDigitsCause Taken ambiguous place parses z t e = Taken × IsTextCause z t e
+
+-- what parsing returns: what the text with 0 to 9 is parsed as, if each of its numeric characters is a digit of the set, or the cause
+abbrev pub InDigits : {X E : Type 0} → Type 0 → E → ((ℕ → ℕ) → E → E) → (List ℕ → Result X E → Type 0) → ℕ → List ℕ → Result X (DigitsError E) → Type 0
+InDigits Taken ambiguous place parses z t result =
+    MatchResult result (λ x. HasOneSet z t × parses (ascii_of z t) (Ok x)) (IsDigitsCause Taken ambiguous place parses z t)
+
+-- of a whole number of a kind, and of a decimal
+abbrev pub ParsesInDigits : {X : Type 0} → Kind → (X → ℤ) → FormatData → ℕ → List ℕ → Result X (DigitsError StrictError) → Type 0
+ParsesInDigits k value f = InDigits (IsUnambiguous f) strict.AmbiguousFormat placed (ParsesStrictly k value f)
+
+abbrev pub DecimalInDigits : FormatData → ℕ → List ℕ → Result FixedPoint (DigitsError ParseDecimalError) → Type 0
+DecimalInDigits f = InDigits (MarksDecimals f) decimal.AmbiguousFormat placed_decimal (DecimalResult f)

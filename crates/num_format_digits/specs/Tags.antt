@@ -1,0 +1,46 @@
+-- The digit set that a language tag names.
+use Rattle.std.specs.Prelude.{◌≡◌, ◌==◌, ℕ, Bool, List, [], ◌∷◌, bytes_eq, codes, map, if◌then◌else◌, Option, Some, None, Result, Ok, MatchResult, IsSome}
+use Rattle.std.specs.Bool.{MatchBool}
+use Rattle.std.specs.Char.{to_ascii_lowercase}
+use Rattle.std.specs.List.{slice_split}
+use Rattle.std.specs.Option.{is_some, option_and_then, option_map}
+use Rattle.std.specs.Str.{byte}
+use Rattle.num_format_locale.specs.Lookup.{LooksUpTag}
+use Rattle.num_format_locale.specs.Names.{name_of}
+use Rattle.num_format_digits.specs.Digits.{default_zero, digits_named}
+
+-- the parts of a tag, between its hyphens
+abbrev pub parts : List ℕ → List (List ℕ)
+parts tag = slice_split (λ b. b == byte "-") tag
+
+-- a part is a word, in any case
+abbrev pub is_word : List ℕ → List ℕ → Bool
+is_word word part = bytes_eq (map to_ascii_lowercase part) (map to_ascii_lowercase word)
+
+-- what follows the first of the parts that is a word, before an `x`: an empty part where nothing does
+abbrev pub or_empty : List (List ℕ) → List (List ℕ)
+or_empty [] = [] ∷ []
+or_empty (p ∷ ps) = p ∷ ps
+
+abbrev pub after : List ℕ → List (List ℕ) → Option (List (List ℕ))
+after word [] = None
+after word (p ∷ ps) = if is_word word p then Some (or_empty ps) else if is_word (codes "x") p then None else after word ps
+
+-- the name at the start of what follows `nu`, which is empty if there is a second `nu`
+abbrev pub first : List (List ℕ) → List ℕ
+first [] = []
+first (p ∷ ps) = p
+
+abbrev pub name_at : List (List ℕ) → List ℕ
+name_at ps = if is_some (after (codes "nu") ps) then [] else first ps
+
+-- the name that a tag has for its digits, after `u` and `nu`
+abbrev pub digits_in : List ℕ → Option (List ℕ)
+digits_in tag = option_map name_at (option_and_then (after (codes "nu")) (after (codes "u") (parts tag)))
+
+-- what is returned of a tag with that name: nothing, the default set of the locale as which it is looked up, the set of the name, or an error
+abbrev pub TagResult : {E : Type 0} → List ℕ → Option (List ℕ) → Result (Option ℕ) E → Type 0
+TagResult tag None result = result ≡ Ok None
+TagResult tag (Some name) result = MatchBool (bytes_eq name (codes "native"))
+    (MatchResult result (λ zero. (place : ℕ) × LooksUpTag tag (Some place) × (zero ≡ Some (default_zero (name_of place)))) (λ e. LooksUpTag tag None))
+    (MatchResult result (λ zero. (zero ≡ digits_named name) × IsSome zero) (λ e. digits_named name ≡ None))

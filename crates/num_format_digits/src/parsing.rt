@@ -1,0 +1,139 @@
+//! Strict parsing of a text in one digit set.
+ghost use Rattle.std.specs.Prelude.{◌≡◌, None, Some, MatchOption, MatchResult};
+ghost use Rattle.std.specs.Str.{chars};
+ghost use Rattle.num_format_typed.specs.Typed.{placed, placed_decimal};
+ghost use Rattle.num_format_digits.specs.Digits.{HasOneSet, ascii_of, other_from};
+ghost use Rattle.num_format_digits.specs.Parsing.{DecimalInDigits, IsTextCause, ParsesInDigits, place_in};
+
+use crate::digits::Digits;
+use arrayvec::ArrayString;
+use num_format_decimal::{Decimal, DecimalParser, MAX_DECIMAL_LEN, ParseDecimalError};
+use num_format_parsing::{FromFormattedStr, StrictError, StrictParser};
+use num_format_text::Format;
+use num_format_typed::rewriting::{bytes_within, rewrite, split_first};
+
+/// Why a text was refused as a number in a digit set. `E` is the error of strict parsing.
+#[derive(Clone, Copy, Debug, PartialEq, Eq)]
+pub enum DigitsError<E> {
+    /// The first numeric character of the text that is no digit of the set begins after `at` bytes: a digit of
+    /// another set, as `3` in a text of Arabic-Indic digits, or any other numeral, as `²`.
+    OtherNumeral {
+        /// The number of bytes before the character.
+        at: usize,
+    },
+    /// With `0` to `9` for its digits the text has more bytes than the text of any number.
+    TooLong,
+    /// The cause of strict parsing: first `AmbiguousFormat`, whatever the text, and else that of the text with `0` to
+    /// `9` for its digits. A place counts the bytes of the text that was given.
+    Number(E),
+}
+
+impl Digits {
+    /// Returns the number that the text spells in the digits of the set: the text with `0` to `9` for them spells it
+    /// under the format.
+    ///
+    /// ```rust
+    /// let arab = Digits::of_locale(Locale::ar_EG);
+    /// arab.parse_strict::<i32, _>("\u{61c}-١٬٢٣٤", &Locale::ar_EG)    // Ok(-1234)
+    /// arab.parse_strict::<i32, _>("1٬234", &Locale::ar_EG)            // Err(OtherNumeral { at: 0 })
+    /// arab.parse_strict::<i32, _>("١٢ ٣", &Locale::ar_EG)             // Err(Number(Unexpected { at: 4 }))
+    /// ```
+    pub fn parse_strict<N: FromFormattedStr, F: Format>(
+        self,
+        text: &str,
+        format: &F,
+    ) -> Result<N, DigitsError<StrictError>>
+        ensures { ParsesInDigits N.kind N.value (F.answers format.now) self text.now result }
+    {
+        let parser = match StrictParser::new(format) {
+            Ok(parser) => parser,
+            Err(error) => return Err(DigitsError::Number(error)),
+        };
+        let ascii = self.to_ascii(text)?;
+        match parser.parse(ascii.as_str()) {
+            Ok(number) => Ok(number),
+            Err(error) => Err(DigitsError::Number(self.placed(text, error))),
+        }
+    }
+
+    /// Returns the decimal that the text spells in the digits of the set.
+    ///
+    /// ```rust
+    /// let arabext = Digits::of_locale(Locale::fa);
+    /// arabext.parse_decimal("۱٬۲۳۴٫۵۰", &Locale::fa)    // Ok(1234.50)
+    /// ```
+    pub fn parse_decimal<F: Format>(
+        self,
+        text: &str,
+        format: &F,
+    ) -> Result<Decimal, DigitsError<ParseDecimalError>>
+        ensures { DecimalInDigits (F.answers format.now) self text.now result }
+    {
+        let parser = match DecimalParser::new(format) {
+            Ok(parser) => parser,
+            Err(error) => return Err(DigitsError::Number(error)),
+        };
+        let ascii = self.to_ascii(text)?;
+        match parser.parse(ascii.as_str()) {
+            Ok(decimal) => Ok(decimal),
+            Err(error) => Err(DigitsError::Number(self.placed_decimal(text, error))),
+        }
+    }
+
+    /// Returns the text with `0` to `9` for the digits of the set, or why it is no text of the set.
+    pub fn to_ascii<E>(self, text: &str) -> Result<ArrayString<MAX_DECIMAL_LEN>, DigitsError<E>>
+        ensures { MatchResult result
+            (λ ascii. HasOneSet self text.now × (ascii.bytes ≡ ascii_of self text.now))
+            (λ e. IsTextCause self text.now e) }
+    {
+        if let Some(at) = self.find_other(text) {
+            return Err(DigitsError::OtherNumeral { at });
+        }
+        match rewrite("", text, &self) {
+            Some(ascii) => Ok(ascii),
+            None => Err(DigitsError::TooLong),
+        }
+    }
+
+    /// Returns how many bytes stand before the first numeric character that is no digit of the set.
+    fn find_other(self, text: &str) -> Option<usize>
+        ensures { result ≡ other_from self 0 (chars text.now) }
+    {
+        let mut at = 0;
+        let mut left = text;
+        while let Some((c, rest)) = split_first(left) {
+            if self.is_other(c) {
+                return Some(at);
+            }
+            at += c.len_utf8();
+            left = rest;
+        }
+        None
+    }
+
+    /// Returns an error whose place in a text with `0` to `9` is that in the text itself.
+    #[cold]
+    fn placed(self, text: &str, error: StrictError) -> StrictError
+        ensures { result ≡ placed (place_in self text.now) error }
+    {
+        match error {
+            StrictError::Unexpected { at } => StrictError::Unexpected {
+                at: bytes_within(at, text, &self),
+            },
+            _ => error,
+        }
+    }
+
+    /// Does the same for a decimal.
+    #[cold]
+    fn placed_decimal(self, text: &str, error: ParseDecimalError) -> ParseDecimalError
+        ensures { result ≡ placed_decimal (place_in self text.now) error }
+    {
+        match error {
+            ParseDecimalError::Unexpected { at } => ParseDecimalError::Unexpected {
+                at: bytes_within(at, text, &self),
+            },
+            _ => error,
+        }
+    }
+}
