@@ -1,26 +1,30 @@
 /* num-format for C99 and later: numbers with separators between groups of digits, and back.
  *
  *     num_format format;
- *     char text[NUM_FORMAT_MAX];
- *     if (num_format_locale(&format, "de", 2) == 0) {
- *         int length = num_format_print_i64(&format, -1234567, text, sizeof text);
- *         printf("%.*s\n", length, text);                          -1.234.567
+ *     char text[NUM_FORMAT_MAX + 1];
+ *     if (num_format_locale_str(&format, "de") == 0) {
+ *         num_format_format_i64(&format, -1234567, text, sizeof text);
+ *         puts(text);                                              -1.234.567
  *     }
  *
- * Below are formats, one number, the width of a text, decimals, columns and errors.
+ * Below are formats, one number, the width of a text, decimals, columns and errors. Parse what people typed by
+ * num_format_parse_typed, what programs wrote strictly by num_format_parse_strict_i64 and the like, and leniently by
+ * num_format_parse_i64 and the like only where you need what num-format does.
  *
- * Lengths, capacities and sizes are in bytes. Texts are UTF-8 with no zero byte after them. No call
- * allocates, and none keeps a pointer or has a state, so calls may be made from any thread.
+ * Lengths, capacities and sizes are in bytes, but for statuses_length. Texts are UTF-8, with a zero byte after them
+ * only by the calls num_format_format_.. and in what the calls .._str take. No call allocates, and none keeps a
+ * pointer or has a state, so calls may be made from any thread.
  *
  * A call that fails returns a negative number, one of the errors below, and everything that it would
- * have written is as it was, but for `at` with NUM_FORMAT_UNEXPECTED. Where several errors apply, each
- * call says which one it returns.
+ * have written is as it was, but for `at` with NUM_FORMAT_UNEXPECTED, and the text of num_format_format_.., which is
+ * then empty. Where several errors apply, each call says which one it returns.
  *
  * The contracts of the library's functions are proved. They hold for any bytes of a struct `num_format` and of a
  * text. What is inline here is tested. What a caller must ensure, since no call can test it:
  *
- * - No pointer is null. Only where GCC or Clang compiles a call by its name, one to a text or an array of length 0 may
- *   be: so not in a call by a pointer to the function, nor from another language.
+ * - No pointer is null, but for a text or an array of length 0, and `at`, where the place is not wanted. GCC and Clang
+ *   see to these where a call is written by its name, as num_format_locale(..). Through a pointer to a function, from
+ *   another language and with other compilers those are not to be null either.
  * - A pointer to a text or an array points to as many bytes as the length, size or capacity beside it
  *   says, which is at most PTRDIFF_MAX.
  * - What a call writes overlaps nothing else that is passed to it, and no other thread reads or
@@ -47,13 +51,13 @@ uint32_t num_format_version(void);
 /* ---- Formats ---- */
 
 /* The groupings: where separators stand among the digits. */
-enum {
+typedef enum num_format_grouping {
     NUM_FORMAT_STANDARD = 1, /* 1,000,000 */
     NUM_FORMAT_INDIAN = 2,   /* 10,00,000 */
     NUM_FORMAT_POSIX = 3,    /* 1000000 */
     NUM_FORMAT_MYRIAD = 4,   /* 100,0000 */
     NUM_FORMAT_SPARSE = 5    /* 1000 and 10,000 */
-};
+} num_format_grouping;
 
 /* A format. Fill it by num_format_locale, num_format_lookup, num_format_custom or num_format_custom_decimal,
  * and copy it as you like.
@@ -92,7 +96,8 @@ int32_t num_format_locale(num_format *format, const char *name, size_t length);
  * Errors: NUM_FORMAT_NOT_UTF8, else NUM_FORMAT_UNKNOWN_LOCALE: no name is left, as of "english". */
 int32_t num_format_lookup(num_format *format, const char *tag, size_t length);
 
-/* The same for a name and a tag that end at a zero byte. These are inline. */
+/* The same for a name and a tag that end at a zero byte. A null pointer, as getenv returns one, is
+ * NUM_FORMAT_UNKNOWN_LOCALE. These are inline. */
 static inline int32_t num_format_locale_str(num_format *format, const char *name);
 static inline int32_t num_format_lookup_str(num_format *format, const char *tag);
 
@@ -155,6 +160,18 @@ int32_t num_format_print_i128(const num_format *format, uint64_t low, uint64_t h
 int32_t num_format_print_u128(const num_format *format, uint64_t low, uint64_t high, char *text,
                               size_t capacity);
 
+/* Write the text of a number and a zero byte, as snprintf does, and return the length of the text. NUM_FORMAT_MAX + 1
+ * bytes suffice. Where the size is not above the length, and after an error, the text is empty: no part of a number is
+ * written. With size 0 nothing is written, and text may be null. These are inline.
+ *
+ * Error: NUM_FORMAT_BAD_FORMAT. */
+static inline int32_t num_format_format_i64(const num_format *format, int64_t number, char *text, size_t size);
+static inline int32_t num_format_format_u64(const num_format *format, uint64_t number, char *text, size_t size);
+static inline int32_t num_format_format_i128(const num_format *format, uint64_t low, uint64_t high, char *text,
+                                             size_t size);
+static inline int32_t num_format_format_u128(const num_format *format, uint64_t low, uint64_t high, char *text,
+                                             size_t size);
+
 /* Return the length of that text: the capacity that is needed.
  *
  * Error: NUM_FORMAT_BAD_FORMAT. */
@@ -196,6 +213,28 @@ int32_t num_format_parse_strict_i128(const num_format *format, const char *text,
 int32_t num_format_parse_strict_u128(const num_format *format, const char *text, size_t length,
                                      uint64_t *low, uint64_t *high, size_t *at);
 
+/* Parses a text as a person types it (no data type is meant) as a number of a type of num_format_type, below, writes
+ * the number, which has value_size bytes at any address, and returns 0.
+ *
+ * The text stands for one that is parsed strictly, and the number is of that. Spaces, line ends and marks of the
+ * direction of writing at both ends count for nothing. A hyphen, a dash or a minus sign at the start stands for the
+ * minus sign of the format, which counts for nothing before zero; a plus sign there counts for nothing. Then each
+ * space, apostrophe, comma or point stands for the one of its kind that the format has. So a text that is parsed
+ * strictly is parsed as the same number, "1 234" with the space of a keyboard is 1234 under "fr", which prints U+202F,
+ * and "-5" is -5 under "sv", which prints U+2212. Nothing else is mended: under "en" all of "1,23", "01", "1.234,5",
+ * "(5)", "5-" and "- 5" are refused. "1,234" is 1234 under "en", and as a decimal 1.234 under "de".
+ *
+ * Errors, in this order: NUM_FORMAT_BAD_TYPE, NUM_FORMAT_BAD_FORMAT, and
+ * - NUM_FORMAT_BAD_LENGTH: value_size is not the size of the type.
+ * - NUM_FORMAT_AMBIGUOUS_FORMAT: as by num_format_parse_strict_i64; or the separator and the decimal mark have two
+ *   characters of one kind, as "'" and U+2019; or the minus sign begins with a space or a plus sign, or has only marks
+ *   of the direction of writing. This holds for no locale.
+ * - NUM_FORMAT_NOT_UTF8.
+ * - NUM_FORMAT_TEXT_TOO_LONG: the text that it stands for has more than NUM_FORMAT_DECIMAL_MAX bytes.
+ * - Those of num_format_parse_strict_i64 of the text that it stands for. `at` counts the bytes of the text as given. */
+int32_t num_format_parse_typed(const num_format *format, uint32_t type, const char *text, size_t length, void *value,
+                               size_t value_size, size_t *at);
+
 /* Parse a text leniently, write the number, and return 0.
  *
  * The number is that of the digits 0 to 9 of the text in order, negated if the text begins with the
@@ -220,8 +259,9 @@ int32_t num_format_parse_u128(const num_format *format, const char *text, size_t
 
 /* ---- The width of a text ---- */
 
-/* Returns the number of characters of a text, such as one that was printed: the columns that it takes where each
- * character takes one. Of bytes that are not UTF-8, those that begin a character count. */
+/* Returns how many columns a text takes, such as one that was printed, where each character takes one, but U+061C,
+ * U+200E and U+200F, which mark the direction of writing, none: "-1,234" under "he", which begins with U+200E, takes 6.
+ * So each byte counts that is not 0x80 to 0xBF and begins none of the three, also where the text is not UTF-8. */
 size_t num_format_text_width(const char *text, size_t length);
 
 /* ---- Decimals ---- */
@@ -240,6 +280,13 @@ size_t num_format_text_width(const char *text, size_t length);
  * Errors: NUM_FORMAT_BAD_SCALE, else NUM_FORMAT_BAD_FORMAT, else NUM_FORMAT_TOO_SMALL. */
 int32_t num_format_print_decimal(const num_format *format, uint64_t low, uint64_t high, uint32_t scale,
                                  char *text, size_t capacity);
+
+/* Writes that text and a zero byte, as num_format_format_i64 does a number's. NUM_FORMAT_DECIMAL_MAX + 1 bytes suffice.
+ * This is inline.
+ *
+ * Errors: NUM_FORMAT_BAD_SCALE, else NUM_FORMAT_BAD_FORMAT. */
+static inline int32_t num_format_format_decimal(const num_format *format, uint64_t low, uint64_t high, uint32_t scale,
+                                                char *text, size_t size);
 
 /* Returns the length of that text.
  *
@@ -270,11 +317,23 @@ int32_t num_format_print_decimal_len(const num_format *format, uint64_t low, uin
 int32_t num_format_parse_decimal(const num_format *format, const char *text, size_t length, uint64_t *low,
                                  uint64_t *high, uint32_t *scale, size_t *at);
 
-/* The same with units of 64 bits. Parsing has NUM_FORMAT_OUT_OF_RANGE also where they have more. These are inline. */
+/* Parses a text as a person types it (no data type is meant) as a decimal: what it stands for, as by
+ * num_format_parse_typed, is parsed as by num_format_parse_decimal. "1 234,50" is 123450 at scale 2 under "fr", and
+ * ".5" and "5." are refused.
+ *
+ * Errors, in this order: NUM_FORMAT_BAD_FORMAT; NUM_FORMAT_AMBIGUOUS_FORMAT, as by these two; NUM_FORMAT_NOT_UTF8;
+ * NUM_FORMAT_TEXT_TOO_LONG; and those of num_format_parse_decimal of what the text stands for. */
+int32_t num_format_parse_typed_decimal(const num_format *format, const char *text, size_t length, uint64_t *low,
+                                       uint64_t *high, uint32_t *scale, size_t *at);
+
+/* The same with units of 64 bits. Where the units of a text need more bits, parsing returns NUM_FORMAT_OUT_OF_RANGE.
+ * These are inline. */
 static inline int32_t num_format_print_decimal_i64(const num_format *format, int64_t units, uint32_t scale,
                                                    char *text, size_t capacity);
 static inline int32_t num_format_parse_decimal_i64(const num_format *format, const char *text, size_t length,
                                                    int64_t *units, uint32_t *scale, size_t *at);
+static inline int32_t num_format_parse_typed_decimal_i64(const num_format *format, const char *text, size_t length,
+                                                         int64_t *units, uint32_t *scale, size_t *at);
 
 /* ---- Columns: many numbers at once, their texts in the layout of a column of strings of Apache Arrow ---- */
 
@@ -292,7 +351,7 @@ typedef enum num_format_type {
  * - Texts are one after another in the bytes, and n + 1 offsets say where: text k begins at offset k and ends where
  *   offset k + 1 says. Offsets are of NUM_FORMAT_I32 or NUM_FORMAT_I64, at any address, and none is below 0.
  * - Row k is null if bit bit_offset + k of the validity bitmap is 0. Bit b is bit b % 8, from the lowest, of byte
- *   b / 8. If validity_size is 0, no row is null.
+ *   b / 8. If validity_size is 0, there is no bitmap, and no row is null.
  * - Statuses are aligned as C aligns them, and statuses_length is how many there are, and no size in bytes.
  *
  * After any error all is as it was. What two of the errors are in each call:
@@ -321,19 +380,27 @@ int32_t num_format_print_column_len(const num_format *format, uint32_t type, con
                                     size_t values_size, const uint8_t *validity, size_t validity_size,
                                     size_t bit_offset, size_t *length);
 
-/* Parses the texts, leniently unless lenient is 0, writes a status for each row, and returns 0. Status k is what
- * num_format_parse_i64, num_format_parse_strict_i64 or the like returns for text k and the type, and value k is written
- * where it is 0, and else as it was. A null row has status 0, and its value is as it was. A text that is refused stops
- * nothing. The first offset may be above 0, and the last one below bytes_size.
+/* How the texts of a column are parsed: as by num_format_parse_strict_i64, num_format_parse_i64 or
+ * num_format_parse_typed. Any other number is lenient too. */
+typedef enum num_format_parsing {
+    NUM_FORMAT_STRICT = 0,
+    NUM_FORMAT_LENIENT = 1,
+    NUM_FORMAT_TYPED = 2
+} num_format_parsing;
+
+/* Parses the texts in a way of num_format_parsing, writes a status for each row, and returns 0. Status k is what the
+ * call for one text returns for text k and the type, and value k is written where it is 0, and else as it was. A null
+ * row has status 0, and its value is as it was. A text that is refused stops nothing. The first offset may be above 0,
+ * and the last one below bytes_size.
  *
- * Statuses: 0, NUM_FORMAT_NOT_UTF8, and leniently NUM_FORMAT_NOT_A_NUMBER, or strictly NUM_FORMAT_UNEXPECTED,
- * NUM_FORMAT_NO_DIGIT, NUM_FORMAT_MISSPELLED, NUM_FORMAT_OUT_OF_RANGE.
+ * Statuses: 0, NUM_FORMAT_NOT_UTF8, and leniently NUM_FORMAT_NOT_A_NUMBER, or else NUM_FORMAT_UNEXPECTED,
+ * NUM_FORMAT_NO_DIGIT, NUM_FORMAT_MISSPELLED, NUM_FORMAT_OUT_OF_RANGE and of typed texts NUM_FORMAT_TEXT_TOO_LONG.
  *
- * Errors, in this order: NUM_FORMAT_BAD_TYPE, NUM_FORMAT_BAD_FORMAT, where lenient is 0 NUM_FORMAT_AMBIGUOUS_FORMAT,
- * NUM_FORMAT_BAD_LENGTH, and
+ * Errors, in this order: NUM_FORMAT_BAD_TYPE, NUM_FORMAT_BAD_FORMAT, unless it parses leniently
+ * NUM_FORMAT_AMBIGUOUS_FORMAT, NUM_FORMAT_BAD_LENGTH, and
  * - NUM_FORMAT_BAD_OFFSETS: an offset is below 0 or the one before it, or the last is above bytes_size. With no row
  *   the one offset is tested too. */
-int32_t num_format_parse_column(const num_format *format, uint32_t type, uint32_t lenient, const void *offsets,
+int32_t num_format_parse_column(const num_format *format, uint32_t type, uint32_t parsing, const void *offsets,
                                 size_t offsets_size, uint32_t offset_type, const char *bytes, size_t bytes_size,
                                 void *values, size_t values_size, const uint8_t *validity, size_t validity_size,
                                 size_t bit_offset, int32_t *statuses, size_t statuses_length);
@@ -355,7 +422,7 @@ int32_t num_format_print_decimal_column_len(const num_format *format, const void
  * Statuses: 0, those of strict parsing, NUM_FORMAT_TOO_MANY_DECIMALS, and NUM_FORMAT_DIGITS_LOST, as of "1.505" at
  * scale 2. NUM_FORMAT_OUT_OF_RANGE: the units, in the text or at the scale, are no signed number of 128 bits.
  *
- * Errors: NUM_FORMAT_BAD_SCALE, else those of num_format_parse_column where lenient is 0, but that
+ * Errors: NUM_FORMAT_BAD_SCALE, else those of num_format_parse_column where it parses strictly, but that
  * NUM_FORMAT_AMBIGUOUS_FORMAT is as for num_format_parse_decimal. */
 int32_t num_format_parse_decimal_column(const num_format *format, uint32_t scale, const void *offsets,
                                         size_t offsets_size, uint32_t offset_type, const char *bytes,
@@ -363,9 +430,19 @@ int32_t num_format_parse_decimal_column(const num_format *format, uint32_t scale
                                         const uint8_t *validity, size_t validity_size, size_t bit_offset,
                                         int32_t *statuses, size_t statuses_length);
 
+/* The same of texts as a person types them (no data type is meant), as num_format_parse_typed_decimal does. A status
+ * may be NUM_FORMAT_TEXT_TOO_LONG too. */
+int32_t num_format_parse_typed_decimal_column(const num_format *format, uint32_t scale, const void *offsets,
+                                              size_t offsets_size, uint32_t offset_type, const char *bytes,
+                                              size_t bytes_size, void *units, size_t units_size,
+                                              const uint8_t *validity, size_t validity_size, size_t bit_offset,
+                                              int32_t *statuses, size_t statuses_length);
+
 /* ---- Errors ---- */
 
-enum {
+/* The statuses that calls return. */
+typedef enum num_format_status {
+    NUM_FORMAT_OK = 0,
     NUM_FORMAT_BAD_FORMAT = -1,       /* the struct has no format, as where no call filled it */
     NUM_FORMAT_TOO_SMALL = -2,        /* the array is shorter than the text */
     NUM_FORMAT_NOT_UTF8 = -3,         /* a text is not UTF-8 */
@@ -380,13 +457,14 @@ enum {
     NUM_FORMAT_OUT_OF_RANGE = -12,    /* the number is not in the range of the type */
     NUM_FORMAT_BAD_SCALE = -13,       /* the scale of a decimal is above 38 */
     NUM_FORMAT_TOO_MANY_DECIMALS = -14, /* more than 38 digits follow the decimal mark */
-    NUM_FORMAT_BAD_LENGTH = -15,      /* the sizes of a column's arrays do not fit one another */
+    NUM_FORMAT_BAD_LENGTH = -15,      /* sizes of a column do not fit one another, or that of a value its type */
     NUM_FORMAT_BAD_OFFSETS = -16,     /* an offset is below 0 or the one before it, or past the bytes */
     NUM_FORMAT_TOO_MANY_BYTES = -17,  /* the texts have more bytes than an offset can say */
     NUM_FORMAT_DIGITS_LOST = -18,     /* the text has digits other than 0 that the scale has not */
     NUM_FORMAT_AMBIGUOUS_FORMAT = -19, /* a text can be misread under the format, which parses none strictly */
-    NUM_FORMAT_BAD_TYPE = -20         /* no type of values or offsets has this number */
-};
+    NUM_FORMAT_BAD_TYPE = -20,        /* no type of values or offsets has this number */
+    NUM_FORMAT_TEXT_TOO_LONG = -21    /* a text as a person types it is longer than that of any number */
+} num_format_status;
 
 /* Returns what a status means, as a text that ends at a zero byte and is never freed: "ok" for 0 and above. This is
  * inline. */
@@ -394,23 +472,35 @@ static inline const char *num_format_strerror(int32_t status);
 
 /* ---- What is inline ---- */
 
-/* In place of a null pointer a call passes on one that is not null, to where nothing is read or written. */
+/* The casts of C are meant in C++ too. */
+#if defined(__cplusplus) && defined(__GNUC__)
+#pragma GCC diagnostic push
+#pragma GCC diagnostic ignored "-Wold-style-cast"
+#endif
+
+/* In place of a null pointer a call passes on one that is not null, to where nothing is read or written, and for the
+ * place of an unexpected byte one to a variable that is dropped. */
 #ifdef __GNUC__
 #define NUM_FORMAT_SOME(pointer) ((pointer) ? (pointer) : (__typeof__(pointer))8)
+#define NUM_FORMAT_AT ((at) ? (at) : &dropped)
 
 /* The function that is called num_format_X in C, inline in place of that of the library, which it calls. */
 #define NUM_FORMAT_INLINE(type, name, parameters, arguments) \
+    NUM_FORMAT_INLINE_WITH(type, name, parameters, arguments, )
+#define NUM_FORMAT_INLINE_AT(name, parameters, arguments) \
+    NUM_FORMAT_INLINE_WITH(int32_t, name, parameters, arguments, size_t dropped = 0;)
+#define NUM_FORMAT_INLINE_WITH(type, name, parameters, arguments, variable) \
     type num_format_call_##name parameters __asm__("num_format_" #name); \
     extern __inline__ __attribute__((__gnu_inline__, __always_inline__)) type num_format_##name parameters { \
-        return num_format_call_##name arguments; \
+        variable return num_format_call_##name arguments; \
     }
 #define NUM_FORMAT_NUMBER(name, type) \
     NUM_FORMAT_INLINE(int32_t, print_##name, (const num_format *format, type number, char *text, size_t capacity), \
                       (format, number, NUM_FORMAT_SOME(text), capacity)) \
-    NUM_FORMAT_INLINE(int32_t, parse_strict_##name, \
-                      (const num_format *format, uint32_t bits, const char *text, size_t length, type *number, \
-                       size_t *at), \
-                      (format, bits, NUM_FORMAT_SOME(text), length, number, at)) \
+    NUM_FORMAT_INLINE_AT(parse_strict_##name, \
+                         (const num_format *format, uint32_t bits, const char *text, size_t length, type *number, \
+                          size_t *at), \
+                         (format, bits, NUM_FORMAT_SOME(text), length, number, NUM_FORMAT_AT)) \
     NUM_FORMAT_INLINE(int32_t, parse_##name, \
                       (const num_format *format, uint32_t bits, const char *text, size_t length, type *number), \
                       (format, bits, NUM_FORMAT_SOME(text), length, number))
@@ -418,10 +508,10 @@ static inline const char *num_format_strerror(int32_t status);
     NUM_FORMAT_INLINE(int32_t, print_##name, \
                       (const num_format *format, uint64_t low, uint64_t high, char *text, size_t capacity), \
                       (format, low, high, NUM_FORMAT_SOME(text), capacity)) \
-    NUM_FORMAT_INLINE(int32_t, parse_strict_##name, \
-                      (const num_format *format, const char *text, size_t length, uint64_t *low, uint64_t *high, \
-                       size_t *at), \
-                      (format, NUM_FORMAT_SOME(text), length, low, high, at)) \
+    NUM_FORMAT_INLINE_AT(parse_strict_##name, \
+                         (const num_format *format, const char *text, size_t length, uint64_t *low, uint64_t *high, \
+                          size_t *at), \
+                         (format, NUM_FORMAT_SOME(text), length, low, high, NUM_FORMAT_AT)) \
     NUM_FORMAT_INLINE(int32_t, parse_##name, \
                       (const num_format *format, const char *text, size_t length, uint64_t *low, uint64_t *high), \
                       (format, NUM_FORMAT_SOME(text), length, low, high))
@@ -449,15 +539,22 @@ NUM_FORMAT_NUMBER(i64, int64_t)
 NUM_FORMAT_NUMBER(u64, uint64_t)
 NUM_FORMAT_WIDE_NUMBER(i128)
 NUM_FORMAT_WIDE_NUMBER(u128)
+NUM_FORMAT_INLINE_AT(parse_typed,
+                     (const num_format *format, uint32_t type, const char *text, size_t length, void *value,
+                      size_t value_size, size_t *at),
+                     (format, type, NUM_FORMAT_SOME(text), length, NUM_FORMAT_SOME(value), value_size, NUM_FORMAT_AT))
 NUM_FORMAT_INLINE(size_t, text_width, (const char *text, size_t length), (NUM_FORMAT_SOME(text), length))
 NUM_FORMAT_INLINE(int32_t, print_decimal,
                   (const num_format *format, uint64_t low, uint64_t high, uint32_t scale, char *text,
                    size_t capacity),
                   (format, low, high, scale, NUM_FORMAT_SOME(text), capacity))
-NUM_FORMAT_INLINE(int32_t, parse_decimal,
-                  (const num_format *format, const char *text, size_t length, uint64_t *low, uint64_t *high,
-                   uint32_t *scale, size_t *at),
-                  (format, NUM_FORMAT_SOME(text), length, low, high, scale, at))
+#define NUM_FORMAT_PARSE_DECIMAL(name) \
+    NUM_FORMAT_INLINE_AT(name, \
+                         (const num_format *format, const char *text, size_t length, uint64_t *low, uint64_t *high, \
+                          uint32_t *scale, size_t *at), \
+                         (format, NUM_FORMAT_SOME(text), length, low, high, scale, NUM_FORMAT_AT))
+NUM_FORMAT_PARSE_DECIMAL(parse_decimal)
+NUM_FORMAT_PARSE_DECIMAL(parse_typed_decimal)
 
 /* What calls for columns have in common: parameters, and what is passed on. */
 #define NUM_FORMAT_VALIDITY const uint8_t *validity, size_t validity_size, size_t bit_offset
@@ -477,9 +574,9 @@ NUM_FORMAT_INLINE(int32_t, print_column_len,
                    NUM_FORMAT_VALIDITY, size_t *length),
                   (format, type, NUM_FORMAT_SOME(values), values_size, NUM_FORMAT_SOME_VALIDITY, length))
 NUM_FORMAT_INLINE(int32_t, parse_column,
-                  (const num_format *format, uint32_t type, uint32_t lenient, NUM_FORMAT_PARSED, void *values,
+                  (const num_format *format, uint32_t type, uint32_t parsing, NUM_FORMAT_PARSED, void *values,
                    size_t values_size, NUM_FORMAT_VALIDITY, int32_t *statuses, size_t statuses_length),
-                  (format, type, lenient, NUM_FORMAT_SOME_TEXTS, bytes_size, NUM_FORMAT_SOME(values), values_size,
+                  (format, type, parsing, NUM_FORMAT_SOME_TEXTS, bytes_size, NUM_FORMAT_SOME(values), values_size,
                    NUM_FORMAT_SOME_VALIDITY, NUM_FORMAT_SOME(statuses), statuses_length))
 NUM_FORMAT_INLINE(int32_t, print_decimal_column,
                   (const num_format *format, const void *units, size_t units_size, uint32_t scale,
@@ -490,16 +587,24 @@ NUM_FORMAT_INLINE(int32_t, print_decimal_column_len,
                   (const num_format *format, const void *units, size_t units_size, uint32_t scale,
                    NUM_FORMAT_VALIDITY, size_t *length),
                   (format, NUM_FORMAT_SOME(units), units_size, scale, NUM_FORMAT_SOME_VALIDITY, length))
-NUM_FORMAT_INLINE(int32_t, parse_decimal_column,
-                  (const num_format *format, uint32_t scale, NUM_FORMAT_PARSED, void *units, size_t units_size,
-                   NUM_FORMAT_VALIDITY, int32_t *statuses, size_t statuses_length),
-                  (format, scale, NUM_FORMAT_SOME_TEXTS, bytes_size, NUM_FORMAT_SOME(units), units_size,
-                   NUM_FORMAT_SOME_VALIDITY, NUM_FORMAT_SOME(statuses), statuses_length))
+#define NUM_FORMAT_PARSE_DECIMALS(name) \
+    NUM_FORMAT_INLINE(int32_t, name, \
+                      (const num_format *format, uint32_t scale, NUM_FORMAT_PARSED, void *units, size_t units_size, \
+                       NUM_FORMAT_VALIDITY, int32_t *statuses, size_t statuses_length), \
+                      (format, scale, NUM_FORMAT_SOME_TEXTS, bytes_size, NUM_FORMAT_SOME(units), units_size, \
+                       NUM_FORMAT_SOME_VALIDITY, NUM_FORMAT_SOME(statuses), statuses_length))
+NUM_FORMAT_PARSE_DECIMALS(parse_decimal_column)
+NUM_FORMAT_PARSE_DECIMALS(parse_typed_decimal_column)
 
 #undef NUM_FORMAT_SOME
+#undef NUM_FORMAT_AT
 #undef NUM_FORMAT_INLINE
+#undef NUM_FORMAT_INLINE_AT
+#undef NUM_FORMAT_INLINE_WITH
 #undef NUM_FORMAT_NUMBER
 #undef NUM_FORMAT_WIDE_NUMBER
+#undef NUM_FORMAT_PARSE_DECIMAL
+#undef NUM_FORMAT_PARSE_DECIMALS
 #undef NUM_FORMAT_VALIDITY
 #undef NUM_FORMAT_PRINTED
 #undef NUM_FORMAT_PARSED
@@ -508,40 +613,106 @@ NUM_FORMAT_INLINE(int32_t, parse_decimal_column,
 #endif
 
 static inline const char *num_format_strerror(int32_t status) {
-    static const char *const texts[] = {
-        "ok", "the struct has no format", "the array is shorter than the text", "the text is not UTF-8",
-        "the text is refused as a number", "no such locale", "a text of the format has more than 8 bytes",
-        "no such grouping", "the number of bits is not 8, 16, 32 or 64", "unexpected byte", "the text has no digit",
-        "the text is not as its number is printed", "the number is out of range", "the scale is above 38",
-        "more than 38 digits follow the decimal mark", "the sizes of a column's arrays do not fit one another",
-        "an offset is below 0 or the one before it, or past the bytes", "the texts have more bytes than an offset can say",
-        "the text has digits other than 0 that the scale has not", "the format is ambiguous", "no such type",
-    };
-    return status >= 0 ? texts[0] : status < NUM_FORMAT_BAD_TYPE ? "unknown status" : texts[-status];
+    switch (status) {
+    case NUM_FORMAT_BAD_FORMAT: return "the struct has no format";
+    case NUM_FORMAT_TOO_SMALL: return "the array is shorter than the text";
+    case NUM_FORMAT_NOT_UTF8: return "the text is not UTF-8";
+    case NUM_FORMAT_NOT_A_NUMBER: return "the text is refused as a number";
+    case NUM_FORMAT_UNKNOWN_LOCALE: return "no such locale";
+    case NUM_FORMAT_TOO_LONG: return "a text of the format has more than 8 bytes";
+    case NUM_FORMAT_BAD_GROUPING: return "no such grouping";
+    case NUM_FORMAT_BAD_BITS: return "the number of bits is not 8, 16, 32 or 64";
+    case NUM_FORMAT_UNEXPECTED: return "unexpected byte";
+    case NUM_FORMAT_NO_DIGIT: return "the text has no digit";
+    case NUM_FORMAT_MISSPELLED: return "the text is not as its number is printed";
+    case NUM_FORMAT_OUT_OF_RANGE: return "the number is out of range";
+    case NUM_FORMAT_BAD_SCALE: return "the scale is above 38";
+    case NUM_FORMAT_TOO_MANY_DECIMALS: return "more than 38 digits follow the decimal mark";
+    case NUM_FORMAT_BAD_LENGTH: return "the sizes of a column's arrays do not fit one another";
+    case NUM_FORMAT_BAD_OFFSETS: return "an offset is below 0 or the one before it, or past the bytes";
+    case NUM_FORMAT_TOO_MANY_BYTES: return "the texts have more bytes than an offset can say";
+    case NUM_FORMAT_DIGITS_LOST: return "the text has digits other than 0 that the scale has not";
+    case NUM_FORMAT_AMBIGUOUS_FORMAT: return "the format is ambiguous";
+    case NUM_FORMAT_BAD_TYPE: return "no such type";
+    case NUM_FORMAT_TEXT_TOO_LONG: return "the text is longer than that of any number";
+    default: return status < 0 ? "unknown status" : "ok";
+    }
 }
 static inline int32_t num_format_locale_str(num_format *format, const char *name) {
-    return num_format_locale(format, name, strlen(name));
+    return name ? num_format_locale(format, name, strlen(name)) : NUM_FORMAT_UNKNOWN_LOCALE;
 }
 static inline int32_t num_format_lookup_str(num_format *format, const char *tag) {
-    return num_format_lookup(format, tag, strlen(tag));
+    return tag ? num_format_lookup(format, tag, strlen(tag)) : NUM_FORMAT_UNKNOWN_LOCALE;
 }
+
+/* Writes a text of the length that printing returned, and a zero byte, or where they do not fit the zero byte alone.
+ * Returns the length. */
+static inline int32_t num_format_end_text(int32_t length, const char *from, char *text, size_t size) {
+    size_t kept = length > 0 && (size_t)length < size ? (size_t)length : 0;
+    if (size > 0) {
+        memcpy(text, from, kept);
+        text[kept] = 0;
+    }
+    return length;
+}
+static inline int32_t num_format_format_i64(const num_format *format, int64_t number, char *text, size_t size) {
+    char from[NUM_FORMAT_MAX];
+    return num_format_end_text(num_format_print_i64(format, number, from, sizeof from), from, text, size);
+}
+static inline int32_t num_format_format_u64(const num_format *format, uint64_t number, char *text, size_t size) {
+    char from[NUM_FORMAT_MAX];
+    return num_format_end_text(num_format_print_u64(format, number, from, sizeof from), from, text, size);
+}
+static inline int32_t num_format_format_i128(const num_format *format, uint64_t low, uint64_t high, char *text,
+                                             size_t size) {
+    char from[NUM_FORMAT_MAX];
+    return num_format_end_text(num_format_print_i128(format, low, high, from, sizeof from), from, text, size);
+}
+static inline int32_t num_format_format_u128(const num_format *format, uint64_t low, uint64_t high, char *text,
+                                             size_t size) {
+    char from[NUM_FORMAT_MAX];
+    return num_format_end_text(num_format_print_u128(format, low, high, from, sizeof from), from, text, size);
+}
+static inline int32_t num_format_format_decimal(const num_format *format, uint64_t low, uint64_t high, uint32_t scale,
+                                                char *text, size_t size) {
+    char from[NUM_FORMAT_DECIMAL_MAX];
+    return num_format_end_text(num_format_print_decimal(format, low, high, scale, from, sizeof from), from, text, size);
+}
+
+/* The high half of a number of 64 bits in 128. */
+static inline uint64_t num_format_high_half(int64_t low) { return low < 0 ? UINT64_MAX : 0; }
 static inline int32_t num_format_print_decimal_i64(const num_format *format, int64_t units, uint32_t scale,
                                                    char *text, size_t capacity) {
-    return num_format_print_decimal(format, (uint64_t)units, units < 0 ? UINT64_MAX : 0, scale, text, capacity);
+    return num_format_print_decimal(format, (uint64_t)units, num_format_high_half(units), scale, text, capacity);
+}
+
+/* Writes the decimal that a call parsed, where its units have 64 bits. Returns its status. */
+static inline int32_t num_format_narrow_decimal(int32_t status, uint64_t low, uint64_t high, uint32_t decimals,
+                                                int64_t *units, uint32_t *scale) {
+    if (status != 0) return status;
+    if (high != num_format_high_half((int64_t)low)) return NUM_FORMAT_OUT_OF_RANGE;
+    *units = (int64_t)low;
+    *scale = decimals;
+    return 0;
 }
 static inline int32_t num_format_parse_decimal_i64(const num_format *format, const char *text, size_t length,
                                                    int64_t *units, uint32_t *scale, size_t *at) {
     uint64_t low = 0, high = 0;
-    uint32_t found = 0;
-    int32_t status = num_format_parse_decimal(format, text, length, &low, &high, &found, at);
-    if (status == 0 && high != (low >> 63 ? UINT64_MAX : 0))
-        return NUM_FORMAT_OUT_OF_RANGE;
-    if (status == 0) {
-        *units = (int64_t)low;
-        *scale = found;
-    }
-    return status;
+    uint32_t decimals = 0;
+    int32_t status = num_format_parse_decimal(format, text, length, &low, &high, &decimals, at);
+    return num_format_narrow_decimal(status, low, high, decimals, units, scale);
 }
+static inline int32_t num_format_parse_typed_decimal_i64(const num_format *format, const char *text, size_t length,
+                                                         int64_t *units, uint32_t *scale, size_t *at) {
+    uint64_t low = 0, high = 0;
+    uint32_t decimals = 0;
+    int32_t status = num_format_parse_typed_decimal(format, text, length, &low, &high, &decimals, at);
+    return num_format_narrow_decimal(status, low, high, decimals, units, scale);
+}
+
+#if defined(__cplusplus) && defined(__GNUC__)
+#pragma GCC diagnostic pop
+#endif
 
 #ifdef __cplusplus
 }

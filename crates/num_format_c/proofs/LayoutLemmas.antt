@@ -5,6 +5,7 @@ use Rattle.std.proofs.lemmas.Bool.{cases_eq, eqb-true}
 use Rattle.std.proofs.lemmas.Nat.{div-add-mod'}
 use Rattle.std.specs.Prelude.{Some, None, ◌==◌, ◌&&◌, ◌/◌, ◌%◌, Bool, true, false, if◌then◌else◌}
 use Rattle.num_format_c.specs.Layout.{Representation, covers, row_count, texts_of}
+use Rattle.num_format_c.specs.declared.layout.validity.Validity.{Validity}
 
 module _ (text : ℕ → List ℕ) where
   -- one more text
@@ -56,6 +57,6 @@ whole_if true true len size n none is =
 whole_if true false len size n none is = cc
 whole_if false c len size n none is = cc
 
-pub whole_rows : (t : Representation) (values bits : List ℕ) (bit_offset n : ℕ) → row_count t values bits bit_offset ≡ Some n → length values ≡ n * t.size
-whole_rows t values bits bit_offset n is =
-    whole_if (length values % t.size == 0) (covers bits bit_offset (length values / t.size)) (length values) t.size n (eqb-true (length values % t.size) 0) is
+pub whole_rows : (t : Representation) (values : List ℕ) (v : Validity) (n : ℕ) → row_count t values v ≡ Some n → length values ≡ n * t.size
+whole_rows t values v n is =
+    whole_if (length values % t.size == 0) (covers v (length values / t.size)) (length values) t.size n (eqb-true (length values % t.size) 0) is

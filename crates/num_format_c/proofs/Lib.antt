@@ -1,9 +1,6 @@
-pub mod AtScaleLemmas
 pub mod ByteLemmas
 pub mod CallLemmas
-pub mod DecimalLemmas
 pub mod LayoutLemmas
 pub mod NameLemmas
-pub mod StrictLemmas
+pub mod ParsingLemmas
 pub mod TextLemmas
-pub mod WidthLemmas

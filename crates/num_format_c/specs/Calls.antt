@@ -1,19 +1,21 @@
 -- What the calls of C return and write.
-use Rattle.std.specs.Prelude.{◌≡◌, ℕ, ◌+◌, ◌*◌, ◌^◌, ◌<◌, ◌≤◌, ◌==◌, ℤ, pos, negsuc, List, ◌++◌, length, drop, Option, Some, None, Result, Ok, Err, IfSome, MatchOption, MatchResult, IsUtf8, if◌then◌else◌}
+use Rattle.std.specs.Prelude.{◌≡◌, ℕ, ◌+◌, ◌*◌, ◌^◌, ◌<◌, ◌≤◌, ◌==◌, ℤ, pos, negsuc, nat_eq, Bool, not, ◌&&◌, ◌||◌, List, [], ◌∷◌, ◌++◌, length, drop, Option, Some, None, Result, Ok, Err, IfSome, MatchOption, MatchResult, IsUtf8, if◌then◌else◌}
+use Rattle.std.specs.Fmt.{is_char_start}
 use Rattle.std.specs.Int.{cast_signed, w128}
+use Rattle.std.specs.List.{starts_with}
 use Rattle.num_format.specs.Constants.{LEN}
 use Rattle.num_format.specs.Data.{locale_data}
 use Rattle.num_format.specs.Format.{FormatData}
-use Rattle.num_format.specs.Kind.{IsValueOf, Kind, kind_of, U8, U16, U32, U64, I8, I16, I32, I64}
+use Rattle.num_format.specs.Kind.{Kind, kind_of, U8, U16, U32, U64, I8, I16, I32, I64}
 use Rattle.num_format.specs.Lookup.{LooksUpTag}
 use Rattle.num_format.specs.Names.{Spells, name_of}
 use Rattle.num_format.specs.Reading.{Refused, denoted}
-use Rattle.num_format.specs.Strict.{IsCause, IsUnambiguous, SpellsNumber}
+use Rattle.num_format.specs.Strict.{ParsesStrictly}
 use Rattle.num_format.specs.StrictError.{StrictError}
 use Rattle.num_format.specs.StrictError.TheVariants as cause
 use Rattle.num_format.specs.Text.{text_of}
 use Rattle.num_format_decimal.specs.FixedPoint.{FixedPoint, fixed_point}
-use Rattle.num_format_decimal.specs.Parsing.{IsAtScaleCause, IsDecimalCause, ParsesAtScale, ParsesDecimal}
+use Rattle.num_format_decimal.specs.Parsing.{AtScaleResult, DecimalResult}
 use Rattle.num_format_decimal.specs.Text.{decimal_text}
 use Rattle.num_format_decimal.specs.declared.decimal.TheConstants.{MAX_SCALE}
 use Rattle.num_format_decimal.specs.declared.error.DecimalError.TheVariants as rescale
@@ -21,10 +23,13 @@ use Rattle.num_format_decimal.specs.declared.parsing.ParseAtScaleError.{ParseAtS
 use Rattle.num_format_decimal.specs.declared.parsing.ParseAtScaleError.TheVariants.{Parse, Rescale}
 use Rattle.num_format_decimal.specs.declared.parsing.ParseDecimalError.{ParseDecimalError}
 use Rattle.num_format_decimal.specs.declared.parsing.ParseDecimalError.TheVariants as decimal
+use Rattle.num_format_typed.specs.Typed.{ParsesTyped, TypedAtScaleResult, TypedDecimalResult}
+use Rattle.num_format_typed.specs.declared.typed.TypedError.{TypedError}
+use Rattle.num_format_typed.specs.declared.typed.TypedError.TheVariants as typed
 use Rattle.num_format_c.specs.Held.{Agrees, HasFormat, IsPadded, format_of, format_with, grouping_of}
 use Rattle.num_format_c.specs.declared.format.NumFormat.{NumFormat}
 use Rattle.num_format_c.specs.declared.status.Status.{Status}
-use Rattle.num_format_c.specs.declared.status.Status.TheVariants.{BadFormat, TooSmall, NotUtf8, NotANumber, UnknownLocale, TooLong, BadGrouping, BadBits, Unexpected, NoDigit, Misspelled, OutOfRange, BadScale, TooManyDecimals, BadLength, BadOffsets, TooManyBytes, DigitsLost, AmbiguousFormat, BadType}
+use Rattle.num_format_c.specs.declared.status.Status.TheVariants.{BadFormat, TooSmall, NotUtf8, NotANumber, UnknownLocale, TooLong, BadGrouping, BadBits, Unexpected, NoDigit, Misspelled, OutOfRange, BadScale, TooManyDecimals, BadLength, BadOffsets, TooManyBytes, DigitsLost, AmbiguousFormat, BadType, TextTooLong}
 
 -- the number by which an error crosses to C; `negsuc n` is the number one below -n
 abbrev pub code : Status → ℤ
@@ -48,6 +53,7 @@ code TooManyBytes = negsuc 16
 code DigitsLost = negsuc 17
 code AmbiguousFormat = negsuc 18
 code BadType = negsuc 19
+code TextTooLong = negsuc 20
 
 -- the number that a call returns
 abbrev pub returned : Result ℤ Status → ℤ
@@ -97,6 +103,10 @@ pub record Parses {A : Type 0} (k : Kind) (value : A → ℤ) (s : NumFormat) (t
   pub refused : HasFormat s → IsUtf8 text → Refused k (format_of s) text → result ≡ Err NotANumber
   pub number : HasFormat s → IsUtf8 text → ¬ Refused k (format_of s) text → MatchResult result (λ n. value n ≡ denoted (format_of s) text) (λ _. ⊥)
 
+-- what parsing returned is written over something else, or its error is returned
+abbrev pub Stores : {A B : Type 0} → (A → B) → Result A Status → (old new : B) → (result : ℤ) → Type 0
+Stores value r old new result = MatchResult r (λ x. (result ≡ pos 0) × (new ≡ value x)) (λ status. Fails status old new result)
+
 -- a text is parsed, and the number is written over another one
 pub record ParsesInto (k : Kind) (s : NumFormat) (text : List ℕ) (old new result : ℤ) : Type 0 where
   pub bad_format : ¬ HasFormat s → Fails BadFormat old new result
@@ -104,7 +114,14 @@ pub record ParsesInto (k : Kind) (s : NumFormat) (text : List ℕ) (old new resu
   pub refused : HasFormat s → IsUtf8 text → Refused k (format_of s) text → Fails NotANumber old new result
   pub number : HasFormat s → IsUtf8 text → ¬ Refused k (format_of s) text → (result ≡ pos 0) × (new ≡ denoted (format_of s) text)
 
--- the error for a cause of strict parsing
+-- a way of parsing: what it returns of a text, and how an error of it crosses to C, as a status, and the place of the unexpected byte or else
+-- the old one
+pub record Parsing (X E : Type 0) : Type 1 where
+  pub Returns : FormatData → List ℕ → Result X E → Type 0
+  pub status : E → Status
+  pub place : E → ℕ → ℕ
+
+-- the errors of strict parsing
 abbrev pub status_of : StrictError → Status
 status_of cause.AmbiguousFormat = AmbiguousFormat
 status_of cause.NotUtf8 = NotUtf8
@@ -113,30 +130,11 @@ status_of cause.NoDigit = NoDigit
 status_of cause.Misspelled = Misspelled
 status_of cause.OutOfRange = OutOfRange
 
--- the place of the unexpected byte, or the old one for any other cause
 abbrev pub place_of : StrictError → ℕ → ℕ
 place_of (cause.Unexpected at) old = at
 place_of _ old = old
 
--- a text spells a number of the kind, under a format by which no text can be misread
-pub record SpellsValue (k : Kind) (f : FormatData) (text : List ℕ) (z : ℤ) : Type 0 where
-  pub unambiguous : IsUnambiguous f
-  pub spelled : SpellsNumber f text z
-  pub value : IsValueOf k z
-
--- a text is parsed strictly under the format of a struct as a number of the kind, and the place of an unexpected byte is written
-pub record ParsesExactly {A : Type 0} (k : Kind) (value : A → ℤ) (s : NumFormat) (text : List ℕ) (old new : ℕ) (result : Result A Status) : Type 0 where
-  pub bad_format : ¬ HasFormat s → (result ≡ Err BadFormat) × (new ≡ old)
-  pub refused : HasFormat s → (e : StrictError) → IsCause k (format_of s) text e → (result ≡ Err (status_of e)) × (new ≡ place_of e old)
-  pub number : HasFormat s → (z : ℤ) → SpellsValue k (format_of s) text z → MatchResult result (λ n. value n ≡ z) (λ _. ⊥) × (new ≡ old)
-
--- a text is parsed strictly, and the number, or the place of an unexpected byte, is written over another one
-pub record ParsesExactlyInto (k : Kind) (s : NumFormat) (text : List ℕ) (old new : ℤ) (at_old at_new : ℕ) (result : ℤ) : Type 0 where
-  pub bad_format : ¬ HasFormat s → Fails BadFormat old new result × (at_new ≡ at_old)
-  pub refused : HasFormat s → (e : StrictError) → IsCause k (format_of s) text e → Fails (status_of e) old new result × (at_new ≡ place_of e at_old)
-  pub number : HasFormat s → (z : ℤ) → SpellsValue k (format_of s) text z → (result ≡ pos 0) × ((new ≡ z) × (at_new ≡ at_old))
-
--- the error for a cause for which a text is refused as a decimal
+-- those of decimals
 abbrev pub decimal_status_of : ParseDecimalError → Status
 decimal_status_of decimal.AmbiguousFormat = AmbiguousFormat
 decimal_status_of decimal.NotUtf8 = NotUtf8
@@ -146,35 +144,89 @@ decimal_status_of decimal.TooManyDecimals = TooManyDecimals
 decimal_status_of decimal.Misspelled = Misspelled
 decimal_status_of decimal.OutOfRange = OutOfRange
 
--- the place of the unexpected byte, or the old one for any other cause
 abbrev pub decimal_place_of : ParseDecimalError → ℕ → ℕ
 decimal_place_of (decimal.Unexpected at) old = at
 decimal_place_of _ old = old
 
--- a text is parsed as a decimal under the format of a struct, and the place of an unexpected byte is written
-pub record ParsesDecimalUnder (s : NumFormat) (text : List ℕ) (old new : ℕ) (result : Result FixedPoint Status) : Type 0 where
-  pub bad_format : ¬ HasFormat s → (result ≡ Err BadFormat) × (new ≡ old)
-  pub refused : HasFormat s → (e : ParseDecimalError) → IsDecimalCause (format_of s) text e → (result ≡ Err (decimal_status_of e)) × (new ≡ decimal_place_of e old)
-  pub number : HasFormat s → (d : FixedPoint) → ParsesDecimal (format_of s) text d → (result ≡ Ok d) × (new ≡ old)
-
--- the error for a cause for which a text is refused as a decimal of a scale
+-- those of decimals of a scale
 abbrev pub at_scale_status_of : ParseAtScaleError → Status
 at_scale_status_of (Parse e) = decimal_status_of e
 at_scale_status_of (Rescale rescale.ScaleTooLarge) = BadScale
 at_scale_status_of (Rescale rescale.DigitsLost) = DigitsLost
 at_scale_status_of (Rescale rescale.OutOfRange) = OutOfRange
 
--- a text is parsed under the format of a struct as a decimal of a scale
-pub record ParsesAtScaleUnder (scale : ℕ) (s : NumFormat) (text : List ℕ) (result : Result FixedPoint Status) : Type 0 where
-  pub bad_format : ¬ HasFormat s → result ≡ Err BadFormat
-  pub refused : HasFormat s → (e : ParseAtScaleError) → IsAtScaleCause (format_of s) text scale e → result ≡ Err (at_scale_status_of e)
-  pub number : HasFormat s → (d : FixedPoint) → ParsesAtScale (format_of s) text scale d → result ≡ Ok d
+abbrev pub at_scale_place_of : ParseAtScaleError → ℕ → ℕ
+at_scale_place_of (Parse e) old = decimal_place_of e old
+at_scale_place_of (Rescale e) old = old
 
--- a text is parsed as a decimal, which is written over another one, or the place of an unexpected byte is
-pub record ParsesDecimalInto (s : NumFormat) (text : List ℕ) (old new : FixedPoint) (at_old at_new : ℕ) (result : ℤ) : Type 0 where
-  pub bad_format : ¬ HasFormat s → Fails BadFormat old new result × (at_new ≡ at_old)
-  pub refused : HasFormat s → (e : ParseDecimalError) → IsDecimalCause (format_of s) text e → Fails (decimal_status_of e) old new result × (at_new ≡ decimal_place_of e at_old)
-  pub number : HasFormat s → (d : FixedPoint) → ParsesDecimal (format_of s) text d → (result ≡ pos 0) × ((new ≡ d) × (at_new ≡ at_old))
+-- those of typed texts
+abbrev pub typed_status_of : {E : Type 0} → (E → Status) → TypedError E → Status
+typed_status_of status typed.TooLong = TextTooLong
+typed_status_of status (typed.Number e) = status e
+
+abbrev pub typed_place_of : {E : Type 0} → (E → ℕ → ℕ) → TypedError E → ℕ → ℕ
+typed_place_of place typed.TooLong old = old
+typed_place_of place (typed.Number e) old = place e old
+
+-- numbers of a kind, decimals, and decimals of a scale, as they are printed and as people type them
+abbrev pub numbers : Kind → Parsing ℤ StrictError
+numbers k = record { Returns = ParsesStrictly k (λ z. z); status = status_of; place = place_of }
+
+abbrev pub typed_numbers : Kind → Parsing ℤ (TypedError StrictError)
+typed_numbers k = record { Returns = ParsesTyped k (λ z. z); status = typed_status_of status_of; place = typed_place_of place_of }
+
+abbrev pub decimals : Parsing FixedPoint ParseDecimalError
+decimals = record { Returns = DecimalResult; status = decimal_status_of; place = decimal_place_of }
+
+abbrev pub typed_decimals : Parsing FixedPoint (TypedError ParseDecimalError)
+typed_decimals = record { Returns = TypedDecimalResult; status = typed_status_of decimal_status_of; place = typed_place_of decimal_place_of }
+
+abbrev pub at_scale : (scale : ℕ) → Parsing FixedPoint ParseAtScaleError
+at_scale scale = record { Returns = λ f t. AtScaleResult f t scale; status = at_scale_status_of; place = at_scale_place_of }
+
+abbrev pub typed_at_scale : (scale : ℕ) → Parsing FixedPoint (TypedError ParseAtScaleError)
+typed_at_scale scale = record {
+  Returns = λ f t. TypedAtScaleResult f t scale;
+  status = typed_status_of at_scale_status_of;
+  place = typed_place_of at_scale_place_of;
+}
+
+-- a result with the status in place of the error, and the place after it
+abbrev pub crossed : {X E : Type 0} → (E → Status) → Result X E → Result X Status
+crossed status (Ok x) = Ok x
+crossed status (Err e) = Err (status e)
+
+abbrev pub place_after : {X E : Type 0} → (E → ℕ → ℕ) → Result X E → ℕ → ℕ
+place_after place (Ok x) old = old
+place_after place (Err e) old = place e old
+
+-- a result with the image of its value
+abbrev pub mapped : {A X E : Type 0} → (A → X) → Result A E → Result X E
+mapped value (Ok x) = Ok (value x)
+mapped value (Err e) = Err e
+
+-- a text is parsed under the format of a struct, `Gives` holds of what is returned, and the place of an unexpected byte is written
+pub record Crosses {X E Y : Type 0} (p : Parsing X E) (Gives : Result X Status → Y → Type 0) (s : NumFormat) (text : List ℕ) (old new : ℕ) (result : Y) : Type 0 where
+  pub bad_format : ¬ HasFormat s → Gives (Err BadFormat) result × (new ≡ old)
+  pub parsed : HasFormat s → (r : Result X E) × p.Returns (format_of s) text r × Gives (crossed p.status r) result × (new ≡ place_after p.place r old)
+
+-- the result is returned
+abbrev pub Gets : {A X E : Type 0} → Parsing X E → (A → X) → NumFormat → (text : List ℕ) → (old new : ℕ) → (result : Result A Status) → Type 0
+Gets p value = Crosses p (λ r result. r ≡ mapped value result)
+
+-- what was parsed is stored
+abbrev pub Into : {X B E : Type 0} → Parsing X E → (X → B) → NumFormat → (text : List ℕ) → (old new : B) → (at_old at_new : ℕ) → (result : ℤ) → Type 0
+Into p value s text old new = Crosses p (λ r result. Stores value r old new result) s text
+
+-- a text begins with a mark of the direction of writing: U+061C, U+200E or U+200F
+abbrev pub begins_with_mark : List ℕ → Bool
+begins_with_mark t =
+    starts_with nat_eq t (0xD8 ∷ 0x9C ∷ []) || starts_with nat_eq t (0xE2 ∷ 0x80 ∷ 0x8E ∷ []) || starts_with nat_eq t (0xE2 ∷ 0x80 ∷ 0x8F ∷ [])
+
+-- the columns that a text takes: one for each byte that begins a character, but none for such a mark
+abbrev pub columns_of : List ℕ → ℕ
+columns_of [] = 0
+columns_of (b ∷ t) = (if is_char_start b && not (begins_with_mark (b ∷ t)) then 1 else 0) + columns_of t
 
 -- an unsigned number of 128 bits, by its halves
 abbrev pub unsigned_wide : ℕ → ℕ → ℤ

@@ -1,5 +1,5 @@
 -- What the calls of C do with columns.
-use Rattle.std.specs.Prelude.{◌≡◌, ℕ, ◌+◌, ◌^◌, ◌<◌, ◌≤◌, min, ℤ, pos, List, length, slice_index_or, slice_range, Option, IsTrue, MatchOption}
+use Rattle.std.specs.Prelude.{◌≡◌, ◌≢◌, ℕ, ◌+◌, ◌^◌, ◌<◌, ◌≤◌, min, ℤ, pos, List, length, slice_index_or, slice_range, Option, Result, IsTrue, MatchOption, MatchResult}
 use Rattle.num_format.specs.Format.{FormatData}
 use Rattle.std.specs.Int.{w128}
 use Rattle.num_format.specs.Kind.{I128, Kind}
@@ -8,14 +8,16 @@ use Rattle.num_format.specs.Text.{text_of}
 use Rattle.num_format_c.specs.Layout.{AreAtStart, AreEnds, AreOffsets, IsEnough, MatchType, Representation, is_valid, largest_offset, number_at, offset_at, offset_type_of, row_count, row_text, signed, texts_of, value_type_of}
 use Rattle.num_format_decimal.specs.FixedPoint.{FixedPoint, fixed_point}
 use Rattle.num_format_decimal.specs.Marks.{MarksDecimals}
-use Rattle.num_format_decimal.specs.Parsing.{IsAtScaleCause, ParsesAtScale}
 use Rattle.num_format_decimal.specs.Text.{decimal_text}
 use Rattle.num_format_decimal.specs.declared.decimal.TheConstants.{MAX_SCALE}
-use Rattle.num_format_decimal.specs.declared.parsing.ParseAtScaleError.{ParseAtScaleError}
-use Rattle.num_format_c.specs.Calls.{Fails, ParsesExactlyInto, ParsesInto, at_scale_status_of}
+use Rattle.num_format_typed.specs.Typed.{IsTypable}
+use Rattle.num_format_c.specs.Calls.{Crosses, Fails, Into, Parsing, ParsesInto, numbers, typed_numbers}
 use Rattle.num_format_c.specs.Held.{HasFormat, format_of}
 use Rattle.num_format_c.specs.declared.format.NumFormat.{NumFormat}
 use Rattle.num_format_c.specs.declared.layout.offset.OffsetType.{OffsetType}
+use Rattle.num_format_c.specs.declared.layout.texts.Texts.{Texts}
+use Rattle.num_format_c.specs.declared.layout.values.Values.{Values}
+use Rattle.num_format_c.specs.declared.status.Status.{Status}
 use Rattle.num_format_c.specs.declared.status.Status.TheVariants.{AmbiguousFormat, BadFormat, TooSmall, BadLength, BadOffsets, BadScale, BadType, TooManyBytes}
 
 -- how the units of decimals are represented
@@ -58,17 +60,19 @@ pub record UnderFormat {A : Type 0} (s : NumFormat) (Does : FormatData → Type 
   pub format : HasFormat s → Does (format_of s)
 
 -- numbers of the type for which a number stands are printed
-abbrev pub PrintsNumbers : (value_code offset_code : ℕ) → NumFormat → (values bits : List ℕ) → (bit_offset : ℕ) → (old new : Printed) → (result : ℤ) → Type 0
-PrintsNumbers value_code offset_code s values bits bit_offset old new result =
+abbrev pub PrintsNumbers : (value_code offset_code : ℕ) → NumFormat → Values → (old new : Printed) → (result : ℤ) → Type 0
+PrintsNumbers value_code offset_code s values old new result =
     MatchOption (value_type_of value_code) (Fails BadType old new result) (λ type.
     MatchOption (offset_type_of offset_code) (Fails BadType old new result) (λ t.
-    UnderFormat s (λ f. MatchType type (λ v. PrintsCounted (row_text v (text_of f) values bits bit_offset) (row_count v values bits bit_offset) t old new result)) old new result))
+    UnderFormat s (λ f. MatchType type (λ v.
+    PrintsCounted (row_text v (text_of f) values.bytes.now values.validity) (row_count v values.bytes.now values.validity) t old new result)) old new result))
 
 -- decimals of one scale are printed
-pub record PrintsDecimals (scale offset_code : ℕ) (s : NumFormat) (values bits : List ℕ) (bit_offset : ℕ) (old new : Printed) (result : ℤ) : Type 0 where
+pub record PrintsDecimals (scale offset_code : ℕ) (s : NumFormat) (units : Values) (old new : Printed) (result : ℤ) : Type 0 where
   pub bad_scale : MAX_SCALE < scale → Fails BadScale old new result
   pub column : scale ≤ MAX_SCALE → MatchOption (offset_type_of offset_code) (Fails BadType old new result) (λ t.
-      UnderFormat s (λ f. PrintsCounted (row_text decimal_units (decimal_at scale f) values bits bit_offset) (row_count decimal_units values bits bit_offset) t old new result) old new result)
+      UnderFormat s (λ f. PrintsCounted (row_text decimal_units (decimal_at scale f) units.bytes.now units.validity)
+      (row_count decimal_units units.bytes.now units.validity) t old new result) old new result)
 
 -- the length of some texts is written
 pub record Measures (total old new : ℕ) (result : ℤ) : Type 0 where
@@ -80,40 +84,26 @@ abbrev pub MeasuresCounted : (ℕ → List ℕ) → Option ℕ → (old new : �
 MeasuresCounted text count old new result = MatchOption count (Fails BadLength old new result) (λ n. Measures (length (texts_of text n)) old new result)
 
 -- that of the texts of numbers of the type for which a number stands is written
-abbrev pub MeasuresNumbers : (value_code : ℕ) → NumFormat → (values bits : List ℕ) → (bit_offset : ℕ) → (old new : ℕ) → (result : ℤ) → Type 0
-MeasuresNumbers value_code s values bits bit_offset old new result =
+abbrev pub MeasuresNumbers : (value_code : ℕ) → NumFormat → Values → (old new : ℕ) → (result : ℤ) → Type 0
+MeasuresNumbers value_code s values old new result =
     MatchOption (value_type_of value_code) (Fails BadType old new result) (λ type.
-    UnderFormat s (λ f. MatchType type (λ v. MeasuresCounted (row_text v (text_of f) values bits bit_offset) (row_count v values bits bit_offset) old new result)) old new result)
+    UnderFormat s (λ f. MatchType type (λ v.
+    MeasuresCounted (row_text v (text_of f) values.bytes.now values.validity) (row_count v values.bytes.now values.validity) old new result)) old new result)
 
 -- that of the texts of decimals of one scale is written
-pub record MeasuresDecimals (scale : ℕ) (s : NumFormat) (values bits : List ℕ) (bit_offset old new : ℕ) (result : ℤ) : Type 0 where
+pub record MeasuresDecimals (scale : ℕ) (s : NumFormat) (units : Values) (old new : ℕ) (result : ℤ) : Type 0 where
   pub bad_scale : MAX_SCALE < scale → Fails BadScale old new result
   pub column : scale ≤ MAX_SCALE →
-      UnderFormat s (λ f. MeasuresCounted (row_text decimal_units (decimal_at scale f) values bits bit_offset) (row_count decimal_units values bits bit_offset) old new result) old new result
+      UnderFormat s (λ f. MeasuresCounted (row_text decimal_units (decimal_at scale f) units.bytes.now units.validity)
+      (row_count decimal_units units.bytes.now units.validity) old new result) old new result
 
 -- what a call that parses one text does: the struct, the text, the number before and after, and what is returned
 abbrev pub RowParser : Type 1
 RowParser = NumFormat → List ℕ → (old new result : ℤ) → Type 0
 
--- what num_format_parse_strict_i64 does but for the place of an unexpected byte
-abbrev pub ParsesRowExactly : Kind → RowParser
-ParsesRowExactly k s text old new result = (at : ℕ) × ParsesExactlyInto k s text old new 0 at result
-
--- a text is parsed as a decimal of a scale, whose units are written over others
-pub record ParsesAtScaleInto (scale : ℕ) (s : NumFormat) (text : List ℕ) (old new result : ℤ) : Type 0 where
-  pub bad_format : ¬ HasFormat s → Fails BadFormat old new result
-  pub refused : HasFormat s → (e : ParseAtScaleError) → IsAtScaleCause (format_of s) text scale e → Fails (at_scale_status_of e) old new result
-  pub number : HasFormat s → (d : FixedPoint) → ParsesAtScale (format_of s) text scale d → (result ≡ pos 0) × (new ≡ d.units)
-
--- what a call that parses a column is given: the offsets, the bytes, the bits and the first of them
-pub record Texts : Type 0 where
-  pub offsets : List ℕ
-  pub bytes : List ℕ
-  pub bits : List ℕ
-  pub bit_offset : ℕ
-
-abbrev pub to_texts : (offsets bytes bits : List ℕ) → ℕ → Texts
-to_texts offsets bytes bits bit_offset = record { offsets = offsets; bytes = bytes; bits = bits; bit_offset = bit_offset }
+-- what a call that stores one number does but for the place of an unexpected byte
+abbrev pub Row : {X E : Type 0} → Parsing X E → (X → ℤ) → RowParser
+Row p value s text old new result = (at : ℕ) × Into p value s text old new 0 at result
 
 -- what it writes: the bytes of the values, and a status of each row
 pub record Parsed : Type 0 where
@@ -132,16 +122,16 @@ pub record ParsesRow (Parses : RowParser) (has_value : Type 0) (s : NumFormat) (
 abbrev pub AreParsed : RowParser → Representation → OffsetType → NumFormat → Texts → (old new : Parsed) → (n : ℕ) → Type 0
 AreParsed Parses v t s c old new n =
     (k : ℕ) → k < n →
-    ParsesRow Parses (IsTrue (is_valid c.bits c.bit_offset k)) s (slice_range c.bytes (offset_at t c.offsets k) (offset_at t c.offsets (k + 1)))
+    ParsesRow Parses (IsTrue (is_valid c.validity k)) s (slice_range c.bytes.now (offset_at t c.offsets.now k) (offset_at t c.offsets.now (k + 1)))
     (number_at v old.values k) (number_at v new.values k) (slice_index_or new.statuses k (pos 0))
 
 -- a column of n rows has n + 1 offsets and n statuses
 abbrev pub HasLengths : OffsetType → Texts → Parsed → (n : ℕ) → Type 0
-HasLengths t c old n = IsEnough t n (length c.offsets) × (length old.statuses ≡ n)
+HasLengths t c old n = IsEnough t n (length c.offsets.now) × (length old.statuses ≡ n)
 
 -- the offsets of n rows lie in the bytes
 abbrev pub HasOffsets : OffsetType → Texts → (n : ℕ) → Type 0
-HasOffsets t c n = AreOffsets n (min (largest_offset t) (length c.bytes)) (offset_at t c.offsets)
+HasOffsets t c n = AreOffsets n (min (largest_offset t) (length c.bytes.now)) (offset_at t c.offsets.now)
 
 -- n rows are parsed, each as by the call for one text
 pub record ParsesRows (Parses : RowParser) (v : Representation) (t : OffsetType) (s : NumFormat) (c : Texts) (old new : Parsed) (result : ℤ) (n : ℕ) : Type 0 where
@@ -152,7 +142,7 @@ pub record ParsesRows (Parses : RowParser) (v : Representation) (t : OffsetType)
 -- the same if the values are those of whole rows, and there is a bit for each of them
 abbrev pub ParsesValues : RowParser → Representation → OffsetType → NumFormat → Texts → (old new : Parsed) → (result : ℤ) → Type 0
 ParsesValues Parses v t s c old new result =
-    MatchOption (row_count v old.values c.bits c.bit_offset) (Fails BadLength old new result) (ParsesRows Parses v t s c old new result)
+    MatchOption (row_count v old.values c.validity) (Fails BadLength old new result) (ParsesRows Parses v t s c old new result)
 
 -- a call parses under the format of a struct, if it is one by which no text can be misread
 pub record ParsesUnder (IsClear : FormatData → Type 0) (s : NumFormat) (Parsing : Type 0) (old new : Parsed) (result : ℤ) : Type 0 where
@@ -164,16 +154,31 @@ pub record ParsesUnder (IsClear : FormatData → Type 0) (s : NumFormat) (Parsin
 abbrev pub IsAny : FormatData → Type 0
 IsAny _ = Unit {0}
 
--- numbers of the type for which a number stands are parsed, strictly or not
-abbrev pub ParsesNumbers : (value_code offset_code lenient : ℕ) → NumFormat → Texts → (old new : Parsed) → (result : ℤ) → Type 0
-ParsesNumbers value_code offset_code lenient s c old new result =
+-- numbers of the type for which a number stands are parsed: strictly, as people type them, or leniently
+abbrev pub ParsesNumbers : (value_code offset_code mode : ℕ) → NumFormat → Texts → (old new : Parsed) → (result : ℤ) → Type 0
+ParsesNumbers value_code offset_code mode s c old new result =
     MatchOption (value_type_of value_code) (Fails BadType old new result) (λ type.
     MatchOption (offset_type_of offset_code) (Fails BadType old new result) (λ t.
-    (lenient ≡ 0 → ParsesUnder IsUnambiguous s (MatchType type (λ v. ParsesValues (ParsesRowExactly v.kind) v t s c old new result)) old new result)
-    × (0 < lenient → ParsesUnder IsAny s (MatchType type (λ v. ParsesValues (ParsesInto v.kind) v t s c old new result)) old new result)))
+    (mode ≡ 0 → ParsesUnder IsUnambiguous s (MatchType type (λ v. ParsesValues (Row (numbers v.kind) (λ z. z)) v t s c old new result)) old new result)
+    × (mode ≡ 2 → ParsesUnder IsTypable s (MatchType type (λ v. ParsesValues (Row (typed_numbers v.kind) (λ z. z)) v t s c old new result)) old new result)
+    × (mode ≢ 0 → mode ≢ 2 → ParsesUnder IsAny s (MatchType type (λ v. ParsesValues (ParsesInto v.kind) v t s c old new result)) old new result)))
 
 -- decimals of one scale are parsed
-pub record ParsesDecimals (scale offset_code : ℕ) (s : NumFormat) (c : Texts) (old new : Parsed) (result : ℤ) : Type 0 where
+pub record ParsesDecimals {E : Type 0} (p : Parsing FixedPoint E) (IsClear : FormatData → Type 0) (scale offset_code : ℕ) (s : NumFormat) (c : Texts) (old new : Parsed) (result : ℤ) : Type 0 where
   pub bad_scale : MAX_SCALE < scale → Fails BadScale old new result
   pub column : scale ≤ MAX_SCALE → MatchOption (offset_type_of offset_code) (Fails BadType old new result) (λ t.
-      ParsesUnder MarksDecimals s (ParsesValues (ParsesAtScaleInto scale) decimal_units t s c old new result) old new result)
+      ParsesUnder IsClear s (ParsesValues (Row p (λ d. d.units)) decimal_units t s c old new result) old new result)
+
+-- a format is taken for decimals that people type
+abbrev pub TypesDecimals : FormatData → Type 0
+TypesDecimals f = IsTypable f × MarksDecimals f
+
+-- the bytes of the number that was parsed are written over others, or its error is returned
+abbrev pub StoresBytes : Representation → (old new : List ℕ) → Result ℤ Status → (result : ℤ) → Type 0
+StoresBytes v old new r result = MatchResult r (λ z. (result ≡ pos 0) × (v.number new ≡ z)) (λ status. Fails status old new result)
+
+-- one number of a type is parsed as people type it, and its bytes are written
+pub record ParsesTypedInto (v : Representation) (k : Kind) (s : NumFormat) (text : List ℕ) (old new : List ℕ) (at_old at_new : ℕ) (result : ℤ) : Type 0 where
+  pub bad_format : ¬ HasFormat s → Fails BadFormat old new result × (at_new ≡ at_old)
+  pub bad_length : HasFormat s → ¬ (length old ≡ v.size) → Fails BadLength old new result × (at_new ≡ at_old)
+  pub parsed : HasFormat s → length old ≡ v.size → Crosses (typed_numbers k) (StoresBytes v old new) s text at_old at_new result

@@ -1,9 +1,13 @@
 -- A column: the bytes of its values, which rows have one, the texts, and where each ends.
 use Rattle.std.specs.Prelude.{◌≡◌, ◌==◌, ℕ, zero, suc, ◌+◌, ◌-◌, ◌*◌, ◌/◌, ◌%◌, ◌^◌, ◌<◌, ◌≤◌, ℤ, pos, nat_le, Bool, ◌&&◌, ◌||◌, List, [], ◌++◌, length, drop, slice_index_or, slice_range, Option, Some, None, if◌then◌else◌}
+use Rattle.std.specs.Borrow.{Bor}
 use Rattle.std.specs.Int.{Width, byte_len, cast_signed, from_le_bytes, w8, w16, w32, w64, w128}
 use Rattle.num_format.specs.Kind.{IntegerType, Kind, kind_of}
 use Rattle.num_format.specs.Kind as integer
 use Rattle.num_format_c.specs.declared.layout.offset.OffsetType.{OffsetType}
+use Rattle.num_format_c.specs.declared.layout.texts.Texts.{Texts}
+use Rattle.num_format_c.specs.declared.layout.validity.Validity.{Validity}
+use Rattle.num_format_c.specs.declared.layout.values.Values.{Values}
 use Rattle.num_format_c.specs.declared.layout.offset.OffsetType.TheVariants as offset
 use Rattle.num_format_c.specs.declared.layout.value.ValueType.{ValueType}
 use Rattle.num_format_c.specs.declared.layout.value.ValueType.TheVariants as value
@@ -85,22 +89,33 @@ IsEnough t n len = len ≡ (n + 1) * byte_len (width t)
 abbrev pub is_bit_set : List ℕ → ℕ → Bool
 is_bit_set bits k = slice_index_or bits (k / 8) 0 / 2 ^ (k % 8) % 2 == 1
 
+-- bits, and the one of the first row
+abbrev pub to_validity : Bor (List ℕ) → ℕ → Validity
+to_validity bits bit_offset = record { bits = bits; bit_offset = bit_offset }
+
+-- values, or texts, of which some may be null
+abbrev pub to_values : (bytes bits : Bor (List ℕ)) → ℕ → Values
+to_values bytes bits bit_offset = record { bytes = bytes; validity = to_validity bits bit_offset }
+
+abbrev pub to_texts : (offsets bytes bits : Bor (List ℕ)) → ℕ → Texts
+to_texts offsets bytes bits bit_offset = record { offsets = offsets; bytes = bytes; validity = to_validity bits bit_offset }
+
 -- row k has a value: there are no bits, or bit k from the offset is set; the other rows are null
-abbrev pub is_valid : (bits : List ℕ) (bit_offset k : ℕ) → Bool
-is_valid bits bit_offset k = (length bits == 0) || is_bit_set bits (bit_offset + k)
+abbrev pub is_valid : Validity → (k : ℕ) → Bool
+is_valid v k = (length v.bits.now == 0) || is_bit_set v.bits.now (v.bit_offset + k)
 
 -- there are no bits, or there is one for each of n rows
-abbrev pub covers : (bits : List ℕ) (bit_offset n : ℕ) → Bool
-covers bits bit_offset n = (length bits == 0) || nat_le (bit_offset + n) (8 * length bits)
+abbrev pub covers : Validity → (n : ℕ) → Bool
+covers v n = (length v.bits.now == 0) || nat_le (v.bit_offset + n) (8 * length v.bits.now)
 
 -- how many rows a column has, if its values are whole, and there is a bit for each of them
-abbrev pub row_count : Representation → (values bits : List ℕ) → (bit_offset : ℕ) → Option ℕ
-row_count t values bits bit_offset =
-    if (length values % t.size == 0) && covers bits bit_offset (length values / t.size) then Some (length values / t.size) else None
+abbrev pub row_count : Representation → (values : List ℕ) → Validity → Option ℕ
+row_count t values v =
+    if (length values % t.size == 0) && covers v (length values / t.size) then Some (length values / t.size) else None
 
 -- the number of row k, if it has a value
-abbrev pub row_value : Representation → (values bits : List ℕ) → (bit_offset k : ℕ) → Option ℤ
-row_value t values bits bit_offset k = if is_valid bits bit_offset k then Some (number_at t values k) else None
+abbrev pub row_value : Representation → (values : List ℕ) → Validity → (k : ℕ) → Option ℤ
+row_value t values v k = if is_valid v k then Some (number_at t values k) else None
 
 -- the text of a row, where that of a number is given; that of a null row is empty
 abbrev pub text_or_empty : (ℤ → List ℕ) → Option ℤ → List ℕ
@@ -108,8 +123,8 @@ text_or_empty text None = []
 text_or_empty text (Some z) = text z
 
 -- the text of row k
-abbrev pub row_text : Representation → (ℤ → List ℕ) → (values bits : List ℕ) → (bit_offset k : ℕ) → List ℕ
-row_text t text values bits bit_offset k = text_or_empty text (row_value t values bits bit_offset k)
+abbrev pub row_text : Representation → (ℤ → List ℕ) → (values : List ℕ) → Validity → (k : ℕ) → List ℕ
+row_text t text values v k = text_or_empty text (row_value t values v k)
 
 -- the texts of the first n rows, one after another
 abbrev pub texts_of : (ℕ → List ℕ) → ℕ → List ℕ

@@ -9,19 +9,31 @@ ghost use Rattle.num_format.specs.Text.{text_of};
 ghost use Rattle.num_format_decimal.specs.FixedPoint.{fixed_point};
 ghost use Rattle.num_format_decimal.specs.declared.buffer.TheConstants.{MAX_DECIMAL_LEN};
 ghost use Rattle.num_format_decimal.specs.declared.decimal.TheConstants.{MAX_SCALE};
-ghost use Rattle.num_format_c.specs.Calls.{ByTag, Fills, FillsCustom, FillsLocale, FindsLocale, ReturnsLength, ReturnsDecimalLength, Parses, ParsesAtScaleUnder, ParsesDecimalUnder, ParsesExactly, Prints, PrintsDecimal, Tells, Writes, WritesName, at_scale_status_of, decimal_place_of, decimal_status_of, place_of, returned, signed_kind, status_of, unsigned_kind};
+ghost use Rattle.num_format_c.specs.Calls.{ByTag, Fills, FillsCustom, FillsLocale, FindsLocale, ReturnsLength, ReturnsDecimalLength, Gets, Parses, Prints, PrintsDecimal, Tells, Writes, WritesName, decimals, numbers, begins_with_mark, columns_of, returned, signed_kind, typed_decimals, unsigned_kind};
 ghost use Rattle.num_format_c.specs.declared.status.Status.TheVariants.{BadBits};
 ghost use Rattle.num_format_c.specs.Held.{HasFormat, IsFormatOf, format_of};
 
 use crate::format::{Held, NumFormat, grouping_of};
-use crate::status::Status;
-use num_format::parsing::{FromFormattedStr, ParseBytesError, StrictError, StrictParser};
+use crate::status::{Status, crossed};
+use num_format::parsing::{FromFormattedStr, ParseBytesError};
 use num_format::utils::{DecimalStr, MinusSignStr, SeparatorStr};
 use num_format::{Buffer, Format, Locale, ToFormattedStr};
-use num_format_decimal::{
-    Decimal, DecimalBuffer, DecimalError, DecimalParser, ParseAtScaleError, ParseDecimalError,
-};
+use num_format_decimal::{Decimal, DecimalBuffer};
 use num_format_int::buffer::copy_bytes;
+use num_format_typed::parse_typed_decimal_bytes;
+
+/// Calls a function for the integer type of 8, 16, 32 or 64 bits.
+macro_rules! by_bits {
+    ($bits:expr, $call:ident $arguments:tt, $a:ty, $b:ty, $c:ty, $wide:ty) => {
+        match $bits {
+            8 => Ok($call::<$a> $arguments? as $wide),
+            16 => Ok($call::<$b> $arguments? as $wide),
+            32 => Ok($call::<$c> $arguments? as $wide),
+            64 => $call::<$wide> $arguments,
+            _ => Err(Status::BadBits),
+        }
+    };
+}
 
 /// Fills the struct with the format of the locale, and returns 0.
 pub fn fill_locale(format: &mut NumFormat, name: &[u8]) -> Result<i32, Status>
@@ -69,9 +81,7 @@ pub fn print<N: ToFormattedStr>(
 ) -> Result<i32, Status>
     ensures { Prints format.now (N.value number.now) text.old text.new (returned result) }
 {
-    let Some(format) = Held::new(format) else {
-        return Err(Status::BadFormat);
-    };
+    let format = Held::new(format)?;
     print_under(&format, number, text)
 }
 
@@ -94,9 +104,7 @@ fn print_under<F: Format, N: ToFormattedStr>(
 pub fn text_len<N: ToFormattedStr>(format: &NumFormat, number: &N) -> Result<i32, Status>
     ensures { ReturnsLength format.now (λ f. text_of f (N.value number.now)) (returned result) }
 {
-    let Some(format) = Held::new(format) else {
-        return Err(Status::BadFormat);
-    };
+    let format = Held::new(format)?;
     Ok(num_format::text_len(number, &format) as i32)
 }
 
@@ -109,12 +117,8 @@ pub fn print_decimal(
 ) -> Result<i32, Status>
     ensures { PrintsDecimal format.now units scale text.old text.new (returned result) }
 {
-    let Some(number) = decimal_of(units, scale) else {
-        return Err(Status::BadScale);
-    };
-    let Some(format) = Held::new(format) else {
-        return Err(Status::BadFormat);
-    };
+    let number = decimal_of(units, scale).ok_or(Status::BadScale)?;
+    let format = Held::new(format)?;
     write(DecimalBuffer::of(&number, &format).as_str(), text)
 }
 
@@ -122,17 +126,37 @@ pub fn print_decimal(
 pub fn decimal_len(format: &NumFormat, units: i128, scale: u32) -> Result<i32, Status>
     ensures { ReturnsDecimalLength format.now units scale (returned result) }
 {
-    let Some(number) = decimal_of(units, scale) else {
-        return Err(Status::BadScale);
-    };
-    let Some(format) = Held::new(format) else {
-        return Err(Status::BadFormat);
-    };
+    let number = decimal_of(units, scale).ok_or(Status::BadScale)?;
+    let format = Held::new(format)?;
     Ok(num_format_decimal::text_len(&number, &format) as i32)
 }
 
+/// Returns the columns that a text takes.
+pub fn text_width(text: &[u8]) -> usize
+    ensures { result ≡ columns_of text.now }
+{
+    let mut columns = 0;
+    let mut left = text;
+    while let Some((first, rest)) = left.split_first() {
+        if is_char_start(*first) && !begins_with_mark(left) {
+            columns += 1;
+        }
+        left = rest;
+    }
+    columns
+}
+
+/// Returns whether a text begins with a mark of the direction of writing: U+061C, U+200E or U+200F.
+fn begins_with_mark(text: &[u8]) -> bool
+    ensures { result ≡ begins_with_mark text.now }
+{
+    text.starts_with(&[0xD8, 0x9C])
+        || text.starts_with(&[0xE2, 0x80, 0x8E])
+        || text.starts_with(&[0xE2, 0x80, 0x8F])
+}
+
 /// Returns whether a byte begins a character.
-pub fn is_char_start(byte: u8) -> bool
+fn is_char_start(byte: u8) -> bool
     ensures { result ≡ is_char_start byte }
 {
     byte < 0x80 || byte >= 0xC0
@@ -152,9 +176,7 @@ fn decimal_of(units: i128, scale: u32) -> Option<Decimal>
 pub fn parse<N: FromFormattedStr>(format: &NumFormat, text: &[u8]) -> Result<N, Status>
     ensures { Parses N.kind N.value format.now text.now result }
 {
-    let Some(format) = Held::new(format) else {
-        return Err(Status::BadFormat);
-    };
+    let format = Held::new(format)?;
     parse_under(&format, text)
 }
 
@@ -176,13 +198,7 @@ pub fn parse_signed(format: &NumFormat, bits: u32, text: &[u8]) -> Result<i64, S
     ensures { MatchOption (signed_kind bits) (result ≡ Err BadBits)
         (λ k. Parses k (λ n. n) format.now text.now result) }
 {
-    match bits {
-        8 => Ok(parse::<i8>(format, text)? as i64),
-        16 => Ok(parse::<i16>(format, text)? as i64),
-        32 => Ok(parse::<i32>(format, text)? as i64),
-        64 => parse::<i64>(format, text),
-        _ => Err(Status::BadBits),
-    }
+    by_bits!(bits, parse(format, text), i8, i16, i32, i64)
 }
 
 /// Parses the text as an unsigned number of that many bits.
@@ -190,13 +206,7 @@ pub fn parse_unsigned(format: &NumFormat, bits: u32, text: &[u8]) -> Result<u64,
     ensures { MatchOption (unsigned_kind bits) (result ≡ Err BadBits)
         (λ k. Parses k (λ n. pos n) format.now text.now result) }
 {
-    match bits {
-        8 => Ok(parse::<u8>(format, text)? as u64),
-        16 => Ok(parse::<u16>(format, text)? as u64),
-        32 => Ok(parse::<u32>(format, text)? as u64),
-        64 => parse::<u64>(format, text),
-        _ => Err(Status::BadBits),
-    }
+    by_bits!(bits, parse(format, text), u8, u16, u32, u64)
 }
 
 /// Parses the text strictly as a number of the type. Writes the place of an unexpected byte, and nothing
@@ -206,49 +216,10 @@ pub fn parse_strict<N: FromFormattedStr>(
     text: &[u8],
     at: &mut usize,
 ) -> Result<N, Status>
-    ensures { ParsesExactly N.kind N.value format.now text.now at.old at.new result }
+    ensures { Gets (numbers N.kind) N.value format.now text.now at.old at.new result }
 {
-    let Some(format) = Held::new(format) else {
-        return Err(Status::BadFormat);
-    };
-    let Ok(parser) = StrictParser::new(&format) else {
-        return Err(Status::AmbiguousFormat);
-    };
-    parse_strict_by(&parser, text, at)
-}
-
-/// Parses the text as [`parse_strict`] does by a parser for the format that a struct has.
-#[inline(always)]
-pub fn parse_strict_by<'a, F: Format, N: FromFormattedStr>(
-    parser: &StrictParser<'a, F>,
-    text: &[u8],
-    at: &mut usize,
-) -> Result<N, Status>
-    ensures { (s : NumFormat) → IsFormatOf parser.now s
-        → ParsesExactly N.kind N.value s text.now at.old at.new result }
-{
-    match parser.parse_bytes(text) {
-        Ok(number) => Ok(number),
-        Err(error) => Err(refused(error, at)),
-    }
-}
-
-/// Returns the status of an error of strict parsing, and writes the place of an unexpected byte.
-fn refused(error: StrictError, at: &mut usize) -> Status
-    ensures status { result ≡ status_of error }
-    ensures place { at.new ≡ place_of error at.old }
-{
-    match error {
-        StrictError::AmbiguousFormat => Status::AmbiguousFormat,
-        StrictError::NotUtf8 => Status::NotUtf8,
-        StrictError::Unexpected { at: place } => {
-            *at = place;
-            Status::Unexpected
-        }
-        StrictError::NoDigit => Status::NoDigit,
-        StrictError::Misspelled => Status::Misspelled,
-        StrictError::OutOfRange => Status::OutOfRange,
-    }
+    let format = Held::new(format)?;
+    crossed(N::from_strict_bytes(text, &format), at)
 }
 
 /// Parses the text strictly as a signed number of that many bits, as [`parse_strict`] does.
@@ -259,15 +230,9 @@ pub fn parse_strict_signed(
     at: &mut usize,
 ) -> Result<i64, Status>
     ensures { MatchOption (signed_kind bits) ((result ≡ Err BadBits) × (at.new ≡ at.old))
-        (λ k. ParsesExactly k (λ n. n) format.now text.now at.old at.new result) }
+        (λ k. Gets (numbers k) (λ n. n) format.now text.now at.old at.new result) }
 {
-    match bits {
-        8 => Ok(parse_strict::<i8>(format, text, at)? as i64),
-        16 => Ok(parse_strict::<i16>(format, text, at)? as i64),
-        32 => Ok(parse_strict::<i32>(format, text, at)? as i64),
-        64 => parse_strict::<i64>(format, text, at),
-        _ => Err(Status::BadBits),
-    }
+    by_bits!(bits, parse_strict(format, text, at), i8, i16, i32, i64)
 }
 
 /// Parses the text strictly as an unsigned number of that many bits, as [`parse_strict`] does.
@@ -278,75 +243,29 @@ pub fn parse_strict_unsigned(
     at: &mut usize,
 ) -> Result<u64, Status>
     ensures { MatchOption (unsigned_kind bits) ((result ≡ Err BadBits) × (at.new ≡ at.old))
-        (λ k. ParsesExactly k (λ n. pos n) format.now text.now at.old at.new result) }
+        (λ k. Gets (numbers k) (λ n. pos n) format.now text.now at.old at.new result) }
 {
-    match bits {
-        8 => Ok(parse_strict::<u8>(format, text, at)? as u64),
-        16 => Ok(parse_strict::<u16>(format, text, at)? as u64),
-        32 => Ok(parse_strict::<u32>(format, text, at)? as u64),
-        64 => parse_strict::<u64>(format, text, at),
-        _ => Err(Status::BadBits),
-    }
+    by_bits!(bits, parse_strict(format, text, at), u8, u16, u32, u64)
 }
 
-/// Parses the text strictly as a decimal. Writes the place of an unexpected byte, and nothing for another
-/// error.
+/// Parses the text strictly as a decimal, as [`parse_strict`] does as a number.
 pub fn parse_decimal(format: &NumFormat, text: &[u8], at: &mut usize) -> Result<Decimal, Status>
-    ensures { ParsesDecimalUnder format.now text.now at.old at.new result }
+    ensures { Gets decimals (λ d. d) format.now text.now at.old at.new result }
 {
-    let Some(format) = Held::new(format) else {
-        return Err(Status::BadFormat);
-    };
-    match Decimal::from_strict_bytes(text, &format) {
-        Ok(number) => Ok(number),
-        Err(error) => Err(refused_decimal(error, at)),
-    }
+    let format = Held::new(format)?;
+    crossed(Decimal::from_strict_bytes(text, &format), at)
 }
 
-/// Parses the text strictly as a decimal of a scale by a parser for the format that a struct has.
-pub fn parse_at_scale<'a, F: Format>(
-    parser: &DecimalParser<'a, F>,
+/// Parses the text as people type it as a decimal, as [`parse_strict`] does as a number.
+pub fn parse_typed_decimal(
+    format: &NumFormat,
     text: &[u8],
-    scale: u8,
+    at: &mut usize,
 ) -> Result<Decimal, Status>
-    ensures { (s : NumFormat) → IsFormatOf parser.now s
-        → ParsesAtScaleUnder scale s text.now result }
+    ensures { Gets typed_decimals (λ d. d) format.now text.now at.old at.new result }
 {
-    match parser.parse_bytes_at_scale(text, scale) {
-        Ok(number) => Ok(number),
-        Err(error) => Err(refused_at_scale(error)),
-    }
-}
-
-/// Returns the status of an error of parsing a decimal of a scale.
-fn refused_at_scale(error: ParseAtScaleError) -> Status
-    ensures { result ≡ at_scale_status_of error }
-{
-    match error {
-        ParseAtScaleError::Parse(error) => refused_decimal(error, &mut 0),
-        ParseAtScaleError::Rescale(DecimalError::ScaleTooLarge) => Status::BadScale,
-        ParseAtScaleError::Rescale(DecimalError::DigitsLost) => Status::DigitsLost,
-        ParseAtScaleError::Rescale(DecimalError::OutOfRange) => Status::OutOfRange,
-    }
-}
-
-/// Returns the status of an error of parsing a decimal, and writes the place of an unexpected byte.
-fn refused_decimal(error: ParseDecimalError, at: &mut usize) -> Status
-    ensures status { result ≡ decimal_status_of error }
-    ensures place { at.new ≡ decimal_place_of error at.old }
-{
-    match error {
-        ParseDecimalError::AmbiguousFormat => Status::AmbiguousFormat,
-        ParseDecimalError::NotUtf8 => Status::NotUtf8,
-        ParseDecimalError::Unexpected { at: position } => {
-            *at = position;
-            Status::Unexpected
-        }
-        ParseDecimalError::NoDigit => Status::NoDigit,
-        ParseDecimalError::TooManyDecimals => Status::TooManyDecimals,
-        ParseDecimalError::Misspelled => Status::Misspelled,
-        ParseDecimalError::OutOfRange => Status::OutOfRange,
-    }
+    let format = Held::new(format)?;
+    crossed(parse_typed_decimal_bytes(text, &format), at)
 }
 
 /// Fills the struct with the format of a separator, a grouping's number, a minus sign and a decimal mark,
@@ -374,9 +293,7 @@ pub fn fill_custom(
     ) else {
         return Err(Status::TooLong);
     };
-    let Some(grouping) = grouping_of(grouping) else {
-        return Err(Status::BadGrouping);
-    };
+    let grouping = grouping_of(grouping).ok_or(Status::BadGrouping)?;
     *format = NumFormat::new(&Held {
         separator,
         grouping,
@@ -424,9 +341,7 @@ pub fn name_by_tag(tag: &[u8], array: &mut [u8]) -> Result<i32, Status>
 pub fn reads_back(format: &NumFormat) -> Result<i32, Status>
     ensures { Tells (HasFormat format.now) (RoundTrips (format_of format.now)) (returned result) }
 {
-    let Some(format) = Held::new(format) else {
-        return Err(Status::BadFormat);
-    };
+    let format = Held::new(format)?;
     Ok(truth(num_format::reads_back(&format)))
 }
 
@@ -435,12 +350,8 @@ pub fn prints_alike(first: &NumFormat, second: &NumFormat) -> Result<i32, Status
     ensures { Tells (HasFormat first.now × HasFormat second.now)
         (Alike (format_of first.now) (format_of second.now)) (returned result) }
 {
-    let Some(first) = Held::new(first) else {
-        return Err(Status::BadFormat);
-    };
-    let Some(second) = Held::new(second) else {
-        return Err(Status::BadFormat);
-    };
+    let first = Held::new(first)?;
+    let second = Held::new(second)?;
     Ok(truth(num_format::prints_alike(&first, &second)))
 }
 

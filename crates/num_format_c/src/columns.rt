@@ -4,23 +4,31 @@ ghost use Rattle.num_format.specs.Format.{FormatData};
 ghost use Rattle.num_format.specs.Text.{text_of};
 ghost use Rattle.num_format_decimal.specs.FixedPoint.{fixed_point};
 ghost use Rattle.num_format_decimal.specs.declared.decimal.TheConstants.{MAX_SCALE};
-ghost use Rattle.num_format_c.specs.Calls.{ParsesInto, code, returned};
-ghost use Rattle.num_format_c.specs.Columns.{AreParsed, HasLengths, HasOffsets, MeasuresCounted, MeasuresDecimals, MeasuresNumbers, Measures, ParsesAtScaleInto, ParsesDecimals, ParsesNumbers, ParsesRow, ParsesRowExactly, ParsesValues, PrintsCounted, PrintsDecimals, PrintsNumbers, PrintsRows, RowParser, decimal_at, decimal_units, to_parsed, to_printed, to_texts};
+ghost use Rattle.num_format_c.specs.Calls.{Fails, ParsesInto, at_scale, code, numbers, returned, typed_at_scale, typed_numbers};
+ghost use Rattle.num_format_c.specs.Columns.{AreParsed, HasLengths, HasOffsets, MeasuresCounted, MeasuresDecimals, MeasuresNumbers, Measures, ParsesDecimals, ParsesNumbers, ParsesRow, ParsesTypedInto, ParsesValues, PrintsCounted, PrintsDecimals, PrintsNumbers, PrintsRows, Row, RowParser, TypesDecimals, decimal_at, decimal_units, to_parsed, to_printed};
 ghost use Rattle.num_format_c.specs.Held.{IsFormatOf};
-ghost use Rattle.num_format_c.specs.Layout.{IsEnough, MatchType, number_at, row_bytes, row_count, row_text, texts_of};
+ghost use Rattle.num_format_c.specs.Layout.{IsEnough, MatchType, number_at, row_bytes, row_count, row_text, texts_of, value_type_of};
+ghost use Rattle.num_format_c.specs.declared.status.Status.TheVariants.{BadType};
+ghost use Rattle.num_format_decimal.specs.Marks.{MarksDecimals};
 
 use crate::calls;
 use crate::format::{Held, NumFormat};
 use crate::layout::{
-    Block, OffsetType, Printer, Validity, Value, ValueType, Values, print_texts, row_count,
+    Block, OffsetType, Printer, Rows, Texts, Value, ValueType, Values, print_texts, row_count,
     set_value, texts_len,
 };
-use crate::status::Status;
+use crate::status::{Status, crossed};
 use num_format::Format;
 use num_format::parsing::StrictParser;
-use num_format_decimal::{Decimal, DecimalBuffer, DecimalParser, MAX_SCALE};
+use num_format_decimal::{Decimal, DecimalBuffer, DecimalParser, MAX_SCALE, marks_decimals};
 use num_format_int::buffer::PutFront;
 use num_format_int::to_formatted_str::put_text;
+use num_format_typed::{TypedParser, parse_typed_bytes};
+
+/// The numbers of the ways to parse a column; any other is lenient.
+const STRICT: u32 = 0;
+
+const TYPED: u32 = 2;
 
 /// Calls a function for the integer type that a type of values is.
 macro_rules! for_type {
@@ -43,28 +51,28 @@ macro_rules! for_type {
 /// Prints whole numbers under a format.
 #[derive(Drop)]
 struct NumberPrinter<'a, N: Value, F: Format> {
-    values: Values<'a, N>,
+    rows: Rows<'a, N>,
     format: &'a F,
 }
 
 impl<'a, N: Value, F: Format> Printer for NumberPrinter<'a, N, F> {
-    ghost rows = { λ p. p.values.len };
+    ghost rows = { λ p. p.rows.len };
 
-    ghost text = { λ p. row_text N.repr (text_of (F.answers p.format.now)) p.values.bytes.now p.values.validity.bits.now p.values.validity.bit_offset };
+    ghost text = { λ p. row_text N.repr (text_of (F.answers p.format.now)) p.rows.values.bytes.now p.rows.values.validity };
 
     fn len(&self) -> usize {
-        self.values.len
+        self.rows.len
     }
 
     fn text_len(&self, row: usize) -> usize {
-        match self.values.get(row) {
+        match self.rows.get(row) {
             Some(number) => num_format::text_len(&number, self.format),
             None => 0,
         }
     }
 
     fn print(&self, row: usize, block: &mut Block) {
-        if let Some(number) = self.values.get(row) {
+        if let Some(number) = self.rows.get(row) {
             put_text(&number, block, self.format);
         }
     }
@@ -73,7 +81,7 @@ impl<'a, N: Value, F: Format> Printer for NumberPrinter<'a, N, F> {
 /// Prints decimals of one scale, whose units are in a column.
 #[derive(Drop)]
 struct DecimalPrinter<'a, F: Format> {
-    units: Values<'a, i128>,
+    rows: Rows<'a, i128>,
     format: &'a F,
     scale: u8,
     ghost bound: { scale ≤ MAX_SCALE },
@@ -92,23 +100,23 @@ impl<'a, F: Format> DecimalPrinter<'a, F> {
 }
 
 impl<'a, F: Format> Printer for DecimalPrinter<'a, F> {
-    ghost rows = { λ p. p.units.len };
+    ghost rows = { λ p. p.rows.len };
 
-    ghost text = { λ p. row_text decimal_units (decimal_at p.scale (F.answers p.format.now)) p.units.bytes.now p.units.validity.bits.now p.units.validity.bit_offset };
+    ghost text = { λ p. row_text decimal_units (decimal_at p.scale (F.answers p.format.now)) p.rows.values.bytes.now p.rows.values.validity };
 
     fn len(&self) -> usize {
-        self.units.len
+        self.rows.len
     }
 
     fn text_len(&self, row: usize) -> usize {
-        match self.units.get(row) {
+        match self.rows.get(row) {
             Some(units) => num_format_decimal::text_len(&self.number(units), self.format),
             None => 0,
         }
     }
 
     fn print(&self, row: usize, block: &mut Block) {
-        if let Some(units) = self.units.get(row) {
+        if let Some(units) = self.rows.get(row) {
             block.put_front(DecimalBuffer::of(&self.number(units), self.format).as_str());
         }
     }
@@ -118,26 +126,22 @@ impl<'a, F: Format> Printer for DecimalPrinter<'a, F> {
 pub fn print(
     format: &NumFormat,
     value_code: u32,
-    values: &[u8],
-    validity: &Validity,
-    offsets: &mut [u8],
+    values: &Values,
     offset_code: u32,
+    offsets: &mut [u8],
     bytes: &mut [u8],
     len: &mut usize,
 ) -> Result<i32, Status>
-    ensures { PrintsNumbers value_code offset_code format.now values.now validity.now.bits.now validity.now.bit_offset
+    ensures { PrintsNumbers value_code offset_code format.now values.now
         (to_printed offsets.old bytes.old len.old) (to_printed offsets.new bytes.new len.new) (returned result) }
 {
     let value_type = ValueType::from_code(value_code).ok_or(Status::BadType)?;
     let offset_type = OffsetType::from_code(offset_code).ok_or(Status::BadType)?;
-    let Some(format) = Held::new(format) else {
-        return Err(Status::BadFormat);
-    };
+    let format = Held::new(format)?;
     print_type(
         value_type,
         &format,
         values,
-        validity,
         offset_type,
         offsets,
         bytes,
@@ -149,76 +153,61 @@ pub fn print(
 fn print_type<F: Format>(
     value_type: ValueType,
     format: &F,
-    values: &[u8],
-    validity: &Validity,
+    values: &Values,
     offset_type: OffsetType,
     offsets: &mut [u8],
     bytes: &mut [u8],
     len: &mut usize,
 ) -> Result<i32, Status>
     ensures { MatchType value_type (λ v. PrintsCounted
-        (row_text v (text_of (F.answers format.now)) values.now validity.now.bits.now validity.now.bit_offset)
-        (row_count v values.now validity.now.bits.now validity.now.bit_offset) offset_type
+        (row_text v (text_of (F.answers format.now)) values.now.bytes.now values.now.validity)
+        (row_count v values.now.bytes.now values.now.validity) offset_type
         (to_printed offsets.old bytes.old len.old) (to_printed offsets.new bytes.new len.new) (returned result)) }
 {
     for_type!(
         value_type,
-        print_numbers(format, values, validity, offset_type, offsets, bytes, len)
+        print_numbers(format, values, offset_type, offsets, bytes, len)
     )
 }
 
 /// Prints the numbers of an integer type.
 fn print_numbers<N: Value, F: Format>(
     format: &F,
-    values: &[u8],
-    validity: &Validity,
+    values: &Values,
     offset_type: OffsetType,
     offsets: &mut [u8],
     bytes: &mut [u8],
     len: &mut usize,
 ) -> Result<i32, Status>
-    ensures { PrintsCounted
-        (row_text N.repr (text_of (F.answers format.now)) values.now validity.now.bits.now validity.now.bit_offset)
-        (row_count N.repr values.now validity.now.bits.now validity.now.bit_offset) offset_type
+    ensures { PrintsCounted (row_text N.repr (text_of (F.answers format.now)) values.now.bytes.now values.now.validity)
+        (row_count N.repr values.now.bytes.now values.now.validity) offset_type
         (to_printed offsets.old bytes.old len.old) (to_printed offsets.new bytes.new len.new) (returned result) }
 {
-    let Some(values) = Values::<N>::new(values, validity) else {
-        return Err(Status::BadLength);
-    };
-    print_rows(
-        &NumberPrinter { values, format },
-        offset_type,
-        offsets,
-        bytes,
-        len,
-    )
+    let rows = Rows::<N>::new(values)?;
+    let printer = NumberPrinter { rows, format };
+    print_rows(&printer, offset_type, offsets, bytes, len)
 }
 
 /// Prints the decimals with these units and this scale into a column, and returns 0.
 pub fn print_decimals(
     format: &NumFormat,
-    units: &[u8],
+    units: &Values,
     scale: u32,
-    validity: &Validity,
-    offsets: &mut [u8],
     offset_code: u32,
+    offsets: &mut [u8],
     bytes: &mut [u8],
     len: &mut usize,
 ) -> Result<i32, Status>
-    ensures { PrintsDecimals scale offset_code format.now units.now validity.now.bits.now validity.now.bit_offset
+    ensures { PrintsDecimals scale offset_code format.now units.now
         (to_printed offsets.old bytes.old len.old) (to_printed offsets.new bytes.new len.new) (returned result) }
 {
     let scale = scale_of(scale).ok_or(Status::BadScale)?;
     let offset_type = OffsetType::from_code(offset_code).ok_or(Status::BadType)?;
-    let Some(format) = Held::new(format) else {
-        return Err(Status::BadFormat);
-    };
-    let Some(units) = Values::<i128>::new(units, validity) else {
-        return Err(Status::BadLength);
-    };
+    let format = &Held::new(format)?;
+    let rows = Rows::new(units)?;
     let printer = DecimalPrinter {
-        units,
-        format: &format,
+        rows,
+        format,
         scale,
     };
     print_rows(&printer, offset_type, offsets, bytes, len)
@@ -265,71 +254,58 @@ fn print_rows<P: Printer>(
 pub fn measure(
     format: &NumFormat,
     value_code: u32,
-    values: &[u8],
-    validity: &Validity,
+    values: &Values,
     len: &mut usize,
 ) -> Result<i32, Status>
-    ensures { MeasuresNumbers value_code format.now values.now validity.now.bits.now validity.now.bit_offset len.old len.new (returned result) }
+    ensures { MeasuresNumbers value_code format.now values.now len.old len.new (returned result) }
 {
     let value_type = ValueType::from_code(value_code).ok_or(Status::BadType)?;
-    let Some(format) = Held::new(format) else {
-        return Err(Status::BadFormat);
-    };
-    measure_type(value_type, &format, values, validity, len)
+    let format = Held::new(format)?;
+    measure_type(value_type, &format, values, len)
 }
 
 /// Writes how many bytes the texts of the numbers of a type have.
 fn measure_type<F: Format>(
     value_type: ValueType,
     format: &F,
-    values: &[u8],
-    validity: &Validity,
+    values: &Values,
     len: &mut usize,
 ) -> Result<i32, Status>
     ensures { MatchType value_type (λ v. MeasuresCounted
-        (row_text v (text_of (F.answers format.now)) values.now validity.now.bits.now validity.now.bit_offset)
-        (row_count v values.now validity.now.bits.now validity.now.bit_offset) len.old len.new (returned result)) }
+        (row_text v (text_of (F.answers format.now)) values.now.bytes.now values.now.validity)
+        (row_count v values.now.bytes.now values.now.validity) len.old len.new (returned result)) }
 {
-    for_type!(value_type, measure_numbers(format, values, validity, len))
+    for_type!(value_type, measure_numbers(format, values, len))
 }
 
 /// Writes how many bytes the texts of the numbers of an integer type have.
 fn measure_numbers<N: Value, F: Format>(
     format: &F,
-    values: &[u8],
-    validity: &Validity,
+    values: &Values,
     len: &mut usize,
 ) -> Result<i32, Status>
-    ensures { MeasuresCounted
-        (row_text N.repr (text_of (F.answers format.now)) values.now validity.now.bits.now validity.now.bit_offset)
-        (row_count N.repr values.now validity.now.bits.now validity.now.bit_offset) len.old len.new (returned result) }
+    ensures { MeasuresCounted (row_text N.repr (text_of (F.answers format.now)) values.now.bytes.now values.now.validity)
+        (row_count N.repr values.now.bytes.now values.now.validity) len.old len.new (returned result) }
 {
-    let Some(values) = Values::<N>::new(values, validity) else {
-        return Err(Status::BadLength);
-    };
-    measure_rows(&NumberPrinter { values, format }, len)
+    let rows = Rows::<N>::new(values)?;
+    measure_rows(&NumberPrinter { rows, format }, len)
 }
 
 /// Writes how many bytes the texts of the decimals have, and returns 0.
 pub fn measure_decimals(
     format: &NumFormat,
-    units: &[u8],
+    units: &Values,
     scale: u32,
-    validity: &Validity,
     len: &mut usize,
 ) -> Result<i32, Status>
-    ensures { MeasuresDecimals scale format.now units.now validity.now.bits.now validity.now.bit_offset len.old len.new (returned result) }
+    ensures { MeasuresDecimals scale format.now units.now len.old len.new (returned result) }
 {
     let scale = scale_of(scale).ok_or(Status::BadScale)?;
-    let Some(format) = Held::new(format) else {
-        return Err(Status::BadFormat);
-    };
-    let Some(units) = Values::<i128>::new(units, validity) else {
-        return Err(Status::BadLength);
-    };
+    let format = &Held::new(format)?;
+    let rows = Rows::new(units)?;
     let printer = DecimalPrinter {
-        units,
-        format: &format,
+        rows,
+        format,
         scale,
     };
     measure_rows(&printer, len)
@@ -376,27 +352,52 @@ impl<'a, N: Value, F: Format> Parser<N> for Lenient<'a, F> {
 impl<'a, N: Value, F: Format> Parser<N> for StrictParser<'a, F> {
     ghost format = { λ f. f };
 
-    ghost Parses = { λ _. ParsesRowExactly N.kind };
+    ghost Parses = { λ _. Row (numbers N.kind) (λ z. z) };
 
     fn parse(&self, text: &[u8]) -> Result<N, Status> {
-        calls::parse_strict_by(self, text, &mut 0)
+        crossed(self.parse_bytes(text), &mut 0)
     }
 }
 
-/// Parsing of texts that are exactly as decimals are printed, as decimals of one scale.
+impl<'a, N: Value, F: Format> Parser<N> for TypedParser<'a, F> {
+    ghost format = { λ f. f };
+
+    ghost Parses = { λ _. Row (typed_numbers N.kind) (λ z. z) };
+
+    fn parse(&self, text: &[u8]) -> Result<N, Status> {
+        crossed(self.parse_bytes(text), &mut 0)
+    }
+}
+
+/// Parsing of decimals of one scale.
 #[derive(Drop)]
-struct AtScale<'a, F: Format> {
-    parser: DecimalParser<'a, F>,
+struct AtScale<P> {
+    parser: P,
     scale: u8,
 }
 
-impl<'a, F: Format> Parser<i128> for AtScale<'a, F> {
+impl<'a, F: Format> Parser<i128> for AtScale<DecimalParser<'a, F>> {
     ghost format = { λ p. p.parser };
 
-    ghost Parses = { λ p. ParsesAtScaleInto p.scale };
+    ghost Parses = { λ p. Row (at_scale p.scale) (λ d. d.units) };
 
     fn parse(&self, text: &[u8]) -> Result<i128, Status> {
-        match calls::parse_at_scale(&self.parser, text, self.scale) {
+        let parsed = self.parser.parse_bytes_at_scale(text, self.scale);
+        match crossed(parsed, &mut 0) {
+            Ok(number) => Ok(number.units()),
+            Err(status) => Err(status),
+        }
+    }
+}
+
+impl<'a, F: Format> Parser<i128> for AtScale<TypedParser<'a, F>> {
+    ghost format = { λ p. p.parser };
+
+    ghost Parses = { λ p. Row (typed_at_scale p.scale) (λ d. d.units) };
+
+    fn parse(&self, text: &[u8]) -> Result<i128, Status> {
+        let parsed = self.parser.parse_bytes_at_scale(text, self.scale);
+        match crossed(parsed, &mut 0) {
             Ok(number) => Ok(number.units()),
             Err(status) => Err(status),
         }
@@ -407,49 +408,36 @@ impl<'a, F: Format> Parser<i128> for AtScale<'a, F> {
 pub fn parse(
     format: &NumFormat,
     value_code: u32,
-    lenient: u32,
-    offsets: &[u8],
+    mode: u32,
     offset_code: u32,
-    bytes: &[u8],
+    texts: &Texts,
     values: &mut [u8],
-    validity: &Validity,
     statuses: &mut [i32],
 ) -> Result<i32, Status>
-    ensures { ParsesNumbers value_code offset_code lenient format.now
-        (to_texts offsets.now bytes.now validity.now.bits.now validity.now.bit_offset)
+    ensures { ParsesNumbers value_code offset_code mode format.now texts.now
         (to_parsed values.old statuses.old) (to_parsed values.new statuses.new) (returned result) }
 {
     let value_type = ValueType::from_code(value_code).ok_or(Status::BadType)?;
     let offset_type = OffsetType::from_code(offset_code).ok_or(Status::BadType)?;
-    let Some(format) = Held::new(format) else {
-        return Err(Status::BadFormat);
-    };
-    if lenient != 0 {
-        let parser = Lenient { format: &format };
-        return parse_leniently(
-            value_type,
-            &parser,
-            offset_type,
-            offsets,
-            bytes,
-            values,
-            validity,
-            statuses,
-        );
+    let format = Held::new(format)?;
+    match mode {
+        STRICT => {
+            let Ok(parser) = StrictParser::new(&format) else {
+                return Err(Status::AmbiguousFormat);
+            };
+            parse_strictly(value_type, &parser, offset_type, texts, values, statuses)
+        }
+        TYPED => {
+            let Ok(parser) = TypedParser::new(&format) else {
+                return Err(Status::AmbiguousFormat);
+            };
+            parse_typed(value_type, &parser, offset_type, texts, values, statuses)
+        }
+        _ => {
+            let parser = Lenient { format: &format };
+            parse_leniently(value_type, &parser, offset_type, texts, values, statuses)
+        }
     }
-    let Ok(parser) = StrictParser::new(&format) else {
-        return Err(Status::AmbiguousFormat);
-    };
-    parse_strictly(
-        value_type,
-        &parser,
-        offset_type,
-        offsets,
-        bytes,
-        values,
-        validity,
-        statuses,
-    )
 }
 
 /// Parses the rows of a column of numbers of a type leniently.
@@ -457,28 +445,17 @@ fn parse_leniently<'a, F: Format>(
     value_type: ValueType,
     parser: &Lenient<'a, F>,
     offset_type: OffsetType,
-    offsets: &[u8],
-    bytes: &[u8],
+    texts: &Texts,
     values: &mut [u8],
-    validity: &Validity,
     statuses: &mut [i32],
 ) -> Result<i32, Status>
     ensures { (s : NumFormat) → IsFormatOf (F.answers parser.now.format.now) s
-        → MatchType value_type (λ v. ParsesValues (ParsesInto v.kind) v offset_type s
-        (to_texts offsets.now bytes.now validity.now.bits.now validity.now.bit_offset)
+        → MatchType value_type (λ v. ParsesValues (ParsesInto v.kind) v offset_type s texts.now
         (to_parsed values.old statuses.old) (to_parsed values.new statuses.new) (returned result)) }
 {
     for_type!(
         value_type,
-        parse_column(
-            parser,
-            offset_type,
-            offsets,
-            bytes,
-            values,
-            validity,
-            statuses
-        )
+        parse_column(parser, offset_type, texts, values, statuses)
     )
 }
 
@@ -488,100 +465,162 @@ fn parse_strictly<'a, F: Format>(
     value_type: ValueType,
     parser: &StrictParser<'a, F>,
     offset_type: OffsetType,
-    offsets: &[u8],
-    bytes: &[u8],
+    texts: &Texts,
     values: &mut [u8],
-    validity: &Validity,
     statuses: &mut [i32],
 ) -> Result<i32, Status>
     ensures { (s : NumFormat) → IsFormatOf parser.now s
-        → MatchType value_type (λ v. ParsesValues (ParsesRowExactly v.kind) v offset_type s
-        (to_texts offsets.now bytes.now validity.now.bits.now validity.now.bit_offset)
+        → MatchType value_type (λ v. ParsesValues (Row (numbers v.kind) (λ z. z)) v offset_type s texts.now
         (to_parsed values.old statuses.old) (to_parsed values.new statuses.new) (returned result)) }
 {
     for_type!(
         value_type,
-        parse_column(
-            parser,
-            offset_type,
-            offsets,
-            bytes,
-            values,
-            validity,
-            statuses
-        )
+        parse_column(parser, offset_type, texts, values, statuses)
     )
+}
+
+/// Parses the rows of a column of numbers of a type as people type them.
+#[inline(never)]
+fn parse_typed<'a, F: Format>(
+    value_type: ValueType,
+    parser: &TypedParser<'a, F>,
+    offset_type: OffsetType,
+    texts: &Texts,
+    values: &mut [u8],
+    statuses: &mut [i32],
+) -> Result<i32, Status>
+    ensures { (s : NumFormat) → IsFormatOf parser.now s
+        → MatchType value_type (λ v. ParsesValues (Row (typed_numbers v.kind) (λ z. z)) v offset_type s texts.now
+        (to_parsed values.old statuses.old) (to_parsed values.new statuses.new) (returned result)) }
+{
+    for_type!(
+        value_type,
+        parse_column(parser, offset_type, texts, values, statuses)
+    )
+}
+
+/// Parses a text as people type it as a number of a type, writes the bytes of the number, and returns 0.
+pub fn parse_one(
+    format: &NumFormat,
+    value_code: u32,
+    text: &[u8],
+    value: &mut [u8],
+    at: &mut usize,
+) -> Result<i32, Status>
+    ensures { MatchOption (value_type_of value_code) (Fails BadType value.old value.new (returned result) × (at.new ≡ at.old))
+        (λ type. MatchType type (λ v. ParsesTypedInto v v.kind format.now text.now value.old value.new at.old at.new (returned result))) }
+{
+    let value_type = ValueType::from_code(value_code).ok_or(Status::BadType)?;
+    let format = Held::new(format)?;
+    parse_one_of(value_type, &format, text, value, at)
+}
+
+/// Parses a text as people type it as a number of the type that a type of values is.
+fn parse_one_of<F: Format>(
+    value_type: ValueType,
+    format: &F,
+    text: &[u8],
+    value: &mut [u8],
+    at: &mut usize,
+) -> Result<i32, Status>
+    ensures { (s : NumFormat) → IsFormatOf (F.answers format.now) s
+        → MatchType value_type (λ v. ParsesTypedInto v v.kind s text.now value.old value.new at.old at.new (returned result)) }
+{
+    for_type!(value_type, parse_number(format, text, value, at))
+}
+
+/// Parses a text as people type it as a number of an integer type.
+fn parse_number<N: Value, F: Format>(
+    format: &F,
+    text: &[u8],
+    value: &mut [u8],
+    at: &mut usize,
+) -> Result<i32, Status>
+    ensures { (s : NumFormat) → IsFormatOf (F.answers format.now) s
+        → ParsesTypedInto N.repr N.kind s text.now value.old value.new at.old at.new (returned result) }
+{
+    if value.len() != N::size() {
+        return Err(Status::BadLength);
+    }
+    match crossed(parse_typed_bytes::<N, F>(text, format), at) {
+        Ok(number) => {
+            number.write(value);
+            Ok(0)
+        }
+        Err(status) => Err(status),
+    }
 }
 
 /// Parses the rows of a column of decimals, and returns 0.
 pub fn parse_decimals(
     format: &NumFormat,
     scale: u32,
-    offsets: &[u8],
     offset_code: u32,
-    bytes: &[u8],
+    texts: &Texts,
     units: &mut [u8],
-    validity: &Validity,
     statuses: &mut [i32],
 ) -> Result<i32, Status>
-    ensures { ParsesDecimals scale offset_code format.now
-        (to_texts offsets.now bytes.now validity.now.bits.now validity.now.bit_offset)
+    ensures { ParsesDecimals (at_scale scale) MarksDecimals scale offset_code format.now texts.now
         (to_parsed units.old statuses.old) (to_parsed units.new statuses.new) (returned result) }
 {
     let scale = scale_of(scale).ok_or(Status::BadScale)?;
     let offset_type = OffsetType::from_code(offset_code).ok_or(Status::BadType)?;
-    let Some(format) = Held::new(format) else {
-        return Err(Status::BadFormat);
-    };
+    let format = Held::new(format)?;
     let Ok(parser) = DecimalParser::new(&format) else {
         return Err(Status::AmbiguousFormat);
     };
     let parser = AtScale { parser, scale };
-    parse_column::<i128, _>(
-        &parser,
-        offset_type,
-        offsets,
-        bytes,
-        units,
-        validity,
-        statuses,
-    )
+    parse_column::<i128, _>(&parser, offset_type, texts, units, statuses)
+}
+
+/// Parses the rows of a column of decimals as people type them, and returns 0.
+pub fn parse_typed_decimals(
+    format: &NumFormat,
+    scale: u32,
+    offset_code: u32,
+    texts: &Texts,
+    units: &mut [u8],
+    statuses: &mut [i32],
+) -> Result<i32, Status>
+    ensures { ParsesDecimals (typed_at_scale scale) TypesDecimals scale offset_code format.now texts.now
+        (to_parsed units.old statuses.old) (to_parsed units.new statuses.new) (returned result) }
+{
+    let scale = scale_of(scale).ok_or(Status::BadScale)?;
+    let offset_type = OffsetType::from_code(offset_code).ok_or(Status::BadType)?;
+    let format = Held::new(format)?;
+    let Ok(parser) = TypedParser::new(&format) else {
+        return Err(Status::AmbiguousFormat);
+    };
+    if !marks_decimals(&format) {
+        return Err(Status::AmbiguousFormat);
+    }
+    let parser = AtScale { parser, scale };
+    parse_column::<i128, _>(&parser, offset_type, texts, units, statuses)
 }
 
 /// Parses the rows of a column, and returns 0.
 fn parse_column<N: Value, P: Parser<N>>(
     parser: &P,
     offset_type: OffsetType,
-    offsets: &[u8],
-    bytes: &[u8],
+    texts: &Texts,
     values: &mut [u8],
-    validity: &Validity,
     statuses: &mut [i32],
 ) -> Result<i32, Status>
     ensures { (s : NumFormat) → IsFormatOf (P.format parser.now) s
-        → ParsesValues (P.Parses parser.now) N.repr offset_type s
-        (to_texts offsets.now bytes.now validity.now.bits.now validity.now.bit_offset)
+        → ParsesValues (P.Parses parser.now) N.repr offset_type s texts.now
         (to_parsed values.old statuses.old) (to_parsed values.new statuses.new) (returned result) }
 {
-    let Some(n) = row_count::<N>(values, validity) else {
+    let Some(n) = row_count::<N>(values, &texts.validity) else {
         return Err(Status::BadLength);
     };
-    if statuses.len() != n || !offset_type.is_enough(n, offsets) {
+    if statuses.len() != n || !offset_type.is_enough(n, texts.offsets) {
         return Err(Status::BadLength);
     }
-    let limit = offset_type.limit().min(bytes.len());
-    if !offset_type.are_offsets(n, limit, offsets) {
+    let limit = offset_type.limit().min(texts.bytes.len());
+    if !offset_type.are_offsets(n, limit, texts.offsets) {
         return Err(Status::BadOffsets);
     }
-    parse_rows::<N, P>(
-        parser,
-        offset_type,
-        offsets,
-        bytes,
-        values,
-        validity,
-        statuses,
-    );
+    parse_rows::<N, P>(parser, offset_type, texts, values, statuses);
     Ok(0)
 }
 
@@ -589,24 +628,22 @@ fn parse_column<N: Value, P: Parser<N>>(
 fn parse_rows<N: Value, P: Parser<N>>(
     parser: &P,
     offset_type: OffsetType,
-    offsets: &[u8],
-    bytes: &[u8],
+    texts: &Texts,
     values: &mut [u8],
-    validity: &Validity,
     statuses: &mut [i32],
 )
     requires values { length values.old ≡ length statuses.old * N.repr.size }
-    requires offsets { IsEnough offset_type (length statuses.old) (length offsets.now) }
-    requires within { HasOffsets offset_type (to_texts offsets.now bytes.now validity.now.bits.now validity.now.bit_offset) (length statuses.old) }
+    requires offsets { IsEnough offset_type (length statuses.old) (length texts.now.offsets.now) }
+    requires within { HasOffsets offset_type texts.now (length statuses.old) }
     ensures { (s : NumFormat) → IsFormatOf (P.format parser.now) s
-        → AreParsed (P.Parses parser.now) N.repr offset_type s
-        (to_texts offsets.now bytes.now validity.now.bits.now validity.now.bit_offset)
+        → AreParsed (P.Parses parser.now) N.repr offset_type s texts.now
         (to_parsed values.old statuses.old) (to_parsed values.new statuses.new) (length statuses.old) }
 {
     for row in 0..statuses.len() {
-        let start = offset_type.get(offsets, row);
-        let text = &bytes[start..offset_type.get(offsets, row + 1)];
-        statuses[row] = parse_row::<N, P>(parser, text, validity.is_valid(row), values, row);
+        let start = offset_type.get(texts.offsets, row);
+        let text = &texts.bytes[start..offset_type.get(texts.offsets, row + 1)];
+        let is_valid = texts.validity.is_valid(row);
+        statuses[row] = parse_row::<N, P>(parser, text, is_valid, values, row);
     }
 }
 

@@ -1,8 +1,10 @@
 //! A format in a struct that a C program owns.
-ghost use Rattle.std.specs.Prelude.{◌≡◌, ◌≤◌, take, drop, length, ◌++◌, IsTrue, IsUtf8, MatchOption, Some, ◌↔◌};
+ghost use Rattle.std.specs.Prelude.{◌≡◌, ◌≤◌, take, drop, length, ◌++◌, IsTrue, IsUtf8, MatchResult, Some, ◌↔◌};
 ghost use Rattle.bstr.specs.Utf8.{continues};
+ghost use Rattle.num_format_c.specs.declared.status.Status.TheVariants.{BadFormat};
 ghost use Rattle.num_format_c.specs.Held.{Agrees, HasFormat, HasTexts, IsFormatOf, IsPadded, format_of, format_with, grouping_of, padded};
 
+use crate::status::Status;
 use num_format::utils::{DecimalStr, InfinityStr, MinusSignStr, NanStr, PlusSignStr, SeparatorStr};
 use num_format::{Format, Grouping};
 
@@ -98,18 +100,19 @@ pub struct Held<'a> {
 impl<'a> Held<'a> {
     /// Returns the format that the struct has, if it has one.
     #[inline(always)]
-    pub fn new(format: &'a NumFormat) -> Option<Held<'a>>
-        ensures { MatchOption result (¬ (HasFormat format.now))
-            (λ h. IsFormatOf (format_with h.separator h.grouping h.minus_sign h.decimal_mark) format.now) }
+    pub fn new(format: &'a NumFormat) -> Result<Held<'a>, Status>
+        ensures { MatchResult result
+            (λ h. IsFormatOf (format_with h.separator h.grouping h.minus_sign h.decimal_mark) format.now)
+            (λ status. (status ≡ BadFormat) × (¬ (HasFormat format.now))) }
     {
-        let grouping = grouping_of(format.grouping as u32)?;
+        let grouping = grouping_of(format.grouping as u32).ok_or(Status::BadFormat)?;
         if !format.has_short_texts() && !format.has_texts() {
-            return None;
+            return Err(Status::BadFormat);
         }
         let separator = text_at(&format.separator, format.separator_len);
         let minus_sign = text_at(&format.minus_sign, format.minus_sign_len);
         let decimal_mark = text_at(&format.decimal_mark, format.decimal_mark_len);
-        Some(Held {
+        Ok(Held {
             separator: SeparatorStr::of(separator),
             grouping,
             minus_sign: MinusSignStr::of(minus_sign),

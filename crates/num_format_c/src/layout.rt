@@ -4,6 +4,7 @@
 pub mod block;
 pub mod offset;
 pub mod printing;
+pub mod texts;
 pub mod validity;
 pub mod value;
 pub mod values;
@@ -11,6 +12,7 @@ pub mod values;
 pub use block::Block;
 pub use offset::OffsetType;
 pub use printing::{Printer, print_texts, texts_len};
+pub use texts::Texts;
 pub use validity::Validity;
 pub use value::{Value, ValueType, row_count, set_value, value_at};
-pub use values::Values;
+pub use values::{Rows, Values};

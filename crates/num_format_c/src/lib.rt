@@ -1,15 +1,22 @@
 //! num-format for C: a static library over `num_format`, whose header is `num_format.h`.
 //!
+//! This file has the exports. They do no work of their own: [`calls`] and [`columns`] do it with Rust's types. [`format`]
+//! reads and fills the struct of a C program, [`layout`] has the values, texts and offsets of a column as bytes, and
+//! [`status`] and [`wide`] have what crosses to C: errors, and numbers of 128 bits by their halves.
+//!
+//! What programs are compiled with stays: the exports and their parameters, the fields of `NumFormat`, and the numbers of
+//! [`Status`](status::Status), `ValueType`, `OffsetType` and groupings. A change there is one of `num_format.h` too. All else
+//! may be changed.
+//!
 //! The header says what a C program has to know, and what it must ensure. The contracts here say
 //! what each call returns and writes, for any bytes of a struct and of a text.
 //!
 //! A call returns 0, a length, a version, or 1 or 0 for yes and no. Where it fails it returns a
-//! negative number, the [`code`](Status::code) of a [`Status`], and what it would have written is as
+//! negative number, the [`code`](status::Status::code) of a `Status`, and what it would have written is as
 //! it was, but for the place of an unexpected byte.
 #![tactic(auto)]
 
 ghost use Rattle.std.specs.Prelude.{◌≡◌, ◌+◌, ◌*◌, ◌^◌, codes, pos, MatchOption};
-ghost use Rattle.std.specs.Fmt.{char_count};
 ghost use Rattle.num_format.specs.Alike.{Alike};
 ghost use Rattle.num_format.specs.Data.{locale_data};
 ghost use Rattle.num_format.specs.Kind.{kind_of, I128, U128};
@@ -17,9 +24,11 @@ ghost use Rattle.num_format.specs.Names.{name_of};
 ghost use Rattle.num_format.specs.RoundTrips.{RoundTrips};
 ghost use Rattle.num_format.specs.Text.{text_of};
 ghost use Rattle.num_format_decimal.specs.FixedPoint.{fixed_point};
-ghost use Rattle.num_format_c.specs.Calls.{ByTag, Fails, Fills, FillsCustom, FillsLocale, ReturnsLength, ReturnsDecimalLength, ParsesDecimalInto, ParsesExactlyInto, ParsesInto, Prints, PrintsDecimal, Tells, Writes, WritesName, signed_kind, signed_wide, unsigned_kind, unsigned_wide};
-ghost use Rattle.num_format_c.specs.Columns.{MeasuresDecimals, MeasuresNumbers, ParsesDecimals, ParsesNumbers, PrintsDecimals, PrintsNumbers, to_parsed, to_printed, to_texts};
-ghost use Rattle.num_format_c.specs.declared.status.Status.TheVariants.{BadBits};
+ghost use Rattle.num_format_decimal.specs.Marks.{MarksDecimals};
+ghost use Rattle.num_format_c.specs.Calls.{ByTag, Fails, Fills, FillsCustom, FillsLocale, ReturnsLength, ReturnsDecimalLength, Into, ParsesInto, Prints, PrintsDecimal, Tells, Writes, WritesName, at_scale, decimals, numbers, signed_kind, signed_wide, columns_of, typed_at_scale, typed_decimals, unsigned_kind, unsigned_wide};
+ghost use Rattle.num_format_c.specs.Columns.{MeasuresDecimals, MeasuresNumbers, ParsesDecimals, ParsesNumbers, ParsesTypedInto, PrintsDecimals, PrintsNumbers, TypesDecimals, to_parsed, to_printed};
+ghost use Rattle.num_format_c.specs.Layout.{MatchType, to_texts, to_values, value_type_of};
+ghost use Rattle.num_format_c.specs.declared.status.Status.TheVariants.{BadBits, BadType};
 ghost use Rattle.num_format_c.specs.Held.{HasFormat, format_of};
 
 mod calls;
@@ -30,9 +39,9 @@ pub mod status;
 pub mod wide;
 
 use format::NumFormat;
-use layout::Validity;
-use status::{Status, returned};
-use wide::{joined, split};
+use layout::{Texts, Values};
+use status::{returned, stored};
+use wide::{joined, stored_decimal, stored_wide};
 
 /// The version: 10,000 times its first number, 100 times its second, and its third.
 const VERSION: u32 = 100;
@@ -209,16 +218,13 @@ pub extern "C" fn num_format_print_decimal_len(
     returned(calls::decimal_len(format, joined(low, high).cast_signed(), scale))
 }
 
-/// Returns the number of characters of a text, which are the columns that it takes where each takes one. Of bytes that
-/// are not UTF-8, those that begin a character count.
+/// Returns the columns that a text takes where each character takes one, but a mark of the direction of writing none.
+/// Each byte counts that is not 0x80 to 0xBF, and begins no mark.
 #[unsafe(no_mangle)]
-#[tactic(auto, using(crate::proofs::WidthLemmas::count_by_is_char_start))]
 pub extern "C" fn num_format_text_width(text: &[u8]) -> usize
-    ensures { result ≡ char_count text.now }
+    ensures { result ≡ columns_of text.now }
 {
-    text.iter()
-        .filter(|byte| calls::is_char_start(**byte))
-        .count()
+    calls::text_width(text)
 }
 
 /// Parses the text as a signed number of 8, 16, 32 or 64 bits, writes the number, and returns 0.
@@ -235,13 +241,7 @@ pub extern "C" fn num_format_parse_i64(
     ensures { MatchOption (signed_kind bits) (Fails BadBits number.old number.new result)
         (λ k. ParsesInto k format.now text.now number.old number.new result) }
 {
-    match calls::parse_signed(format, bits, text) {
-        Ok(parsed) => {
-            *number = parsed;
-            0
-        }
-        Err(status) => status.code(),
-    }
+    stored(calls::parse_signed(format, bits, text), number)
 }
 
 /// Parses the text as an unsigned number, as [`num_format_parse_i64`] does as a signed one.
@@ -255,13 +255,7 @@ pub extern "C" fn num_format_parse_u64(
     ensures { MatchOption (unsigned_kind bits) (Fails BadBits (pos number.old) (pos number.new) result)
         (λ k. ParsesInto k format.now text.now (pos number.old) (pos number.new) result) }
 {
-    match calls::parse_unsigned(format, bits, text) {
-        Ok(parsed) => {
-            *number = parsed;
-            0
-        }
-        Err(status) => status.code(),
-    }
+    stored(calls::parse_unsigned(format, bits, text), number)
 }
 
 /// Parses the text as a `u128`, writes the halves of the number, and returns 0.
@@ -277,13 +271,7 @@ pub extern "C" fn num_format_parse_u128(
     ensures { ParsesInto (kind_of U128) format.now text.now
         (unsigned_wide low.old high.old) (unsigned_wide low.new high.new) result }
 {
-    match calls::parse::<u128>(format, text) {
-        Ok(parsed) => {
-            split(parsed, low, high);
-            0
-        }
-        Err(status) => status.code(),
-    }
+    stored_wide(calls::parse::<u128>(format, text), low, high)
 }
 
 /// Parses the text as an `i128`, writes the halves of its two's complement, and returns 0.
@@ -299,13 +287,7 @@ pub extern "C" fn num_format_parse_i128(
     ensures { ParsesInto (kind_of I128) format.now text.now
         (signed_wide low.old high.old) (signed_wide low.new high.new) result }
 {
-    match calls::parse::<i128>(format, text) {
-        Ok(parsed) => {
-            split(parsed.cast_unsigned(), low, high);
-            0
-        }
-        Err(status) => status.code(),
-    }
+    stored_wide(calls::parse::<i128>(format, text), low, high)
 }
 
 /// Parses the text strictly as a signed number of 8, 16, 32 or 64 bits, writes the number, and returns 0.
@@ -322,15 +304,9 @@ pub extern "C" fn num_format_parse_strict_i64(
 ) -> i32
     ensures { MatchOption (signed_kind bits)
         (Fails BadBits number.old number.new result × (at.new ≡ at.old))
-        (λ k. ParsesExactlyInto k format.now text.now number.old number.new at.old at.new result) }
+        (λ k. Into (numbers k) (λ z. z) format.now text.now number.old number.new at.old at.new result) }
 {
-    match calls::parse_strict_signed(format, bits, text, at) {
-        Ok(parsed) => {
-            *number = parsed;
-            0
-        }
-        Err(status) => status.code(),
-    }
+    stored(calls::parse_strict_signed(format, bits, text, at), number)
 }
 
 /// Parses the text strictly as an unsigned number, as [`num_format_parse_strict_i64`] does as a signed one.
@@ -344,15 +320,9 @@ pub extern "C" fn num_format_parse_strict_u64(
 ) -> i32
     ensures { MatchOption (unsigned_kind bits)
         (Fails BadBits (pos number.old) (pos number.new) result × (at.new ≡ at.old))
-        (λ k. ParsesExactlyInto k format.now text.now (pos number.old) (pos number.new) at.old at.new result) }
+        (λ k. Into (numbers k) (λ z. z) format.now text.now (pos number.old) (pos number.new) at.old at.new result) }
 {
-    match calls::parse_strict_unsigned(format, bits, text, at) {
-        Ok(parsed) => {
-            *number = parsed;
-            0
-        }
-        Err(status) => status.code(),
-    }
+    stored(calls::parse_strict_unsigned(format, bits, text, at), number)
 }
 
 /// Parses the text strictly as a `u128`, writes the halves of the number, and returns 0.
@@ -366,16 +336,10 @@ pub extern "C" fn num_format_parse_strict_u128(
     high: &mut u64,
     at: &mut usize,
 ) -> i32
-    ensures { ParsesExactlyInto (kind_of U128) format.now text.now
+    ensures { Into (numbers (kind_of U128)) (λ z. z) format.now text.now
         (unsigned_wide low.old high.old) (unsigned_wide low.new high.new) at.old at.new result }
 {
-    match calls::parse_strict::<u128>(format, text, at) {
-        Ok(parsed) => {
-            split(parsed, low, high);
-            0
-        }
-        Err(status) => status.code(),
-    }
+    stored_wide(calls::parse_strict::<u128>(format, text, at), low, high)
 }
 
 /// Parses the text strictly as an `i128`, writes the halves of its two's complement, and returns 0.
@@ -389,16 +353,10 @@ pub extern "C" fn num_format_parse_strict_i128(
     high: &mut u64,
     at: &mut usize,
 ) -> i32
-    ensures { ParsesExactlyInto (kind_of I128) format.now text.now
+    ensures { Into (numbers (kind_of I128)) (λ z. z) format.now text.now
         (signed_wide low.old high.old) (signed_wide low.new high.new) at.old at.new result }
 {
-    match calls::parse_strict::<i128>(format, text, at) {
-        Ok(parsed) => {
-            split(parsed.cast_unsigned(), low, high);
-            0
-        }
-        Err(status) => status.code(),
-    }
+    stored_wide(calls::parse_strict::<i128>(format, text, at), low, high)
 }
 
 /// Parses the text strictly as a decimal, writes the halves of its units in two's complement and its scale, and
@@ -415,18 +373,55 @@ pub extern "C" fn num_format_parse_decimal(
     scale: &mut u32,
     at: &mut usize,
 ) -> i32
-    ensures { ParsesDecimalInto format.now text.now
+    ensures { Into decimals (λ d. d) format.now text.now
         (fixed_point (signed_wide low.old high.old) scale.old)
         (fixed_point (signed_wide low.new high.new) scale.new) at.old at.new result }
 {
-    match calls::parse_decimal(format, text, at) {
-        Ok(parsed) => {
-            split(parsed.units().cast_unsigned(), low, high);
-            *scale = parsed.scale() as u32;
-            0
-        }
-        Err(status) => status.code(),
-    }
+    stored_decimal(calls::parse_decimal(format, text, at), low, high, scale)
+}
+
+/// Parses the text as a person types it (no data type is meant) as a number of a type, as
+/// [`ValueType`](layout::ValueType) says, writes its bytes in the machine's order, and returns 0.
+///
+/// Errors, in this order: a number of no type, a struct that has no format, another number of bytes than the type has,
+/// and those of [`TypedError`](num_format_typed::TypedError). The place of an unexpected byte is written.
+#[unsafe(no_mangle)]
+pub extern "C" fn num_format_parse_typed(
+    format: &NumFormat,
+    value_type: u32,
+    text: &[u8],
+    value: &mut [u8],
+    at: &mut usize,
+) -> i32
+    ensures { MatchOption (value_type_of value_type) (Fails BadType value.old value.new result × (at.new ≡ at.old))
+        (λ type. MatchType type (λ v. ParsesTypedInto v v.kind format.now text.now value.old value.new at.old at.new result)) }
+{
+    returned(columns::parse_one(format, value_type, text, value, at))
+}
+
+/// Parses the text as a person types it (no data type is meant) as a decimal, as [`num_format_parse_decimal`] does one
+/// that is exactly as it is printed.
+///
+/// A further error is a text that is too long.
+#[unsafe(no_mangle)]
+pub extern "C" fn num_format_parse_typed_decimal(
+    format: &NumFormat,
+    text: &[u8],
+    low: &mut u64,
+    high: &mut u64,
+    scale: &mut u32,
+    at: &mut usize,
+) -> i32
+    ensures { Into typed_decimals (λ d. d) format.now text.now
+        (fixed_point (signed_wide low.old high.old) scale.old)
+        (fixed_point (signed_wide low.new high.new) scale.new) at.old at.new result }
+{
+    stored_decimal(
+        calls::parse_typed_decimal(format, text, at),
+        low,
+        high,
+        scale,
+    )
 }
 
 /// Prints the numbers of a column one after another at the start of the bytes, writes where each text ends and how
@@ -451,19 +446,11 @@ pub extern "C" fn num_format_print_column(
     bytes: &mut [u8],
     len: &mut usize,
 ) -> i32
-    ensures { PrintsNumbers value_type offset_type format.now values.now bits.now bit_offset
+    ensures { PrintsNumbers value_type offset_type format.now (to_values values.entry bits.entry bit_offset)
         (to_printed offsets.old bytes.old len.old) (to_printed offsets.new bytes.new len.new) result }
 {
-    returned(columns::print(
-        format,
-        value_type,
-        values,
-        &Validity { bits, bit_offset },
-        offsets,
-        offset_type,
-        bytes,
-        len,
-    ))
+    let values = &Values::new(values, bits, bit_offset);
+    returned(columns::print(format, value_type, values, offset_type, offsets, bytes, len))
 }
 
 /// Writes how many bytes the texts of the numbers of a column have together, and returns 0.
@@ -479,29 +466,24 @@ pub extern "C" fn num_format_print_column_len(
     bit_offset: usize,
     len: &mut usize,
 ) -> i32
-    ensures { MeasuresNumbers value_type format.now values.now bits.now bit_offset len.old len.new result }
+    ensures { MeasuresNumbers value_type format.now (to_values values.entry bits.entry bit_offset) len.old len.new result }
 {
-    returned(columns::measure(
-        format,
-        value_type,
-        values,
-        &Validity { bits, bit_offset },
-        len,
-    ))
+    let values = &Values::new(values, bits, bit_offset);
+    returned(columns::measure(format, value_type, values, len))
 }
 
-/// Parses the texts of a column strictly, or leniently if `lenient` is not 0, and returns 0. Writes the number and
-/// the status of each row: those that the call for one text writes and returns. The number of a null row stays, and
-/// its status is 0.
+/// Parses the texts of a column strictly if `mode` is 0, as people type them if it is 2, and else leniently, and
+/// returns 0. Writes the number and the status of each row: those that the call for one text writes and returns. The
+/// number of a null row stays, and its status is 0.
 ///
 /// Errors, in this order: a number of no type, a struct that has no format, a format under which a text can be
-/// misread if it parses strictly, values that are not those of whole rows, another number of offsets or statuses or
+/// misread unless it parses leniently, values that are not those of whole rows, another number of offsets or statuses or
 /// fewer bits than the rows need, an offset that is below the one before it, or past the bytes.
 #[unsafe(no_mangle)]
 pub extern "C" fn num_format_parse_column(
     format: &NumFormat,
     value_type: u32,
-    lenient: u32,
+    mode: u32,
     offsets: &[u8],
     offset_type: u32,
     bytes: &[u8],
@@ -510,18 +492,17 @@ pub extern "C" fn num_format_parse_column(
     bit_offset: usize,
     statuses: &mut [i32],
 ) -> i32
-    ensures { ParsesNumbers value_type offset_type lenient format.now (to_texts offsets.now bytes.now bits.now bit_offset)
+    ensures { ParsesNumbers value_type offset_type mode format.now (to_texts offsets.entry bytes.entry bits.entry bit_offset)
         (to_parsed values.old statuses.old) (to_parsed values.new statuses.new) result }
 {
+    let texts = &Texts::new(offsets, bytes, bits, bit_offset);
     returned(columns::parse(
         format,
         value_type,
-        lenient,
-        offsets,
+        mode,
         offset_type,
-        bytes,
+        texts,
         values,
-        &Validity { bits, bit_offset },
         statuses,
     ))
 }
@@ -542,19 +523,11 @@ pub extern "C" fn num_format_print_decimal_column(
     bytes: &mut [u8],
     len: &mut usize,
 ) -> i32
-    ensures { PrintsDecimals scale offset_type format.now units.now bits.now bit_offset
+    ensures { PrintsDecimals scale offset_type format.now (to_values units.entry bits.entry bit_offset)
         (to_printed offsets.old bytes.old len.old) (to_printed offsets.new bytes.new len.new) result }
 {
-    returned(columns::print_decimals(
-        format,
-        units,
-        scale,
-        &Validity { bits, bit_offset },
-        offsets,
-        offset_type,
-        bytes,
-        len,
-    ))
+    let units = &Values::new(units, bits, bit_offset);
+    returned(columns::print_decimals(format, units, scale, offset_type, offsets, bytes, len))
 }
 
 /// Writes how many bytes the texts of the decimals of a column have, as [`num_format_print_column_len`] does those
@@ -570,9 +543,10 @@ pub extern "C" fn num_format_print_decimal_column_len(
     bit_offset: usize,
     len: &mut usize,
 ) -> i32
-    ensures { MeasuresDecimals scale format.now units.now bits.now bit_offset len.old len.new result }
+    ensures { MeasuresDecimals scale format.now (to_values units.entry bits.entry bit_offset) len.old len.new result }
 {
-    returned(columns::measure_decimals(format, units, scale, &Validity { bits, bit_offset }, len))
+    let units = &Values::new(units, bits, bit_offset);
+    returned(columns::measure_decimals(format, units, scale, len))
 }
 
 /// Parses the texts of a column strictly as decimals, writes their units at this scale, and else does as
@@ -591,19 +565,32 @@ pub extern "C" fn num_format_parse_decimal_column(
     bit_offset: usize,
     statuses: &mut [i32],
 ) -> i32
-    ensures { ParsesDecimals scale offset_type format.now (to_texts offsets.now bytes.now bits.now bit_offset)
+    ensures { ParsesDecimals (at_scale scale) MarksDecimals scale offset_type format.now (to_texts offsets.entry bytes.entry bits.entry bit_offset)
         (to_parsed units.old statuses.old) (to_parsed units.new statuses.new) result }
 {
-    returned(columns::parse_decimals(
-        format,
-        scale,
-        offsets,
-        offset_type,
-        bytes,
-        units,
-        &Validity { bits, bit_offset },
-        statuses,
-    ))
+    let texts = &Texts::new(offsets, bytes, bits, bit_offset);
+    returned(columns::parse_decimals(format, scale, offset_type, texts, units, statuses))
+}
+
+/// Parses the texts of a column as people type them (no data type is meant) as decimals, and else does as
+/// [`num_format_parse_decimal_column`].
+#[unsafe(no_mangle)]
+pub extern "C" fn num_format_parse_typed_decimal_column(
+    format: &NumFormat,
+    scale: u32,
+    offsets: &[u8],
+    offset_type: u32,
+    bytes: &[u8],
+    units: &mut [u8],
+    bits: &[u8],
+    bit_offset: usize,
+    statuses: &mut [i32],
+) -> i32
+    ensures { ParsesDecimals (typed_at_scale scale) TypesDecimals scale offset_type format.now (to_texts offsets.entry bytes.entry bits.entry bit_offset)
+        (to_parsed units.old statuses.old) (to_parsed units.new statuses.new) result }
+{
+    let texts = &Texts::new(offsets, bytes, bits, bit_offset);
+    returned(columns::parse_typed_decimals(format, scale, offset_type, texts, units, statuses))
 }
 
 /// Returns 1 if every number of every integer type parses again from its text under the format,

@@ -1,50 +1,57 @@
 //! The errors of the calls, and the numbers by which they cross to C.
 ghost use Rattle.std.specs.Prelude.{◌≡◌};
-ghost use Rattle.num_format_c.specs.Calls.{code, returned};
+ghost use Rattle.num_format_c.specs.Calls.{Stores, at_scale_place_of, at_scale_status_of, code, crossed, decimal_place_of, decimal_status_of, place_after, place_of, returned, status_of, typed_place_of, typed_status_of};
+
+use num_format::parsing::StrictError;
+use num_format_decimal::{DecimalError, ParseAtScaleError, ParseDecimalError};
+use num_format_int::sealed::Sealed;
+use num_format_typed::TypedError;
 
 /// Why a call failed.
 #[derive(Clone, Copy, Debug, PartialEq, Eq)]
 pub enum Status {
     /// The struct has no format.
-    BadFormat,
+    BadFormat = -1,
     /// The array is shorter than the text.
-    TooSmall,
+    TooSmall = -2,
     /// The bytes are not UTF-8.
-    NotUtf8,
+    NotUtf8 = -3,
     /// The text is refused as a number of the kind.
-    NotANumber,
+    NotANumber = -4,
     /// There is no locale of the name, for the tag or at the place.
-    UnknownLocale,
+    UnknownLocale = -5,
     /// The separator, the minus sign or the decimal mark has more than 8 bytes.
-    TooLong,
+    TooLong = -6,
     /// The number stands for no grouping.
-    BadGrouping,
+    BadGrouping = -7,
     /// No kind of number has that many bits.
-    BadBits,
-    /// A byte belongs to no minus sign, digit or separator.
-    Unexpected,
+    BadBits = -8,
+    /// A byte belongs to no minus sign, digit, separator or decimal mark.
+    Unexpected = -9,
     /// The text has no digit.
-    NoDigit,
+    NoDigit = -10,
     /// The text is not as its number is printed.
-    Misspelled,
+    Misspelled = -11,
     /// The text is as its number is printed, which is no number of the kind.
-    OutOfRange,
+    OutOfRange = -12,
     /// A decimal has no such scale.
-    BadScale,
+    BadScale = -13,
     /// The text has more than 38 decimals.
-    TooManyDecimals,
+    TooManyDecimals = -14,
     /// There are not as many offsets, statuses or bits as the rows of a column need, or the last value is not whole.
-    BadLength,
+    BadLength = -15,
     /// An offset is below the one before it, or past the bytes.
-    BadOffsets,
+    BadOffsets = -16,
     /// The texts have more bytes than the last offset can say.
-    TooManyBytes,
+    TooManyBytes = -17,
     /// The text has digits other than zero that the scale has not.
-    DigitsLost,
+    DigitsLost = -18,
     /// A text can be misread under the format, so that none is parsed strictly.
-    AmbiguousFormat,
+    AmbiguousFormat = -19,
     /// No type of values or offsets has the number.
-    BadType,
+    BadType = -20,
+    /// The text, with the characters of the format in it, is longer than that of any number.
+    TextTooLong = -21,
 }
 
 impl Status {
@@ -52,28 +59,7 @@ impl Status {
     pub fn code(self) -> i32
         ensures { result ≡ code self }
     {
-        match self {
-            Status::BadFormat => -1,
-            Status::TooSmall => -2,
-            Status::NotUtf8 => -3,
-            Status::NotANumber => -4,
-            Status::UnknownLocale => -5,
-            Status::TooLong => -6,
-            Status::BadGrouping => -7,
-            Status::BadBits => -8,
-            Status::Unexpected => -9,
-            Status::NoDigit => -10,
-            Status::Misspelled => -11,
-            Status::OutOfRange => -12,
-            Status::BadScale => -13,
-            Status::TooManyDecimals => -14,
-            Status::BadLength => -15,
-            Status::BadOffsets => -16,
-            Status::TooManyBytes => -17,
-            Status::DigitsLost => -18,
-            Status::AmbiguousFormat => -19,
-            Status::BadType => -20,
-        }
+        self as i32
     }
 }
 
@@ -84,6 +70,115 @@ pub fn returned(value: Result<i32, Status>) -> i32
 {
     match value {
         Ok(value) => value,
+        Err(status) => status.code(),
+    }
+}
+
+/// Why parsing refuses a text.
+pub trait Cause: Sized {
+    ghost use Rattle.std.specs.Prelude.{ℕ};
+    ghost use Rattle.num_format_c.specs.declared.status.Status.{Status};
+
+    ghost status_of: { Self → Status };
+
+    ghost place_of: { Self → ℕ → ℕ };
+
+    /// Returns the status of the cause, and writes the place of an unexpected byte.
+    fn status(self, at: &mut usize) -> Status
+        ensures status { result ≡ status_of self }
+        ensures place { at.new ≡ place_of self at.old };
+}
+
+impl Cause for StrictError {
+    ghost status_of = { status_of };
+
+    ghost place_of = { place_of };
+
+    fn status(self, at: &mut usize) -> Status {
+        match self {
+            StrictError::AmbiguousFormat => Status::AmbiguousFormat,
+            StrictError::NotUtf8 => Status::NotUtf8,
+            StrictError::Unexpected { at: place } => {
+                *at = place;
+                Status::Unexpected
+            }
+            StrictError::NoDigit => Status::NoDigit,
+            StrictError::Misspelled => Status::Misspelled,
+            StrictError::OutOfRange => Status::OutOfRange,
+        }
+    }
+}
+
+impl Cause for ParseDecimalError {
+    ghost status_of = { decimal_status_of };
+
+    ghost place_of = { decimal_place_of };
+
+    fn status(self, at: &mut usize) -> Status {
+        match self {
+            ParseDecimalError::AmbiguousFormat => Status::AmbiguousFormat,
+            ParseDecimalError::NotUtf8 => Status::NotUtf8,
+            ParseDecimalError::Unexpected { at: position } => {
+                *at = position;
+                Status::Unexpected
+            }
+            ParseDecimalError::NoDigit => Status::NoDigit,
+            ParseDecimalError::TooManyDecimals => Status::TooManyDecimals,
+            ParseDecimalError::Misspelled => Status::Misspelled,
+            ParseDecimalError::OutOfRange => Status::OutOfRange,
+        }
+    }
+}
+
+impl Cause for ParseAtScaleError {
+    ghost status_of = { at_scale_status_of };
+
+    ghost place_of = { at_scale_place_of };
+
+    fn status(self, at: &mut usize) -> Status {
+        match self {
+            ParseAtScaleError::Parse(error) => error.status(at),
+            ParseAtScaleError::Rescale(DecimalError::ScaleTooLarge) => Status::BadScale,
+            ParseAtScaleError::Rescale(DecimalError::DigitsLost) => Status::DigitsLost,
+            ParseAtScaleError::Rescale(DecimalError::OutOfRange) => Status::OutOfRange,
+        }
+    }
+}
+
+impl<E: Cause> Cause for TypedError<E> {
+    ghost status_of = { typed_status_of E.status_of };
+
+    ghost place_of = { typed_place_of E.place_of };
+
+    fn status(self, at: &mut usize) -> Status {
+        match self {
+            TypedError::TooLong => Status::TextTooLong,
+            TypedError::Number(error) => error.status(at),
+        }
+    }
+}
+
+/// Returns what parsing returned, with a status for an error, and writes the place of an unexpected byte.
+#[inline(always)]
+pub fn crossed<T, E: Cause>(parsed: Result<T, E>, at: &mut usize) -> Result<T, Status>
+    ensures result { result ≡ crossed E.status_of parsed }
+    ensures place { at.new ≡ place_after E.place_of parsed at.old }
+{
+    match parsed {
+        Ok(value) => Ok(value),
+        Err(error) => Err(error.status(at)),
+    }
+}
+
+/// Writes the number that was parsed, and returns 0, or the number of the error.
+pub fn stored<N: Sealed + Copy>(parsed: Result<N, Status>, number: &mut N) -> i32
+    ensures { Stores N.value parsed (N.value number.old) (N.value number.new) result }
+{
+    match parsed {
+        Ok(parsed) => {
+            *number = parsed;
+            0
+        }
         Err(status) => status.code(),
     }
 }

@@ -1,12 +1,10 @@
-use Rattle.std.proofs.Common.{rules}
-use Rattle.num_format_c.specs.Calls.{signed_kind}
-use Rattle.num_format_c.proofs.CallLemmas.{stored_exactly_any, kept_exactly_any}
+use Rattle.std.proofs.Common.{◌≡◌, to_z, of_z, w32, rules}
+use Rattle.num_format_c.specs.Calls.{numbers, signed_kind}
+use Rattle.num_format_c.proofs.ParsingLemmas.{into_any}
 use Rattle.num_format_c.proofs.num_format_parse_strict_i64.Goals as goal
 
-pub returns-in-Ok : goal.returns-in-Ok
-returns-in-Ok c =
-    stored_exactly_any (λ n. n) c.args.format.now c.args.text.now c.args.number.now _ _ _ _ (signed_kind c.args.bits) c.in-Ok.parsed c.in-Ok.ensures (search rules) (search rules)
-
-pub returns-in-Err : goal.returns-in-Err
-returns-in-Err c =
-    kept_exactly_any (λ n. n) c.args.format.now c.args.text.now c.args.number.now _ _ _ _ (signed_kind c.args.bits) c.in-Err.status c.in-Err.ensures (search rules) (search rules)
+pub returns : goal.returns
+returns c =
+    let same : to_z w32 (of_z w32 c.stored.result) ≡ c.stored.result = search rules in
+    rw same
+    (into_any numbers c.args.format.now c.args.text.now (λ n. n) c.args.number.now _ c.args.at.now _ _ (signed_kind c.args.bits) c.parse_strict_signed.result c.parse_strict_signed.ensures c.stored.ensures)

@@ -17,7 +17,7 @@ impl<'a> Validity<'a> {
     /// Returns whether the row has a value.
     #[inline(always)]
     pub fn is_valid(&self, row: usize) -> bool
-        ensures { result ≡ is_valid self.now.bits.now self.now.bit_offset row }
+        ensures { result ≡ is_valid self.now row }
     {
         self.bits.is_empty() || self.has_bit(row)
     }
@@ -38,7 +38,7 @@ impl<'a> Validity<'a> {
 
     /// Returns whether it says of so many rows whether they have a value.
     pub fn covers(&self, n: usize) -> bool
-        ensures { result ≡ covers self.now.bits.now self.now.bit_offset n }
+        ensures { result ≡ covers self.now n }
     {
         let bits = self.bit_offset % 8 + n % 8;
         self.bits.is_empty() || self.bit_offset / 8 + n / 8 + bits.div_ceil(8) <= self.bits.len()

@@ -78,7 +78,7 @@ fn array<const N: usize>(bytes: &[u8]) -> [u8; N]
 /// Returns how many rows a column with these values has, or `None` if the last value is not whole, or
 /// there are fewer bits.
 pub fn row_count<N: Value>(values: &[u8], validity: &Validity) -> Option<usize>
-    ensures { result ≡ row_count N.repr values.now validity.now.bits.now validity.now.bit_offset }
+    ensures { result ≡ row_count N.repr values.now validity.now }
 {
     let size = N::size();
     let n = values.len() / size;
@@ -113,7 +113,6 @@ pub fn set_value<N: Value>(values: &mut [u8], row: usize, value: N)
 impl Value for i8 {
     ghost repr = { signed w8 I8 };
 
-    #[inline(always)]
     fn size() -> usize {
         1
     }
@@ -130,7 +129,6 @@ impl Value for i8 {
 impl Value for u8 {
     ghost repr = { unsigned w8 U8 };
 
-    #[inline(always)]
     fn size() -> usize {
         1
     }
@@ -147,7 +145,6 @@ impl Value for u8 {
 impl Value for i16 {
     ghost repr = { signed w16 I16 };
 
-    #[inline(always)]
     fn size() -> usize {
         2
     }
@@ -164,7 +161,6 @@ impl Value for i16 {
 impl Value for u16 {
     ghost repr = { unsigned w16 U16 };
 
-    #[inline(always)]
     fn size() -> usize {
         2
     }
@@ -181,7 +177,6 @@ impl Value for u16 {
 impl Value for i32 {
     ghost repr = { signed w32 I32 };
 
-    #[inline(always)]
     fn size() -> usize {
         4
     }
@@ -198,7 +193,6 @@ impl Value for i32 {
 impl Value for u32 {
     ghost repr = { unsigned w32 U32 };
 
-    #[inline(always)]
     fn size() -> usize {
         4
     }
@@ -215,7 +209,6 @@ impl Value for u32 {
 impl Value for i64 {
     ghost repr = { signed w64 I64 };
 
-    #[inline(always)]
     fn size() -> usize {
         8
     }
@@ -232,7 +225,6 @@ impl Value for i64 {
 impl Value for u64 {
     ghost repr = { unsigned w64 U64 };
 
-    #[inline(always)]
     fn size() -> usize {
         8
     }
@@ -249,7 +241,6 @@ impl Value for u64 {
 impl Value for i128 {
     ghost repr = { signed w128 I128 };
 
-    #[inline(always)]
     fn size() -> usize {
         16
     }
@@ -266,7 +257,6 @@ impl Value for i128 {
 impl Value for u128 {
     ghost repr = { unsigned w128 U128 };
 
-    #[inline(always)]
     fn size() -> usize {
         16
     }

@@ -6,5 +6,5 @@ use Rattle.num_format_c.proofs.calls.reads_back.Goals as goal
 
 pub returns : goal.returns
 returns c =
-    told (HasFormat c.args.format.now) (RoundTrips (format_of c.args.format.now)) c.reads_back.result _ c.in-Some.ensures.0
-    (rw c.in-Some.ensures.1 at c.reads_back.ensures) (search rules)
+    told (HasFormat c.args.format.now) (RoundTrips (format_of c.args.format.now)) c.reads_back.result _ c.in_ok-format.ensures.0
+    (rw c.in_ok-format.ensures.1 at c.reads_back.ensures) (search rules)

@@ -1,6 +1,10 @@
-use Rattle.num_format_c.proofs.CallLemmas.{parsed_row_exactly}
+use Rattle.num_format_c.specs.Calls.{numbers}
+use Rattle.num_format_c.proofs.ParsingLemmas.{gets, row, strict_mapped}
 use Rattle.num_format_c.proofs.columns.StrictParserParser.parse.Goals as goal
 
 pub returns : goal.returns
 returns g c = λ s given.
-    parsed_row_exactly g.N.Sealed.value s c.args.text.now g.N.Sealed.kind c.parse_strict_by.new.at c.parse_strict_by.result (c.parse_strict_by.ensures s given)
+    let k = g.N.Sealed.kind in
+    let value = g.N.Sealed.value in
+    row (numbers k) s c.args.text.now value (λ z. z) c.crossed.new.at c.crossed.result
+    (gets (numbers k) s c.args.text.now value 0 c.crossed.new.at _ given c.parse_bytes.result (strict_mapped k value _ c.args.text.now c.parse_bytes.result c.parse_bytes.ensures) c.crossed.result c.crossed.ensures.result c.crossed.ensures.place)
