@@ -5,21 +5,24 @@ use Rattle.std.proofs.lemmas.Bool.Decides.{Decides-and, Decides-like, Decides-lt
 use Rattle.std.specs.Prelude.{FitsSigned, MatchOption, negsuc, pos, suc, zero, ℤ, ◌&&◌, ◌||◌}
 use Rattle.num_format_decimal.specs.FixedPoint.{FixedPoint, fixed_point}
 use Rattle.num_format.specs.Format.{FormatData, HasUtf8Texts}
-use Rattle.num_format_decimal.specs.Parsing.{IsDecimalCause, ParsesDecimal, SpellsDecimal, SpellsNone, unexpected_in_decimal, with_separators, without_separators}
+use Rattle.num_format_decimal.specs.Parsing.{IsDecimalCause, ParsesDecimal, SpellsDecimal, SpellsNone, after_mark, unexpected_in_decimal, with_separators, without_separators}
 use Rattle.num_format_decimal.specs.Marks.{IsPlainFormat, MarksDecimals}
 use Rattle.num_format_decimal.specs.declared.parsing.ParseDecimalError.{ParseDecimalError}
 use Rattle.num_format_decimal.specs.Text.{decimal_text}
-use Rattle.regroup_faults.specs.Messages.{before_in, before_rest}
 use Rattle.std.proofs.lemmas.Bool.{both_ways, cases_Bool, false_from_ne_true, not-true, not_from_false}
 use Rattle.num_format.specs.Reading.{denoted, figures}
 use Rattle.num_format.specs.Readable.{fits_i128}
 use Rattle.regroup_faults.specs.Decimals.{has_no_numeral, is_sign}
 use Rattle.std.specs.Int.{w128}
 use Rattle.regroup_faults.specs.Decimals.{decimal_read, marks_decimals, spelled, spelled_below}
-use Rattle.regroup_faults.specs.Messages.{before_unexpected}
+use Rattle.regroup_faults.specs.Messages.{why_in, why_left, why_refused}
+use Rattle.regroup_faults.specs.declared.message.Why.TheVariants as why
 use Rattle.std.proofs.lemmas.Bool.{and_parts}
 use Rattle.std.proofs.lemmas.Slice.Eq.{bytes_eq-Decides}
-use Rattle.std.specs.Str.{bytes_eq}
+use Rattle.std.specs.Str.{bytes_eq, is_utf8}
+use Rattle.std.proofs.lemmas.Bool.{le-leb, leb-true}
+use Rattle.std.proofs.lemmas.Str.{IsUtf8-from_is_utf8, is_utf8-from_IsUtf8}
+use Rattle.std.specs.Prelude.{nat_le}
 use Rattle.num_format.specs.Strict.{ungrouped}
 use Rattle.num_format.specs.Grouped.{printed_separator}
 use Rattle.num_format.specs.Strict.{HasNoNumeral}
@@ -42,11 +45,11 @@ fits-Decides (pos n) = Decides-like _ (λ h. record { sfits = h }) (λ h. h.sfit
 fits-Decides (negsuc n) = Decides-like _ (λ h. record { sfits = h }) (λ h. h.sfits) (Decides-ltb n (2 ^ 127))
 
 module _ (f : FormatData) (utf8 : HasUtf8Texts f) where
-  plain-marks : MarksDecimals f → IsPlainFormat f
+  pub plain-marks : MarksDecimals f → IsPlainFormat f
   plain-marks marks = plain-from_marks f utf8.minus_sign utf8.separator utf8.decimal marks
 
   -- the test of a format
-  marks-Decides : Decides (marks_decimals f) (MarksDecimals f)
+  pub marks-Decides : Decides (marks_decimals f) (MarksDecimals f)
   unfolding marks_decimals
   marks-Decides =
       let separator = printed_separator f.grouping f.separator in
@@ -131,25 +134,37 @@ module _ (f : FormatData) (utf8 : HasUtf8Texts f) where
         ]
 
     -- the byte that strict parsing does not expect is that of the definition
-    before-at : (at : ℕ) → at < length t → before_rest t (drop at t) ≡ Some at
-    before-at at inside =
+    left-at : (at : ℕ) → at < length t → why_left f t (drop at t) ≡ why.Unexpected at
+    left-at at inside =
         let same : length t - suc (length (drop (at + 1) t)) ≡ at = omega (arith, length-drop (at + 1) t) in
-        rw (drop_more t at 0 inside) (ap Some same)
+        rw (drop_more t at 0 inside) (ap why.Unexpected same)
 
-    before-unspelled : MarksDecimals f → SpellsNone f t → before_unexpected f t ≡ before_rest t (unexpected_in_decimal f t)
-    unfolding before_unexpected
-    before-unspelled marks none = rw (marks-Decides.1 marks, spelled-none marks none.none) refl
+    why-unspelled : MarksDecimals f → SpellsNone f t → why_refused f t ≡ why_left f t (unexpected_in_decimal f t)
+    unfolding why_refused
+    why-unspelled marks none = rw (marks-Decides.1 marks, is_utf8-from_IsUtf8 t none.utf8, spelled-none marks none.none) refl
 
-    pub before-parsed : (d : FixedPoint) → ParsesDecimal f t d → before_unexpected f t ≡ None
-    unfolding before_unexpected
-    before-parsed d parsed = rw (marks-Decides.1 parsed.unambiguous, spelled-some parsed.unambiguous d parsed.spelled parsed.bound) refl
+    why-spelled : MarksDecimals f → (d : FixedPoint) → SpellsDecimal f t d → d.scale ≤ MAX_SCALE → why_refused f t ≡ why.Unknown
+    unfolding why_refused
+    why-spelled marks d spells bound =
+        let utf8 = (tells-spelled_decimal f t d.units d.scale (plain-marks marks) spells).utf8 in
+        rw (marks-Decides.1 marks, is_utf8-from_IsUtf8 t utf8, spelled-some marks d spells bound) refl
 
-    pub before-refused : (e : ParseDecimalError) → IsUtf8 t → IsDecimalCause f t e → before_unexpected f t ≡ before_in e
-    unfolding before_unexpected
-    before-refused AmbiguousFormat text cause = rw (unmarked cause) refl
-    before-refused NotUtf8 text cause = absurd (cause.1 text)
-    before-refused (Unexpected at) text cause = before-unspelled cause.0 cause.1.spells_none ∙ ap (before_rest t) cause.1.rest ∙ before-at at cause.1.inside
-    before-refused NoDigit text cause = before-unspelled cause.0 cause.1.expected.spells_none ∙ ap (before_rest t) cause.1.expected.rest
-    before-refused TooManyDecimals text cause = before-unspelled cause.0 cause.1.expected.spells_none ∙ ap (before_rest t) cause.1.expected.rest
-    before-refused Misspelled text cause = before-unspelled cause.0 cause.1.expected.spells_none ∙ ap (before_rest t) cause.1.expected.rest
-    before-refused OutOfRange text cause = rw (marks-Decides.1 cause.0, spelled-some cause.0 cause.1.decimal cause.1.spelled cause.1.bound) refl
+    -- a text with a digit
+    some-digit : ¬ (figures t ≡ []) → bytes_eq (figures t) [] ≡ false
+    some-digit some = false_from_ne_true _ (λ none. some ((bytes_eq-Decides (figures t) []).0 none))
+
+    pub why-parsed : (d : FixedPoint) → ParsesDecimal f t d → why_refused f t ≡ why.Unknown
+    why-parsed d parsed = why-spelled parsed.unambiguous d parsed.spelled parsed.bound
+
+    pub why-is : (e : ParseDecimalError) → IsDecimalCause f t e → why_refused f t ≡ why_in e
+    unfolding why_refused
+    why-is AmbiguousFormat cause = rw (unmarked cause) refl
+    why-is NotUtf8 cause = rw (marks-Decides.1 cause.0, false_from_ne_true (is_utf8 t) (λ yes. cause.1 (IsUtf8-from_is_utf8 t yes))) refl
+    why-is (Unexpected at) cause = why-unspelled cause.0 cause.1.spells_none ∙ ap (why_left f t) cause.1.rest ∙ left-at at cause.1.inside
+    why-is NoDigit cause = why-unspelled cause.0 cause.1.expected.spells_none ∙ ap (why_left f t) cause.1.expected.rest ∙ rw cause.1.fault refl
+    why-is TooManyDecimals cause =
+        let many : nat_le (length (after_mark f t)) MAX_SCALE ≡ false = false_from_ne_true _ (λ few. omega (arith, leb-true _ _ few, cause.1.fault.1)) in
+        why-unspelled cause.0 cause.1.expected.spells_none ∙ ap (why_left f t) cause.1.expected.rest ∙ rw (some-digit cause.1.fault.0, many) refl
+    why-is Misspelled cause =
+        why-unspelled cause.0 cause.1.expected.spells_none ∙ ap (why_left f t) cause.1.expected.rest ∙ rw (some-digit cause.1.fault.0, le-leb _ _ cause.1.fault.1) refl
+    why-is OutOfRange cause = why-spelled cause.0 cause.1.decimal cause.1.spelled cause.1.bound

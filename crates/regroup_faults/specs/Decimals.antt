@@ -1,6 +1,7 @@
 -- The decimal that a text spells, as a value.
-use Rattle.std.specs.Prelude.{ℕ, ◌+◌, zero, suc, Bool, not, ◌&&◌, ◌||◌, if◌then◌else◌, List, [], Option, None, Some}
+use Rattle.std.specs.Prelude.{ℕ, ◌+◌, zero, suc, nat_le, Bool, not, ◌&&◌, ◌||◌, if◌then◌else◌, List, [], length, Option, None, Some}
 use Rattle.std.specs.List.{list_any}
+use Rattle.std.specs.Option.{option_or}
 use Rattle.std.specs.Str.{bytes_eq, chars}
 use Rattle.num_format.specs.Format.{FormatData}
 use Rattle.num_format.specs.Grouped.{printed_separator}
@@ -9,7 +10,10 @@ use Rattle.num_format.specs.Reading.{denoted, figures, is_other_numeral}
 use Rattle.num_format.specs.Strict.{ungrouped}
 use Rattle.num_format_decimal.specs.FixedPoint.{FixedPoint, fixed_point}
 use Rattle.num_format_decimal.specs.Text.{decimal_text}
+use Rattle.num_format_decimal.specs.declared.buffer.TheConstants.{MAX_DECIMAL_LEN}
 use Rattle.num_format_decimal.specs.declared.decimal.TheConstants.{MAX_SCALE}
+use Rattle.num_format_typed.specs.Typed.{begins_with, core_of, has_shared, is_own, separator_of, typed_text}
+use Rattle.num_format_typed.specs.declared.classes.Class.TheVariants.{End, Plus}
 
 -- whether no character of a text is numeric
 abbrev pub has_no_numeral : List ℕ → Bool
@@ -40,3 +44,20 @@ spelled format text = spelled_below format text (MAX_SCALE + 1)
 -- the decimal that the text spells, if decimals can be told under the format, and the digits are those of an i128
 unfoldable pub decimal_read : FormatData → List ℕ → Option FixedPoint
 decimal_read format text = if marks_decimals format && fits_i128 (denoted format text) then spelled format text else None
+
+-- whether decimals can be told where people type them: also, separator and mark have at most one character of each class, and the minus
+-- sign begins with none that counts for nothing, and has none that could be typed for one of theirs
+unfoldable pub types_decimals : FormatData → Bool
+types_decimals format =
+    let own = is_own (separator_of format) format.decimal in
+    marks_decimals format && ((own (separator_of format) && own format.decimal)
+    && (not (bytes_eq (core_of format) []) && (not (begins_with End (core_of format))
+    && (not (begins_with Plus (core_of format)) && not (has_shared (separator_of format) format.decimal (core_of format))))))
+
+-- the decimal that a person means by the text, if decimals can be told so: the one that it spells, or else that of the text with the
+-- format's own characters, if that is no longer than the text of any number
+unfoldable pub typed_read : FormatData → List ℕ → Option FixedPoint
+typed_read format text =
+    if types_decimals format
+    then option_or (decimal_read format text) (if nat_le (length (typed_text format text)) MAX_DECIMAL_LEN then decimal_read format (typed_text format text) else None)
+    else None

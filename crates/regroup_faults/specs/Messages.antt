@@ -1,20 +1,29 @@
 -- The messages that name faults.
-use Rattle.std.specs.Prelude.{ℕ, ◌+◌, ◌-◌, nat_lt, if◌then◌else◌, List, [], ◌∷◌, ◌++◌, length, codes, Option, None, Some}
+use Rattle.std.specs.Prelude.{ℕ, ◌+◌, ◌-◌, ◌/◌, ◌%◌, nat_le, nat_lt, ◌==◌, Bool, ◌&&◌, not, is_some, if◌then◌else◌, List, [], ◌∷◌, ◌++◌, length, codes, Option, None, Some}
 use Rattle.std.specs.Fmt.{decimal}
-use Rattle.std.specs.List.{flat_map}
+use Rattle.std.specs.Char.{is_ascii_digit}
+use Rattle.std.specs.List.{find, flat_map, list_any, zip}
+use Rattle.std.specs.Str.{bytes_eq, chars, is_utf8}
 use Rattle.num_format.specs.Format.{FormatData}
+use Rattle.num_format.specs.Reading.{figures}
 use Rattle.num_format.specs.Refusal.{Refusal, Capacity, Other, ParseLocale, ParseNumber}
 use Rattle.num_format_decimal.specs.FixedPoint.{FixedPoint}
-use Rattle.num_format_decimal.specs.Parsing.{unexpected_in_decimal}
+use Rattle.num_format_decimal.specs.Parsing.{after_mark, unexpected_in_decimal}
+use Rattle.num_format_decimal.specs.Text.{decimal_text}
+use Rattle.num_format_decimal.specs.declared.buffer.TheConstants.{MAX_DECIMAL_LEN}
+use Rattle.num_format_decimal.specs.declared.decimal.TheConstants.{MAX_SCALE}
 use Rattle.num_format_decimal.specs.declared.parsing.ParseDecimalError.{ParseDecimalError}
-use Rattle.num_format_decimal.specs.declared.parsing.ParseDecimalError.TheVariants.{Unexpected}
-use Rattle.regroup_faults.specs.Quoting.{quoted, shown}
-use Rattle.regroup_faults.specs.Decimals.{marks_decimals, spelled}
+use Rattle.num_format_decimal.specs.declared.parsing.ParseDecimalError.TheVariants as decimal
+use Rattle.num_format_typed.specs.Typed.{place_in, typed_text}
+use Rattle.regroup_faults.specs.Quoting.{hex_digit, quoted, shown}
+use Rattle.regroup_faults.specs.Decimals.{decimal_read, marks_decimals, spelled, typed_read, types_decimals}
 use Rattle.regroup_faults.specs.Fault.{Fault, line_of}
 use Rattle.regroup_faults.specs.Fault.Fault.{TooMany, TooLong, FewFields, Read, NotText, FieldNotText, Line, Field, Unclosed, Write, Report, Reject, Flush}
 use Rattle.regroup_faults.specs.declared.fault.FieldCount.{FieldCount}
 use Rattle.regroup_faults.specs.declared.Reading.{Reading}
-use Rattle.regroup_faults.specs.declared.Reading.TheVariants.{Lenient, Strict}
+use Rattle.regroup_faults.specs.declared.Reading.TheVariants.{Lenient, Strict, Typed}
+use Rattle.regroup_faults.specs.declared.message.Why.{Why}
+use Rattle.regroup_faults.specs.declared.message.Why.TheVariants as why
 
 -- the text that an error keeps, if it keeps one
 abbrev pub kept_in : Refusal → List ℕ
@@ -23,37 +32,90 @@ kept_in (ParseLocale text) = text
 kept_in (Other text) = text
 kept_in (Capacity len cap) = []
 
--- how many bytes of a text are before the unexpected one, if it is refused for such a byte
-abbrev pub before_in : ParseDecimalError → Option ℕ
-before_in (Unexpected at) = Some at
-before_in _ = None
+-- what an error says
+abbrev pub why_in : ParseDecimalError → Why
+why_in (decimal.Unexpected at) = why.Unexpected at
+why_in decimal.Misspelled = why.Misspelled
+why_in _ = why.Unknown
 
--- how many bytes of a text are before its end part, unless that is empty
-abbrev pub before_rest : (text rest : List ℕ) → Option ℕ
-before_rest text [] = None
-before_rest text (b ∷ rest) = Some (length text - length (b ∷ rest))
+-- what is known of a text that spells no decimal, by what is left of it from the first byte on that strict parsing does not expect
+abbrev pub why_left : FormatData → (text rest : List ℕ) → Why
+why_left from text [] = if not (bytes_eq (figures text) []) && nat_le (length (after_mark from text)) MAX_SCALE then why.Misspelled else why.Unknown
+why_left from text (b ∷ rest) = why.Unexpected (length text - length (b ∷ rest))
 
 -- nothing where there is a decimal
-abbrev pub unless_spelled : Option FixedPoint → (before : Option ℕ) → Option ℕ
-unless_spelled None before = before
-unless_spelled (Some decimal) before = None
+abbrev pub unless_spelled : Option FixedPoint → Why → Why
+unless_spelled None known = known
+unless_spelled (Some decimal) known = why.Unknown
 
--- how many bytes of a text that spells no decimal are before the first one that strict parsing does not expect, if there is one, and
--- decimals can be told under the format
-unfoldable pub before_unexpected : FormatData → List ℕ → Option ℕ
-before_unexpected from text =
-    if marks_decimals from then unless_spelled (spelled from text) (before_rest text (unexpected_in_decimal from text)) else None
+-- why strict parsing refuses a text, if it does, and decimals can be told under the format
+unfoldable pub why_refused : FormatData → List ℕ → Why
+why_refused from text =
+    if marks_decimals from && is_utf8 text then unless_spelled (spelled from text) (why_left from text (unexpected_in_decimal from text)) else why.Unknown
 
--- the same by how the text is read: lenient reading names no byte, nor strict reading in a text of 253 bytes or more, which may have been
--- cut, since an error keeps 256 bytes at most, and whole characters
-abbrev pub before_fault : Reading → FormatData → List ℕ → Option ℕ
-before_fault Strict from text = if nat_lt (length text) 253 then before_unexpected from text else None
-before_fault Lenient from text = None
+-- the first characters in which two texts differ
+abbrev pub first_change : List ℕ → List ℕ → Option (ℕ × ℕ)
+first_change text other = find (λ pair. not (pair.0 == pair.1)) (zip (chars text) (chars other))
 
--- which byte it is that so many others are before, counted from 1
-abbrev pub byte_text : Option ℕ → List ℕ
-byte_text (Some before) = codes " at byte " ++ decimal (before + 1)
-byte_text None = []
+-- the character that stands for one of the format where this byte is unexpected, with that: a digit stands for none
+abbrev pub why_changed : (before : ℕ) → Option (ℕ × ℕ) → Why
+why_changed before None = why.Unexpected before
+why_changed before (Some pair) = if is_ascii_digit pair.0 then why.Unexpected before else why.Typed before pair.0 pair.1
+
+-- the same by the decimal that a person means by the text, if there is one
+abbrev pub why_meant : FormatData → List ℕ → (before : ℕ) → Option FixedPoint → Why
+why_meant from text before None = why.Unexpected before
+why_meant from text before (Some decimal) = why_changed before (first_change text (decimal_text from decimal))
+
+abbrev pub why_strict : FormatData → List ℕ → Why → Why
+why_strict from text (why.Unexpected before) = why_meant from text before (typed_read from text)
+why_strict from text known = known
+
+-- the same with another place
+abbrev pub why_placed : (ℕ → ℕ) → Why → Why
+why_placed place (why.Unexpected before) = why.Unexpected (place before)
+why_placed place known = known
+
+-- why typed parsing refuses a text, if it does, and decimals can be told so under the format
+unfoldable pub why_untyped : FormatData → List ℕ → Why
+why_untyped from text =
+    if not (types_decimals from) then why.Unknown else
+    if is_some (decimal_read from text) then why.Unknown else
+    if nat_lt MAX_DECIMAL_LEN (length (typed_text from text)) then why.TooLong else
+    why_placed (place_in from text) (why_refused from (typed_text from text))
+
+-- why a text is refused, by how it is read
+abbrev pub why_read : Reading → FormatData → List ℕ → Why
+why_read Strict from text = why_strict from text (why_refused from text)
+why_read Typed from text = why_untyped from text
+why_read Lenient from text = why.Unknown
+
+-- nothing is known of a text of 253 bytes or more, which may have been cut, since an error keeps 256 bytes at most, and whole characters
+abbrev pub why_not : Reading → FormatData → List ℕ → Why
+why_not reading from text = if nat_lt (length text) 253 then why_read reading from text else why.Unknown
+
+-- the last four digits of a number of base 16, and the two before them if it has more
+abbrev pub low_digits : ℕ → List ℕ
+low_digits n = hex_digit (n / 4096 % 16) ∷ hex_digit (n / 256 % 16) ∷ hex_digit (n / 16 % 16) ∷ hex_digit (n % 16) ∷ []
+
+abbrev pub high_digits : ℕ → List ℕ
+high_digits n = if nat_lt n 65536 then [] else hex_digit (n / 1048576 % 16) ∷ hex_digit (n / 65536 % 16) ∷ []
+
+-- a character, by its code point
+abbrev pub code_point : ℕ → List ℕ
+code_point n = codes "U+" ++ (high_digits n ++ low_digits n)
+
+-- what is said where a character was typed for one of the format
+abbrev pub met_text : (at met wanted : List ℕ) → List ℕ
+met_text at met wanted = codes ": not a number at byte " ++ (at ++ (codes ": " ++ (met ++ (codes ", where FROM has " ++ (wanted ++ codes ": see --typed")))))
+
+-- what is said of a text that is not a number: a place counts from 1
+abbrev pub why_text : Why → List ℕ
+why_text why.Unknown = codes ": not a number"
+why_text (why.Unexpected before) = codes ": not a number at byte " ++ decimal (before + 1)
+why_text why.Misspelled = codes ": not as it is printed"
+why_text why.TooLong = codes ": longer than any number"
+why_text (why.Typed before met wanted) = met_text (decimal (before + 1)) (code_point met) (code_point wanted)
 
 -- what is shown of a name: the first 256 bytes
 abbrev pub shown_name : List ℕ → List ℕ
@@ -64,29 +126,29 @@ abbrev pub few_text : FieldCount → List ℕ
 few_text count =
     codes "too few fields: " ++ (decimal count.found ++ (codes " of " ++ (decimal count.wanted ++ (codes ", separated by " ++ quoted (count.delimiter ∷ [])))))
 
--- what is said of a text that is not a number, with so many bytes before the unexpected one if one is named
-abbrev pub refused_text : (before : Option ℕ) → List ℕ → List ℕ
-refused_text before text = quoted text ++ (codes ": not a number" ++ byte_text before)
+-- what is said of a text that is not a number
+abbrev pub refused_text : Why → List ℕ → List ℕ
+refused_text known text = quoted text ++ why_text known
 
 -- what is said of the field of this number
 abbrev pub field_cause : ℕ → List ℕ → List ℕ
 field_cause field cause = codes "field " ++ (decimal field ++ (codes ": " ++ cause))
 
 -- what is said of a fault
-abbrev pub cause : (before : Option ℕ) → Fault → List ℕ
-cause before TooMany = codes "more lines than are allowed"
-cause before (TooLong number max_line_len) = codes "more than " ++ (decimal max_line_len ++ codes " bytes")
-cause before (FewFields number count) = few_text count
-cause before Read = codes "failed to read"
-cause before (NotText number) = codes "not UTF-8"
-cause before (FieldNotText number field) = field_cause field (codes "not UTF-8")
-cause before (Line number refusal) = refused_text before (kept_in refusal)
-cause before (Field number field refusal) = field_cause field (refused_text before (kept_in refusal))
-cause before (Unclosed number) = codes "unclosed quote"
-cause before Write = codes "failed to write"
-cause before Report = codes "failed to write a message"
-cause before Reject = codes "failed to write a rejected line"
-cause before Flush = codes "failed to flush"
+abbrev pub cause : Why → Fault → List ℕ
+cause known TooMany = codes "more lines than are allowed"
+cause known (TooLong number max_line_len) = codes "more than " ++ (decimal max_line_len ++ codes " bytes")
+cause known (FewFields number count) = few_text count
+cause known Read = codes "failed to read"
+cause known (NotText number) = codes "not UTF-8"
+cause known (FieldNotText number field) = field_cause field (codes "not UTF-8")
+cause known (Line number refusal) = refused_text known (kept_in refusal)
+cause known (Field number field refusal) = field_cause field (refused_text known (kept_in refusal))
+cause known (Unclosed number) = codes "unclosed quote"
+cause known Write = codes "failed to write"
+cause known Report = codes "failed to write a message"
+cause known Reject = codes "failed to write a rejected line"
+cause known Flush = codes "failed to flush"
 
 -- the text that is not a number, if that is the fault
 abbrev pub refused_in : Fault → List ℕ
@@ -100,16 +162,33 @@ displayed None cause = cause
 displayed (Some number) cause = codes "line " ++ (decimal number ++ (codes ": " ++ cause))
 
 abbrev pub message_of_fault : Fault → List ℕ
-message_of_fault fault = displayed (line_of fault) (cause None fault)
+message_of_fault fault = displayed (line_of fault) (cause why.Unknown fault)
+
+-- whether a text has bytes, and no digit
+abbrev pub is_word : List ℕ → Bool
+is_word text = not (length text == 0) && not (list_any is_ascii_digit text)
+
+-- the question whether a text in the line of this number is of a header, if it is a word in the first line
+abbrev pub header_hint : (number : ℕ) → List ℕ → List ℕ
+header_hint number text = if (number == 1) && is_word text then codes ": a header? see --header" else []
+
+-- what may help with a line at fault, or nothing
+abbrev pub hint : Fault → List ℕ
+hint (NotText number) = codes ": see iconv(1)"
+hint (FieldNotText number field) = codes ": see iconv(1)"
+hint (Line number refusal) = header_hint number (kept_in refusal)
+hint (Field number field refusal) = header_hint number (kept_in refusal)
+hint fault = []
 
 -- a message about the line of this number, if a line is at fault
-abbrev pub line_message : (name : List ℕ) → (line : Option ℕ) → List ℕ → List ℕ
-line_message name None cause = []
-line_message name (Some number) cause = codes "regroup-lines: " ++ (shown_name name ++ (codes ":" ++ (decimal number ++ (codes ": " ++ (cause ++ codes "\n")))))
+abbrev pub line_message : (name : List ℕ) → (line : Option ℕ) → (cause hint : List ℕ) → List ℕ
+line_message name None cause hint = []
+line_message name (Some number) cause hint =
+    codes "regroup-lines: " ++ (shown_name name ++ (codes ":" ++ (decimal number ++ (codes ": " ++ (cause ++ (hint ++ codes "\n"))))))
 
 -- the message that names the fault of a line, in an input of this name that is read under the format; other faults have none
 abbrev pub fault_message : (name : List ℕ) → Reading → FormatData → Fault → List ℕ
-fault_message name reading from fault = line_message name (line_of fault) (cause (before_fault reading from (refused_in fault)) fault)
+fault_message name reading from fault = line_message name (line_of fault) (cause (why_not reading from (refused_in fault)) fault) (hint fault)
 
 -- the messages that name faults, one after the other
 abbrev pub messages : (name : List ℕ) → Reading → FormatData → List Fault → List ℕ

@@ -3,7 +3,7 @@ ghost use Rattle.std.specs.Prelude.{◌≡◌, Some};
 ghost use Rattle.regroup_faults.specs.Fault.{fault_of, line_of};
 ghost use Rattle.regroup_faults.specs.Messages.{message_of_fault};
 
-use crate::message::{MAX_DISPLAYED_LEN, cause, displayed};
+use crate::message::{MAX_DISPLAYED_LEN, Why, cause, displayed};
 use arrayvec::ArrayString;
 use num_format::Error;
 use std::fmt;
@@ -79,7 +79,7 @@ impl RegroupFault {
     pub fn message(&self) -> ArrayString<MAX_DISPLAYED_LEN>
         ensures { result.bytes ≡ message_of_fault (fault_of self.now) }
     {
-        displayed(self.line(), cause(self, None).as_str())
+        displayed(self.line(), cause(self, Why::Unknown).as_str())
     }
 }
 

@@ -17,6 +17,8 @@ pub enum Reading {
     /// A decimal, exactly as it is printed under the format, grouped or not. It is printed with as many decimals
     /// as it has.
     Strict,
+    /// A decimal, as a person types it: `num_format_typed` says which characters stand for those of the format.
+    Typed,
     /// The digits and a minus sign at the start, as a whole number. Each character that is not numeric is ignored.
     Lenient,
 }

@@ -1,25 +1,34 @@
 //! The messages that name faults.
-ghost use Rattle.std.specs.Prelude.{◌≡◌, ◌≤◌, length};
+ghost use Rattle.std.specs.Prelude.{◌≡◌, ◌≤◌, ◌<◌, ◌+◌, ◌%◌, ◌++◌, ◌∷◌, [], length};
+ghost use Rattle.std.specs.Char.{is_ascii_digit};
+ghost use Rattle.std.specs.List.{list_any};
 ghost use Rattle.num_format.specs.Refusal.{refusal_of};
+ghost use Rattle.arrayvec.specs.ArrayString.{array_string_len};
 ghost use Rattle.regroup_faults.specs.Fault.{fault_of};
-ghost use Rattle.regroup_faults.specs.Messages.{before_fault, before_in, byte_text, cause, displayed, fault_message, few_text, field_cause, kept_in, line_message, refused_in, refused_text};
+ghost use Rattle.regroup_faults.specs.Decimals.{typed_read};
+ghost use Rattle.regroup_faults.specs.Quoting.{hex_digit};
+ghost use Rattle.regroup_faults.specs.Messages.{cause, code_point, displayed, fault_message, few_text, field_cause, first_change, header_hint, high_digits, hint, is_word, kept_in, line_message, low_digits, met_text, refused_in, refused_text, why_changed, why_in, why_meant, why_not, why_refused, why_strict, why_text, why_untyped};
 
 use crate::Reading;
 use crate::fault::{FieldCount, RegroupFault};
-use crate::quoting::{MAX_QUOTED_LEN, quoted, shown};
+use crate::quoting::{MAX_QUOTED_LEN, hex_digit, quoted, shown};
 use arrayvec::ArrayString;
 use num_format::laws::format_data;
 use num_format::{Error, ErrorKind, Format};
-use num_format_decimal::{Decimal, ParseDecimalError};
+use num_format_decimal::{Decimal, DecimalBuffer, ParseDecimalError};
+use num_format_typed::{TypedError, parse_typed_decimal};
 
 /// The most bytes of what is shown of a name: four for each of its bytes.
 pub const MAX_NAME_LEN: usize = 1024;
 
-/// The most bytes of ` at byte ` and a number.
-const MAX_BYTE_TEXT_LEN: usize = 50;
+/// The most bytes of `U+` and a code point.
+const MAX_CODE_POINT_LEN: usize = 8;
+
+/// The most bytes of why a text is not a number: words, a number and two code points.
+const MAX_WHY_LEN: usize = 96 + 2 * MAX_CODE_POINT_LEN;
 
 /// The most bytes of what is said of a text that is not a number.
-const MAX_REFUSED_TEXT_LEN: usize = MAX_QUOTED_LEN + 14 + MAX_BYTE_TEXT_LEN;
+const MAX_REFUSED_TEXT_LEN: usize = MAX_QUOTED_LEN + MAX_WHY_LEN;
 
 /// The most bytes of what is said of a fault: `field `, a number and `: ` may be before what is said of a text.
 pub(crate) const MAX_CAUSE_LEN: usize = 30 + MAX_REFUSED_TEXT_LEN;
@@ -27,14 +36,35 @@ pub(crate) const MAX_CAUSE_LEN: usize = 30 + MAX_REFUSED_TEXT_LEN;
 /// The most bytes of a cause after the number of its line.
 pub const MAX_DISPLAYED_LEN: usize = MAX_CAUSE_LEN + 30;
 
-/// The most bytes that a message has besides a name and a cause.
+/// The most bytes that a message has besides a name, a cause and a hint.
 const MAX_ADDED_LEN: usize = 64;
+
+/// The most bytes of a hint.
+const MAX_HINT_LEN: usize = 32;
 
 /// The fewest bytes that an error keeps of a text that it cuts: at most 256, and a character has at most four.
 const MIN_CUT_LEN: usize = 253;
 
 /// The most bytes of a message that names a fault.
-pub const MAX_FAULT_MESSAGE_LEN: usize = MAX_NAME_LEN + MAX_CAUSE_LEN + MAX_ADDED_LEN;
+pub const MAX_FAULT_MESSAGE_LEN: usize = MAX_NAME_LEN
+    + MAX_CAUSE_LEN
+    + MAX_HINT_LEN
+    + MAX_ADDED_LEN;
+
+/// What is known of why a text is not a number.
+#[derive(Clone, Copy)]
+pub(crate) enum Why {
+    /// Nothing that is said.
+    Unknown,
+    /// So many bytes are before an unexpected one.
+    Unexpected(usize),
+    /// No byte is unexpected, but it is not as its number is printed.
+    Misspelled,
+    /// With the format's own characters it has more bytes than the text of any number.
+    TooLong,
+    /// So many bytes are before an unexpected one, where a person typed the first character for the second, which the format has.
+    Typed(usize, char, char),
+}
 
 /// A text of these parts, one after the other, which fit.
 macro_rules! joined {
@@ -46,7 +76,8 @@ macro_rules! joined {
 }
 
 /// Returns the message that names the fault of a line, with a newline, in an input of this name that is read under the
-/// format. It is empty for a fault that no line has.
+/// format. It is empty for a fault that no line has. It ends with a hint for bytes that are not UTF-8, and for a text without a
+/// digit in the first line, which may be a header.
 ///
 /// ```rust
 /// let fault = RegroupFault::TooLong(7, 4096);
@@ -60,13 +91,53 @@ pub fn fault_message<F: Format>(
 ) -> ArrayString<MAX_FAULT_MESSAGE_LEN>
     ensures { result.bytes ≡ fault_message name.now reading (F.answers from.now) (fault_of fault.now) }
 {
-    let before = before_fault(reading, refused_in(fault), from);
-    line_message(name, fault.line(), cause(fault, before).as_str())
+    let why = why_not(reading, refused_in(fault), from);
+    line_message(name, fault.line(), cause(fault, why).as_str(), hint(fault))
 }
 
-/// Returns what is said of a fault: of a text that is not a number also which byte is unexpected, if so many others are before it.
-pub(crate) fn cause(fault: &RegroupFault, before: Option<usize>) -> ArrayString<MAX_CAUSE_LEN>
-    ensures { result.bytes ≡ cause before (fault_of fault.now) }
+/// Returns what may help with a line at fault, or nothing.
+fn hint(fault: &RegroupFault) -> &'static str
+    ensures text { result.now ≡ hint (fault_of fault.now) }
+    ensures len { length result.now ≤ MAX_HINT_LEN }
+{
+    match fault {
+        RegroupFault::NotText(_) | RegroupFault::FieldNotText(..) => ": see iconv(1)",
+        RegroupFault::Line(number, error) | RegroupFault::Field(number, _, error) => {
+            header_hint(*number, kept_in(error))
+        }
+        _ => "",
+    }
+}
+
+/// Returns the question whether a text in the line of this number is of a header.
+fn header_hint(number: u64, text: &str) -> &'static str
+    ensures text { result.now ≡ header_hint number text.now }
+    ensures len { length result.now ≤ MAX_HINT_LEN }
+{
+    if number == 1 && is_word(text) {
+        ": a header? see --header"
+    } else {
+        ""
+    }
+}
+
+/// Returns whether a text has bytes, and no digit.
+fn is_word(text: &str) -> bool
+    ensures { result ≡ is_word text.now }
+{
+    !text.is_empty() && !has_digit(text.as_bytes())
+}
+
+/// Returns whether a text has a digit.
+fn has_digit(text: &[u8]) -> bool
+    ensures { result ≡ list_any is_ascii_digit text.now }
+{
+    text.iter().any(|byte| byte.is_ascii_digit())
+}
+
+/// Returns what is said of a fault: of a text that is not a number also why.
+pub(crate) fn cause(fault: &RegroupFault, why: Why) -> ArrayString<MAX_CAUSE_LEN>
+    ensures { result.bytes ≡ cause why (fault_of fault.now) }
 {
     match fault {
         RegroupFault::TooMany => joined!("more lines than are allowed"),
@@ -79,9 +150,9 @@ pub(crate) fn cause(fault: &RegroupFault, before: Option<usize>) -> ArrayString<
         RegroupFault::Read => joined!("failed to read"),
         RegroupFault::NotText(_) => joined!("not UTF-8"),
         RegroupFault::FieldNotText(_, field) => field_cause(*field, "not UTF-8"),
-        RegroupFault::Line(_, error) => joined!(refused_text(kept_in(error), before).as_str()),
+        RegroupFault::Line(_, error) => joined!(refused_text(kept_in(error), why).as_str()),
         RegroupFault::Field(_, field, error) => {
-            field_cause(*field, refused_text(kept_in(error), before).as_str())
+            field_cause(*field, refused_text(kept_in(error), why).as_str())
         }
         RegroupFault::Unclosed(_) => joined!("unclosed quote"),
         RegroupFault::Write => joined!("failed to write"),
@@ -126,10 +197,16 @@ fn few_text(count: FieldCount) -> ArrayString<MAX_CAUSE_LEN>
     )
 }
 
-/// Returns a message with the name of the input and the number of a line before the cause, or nothing where no line is at fault.
-fn line_message(name: &str, line: Option<u64>, cause: &str) -> ArrayString<MAX_FAULT_MESSAGE_LEN>
-    requires { length cause.now ≤ MAX_CAUSE_LEN }
-    ensures { result.bytes ≡ line_message name.now line cause.now }
+/// Returns a message with the name of the input and the number of a line before the cause and the hint, or nothing where no line is at fault.
+fn line_message(
+    name: &str,
+    line: Option<u64>,
+    cause: &str,
+    hint: &str,
+) -> ArrayString<MAX_FAULT_MESSAGE_LEN>
+    requires cause { length cause.now ≤ MAX_CAUSE_LEN }
+    requires hint { length hint.now ≤ MAX_HINT_LEN }
+    ensures { result.bytes ≡ line_message name.now line cause.now hint.now }
 {
     match line {
         None => ArrayString::new(),
@@ -140,6 +217,7 @@ fn line_message(name: &str, line: Option<u64>, cause: &str) -> ArrayString<MAX_F
             itoa::Buffer::new().format(number),
             ": ",
             cause,
+            hint,
             "\n"
         ),
     }
@@ -154,24 +232,91 @@ fn field_cause(field: u64, text: &str) -> ArrayString<MAX_CAUSE_LEN>
 }
 
 /// Returns what is said of a text that is not a number.
-fn refused_text(text: &str, before: Option<usize>) -> ArrayString<MAX_REFUSED_TEXT_LEN>
-    ensures { result.bytes ≡ refused_text before text.now }
+fn refused_text(text: &str, why: Why) -> ArrayString<MAX_REFUSED_TEXT_LEN>
+    ensures { result.bytes ≡ refused_text why text.now }
+{
+    joined!(quoted(text.as_bytes()).as_str(), why_text(why).as_str())
+}
+
+/// Returns why a text is not a number. A place is counted from 1.
+fn why_text(why: Why) -> ArrayString<MAX_WHY_LEN>
+    ensures { result.bytes ≡ why_text why }
+{
+    match why {
+        Why::Unknown => joined!(": not a number"),
+        Why::Unexpected(before) => joined!(
+            ": not a number at byte ",
+            itoa::Buffer::new().format(before as u128 + 1)
+        ),
+        Why::Misspelled => joined!(": not as it is printed"),
+        Why::TooLong => joined!(": longer than any number"),
+        Why::Typed(before, met, wanted) => met_text(
+            itoa::Buffer::new().format(before as u128 + 1),
+            code_point(met).as_str(),
+            code_point(wanted).as_str(),
+        ),
+    }
+}
+
+/// Returns what is said where a character was typed for one of the format.
+fn met_text(at: &str, met: &str, wanted: &str) -> ArrayString<MAX_WHY_LEN>
+    requires at { length at.now ≤ 40 }
+    requires met { length met.now ≤ MAX_CODE_POINT_LEN }
+    requires wanted { length wanted.now ≤ MAX_CODE_POINT_LEN }
+    ensures { result.bytes ≡ met_text at.now met.now wanted.now }
 {
     joined!(
-        quoted(text.as_bytes()).as_str(),
-        ": not a number",
-        byte_text(before).as_str()
+        ": not a number at byte ",
+        at,
+        ": ",
+        met,
+        ", where FROM has ",
+        wanted,
+        ": see --typed"
     )
 }
 
-/// Returns which byte it is that so many others are before, counted from 1.
-fn byte_text(before: Option<usize>) -> ArrayString<MAX_BYTE_TEXT_LEN>
-    ensures { result.bytes ≡ byte_text before }
+/// Returns a character's code point, in four digits of base 16 or six.
+fn code_point(c: char) -> ArrayString<MAX_CODE_POINT_LEN>
+    ensures { result.bytes ≡ code_point c }
 {
-    match before {
-        None => ArrayString::new(),
-        Some(before) => joined!(" at byte ", itoa::Buffer::new().format(before as u128 + 1)),
+    let n = c as u32;
+    joined!("U+", high_digits(n).as_str(), low_digits(n).as_str())
+}
+
+/// Returns the two digits of base 16 before the last four, if a number has more than these.
+fn high_digits(n: u32) -> ArrayString<2>
+    ensures { result.bytes ≡ high_digits n }
+{
+    let mut text = ArrayString::new();
+    if n < 0x1_0000 {
+        return text;
     }
+    push_digit(&mut text, n / 0x10_0000);
+    push_digit(&mut text, n / 0x1_0000);
+    text
+}
+
+/// Returns the last four digits of base 16.
+fn low_digits(n: u32) -> ArrayString<4>
+    ensures { result.bytes ≡ low_digits n }
+{
+    let mut text = ArrayString::new();
+    push_digit(&mut text, n / 0x1000);
+    push_digit(&mut text, n / 0x100);
+    push_digit(&mut text, n / 0x10);
+    push_digit(&mut text, n);
+    text
+}
+
+/// Appends the last digit of a number of base 16.
+#[tactic(auto, using(std::proofs::lemmas::Str::encode_ascii))]
+fn push_digit<const CAP: usize>(text: &mut ArrayString<CAP>, n: u32)
+    requires { array_string_len text.old < CAP }
+    ensures bytes { text.new.bytes ≡ text.old.bytes ++ hex_digit (n % 16) ∷ [] }
+    ensures len { array_string_len text.new ≡ array_string_len text.old + 1 }
+{
+    text.push(hex_digit((n % 16) as u8) as char);
 }
 
 /// Returns the text that an error keeps, if it keeps one.
@@ -186,32 +331,91 @@ fn kept_in(error: &Error) -> &str
     }
 }
 
-/// Returns how many bytes of a text are before the one for which strict parsing refuses it, if it does so for one.
-/// Returns `None` of a text that is read leniently, and of one that may have been cut.
-fn before_fault<F: Format>(reading: Reading, text: &str, from: &F) -> Option<usize>
-    ensures { result ≡ before_fault reading (F.answers from.now) text.now }
+/// Returns why a text is not a number. Nothing is known of one that is read leniently, or that may have been cut.
+fn why_not<F: Format>(reading: Reading, text: &str, from: &F) -> Why
+    ensures { result ≡ why_not reading (F.answers from.now) text.now }
 {
+    if text.len() >= MIN_CUT_LEN {
+        return Why::Unknown;
+    }
     match reading {
-        Reading::Lenient => None,
-        Reading::Strict => {
-            if text.len() >= MIN_CUT_LEN {
-                return None;
-            }
-            format_data(from);
-            match Decimal::from_strict_str(text, from) {
-                Ok(_) => None,
-                Err(error) => before_in(error),
-            }
-        }
+        Reading::Lenient => Why::Unknown,
+        Reading::Strict => why_strict(text, from),
+        Reading::Typed => why_untyped(text, from),
     }
 }
 
-/// Returns how many bytes are before the unexpected one, if a text is refused for such a byte.
-fn before_in(error: ParseDecimalError) -> Option<usize>
-    ensures { result ≡ before_in error }
+/// Returns why strict parsing refuses a text, also for which character another one was typed.
+fn why_strict<F: Format>(text: &str, from: &F) -> Why
+    ensures { result ≡ why_strict (F.answers from.now) text.now (why_refused (F.answers from.now) text.now) }
+{
+    match why_refused(text, from) {
+        Why::Unexpected(before) => why_meant(text, from, before),
+        why => why,
+    }
+}
+
+/// Returns why strict parsing refuses a text.
+fn why_refused<F: Format>(text: &str, from: &F) -> Why
+    ensures { result ≡ why_refused (F.answers from.now) text.now }
+{
+    format_data(from);
+    match Decimal::from_strict_str(text, from) {
+        Ok(_) => Why::Unknown,
+        Err(error) => why_in(error),
+    }
+}
+
+/// Returns why typed parsing refuses a text.
+fn why_untyped<F: Format>(text: &str, from: &F) -> Why
+    ensures { result ≡ why_untyped (F.answers from.now) text.now }
+{
+    format_data(from);
+    match parse_typed_decimal(text, from) {
+        Ok(_) => Why::Unknown,
+        Err(TypedError::TooLong) => Why::TooLong,
+        Err(TypedError::Number(error)) => why_in(error),
+    }
+}
+
+/// Returns what an error says.
+fn why_in(error: ParseDecimalError) -> Why
+    ensures { result ≡ why_in error }
 {
     match error {
-        ParseDecimalError::Unexpected { at } => Some(at),
-        _ => None,
+        ParseDecimalError::Unexpected { at } => Why::Unexpected(at),
+        ParseDecimalError::Misspelled => Why::Misspelled,
+        _ => Why::Unknown,
     }
+}
+
+/// Returns which character was typed for one of the format where a byte of a text is unexpected, if so.
+fn why_meant<F: Format>(text: &str, from: &F, before: usize) -> Why
+    ensures { result ≡ why_meant (F.answers from.now) text.now before (typed_read (F.answers from.now) text.now) }
+{
+    format_data(from);
+    let Ok(number) = parse_typed_decimal(text, from) else {
+        return Why::Unexpected(before);
+    };
+    let mut printed = DecimalBuffer::new();
+    printed.write_formatted(&number, from);
+    why_changed(before, first_change(text, printed.as_str()))
+}
+
+/// Returns the same by the first characters in which the text differs from that of its number. A digit stands for no other character.
+fn why_changed(before: usize, change: Option<(char, char)>) -> Why
+    ensures { result ≡ why_changed before change }
+{
+    match change {
+        Some((met, wanted)) if !met.is_ascii_digit() => Why::Typed(before, met, wanted),
+        _ => Why::Unexpected(before),
+    }
+}
+
+/// Returns the first characters in which two texts differ.
+fn first_change(text: &str, other: &str) -> Option<(char, char)>
+    ensures { result ≡ first_change text.now other.now }
+{
+    let mut pairs = text.chars().zip(other.chars());
+    pairs.find(|pair| pair.0 != pair.1)
 }

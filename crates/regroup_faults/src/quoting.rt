@@ -1,7 +1,7 @@
 //! Texts in messages.
-ghost use Rattle.std.specs.Prelude.{◌≡◌, ◌+◌, ◌/◌, ◌<◌, ◌≤◌, ◌++◌, IsTrue};
+ghost use Rattle.std.specs.Prelude.{◌≡◌, ◌+◌, ◌/◌, ◌<◌, ◌≤◌, ◌++◌, IsTrue, length};
 ghost use Rattle.arrayvec.specs.ArrayString.{array_string_len};
-ghost use Rattle.regroup_faults.specs.Quoting.{hex_digit, is_shown, quoted, shown, shown_byte};
+ghost use Rattle.regroup_faults.specs.Quoting.{has_quote, hex_digit, is_shown, quote_around, quoted, shown, shown_byte};
 
 use arrayvec::ArrayString;
 
@@ -14,24 +14,41 @@ const MAX_SHOWN_TEXT_LEN: usize = 4 * MAX_SHOWN_LEN;
 /// The most bytes of an input in quotes.
 pub const MAX_QUOTED_LEN: usize = MAX_SHOWN_TEXT_LEN + 2;
 
-/// Returns the first 64 bytes of an input, shown as by [`shown`], in quotes.
+/// Returns the first 64 bytes of an input, shown as by [`shown`], in quotes: in double ones if the input has a single
+/// one.
 ///
 /// ```rust
 /// println!(rt; "{}", quoted(b"12.5O"))             // '12.5O'
-/// println!(rt; "{}", quoted(b"\x1b[2J'\n"))        // '\x1B[2J\x27\x0A'
+/// println!(rt; "{}", quoted(b"\x1b[2J'\n"))        // "\x1B[2J'\x0A"
 /// ```
 pub fn quoted(text: &[u8]) -> ArrayString<MAX_QUOTED_LEN>
     ensures { result.bytes ≡ quoted text.now }
 {
+    let quote = quote_around(text);
     let mut message = ArrayString::new();
-    message.push('\'');
+    message.push_str(quote);
     message.push_str(shown::<MAX_SHOWN_TEXT_LEN>(text).as_str());
-    message.push('\'');
+    message.push_str(quote);
     message
 }
 
+/// Returns the quotes around a text: double ones if it has a single one.
+fn quote_around(text: &[u8]) -> &'static str
+    ensures quote { result.now ≡ quote_around text.now }
+    ensures len { length result.now ≡ 1 }
+{
+    if has_quote(text) { "\"" } else { "'" }
+}
+
+/// Returns whether a text has a single quote.
+fn has_quote(text: &[u8]) -> bool
+    ensures { result ≡ has_quote text.now }
+{
+    text.iter().any(|byte| *byte == b'\'')
+}
+
 /// Returns the first bytes of a text, as many as fit if each takes four. Printable ASCII is shown as it is, but for the
-/// quote and the backslash. Any other byte is `\x` and two digits, so that no terminal takes it for a command.
+/// backslash. Any other byte is `\x` and two digits, so that no terminal takes it for a command.
 ///
 /// ```rust
 /// shown::<1024>(b"sales.tsv")    // "sales.tsv"
@@ -68,11 +85,11 @@ fn is_shown(byte: u8) -> bool
     ensures value { result ≡ is_shown byte }
     ensures ascii { IsTrue result → byte < 128 }
 {
-    (byte.is_ascii_graphic() || byte == b' ') && byte != b'\'' && byte != b'\\'
+    (byte.is_ascii_graphic() || byte == b' ') && byte != b'\\'
 }
 
 /// Returns a digit of base 16.
-fn hex_digit(n: u8) -> u8
+pub(crate) fn hex_digit(n: u8) -> u8
     requires { n < 16 }
     ensures digit { result ≡ hex_digit n }
     ensures ascii { result < 128 }

@@ -23,15 +23,15 @@ pub use Rattle.std.specs.Result.{OkIff, result_map_both, result_or}
 pub use Rattle.std.specs.Str.{IsTrimAsciiEnd, IsTrimAsciiStart, all_ascii_digits, is_utf8}
 pub use Rattle.std.specs.declared.ops.Range.{Range}
 pub use lib.Seq.{take-add}
-pub use Rattle.regroup_faults.specs.Decimals.{decimal_read, has_no_numeral, is_sign}
+pub use Rattle.regroup_faults.specs.Decimals.{decimal_read, has_no_numeral, is_sign, typed_read}
 pub use Rattle.regroup_lines.specs.Ended.{ended_by, without_end}
 pub use Rattle.regroup_faults.specs.Fault.{Fault, are_any, fault_of, in_field}
 pub use Rattle.regroup_faults.specs.Fault.Fault.{FewFields, Field, FieldNotText, Flush, Line, NotText, Read, Reject, Report, TooLong, TooMany, Unclosed, Write}
 pub use Rattle.regroup_lines.specs.Input.{EndsOrGoesOn, FindsPiece, HasNoEnd, IsInArray, IsLong, IsRecord, IsStop, Reads, array_len, bytes_at, held, stop_result, stop_text}
 pub use Rattle.regroup_lines.specs.LineFaults.{IsHalt, line_fault_of, text_fault}
-pub use Rattle.regroup_lines.specs.Lines.{MARK, Regrouped, Sent, Stop, after, begins_with_mark, between, body_sent, body_written, fault_named, fault_sent, field_read, field_written, fields_of, fields_replaced, fields_written, joined, lenient, line_after, line_begun, line_ended, line_sent, long_fault, long_returned, number_written, numbers_replaced, only_written, passed, passes, passes_mark, place_written, quotes_in, quotes_of, record_sent, records_of, regrouped, regrouped_after, regrouped_parts, regrouped_rest, returning, sending, sending_line, stop_returned, text_sent, with_first}
+pub use Rattle.regroup_lines.specs.Lines.{MARK, Regrouped, Sent, Stop, after, begins_with_mark, between, body_sent, body_written, decimal_written, fault_named, fault_sent, field_read, field_written, fields_of, fields_replaced, fields_written, joined, lenient, line_after, line_begun, line_ended, line_sent, long_fault, long_returned, number_written, numbers_replaced, only_written, passed, passes, passes_mark, place_written, quotes_in, quotes_of, record_sent, records_of, regrouped, regrouped_after, regrouped_parts, regrouped_rest, returning, sending, sending_line, stop_returned, text_sent, with_first}
 pub use Rattle.regroup_lines.specs.Lines.Stop.{Ended, Endless, Failed, Unflushed, Unread}
-pub use Rattle.regroup_faults.specs.Messages.{before_in, before_rest, fault_message, messages}
+pub use Rattle.regroup_faults.specs.Messages.{fault_message, messages}
 pub use Rattle.regroup_lines.specs.Places.{are_enough, field_count, is_at_most, is_chosen, is_chosen_from, is_enough, one_field, trimmed}
 pub use Rattle.regroup_lines.specs.Records.{Searched, after_bare, after_byte, after_record_byte, after_text, has_end, is_inside, is_open, is_quote, line_reached, lines_ended, next_line, split_at}
 pub use Rattle.regroup_lines.specs.Sending.{Names, PassesLong, Receives, ReceivesBytes, ReceivesEach, ReceivesPrefix, Regroups, RegroupsNaming, Returns, SendsBytes, SendsEach, SendsLine, Writer, by_writer, bytes_to, failed_by, failed_writer, text_to}
@@ -43,7 +43,7 @@ pub use Rattle.regroup_lines.specs.declared.line_fault.LineFault.{LineFault}
 pub use Rattle.regroup_lines.specs.declared.records.Within.{Within}
 pub use Rattle.regroup_lines.specs.declared.records.Within.TheVariants.{Start}
 pub use Rattle.regroup_faults.specs.declared.Reading.{Reading}
-pub use Rattle.regroup_faults.specs.declared.Reading.TheVariants.{Lenient, Strict}
+pub use Rattle.regroup_faults.specs.declared.Reading.TheVariants.{Lenient, Strict, Typed}
 pub use Rattle.regroup_lines.specs.declared.rules.Rules.{Rules}
 pub use Rattle.num_format.specs.Readable.{fits_i128, number_read}
 pub use Rattle.num_format.specs.Reading.{Refused, denoted, figures}

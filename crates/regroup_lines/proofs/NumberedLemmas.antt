@@ -1,5 +1,5 @@
 -- What is written in place of a line depends on the line's number in the fault alone.
-use Rattle.regroup_lines.proofs.Common.{failed_writer, Bool, Err, Fault, FewFields, Field, FieldNotText, Fields, FormatData, Lenient, Line, List, MARK, None, NotText, Ok, Option, ParseNumber, Reading, Refusal, Result, Rules, Some, Span, Strict, TooMany, [], after, ap, are_enough, between, body_written, cases_Bool, cut_text, inl, inr, decimal_read, decimal_text, drop, false, field_count, field_read, field_with, field_written, fields_of, fields_written, if◌then◌else◌, in_field, is_barred, is_chosen, is_utf8, join_with_byte, length, list_any, nat_le, number_place, number_read, number_written, numbers_replaced, ok_or, option_map, output_delimiter, passes_mark, place_written, refl, result_map_both, slice_range, take, text_fault, text_of, trimmed, true, with_first, ℕ, ℤ, ◌&&◌, ◌++◌, ◌+◌, ◌==◌, ◌∙◌, ◌∷◌, ◌≡◌}
+use Rattle.regroup_lines.proofs.Common.{failed_writer, Bool, Err, Fault, FewFields, Field, FieldNotText, Fields, FixedPoint, FormatData, Lenient, Line, List, MARK, None, NotText, Ok, Option, ParseNumber, Reading, Refusal, Result, Rules, Some, Span, Strict, TooMany, Typed, [], after, ap, are_enough, between, body_written, cases_Bool, cut_text, inl, inr, decimal_read, decimal_text, decimal_written, drop, typed_read, false, field_count, field_read, field_with, field_written, fields_of, fields_written, if◌then◌else◌, in_field, is_barred, is_chosen, is_utf8, join_with_byte, length, list_any, nat_le, number_place, number_read, number_written, numbers_replaced, ok_or, option_map, output_delimiter, passes_mark, place_written, refl, result_map_both, slice_range, take, text_fault, text_of, trimmed, true, with_first, ℕ, ℤ, ◌&&◌, ◌++◌, ◌+◌, ◌==◌, ◌∙◌, ◌∷◌, ◌≡◌}
 use Rattle.regroup_lines.specs.declared.rules.Span.TheVariants as span
 
 -- the same fault of a text, in the line of this number
@@ -47,9 +47,13 @@ module _ (rules : Rules) (from to : FormatData) (n m : ℕ) where
   of_text (Some text) refusal = refl
   of_text None refusal = refl
 
+  by_decimal : (decimal : Option FixedPoint) (text : List ℕ) → decimal_written decimal to n text ≡ numbered n (decimal_written decimal to m text)
+  by_decimal decimal text = either n (is_utf8 text) _ _ (Err (NotText n)) (Err (NotText m)) (of_text (option_map (decimal_text to) decimal) (ParseNumber (cut_text text))) refl
+
   number : (reading : Reading) (text : List ℕ) → number_written reading from to n text ≡ numbered n (number_written reading from to m text)
   number Lenient text = either n (is_utf8 text) _ _ (Err (NotText n)) (Err (NotText m)) (of_value (number_read from text)) refl
-  number Strict text = either n (is_utf8 text) _ _ (Err (NotText n)) (Err (NotText m)) (of_text (option_map (decimal_text to) (decimal_read from text)) (ParseNumber (cut_text text))) refl
+  number Strict text = by_decimal (decimal_read from text) text
+  number Typed text = by_decimal (typed_read from text) text
 
   fault : (text : List ℕ) → text_fault n text ≡ with_number n (text_fault m text)
   fault text = elim (cases_Bool (is_utf8 text)) [ inl is ↦ rw is refl | inr other ↦ rw other refl ]

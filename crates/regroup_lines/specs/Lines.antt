@@ -8,11 +8,12 @@ use Rattle.num_format.specs.Cut.{cut_text}
 use Rattle.num_format.specs.Format.{FormatData}
 use Rattle.num_format.specs.Refusal.{ParseNumber}
 use Rattle.num_format.specs.Text.{text_of}
+use Rattle.num_format_decimal.specs.FixedPoint.{FixedPoint}
 use Rattle.num_format_decimal.specs.Text.{decimal_text}
 use Rattle.num_format.specs.Readable.{number_read}
 use Rattle.regroup_lines.specs.Ended.{ended_by, without_end}
 use Rattle.regroup_lines.specs.Csv.{field_with, is_barred, number_place, output_delimiter}
-use Rattle.regroup_faults.specs.Decimals.{decimal_read}
+use Rattle.regroup_faults.specs.Decimals.{decimal_read, typed_read}
 use Rattle.regroup_faults.specs.Fault.{Fault, in_field}
 use Rattle.regroup_faults.specs.Fault.Fault.{TooMany, TooLong, FewFields, Flush, Read, NotText, Line, Unclosed}
 use Rattle.regroup_lines.specs.LineFaults.{text_fault}
@@ -23,7 +24,7 @@ use Rattle.regroup_lines.specs.declared.rules.Fields.{Fields}
 use Rattle.regroup_lines.specs.declared.rules.Invalid.{Invalid}
 use Rattle.regroup_lines.specs.declared.rules.Invalid.TheVariants.{Abort, Fail, Warn, Ignore}
 use Rattle.regroup_faults.specs.declared.Reading.{Reading}
-use Rattle.regroup_faults.specs.declared.Reading.TheVariants.{Lenient, Strict}
+use Rattle.regroup_faults.specs.declared.Reading.TheVariants.{Lenient, Strict, Typed}
 use Rattle.regroup_lines.specs.declared.rules.Rules.{Rules}
 use Rattle.regroup_lines.specs.declared.rules.Span.{Span}
 use Rattle.regroup_lines.specs.declared.rules.Span.TheVariants as span
@@ -69,11 +70,16 @@ abbrev pub sending_line : Result Sent Fault → Regrouped → Regrouped
 sending_line (Ok sent) rest = sending sent rest
 sending_line (Err fault) rest = returning (Some (Err fault))
 
+-- the text of a decimal, or the fault of the text that has none
+abbrev pub decimal_written : Option FixedPoint → FormatData → ℕ → List ℕ → Result (List ℕ) Fault
+decimal_written decimal to number text =
+    if is_utf8 text then ok_or (option_map (decimal_text to) decimal) (Line number (ParseNumber (cut_text text))) else Err (NotText number)
+
 -- the text that is written in place of that of a number, or the fault of that text
 abbrev pub number_written : Reading → FormatData → FormatData → ℕ → List ℕ → Result (List ℕ) Fault
 number_written Lenient from to number text = if is_utf8 text then result_map_both (text_of to) (Line number) (number_read from text) else Err (NotText number)
-number_written Strict from to number text =
-    if is_utf8 text then ok_or (option_map (decimal_text to) (decimal_read from text)) (Line number (ParseNumber (cut_text text))) else Err (NotText number)
+number_written Strict from to number text = decimal_written (decimal_read from text) to number text
+number_written Typed from to number text = decimal_written (typed_read from text) to number text
 
 -- a text with these bytes before and after it
 abbrev pub between : (before after : List ℕ) → Result (List ℕ) Fault → Result (List ℕ) Fault

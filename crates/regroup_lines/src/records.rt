@@ -4,11 +4,8 @@ ghost use Rattle.regroup_lines.specs.Ended.{len_without};
 ghost use Rattle.regroup_lines.specs.Lines.{quotes_in};
 ghost use Rattle.regroup_lines.specs.Records.{Searched, after_byte, after_text, is_inside, is_open, is_quote, line_reached};
 
-use crate::rules::Rules;
+use crate::rules::{QUOTE, Rules};
 use memchr::{memchr, memchr2};
-
-/// The byte around a field that has a delimiter, a newline or this byte.
-pub(crate) const QUOTE: u8 = b'"';
 
 /// Where the next byte of a record is.
 #[derive(Clone, Copy, Debug, PartialEq, Eq)]

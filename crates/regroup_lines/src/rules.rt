@@ -4,12 +4,14 @@ ghost use Rattle.regroup_lines.specs.Fields.{IsOnly};
 ghost use Rattle.regroup_lines.specs.Lines.{passes, passes_mark, quotes_in, quotes_of};
 ghost use Rattle.regroup_lines.specs.Places.{are_enough, field_count, is_at_most, is_chosen, least_of, next_of, place_of, trimmed, wanted_of};
 
-use crate::records::QUOTE;
 use regroup_faults::{FieldCount, Reading};
 use std::ops::Range;
 
 /// The bytes of a byte order mark, the character U+FEFF.
 pub(crate) const MARK: [u8; 3] = [0xEF, 0xBB, 0xBF];
+
+/// The byte around a field that has a delimiter, a newline or this byte.
+pub(crate) const QUOTE: u8 = b'"';
 
 /// What is done with a line at fault. It is sent as it is, but for [`Invalid::Abort`]: to the output, or to the writer of rejected lines.
 #[derive(Clone, Copy, Debug, PartialEq, Eq)]

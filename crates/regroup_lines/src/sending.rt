@@ -5,7 +5,7 @@ ghost use Rattle.num_format.specs.Writing.{Sends};
 ghost use Rattle.regroup_lines.specs.Csv.{doubled, part_text};
 ghost use Rattle.regroup_lines.specs.Ended.{ended_by};
 
-use crate::records::QUOTE;
+use crate::rules::QUOTE;
 use arrayvec::ArrayVec;
 use num_format::to_formatted_string::write_whole;
 use num_format_decimal::MAX_DECIMAL_LEN;

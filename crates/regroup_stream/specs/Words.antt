@@ -1,6 +1,7 @@
 -- The formats that words and files name, and what is wrong with those that name none.
-use Rattle.std.specs.Prelude.{◌≡◌, ℕ, ◌==◌, Bool, true, false, if◌then◌else◌, nat_eq, List, [], ◌∷◌, ◌++◌, length, drop, codes, Option, None, Some, option_and_then, Result, Ok, Err, ⊤}
-use Rattle.std.specs.List.{starts_with}
+use Rattle.std.specs.Prelude.{◌≡◌, ℕ, ◌==◌, Bool, true, false, not, ◌&&◌, ◌||◌, if◌then◌else◌, nat_eq, List, [], ◌∷◌, ◌++◌, length, drop, codes, Option, None, Some, is_some, option_and_then, Result, Ok, Err, ⊤, ◌⊎◌}
+use Rattle.std.specs.Char.{is_ascii_digit, is_ascii_whitespace}
+use Rattle.std.specs.List.{list_any, starts_with}
 use Rattle.std.specs.Option.{option_map}
 use Rattle.std.specs.Result.{result_map_both, result_ok}
 use Rattle.std.specs.Str.{bytes_eq}
@@ -14,16 +15,19 @@ use Rattle.num_format.specs.GroupingNames.{grouping_named}
 use Rattle.num_format.specs.Lookup.{LooksUpTag}
 use Rattle.num_format_decimal.specs.Marks.{MarksDecimals}
 use Rattle.regroup_faults.specs.declared.Reading.{Reading}
-use Rattle.regroup_faults.specs.declared.Reading.TheVariants.{Lenient, Strict}
+use Rattle.num_format_typed.specs.Typed.{IsTypable}
+use Rattle.regroup_faults.specs.declared.Reading.TheVariants.{Lenient, Strict, Typed}
 use Rattle.num_format.specs.Building.{built, choices_of, chosen, custom_format}
 use Rattle.num_format.specs.Constants.{MAX_DEC_LEN, MAX_MIN_LEN, MAX_SEP_LEN}
 use Rattle.num_format.specs.English.{english}
 use Rattle.regroup_faults.specs.Quoting.{quoted}
 use Rattle.regroup_lines.specs.Ended.{line}
+use Rattle.regroup_lines.specs.declared.rules.Span.{Span}
+use Rattle.regroup_lines.specs.declared.rules.Span.TheVariants as span
 use Rattle.regroup_stream.specs.Files.{HoldsFormat, Unfit, unfit_message, unfit_of}
 use Rattle.regroup_stream.specs.Files.Unfit.{Unread}
 use Rattle.regroup_stream.specs.declared.words.Ambiguity.{Ambiguity}
-use Rattle.regroup_stream.specs.declared.words.Ambiguity.TheVariants.{NoMinusSign, NoDecimalMark, SameSymbol, NumeralInSymbol}
+use Rattle.regroup_stream.specs.declared.words.Ambiguity.TheVariants.{NoMinusSign, NoDecimalMark, SameSymbol, NumeralInSymbol, TypedAlike, BlankMinusSign, PrintsDelimiter}
 use Rattle.regroup_stream.specs.declared.words.Misuse.{Misuse}
 use Rattle.regroup_stream.specs.declared.words.Misuse.TheVariants as misuse
 use Rattle.regroup_stream.specs.declared.words.Source.{Source}
@@ -91,9 +95,10 @@ NamesPlainOrOther false word found = NamesCustomOrLocale (starts_with nat_eq wor
 abbrev pub NamesFormat : List ℕ → Option FormatData → Type 0
 NamesFormat word found = NamesPlainOrOther (bytes_eq word (codes "plain")) word found
 
--- numbers are read under the format: strictly only where each decimal parses back from its text
+-- numbers are read under the format: strictly only where each decimal parses back from its text, and typed where it has one meaning then too
 abbrev pub IsReadUnder : Reading → FormatData → Type 0
 IsReadUnder Strict format = MarksDecimals format
+IsReadUnder Typed format = MarksDecimals format × IsTypable format
 IsReadUnder Lenient format = ⊤
 
 -- why a format is ambiguous that is: the minus sign or the decimal mark is empty, the mark is the separator that is printed, or else a
@@ -104,12 +109,25 @@ ambiguity_of format =
     if length format.decimal == 0 then NoDecimalMark else
     if bytes_eq format.decimal (printed_separator format.grouping format.separator) then SameSymbol else NumeralInSymbol
 
+-- not each decimal parses back from its text under the format for this reason
+abbrev pub IsUnmarked : FormatData → Ambiguity → Type 0
+IsUnmarked format why = ¬ (MarksDecimals format) × (why ≡ ambiguity_of format)
+
+-- numbers are not read so under the format for this reason
+abbrev pub IsUnread : Reading → FormatData → Ambiguity → Type 0
+IsUnread Strict format = IsUnmarked format
+IsUnread Typed format = λ why. IsUnmarked format why ⊎ (MarksDecimals format × ¬ (IsTypable format) × (why ≡ TypedAlike))
+IsUnread Lenient format = λ why. ⊥
+
 -- what is said of such a format
 abbrev pub cause_of : Ambiguity → List ℕ
 cause_of NoMinusSign = codes ": the minus sign is empty"
 cause_of NoDecimalMark = codes ": the decimal mark is empty"
 cause_of SameSymbol = codes ": the decimal mark is the separator"
 cause_of NumeralInSymbol = codes ": a symbol has a digit"
+cause_of TypedAlike = codes ": ambiguous as people type it"
+cause_of BlankMinusSign = codes ": the minus sign begins with whitespace"
+cause_of PrintsDelimiter = codes ": numbers have the delimiter: see --csv"
 
 -- what names a format: a word, or the name of a file and its bytes, or why it cannot be read
 pub data Named : Type 0 where
@@ -156,7 +174,7 @@ IsFormatOf (File name bytes) result = IsHeld name bytes result
 -- what is wrong with two of them: the first has no format, or one that is not read; or else the second has none, or one that is ambiguous
 pub data IsWrong (reading : Reading) (from to : Named) : Wrong → Type 0 where
   first : (wrong : Wrong) → IsFormatOf from (Err wrong) → IsWrong reading from to wrong
-  unread : (format : FormatData) → IsFormatOf from (Ok format) → ¬ IsReadUnder reading format → IsWrong reading from to (Ambiguous (text_of_named from) (ambiguity_of format))
+  unread : (format : FormatData) (why : Ambiguity) → IsFormatOf from (Ok format) → IsUnread reading format why → IsWrong reading from to (Ambiguous (text_of_named from) why)
   second : (format : FormatData) (wrong : Wrong) → IsFormatOf from (Ok format) → IsReadUnder reading format → IsFormatOf to (Err wrong) → IsWrong reading from to wrong
   unwritten : (source target : FormatData) → IsFormatOf from (Ok source) → IsReadUnder reading source → IsFormatOf to (Ok target) → ¬ MarksDecimals target →
       IsWrong reading from to (Ambiguous (text_of_named to) (ambiguity_of target))
@@ -172,6 +190,54 @@ pub record NamesBoth (reading : Reading) (from to : Named) (formats : FormatData
 abbrev pub NamesFormats : Reading → (from to : Named) → Result (FormatData × FormatData) Wrong → Type 0
 NamesFormats reading from to (Ok formats) = NamesBoth reading from to formats
 NamesFormats reading from to (Err wrong) = IsWrong reading from to wrong
+
+-- whether a text begins with ASCII whitespace
+abbrev pub begins_blank : List ℕ → Bool
+begins_blank [] = false
+begins_blank (b ∷ text) = is_ascii_whitespace b
+
+-- the delimiter of fields around which no quotes are written
+abbrev pub bare_delimiter : Span → Option ℕ
+bare_delimiter span.Line = None
+bare_delimiter span.Trimmed = None
+bare_delimiter (span.Fields fields) = if not fields.quotes && not (is_some fields.output) then Some fields.delimiter else None
+
+-- whether a text has this byte
+abbrev pub has_byte : List ℕ → ℕ → Bool
+has_byte text byte = list_any (λ b. b == byte) text
+
+-- whether a number that is printed under the format may have this byte
+abbrev pub prints_byte : FormatData → ℕ → Bool
+prints_byte format b =
+    is_ascii_digit b || (has_byte (printed_separator format.grouping format.separator) b || (has_byte format.minus_sign b || has_byte format.decimal b))
+
+-- whether a number that is printed may have the delimiter
+abbrev pub prints_delimiter : FormatData → Option ℕ → Bool
+prints_delimiter format None = false
+prints_delimiter format (Some delimiter) = prints_byte format delimiter
+
+-- why numbers are not told by two formats where the rules say, if they are not, and by which of these words or files
+abbrev pub misfit : Span → (from to : Named) → FormatData × FormatData → Option Wrong
+misfit span from to formats =
+    if begins_blank formats.0.minus_sign then Some (Ambiguous (text_of_named from) BlankMinusSign) else
+    if begins_blank formats.1.minus_sign then Some (Ambiguous (text_of_named to) BlankMinusSign) else
+    if prints_delimiter formats.1 (bare_delimiter span) then Some (Ambiguous (text_of_named to) PrintsDelimiter) else None
+
+-- the formats, unless something is wrong with them
+abbrev pub ok_unless : FormatData × FormatData → Option Wrong → Result (FormatData × FormatData) Wrong
+ok_unless formats None = Ok formats
+ok_unless formats (Some wrong) = Err wrong
+
+-- the formats of two of them by which numbers are told, or what is wrong
+abbrev pub fitting : Span → (from to : Named) → Result (FormatData × FormatData) Wrong → Result (FormatData × FormatData) Wrong
+fitting span from to (Err wrong) = Err wrong
+fitting span from to (Ok formats) = ok_unless formats (misfit span from to formats)
+
+-- what is named is told, or else what is wrong
+pub record NamesFormatsFor (reading : Reading) (span : Span) (from to : Named) (result : Result (FormatData × FormatData) Wrong) : Type 0 where
+  pub named : Result (FormatData × FormatData) Wrong
+  pub names : NamesFormats reading from to named
+  pub told : result ≡ fitting span from to named
 
 -- the message of arguments that are refused for this cause
 abbrev pub arguments_message : (cause : List ℕ) → List ℕ

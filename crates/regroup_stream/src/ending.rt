@@ -2,13 +2,29 @@
 ghost use Rattle.std.specs.Prelude.{◌≡◌, ◌≤◌, length};
 ghost use Rattle.regroup_stream.specs.Ending.{Finishes, SendsMessage, end_after, end_of, failure_message, known_reason, message_of_end, reason_of, status_of};
 
-use crate::files::MAX_CAUSE_LEN;
-use crate::{CLOSED, FAILED, FAULTY, REGROUPED};
 use arrayvec::ArrayString;
 use num_format::to_formatted_string::write_whole;
-use regroup_faults::{MAX_FAULT_MESSAGE_LEN, MAX_NAME_LEN, shown};
+use regroup_faults::{MAX_FAULT_MESSAGE_LEN, MAX_NAME_LEN, MAX_QUOTED_LEN, shown};
 use std::io;
 use std::io::Write;
+
+/// The status where each line was regrouped, or passed on.
+pub const REGROUPED: u8 = 0;
+
+/// The status where a line is at fault.
+pub const FAULTY: u8 = 1;
+
+/// The status where the words do not name two formats.
+pub const MISUSED: u8 = 2;
+
+/// The status where a read or a write failed.
+pub const FAILED: u8 = 3;
+
+/// The status where standard output was closed, as a shell has it of a program that the signal `SIGPIPE` ended.
+pub const CLOSED: u8 = 141;
+
+/// The most bytes of a failure that a message names, with a key in quotes.
+pub(crate) const MAX_CAUSE_LEN: usize = MAX_QUOTED_LEN + 24;
 
 /// How a run ends. Of a read or a write that failed it has the kind of the error, if that is known.
 #[derive(Drop)]

@@ -6,17 +6,14 @@ ghost use Rattle.regroup_faults.specs.Quoting.{quoted};
 ghost use Rattle.regroup_stream.specs.Files.{HoldsFormat, completed, json_cause, unfit_message, unfit_of, with_text_at};
 ghost use Rattle.serde_json.specs.View.{view};
 
-use crate::ending::failure_message;
+use crate::ending::{MAX_CAUSE_LEN, failure_message};
 use arrayvec::ArrayString;
 use num_format::CustomFormat;
 use num_format::json::{JsonFault, format_from_value};
-use regroup_faults::{MAX_FAULT_MESSAGE_LEN, MAX_QUOTED_LEN, quoted};
+use regroup_faults::{MAX_FAULT_MESSAGE_LEN, quoted};
 use serde_json::Value;
 use std::alloc::{AllocError, Global};
 use std::io::ErrorKind;
-
-/// The most bytes of what is said of a JSON value that holds no format.
-pub(crate) const MAX_CAUSE_LEN: usize = MAX_QUOTED_LEN + 24;
 
 /// Why a file holds no format, or is not that of rejected lines.
 #[derive(Clone, Copy, Debug, PartialEq, Eq)]

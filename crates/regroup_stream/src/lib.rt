@@ -35,32 +35,20 @@ ghost use Rattle.regroup_lines.specs.Sending.{by_writer};
 ghost use Rattle.regroup_stream.specs.Stream.{RegroupsAll, Runs, end_of_result};
 
 use crate::ending::Ending;
+pub use crate::ending::{CLOSED, FAILED, FAULTY, MISUSED, REGROUPED};
 pub use crate::files::FileFault;
 pub use crate::inputs::{Open, Unread, run_all};
 pub use crate::list::field_list;
 pub use crate::options::{OptionFault, Options};
 use crate::watched::Watched;
-pub use crate::words::{Ambiguity, Formats, Misuse, Source, formats_named, refuse_arguments};
+pub use crate::words::{
+    Ambiguity, Formats, Misuse, Source, formats_for, formats_named, refuse_arguments,
+};
 use num_format::CustomFormat;
 use regroup_faults::fault_message;
 pub use regroup_lines::{FieldRange, Fields, Invalid, Output, Quoting, Reading, Rules, Span};
 use regroup_lines::{RegroupFault, Summary, regroup_at_most};
 use std::io::{BufWriter, ErrorKind, Read, Write};
-
-/// The status where each line was regrouped, or passed on.
-pub const REGROUPED: u8 = 0;
-
-/// The status where a line is at fault.
-pub const FAULTY: u8 = 1;
-
-/// The status where the words do not name two formats.
-pub const MISUSED: u8 = 2;
-
-/// The status where a read or a write failed.
-pub const FAILED: u8 = 3;
-
-/// The status where standard output was closed, as a shell has it of a program that the signal `SIGPIPE` ended.
-pub const CLOSED: u8 = 141;
 
 /// Regroups the lines of `input` from one format to another, flushes `out` and `rejects`, and returns the exit status.
 /// Messages have the name of the input, which is `-` for standard input. It is read into `buffer`, which has one byte more

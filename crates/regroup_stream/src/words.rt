@@ -1,19 +1,21 @@
 //! The formats that words and files name.
-ghost use Rattle.std.specs.Prelude.{◌≡◌, ◌≤◌, nat_eq, codes, length, IfOk, IsTrue, ◌↔◌, string_bytes};
+ghost use Rattle.std.specs.Prelude.{◌≡◌, ◌≤◌, nat_eq, codes, length, IfOk, MatchOption, string_bytes};
 ghost use Rattle.std.specs.List.{starts_with};
 ghost use Rattle.std.specs.Option.{option_map};
 ghost use Rattle.std.specs.Result.{result_map_both};
 ghost use Rattle.num_format.specs.Grouped.{printed_separator};
+ghost use Rattle.num_format_decimal.specs.Marks.{MarksDecimals};
 ghost use Rattle.regroup_stream.specs.Ending.{SendsMessage};
-ghost use Rattle.regroup_stream.specs.Words.{IsFormatOf, IsHeld, IsNamed, IsReadUnder, LooksUpFormat, NamesCustomOrLocale, NamesFormat, NamesFormats, ambiguity_of, arguments_message, cause_of, custom_format_named, marked_format_named, message_of_wrong, misuse_message, named_of, split_last, text_of_named, wrong_of};
+ghost use Rattle.regroup_stream.specs.Words.{IsFormatOf, IsHeld, IsNamed, IsReadUnder, IsUnmarked, IsUnread, LooksUpFormat, NamesCustomOrLocale, NamesFormat, NamesFormats, NamesFormatsFor, ambiguity_of, arguments_message, bare_delimiter, begins_blank, cause_of, custom_format_named, marked_format_named, message_of_wrong, misuse_message, has_byte, misfit, named_of, prints_byte, prints_delimiter, split_last, text_of_named, wrong_of};
 
-use crate::ending::send;
+use crate::ending::{FAILED, MISUSED, send};
 use crate::files::{FileFault, format_held};
-use crate::{FAILED, MISUSED};
 use arrayvec::ArrayString;
 use num_format::{CustomFormat, Grouping, Locale};
 use num_format_decimal::marks_decimals;
+use num_format_typed::TypedParser;
 use regroup_faults::{MAX_FAULT_MESSAGE_LEN, Reading, quoted};
+use regroup_lines::Span;
 use std::alloc::{AllocError, Global};
 use std::io::{ErrorKind, Write};
 
@@ -113,6 +115,13 @@ pub enum Ambiguity {
     SameSymbol,
     /// A symbol has a digit or another numeric character.
     NumeralInSymbol,
+    /// The separator and the decimal mark have two characters that people type for one another, or the minus sign begins with a space or a plus
+    /// sign, and numbers are read as people type them.
+    TypedAlike,
+    /// The minus sign begins with ASCII whitespace, which is not part of a number.
+    BlankMinusSign,
+    /// A number that is printed may have the delimiter, and no quotes are around it.
+    PrintsDelimiter,
 }
 
 impl Ambiguity {
@@ -141,6 +150,9 @@ impl Ambiguity {
             Ambiguity::NoDecimalMark => ": the decimal mark is empty",
             Ambiguity::SameSymbol => ": the decimal mark is the separator",
             Ambiguity::NumeralInSymbol => ": a symbol has a digit",
+            Ambiguity::TypedAlike => ": ambiguous as people type it",
+            Ambiguity::BlankMinusSign => ": the minus sign begins with whitespace",
+            Ambiguity::PrintsDelimiter => ": numbers have the delimiter: see --csv",
         }
     }
 }
@@ -226,8 +238,8 @@ pub fn formats_named<'a>(
         (result_map_both (λ formats. (formats.from, formats.to)) wrong_of result) }
 {
     let source = from.format(alloc)?;
-    if !is_read_under(reading, &source) {
-        return Err(Misuse::Ambiguous(from.text(), Ambiguity::of(&source)));
+    if let Some(ambiguity) = unread(reading, &source) {
+        return Err(Misuse::Ambiguous(from.text(), ambiguity));
     }
     let target = to.format(alloc)?;
     if !marks_decimals(&target) {
@@ -239,13 +251,130 @@ pub fn formats_named<'a>(
     })
 }
 
-/// Returns whether numbers are read under the format.
-fn is_read_under(reading: Reading, format: &CustomFormat) -> bool
-    ensures { IsTrue result ↔ IsReadUnder reading format.now }
+/// Returns the formats that two words or files name, as [`formats_named`] does, if numbers are told by them where the rules say they are.
+///
+/// ```rust
+/// let list = [FieldRange { first: 2, last: Some(2) }];
+/// let (delimiter, quotes, output) = (b',', false, None);
+/// let span = Span::Fields(Fields { list: &list, delimiter, quotes, output });
+/// formats_for(alloc, Reading::Strict, &span, Source::Word("plain"), Source::Word("de")).err()    // Some(Ambiguous("de", PrintsDelimiter))
+/// ```
+///
+/// # Errors
+///
+/// Returns the error of `formats_named`; or else that the minus sign of the first or of the second begins with whitespace, which is not part of a
+/// number, or that a number may have the delimiter, where fields are neither in quotes nor written anew.
+pub fn formats_for<'a>(
+    alloc: Global,
+    reading: Reading,
+    span: &Span<'_>,
+    from: Source<'a>,
+    to: Source<'a>,
+) -> Result<Formats, Misuse<'a>>
+    ensures { NamesFormatsFor reading span.now (named_of from.entry) (named_of to.entry)
+        (result_map_both (λ formats. (formats.from, formats.to)) wrong_of result) }
+{
+    let formats = formats_named(alloc, reading, from, to)?;
+    match misfit(span, from, to, &formats) {
+        Some(misuse) => Err(misuse),
+        None => Ok(formats),
+    }
+}
+
+/// Returns why numbers are not told by two formats where the rules say, if they are not.
+fn misfit<'a>(
+    span: &Span<'_>,
+    from: Source<'a>,
+    to: Source<'a>,
+    formats: &Formats,
+) -> Option<Misuse<'a>>
+    ensures { option_map wrong_of result
+        ≡ misfit span.now (named_of from.entry) (named_of to.entry) (formats.now.from, formats.now.to) }
+{
+    if begins_blank(formats.from.minus_sign()) {
+        return Some(Misuse::Ambiguous(from.text(), Ambiguity::BlankMinusSign));
+    }
+    if begins_blank(formats.to.minus_sign()) {
+        return Some(Misuse::Ambiguous(to.text(), Ambiguity::BlankMinusSign));
+    }
+    if prints_delimiter(&formats.to, bare_delimiter(span)) {
+        return Some(Misuse::Ambiguous(to.text(), Ambiguity::PrintsDelimiter));
+    }
+    None
+}
+
+/// Returns whether a number that is printed under the format may have the delimiter, if there is one.
+fn prints_delimiter(format: &CustomFormat, delimiter: Option<u8>) -> bool
+    ensures { result ≡ prints_delimiter format.now delimiter }
+{
+    match delimiter {
+        Some(delimiter) => prints_byte(format, delimiter),
+        None => false,
+    }
+}
+
+/// Returns whether a text begins with ASCII whitespace.
+fn begins_blank(text: &str) -> bool
+    ensures { result ≡ begins_blank text.now }
+{
+    match text.as_bytes() {
+        [first, ..] => first.is_ascii_whitespace(),
+        [] => false,
+    }
+}
+
+/// Returns the delimiter of fields around which no quotes are written.
+fn bare_delimiter(span: &Span<'_>) -> Option<u8>
+    ensures { result ≡ bare_delimiter span.now }
+{
+    match span {
+        Span::Fields(fields) if !fields.quotes && fields.output.is_none() => Some(fields.delimiter),
+        _ => None,
+    }
+}
+
+/// Returns whether a number that is printed under the format may have this byte.
+fn prints_byte(format: &CustomFormat, byte: u8) -> bool
+    ensures { result ≡ prints_byte format.now byte }
+{
+    byte.is_ascii_digit()
+        || has_byte(printed_separator(format), byte)
+        || has_byte(format.minus_sign(), byte)
+        || has_byte(format.decimal(), byte)
+}
+
+/// Returns whether a text has this byte.
+fn has_byte(text: &str, byte: u8) -> bool
+    ensures { result ≡ has_byte text.now byte }
+{
+    text.as_bytes().iter().any(|each| *each == byte)
+}
+
+/// Returns why numbers are not read so under the format, if they are not.
+fn unread(reading: Reading, format: &CustomFormat) -> Option<Ambiguity>
+    ensures { MatchOption result (IsReadUnder reading format.now) (IsUnread reading format.now) }
 {
     match reading {
-        Reading::Strict => marks_decimals(format),
-        Reading::Lenient => true,
+        Reading::Lenient => None,
+        Reading::Strict => unmarked(format),
+        Reading::Typed => match unmarked(format) {
+            Some(ambiguity) => Some(ambiguity),
+            None => match TypedParser::new(format) {
+                Ok(_) => None,
+                Err(_) => Some(Ambiguity::TypedAlike),
+            },
+        },
+    }
+}
+
+/// Returns why not each decimal parses back from its text under the format, if not.
+fn unmarked(format: &CustomFormat) -> Option<Ambiguity>
+    ensures { MatchOption result (MarksDecimals format.now) (IsUnmarked format.now) }
+{
+    if marks_decimals(format) {
+        None
+    } else {
+        Some(Ambiguity::of(format))
     }
 }
 

@@ -8,19 +8,16 @@ returns-in_err-source c =
     let p = err_from_is_err_and c.from_residual.result c.from_residual.ensures.1 in
     rw (p.1, p.2) (IsWrong.first (wrong_of c.in_err-source.field-0.0) c.in_err-source.ensures)
 
-pub returns-then-not-is_read_under : goal.returns-then-not-is_read_under
-returns-then-not-is_read_under c =
-    rw (c.text.ensures, c.of.ensures) (IsWrong.unread c.in_ok-source.source c.in_ok-source.ensures
-    (λ read. both_ways _ c.if-not-is_read_under.true (c.is_read_under.ensures.1 read)))
+pub returns-in-Some : goal.returns-in-Some
+returns-in-Some c = rw c.text.ensures (IsWrong.unread c.in_ok-source.source c.in-Some.ambiguity c.in_ok-source.ensures c.in-Some.ensures)
 
 pub returns-in_err-target : goal.returns-in_err-target
 returns-in_err-target c =
     let p = err_from_is_err_and c.from_residual-in_err-target.result c.from_residual-in_err-target.ensures.1 in
-    rw (p.1, p.2) (IsWrong.second c.in_ok-source.source (wrong_of c.in_err-target.field-0.0) c.in_ok-source.ensures
-    (c.is_read_under.ensures.0 c.if-not-is_read_under.false) c.in_err-target.ensures)
+    rw (p.1, p.2) (IsWrong.second c.in_ok-source.source (wrong_of c.in_err-target.field-0.0) c.in_ok-source.ensures c.in_default.ensures c.in_err-target.ensures)
 
 pub returns-then-not-marks_decimals : goal.returns-then-not-marks_decimals
 returns-then-not-marks_decimals c =
-    rw (c.text-then-not-marks_decimals.ensures, c.of-then-not-marks_decimals.ensures)
-    (IsWrong.unwritten c.in_ok-source.source c.in_ok-target.target c.in_ok-source.ensures (c.is_read_under.ensures.0 c.if-not-is_read_under.false) c.in_ok-target.ensures
+    rw (c.text-then-not-marks_decimals.ensures, c.of.ensures)
+    (IsWrong.unwritten c.in_ok-source.source c.in_ok-target.target c.in_ok-source.ensures c.in_default.ensures c.in_ok-target.ensures
     (λ marked. both_ways _ c.if-not-marks_decimals.true (c.marks_decimals.ensures.1 marked)))

@@ -1,6 +1,6 @@
-use Rattle.regroup_lines.proofs.Common.{DecimalResult, MarksDecimals, MatchOption, Ok, SFits, ap, fixed_point, refl, rules, subst, sym, w128, ◌∙◌, ◌≡◌}
+use Rattle.regroup_lines.proofs.Common.{DecimalResult, HasUtf8Texts, MarksDecimals, MatchOption, Ok, SFits, ap, fixed_point, refl, rules, subst, sym, w128, ◌∙◌, ◌≡◌}
 use Rattle.std.proofs.lemmas.Int.{to_z-of_z}
-use Rattle.regroup_lines.proofs.TextLemmas.{lenient-accepted, lenient-refused, strict-read, strict-refused, whole_text}
+use Rattle.regroup_lines.proofs.TextLemmas.{lenient-accepted, lenient-refused, strict-read, strict-refused, typed-read, whole_text}
 use Rattle.regroup_lines.proofs.number.Parser.read.Goals as goal
 
 pub returns-in-Strict-Some : goal.returns-in-Strict-Some
@@ -15,6 +15,11 @@ returns-in-Strict-None g c to =
     let from = g.F.Format.answers c.self.inside.format.now in
     let ambiguous = subst (λ decimals. MatchOption decimals (¬ (MarksDecimals from)) (λ p. p ≡ from)) c.in-Strict-None.is-1 c.self.invariant.1 in
     rw (← c.self.view_is, c.in-Strict-None.is-0) (strict-refused from to c.args.number c.args.text.now c.self.invariant.0 (λ d parsed. ambiguous parsed.unambiguous))
+
+pub returns-in-Typed-default : goal.returns-in-Typed-default
+returns-in-Typed-default g c to =
+    let utf8 = subst HasUtf8Texts c.self.view_is c.self.invariant.0 in
+    rw (c.in-Typed-default.is-0, c.or-in-Typed-default.ensures) (typed-read c.args.self.now to c.args.number c.args.text.now utf8 c.read_typed.result c.read_typed.ensures _ refl)
 
 pub returns-in-Ok : goal.returns-in-Ok
 returns-in-Ok g c to =

@@ -15,27 +15,7 @@ grp, inf, min, nan, plus and sep. GROUPING, or grp, is Standard, Indian, Posix, 
 LIST has parts N, N-M, N- or -M, with commas between them, as 1,3-5: fields are counted from 1. A line needs each
 field that LIST names, and of N- the field N.
 
-With --csv a field may be in quotes, and have delimiters, newlines and doubled quotes there. It is written in quotes
-if it was in quotes or has to be. A quote that no other one closes is at fault. To be summed, numbers have to be
-without quotes: --csv --quote necessary --output-delimiter '\\t' --field 3 en plain writes them so for awk -F'\\t'.
-
-A number is read exactly as it is printed under FROM, grouped or not, and is written with as many decimals
-as it has. Spaces, tabs and carriage returns around it are passed on, and so is a byte order mark at the start
-of a file. A last line without a newline is written with one. Each decimal under TO, and without --lenient under
-FROM, has to parse back from its text: they need a minus sign, and a decimal mark that is not a separator that they
-print.
-
-A line is at fault if its number is none, or if it has too few fields or more than 1,048,576 bytes. With MODE
-abort no line after it is written. With fail, warn and ignore it is passed on as it is, or written to the FILE of
---rejects. With fail and warn a message names it, and with fail the status is 1.
-
-Lines are written before more of a file is read, so that they come out as they go in.
-
-Lines are numbered in each file, and each has its header. A file that cannot be opened, a directory or the output
-itself is left out. The status is 0 if all lines were written; 1 if a file was left out, or with abort or fail a line
-is at fault; 2 for other arguments, also such that are not UTF-8, whose FILE has no format or cannot be written, and
-for a format under which decimals do not parse back; 3 if a read or a write failed; and 141 if standard output was
-closed.";
+The manual page regroup-lines(1) says which lines are at fault, what is passed on, and what each status means.";
 
 /// Returns what the arguments say.
 ///
@@ -189,5 +169,11 @@ fn with_fault_options<'a>(alloc: Global, command: Command<'a>) -> Result<Command
             alloc,
             "lenient",
             "Read whole numbers, and ignore each character that is not numeric, but for a minus sign at the start",
-        )?)
+        )?)?
+        .arg(flag(
+            alloc,
+            "typed",
+            "Read numbers as people type them: a keyboard's space, apostrophe and hyphen stand for those of FROM",
+        )?
+        .conflicts_with("lenient")?)
 }

@@ -22,7 +22,7 @@ use crate::words::Word;
 use clap::ArgMatches;
 use clap::error::ErrorKind;
 use regroup_stream::{
-    FAILED, FieldRange, REGROUPED, Rules, formats_named, refuse_arguments, run_all,
+    FAILED, FieldRange, REGROUPED, Rules, formats_for, refuse_arguments, run_all,
 };
 use std::io::BufWriter;
 use std::process::ExitCode;
@@ -97,11 +97,12 @@ fn refuse(rt: &HostRuntime, cause: &str) -> u8 {
 fn regroup_files(rt: &HostRuntime, matches: &ArgMatches<'_>, rules: &Rules) -> io::Result<u8> {
     let words = words_of(matches);
     let (from, to) = (Word::read(rt, words[0]), Word::read(rt, words[1]));
-    let formats = match formats_named(rt.alloc(), rules.reading, from.source(), to.source()) {
+    let (reading, span) = (rules.reading, &rules.span);
+    let formats = match formats_for(rt.alloc(), reading, span, from.source(), to.source()) {
         Ok(formats) => formats,
         Err(misuse) => return Ok(misuse.send(&mut rt.stderr())),
     };
-    let (names, inputs, mut err) = (files_of(matches), Files::new(rt), rt.stderr());
+    let (names, mut inputs, mut err) = (files_of(matches), Files::new(rt), rt.stderr());
     let capacity = capacity_of(matches, CAPACITY);
     let mut buffer = vec![in rt.alloc(); 0; rules.max_line_len as usize + 1]?;
     let rejects = match inputs.create(matches.get_str("rejects"), &words, names) {

@@ -46,19 +46,27 @@ impl Write for Rejects {
     }
 }
 
-/// The files, and standard input, which is named `-`. None of them is the output.
+/// The files, and standard input, which is named `-`. None that is written is read.
 #[derive(Drop)]
 pub(crate) struct Files<'a> {
     rt: &'a HostRuntime,
-    output: Option<FileId>,
+    /// Standard output, standard error and the file of rejected lines.
+    written: [Option<FileId>; 3],
+    /// What is open in place of standard streams that are closed.
+    stand_ins: [Option<File>; 3],
 }
 
 impl<'a> Files<'a> {
-    /// Returns those that are not standard output.
+    /// Returns those that are neither standard output nor standard error.
     pub(crate) fn new(rt: &'a HostRuntime) -> Files<'a> {
         Files {
             rt,
-            output: FileId::named(rt, "/dev/stdout"),
+            written: [
+                FileId::named(rt, "/dev/stdout"),
+                FileId::named(rt, "/dev/stderr"),
+                None,
+            ],
+            stand_ins: [None, None, None],
         }
     }
 
@@ -68,7 +76,7 @@ impl<'a> Files<'a> {
     ///
     /// Returns why it is not created: it cannot be, or is read, or is standard output or standard error.
     pub(crate) fn create<'n>(
-        &self,
+        &mut self,
         name: Option<&'n str>,
         words: &[&str],
         inputs: &[&str],
@@ -79,8 +87,12 @@ impl<'a> Files<'a> {
         if self.uses(name, words, inputs) {
             return Err(Misuse::BadFile(name, FileFault::InUse));
         }
+        self.stand_ins = stand_ins(self.rt);
         match File::create(self.rt, name) {
-            Ok(file) => Ok(Rejects::File(file)),
+            Ok(file) => {
+                self.written[2] = FileId::named(self.rt, name);
+                Ok(Rejects::File(file))
+            }
             Err(error) => Err(Misuse::BadFile(name, FileFault::Uncreated(error.kind()))),
         }
     }
@@ -98,10 +110,14 @@ impl<'a> Files<'a> {
             let path = if *input == "-" { "/dev/stdin" } else { *input };
             self.is(path, id)
         };
-        self.output == Some(id)
-            || self.is("/dev/stderr", id)
+        self.written.contains(&Some(id))
             || words.iter().any(is_format)
             || inputs.iter().any(is_input)
+    }
+
+    /// Returns whether a regular file is written.
+    fn is_written(&self, id: Option<FileId>) -> bool {
+        id.is_some() && self.written.contains(&id)
     }
 
     /// Returns whether the file at a path is this one.
@@ -115,11 +131,10 @@ impl Open for Files<'_> {
 
     fn open(&self, name: &str) -> Result<Input, Unread> {
         if name == "-" {
-            return match self.output {
-                Some(output) if FileId::named(self.rt, "/dev/stdin") == Some(output) => {
-                    Err(Unread::IsOutput)
-                }
-                _ => Ok(Input::Stdin(self.rt.stdin())),
+            return if self.is_written(FileId::named(self.rt, "/dev/stdin")) {
+                Err(Unread::IsOutput)
+            } else {
+                Ok(Input::Stdin(self.rt.stdin()))
             };
         }
         let file = File::open(self.rt, name)?;
@@ -127,11 +142,33 @@ impl Open for Files<'_> {
         if metadata.is_dir() {
             return Err(Unread::CannotOpen(ErrorKind::IsADirectory));
         }
-        match self.output {
-            Some(output) if FileId::of(&metadata) == Some(output) => Err(Unread::IsOutput),
-            _ => Ok(Input::File(file)),
+        if self.is_written(FileId::of(&metadata)) {
+            return Err(Unread::IsOutput);
         }
+        Ok(Input::File(file))
     }
+}
+
+/// Opens `/dev/null` in place of each standard stream that is closed, so that the next file that is opened does not become that stream:
+/// for writing where the program reads and for reading where it writes, so that it still fails there. Returns what has to stay open.
+fn stand_ins(rt: &HostRuntime) -> [Option<File>; 3] {
+    let is_closed = |stream: &str| fs::metadata(rt, stream).is_err();
+    let input = if is_closed("/dev/stdin") {
+        File::create(rt, "/dev/null").ok()
+    } else {
+        None
+    };
+    let output = if is_closed("/dev/stdout") {
+        File::open(rt, "/dev/null").ok()
+    } else {
+        None
+    };
+    let messages = if is_closed("/dev/stderr") {
+        File::open(rt, "/dev/null").ok()
+    } else {
+        None
+    };
+    [input, output, messages]
 }
 
 /// A regular file, by its device and its number there.

@@ -24,10 +24,10 @@ pub(crate) fn options_of<'a, 'w>(
     matches: &ArgMatches<'w>,
     list: &'a [FieldRange],
 ) -> Options<'a, 'w> {
-    let reading = if matches.get_flag("lenient") {
-        Reading::Lenient
-    } else {
-        Reading::Strict
+    let reading = match (matches.get_flag("lenient"), matches.get_flag("typed")) {
+        (true, _) => Reading::Lenient,
+        (_, true) => Reading::Typed,
+        _ => Reading::Strict,
     };
     let header_lines = if matches.get_flag("header") {
         1
