@@ -1,27 +1,18 @@
-#!/usr/bin/env python3
-"""Draws speed.svg: what printing and strict parsing take, of the times that packages/bench/run --write writes.
-
-    python3 bench/plot.py
-    python3 bench/plot.py --check    # writes nothing
-
-With --check the exit status is 1 where the chart is not of these times.
-"""
+"""Draws speed.svg: what printing and strict parsing take, by the table of README.md. tables.py calls it."""
 import math
-import re
-import sys
 from html import escape
 from pathlib import Path
 
-HERE = Path(__file__).resolve().parent
-TIMES = HERE.parent / "packages" / "bench" / "README.md"
-CHART = HERE / "speed.svg"
+CHART = Path(__file__).resolve().parent / "speed.svg"
 
 # The rows: a language, the name that the chart shows, what prints, what parses, and whether both are this library's.
 ROWS = [
     ("C", "num_format.h", "`num_format_print_i64`", "`num_format_parse_strict_i64`", True),
-    ("C", "snprintf, sscanf", "`snprintf` with `%'ld`", "`sscanf` with `%'ld`", False),
-    ("Rust", "write_formatted, parse_strict", "`buffer.write_formatted(", "`text.parse_strict::", True),
-    ("Rust", "num-format 0.4.4, not strict", "the same of num-format", "the same of num-format", False),
+    ("C", "snprintf, sscanf", "`snprintf` of `%'ld`", "`sscanf` of `%'ld`", False),
+    ("C++", "format.print, format.parse", "`format.print(n)`", "`format.parse<", True),
+    ("C++", "num_put, num_get", "`out << n`", "`in >> n`", False),
+    ("Rust", "write_formatted, parse_strict", "`buffer.write_formatted(", "`text.parse_strict(", True),
+    ("Rust", "num-format 0.4.4, not strict", "num-format 0.4.4", "num-format 0.4.4", False),
     ("SQLite", "num_format, num_parse", "`num_format(n,", "`num_parse(t,", True),
     ("SQLite", "printf, CAST(replace ..)", "`printf('%,d'", "`CAST(replace(t,", False),
     ("PostgreSQL", "num_format, num_parse", "`num_format(n,", "`num_parse(t,", True),
@@ -44,18 +35,12 @@ HEAD = f"""<svg xmlns="http://www.w3.org/2000/svg" width="{WIDTH}" height="{BOTT
 <rect width="100%" height="100%" fill="#fff"/>"""
 
 
-def read(text):
-    """The rows of the table by their language, as lists of cells, and what the line after it says of the run."""
-    table, rest = re.search(r"\n(\| For \|.*?)\n\n(.*?)\n", text, re.S).groups()
-    rows = [[cell.strip() for cell in line.strip("|").split(" | ")] for line in table.splitlines()[2:]]
-    date, machine = re.search(r"; (\d{4}-\d\d-\d\d), (.*?)(?:, load|\.?$)", rest).groups()
-    return rows, date, machine
-
-
-def time(rows, language, call, column):
-    """The nanoseconds of the first call that begins so."""
-    found = (row for row in rows if row[0] == language and row[column].startswith(call))
-    return float(next(found)[column + 1].replace(",", ""))
+def time(rows, language, call, does):
+    """The nanoseconds of the first call that begins so, where it prints or parses, or None."""
+    of_language = [row for row in rows if row.language == language and does in row.does]
+    calls = [pair for row in of_language for pair in [(row.ours, row.ns), (row.beside, row.beside_ns)]]
+    found = next((ns for name, ns in calls if name.startswith(call)), "-")
+    return None if found == "-" else float(found.replace(",", ""))
 
 
 def across(panel, nanoseconds):
@@ -72,11 +57,11 @@ def mark(x, y, is_ours):
     return f'<rect x="{x - 4.5:.1f}" y="{y - 4.5}" width="9" height="9" fill="#d55e00"/>'
 
 
-def frame(date, machine):
+def frame(below):
     """The titles, the legend and the scale of both panels."""
     yield text(14, 24, "Nanoseconds to print and to parse an integer of 64 bits", more=f' font-size="16"{BOLD}')
     yield text(14, 44, "of 1 to 19 digits under the locale en, on a logarithmic scale: left is faster")
-    yield text(14, BOTTOM + 42, f"Measured on {date} on {machine}", more=' fill="#555"')
+    yield text(14, BOTTOM + 42, below, more=' fill="#555"')
     yield mark(20, 66, True) + text(32, 70, "this library, which parses strictly")
     yield mark(276, 66, False) + text(288, 70, "what people use without it")
     for panel, title in enumerate(["printed", "parsed"]):
@@ -86,10 +71,9 @@ def frame(date, machine):
             yield f'<path d="M{x:.1f} {TOP - 4}V{BOTTOM}" stroke="#ddd"/>' + text(x, BOTTOM + 18, f"{line:,}", "middle")
 
 
-def chart(source):
-    """The chart of the times that the document has."""
-    rows, date, machine = read(source)
-    parts, before = [HEAD, *frame(date, machine)], None
+def chart(rows, below):
+    """The chart of these rows, with what is said of the run."""
+    parts, before = [HEAD, *frame(below.split(", load")[0])], None
     for place, (language, name, *calls, is_ours) in enumerate(ROWS):
         y = TOP + ROW * place + ROW / 2
         if language != before:
@@ -97,20 +81,8 @@ def chart(source):
             parts.append(text(14, y + 4, language, more=BOLD))
             before = language
         parts.append(text(NAMES, y + 4, name, "end"))
-        for panel, call in enumerate(calls):
-            found = time(rows, language, call, 1 + 2 * panel)
-            x = across(panel, found)
-            parts.append(mark(x, y, is_ours) + text(x + 9, y + 4, f"{found:,.0f}"))
+        for panel, (call, does) in enumerate(zip(calls, ["print", "parse"])):
+            if found := time(rows, language, call, does):
+                x = across(panel, found)
+                parts.append(mark(x, y, is_ours) + text(x + 9, y + 4, f"{found:,.0f}"))
     return "\n".join([*parts, "</svg>", ""])
-
-
-def main():
-    drawn = chart(TIMES.read_text(encoding="utf-8"))
-    if sys.argv[1:] == ["--check"]:
-        is_same = CHART.read_text(encoding="utf-8") == drawn
-        sys.exit(None if is_same else "bench/speed.svg is not of the times: run python3 bench/plot.py")
-    CHART.write_text(drawn, encoding="utf-8")
-
-
-if __name__ == "__main__":
-    main()
