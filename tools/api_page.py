@@ -17,8 +17,7 @@ from itertools import product
 from pathlib import Path
 from textwrap import dedent
 
-from tally import ROOT
-
+ROOT = Path(__file__).resolve().parent.parent
 # What stands before the path of a file of this repository in a link, till the page has a folder.
 TOP = "../.."
 STYLE = ROOT / "tools" / "api_page.css"

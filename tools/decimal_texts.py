@@ -1,22 +1,14 @@
-#!/usr/bin/env python3
-"""Writes the lines of test_decimal, rows and texts, and what is to be printed for them, by Python's module decimal.
+"""The texts of decimals that are to be parsed, and what is to be returned of them, by Python's module decimal.
 
-    python3 tools/decimal_texts.py
-
-The lines go into crates/test_decimal/stdin: the rows of tools/decimals.py, and then the texts of decimal_examples.tsv
-and more, each with the name of its format and a scale. The expected output goes into crates/test_decimal/stdout. Python
-prints the number that the digits of a text write, as tools/decimals.py does, and compares: so it is found whether the
-text is spelled as the number is printed. The place of an unexpected byte is where a regular expression ends. The texts
-are the same in each run.
+They are those of decimal_examples.tsv and more, each with the name of its format and a scale. Python prints the number
+that the digits of a text write, as decimals.py does, and compares: so it is found whether the text is spelled as the
+number is printed. The place of an unexpected byte is where a regular expression ends. The texts are the same in each run.
 """
 import random
 import re
-from pathlib import Path
 
 import decimals
 from decimals import FORMATS, HIGH, LOW, rescaled, some_units, text
-
-CRATE = Path(__file__).resolve().parent.parent / "crates" / "test_decimal"
 
 # Formats by which a text can be misread: with no minus sign or no mark, with a numeral, or with a mark that separates.
 AMBIGUOUS = [
@@ -109,17 +101,8 @@ def some_row(chance):
 
 
 def lines():
-    """Each line of test_decimal with a text, and what is printed for it."""
+    """Each text with its format and its scale, and what is returned of it."""
     chance = random.Random(11)
     rows = list(decimals.examples("parse"))
     rows += [some_row(chance) for _ in range(5000 - len(rows))]
     return [("\t".join(["parse", name, shown, str(to)]), expected((name, shown, to))) for name, shown, to in rows]
-
-
-def main():
-    for file, each in zip(["stdin", "stdout"], zip(*decimals.lines(), *lines())):
-        (CRATE / file).write_text("\n".join(each) + "\n")
-
-
-if __name__ == "__main__":
-    main()

@@ -1,14 +1,17 @@
-"""The rows of decimals that test_decimal prints, and what Python's module decimal makes of them.
+"""The rows of decimals that the tables have, and what Python's module decimal makes of them.
 
 Python computes each result: the text by format(d, ",f"), with the marks of the format in place of its own, the
 roundings by quantize, the order by comparison, and the sums by + and -. The rows are the same in each run.
 """
 import decimal
 import random
+import sys
 from decimal import Decimal
 from pathlib import Path
 
-from case_files import unescaped
+sys.path.append(str(Path(__file__).resolve().parent.parent / "tests"))
+
+from case_files import unescaped  # noqa: E402
 
 # More digits than any result has, so that each is exact.
 decimal.getcontext().prec = 200
@@ -130,7 +133,7 @@ def some_row(chance):
 
 
 def lines():
-    """Each line of test_decimal with a row, and what is printed for it."""
+    """Each row, and what Python makes of it."""
     chance = random.Random(7)
     rows = list(examples("print"))
     rows += [some_row(chance) for _ in range(4500 - len(rows))]

@@ -4,7 +4,7 @@
     python3 tools/grouped_texts.py
 
 It needs `printf` and `numfmt` of GNU coreutils, and `localedef` with the sources of the locales en_US
-and en_IN, which Debian has in its package `locales`. tools/examples.py makes cases of the texts.
+and en_IN, which Debian has in its package `locales`. tools/tables.py makes cases of the texts.
 """
 import os
 import platform

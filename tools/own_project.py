@@ -21,8 +21,10 @@ import sys
 import tempfile
 from pathlib import Path
 
-from proofs import read_crates
-from tally import ROOT, Tally, heading, run
+sys.path.append(str(Path(__file__).resolve().parent.parent / "tests"))
+
+from proofs import read_crates  # noqa: E402
+from tally import ROOT, Tally, heading, run  # noqa: E402
 
 # The crate that serves as the example, and its name in the new repository.
 SOURCE, EXAMPLE = "uses_settings", "example"

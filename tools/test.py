@@ -6,51 +6,63 @@
     python3 tools/test.py --prove --edits    # proves the tests too, and tries the must-fail edits: over an hour
 
 The first needs the kit alone, and runs by `rt try`, side by side: the tests of each crate that has some, the stored run
-of each program, which for some is over recorded results, and the cases of programs (cases.py), the examples of the doc
-comments (doc_examples.py) and the code of README.md (readme_code.py). Nothing is proved by it.
+and the cases of programs (commands.py), the tables of cases (tests/replay.py), the examples of the doc comments
+(doc_examples.py) and the code of README.md (readme_code.py). Nothing is proved by it. Programs and the library for C that
+were built before replay the tables too.
 
 With --prove, side by side:
 
-- `rt ci` has every proof, the tests, and each program as two compilers build it. It works on a copy of the repository.
-  With --edits that has all; else it has no must-fail edits, not the library that bench/ measures nor that for C, and not
-  the crates of tests that trials.py names: those run unproved meanwhile, as do the examples of the doc comments.
-- Once a program is proved, the cases of cases.py run on it as each compiler built it, and what no case can say:
-  program_checks.py, filter_checks.py, stream_checks.py, memory_checks.py, which refuses memory, and the READMEs' commands.
-- `rt lib` proves and builds the library for C in this repository. Over it run the tests of each package, the programs of
+- `rt ci` has every proof, the tests, and each program as two compilers build it. It works on a copy of the repository,
+  from which the programs go to crates/NAME/out here, so that tools/install and tools/release prove nothing again.
+  With --edits that has all; else it has no must-fail edits, not the library for C, and not the crates of tests that
+  trials.py names: those run unproved meanwhile, as do the examples of the doc comments.
+- Once a program is proved, the cases of commands.py and the tables of tests/cases run on it as each compiler built it, and
+  what no case can say: program_checks.py, filter_checks.py, stream_checks.py, memory_checks.py, which refuses memory, and
+  the READMEs' commands.
+- `rt lib` proves and builds the library for C in this repository. Over it run the tables, the tests of each package, which
+  replay them in its language, the programs of
   examples/ and packages/c/tests/header.c (library_checks.py), the counts of instructions (work_checks.py), with the
-  programs those of a release (packages/release/checks), and own_project.py, which proves a crate in a repository of its
-  own over what `rt lib` proved.
+  programs those of a release (packages/release/checks) and of what is measured (bench/test), and own_project.py, which
+  proves a crate in a repository of its own over what `rt lib` proved.
 
 The log has the time at which each crate was proved, and for each edit the error that refused it. The last lines name
 each check that was skipped and why, and say how many passed and failed. The exit status is 1 where one failed.
 """
 import argparse
+import sys
 import threading
+from pathlib import Path
 
-import cases
-import library_checks
-import memory_checks
-import trials
-from jobs import Jobs
-from library_checks import LIBRARY
-from proofs import copied, prove
-from tally import ROOT, Tally, heading
+TOOLS = Path(__file__).resolve().parent
+sys.path.append(str(TOOLS.parent / "tests"))
+
+import commands  # noqa: E402
+import library_checks  # noqa: E402
+import memory_checks  # noqa: E402
+import trials  # noqa: E402
+from jobs import Jobs  # noqa: E402
+from library_checks import LIBRARY  # noqa: E402
+from proofs import copied, keep, prove  # noqa: E402
+from tally import ROOT, Tally, heading  # noqa: E402
 
 # How the name of a program ends as each of the two compilers builds it.
 COMPILERS = ["", ".by-rattle"]
 
 # The scripts that run programs once they are proved, by their crates.
 BUILT = {
-    "regroup": ["cases.py", "program_checks.py"],
-    "regroup_filter": ["cases.py", "filter_checks.py", "stream_checks.py"],
-    "uses_ledger": ["cases.py", "program_checks.py"],
-    "test_readme": ["cases.py", "program_checks.py"],
-    "test_oracle": ["program_checks.py"],
+    "regroup": ["commands.py", "program_checks.py"],
+    "regroup_lines_cli": ["commands.py", "filter_checks.py", "stream_checks.py"],
+    "uses_ledger": ["commands.py", "program_checks.py"],
+    "test_readme": ["commands.py", "program_checks.py"],
     "test_properties": ["program_checks.py"],
 }
 
+# What replays the tables of cases, by the crates of programs.
+REPLAYED = {"test_oracle": "rattle", "regroup": "regroup", "regroup_lines_cli": "regroup-lines"}
+REPLAY = ROOT / "tests" / "replay.py"
+
 # How nice to `rt ci`, which has the longer way to go, is all else.
-SOON = 10
+SOON = 5
 
 # The crate after which few others are left to prove, one after the other.
 IDLE_AFTER = "regroup_lines"
@@ -62,23 +74,26 @@ def has_tests(crate):
 
 def start_documents(jobs):
     jobs.script("the code in README.md and docs/", "readme_code.py")
-    jobs.script("the page of public calls", "api_page.py", "--check", is_counted=False)
-    jobs.script("the chart of times", ROOT / "bench" / "plot.py", "--check", is_counted=False)
+    jobs.script("the page of public calls", TOOLS / "api_page.py", "--check", is_counted=False)
+    jobs.script("the table of times", ROOT / "bench" / "tables.py", "--check", is_counted=False)
 
 
 def start_unproved(jobs):
     """Starts what needs no proof: first what takes longest, the program with most cases, and tests."""
     crates = sorted(path for path in (ROOT / "crates").iterdir() if (path / "src").is_dir())
     programs = [path.name for path in crates if (path / "src" / "main.rt").is_file()]
-    first, *others = sorted(programs, key=lambda name: -len(cases.of_crate(name)[0]))
+    jobs.script("the tables of cases by rattle", REPLAY, "rattle")
+    first, *others = sorted(programs, key=lambda name: -len(commands.of_crate(name)[0]))
     for part in "1/2", "2/2":
-        jobs.script(f"cases of {first}, {part}", "cases.py", "--try", "--part", part, first)
+        jobs.script(f"cases of {first}, {part}", "commands.py", "--try", "--part", part, first)
     for crate in [path for path in crates if has_tests(path)]:
         jobs.script(f"tests of {crate.name}", "trials.py", crate.name)
     jobs.script("the examples of the doc comments", "doc_examples.py")
     # Fewer cases are longer ones.
     for name in reversed(others):
-        jobs.script(f"cases of {name}", "cases.py", "--try", name)
+        jobs.script(f"cases of {name}", "commands.py", "--try", name)
+    for name in "regroup", "regroup-lines", "c", "c++":
+        jobs.script(f"the tables of cases by {name}", REPLAY, "--built", name)
     start_documents(jobs)
 
 
@@ -86,30 +101,38 @@ def unproved(is_whole):
     """The commands that need no proof, as `waiting` gives those that do. They wait for a crate after which processors are idle."""
     for name in [] if is_whole else trials.TESTS:
         yield {IDLE_AFTER}, f"tests of {name}", "trials.py", name
+    if not is_whole:
+        yield {IDLE_AFTER}, "the tables of cases by rattle", REPLAY, "rattle"
     for name in [] if is_whole else trials.PROGRAMS:
-        yield {IDLE_AFTER}, f"cases of {name}", "cases.py", "--try", name
+        yield {IDLE_AFTER}, f"cases of {name}", "commands.py", "--try", name
     yield {IDLE_AFTER}, "the examples of the doc comments", "doc_examples.py"
 
 
 def waiting(top):
     """The commands that wait for crates of that copy of the repository, and for the library for C: these, a name, words."""
-    programs = {"regroup", "regroup_filter"}
+    programs = {"regroup", "regroup_lines_cli"}
     for ending in COMPILERS:
         built = {crate: top / "crates" / crate / "out" / f"{crate}{ending}" for crate in [*BUILT, *programs]}
         for crate in [name for name in BUILT if (top / "crates" / name).is_dir()]:
             for script in BUILT[crate]:
-                words = ["--program", built[crate], crate] if script == "cases.py" else [built[crate]]
+                words = ["--program", built[crate], crate] if script == "commands.py" else [built[crate]]
                 yield {crate}, f"{script} {built[crate].name}", script, *words
+        for crate in [name for name in REPLAYED if (top / "crates" / name).is_dir()]:
+            program = top / "crates" / crate / "out" / f"{crate}{ending}"
+            yield {crate}, f"the tables of cases by {program.name}", REPLAY, "--program", program, REPLAYED[crate]
         needed = {*programs, f"{memory_checks.CRATE}: tests"}
         yield needed, f"memory_checks.py regroup{ending}", "memory_checks.py", top, ending
     yield programs, "the commands of the READMEs", "readme_code.py", "--run", top
-    yield {"library"}, "a repository of one's own", "own_project.py", "--test"
+    for name in "c", "c++":
+        yield {"library"}, f"the tables of cases by {name}", REPLAY, "--program", LIBRARY, name
+    yield {"library"}, "a repository of one's own", TOOLS / "own_project.py", "--test"
     for test in sorted((ROOT / "packages").glob("*/test")):
         yield {"library"}, str(test.relative_to(ROOT)), test, LIBRARY
     for script in "library_checks.py", "work_checks.py":
         yield {"library"}, script, script, LIBRARY
     files = [LIBRARY, *(top / "crates" / crate / "out" / crate for crate in sorted(programs))]
     yield {"library", *programs}, "packages/release/checks", ROOT / "packages" / "release" / "checks", *files
+    yield {"library", *programs}, "bench/test", ROOT / "bench" / "test", files[0], files[-1]
 
 
 def test(tally, is_whole):
@@ -130,6 +153,7 @@ def test(tally, is_whole):
         built = {"is_counted": False, "then": lambda: start("library"), "cwd": library_checks.CRATE}
         jobs.start("rt lib", ["nice", "-n", str(SOON), "rt", "lib"], **built)
         for name in prove(tally, copy):
+            keep(copy, name)
             start(name)
         # What waits for a crate that is not proved says what is missing.
         start(*(name for needed, *_ in left for name in needed - {"library"}))

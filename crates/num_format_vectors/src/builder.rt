@@ -1,4 +1,4 @@
-//! What a builder keeps of a format, and builders compared. The cases of `test_oracle` have
+//! What a builder keeps of a format, and builders compared. `tests/cases/builders.tsv` has
 //! which format is built after calls, or which error.
 
 use crate::asserting::assert_equal;

@@ -1,13 +1,13 @@
 //! Tests of all but printing, which `test_printing` has, against expected values from outside.
 //!
-//! The project in `recorded/` writes `constants`. Any other file may be changed.
+//! The project in `tests/recorded/` writes `constants`. Any other file may be changed.
 //!
 //! The proofs are over definitions. These tests show that the definitions mean what the Rust crate
 //! `num-format` 0.4.4 does, and that calls succeed. No expected value comes from the code under
 //! test: the names of `constants` are those of that crate's table, and all else was worked out by hand.
 //!
-//! A number to print, a text to parse, a name to find, the calls of a builder or a JSON text needs no
-//! test of its own: it is a test case of `test_oracle`.
+//! What is a case of a table in `tests/cases`, as a number to print or a text to parse, needs no test of
+//! its own: `test_oracle` replays it.
 //!
 //! | Module | What is tested |
 //! |---|---|
@@ -18,8 +18,7 @@
 //! | `comparisons` | errors, texts, formats and builders compared, cloned, hashed and displayed |
 //! | `json` | buffers, formats and locales to JSON |
 //! | `locales` | the list of names, and a locale found by its name |
-//! | `certificates` | which formats print each number so that it parses again |
-//! | `alike` | pairs of formats that print all numbers alike, and pairs that do not |
+//! | `alike` | a caller that prints under either of two formats that print alike |
 //! | `constants` | the name of each constant of `Locale` |
 //! | `users` | the crates `uses_money` and `uses_settings` |
 //! | `widths` | whole numbers, decimals and amounts of money filled up to each width, and the longest texts |
@@ -33,8 +32,6 @@ mod alike;
 mod asserting;
 #[cfg(test)]
 mod builder;
-#[cfg(test)]
-mod certificates;
 pub mod comparisons;
 #[cfg(test)]
 mod constants;

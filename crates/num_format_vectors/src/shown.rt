@@ -72,19 +72,6 @@ fn bounded_texts(rt: HostRuntime) -> Result<(), Fail> {
     assert_displayed(&rt, alloc, &InfinityStr::new(&longest)?, &longest)
 }
 
-/// A locale shows the name of its variant.
-#[test]
-fn locales(rt: HostRuntime) -> Result<(), Fail> {
-    for name in Locale::available_names() {
-        let variant = match *name {
-            "as" => String::from_str(rt.alloc(), "as_")?,
-            _ => name.replace(rt.alloc(), "-", "_")?,
-        };
-        assert_debugged(&rt, rt.alloc(), &Locale::from_name(name)?, &variant)?;
-    }
-    Ok(())
-}
-
 /// Asserts what an error and its kind display.
 fn assert_message(
     rt: &impl Abort,
@@ -115,136 +102,99 @@ fn errors(rt: HostRuntime) -> Result<(), Fail> {
     assert_message(&rt, alloc, SeparatorStr::new(&kept).err(), message)
 }
 
-#[test]
-fn errors_of_bytes(rt: HostRuntime) -> Result<(), Fail> {
-    let (bytes, number) = (ParseBytesError::NotUtf8, ParseBytesError::NotANumber);
-    assert_displayed(&rt, rt.alloc(), &bytes, "The bytes are not UTF-8.")?;
-    let message = "The text is no number of the type.";
-    assert_displayed(&rt, rt.alloc(), &number, message)
-}
-
-#[test]
-fn errors_of_strict_parsing(rt: HostRuntime) -> Result<(), Fail> {
-    for (error, message) in [
-        (StrictError::AmbiguousFormat, "The format is ambiguous."),
-        (StrictError::NotUtf8, "The bytes are not UTF-8."),
-        (
-            StrictError::Unexpected { at: usize::MAX },
-            "The text has an unexpected byte.",
-        ),
-        (StrictError::NoDigit, "The text has no digit."),
-        (
-            StrictError::Misspelled,
-            "The text is not as the number is printed.",
-        ),
-        (
-            StrictError::OutOfRange,
-            "The number is no value of the type.",
-        ),
-    ] {
-        assert_displayed(&rt, rt.alloc(), &error, message)?;
+/// Asserts what each value of a list displays.
+fn assert_all<T: Display>(rt: &impl Abort, alloc: Global, shown: &[(T, &str)]) -> Result<(), Fail> {
+    for (value, text) in shown {
+        assert_displayed(rt, alloc, value, text)?;
     }
     Ok(())
 }
 
 #[test]
+#[rattlefmt::skip]
+fn errors_of_parsing(rt: HostRuntime) -> Result<(), Fail> {
+    assert_all(&rt, rt.alloc(), &[
+        (ParseBytesError::NotUtf8, "The bytes are not UTF-8."),
+        (ParseBytesError::NotANumber, "The text is no number of the type."),
+    ])?;
+    assert_all(&rt, rt.alloc(), &[
+        (StrictError::AmbiguousFormat, "The format is ambiguous."),
+        (StrictError::NotUtf8, "The bytes are not UTF-8."),
+        (StrictError::Unexpected { at: usize::MAX }, "The text has an unexpected byte."),
+        (StrictError::NoDigit, "The text has no digit."),
+        (StrictError::Misspelled, "The text is not as the number is printed."),
+        (StrictError::OutOfRange, "The number is no value of the type."),
+    ])
+}
+
+#[rattlefmt::skip]
+const OF_DECIMALS: [(DecimalError, &str); 3] = [
+    (DecimalError::ScaleTooLarge, "The scale is larger than 38."),
+    (DecimalError::DigitsLost, "Digits would be lost at that scale."),
+    (DecimalError::OutOfRange, "The units are out of range."),
+];
+
+#[rattlefmt::skip]
+const OF_PARSING_DECIMALS: [(ParseDecimalError, &str); 7] = [
+    (ParseDecimalError::AmbiguousFormat, "The format is ambiguous."),
+    (ParseDecimalError::NotUtf8, "The bytes are not UTF-8."),
+    (ParseDecimalError::Unexpected { at: usize::MAX }, "The text has an unexpected byte."),
+    (ParseDecimalError::NoDigit, "The text has no digit."),
+    (ParseDecimalError::TooManyDecimals, "The text has more than 38 decimals."),
+    (ParseDecimalError::Misspelled, "The text is not as the number is printed."),
+    (ParseDecimalError::OutOfRange, "The units are out of range."),
+];
+
+/// An error of parsing at a scale shows that of which it is made.
+#[test]
 fn errors_of_decimals(rt: HostRuntime) -> Result<(), Fail> {
-    for (error, message) in [
-        (DecimalError::ScaleTooLarge, "The scale is larger than 38."),
-        (
-            DecimalError::DigitsLost,
-            "Digits would be lost at that scale.",
-        ),
-        (DecimalError::OutOfRange, "The units are out of range."),
-    ] {
-        assert_displayed(&rt, rt.alloc(), &error, message)?;
-        let at_scale = ParseAtScaleError::Rescale(error);
-        assert_displayed(&rt, rt.alloc(), &at_scale, message)?;
+    assert_all(&rt, rt.alloc(), &OF_DECIMALS)?;
+    for (error, message) in &OF_DECIMALS {
+        assert_displayed(
+            &rt,
+            rt.alloc(),
+            &ParseAtScaleError::Rescale(*error),
+            message,
+        )?;
     }
     Ok(())
 }
 
 #[test]
 fn errors_of_parsing_decimals(rt: HostRuntime) -> Result<(), Fail> {
-    for (error, message) in [
-        (
-            ParseDecimalError::AmbiguousFormat,
-            "The format is ambiguous.",
-        ),
-        (ParseDecimalError::NotUtf8, "The bytes are not UTF-8."),
-        (
-            ParseDecimalError::Unexpected { at: usize::MAX },
-            "The text has an unexpected byte.",
-        ),
-        (ParseDecimalError::NoDigit, "The text has no digit."),
-        (
-            ParseDecimalError::TooManyDecimals,
-            "The text has more than 38 decimals.",
-        ),
-        (
-            ParseDecimalError::Misspelled,
-            "The text is not as the number is printed.",
-        ),
-        (ParseDecimalError::OutOfRange, "The units are out of range."),
-    ] {
-        assert_displayed(&rt, rt.alloc(), &error, message)?;
-        let at_scale = ParseAtScaleError::Parse(error);
-        assert_displayed(&rt, rt.alloc(), &at_scale, message)?;
+    assert_all(&rt, rt.alloc(), &OF_PARSING_DECIMALS)?;
+    for (error, message) in &OF_PARSING_DECIMALS {
+        assert_displayed(&rt, rt.alloc(), &ParseAtScaleError::Parse(*error), message)?;
     }
     Ok(())
 }
 
 /// A currency shows its code. The codes are those of ISO 4217.
 #[test]
+#[rattlefmt::skip]
 fn currencies(rt: HostRuntime) -> Result<(), Fail> {
-    for (currency, code) in [
-        (Currency::Usd, "USD"),
-        (Currency::Eur, "EUR"),
-        (Currency::Jpy, "JPY"),
-        (Currency::Gbp, "GBP"),
-        (Currency::Cny, "CNY"),
-        (Currency::Aud, "AUD"),
-        (Currency::Cad, "CAD"),
-        (Currency::Chf, "CHF"),
-        (Currency::Hkd, "HKD"),
-        (Currency::Sgd, "SGD"),
-        (Currency::Sek, "SEK"),
-        (Currency::Krw, "KRW"),
-        (Currency::Nok, "NOK"),
-        (Currency::Nzd, "NZD"),
-        (Currency::Inr, "INR"),
-        (Currency::Mxn, "MXN"),
-        (Currency::Twd, "TWD"),
-        (Currency::Zar, "ZAR"),
-        (Currency::Brl, "BRL"),
-        (Currency::Dkk, "DKK"),
-    ] {
-        assert_displayed(&rt, rt.alloc(), &currency, code)?;
-    }
-    Ok(())
+    assert_all(&rt, rt.alloc(), &[
+        (Currency::Usd, "USD"), (Currency::Eur, "EUR"), (Currency::Jpy, "JPY"), (Currency::Gbp, "GBP"),
+        (Currency::Cny, "CNY"), (Currency::Aud, "AUD"), (Currency::Cad, "CAD"), (Currency::Chf, "CHF"),
+        (Currency::Hkd, "HKD"), (Currency::Sgd, "SGD"), (Currency::Sek, "SEK"), (Currency::Krw, "KRW"),
+        (Currency::Nok, "NOK"), (Currency::Nzd, "NZD"), (Currency::Inr, "INR"), (Currency::Mxn, "MXN"),
+        (Currency::Twd, "TWD"), (Currency::Zar, "ZAR"), (Currency::Brl, "BRL"), (Currency::Dkk, "DKK"),
+    ])
 }
 
 #[test]
+#[rattlefmt::skip]
 fn faults_of_json(rt: HostRuntime) -> Result<(), Fail> {
-    for (fault, message) in [
+    assert_all(&rt, rt.alloc(), &[
         (JsonFault::NotArray, "the value is no array"),
         (JsonFault::TooLarge, "the array has more than 191 items"),
         (JsonFault::NotByte, "an item of the array is no byte"),
         (JsonFault::NotUtf8, "the bytes in the array are not UTF-8"),
         (JsonFault::NotObject, "the value is no object"),
         (JsonFault::Missing("dec"), "the object lacks the key dec"),
-        (
-            JsonFault::WrongKind("grp"),
-            "the value has the wrong kind at the key grp",
-        ),
-        (
-            JsonFault::TooLong("sep"),
-            "the text is too long at the key sep",
-        ),
+        (JsonFault::WrongKind("grp"), "the value has the wrong kind at the key grp"),
+        (JsonFault::TooLong("sep"), "the text is too long at the key sep"),
         (JsonFault::NotText, "the value is no text"),
         (JsonFault::NoSuchLocale, "the text is the name of no locale"),
-    ] {
-        assert_displayed(&rt, rt.alloc(), &fault, message)?;
-    }
-    Ok(())
+    ])
 }

@@ -1,7 +1,7 @@
 //! Whole numbers, decimals and amounts of money filled up to each width, and the longest texts.
 //!
 //! The contracts say what is written where a call succeeds. These tests show that it does at each width up to one that is
-//! larger than any text.
+//! larger than any text. `tests/cases/padded.tsv` has other texts, at some widths.
 
 use crate::asserting::assert_equal;
 use num_format::{CustomFormat, Error, Grouping, Locale, ToFormattedString};
@@ -46,36 +46,6 @@ fn assert_filled_to<T: Display>(
     let expected = format!(in alloc; "{text}{fill}")?;
     assert_equal(rt, left.as_str(), expected.as_str());
     Ok(())
-}
-
-/// Asserts the same of a number and of its negation.
-fn assert_both_signs(
-    rt: &impl Abort,
-    alloc: Global,
-    n: i128,
-    text: &str,
-    negated: &str,
-) -> Result<(), Fail> {
-    let locale = Locale::fr;
-    assert_filled(rt, alloc, &n.formatted(&locale), text)?;
-    assert_filled(
-        rt,
-        alloc,
-        &0i128.saturating_sub(n).formatted(&locale),
-        negated,
-    )
-}
-
-#[test]
-fn whole_numbers(rt: HostRuntime) -> Result<(), Fail> {
-    assert_both_signs(&rt, rt.alloc(), 5, "5", "-5")?;
-    assert_both_signs(
-        &rt,
-        rt.alloc(),
-        1_234_567,
-        "1\u{202f}234\u{202f}567",
-        "-1\u{202f}234\u{202f}567",
-    )
 }
 
 /// Returns the format under which texts are longest: a separator and a minus sign have eight bytes, and so has the mark.
@@ -126,16 +96,6 @@ fn assert_written(
     let expected = format!(in alloc; "{text}|{text}")?;
     assert_equal(rt, shown.as_str(), expected.as_str());
     Ok(())
-}
-
-#[test]
-fn decimals(rt: HostRuntime) -> Result<(), Fail> {
-    let alloc = rt.alloc();
-    let price = Decimal::new(-123_450, 2)?;
-    assert_filled(&rt, alloc, &price.formatted(&Locale::en), "-1,234.50")?;
-    let small = Decimal::new(5, 38)?;
-    let text = format!(in alloc; "0.{}5", "0".repeat(alloc, 37)?)?;
-    assert_filled(&rt, alloc, &small.formatted(&Locale::en), &text)
 }
 
 /// In the debug form a width counts for a decimal under a format, and not for its buffer.

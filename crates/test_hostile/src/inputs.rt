@@ -1,10 +1,11 @@
 //! Inputs of lines, and what is written of them. No reader fails here.
 
+use crate::rules::RULES;
 use crate::{ReadStep, Scripted, ScriptedReader};
 use num_format::error::cut;
 use num_format::{CustomFormat, Error, ErrorKind, Format, Grouping, Locale};
 use regroup_faults::fault_message;
-use regroup_lines::{Invalid, Reading, RegroupFault, Rules, Span, regroup_at_most, regroup_lines};
+use regroup_lines::{Reading, RegroupFault, Rules, Span, regroup_at_most, regroup_lines};
 use std::alloc::Global;
 use std::io;
 use std::process::Abort;
@@ -147,39 +148,54 @@ fn blanks_without_end(rt: HostRuntime) -> Result<(), Fail> {
     Ok(())
 }
 
-/// Returns what regrouping the lines returns, with these bytes after them.
-fn regroup_with(lines: &[u8], more: &[u8]) -> Result<u64, RegroupFault> {
-    let mut input = io::Read::chain(lines, more);
-    regroup_lines(&mut input, &mut io::sink(), &Locale::en, &Locale::en_IN)
-}
-
 /// Returns a million. It has no contract, so that the prover need not compute with this number.
 fn million() -> usize {
     1_000_000
 }
 
+/// The largest number of lines. What follows them is tried after two, since a million take long where each access is
+/// checked.
 #[test]
 fn a_million_lines(rt: HostRuntime) -> Result<(), Fail> {
     let lines = b"1\n".repeat(rt.alloc(), million())?;
-    assert_eq!(rt; regroup_with(&lines, b""), Ok(million() as u64));
-    assert_eq!(rt; regroup_with(&lines, b"1"), Err(RegroupFault::TooMany));
+    let mut reader = lines.as_slice();
+    let result = regroup_lines(&mut reader, &mut io::sink(), &Locale::en, &Locale::en_IN);
+    assert_eq!(rt; result, Ok(million() as u64));
     Ok(())
+}
+
+/// Regroups at most so many lines of at most 4 bytes, and returns how many.
+fn at_most<R: io::Read, W: io::Write>(
+    lines: u64,
+    flushes: bool,
+    reader: &mut R,
+    out: &mut W,
+) -> Result<u64, RegroupFault> {
+    let rules = Rules {
+        span: Span::Line,
+        reading: Reading::Lenient,
+        max_line_len: 4,
+        flushes,
+        ..RULES
+    };
+    regroup_at_most(
+        lines,
+        &rules,
+        "-",
+        &mut [0; 5],
+        reader,
+        out,
+        &mut io::sink(),
+        &mut io::sink(),
+        &Locale::en,
+        &Locale::en_IN,
+    )
+    .map(|summary| summary.lines)
 }
 
 /// A limit of lines counts the last one too, with or without a newline after it.
 #[test]
 fn two_lines_at_most(rt: HostRuntime) -> Result<(), Fail> {
-    let rules = Rules {
-        span: Span::Line,
-        reading: Reading::Lenient,
-        header_lines: 0,
-        passes_empty: false,
-        invalid: Invalid::Abort,
-        rejects: false,
-        line_end: b'\n',
-        max_line_len: 4,
-        flushes: false,
-    };
     for (input, returned) in [
         ("", Ok(0)),
         ("1\n2", Ok(2)),
@@ -188,20 +204,7 @@ fn two_lines_at_most(rt: HostRuntime) -> Result<(), Fail> {
         ("1\n2\n3", Err(RegroupFault::TooMany)),
     ] {
         let (mut reader, mut out) = (input.as_bytes(), io::sink());
-        let mut buffer = [0; 5];
-        let result = regroup_at_most(
-            2,
-            &rules,
-            "-",
-            &mut buffer,
-            &mut reader,
-            &mut out,
-            &mut io::sink(),
-            &mut io::sink(),
-            &Locale::en,
-            &Locale::en_IN,
-        );
-        assert_eq!(rt; result.map(|summary| summary.lines), returned);
+        assert_eq!(rt; at_most(2, false, &mut reader, &mut out), returned);
     }
     Ok(())
 }
@@ -209,17 +212,6 @@ fn two_lines_at_most(rt: HostRuntime) -> Result<(), Fail> {
 /// After the last line that is allowed, too, the writer is flushed before it is read whether a byte follows.
 #[test]
 fn one_line_at_most_is_flushed(rt: HostRuntime) -> Result<(), Fail> {
-    let rules = Rules {
-        span: Span::Line,
-        reading: Reading::Lenient,
-        header_lines: 0,
-        passes_empty: false,
-        invalid: Invalid::Abort,
-        rejects: false,
-        line_end: b'\n',
-        max_line_len: 4,
-        flushes: true,
-    };
     for (input, returned) in [("1\n", Ok(1)), ("1\n2", Err(RegroupFault::TooMany))] {
         let mut reader = ScriptedReader {
             rest: input.as_bytes(),
@@ -227,20 +219,7 @@ fn one_line_at_most_is_flushed(rt: HostRuntime) -> Result<(), Fail> {
             calls: 0,
         };
         let mut out = Scripted::new(rt.alloc(), 8, &[])?;
-        let mut buffer = [0; 5];
-        let result = regroup_at_most(
-            1,
-            &rules,
-            "-",
-            &mut buffer,
-            &mut reader,
-            &mut out,
-            &mut io::sink(),
-            &mut io::sink(),
-            &Locale::en,
-            &Locale::en_IN,
-        );
-        assert_eq!(rt; result.map(|summary| summary.lines), returned);
+        assert_eq!(rt; at_most(1, true, &mut reader, &mut out), returned);
         assert_eq!(rt; out.received.as_slice(), b"1\n".as_slice());
         assert_eq!(rt; [reader.calls, out.flushes], [2, 2]);
     }

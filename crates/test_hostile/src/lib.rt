@@ -38,6 +38,8 @@ mod program;
 mod records;
 #[cfg(test)]
 mod rejects;
+#[cfg(test)]
+mod rules;
 mod scripted;
 mod scripted_reader;
 #[cfg(test)]

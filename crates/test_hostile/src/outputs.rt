@@ -3,10 +3,11 @@
 
 use crate::ReadStep::Give;
 use crate::Step::{Take, Zero};
+use crate::rules::RULES;
 use crate::{ReadStep, Scripted, ScriptedReader, Step};
 use num_format::{CustomFormat, Locale};
 use regroup_lines::{RegroupFault, regroup_lines};
-use regroup_stream::{FAILED, Formats, Invalid, REGROUPED, Reading, Rules, Span, run};
+use regroup_stream::{FAILED, Formats, REGROUPED, Reading, Rules, run};
 use std::alloc::Global;
 use std::io;
 use std::io::BufWriter;
@@ -18,15 +19,8 @@ const INPUT: &[u8] = b"1,000000\n-5\n";
 
 /// The rules under which the first line is a number.
 const LENIENT: Rules = Rules {
-    span: Span::Trimmed,
     reading: Reading::Lenient,
-    header_lines: 0,
-    passes_empty: false,
-    invalid: Invalid::Abort,
-    rejects: false,
-    line_end: b'\n',
-    max_line_len: 99,
-    flushes: false,
+    ..RULES
 };
 
 /// The space of a writer in bytes.

@@ -4,12 +4,11 @@
 //! reads both texts alike. It ends a record at a carriage return without a newline after it, as RFC 4180 does not, and no
 //! text here has one outside quotes. A quote that is not the first byte of a field is a byte like others.
 
+use crate::rules::RULES;
 use csv::{ByteRecord, ReaderBuilder};
 use num_format::Locale;
 use num_format::parsing::FromFormattedStr;
-use regroup_lines::{
-    FieldRange, Fields, Invalid, Output, Quoting, Reading, Rules, Span, regroup_at_most,
-};
+use regroup_lines::{FieldRange, Fields, Invalid, Output, Quoting, Rules, Span, regroup_at_most};
 use std::alloc::{AllocError, Global};
 use std::io;
 use std::process::Abort;
@@ -28,21 +27,17 @@ const CHOSEN: &[FieldRange] = &[
 ];
 
 /// The rules for these fields. Lines at fault, as empty ones, are passed on.
-const RULES: Rules = Rules {
+const CHOOSING: Rules = Rules {
     span: Span::Fields(Fields {
         list: CHOSEN,
         delimiter: b',',
         quotes: true,
         output: None,
     }),
-    reading: Reading::Strict,
-    header_lines: 0,
     passes_empty: true,
     invalid: Invalid::Ignore,
-    rejects: false,
-    line_end: b'\n',
     max_line_len: 999,
-    flushes: false,
+    ..RULES
 };
 
 /// Records, what is written of them where quotes are kept, and where they are only those that are needed.
@@ -195,7 +190,7 @@ fn rules_with(quoting: Quoting) -> Rules<'static> {
                 quoting,
             }),
         }),
-        ..RULES
+        ..CHOOSING
     }
 }
 
@@ -278,7 +273,7 @@ fn assert_number(rt: &impl Abort, given: &[u8], written: &[u8]) {
 #[test]
 fn fields_of_texts_by_hand(rt: HostRuntime) -> Result<(), Fail> {
     for text in TEXTS {
-        assert_fields(&rt, rt.alloc(), &RULES, b',', text.as_bytes())?;
+        assert_fields(&rt, rt.alloc(), &CHOOSING, b',', text.as_bytes())?;
     }
     Ok(())
 }
@@ -303,7 +298,7 @@ fn fields_of_texts_that_are_made(rt: HostRuntime) -> Result<(), Fail> {
         for _ in 0..RECORD_COUNT {
             push_record(&mut text, &mut numbers)?;
         }
-        assert_fields(&rt, rt.alloc(), &RULES, b',', &text)?;
+        assert_fields(&rt, rt.alloc(), &CHOOSING, b',', &text)?;
         let keeping = rules_with(Quoting::Keep);
         assert_fields(&rt, rt.alloc(), &keeping, b';', &text)?;
         let necessary = rules_with(Quoting::Necessary);

@@ -1,9 +1,10 @@
 //! Lines at fault that are rejected: to a writer of their own, where each of the three writers may fail.
 
 use crate::Step::{Fail as Fails, Take, Zero};
+use crate::rules::RULES;
 use crate::{Scripted, Step};
 use num_format::Locale;
-use regroup_lines::{Invalid, Reading, RegroupFault, Rules, Span, Summary, regroup_at_most};
+use regroup_lines::{Invalid, RegroupFault, Rules, Span, Summary, regroup_at_most};
 use std::alloc::Global;
 use std::process::Abort;
 use std::test::Fail;
@@ -18,16 +19,12 @@ regroup-lines: -:4: more than 8 bytes\n";
 /// The message of the second line.
 const FIRST_MESSAGE: &[u8] = b"regroup-lines: -:2: '12x': not a number at byte 3\n";
 
-const RULES: Rules = Rules {
+const REJECTED: Rules = Rules {
     span: Span::Line,
-    reading: Reading::Strict,
-    header_lines: 0,
-    passes_empty: false,
     invalid: Invalid::Fail,
     rejects: true,
-    line_end: b'\n',
     max_line_len: 8,
-    flushes: false,
+    ..RULES
 };
 
 /// What is returned, and what the output, the messages and the rejected lines are.
@@ -75,15 +72,15 @@ fn all_lines(has_faults: bool) -> Result<Summary, RegroupFault> {
 fn lines_are_rejected(rt: HostRuntime) -> Result<(), Fail> {
     let (out, rejected) = (b"1.000\n5\n7\n".as_slice(), b"12x\n123456789\n".as_slice());
     let ended: Ended<'_> = (all_lines(true), out, MESSAGES, rejected);
-    assert_ended(&rt, rt.alloc(), &RULES, [&[], &[], &[]], &ended)?;
+    assert_ended(&rt, rt.alloc(), &REJECTED, [&[], &[], &[]], &ended)?;
     let warned = Rules {
         invalid: Invalid::Warn,
-        ..RULES
+        ..REJECTED
     };
     assert_ended(&rt, rt.alloc(), &warned, [&[], &[], &[]], &ended)?;
     let unnamed = Rules {
         invalid: Invalid::Ignore,
-        ..RULES
+        ..REJECTED
     };
     let ended: Ended<'_> = (all_lines(false), out, b"", rejected);
     assert_ended(&rt, rt.alloc(), &unnamed, [&[], &[], &[]], &ended)
@@ -93,7 +90,7 @@ fn lines_are_rejected(rt: HostRuntime) -> Result<(), Fail> {
 fn no_line_is_rejected(rt: HostRuntime) -> Result<(), Fail> {
     let passed = Rules {
         rejects: false,
-        ..RULES
+        ..REJECTED
     };
     let out = b"1.000\n12x\n5\n123456789\n7\n".as_slice();
     let ended: Ended<'_> = (all_lines(true), out, MESSAGES, b"");
@@ -139,7 +136,7 @@ fn a_writer_fails(rt: HostRuntime) -> Result<(), Fail> {
         ),
     ];
     for (steps, ended) in &cases {
-        assert_ended(&rt, rt.alloc(), &RULES, *steps, ended)?;
+        assert_ended(&rt, rt.alloc(), &REJECTED, *steps, ended)?;
     }
     Ok(())
 }
@@ -150,7 +147,7 @@ fn a_line_at_fault_ends_the_run(rt: HostRuntime) -> Result<(), Fail> {
     let rules = Rules {
         invalid: Invalid::Abort,
         max_line_len: 2,
-        ..RULES
+        ..REJECTED
     };
     let mut buffer = [0; 3];
     let (mut reader, mut out) = (INPUT, Scripted::new(rt.alloc(), 64, &[])?);

@@ -2,28 +2,22 @@
 
 use crate::ReadStep::{Fail, Give};
 use crate::Step::{Interrupt, Take, Zero};
+use crate::rules::RULES;
 use crate::{Scripted, ScriptedReader, Step};
 use num_format::{CustomFormat, Grouping, Locale};
 use regroup_stream::{
-    CLOSED, FAILED, FAULTY, Formats, Invalid, MISUSED, Misuse, Open, REGROUPED, Reading, Rules,
-    Span, Unread, refuse, run, run_all,
+    CLOSED, FAILED, FAULTY, Formats, Invalid, MISUSED, Misuse, Open, REGROUPED, Rules, Unread,
+    refuse, run, run_all,
 };
 use std::alloc::Global;
-use std::io::{BufWriter, ErrorKind, Write};
+use std::io::{BufWriter, ErrorKind, Read, Write};
 use std::process::Abort;
 use std::{io, test};
 
 /// The rules of `regroup-lines` without an option.
 const STRICT: Rules = Rules {
-    span: Span::Trimmed,
-    reading: Reading::Strict,
-    header_lines: 0,
-    passes_empty: false,
-    invalid: Invalid::Abort,
-    rejects: false,
-    line_end: b'\n',
-    max_line_len: 99,
     flushes: true,
+    ..RULES
 };
 
 /// Returns the formats of `en` and this one.
@@ -37,6 +31,30 @@ fn to(format: CustomFormat) -> Formats {
 /// Returns the formats of `en` and `de`.
 fn to_de() -> Formats {
     to(CustomFormat::from(Locale::de))
+}
+
+/// Regroups the lines of an input of this name without an option, and returns the status.
+fn run_plainly<R: Read + Drop, O: Write + Drop, E: Write>(
+    alloc: Global,
+    formats: &Formats,
+    name: &str,
+    input: R,
+    out: &mut BufWriter<O>,
+    err: &mut E,
+) -> Result<u8, test::Fail> {
+    let mut rejects = BufWriter::new(alloc, io::sink())?;
+    let mut buffer = [0; 100];
+    let status = run(
+        &STRICT,
+        formats,
+        name,
+        &mut buffer,
+        input,
+        out,
+        err,
+        &mut rejects,
+    );
+    Ok(status)
 }
 
 /// Accepts all bytes, and fails as often as it says when it is flushed, for this cause.
@@ -82,17 +100,7 @@ fn a_read_fails(rt: HostRuntime) -> Result<(), test::Fail> {
             steps: &[Give(3), Give(9), Fail],
             calls: 0,
         };
-        let mut buffer = [0; 100];
-        let status = run(
-            &STRICT,
-            &to_de(),
-            "-",
-            &mut buffer,
-            reader,
-            &mut out,
-            &mut err,
-            &mut BufWriter::new(rt.alloc(), io::sink())?,
-        );
+        let status = run_plainly(rt.alloc(), &to_de(), "-", reader, &mut out, &mut err)?;
         assert_eq!(rt; status, FAILED);
         assert_eq!(rt; out.get_ref().as_slice(), b"1.000\n".as_slice());
         assert_eq!(rt;
@@ -116,20 +124,8 @@ fn a_flush_fails(rt: HostRuntime) -> Result<(), test::Fail> {
             let writer = Unflushed::new(cause, 2);
             let mut out = BufWriter::new(rt.alloc(), writer)?;
             let mut err = Vec::new(rt.alloc());
-            let mut buffer = [0; 100];
-            assert_eq!(rt;
-                run(
-                    &STRICT,
-                    &to_de(),
-                    "-",
-                    &mut buffer,
-                    text,
-                    &mut out,
-                    &mut err,
-                    &mut BufWriter::new(rt.alloc(), io::sink())?
-                ),
-                status
-            );
+            let ended = run_plainly(rt.alloc(), &to_de(), "-", text, &mut out, &mut err)?;
+            assert_eq!(rt; ended, status);
             assert_eq!(rt; out.get_ref().flushes, 2);
             assert_eq!(rt; err.as_slice(), message);
         }
@@ -143,17 +139,8 @@ fn a_flush_fails_once(rt: HostRuntime) -> Result<(), test::Fail> {
     for cause in [ErrorKind::BrokenPipe, ErrorKind::StorageFull] {
         let mut out = BufWriter::new(rt.alloc(), Unflushed::new(cause, 1))?;
         let mut err = Vec::new(rt.alloc());
-        let mut buffer = [0; 100];
-        let status = run(
-            &STRICT,
-            &to_de(),
-            "-",
-            &mut buffer,
-            b"1,000\n".as_slice(),
-            &mut out,
-            &mut err,
-            &mut BufWriter::new(rt.alloc(), io::sink())?,
-        );
+        let text = b"1,000\n".as_slice();
+        let status = run_plainly(rt.alloc(), &to_de(), "-", text, &mut out, &mut err)?;
         assert_eq!(rt; status, FAILED);
         assert_eq!(rt; out.get_ref().flushes, 2);
         assert_eq!(rt; err.as_slice(), b"regroup-lines: write error\n".as_slice());
@@ -336,20 +323,8 @@ fn assert_calls(
 ) -> Result<(), test::Fail> {
     let mut out = BufWriter::new(alloc, Scripted::new(alloc, 64, &[])?)?;
     let mut err = Scripted::new(alloc, 128, err_steps)?;
-    let mut buffer = [0; 100];
-    assert_eq!(rt;
-        run(
-            &STRICT,
-            &to_de(),
-            "-",
-            &mut buffer,
-            text,
-            &mut out,
-            &mut err,
-            &mut BufWriter::new(alloc, io::sink())?
-        ),
-        status
-    );
+    let ended = run_plainly(alloc, &to_de(), "-", text, &mut out, &mut err)?;
+    assert_eq!(rt; ended, status);
     let written = out.get_ref();
     assert_eq!(rt;
         [written.calls, written.flushes, err.calls, err.flushes],
@@ -397,33 +372,12 @@ fn a_line_is_at_fault(rt: HostRuntime) -> Result<(), test::Fail> {
         .grouping(Grouping::Indian)
         .build()?;
     let formats = to(format);
-    let mut buffer = [0; 100];
-    assert_eq!(rt;
-        run(
-            &STRICT,
-            &formats,
-            "-",
-            &mut buffer,
-            b"100,000\n".as_slice(),
-            &mut out,
-            &mut err,
-            &mut BufWriter::new(rt.alloc(), io::sink())?
-        ),
-        REGROUPED
-    );
-    assert_eq!(rt;
-        run(
-            &STRICT,
-            &formats,
-            "x.tsv",
-            &mut buffer,
-            b"-1,000\nx\n".as_slice(),
-            &mut out,
-            &mut err,
-            &mut BufWriter::new(rt.alloc(), io::sink())?
-        ),
-        FAULTY
-    );
+    let text = b"100,000\n".as_slice();
+    let status = run_plainly(rt.alloc(), &formats, "-", text, &mut out, &mut err)?;
+    assert_eq!(rt; status, REGROUPED);
+    let text = b"-1,000\nx\n".as_slice();
+    let status = run_plainly(rt.alloc(), &formats, "x.tsv", text, &mut out, &mut err)?;
+    assert_eq!(rt; status, FAULTY);
     assert_eq!(rt; out.get_ref().as_slice(), b"1:00:000\n-1:000\n".as_slice());
     assert_eq!(rt;
         err.as_slice(),

@@ -69,10 +69,7 @@ pub fn from_json(alloc: Global, kind: &str, json: &str) -> Option<String> {
     let value = Value::from_str(alloc, json).ok()?;
     match kind {
         "buffer" => match buffer_from_value(&value) {
-            Ok(buffer) => {
-                let text = hex::encode(alloc, buffer.as_str()).ok()?;
-                format!(in alloc; "ok {text}").ok()
-            }
+            Ok(buffer) => format!(in alloc; "ok {buffer}").ok(),
             Err(fault) => described_fault(alloc, fault),
         },
         "format" => match format_from_value(&value) {
@@ -93,13 +90,9 @@ fn described_fault(alloc: Global, fault: JsonFault) -> Option<String> {
 
 /// Returns the data of a format.
 fn described(alloc: Global, format: &CustomFormat) -> Option<String> {
-    let decimal = hex::encode(alloc, format.decimal()).ok()?;
-    let grouping = format.grouping();
-    let infinity = hex::encode(alloc, format.infinity()).ok()?;
-    let minus_sign = hex::encode(alloc, format.minus_sign()).ok()?;
-    let nan = hex::encode(alloc, format.nan()).ok()?;
-    let plus_sign = hex::encode(alloc, format.plus_sign()).ok()?;
-    let separator = hex::encode(alloc, format.separator()).ok()?;
+    let (decimal, infinity) = (format.decimal(), format.infinity());
+    let (minus_sign, plus_sign) = (format.minus_sign(), format.plus_sign());
+    let (grouping, nan, separator) = (format.grouping(), format.nan(), format.separator());
     format!(in alloc;
         "ok dec={decimal} grp={grouping:?} inf={infinity} min={minus_sign} nan={nan} \
          plus={plus_sign} sep={separator}"

@@ -1,12 +1,12 @@
 //! The text of a number by every way of printing.
 
-use num_format::{Buffer, Format, ToFormattedString, WriteFormatted};
+use num_format::{Buffer, Format, ToFormattedString, WriteFormatted, text_len, text_width};
 use std::alloc::Global;
 
 /// What a string or a vector holds before a number is appended.
 const BEFORE: &str = "17,";
 
-/// Returns the text of the number in hexadecimal, as a new [`Buffer`] has it, and the name of each
+/// Returns the text of the number, as a new [`Buffer`] has it, and the name of each
 /// other way of printing that differs from it. None where out of memory.
 pub fn printed<N: ToFormattedString, F: Format>(
     alloc: Global,
@@ -25,6 +25,8 @@ pub fn printed<N: ToFormattedString, F: Format>(
     let shown = format!(in alloc; "{buffer}").ok()?;
     let one_less = text.len().saturating_sub(1);
     let ways = [
+        ("text_len", text_len(number, format) == text.len()),
+        ("text_width", printing.has_width()),
         ("a used Buffer", printing.is_in_used_buffer()),
         ("read_to_buffer", printing.is_read_to_buffer()),
         ("read_to_fmt_writer", printing.is_read_to_fmt_writer()?),
@@ -36,7 +38,7 @@ pub fn printed<N: ToFormattedString, F: Format>(
         ("a slice of the length", printing.is_in_slice(text.len())?),
         ("a slice of one byte less", printing.is_in_slice(one_less)?),
     ];
-    let mut returned = hex::encode(alloc, text).ok()?;
+    let mut returned = String::from_str(alloc, text).ok()?;
     for (way, is_same) in ways {
         if !is_same {
             returned.push_str(" but not by ").ok()?;
@@ -58,6 +60,13 @@ struct Printing<'a, N, F> {
 }
 
 impl<N: ToFormattedString, F: Format> Printing<'_, N, F> {
+    /// One column for each character. Marks of direction, which a terminal gives none, are left out.
+    fn has_width(&self) -> bool {
+        let marks = ['\u{61c}', '\u{200e}', '\u{200f}'];
+        self.text.contains(marks)
+            || text_width(self.number, self.format) == self.text.chars().count()
+    }
+
     /// In place of another text.
     fn is_in_used_buffer(&self) -> bool {
         let mut buffer = Buffer::new();

@@ -1,156 +1,72 @@
-//! What came of the cases: those whose result differs, and how many there were of each kind.
+//! What came of the cases: those whose result differs, and how many there were of each table.
 
-use crate::case::{Call, Case};
+use crate::calls::result;
+use crate::case::{Fields, text};
 use std::alloc::Global;
 use std::io;
 
-/// The most lines of one sort that are printed.
-const MOST_PRINTED: usize = 10;
+/// The most cases of a table that are printed.
+const MOST_PRINTED: usize = 5;
 
-/// How many cases of a kind were tried, and how many results differ from the expected ones.
+/// What came of the cases so far: of the table that is read, and whether any of one before differs.
 #[derive(Drop)]
-struct Tally {
-    kind: &'static str,
+pub struct Report<'a> {
+    table: &'a str,
     cases: usize,
     different: usize,
+    any_differs: bool,
 }
 
-impl Tally {
-    fn new(kind: &'static str) -> Tally {
-        Tally {
-            kind,
+impl<'a> Report<'a> {
+    pub fn new() -> Report<'a> {
+        Report {
+            table: "",
             cases: 0,
             different: 0,
+            any_differs: false,
         }
     }
 
-    /// Counts one more case, and prints it where it is one of the first that differ.
-    fn add(
-        &mut self,
-        rt: &impl Print,
-        line: usize,
-        expected: &str,
-        returned: &str,
-    ) -> io::Result<()> {
+    /// Begins with the cases of a table.
+    pub fn begin_table(&mut self, table: &'a str) {
+        self.table = table;
+        self.cases = 0;
+        self.different = 0;
+    }
+
+    /// Prints what came of the table, if one was begun.
+    pub fn end_table(&mut self, rt: &impl Print) -> io::Result<()> {
+        self.any_differs = !self.is_passed();
+        if self.table.is_empty() {
+            return Ok(());
+        }
+        println!(rt;
+            "{}.tsv: ran {}, cannot say 0, differ {}",
+            self.table, self.cases, self.different
+        )
+    }
+
+    /// Whether no case differs.
+    pub fn is_passed(&self) -> bool {
+        !self.any_differs && self.different == 0
+    }
+
+    /// Makes the call of a case, counts it, and prints it where it is one of the first that differ.
+    pub fn add(&mut self, rt: &impl Print, alloc: Global, line: &str) -> io::Result<()> {
         self.cases = self.cases.saturating_add(1);
-        if expected == returned {
+        let mut fields = Fields { rest: line };
+        let returned = result(alloc, self.table, &mut fields);
+        let expected = text(alloc, fields.rest);
+        if returned.is_some() && returned == expected {
             return Ok(());
         }
         self.different = self.different.saturating_add(1);
-        if self.different <= MOST_PRINTED {
-            println!(rt; "line {line}: expected {expected}, returned {returned}")?;
+        if self.different > MOST_PRINTED {
+            return Ok(());
         }
-        Ok(())
-    }
-
-    /// Whether there were cases, and no result differs.
-    fn is_passed(&self) -> bool {
-        self.cases > 0 && self.different == 0
-    }
-
-    fn print(&self, rt: &impl Print) -> io::Result<()> {
-        println!(rt;
-            "{}: {} cases, {} differ",
-            self.kind, self.cases, self.different
-        )
-    }
-}
-
-/// What came of the cases so far, by their kind, and how many lines have no case.
-#[derive(Drop)]
-pub struct Report {
-    printing: Tally,
-    reading: Tally,
-    names: Tally,
-    locales: Tally,
-    json: Tally,
-    building: Tally,
-    strict: Tally,
-    changed: Tally,
-    unreadable: usize,
-}
-
-impl Report {
-    pub fn new() -> Report {
-        Report {
-            printing: Tally::new("print"),
-            reading: Tally::new("read"),
-            names: Tally::new("names"),
-            locales: Tally::new("locale"),
-            json: Tally::new("json"),
-            building: Tally::new("build"),
-            strict: Tally::new("strict"),
-            changed: Tally::new("changed"),
-            unreadable: 0,
+        match returned {
+            Some(returned) => println!(rt; "  {}: {line}: returned {returned}", self.table),
+            None => println!(rt; "  {}: {line}: no case", self.table),
         }
-    }
-
-    /// Tries the case of a line, whose number is given.
-    pub fn add(
-        &mut self,
-        rt: &impl Print,
-        alloc: Global,
-        line: usize,
-        text: &str,
-    ) -> io::Result<()> {
-        let Some(case) = Case::parse(alloc, text) else {
-            return self.add_unreadable(rt, line);
-        };
-        let Some(returned) = case.call.result(alloc) else {
-            return self.add_unreadable(rt, line);
-        };
-        let expected = case.expected;
-        if case.is_changed {
-            return self.changed.add(rt, line, expected, &returned);
-        }
-        match case.call {
-            Call::Print { .. } => self.printing.add(rt, line, expected, &returned),
-            Call::Parse {
-                is_strict: true,
-                ..
-            } => { self.strict.add(rt, line, expected, &returned) }
-            Call::Parse { .. } => self.reading.add(rt, line, expected, &returned),
-            Call::FindLocale { .. } => self.names.add(rt, line, expected, &returned),
-            Call::DescribeLocale { .. } => self.locales.add(rt, line, expected, &returned),
-            Call::FromJson { .. } => self.json.add(rt, line, expected, &returned),
-            Call::Build { .. } => self.building.add(rt, line, expected, &returned),
-        }
-    }
-
-    /// Counts one more line without a case, and prints its number where it is one of the first.
-    fn add_unreadable(&mut self, rt: &impl Print, line: usize) -> io::Result<()> {
-        self.unreadable = self.unreadable.saturating_add(1);
-        if self.unreadable <= MOST_PRINTED {
-            println!(rt; "line {line}: no case")?;
-        }
-        Ok(())
-    }
-
-    /// Whether there were cases of each kind, each line had one, and the changed cases, and no
-    /// others, differ.
-    pub fn is_passed(&self) -> bool {
-        self.printing.is_passed()
-            && self.reading.is_passed()
-            && self.names.is_passed()
-            && self.locales.is_passed()
-            && self.json.is_passed()
-            && self.building.is_passed()
-            && self.strict.is_passed()
-            && self.changed.cases > 0
-            && self.changed.different == self.changed.cases
-            && self.unreadable == 0
-    }
-
-    /// Prints how many cases there were of each kind, and how many results differ.
-    pub fn print(&self, rt: &impl Print) -> io::Result<()> {
-        self.printing.print(rt)?;
-        self.reading.print(rt)?;
-        self.names.print(rt)?;
-        self.locales.print(rt)?;
-        self.json.print(rt)?;
-        self.building.print(rt)?;
-        self.strict.print(rt)?;
-        self.changed.print(rt)?;
-        println!(rt; "unreadable: {} lines", self.unreadable)
     }
 }

@@ -1,6 +1,6 @@
 //! Calls that take memory, where it is refused.
 //!
-//! `tools/memory_checks.py` runs each of these tests without a refusal, and then as often as it makes
+//! `tests/memory_checks.py` runs each of these tests without a refusal, and then as often as it makes
 //! requests for memory, each time with another one refused. A test passes in every run: it asserts what
 //! holds after an error, and prints `refused`. The test command compares what is printed, so a call returns an
 //! error where a request is refused, and nowhere else.

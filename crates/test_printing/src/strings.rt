@@ -1,10 +1,8 @@
 //! Numbers into strings and formatters.
 
 use crate::asserting::assert_equal;
-use crate::every_way;
-use crate::longest::{LONGEST, longest_format};
 use crate::numbers::{append_numbers, assert_numbers};
-use num_format::{CustomFormat, ToFormattedString, WriteFormatted};
+use num_format::{CustomFormat, WriteFormatted};
 use std::fmt;
 use std::test::Fail;
 
@@ -14,20 +12,6 @@ fn after_a_text(rt: HostRuntime) -> Result<(), Fail> {
     let mut text = String::from_str(rt.alloc(), "x")?;
     append_numbers(&rt, &mut text)?;
     assert_numbers(&rt, text.as_bytes(), "x", "");
-    Ok(())
-}
-
-#[test]
-fn the_longest_text(rt: HostRuntime) -> Result<(), Fail> {
-    every_way::prints(&rt, rt.alloc(), &i128::MIN, &longest_format()?, LONGEST)
-}
-
-#[test]
-fn as_a_writer(rt: HostRuntime) -> Result<(), Fail> {
-    let mut text = String::from_str(rt.alloc(), "x")?;
-    let count = 7u8.read_to_fmt_writer(&mut text, &CustomFormat::default())?;
-    assert_equal(&rt, count, 1);
-    assert_equal(&rt, text.as_str(), "x7");
     Ok(())
 }
 

@@ -1,6 +1,6 @@
 //! Calls that take no memory.
 //!
-//! `tools/memory_checks.py` counts the requests for memory that each of these tests makes. There is
+//! `tests/memory_checks.py` counts the requests for memory that each of these tests makes. There is
 //! none, but the one for the `String` that is parsed.
 
 use crate::asserting::assert_equal;

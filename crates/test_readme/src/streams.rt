@@ -1,6 +1,6 @@
 //! A number to each type of a stream of the process.
 //!
-//! No contract states what a stream received. `tools/program_checks.py` compares it.
+//! No contract states what a stream received. `tests/program_checks.py` compares it.
 
 use num_format::{Locale, WriteFormatted};
 use std::io::Lock;

@@ -1,0 +1,145 @@
+/* Makes one call of the library for C, for tests/work_checks.py, which counts the instructions of the call.
+ *
+ *     cc -O2 -I crates/num_format_c tests/work_checks.c crates/num_format_c/out/libnum_format_c.a -o work
+ *     ./work                prints the names of the calls, one a line
+ *     ./work NAME TIMES     makes that call so many times
+ *
+ * The exit status is 1 where a call returned something else than it has to, and 2 for other words.
+ */
+#include "num_format.h"
+
+#include <stdio.h>
+#include <stdlib.h>
+#include <string.h>
+
+/* What the library copies and fills bytes by, for x86-64: eight at an instruction, and then the rest. Those of the
+ * C library have other code for each kind of processor. */
+void *memcpy(void *to, const void *from, size_t length) {
+    void *next = to;
+    size_t words = length / 8, rest = length % 8;
+    __asm__ volatile("rep movsq" : "+D"(next), "+S"(from), "+c"(words) : : "memory");
+    __asm__ volatile("rep movsb" : "+D"(next), "+S"(from), "+c"(rest) : : "memory");
+    return to;
+}
+
+void *memmove(void *to, const void *from, size_t length) {
+    if ((uintptr_t)to - (uintptr_t)from >= length)
+        return memcpy(to, from, length);
+    volatile char *bytes = to;
+    while (length-- > 0)
+        bytes[length] = ((const char *)from)[length];
+    return to;
+}
+
+void *memset(void *to, int byte, size_t length) {
+    void *next = to;
+    size_t words = length / 8, rest = length % 8;
+    uint64_t word = (uint8_t)byte * UINT64_C(0x0101010101010101);
+    __asm__ volatile("rep stosq" : "+D"(next), "+c"(words) : "a"(word) : "memory");
+    __asm__ volatile("rep stosb" : "+D"(next), "+c"(rest) : "a"(word) : "memory");
+    return to;
+}
+
+/* A text and its length. */
+#define TEXT(text) text, sizeof text - 1
+
+/* The text of INT64_MIN. */
+#define LONG TEXT("-9,223,372,036,854,775,808")
+
+static num_format en, built, filled;
+static char text[NUM_FORMAT_DECIMAL_MAX];
+static int64_t number;
+static uint64_t low, high;
+static uint32_t scale;
+static size_t at;
+
+/* A column. */
+enum { ROWS = 4 };
+static const int64_t values[ROWS] = {0, -234, 1234567, INT64_MIN};
+static int64_t parsed[ROWS];
+static int32_t offsets[ROWS + 1], statuses[ROWS];
+static char texts[64];
+static size_t texts_length;
+
+#define NO_NULLS NULL, 0, 0
+#define TEXTS offsets, sizeof offsets, NUM_FORMAT_I32, texts, sizeof texts
+
+static int print_short(void) { return num_format_print_i64(&en, -234, text, sizeof text); }
+static int print_long(void) { return num_format_print_i64(&en, INT64_MIN, text, sizeof text); }
+static int print_built(void) { return num_format_print_i64(&built, INT64_MIN, text, sizeof text); }
+static int print_wide(void) { return num_format_print_u128(&en, UINT64_MAX, UINT64_MAX, text, sizeof text); }
+static int print_decimal(void) { return num_format_print_decimal(&en, (uint64_t)-5, UINT64_MAX, 2, text, sizeof text); }
+static int measure_decimal(void) { return num_format_print_decimal_len(&en, (uint64_t)-5, UINT64_MAX, 2); }
+static int parse_short(void) { return num_format_parse_i64(&en, 64, TEXT("-234"), &number); }
+static int parse_long(void) { return num_format_parse_i64(&en, 64, LONG, &number); }
+static int parse_refused(void) { return num_format_parse_i64(&en, 64, TEXT("one"), &number); }
+static int strict_short(void) { return num_format_parse_strict_i64(&en, 64, TEXT("-234"), &number, &at); }
+static int strict_long(void) { return num_format_parse_strict_i64(&en, 64, LONG, &number, &at); }
+static int strict_refused(void) { return num_format_parse_strict_i64(&en, 64, TEXT("1,23"), &number, &at); }
+static int parse_decimal(void) { return num_format_parse_decimal(&en, TEXT("1,234.50"), &low, &high, &scale, &at); }
+static int typed_long(void) { return num_format_parse_typed(&en, NUM_FORMAT_I64, LONG, &number, sizeof number, &at); }
+static int typed_plus(void) { return num_format_parse_typed(&en, NUM_FORMAT_I64, TEXT(" +1,234"), &number, sizeof number, &at); }
+static int typed_column(void) {
+    return num_format_parse_column(&en, NUM_FORMAT_I64, NUM_FORMAT_TYPED, TEXTS, parsed, sizeof parsed, NO_NULLS, statuses, ROWS);
+}
+static int print_column(void) {
+    return num_format_print_column(&en, NUM_FORMAT_I64, values, sizeof values, NO_NULLS, TEXTS, &texts_length);
+}
+static int measure_column(void) {
+    return num_format_print_column_len(&en, NUM_FORMAT_I64, values, sizeof values, NO_NULLS, &texts_length);
+}
+static int parse_column(void) {
+    return num_format_parse_column(&en, NUM_FORMAT_I64, 0, TEXTS, parsed, sizeof parsed, NO_NULLS, statuses, ROWS);
+}
+static int locale(void) { return num_format_locale(&filled, TEXT("de-AT")); }
+static int custom(void) { return num_format_custom(&filled, TEXT("'"), NUM_FORMAT_INDIAN, TEXT("-")); }
+
+/* The calls, and what each returns. */
+static const struct {
+    const char *name;
+    int (*call)(void);
+    int returned;
+} calls[] = {
+    {"print i64 -234", print_short, 4},
+    {"print i64 INT64_MIN", print_long, 26},
+    {"print i64 INT64_MIN, Indian, separators of 8 bytes", print_built, 86},
+    {"print u128 UINT128_MAX", print_wide, 51},
+    {"print decimal -0.05", print_decimal, 5},
+    {"measure decimal -0.05", measure_decimal, 5},
+    {"parse i64 -234", parse_short, 0},
+    {"parse i64 INT64_MIN", parse_long, 0},
+    {"parse i64 one, refused", parse_refused, NUM_FORMAT_NOT_A_NUMBER},
+    {"parse strictly i64 -234", strict_short, 0},
+    {"parse strictly i64 INT64_MIN", strict_long, 0},
+    {"parse strictly i64 1,23, refused", strict_refused, NUM_FORMAT_MISSPELLED},
+    {"parse decimal 1,234.50", parse_decimal, 0},
+    {"print a column, i64, 4 rows", print_column, 0},
+    {"measure a column, i64, 4 rows", measure_column, 0},
+    {"parse a column strictly, i64, 4 rows", parse_column, 0},
+    {"parse typed i64 INT64_MIN", typed_long, 0},
+    {"parse typed i64 +1,234 after a space", typed_plus, 0},
+    {"parse a column as typed, i64, 4 rows", typed_column, 0},
+    {"fill with the locale de-AT", locale, 0},
+    {"fill with a custom format", custom, 0},
+};
+
+/* Makes a call so many times. */
+static int make(int (*call)(void), long times, int returned) {
+    int as_expected = 1;
+    for (long i = 0; i < times; i++)
+        as_expected &= call() == returned;
+    return as_expected ? 0 : 1;
+}
+
+int main(int count, char **words) {
+    if (num_format_locale(&en, TEXT("en")) != 0 ||
+        num_format_custom(&built, TEXT("’’·"), NUM_FORMAT_INDIAN, TEXT("−")) != 0 || print_column() != 0)
+        return 1;
+    for (size_t i = 0; i < sizeof calls / sizeof *calls; i++) {
+        if (count == 1)
+            puts(calls[i].name);
+        else if (count == 3 && strcmp(words[1], calls[i].name) == 0)
+            return make(calls[i].call, atol(words[2]), calls[i].returned);
+    }
+    return count == 1 ? 0 : 2;
+}
