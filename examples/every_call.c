@@ -49,6 +49,9 @@ static void show_columns(void) {
     result = num_format_parse_decimal_column(&de, 3, offsets, 12, NUM_FORMAT_I32, text, length, parsed_units,
                                              sizeof parsed_units, NULL, 0, 0, statuses, 2);
     printf("parse decimals: %d, %lld %lld\n", result, (long long)parsed_units[0], (long long)parsed_units[2]);
+    result = num_format_parse_typed_decimal_column(&de, 4, offsets, 12, NUM_FORMAT_I32, text, length, parsed_units,
+                                                   sizeof parsed_units, NULL, 0, 0, statuses, 2);
+    printf("parse typed decimals: %d, %lld %lld\n", result, (long long)parsed_units[0], (long long)parsed_units[2]);
 }
 
 int main(void) {
@@ -119,6 +122,18 @@ int main(void) {
     show("lookup en-us", num_format_lookup(&format, "en-us", 5));
     show("lookup english", num_format_lookup(&format, "english", 7));
     show("name 542", num_format_names(NUM_FORMAT_LOCALES, text, sizeof text));
+    show("locale_str en-IN", num_format_locale_str(&format, "en-IN"));
+    show("format", num_format_format_i64(&format, -12345678, text, sizeof text));
+    show("lookup_str fr_FR.UTF-8", num_format_lookup_str(&format, "fr_FR.UTF-8"));
+    show("format u64", num_format_format_u64(&de, 1000, text, sizeof text));
+    show("format u128", num_format_format_u128(&de, 0, 1, text, sizeof text));
+    show("format i128", num_format_format_i128(&de, UINT64_MAX, UINT64_MAX, text, sizeof text));
+    show("format decimal", num_format_format_decimal(&de, 123450, 0, 2, text, sizeof text));
+    show("print decimal, 64 bits", num_format_print_decimal_i64(&de, -5, 2, text, sizeof text));
+    show_number("parse typed", num_format_parse_typed(&de, NUM_FORMAT_I64, " -1.234", 7, &number, sizeof number, &at), &number);
+    show_number("parse typed decimal, low", num_format_parse_typed_decimal(&de, "+1.234,5", 8, &low, &high, &scale, &place), &low);
+    show_number("parse typed decimal, 64 bits", num_format_parse_typed_decimal_i64(&de, "-0,0", 4, &number, &scale, NULL), &number);
+    show_number("parse decimal, 64 bits", num_format_parse_decimal_i64(&de, "-0,50", 5, &number, &scale, NULL), &number);
     show_columns();
     printf("width: %zu\n", num_format_text_width("1\u202f234", 7));
     printf("version: %u\n", (unsigned)num_format_version());

@@ -1,20 +1,25 @@
 // num-format for C++17: formats, numbers and decimals of up to 128 bits, and columns of them, with strings, views, vectors
-// and exceptions. num_format.h has the other calls.
+// and exceptions.
 //
 //     numfmt::format de = numfmt::format::locale("de");
 //     std::string text = de.print(-1234567);                                        // -1.234.567
 //     auto number = de.parse<std::int32_t>("1.234");                                // 1234, and else an exception
+//     auto found = de.try_parse<std::int32_t>("1,5");                               // found.status is NUM_FORMAT_UNEXPECTED
+//     auto typed = numfmt::format::locale("fr").parse_typed<int>("1 234");          // 1234, with the space of a keyboard
 //     numfmt::column texts = de.print_column(std::vector<std::optional<int>>{1000, std::nullopt});
 //     auto numbers = de.parse_column<std::optional<int>>(texts);                    // the same again
 //
 // Each failure is an exception below numfmt::error, named as its status is, but for std::bad_alloc. num_format.h says when
-// each comes.
+// each comes. A call whose name begins with try_ returns the status in place of it. Without exceptions (-fno-exceptions) the
+// calls that have some to throw, and columns, are left out. `get` returns a format for the calls of num_format.h.
 #ifndef NUM_FORMAT_HPP
 #define NUM_FORMAT_HPP
 
 #include "num_format.h"
 #include <cstddef>
 #include <cstdint>
+#include <cstring>
+#include <iosfwd>
 #include <optional>
 #include <stdexcept>
 #include <string>
@@ -22,9 +27,16 @@
 #include <type_traits>
 #include <utility>
 #include <vector>
+#if __has_include(<version>)
+#include <version>
+#endif
+#ifdef __cpp_lib_format
+#include <format>
+#endif
 
 namespace numfmt {
 
+#ifdef __cpp_exceptions
 /// A call failed: why, as a status of num_format.h, at which byte of a text with `unexpected`, else 0, and at which row of a
 /// column, else 0.
 struct error : std::runtime_error {
@@ -40,25 +52,51 @@ struct error : std::runtime_error {
     each(too_long, TOO_LONG) each(bad_grouping, BAD_GROUPING) each(unexpected, UNEXPECTED) each(no_digit, NO_DIGIT) \
     each(misspelled, MISSPELLED) each(out_of_range, OUT_OF_RANGE) each(bad_scale, BAD_SCALE) \
     each(too_many_decimals, TOO_MANY_DECIMALS) each(bad_length, BAD_LENGTH) each(bad_offsets, BAD_OFFSETS) \
-    each(too_many_bytes, TOO_MANY_BYTES) each(digits_lost, DIGITS_LOST) each(ambiguous_format, AMBIGUOUS_FORMAT)
+    each(too_many_bytes, TOO_MANY_BYTES) each(digits_lost, DIGITS_LOST) each(ambiguous_format, AMBIGUOUS_FORMAT) \
+    each(text_too_long, TEXT_TOO_LONG)
 #define NUMFMT_STRUCT(name, code) struct name : error { using error::error; };
 #define NUMFMT_CASE(name, code) case NUM_FORMAT_##code: throw name(status, at, row);
 NUMFMT_ERRORS(NUMFMT_STRUCT)
+#endif
 
+#ifdef __SIZEOF_INT128__
+__extension__ typedef __int128 int128;
+__extension__ typedef unsigned __int128 uint128;
+#endif
+
+/// A number that was parsed, or the status for which there is none, and at which byte with NUM_FORMAT_UNEXPECTED.
+template <class T> struct result {
+    T value{};
+    std::int32_t status = 0;
+    std::size_t at = 0;
+    explicit operator bool() const { return status == 0; }
+};
+
+/// A decimal: its units divided by 10 to the power of the scale, which is at most 38.
+template <class T> struct basic_decimal {
+    T units;
+    std::uint32_t scale;
+};
+using decimal = basic_decimal<std::int64_t>;
+
+/// What the calls below stand on, and no part of what users call.
+namespace detail {
+#ifdef __cpp_exceptions
 /// Throws the exception of a status below 0, and else returns it.
-inline std::int32_t check(std::int32_t status, const std::size_t &at = 0, std::size_t row = 0) {
+inline std::int32_t check(std::int32_t status, std::size_t at = 0, std::size_t row = 0) {
     switch (status) {
         NUMFMT_ERRORS(NUMFMT_CASE)
     default: return status < 0 ? throw error(status) : status;
     }
 }
+/// The number that was parsed. Throws the exception of the status if there is none.
+template <class T> T accepted(const result<T> &found) { return check(found.status, found.at), found.value; }
 #undef NUMFMT_CASE
 #undef NUMFMT_STRUCT
 #undef NUMFMT_ERRORS
+#endif
 
 #ifdef __SIZEOF_INT128__
-__extension__ typedef __int128 int128;
-__extension__ typedef unsigned __int128 uint128;
 template <class T> constexpr bool is_signed = std::is_signed_v<T> || std::is_same_v<T, int128>;
 template <class T> constexpr bool is_wide = std::is_same_v<T, int128> || std::is_same_v<T, uint128>;
 #else
@@ -87,13 +125,6 @@ template <class T> constexpr num_format_type type() {
     }
 }
 
-/// A decimal: its units divided by 10 to the power of the scale, which is at most 38.
-template <class T> struct basic_decimal {
-    T units;
-    std::uint32_t scale;
-};
-using decimal = basic_decimal<std::int64_t>;
-
 /// A number of 128 bits by its halves, in two's complement.
 struct halves {
     std::uint64_t low = 0, high = 0;
@@ -113,12 +144,70 @@ struct halves {
     }
 };
 
-/// The texts of numbers, one after another: text k is between offset k and offset k + 1. Row k is null if there is a
-/// validity bitmap and its bit k % 8, from the lowest, of byte k / 8 is 0.
+/// The number of what a column has: of T, and of std::optional<T>, which may be null.
+template <class T> struct element { using number = T; };
+template <class T> struct element<std::optional<T>> { using number = T; };
+template <class T> using number_of = typename element<T>::number;
+
+/// The validity bitmap of what a column has, which is empty where nothing can be null.
+template <class T> std::vector<std::uint8_t> validity_of(const std::vector<T> &) { return {}; }
+template <class T> std::vector<std::uint8_t> validity_of(const std::vector<std::optional<T>> &values) {
+    std::vector<std::uint8_t> validity((values.size() + 7) / 8);
+    for (std::size_t k = 0; k < values.size(); k++) validity[k / 8] |= std::uint8_t(values[k].has_value() << k % 8);
+    return validity;
+}
+} // namespace detail
+
+/// A text that was printed, in an array of its own: no memory is requested for it. It has a zero byte after it.
+class text {
+public:
+    std::string_view view() const { return {bytes, std::size_t(length)}; }
+    operator std::string_view() const { return view(); }
+    const char *c_str() const { return bytes; }
+    std::size_t size() const { return std::size_t(length); }
+private:
+    friend class format;
+    std::int32_t length = 0;
+    char bytes[NUM_FORMAT_DECIMAL_MAX + 1];
+};
+
+/// Writes a text to a stream, filled up to its width.
+template <class Traits> std::basic_ostream<char, Traits> &operator<<(std::basic_ostream<char, Traits> &out, const text &printed) {
+    return out << printed.view();
+}
+
+/// The columns that a text takes where each character takes one, but a mark of the direction of writing none.
+inline std::size_t text_width(std::string_view text) { return num_format_text_width(text.data(), text.size()); }
+
+#ifdef __cpp_exceptions
+/// Texts, one after another: text k is between offset k and offset k + 1. Row k is null if there is a validity bitmap and
+/// its bit k % 8, from the lowest, of byte k / 8 is 0.
 struct column {
     std::vector<std::int64_t> offsets{0};
     std::string bytes;
     std::vector<std::uint8_t> validity;
+
+    /// A column of texts: of std::string, std::string_view and the like, or of std::optional of it, whose std::nullopt is
+    /// null.
+    template <class Text> static column of(const std::vector<Text> &texts) {
+        column made;
+        made.validity = detail::validity_of(texts);
+        made.offsets.reserve(texts.size() + 1);
+        for (const std::optional<std::string_view> text : texts) {
+            made.bytes += text.value_or(std::string_view());
+            made.offsets.push_back(std::int64_t(made.bytes.size()));
+        }
+        return made;
+    }
+
+    /// Its texts, as std::string or, with nulls, std::optional<std::string>, or as views of its bytes. A null is an empty
+    /// text where there are no nulls. Throws bad_offsets or bad_length.
+    template <class Text = std::string> std::vector<Text> texts() const {
+        std::vector<Text> made(size());
+        for (std::size_t k = 0; k < made.size(); k++)
+            if (!is_null(k)) made[k] = detail::number_of<Text>((*this)[k]);
+        return made;
+    }
 
     /// The number of rows. Throws bad_offsets if there is no offset.
     std::size_t size() const { return offsets.empty() ? throw bad_offsets(NUM_FORMAT_BAD_OFFSETS) : offsets.size() - 1; }
@@ -141,116 +230,215 @@ template <class T> struct parsed_column {
     std::vector<T> values;
     std::vector<std::int32_t> statuses;
 };
-
-/// The number of what a column has: of T, and of std::optional<T>, which may be null.
-template <class T> struct element { using number = T; };
-template <class T> struct element<std::optional<T>> { using number = T; };
-template <class T> using number_of = typename element<T>::number;
-
-/// The number of characters of a text: the columns that it takes where each character takes one.
-inline std::size_t text_width(std::string_view text) { return num_format_text_width(text.data(), text.size()); }
+#endif
 
 /// A format. Two are equal if they have the same texts and grouping.
 class format {
+    /// What fills a struct with a format of your own.
+    static auto custom_of(std::string_view separator, std::uint32_t grouping, std::string_view minus_sign,
+                          std::string_view decimal_mark) {
+        return [=](num_format *to) {
+            return num_format_custom_decimal(to, separator.data(), separator.size(), grouping, minus_sign.data(),
+                                             minus_sign.size(), decimal_mark.data(), decimal_mark.size());
+        };
+    }
 public:
-    /// The format of a locale. Throws not_utf8 or unknown_locale.
-    static format locale(std::string_view name) {
-        return format([=](num_format *to) { return num_format_locale(to, name.data(), name.size()); });
+    /// The format of a locale, or none.
+    static std::optional<format> try_locale(std::string_view name) {
+        return made([=](num_format *to) { return num_format_locale(to, name.data(), name.size()); }).second;
     }
 
-    /// The format of the locale for a language tag, such as "de_DE.UTF-8". Throws not_utf8 or unknown_locale.
+    /// The format of the locale for a language tag, such as "de_DE.UTF-8", or none.
+    static std::optional<format> try_lookup(std::string_view tag) {
+        return made([=](num_format *to) { return num_format_lookup(to, tag.data(), tag.size()); }).second;
+    }
+
+    /// A format of your own, or none if a text is no UTF-8 of at most 8 bytes, or no grouping has the number.
+    static std::optional<format> try_custom(std::string_view separator, std::uint32_t grouping,
+                                            std::string_view minus_sign = "-", std::string_view decimal_mark = ".") {
+        return made(custom_of(separator, grouping, minus_sign, decimal_mark)).second;
+    }
+
+    /// The text of a number.
+    template <class T> numfmt::text text(T number) const {
+        static_assert(detail::is_number<T>, "an integer, and no character");
+        numfmt::text to;
+        const detail::halves of(number);
+        if constexpr (detail::is_wide<T> && detail::is_signed<T>)
+            to.length = num_format_format_i128(&held, of.low, of.high, to.bytes, sizeof to.bytes);
+        else if constexpr (detail::is_wide<T>)
+            to.length = num_format_format_u128(&held, of.low, of.high, to.bytes, sizeof to.bytes);
+        else if constexpr (detail::is_signed<T>) to.length = num_format_format_i64(&held, number, to.bytes, sizeof to.bytes);
+        else to.length = num_format_format_u64(&held, number, to.bytes, sizeof to.bytes);
+        return to;
+    }
+
+    /// The same as a string, and appended to one.
+    template <class T> std::string print(T number) const { return std::string(text(number).view()); }
+    template <class T> void append(std::string &to, T number) const { to += text(number).view(); }
+
+    /// The length of that text, which is not printed.
+    template <class T> std::size_t print_len(T number) const {
+        static_assert(detail::is_number<T>, "an integer, and no character");
+        const detail::halves of(number);
+        if constexpr (detail::is_signed<T>) return std::size_t(num_format_print_i128_len(&held, of.low, of.high));
+        else return std::size_t(num_format_print_u128_len(&held, of.low, of.high));
+    }
+
+    /// The number that a text spells, with its separators or without, or the status for which there is none.
+    template <class T> result<T> try_parse(std::string_view text) const {
+        static_assert(detail::is_number<T>, "an integer, and no character");
+        result<T> found;
+        const char *from = text.data();
+        const std::size_t length = text.size();
+        if constexpr (detail::is_wide<T>) {
+            detail::halves of;
+            if constexpr (detail::is_signed<T>)
+                found.status = num_format_parse_strict_i128(&held, from, length, &of.low, &of.high, &found.at);
+            else found.status = num_format_parse_strict_u128(&held, from, length, &of.low, &of.high, &found.at);
+            found.value = of.as<T>();
+        } else if constexpr (detail::is_signed<T>) {
+            std::int64_t number = 0;
+            found.status = num_format_parse_strict_i64(&held, 8 * sizeof(T), from, length, &number, &found.at);
+            found.value = T(number);
+        } else {
+            std::uint64_t number = 0;
+            found.status = num_format_parse_strict_u64(&held, 8 * sizeof(T), from, length, &number, &found.at);
+            found.value = T(number);
+        }
+        return found;
+    }
+
+    /// The number that a text is as a person types it (no data type is meant), or a status: `try_parse` takes what programs
+    /// wrote, and this what people typed.
+    template <class T> result<T> try_parse_typed(std::string_view text) const {
+        result<T> found;
+        found.status = num_format_parse_typed(&held, detail::type<T>(), text.data(), text.size(), &found.value,
+                                              sizeof found.value, &found.at);
+        return found;
+    }
+
+    /// The number of the digits of a text, whose other characters are ignored, or a status.
+    template <class T> result<T> try_parse_lenient(std::string_view text) const {
+        static_assert(detail::is_number<T>, "an integer, and no character");
+        result<T> found;
+        const char *from = text.data();
+        const std::size_t length = text.size();
+        if constexpr (detail::is_wide<T>) {
+            detail::halves of;
+            if constexpr (detail::is_signed<T>) found.status = num_format_parse_i128(&held, from, length, &of.low, &of.high);
+            else found.status = num_format_parse_u128(&held, from, length, &of.low, &of.high);
+            found.value = of.as<T>();
+        } else if constexpr (detail::is_signed<T>) {
+            std::int64_t number = 0;
+            found.status = num_format_parse_i64(&held, 8 * sizeof(T), from, length, &number);
+            found.value = T(number);
+        } else {
+            std::uint64_t number = 0;
+            found.status = num_format_parse_u64(&held, 8 * sizeof(T), from, length, &number);
+            found.value = T(number);
+        }
+        return found;
+    }
+
+    /// The decimal that a text spells, with as many decimals, or a status.
+    template <class T = std::int64_t> result<basic_decimal<T>> try_parse_decimal(std::string_view text) const {
+        return decimal_by<T>([&](auto... to) { return num_format_parse_decimal(&held, text.data(), text.size(), to...); });
+    }
+
+    /// The decimal that a text is as a person types it (no data type is meant), or a status.
+    template <class T = std::int64_t> result<basic_decimal<T>> try_parse_typed_decimal(std::string_view text) const {
+        return decimal_by<T>([&](auto... to) {
+            return num_format_parse_typed_decimal(&held, text.data(), text.size(), to...);
+        });
+    }
+
+    /// Whether every number reads back from its text.
+    bool reads_back() const { return num_format_reads_back(&held) == 1; }
+
+    /// Whether each number has the same text under both formats.
+    bool prints_alike(const format &other) const { return num_format_prints_alike(&held, &other.held) == 1; }
+
+    /// The format, for the calls of num_format.h.
+    const num_format &get() const { return held; }
+
+    bool operator==(const format &other) const { return std::memcmp(&held, &other.held, sizeof held) == 0; }
+    bool operator!=(const format &other) const { return !(*this == other); }
+
+#ifdef __cpp_exceptions
+    /// The format of a locale. Throws not_utf8 or unknown_locale.
+    static format locale(std::string_view name) {
+        return accepted([=](num_format *to) { return num_format_locale(to, name.data(), name.size()); });
+    }
+
+    /// The format of the locale for a language tag. Throws not_utf8 or unknown_locale.
     static format lookup(std::string_view tag) {
-        return format([=](num_format *to) { return num_format_lookup(to, tag.data(), tag.size()); });
+        return accepted([=](num_format *to) { return num_format_lookup(to, tag.data(), tag.size()); });
     }
 
     /// The name of that locale. Throws not_utf8 or unknown_locale.
     static std::string lookup_name(std::string_view tag) {
         char name[NUM_FORMAT_MAX];
-        return {name, std::size_t(check(num_format_lookup_name(tag.data(), tag.size(), name, sizeof name)))};
+        return {name, std::size_t(detail::check(num_format_lookup_name(tag.data(), tag.size(), name, sizeof name)))};
     }
 
     /// A format of your own. Throws not_utf8, too_long or bad_grouping.
     static format custom(std::string_view separator, std::uint32_t grouping, std::string_view minus_sign = "-",
                          std::string_view decimal_mark = ".") {
-        return format([=](num_format *to) {
-            return num_format_custom_decimal(to, separator.data(), separator.size(), grouping, minus_sign.data(),
-                                             minus_sign.size(), decimal_mark.data(), decimal_mark.size());
-        });
-    }
-
-    /// The text of a number.
-    template <class T> std::string print(T number) const {
-        static_assert(is_number<T>, "an integer, and no character");
-        char text[NUM_FORMAT_MAX];
-        std::int32_t len;
-        if constexpr (is_wide<T>) {
-            const halves of(number);
-            len = (is_signed<T> ? num_format_print_i128 : num_format_print_u128)(&held, of.low, of.high, text, sizeof text);
-        } else if constexpr (is_signed<T>) len = num_format_print_i64(&held, number, text, sizeof text);
-        else len = num_format_print_u64(&held, number, text, sizeof text);
-        return {text, std::size_t(check(len))};
-    }
-
-    /// The length of that text, which is not printed.
-    template <class T> std::size_t print_len(T number) const {
-        static_assert(is_number<T>, "an integer, and no character");
-        const halves of(number);
-        return std::size_t(check((is_signed<T> ? num_format_print_i128_len : num_format_print_u128_len)(&held, of.low, of.high)));
+        return accepted(custom_of(separator, grouping, minus_sign, decimal_mark));
     }
 
     /// The number that a text spells, with its separators or without. Throws ambiguous_format where reads_back is
     /// false, and else not_utf8, unexpected, no_digit, misspelled or out_of_range.
-    template <class T> T parse(std::string_view text) const {
-        static_assert(is_number<T>, "an integer, and no character");
-        std::size_t at = 0;
-        if constexpr (is_wide<T>) {
-            halves found;
-            const auto parse_wide = is_signed<T> ? num_format_parse_strict_i128 : num_format_parse_strict_u128;
-            check(parse_wide(&held, text.empty() ? "" : text.data(), text.size(), &found.low, &found.high, &at), at);
-            return found.as<T>();
-        }
-        std::conditional_t<is_signed<T>, std::int64_t, std::uint64_t> number = 0;
-        if constexpr (is_signed<T>)
-            check(num_format_parse_strict_i64(&held, 8 * sizeof(T), text.data(), text.size(), &number, &at), at);
-        else
-            check(num_format_parse_strict_u64(&held, 8 * sizeof(T), text.data(), text.size(), &number, &at), at);
-        return T(number);
+    template <class T> T parse(std::string_view text) const { return detail::accepted(try_parse<T>(text)); }
+
+    /// The number that a text is as a person types it (no data type is meant). Throws what `parse` throws, and text_too_long.
+    template <class T> T parse_typed(std::string_view text) const { return detail::accepted(try_parse_typed<T>(text)); }
+
+    /// The number of the digits of a text, whose other characters are ignored. Throws not_utf8 or not_a_number.
+    template <class T> T parse_lenient(std::string_view text) const { return detail::accepted(try_parse_lenient<T>(text)); }
+
+    /// The decimal that a text spells, with as many decimals. Throws what `parse` throws, too_many_decimals, and out_of_range
+    /// where the type has not the units.
+    template <class T = std::int64_t> basic_decimal<T> parse_decimal(std::string_view text) const {
+        return detail::accepted(try_parse_decimal<T>(text));
+    }
+
+    /// The same of a text as a person types it (no data type is meant). Throws text_too_long too.
+    template <class T = std::int64_t> basic_decimal<T> parse_typed_decimal(std::string_view text) const {
+        return detail::accepted(try_parse_typed_decimal<T>(text));
     }
 
     /// The text of a decimal, also of a basic_decimal<int128>. Throws bad_scale.
-    std::string print_decimal(decimal number) const { return print_decimal<std::int64_t>(number); }
-    template <class T> std::string print_decimal(basic_decimal<T> number) const {
-        static_assert(is_units<T>, "units of at most 128 bits with a sign");
-        char text[NUM_FORMAT_DECIMAL_MAX];
-        const halves of(number.units);
-        return {text, std::size_t(check(num_format_print_decimal(&held, of.low, of.high, number.scale, text, sizeof text)))};
+    numfmt::text decimal_text(decimal number) const { return decimal_text<std::int64_t>(number); }
+    template <class T> numfmt::text decimal_text(basic_decimal<T> number) const {
+        static_assert(detail::is_units<T>, "units of at most 128 bits with a sign");
+        numfmt::text to;
+        const detail::halves of(number.units);
+        to.length = num_format_format_decimal(&held, of.low, of.high, number.scale, to.bytes, sizeof to.bytes);
+        return detail::check(to.length), to;
     }
 
-    /// The decimal that a text spells, with as many decimals. Throws too_many_decimals too, and out_of_range where the type
-    /// has not the units.
-    template <class T = std::int64_t> basic_decimal<T> parse_decimal(std::string_view text) const {
-        static_assert(is_units<T>, "units of at most 128 bits with a sign");
-        basic_decimal<T> number{};
-        halves units;
-        std::size_t at = 0;
-        check(num_format_parse_decimal(&held, text.data(), text.size(), &units.low, &units.high, &number.scale, &at), at);
-        return units.to(number.units) ? number : throw out_of_range(NUM_FORMAT_OUT_OF_RANGE);
+    /// The same as a string.
+    std::string print_decimal(decimal number) const { return print_decimal<std::int64_t>(number); }
+    template <class T> std::string print_decimal(basic_decimal<T> number) const {
+        return std::string(decimal_text(number).view());
     }
 
     /// The texts of many numbers of a type that `print` takes, or of std::optional of it, whose std::nullopt is null. Throws
     /// too_many_bytes.
     template <class T> column print_column(const std::vector<T> &values) const {
-        constexpr auto number = type<number_of<T>>();
-        return printed(given<number_of<T>>(values), validity_of(values),
+        constexpr auto number = detail::type<detail::number_of<T>>();
+        return printed(given<detail::number_of<T>>(values), detail::validity_of(values),
                        [&](auto... to) { return num_format_print_column_len(&held, number, to...); },
                        [&](auto... to) { return num_format_print_column(&held, number, to...); });
     }
 
     /// The same of decimals of one scale, by their units. Throws bad_scale too.
     template <class T> column print_decimal_column(const std::vector<T> &values, std::uint32_t scale) const {
-        static_assert(is_units<number_of<T>>, "units of at most 128 bits with a sign");
+        static_assert(detail::is_units<detail::number_of<T>>, "units of at most 128 bits with a sign");
         return printed(
-            given<halves>(values), validity_of(values),
+            given<detail::halves>(values), detail::validity_of(values),
             [&](auto units, auto size, auto... to) {
                 return num_format_print_decimal_column_len(&held, units, size, scale, to...);
             },
@@ -259,56 +447,91 @@ public:
             });
     }
 
-    /// The numbers of many texts, each as by `parse`. Throws ambiguous_format, bad_offsets or bad_length.
-    template <class T = std::int64_t> parsed_column<T> try_parse_column(const column &texts) const {
-        return parsed<T, number_of<T>>(texts, [&](auto... from) {
-            return num_format_parse_column(&held, type<number_of<T>>(), 0, from...);
+    /// The numbers of many texts, each as by `parse`, `parse_typed` or `parse_lenient`. Throws ambiguous_format, bad_offsets
+    /// or bad_length.
+    template <class T = std::int64_t>
+    parsed_column<T> try_parse_column(const column &texts, num_format_parsing way = NUM_FORMAT_STRICT) const {
+        return parsed<T, detail::number_of<T>>(texts, [&](auto... from) {
+            return num_format_parse_column(&held, detail::type<detail::number_of<T>>(), std::uint32_t(way), from...);
         });
     }
 
-    /// The units of many decimals at one scale, each text parsed as by `parse_decimal`. Throws bad_scale too. A text that has
-    /// more decimals, which are not 0, has the status of digits_lost.
+    /// The units of many decimals at one scale, each text parsed as by `parse_decimal`, or by `parse_typed_decimal` where the
+    /// way is NUM_FORMAT_TYPED. Throws bad_scale too. A text that has more decimals, which are not 0, has the status of
+    /// digits_lost.
     template <class T = std::int64_t>
-    parsed_column<T> try_parse_decimal_column(const column &texts, std::uint32_t scale) const {
-        static_assert(is_units<number_of<T>>, "units of at most 128 bits with a sign");
-        return parsed<T, halves>(texts, [&](auto... from) {
-            return num_format_parse_decimal_column(&held, scale, from...);
+    parsed_column<T> try_parse_decimal_column(const column &texts, std::uint32_t scale,
+                                              num_format_parsing way = NUM_FORMAT_STRICT) const {
+        static_assert(detail::is_units<detail::number_of<T>>, "units of at most 128 bits with a sign");
+        return parsed<T, detail::halves>(texts, [&](auto... from) {
+            return way == NUM_FORMAT_TYPED ? num_format_parse_typed_decimal_column(&held, scale, from...)
+                                           : num_format_parse_decimal_column(&held, scale, from...);
         });
     }
 
     /// The numbers of many texts. Throws what try_parse_column throws, or the exception of the first text that is refused,
     /// which has its row.
-    template <class T = std::int64_t> std::vector<T> parse_column(const column &texts) const {
-        return accepted(try_parse_column<T>(texts), texts, false);
+    template <class T = std::int64_t>
+    std::vector<T> parse_column(const column &texts, num_format_parsing way = NUM_FORMAT_STRICT) const {
+        return accepted(try_parse_column<T>(texts, way), texts, [&](std::string_view text) {
+            return (way == NUM_FORMAT_TYPED ? try_parse_typed<std::uint64_t>(text) : try_parse<std::uint64_t>(text)).at;
+        });
     }
 
     /// The units of many texts. Throws what try_parse_decimal_column throws, or the exception of the first text that is
     /// refused, which has its row.
-    template <class T = std::int64_t> std::vector<T> parse_decimal_column(const column &texts, std::uint32_t scale) const {
-        return accepted(try_parse_decimal_column<T>(texts, scale), texts, true);
+    template <class T = std::int64_t>
+    std::vector<T> parse_decimal_column(const column &texts, std::uint32_t scale,
+                                        num_format_parsing way = NUM_FORMAT_STRICT) const {
+        return accepted(try_parse_decimal_column<T>(texts, scale, way), texts, [&](std::string_view text) {
+            return (way == NUM_FORMAT_TYPED ? try_parse_typed_decimal(text) : try_parse_decimal(text)).at;
+        });
     }
 
-    /// Whether every number reads back from its text.
-    bool reads_back() const { return check(num_format_reads_back(&held)) == 1; }
-
-    bool operator==(const format &other) const { return bytes() == other.bytes(); }
-    bool operator!=(const format &other) const { return bytes() != other.bytes(); }
+    /// The same of the texts that column::of takes.
+    template <class T = std::int64_t, class Text>
+    std::vector<T> parse_column(const std::vector<Text> &texts, num_format_parsing way = NUM_FORMAT_STRICT) const {
+        return parse_column<T>(column::of(texts), way);
+    }
+    template <class T = std::int64_t, class Text>
+    std::vector<T> parse_decimal_column(const std::vector<Text> &texts, std::uint32_t scale,
+                                        num_format_parsing way = NUM_FORMAT_STRICT) const {
+        return parse_decimal_column<T>(column::of(texts), scale, way);
+    }
+#endif
 private:
-    template <class Fill> explicit format(Fill fill) : held() { check(fill(&held)); }
-    std::string_view bytes() const { return {reinterpret_cast<const char *>(&held), sizeof held}; }
+    format() : held() {}
 
-    /// The validity bitmap of values, which is empty where none can be null.
-    template <class T> static std::vector<std::uint8_t> validity_of(const std::vector<T> &) { return {}; }
-    template <class T> static std::vector<std::uint8_t> validity_of(const std::vector<std::optional<T>> &values) {
-        std::vector<std::uint8_t> validity((values.size() + 7) / 8);
-        for (std::size_t k = 0; k < values.size(); k++) validity[k / 8] |= std::uint8_t(values[k].has_value() << k % 8);
-        return validity;
+    /// The decimal that a call writes.
+    template <class T, class Parse> static result<basic_decimal<T>> decimal_by(Parse parse) {
+        static_assert(detail::is_units<T>, "units of at most 128 bits with a sign");
+        result<basic_decimal<T>> found;
+        basic_decimal<T> number{};
+        detail::halves of;
+        found.status = parse(&of.low, &of.high, &number.scale, &found.at);
+        if (found.status == 0 && !of.to(number.units)) found.status = NUM_FORMAT_OUT_OF_RANGE;
+        if (found.status == 0) found.value = number;
+        return found;
+    }
+
+    /// What a call that fills a struct returns, and the format if it is 0.
+    template <class Fill> static std::pair<std::int32_t, std::optional<format>> made(Fill fill) {
+        format filled;
+        const std::int32_t status = fill(&filled.held);
+        return {status, status == 0 ? std::optional(filled) : std::nullopt};
+    }
+
+#ifdef __cpp_exceptions
+    template <class Fill> static format accepted(Fill fill) {
+        const auto filled = made(fill);
+        return detail::check(filled.first), *filled.second;
     }
 
     /// The values as numbers of type N, where a null is 0.
     template <class N, class T> static std::vector<N> given(const std::vector<T> &values) {
         std::vector<N> numbers(values.size());
-        for (std::size_t k = 0; k < values.size(); k++) numbers[k] = N(std::optional<number_of<T>>(values[k]).value_or(0));
+        for (std::size_t k = 0; k < values.size(); k++)
+            numbers[k] = N(std::optional<detail::number_of<T>>(values[k]).value_or(0));
         return numbers;
     }
 
@@ -317,11 +540,11 @@ private:
     static column printed(const std::vector<N> &numbers, std::vector<std::uint8_t> validity, Measure measure, Print print) {
         const std::size_t size = numbers.size() * sizeof(N), bits = validity.size(), first = 0;
         std::size_t length = 0;
-        check(measure(numbers.data(), size, validity.data(), bits, first, &length));
+        detail::check(measure(numbers.data(), size, validity.data(), bits, first, &length));
         std::vector<std::int64_t> offsets(numbers.size() + 1);
         std::string bytes(length, '0');
-        check(print(numbers.data(), size, validity.data(), bits, first, offsets.data(),
-                    offsets.size() * sizeof(std::int64_t), NUM_FORMAT_I64, bytes.data(), length, &length));
+        detail::check(print(numbers.data(), size, validity.data(), bits, first, offsets.data(),
+                            offsets.size() * sizeof(std::int64_t), NUM_FORMAT_I64, bytes.data(), length, &length));
         return {std::move(offsets), std::move(bytes), std::move(validity)};
     }
 
@@ -330,32 +553,36 @@ private:
         const std::size_t n = texts.size(), size = (n + 1) * sizeof(std::int64_t), first = 0;
         std::vector<N> numbers(n);
         parsed_column<T> made{std::vector<T>(n), std::vector<std::int32_t>(n)};
-        check(parse(texts.offsets.data(), size, NUM_FORMAT_I64, texts.bytes.data(), texts.bytes.size(), numbers.data(),
-                    n * sizeof(N), texts.validity.data(), texts.validity.size(), first, made.statuses.data(), n));
+        detail::check(parse(texts.offsets.data(), size, NUM_FORMAT_I64, texts.bytes.data(), texts.bytes.size(),
+                            numbers.data(), n * sizeof(N), texts.validity.data(), texts.validity.size(), first,
+                            made.statuses.data(), n));
         for (std::size_t k = 0; k < n; k++) {
-            number_of<T> number{};
-            if (!halves(numbers[k]).to(number)) made.statuses[k] = NUM_FORMAT_OUT_OF_RANGE;
+            detail::number_of<T> number{};
+            if (!detail::halves(numbers[k]).to(number)) made.statuses[k] = NUM_FORMAT_OUT_OF_RANGE;
             if (made.statuses[k] == 0 && !texts.is_null(k)) made.values[k] = number;
         }
         return made;
     }
 
     /// The values of a column. Throws the exception of its first row that is refused, with the place in its text.
-    template <class T> std::vector<T> accepted(parsed_column<T> found, const column &texts, bool is_decimal) const {
-        for (std::size_t k = 0, at = 0; k < found.statuses.size(); k++)
-            if (found.statuses[k] < 0) {
-                const std::string_view text = texts[k];
-                halves any;
-                std::uint32_t scale = 0;
-                if (is_decimal) num_format_parse_decimal(&held, text.data(), text.size(), &any.low, &any.high, &scale, &at);
-                else num_format_parse_strict_u128(&held, text.data(), text.size(), &any.low, &any.high, &at);
-                check(found.statuses[k], at, k);
-            }
+    template <class T, class Place> static std::vector<T> accepted(parsed_column<T> found, const column &texts, Place place) {
+        for (std::size_t k = 0; k < found.statuses.size(); k++)
+            detail::check(found.statuses[k], found.statuses[k] == NUM_FORMAT_UNEXPECTED ? place(texts[k]) : 0, k);
         return std::move(found.values);
     }
+#endif
 
     num_format held;
 };
 } // namespace numfmt
+
+#ifdef __cpp_lib_format
+/// A text as an argument of std::format, with the fill, side and width of a string.
+template <> struct std::formatter<numfmt::text> : std::formatter<std::string_view> {
+    template <class Context> auto format(const numfmt::text &printed, Context &context) const {
+        return std::formatter<std::string_view>::format(printed.view(), context);
+    }
+};
+#endif
 
 #endif

@@ -1,23 +1,19 @@
 \echo Use "CREATE EXTENSION num_format" to load this file. \quit
 
-CREATE FUNCTION num_format_bigint(number bigint, locale text) RETURNS text
-    AS 'MODULE_PATHNAME'
-    LANGUAGE C IMMUTABLE STRICT PARALLEL SAFE COST 10;
-
 CREATE FUNCTION num_format_support(internal) RETURNS internal
     AS 'MODULE_PATHNAME'
     LANGUAGE C STRICT;
 
 -- With a second function of this name, a call with a literal or NULL would be ambiguous.
 CREATE FUNCTION num_format(number numeric, locale text) RETURNS text
-    AS 'MODULE_PATHNAME', 'num_format_numeric'
+    AS 'MODULE_PATHNAME', 'num_format_number'
     LANGUAGE C IMMUTABLE STRICT PARALLEL SAFE COST 20 SUPPORT num_format_support;
 
-CREATE OR REPLACE FUNCTION num_parse(text text, locale text) RETURNS bigint
+CREATE FUNCTION num_parse(text text, locale text) RETURNS bigint
     AS 'MODULE_PATHNAME'
     LANGUAGE C IMMUTABLE STRICT PARALLEL SAFE COST 10;
 
-CREATE OR REPLACE FUNCTION num_parse_decimal(text text, locale text) RETURNS numeric
+CREATE FUNCTION num_parse_decimal(text text, locale text) RETURNS numeric
     AS 'MODULE_PATHNAME'
     LANGUAGE C IMMUTABLE STRICT PARALLEL SAFE COST 20;
 
@@ -29,7 +25,23 @@ CREATE FUNCTION num_try_parse_decimal(text text, locale text) RETURNS numeric
     AS 'MODULE_PATHNAME'
     LANGUAGE C IMMUTABLE STRICT PARALLEL SAFE COST 20;
 
-CREATE OR REPLACE FUNCTION num_locale(tag text) RETURNS text
+CREATE FUNCTION num_parse_typed(text text, locale text) RETURNS bigint
+    AS 'MODULE_PATHNAME'
+    LANGUAGE C IMMUTABLE STRICT PARALLEL SAFE COST 10;
+
+CREATE FUNCTION num_parse_typed_decimal(text text, locale text) RETURNS numeric
+    AS 'MODULE_PATHNAME'
+    LANGUAGE C IMMUTABLE STRICT PARALLEL SAFE COST 20;
+
+CREATE FUNCTION num_try_parse_typed(text text, locale text) RETURNS bigint
+    AS 'MODULE_PATHNAME'
+    LANGUAGE C IMMUTABLE STRICT PARALLEL SAFE COST 10;
+
+CREATE FUNCTION num_try_parse_typed_decimal(text text, locale text) RETURNS numeric
+    AS 'MODULE_PATHNAME'
+    LANGUAGE C IMMUTABLE STRICT PARALLEL SAFE COST 20;
+
+CREATE FUNCTION num_locale(tag text) RETURNS text
     AS 'MODULE_PATHNAME'
     LANGUAGE C IMMUTABLE STRICT PARALLEL SAFE COST 10;
 
@@ -38,10 +50,13 @@ CREATE FUNCTION num_format_version() RETURNS text
     LANGUAGE C IMMUTABLE STRICT PARALLEL SAFE;
 
 COMMENT ON FUNCTION num_format(numeric, text) IS 'the number as the locale prints it, with all its decimals';
-COMMENT ON FUNCTION num_format_bigint(bigint, text) IS 'num_format of an integer, which the planner calls';
-COMMENT ON FUNCTION num_parse(text, text) IS 'the whole number that the locale prints as this text';
-COMMENT ON FUNCTION num_parse_decimal(text, text) IS 'the number that the locale prints as this text';
-COMMENT ON FUNCTION num_try_parse(text, text) IS 'num_parse, or null for a text that is refused';
-COMMENT ON FUNCTION num_try_parse_decimal(text, text) IS 'num_parse_decimal, or null for a text that is refused';
-COMMENT ON FUNCTION num_locale(text) IS 'the name of the locale for a language tag, as de_DE.UTF-8';
+COMMENT ON FUNCTION num_parse(text, text) IS 'the whole number that the text spells under the locale, grouped or not';
+COMMENT ON FUNCTION num_parse_decimal(text, text) IS 'the number that the text spells under the locale, grouped or not';
+COMMENT ON FUNCTION num_try_parse(text, text) IS 'num_parse, or null for a text that is rejected';
+COMMENT ON FUNCTION num_try_parse_decimal(text, text) IS 'num_parse_decimal, or null for a text that is rejected';
+COMMENT ON FUNCTION num_parse_typed(text, text) IS 'num_parse of the text as a person types it';
+COMMENT ON FUNCTION num_parse_typed_decimal(text, text) IS 'num_parse_decimal of the text as a person types it';
+COMMENT ON FUNCTION num_try_parse_typed(text, text) IS 'num_parse_typed, or null for a text that is rejected';
+COMMENT ON FUNCTION num_try_parse_typed_decimal(text, text) IS 'num_parse_typed_decimal, or null for a text that is rejected';
+COMMENT ON FUNCTION num_locale(text) IS 'the name of the locale for a language tag: de for de_DE.UTF-8';
 COMMENT ON FUNCTION num_format_version() IS 'the version of the library';

@@ -3,20 +3,22 @@
  *
  * The calls of num_format.h print and parse.  This file converts values
  * and encodings, keeps the format of the last locale of each call in a
- * query, plans calls with integers, and words the errors.
+ * query, lets integers pass without a cast to numeric, and words the errors.
  */
 #include "postgres.h"
 
+#include "catalog/namespace.h"
 #include "catalog/pg_type.h"
 #include "fmgr.h"
+#include "lib/stringinfo.h"
 #include "mb/pg_wchar.h"
 #include "nodes/makefuncs.h"
+#include "nodes/nodeFuncs.h"
 #include "nodes/supportnodes.h"
-#include "parser/parse_func.h"
+#include "port/pg_bswap.h"
 #include "utils/builtins.h"
 #include "utils/fmgroids.h"
-#include "utils/lsyscache.h"
-#include "utils/numeric.h"
+#include "utils/memutils.h"
 #if PG_VERSION_NUM >= 160000
 #include "varatt.h"
 #endif
@@ -25,13 +27,16 @@
 
 PG_MODULE_MAGIC;
 
-PG_FUNCTION_INFO_V1(num_format_bigint);
-PG_FUNCTION_INFO_V1(num_format_numeric);
+PG_FUNCTION_INFO_V1(num_format_number);
 PG_FUNCTION_INFO_V1(num_format_support);
 PG_FUNCTION_INFO_V1(num_parse);
 PG_FUNCTION_INFO_V1(num_parse_decimal);
 PG_FUNCTION_INFO_V1(num_try_parse);
 PG_FUNCTION_INFO_V1(num_try_parse_decimal);
+PG_FUNCTION_INFO_V1(num_parse_typed);
+PG_FUNCTION_INFO_V1(num_parse_typed_decimal);
+PG_FUNCTION_INFO_V1(num_try_parse_typed);
+PG_FUNCTION_INFO_V1(num_try_parse_typed_decimal);
 PG_FUNCTION_INFO_V1(num_locale);
 PG_FUNCTION_INFO_V1(num_format_library_version);
 
@@ -47,10 +52,14 @@ static const num_format plain = {
 	.grouping = NUM_FORMAT_POSIX,
 };
 
-/* The format of a locale, kept with a call for as long as its query runs. */
+/*
+ * The format of a locale, kept with a call for as long as its query runs, and
+ * whether argument 0 of the call is a bigint: see num_format_support.
+ */
 typedef struct KeptFormat
 {
 	num_format	format;
+	bool		is_bigint;
 	int			length;
 	char		name[NUM_FORMAT_MAX];
 } KeptFormat;
@@ -62,16 +71,55 @@ typedef struct Utf8
 	size_t		length;
 } Utf8;
 
-/* Returns an argument in UTF-8. */
-static Utf8
-utf8_argument(FunctionCallInfo fcinfo, int i)
+/* Returns whether the bytes are ASCII, and so the same in each encoding that a database may have. */
+static bool
+is_ascii(const char *bytes, size_t length)
+{
+	for (size_t i = 0; i < length; i++)
+		if (IS_HIGHBIT_SET(bytes[i]))
+			return false;
+	return true;
+}
+
+/* Returns a text of the database's encoding in UTF-8, or NULL where it cannot be converted. */
+static char *
+try_converted(char *bytes, int length)
+{
+	int			encoding = GetDatabaseEncoding();
+	Oid			conversion = FindDefaultConversionProc(encoding, PG_UTF8);
+	int			capacity = length * MAX_CONVERSION_GROWTH + 1;
+	char	   *converted;
+
+	if (!OidIsValid(conversion))
+		return NULL;
+	converted = palloc(capacity);
+	if (pg_do_encoding_conversion_buf(conversion, encoding, PG_UTF8, (unsigned char *) bytes, length,
+									  (unsigned char *) converted, capacity, true) < length)
+		return NULL;
+	return converted;
+}
+
+/*
+ * Writes an argument in UTF-8, and returns true.  Where it cannot be
+ * converted, this is an error, or with is_try returns false.
+ */
+static bool
+utf8_argument(FunctionCallInfo fcinfo, int i, bool is_try, Utf8 *utf8)
 {
 	text	   *argument = PG_GETARG_TEXT_PP(i);
-	const char *bytes = VARDATA_ANY(argument);
-	size_t		length = VARSIZE_ANY_EXHDR(argument);
-	const char *utf8 = pg_server_to_any(bytes, length, PG_UTF8);
+	char	   *bytes = VARDATA_ANY(argument);
+	int			length = VARSIZE_ANY_EXHDR(argument);
 
-	return (Utf8) {utf8, utf8 == bytes ? length : strlen(utf8)};
+	*utf8 = (Utf8) {bytes, length};
+	if (GetDatabaseEncoding() == PG_UTF8 || is_ascii(bytes, length))
+		return true;
+	if (GetDatabaseEncoding() == PG_SQL_ASCII)
+		return pg_verify_mbstr(PG_UTF8, bytes, length, is_try);
+	if (is_try && length >= MaxAllocSize / MAX_CONVERSION_GROWTH)
+		return false;
+	utf8->bytes = is_try ? try_converted(bytes, length) : pg_server_to_any(bytes, length, PG_UTF8);
+	utf8->length = utf8->bytes ? strlen(utf8->bytes) : 0;
+	return utf8->bytes != NULL;
 }
 
 /* Returns the start of a text in the database's encoding, to be shown. */
@@ -91,8 +139,8 @@ shown_argument(FunctionCallInfo fcinfo, int i)
 	return shown(VARDATA_ANY(argument), VARSIZE_ANY_EXHDR(argument));
 }
 
-/* Returns the format of the locale for the name or tag in argument 1. */
-static const num_format *
+/* Returns the format of the locale for the name or tag in argument 1, as it is kept. */
+static const KeptFormat *
 locale_format(FunctionCallInfo fcinfo)
 {
 	text	   *argument = PG_GETARG_TEXT_PP(1);
@@ -103,12 +151,14 @@ locale_format(FunctionCallInfo fcinfo)
 	if (kept == NULL)
 	{
 		kept = MemoryContextAllocZero(fcinfo->flinfo->fn_mcxt, sizeof(KeptFormat));
+		kept->is_bigint = get_fn_expr_argtype(fcinfo->flinfo, 0) == INT8OID;
 		fcinfo->flinfo->fn_extra = kept;
 	}
 	if (length == 0 || length != kept->length || memcmp(name, kept->name, length) != 0)
 	{
-		Utf8		tag = utf8_argument(fcinfo, 1);
+		Utf8		tag;
 
+		utf8_argument(fcinfo, 1, false, &tag);
 		if (num_format_lookup(&kept->format, tag.bytes, tag.length) != 0)
 			ereport(ERROR,
 					(errcode(ERRCODE_INVALID_PARAMETER_VALUE),
@@ -116,32 +166,25 @@ locale_format(FunctionCallInfo fcinfo)
 		kept->length = length <= NUM_FORMAT_MAX ? length : 0;
 		memcpy(kept->name, name, kept->length);
 	}
-	return &kept->format;
+	return kept;
 }
 
 /* Returns the text that was printed in UTF-8. */
 static Datum
 printed_text(const char *printed, int length)
 {
-	char	   *converted = pg_any_to_server(printed, length, PG_UTF8);
+	const char *converted = is_ascii(printed, length) ? printed : pg_any_to_server(printed, length, PG_UTF8);
 
 	if (converted != printed)
 		length = strlen(converted);
 	return PointerGetDatum(cstring_to_text_with_len(converted, length));
 }
 
-Datum
-num_format_bigint(PG_FUNCTION_ARGS)
-{
-	char		printed[NUM_FORMAT_MAX];
-	int			length = num_format_print_i64(locale_format(fcinfo), PG_GETARG_INT64(0), printed, sizeof(printed));
-
-	return printed_text(printed, length);
-}
-
 /*
- * Plans num_format(number::numeric, locale) of an integer as
- * num_format_bigint(number::bigint, locale), which takes less time.
+ * Plans num_format(number::numeric, locale) of an integer as a call of the
+ * same function, with the number as a bigint in place of the numeric that is
+ * declared.  num_format_number sees the type.  No other function is called,
+ * so rights are those of num_format.
  */
 Datum
 num_format_support(PG_FUNCTION_ARGS)
@@ -150,9 +193,6 @@ num_format_support(PG_FUNCTION_ARGS)
 	FuncExpr   *call,
 			   *cast;
 	Node	   *number;
-	List	   *name;
-	Oid			types[] = {INT8OID, TEXTOID};
-	Oid			function;
 
 	if (!IsA(request, SupportRequestSimplify))
 		PG_RETURN_POINTER(NULL);
@@ -164,25 +204,29 @@ num_format_support(PG_FUNCTION_ARGS)
 	if (cast->funcid != F_NUMERIC_INT8)
 		number = (Node *) makeFuncExpr(cast->funcid == F_NUMERIC_INT4 ? F_INT8_INT4 : F_INT8_INT2, INT8OID,
 									   list_make1(number), InvalidOid, InvalidOid, COERCE_IMPLICIT_CAST);
-	name = list_make2(makeString(get_namespace_name(get_func_namespace(call->funcid))), makeString("num_format_bigint"));
-	function = LookupFuncName(name, 2, types, false);
-	PG_RETURN_POINTER(makeFuncExpr(function, TEXTOID, list_make2(number, lsecond(call->args)), call->funccollid,
-								   call->inputcollid, COERCE_EXPLICIT_CALL));
+	if (exprType(number) != INT8OID)
+		PG_RETURN_POINTER(NULL);
+	PG_RETURN_POINTER(makeFuncExpr(call->funcid, call->funcresulttype, list_make2(number, lsecond(call->args)),
+								   call->funccollid, call->inputcollid, COERCE_EXPLICIT_CALL));
 }
 
-/* The number goes by its text as SQL writes it, which has the decimals of its scale. */
+/* A bigint is printed at once. A numeric goes by its text as SQL writes it, which has the decimals of its scale. */
 Datum
-num_format_numeric(PG_FUNCTION_ARGS)
+num_format_number(PG_FUNCTION_ARGS)
 {
-	const num_format *format = locale_format(fcinfo);
-	char	   *number = DatumGetCString(DirectFunctionCall1(numeric_out, PG_GETARG_DATUM(0)));
+	const KeptFormat *kept = locale_format(fcinfo);
 	char		printed[NUM_FORMAT_DECIMAL_MAX];
+	char	   *number;
 	uint64_t	low,
 				high;
 	uint32_t	scale;
 	size_t		at;
-	int			status = num_format_parse_decimal(&plain, number, strlen(number), &low, &high, &scale, &at);
+	int			status;
 
+	if (kept->is_bigint)
+		return printed_text(printed, num_format_print_i64(&kept->format, PG_GETARG_INT64(0), printed, sizeof(printed)));
+	number = DatumGetCString(DirectFunctionCall1(numeric_out, PG_GETARG_DATUM(0)));
+	status = num_format_parse_decimal(&plain, number, strlen(number), &low, &high, &scale, &at);
 	if (status != 0)
 		ereport(ERROR,
 				(errcode(ERRCODE_NUMERIC_VALUE_OUT_OF_RANGE),
@@ -192,7 +236,7 @@ num_format_numeric(PG_FUNCTION_ARGS)
 				 status == NUM_FORMAT_TOO_MANY_DECIMALS ?
 				 errdetail("It has more than 38 decimals.") :
 				 errdetail("It is not finite.")));
-	return printed_text(printed, num_format_print_decimal(format, low, high, scale, printed, sizeof(printed)));
+	return printed_text(printed, num_format_print_decimal(&kept->format, low, high, scale, printed, sizeof(printed)));
 }
 
 /* Returns the place of the character that begins after so many bytes, counted from 1 as substr does. */
@@ -207,13 +251,35 @@ place_of(Utf8 utf8, size_t at)
 }
 
 /*
+ * Returns the text that the locale prints of the number for which a text is
+ * typed, or no text.  A whole number is looked for where no scale is.
+ */
+static int
+typed_text(const num_format *format, Utf8 utf8, bool is_whole, char printed[NUM_FORMAT_DECIMAL_MAX])
+{
+	uint64_t	low,
+				high;
+	uint32_t	scale;
+	size_t		at;
+
+	if (num_format_parse_typed_decimal(format, utf8.bytes, utf8.length, &low, &high, &scale, &at) != 0 ||
+		(is_whole && scale > 0))
+		return 0;
+	return num_format_print_decimal(format, low, high, scale, printed, NUM_FORMAT_DECIMAL_MAX);
+}
+
+/*
  * Reports why argument 0 was refused under the locale in argument 1 as a
  * number of the type, which has so many bits and a sign.
  */
 static void
-refuse(FunctionCallInfo fcinfo, Utf8 utf8, const char *type, int bits, int status, size_t at)
+refuse(FunctionCallInfo fcinfo, Utf8 utf8, bool is_typed, const char *type, int bits, int status, size_t at)
 {
 	char	   *given = shown_argument(fcinfo, 0);
+	bool		is_whole = strcmp(type, "bigint") == 0;
+	char		printed[NUM_FORMAT_DECIMAL_MAX];
+	int			length = is_typed ? 0 : typed_text(&locale_format(fcinfo)->format, utf8, is_whole, printed);
+	const char *wanted = "";
 
 	if (status == NUM_FORMAT_OUT_OF_RANGE || status == NUM_FORMAT_TOO_MANY_DECIMALS)
 		ereport(ERROR,
@@ -222,75 +288,127 @@ refuse(FunctionCallInfo fcinfo, Utf8 utf8, const char *type, int bits, int statu
 				 status == NUM_FORMAT_OUT_OF_RANGE ?
 				 errdetail("It needs more than %d bits.", bits) :
 				 errdetail("It has more than 38 decimals.")));
+	if (status == NUM_FORMAT_UNEXPECTED && length > (int) at && memcmp(printed, utf8.bytes, at) == 0 &&
+		!isdigit((unsigned char) printed[at]))
+		wanted = psprintf(", in place of U+%04X", utf8_to_unicode((const unsigned char *) printed + at));
 	ereport(ERROR,
 			(errcode(ERRCODE_INVALID_TEXT_REPRESENTATION),
 			 errmsg("invalid input syntax for type %s under locale \"%s\": \"%s\"",
 					type, shown_argument(fcinfo, 1), given),
 			 status == NUM_FORMAT_UNEXPECTED ?
-			 errdetail("Character %d, U+%04X, is unexpected.", place_of(utf8, at),
-					   utf8_to_unicode((const unsigned char *) utf8.bytes + at)) :
+			 errdetail("Character %d, U+%04X, is unexpected%s.", place_of(utf8, at),
+					   utf8_to_unicode((const unsigned char *) utf8.bytes + at), wanted) :
+			 status == NUM_FORMAT_TEXT_TOO_LONG ?
+			 errdetail("It is longer than the text of any number.") :
 			 status == NUM_FORMAT_NO_DIGIT ?
 			 errdetail("It has no digit.") :
-			 errdetail("It is not as the number is printed.")));
+			 errdetail("It is not as the number is printed."),
+			 length > 0 ? errhint("%s reads it.", is_whole ? "num_parse_typed" : "num_parse_typed_decimal") : 0));
 }
 
-/* Parses argument 0. A text that is refused is an error, or null. */
+/* Parses argument 0, strictly or as a person types it. A text that is refused is an error, or null. */
 static Datum
-parse(FunctionCallInfo fcinfo, bool is_try)
+parse(FunctionCallInfo fcinfo, bool is_typed, bool is_try)
 {
-	const num_format *format = locale_format(fcinfo);
-	Utf8		utf8 = utf8_argument(fcinfo, 0);
+	const num_format *format = &locale_format(fcinfo)->format;
+	Utf8		utf8;
 	int64		number;
 	size_t		at = 0;
-	int			status = num_format_parse_strict_i64(format, 64, utf8.bytes, utf8.length, &number, &at);
+	int			status;
 
+	if (!utf8_argument(fcinfo, 0, is_try, &utf8))
+		PG_RETURN_NULL();
+	status = is_typed ?
+		num_format_parse_typed(format, NUM_FORMAT_I64, utf8.bytes, utf8.length, &number, sizeof(number), &at) :
+		num_format_parse_strict_i64(format, 64, utf8.bytes, utf8.length, &number, &at);
 	if (status != 0 && is_try)
 		PG_RETURN_NULL();
 	if (status != 0)
-		refuse(fcinfo, utf8, "bigint", 63, status, at);
+		refuse(fcinfo, utf8, is_typed, "bigint", 63, status, at);
 	PG_RETURN_INT64(number);
+}
+
+/*
+ * Returns the numeric of units at a scale.  It is received in its binary
+ * form: how many digits of base 10,000 there are, the power of the first one,
+ * the sign, the scale and the digits, of which one begins at the mark.
+ */
+static Datum
+numeric_of(int64 units, uint32 scale)
+{
+	static const int powers[] = {1, 10, 100, 1000};
+	uint64		rest = units < 0 ? -(uint64) units : units;
+	int			after = (scale + 3) / 4;
+	int			power = powers[4 * after - scale];
+	uint16		form[10];
+	uint16	   *end = form + lengthof(form);
+	uint16	   *first = end;
+	StringInfoData message;
+
+	*--first = pg_hton16(rest % (10000 / power) * power);
+	for (rest /= 10000 / power; rest > 0; rest /= 10000)
+		*--first = pg_hton16(rest % 10000);
+	first -= 4;
+	first[0] = pg_hton16(end - first - 4);
+	first[1] = pg_hton16(end - first - 5 - after);
+	first[2] = pg_hton16(units < 0 ? 0x4000 : 0);
+	first[3] = pg_hton16(scale);
+	message = (StringInfoData) {.data = (char *) first, .len = (end - first) * sizeof(*first)};
+	return DirectFunctionCall3(numeric_recv, PointerGetDatum(&message), ObjectIdGetDatum(InvalidOid), Int32GetDatum(-1));
 }
 
 /* The same as a decimal. */
 static Datum
-parse_decimal(FunctionCallInfo fcinfo, bool is_try)
+parse_decimal(FunctionCallInfo fcinfo, bool is_typed, bool is_try)
 {
-	const num_format *format = locale_format(fcinfo);
-	Utf8		utf8 = utf8_argument(fcinfo, 0);
+	const num_format *format = &locale_format(fcinfo)->format;
+	Utf8		utf8;
 	uint64_t	low,
 				high;
 	uint32_t	scale;
 	size_t		at = 0;
-	int			status = num_format_parse_decimal(format, utf8.bytes, utf8.length, &low, &high, &scale, &at);
+	int			status;
 	char		number[NUM_FORMAT_DECIMAL_MAX + 1];
 
+	if (!utf8_argument(fcinfo, 0, is_try, &utf8))
+		PG_RETURN_NULL();
+	status = (is_typed ? num_format_parse_typed_decimal : num_format_parse_decimal) (format, utf8.bytes, utf8.length,
+																					 &low, &high, &scale, &at);
 	if (status != 0 && is_try)
 		PG_RETURN_NULL();
 	if (status != 0)
-		refuse(fcinfo, utf8, "numeric", 127, status, at);
-	/* Units of 64 bits make a numeric at once, others by their text. */
+		refuse(fcinfo, utf8, is_typed, "numeric", 127, status, at);
+	/* Other units than those of 64 bits make a numeric by their text. */
 	if (high == ((int64) low < 0 ? PG_UINT64_MAX : 0))
-		PG_RETURN_NUMERIC(int64_div_fast_to_numeric((int64) low, scale));
+		PG_RETURN_DATUM(numeric_of((int64) low, scale));
 	number[num_format_print_decimal(&plain, low, high, scale, number, NUM_FORMAT_DECIMAL_MAX)] = '\0';
 	PG_RETURN_DATUM(DirectFunctionCall3(numeric_in, CStringGetDatum(number), ObjectIdGetDatum(InvalidOid),
 										Int32GetDatum(-1)));
 }
 
-#define PARSING(name, parse, is_try) Datum name(PG_FUNCTION_ARGS) { return parse(fcinfo, is_try); }
+#define PARSING(name, parse, is_typed, is_try) \
+	Datum name(PG_FUNCTION_ARGS) { return parse(fcinfo, is_typed, is_try); }
 
-PARSING(num_parse, parse, false)
-PARSING(num_try_parse, parse, true)
-PARSING(num_parse_decimal, parse_decimal, false)
-PARSING(num_try_parse_decimal, parse_decimal, true)
+PARSING(num_parse, parse, false, false)
+PARSING(num_try_parse, parse, false, true)
+PARSING(num_parse_typed, parse, true, false)
+PARSING(num_try_parse_typed, parse, true, true)
+PARSING(num_parse_decimal, parse_decimal, false, false)
+PARSING(num_try_parse_decimal, parse_decimal, false, true)
+PARSING(num_parse_typed_decimal, parse_decimal, true, false)
+PARSING(num_try_parse_typed_decimal, parse_decimal, true, true)
 
 /* Null is returned where the tag is of no locale. */
 Datum
 num_locale(PG_FUNCTION_ARGS)
 {
-	Utf8		tag = utf8_argument(fcinfo, 0);
+	Utf8		tag;
 	char		name[NUM_FORMAT_MAX];
-	int			length = num_format_lookup_name(tag.bytes, tag.length, name, sizeof(name));
+	int			length;
 
+	if (!utf8_argument(fcinfo, 0, true, &tag))
+		PG_RETURN_NULL();
+	length = num_format_lookup_name(tag.bytes, tag.length, name, sizeof(name));
 	if (length < 0)
 		PG_RETURN_NULL();
 	/* Names are ASCII, so they are the same in each encoding. */

@@ -17,7 +17,7 @@ LIBRARY = HERE.parent.parent / "crates/num_format_c/out/libnum_format_c.a"
 PG_CONFIG = os.environ.get("PG_CONFIG", "pg_config")
 
 # The most seconds for a run.
-RUN_SECONDS = 120
+RUN_SECONDS = 1500
 
 SETTINGS = """
 listen_addresses = ''
@@ -50,13 +50,25 @@ def as_server(words):
     return ["setpriv", f"--reuid={nobody.pw_uid}", f"--regid={nobody.pw_gid}", "--clear-groups", *words]
 
 
-def lack():
-    """What is missing, if anything is."""
+def major():
+    """The first number of the server's version."""
+    return run([PG_CONFIG, "--version"])[1].split()[1].partition(".")[0]
+
+
+def lack_to_build():
+    """What is missing to build the extension, if anything is."""
     for tool in ["cc", "make", PG_CONFIG]:
         if shutil.which(tool) is None:
             return f"there is no `{tool}`"
     if not (asked("--includedir-server") / "postgres.h").is_file():
         return "there is no header postgres.h"
+    return None
+
+
+def lack():
+    """What is missing to build the extension and run a server, if anything is."""
+    if why := lack_to_build():
+        return why
     for tool in ["initdb", "pg_ctl", "postgres", "psql"]:
         if not (asked("--bindir") / tool).is_file():
             return f"there is no `{asked('--bindir') / tool}`"

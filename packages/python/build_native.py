@@ -1,4 +1,4 @@
-"""Compiles num_format._native, a module over the static library libnum_format_c.a, by cffi.
+"""Compiles num_format._native, a module over the static library libnum_format_c.a.
 
 The library is the first of these that is there:
 
@@ -10,12 +10,12 @@ The header num_format.h of a library that is not of pkg-config is beside it, in 
 there.
 """
 import os
-import re
 import shutil
 import subprocess
+import sysconfig
 from pathlib import Path
 
-from cffi import FFI
+from setuptools import Extension
 
 HERE = Path(__file__).resolve().parent
 BUILT = HERE.parents[1] / "crates" / "num_format_c" / "out" / "libnum_format_c.a"
@@ -25,19 +25,6 @@ Build it by `tools/build library`, or set NUM_FORMAT_LIBRARY to its path. Looked
 1. the file that the environment variable NUM_FORMAT_LIBRARY names
 2. libnum_format.a of the package num_format, by pkg-config
 3. {BUILT}"""
-
-# What cffi is told of num_format.h: its numbers, the struct, and the calls that are not inline.
-NUMBER = re.compile(r"\b(NUM_FORMAT_\w+)(?= = | \d+$)", re.MULTILINE)
-STRUCT = re.compile(r"^typedef struct num_format \{.*?^\} num_format;$", re.DOTALL | re.MULTILINE)
-CALL = re.compile(r"^(?:u?int32_t|size_t) num_format_\w+\([^)]*\);$", re.MULTILINE)
-
-
-def declarations(folder):
-    """What cffi is told of the header in that folder. The C compiler compares it with the header."""
-    header = (folder / "num_format.h").read_text(encoding="utf-8")
-    numbers = (f"#define {name} ..." for name in NUMBER.findall(header))
-    return "\n".join([*numbers, *STRUCT.findall(header), *CALL.findall(header)])
-
 
 def installed():
     """The library that pkg-config knows, and the folder of its header; None if it knows none."""
@@ -76,13 +63,17 @@ def find_library():
 
 
 library, include = find_library()
-builder = FFI()
-builder.cdef(declarations(include))
-builder.set_source(
+
+# A module for each Python from 3.10 on, but for those without a GIL, which take none but their own.
+serves_all = not sysconfig.get_config_var("Py_GIL_DISABLED")
+module = Extension(
     "num_format._native",
-    "#include <num_format.h>",
+    ["src/num_format/_native.c"],
     include_dirs=[str(include)],
     extra_objects=[str(library)],
+    depends=[str(library), str(include / "num_format.h")],
+    define_macros=[("Py_LIMITED_API", "0x030a0000")] if serves_all else [],
+    py_limited_api=serves_all,
     # So the import fails with a message, and no call with a signal, on a processor below what the library needs.
     extra_link_args=["-Wl,-z,x86-64-v2"],
 )

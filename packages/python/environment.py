@@ -1,6 +1,6 @@
 """An environment of Python that has the package over a static library, in a temporary folder.
 
-It needs a `python3` with cffi, setuptools, wheel, pip and venv, and a C compiler. Of those on the path and
+It needs a `python3` with its headers, setuptools, wheel, pip and venv, and a C compiler. Of those on the path and
 /usr/bin/python3, the one that lacks the least is taken. Nothing is written into the repository, and no network is
 used.
 """
@@ -13,7 +13,7 @@ HERE = Path(__file__).resolve().parent
 LIBRARY = HERE.parents[1] / "crates" / "num_format_c" / "out" / "libnum_format_c.a"
 
 # What the package cannot be installed without.
-NEEDED = ["cffi", "setuptools", "wheel", "pip", "venv"]
+NEEDED = ["setuptools", "wheel", "pip", "venv"]
 
 # What the copy of the package leaves out.
 IGNORED = shutil.ignore_patterns("__pycache__", "build", "*.egg-info", "_native.*.so")

@@ -66,15 +66,17 @@ use crate::grouping::Grouping;
 pub enum Locale {{
 {"".join(map(variant, table))}}}
 
+pub(super) const LEN: usize = {len(table)};
+
 /// The names, in rising byte order, which is that of the variants.
 #[rustfmt::skip]
-pub(super) static NAMES: [&str; {len(table)}] = [
+pub(super) const NAMES: [&str; LEN] = [
 {filled((literal(row["name"]) for row in table), " " * 4)}];
 
 /// The data of each locale, in the same order: its variant, grouping, decimal mark, infinity, minus sign,
 /// NaN, plus sign and separator.
 #[rustfmt::skip]
-pub(super) static ROWS: [Row; {len(table)}] = [
+pub(super) static ROWS: [Row; LEN] = [
 {"".join(map(table_row, table))}];
 """
 

@@ -28,7 +28,7 @@ typedef struct column {
     char bytes[ROOM + 1];
     int32_t statuses[ROWS];
     num_format format;
-    uint32_t type, offset_type, scale, lenient;
+    uint32_t type, offset_type, scale, way;
     size_t shift, values_size, validity_size, bit_offset, offsets_size, bytes_size, statuses_length, length;
 } column;
 
@@ -53,10 +53,13 @@ static uint8_t *offsets(void) { return (uint8_t *)now.offsets + now.shift; }
 #define STATUSES now.statuses, now.statuses_length
 static int32_t print(void) { return num_format_print_column(FORMAT, now.type, VALUES, NULLS, TEXTS, &now.length); }
 static int32_t measure(void) { return num_format_print_column_len(FORMAT, now.type, VALUES, NULLS, &now.length); }
-static int32_t parse(void) { return num_format_parse_column(FORMAT, now.type, now.lenient, TEXTS, VALUES, NULLS, STATUSES); }
+static int32_t parse(void) { return num_format_parse_column(FORMAT, now.type, now.way, TEXTS, VALUES, NULLS, STATUSES); }
 static int32_t print_decimals(void) { return num_format_print_decimal_column(FORMAT, VALUES, now.scale, NULLS, TEXTS, &now.length); }
 static int32_t measure_decimals(void) { return num_format_print_decimal_column_len(FORMAT, VALUES, now.scale, NULLS, &now.length); }
-static int32_t parse_decimals(void) { return num_format_parse_decimal_column(FORMAT, now.scale, TEXTS, VALUES, NULLS, STATUSES); }
+static int32_t parse_decimals(void) {
+    return now.way == NUM_FORMAT_TYPED ? num_format_parse_typed_decimal_column(FORMAT, now.scale, TEXTS, VALUES, NULLS, STATUSES)
+                                       : num_format_parse_decimal_column(FORMAT, now.scale, TEXTS, VALUES, NULLS, STATUSES);
+}
 
 /* The calls for numbers, and for decimals. */
 static int32_t (*const calls[][3])(void) = {{print, measure, parse}, {print_decimals, measure_decimals, parse_decimals}};
@@ -81,7 +84,7 @@ static int is_null(size_t row) {
 static void begin(const kind *kind, uint32_t offset_type, size_t n) {
     memset(&now, 'x', sizeof now);
     CHECK("locale", 0, num_format_locale(&now.format, "de", 2), 0);
-    now.type = kind->type, now.offset_type = offset_type, now.scale = 0, now.lenient = 0, now.shift = 0;
+    now.type = kind->type, now.offset_type = offset_type, now.scale = 0, now.way = 0, now.shift = 0;
     now.values_size = n * kind->size, now.validity_size = 0, now.bit_offset = 0, now.offsets_size = (n + 1) * width();
     now.bytes_size = ROOM, now.statuses_length = n;
 }
@@ -121,12 +124,13 @@ static size_t model(const kind *kind, const uint8_t *value, uint32_t scale, char
     return length;
 }
 
-/* Parses what was printed, strictly and leniently, and finds the values again, but for those of nulls. */
+/* Parses what was printed in each way, and finds the values again, but for those of nulls. Decimals are not parsed
+ * leniently. */
 static void check_parsed(const kind *kind, size_t n) {
     uint8_t printed[sizeof now.values], kept[16];
     memcpy(printed, values(), now.values_size);
     memset(kept, 'x', sizeof kept);
-    for (now.lenient = 0; now.lenient <= !kind->is_decimal; now.lenient++) {
+    for (now.way = 0; now.way <= NUM_FORMAT_TYPED; now.way += 1 + (uint32_t)kind->is_decimal) {
         memset(values(), 'x', now.values_size);
         memset(now.statuses, 'x', sizeof now.statuses);
         CHECK("parsed", n, calls[kind->is_decimal][2](), 0);
@@ -237,24 +241,29 @@ static void check_types(void) {
 
 #define NINES "999.999.999.999.999.999.999.999.999.999.999.999.999"
 #define ZEROS "0,000000000000000000000000000000000000000"
+#define LONG ZEROS ZEROS ZEROS ZEROS ZEROS
 
-/* Texts as numbers, strictly and leniently, and as decimals at scale 2: the status of each, and what is written with 0.
- * A row without a text is null. */
+/* Texts as numbers, strictly, leniently and as people type them, and as decimals at scale 2, strictly and as people type
+ * them: the status of each, and what is written with 0. A row without a text is null. */
 static const struct {
     const char *text;
     int32_t status, value;
 } texts[][TRIED] = {
     {{"7", 0, 7}, {"12x", -9, 0}, {"", -10, 0}, {"1.23", -11, 0}, {NINES, -12, 0}, {"\xff", -3, 0}, {"126", 0, 126}},
     {{"7", 0, 7}, {"12x", 0, 12}, {"", -4, 0}, {"1.23", 0, 123}, {NINES, -4, 0}, {"\xff", -3, 0}, {"(0)", 0, 0}},
+    {{" 7\t", 0, 7}, {"12x", -9, 0}, {"-", -10, 0}, {"1.23", -11, 0}, {NINES, -12, 0}, {"\xff", -3, 0}, {"+126", 0, 126},
+     {LONG, -21, 0}, {"-0", 0, 0}},
     {{"7", 0, 700}, {"1,5,", -9, 0}, {",", -10, 0}, {"-0,0", -11, 0}, {NINES, -12, 0}, {"\xff", -3, 0}, {"-1,500", 0, -150},
      {"1,505", -18, 0}, {ZEROS, -14, 0}},
+    {{" 7", 0, 700}, {"1,5,", -9, 0}, {",", -10, 0}, {"-0,0", 0, 0}, {NINES, -12, 0}, {"\xff", -3, 0},
+     {"\u2212" "1,500", 0, -150}, {"1,505", -18, 0}, {ZEROS, -14, 0}, {LONG, -21, 0}},
 };
 
 /* Each status of a row, in a column that begins and ends within the bytes. */
-static void check_statuses(const kind *kind, uint32_t offset_type, uint32_t lenient) {
-    size_t way = kind->is_decimal ? 2 : lenient, end = 2;
+static void check_statuses(const kind *kind, uint32_t offset_type, uint32_t tried) {
+    size_t way = kind->is_decimal ? 3 + tried / 2 : tried, end = 2;
     begin(kind, offset_type, TRIED);
-    now.lenient = lenient, now.scale = 2, now.validity_size = 2, now.bit_offset = 5;
+    now.way = tried, now.scale = 2, now.validity_size = 2, now.bit_offset = 5;
     memset(now.validity, 0, sizeof now.validity);
     for (size_t k = 0; k < TRIED; k++) {
         const char *text = texts[way][k].text ? texts[way][k].text : "any";
@@ -308,12 +317,16 @@ static void check_null(void) {
     CHECK("null text, strict", 0, num_format_parse_strict_i64(format, 64, NULL, 0, &number, &at), NUM_FORMAT_NO_DIGIT);
     CHECK("null text, strict, 128 bits", 0, num_format_parse_strict_u128(format, NULL, 0, &low, &high, &at), NUM_FORMAT_NO_DIGIT);
     CHECK("null text of a decimal", 0, num_format_parse_decimal(format, NULL, 0, &low, &high, &scale, &at), NUM_FORMAT_NO_DIGIT);
+    CHECK("null text, typed", 0, num_format_parse_typed(format, 'l', NULL, 0, &number, sizeof number, &at), NUM_FORMAT_NO_DIGIT);
+    CHECK("null value, typed", 0, num_format_parse_typed(format, 'l', "1", 1, NULL, 0, &at), NUM_FORMAT_BAD_LENGTH);
+    CHECK("null text of a typed decimal", 0, num_format_parse_typed_decimal(format, NULL, 0, &low, &high, &scale, &at), NUM_FORMAT_NO_DIGIT);
     CHECK("null column's length", 0, num_format_print_column_len(format, 'c', NULL, 0, NULL, 0, 0, &size), 0);
     CHECK("null decimals' length", 0, num_format_print_decimal_column_len(format, NULL, 0, 2, NULL, 0, 0, &size), 0);
     CHECK("null column", 0, num_format_print_column(format, 'c', NULL, 0, NULL, 0, 0, &offset, 8, 'l', NULL, 0, &size), 0);
     CHECK("null decimals", 0, num_format_print_decimal_column(format, NULL, 0, 2, NULL, 0, 0, &offset, 8, 'l', NULL, 0, &size), 0);
     CHECK("null column parsed", 0, num_format_parse_column(format, 'c', 0, &offset, 8, 'l', NULL, 0, NULL, 0, NULL, 0, 0, NULL, 0), 0);
     CHECK("null decimals parsed", 0, num_format_parse_decimal_column(format, 2, &offset, 8, 'l', NULL, 0, NULL, 0, NULL, 0, 0, NULL, 0), 0);
+    CHECK("null typed decimals", 0, num_format_parse_typed_decimal_column(format, 2, &offset, 8, 'l', NULL, 0, NULL, 0, NULL, 0, 0, NULL, 0), 0);
     CHECK("null offsets", 0, num_format_parse_column(format, 'c', 0, NULL, 0, 'l', NULL, 0, NULL, 0, NULL, 0, 0, NULL, 0), NUM_FORMAT_BAD_LENGTH);
     CHECK("written", 0, number == 7 && low == 7 && high == 7 && scale == 7 && at == 7 && offset == 0 && size == 0, 1);
     int32_t (*volatile by_pointer)(const num_format *, int64_t, char *, size_t) = num_format_print_i64;
@@ -326,7 +339,7 @@ int main(void) {
     for (size_t large = 0; large < 2; large++) {
         for (size_t k = 0; k < KINDS * 7 * 5 * 2; k++)
             check_rows(&kinds[k % KINDS], offset_types[large], counts[k / KINDS % 7], bits[k / KINDS / 7 % 5], k / KINDS / 7 / 5 == 1);
-        for (size_t k = 0; k < 2 * KINDS; k++) check_statuses(&kinds[k / 2], offset_types[large], k % 2);
+        for (uint32_t k = 0; k < 3 * KINDS; k++) check_statuses(&kinds[k / 3], offset_types[large], k % 3);
         for (int k = 0; k < 6; k++) check_wrong(k / 3, k % 3, offset_types[large]);
         for (int is_decimal = 0; is_decimal < 2; is_decimal++) check_empty(is_decimal, offset_types[large]);
     }

@@ -1,5 +1,5 @@
-/* Holds the library for C to its header: constants, types, layout and calls, against values written
- * by hand.
+/* Holds the library for C to its header: constants, types, layout, and what no table of cases says of calls, against values
+ * written by hand. replay.c makes the calls of the tables.
  *
  *     cc -I crates/num_format_c packages/c/tests/header.c crates/num_format_c/out/libnum_format_c.a
  *
@@ -51,22 +51,41 @@ static void check_constants(void) {
     CHECK(NUM_FORMAT_MAX, 191);
     CHECK(NUM_FORMAT_DECIMAL_MAX, 199);
     CHECK(NUM_FORMAT_LOCALES, 542);
-    static const int errors[] = {
-        NUM_FORMAT_BAD_FORMAT,    NUM_FORMAT_TOO_SMALL,        NUM_FORMAT_NOT_UTF8,    NUM_FORMAT_NOT_A_NUMBER,
-        NUM_FORMAT_UNKNOWN_LOCALE, NUM_FORMAT_TOO_LONG,        NUM_FORMAT_BAD_GROUPING, NUM_FORMAT_BAD_BITS,
-        NUM_FORMAT_UNEXPECTED,    NUM_FORMAT_NO_DIGIT,         NUM_FORMAT_MISSPELLED,  NUM_FORMAT_OUT_OF_RANGE,
-        NUM_FORMAT_BAD_SCALE,     NUM_FORMAT_TOO_MANY_DECIMALS, NUM_FORMAT_BAD_LENGTH, NUM_FORMAT_BAD_OFFSETS,
-        NUM_FORMAT_TOO_MANY_BYTES, NUM_FORMAT_DIGITS_LOST,     NUM_FORMAT_AMBIGUOUS_FORMAT, NUM_FORMAT_BAD_TYPE,
+    static const struct {
+        int status, number;
+        const char *text;
+    } statuses[] = {
+        {NUM_FORMAT_OK, 0, "ok"},
+        {NUM_FORMAT_BAD_FORMAT, -1, "the struct has no format"},
+        {NUM_FORMAT_TOO_SMALL, -2, "the array is shorter than the text"},
+        {NUM_FORMAT_NOT_UTF8, -3, "the text is not UTF-8"},
+        {NUM_FORMAT_NOT_A_NUMBER, -4, "the text is refused as a number"},
+        {NUM_FORMAT_UNKNOWN_LOCALE, -5, "no such locale"},
+        {NUM_FORMAT_TOO_LONG, -6, "a text of the format has more than 8 bytes"},
+        {NUM_FORMAT_BAD_GROUPING, -7, "no such grouping"},
+        {NUM_FORMAT_BAD_BITS, -8, "the number of bits is not 8, 16, 32 or 64"},
+        {NUM_FORMAT_UNEXPECTED, -9, "unexpected byte"},
+        {NUM_FORMAT_NO_DIGIT, -10, "the text has no digit"},
+        {NUM_FORMAT_MISSPELLED, -11, "the text is not as its number is printed"},
+        {NUM_FORMAT_OUT_OF_RANGE, -12, "the number is out of range"},
+        {NUM_FORMAT_BAD_SCALE, -13, "the scale is above 38"},
+        {NUM_FORMAT_TOO_MANY_DECIMALS, -14, "more than 38 digits follow the decimal mark"},
+        {NUM_FORMAT_BAD_LENGTH, -15, "the sizes of a column's arrays do not fit one another"},
+        {NUM_FORMAT_BAD_OFFSETS, -16, "an offset is below 0 or the one before it, or past the bytes"},
+        {NUM_FORMAT_TOO_MANY_BYTES, -17, "the texts have more bytes than an offset can say"},
+        {NUM_FORMAT_DIGITS_LOST, -18, "the text has digits other than 0 that the scale has not"},
+        {NUM_FORMAT_AMBIGUOUS_FORMAT, -19, "the format is ambiguous"},
+        {NUM_FORMAT_BAD_TYPE, -20, "no such type"},
+        {NUM_FORMAT_TEXT_TOO_LONG, -21, "the text is longer than that of any number"},
+        {-22, -22, "unknown status"},
+        {INT32_MIN, INT32_MIN, "unknown status"},
+        {1, 1, "ok"},
+        {INT32_MAX, INT32_MAX, "ok"},
     };
-    for (int i = 0; i < 20; i++) {
-        CHECK(errors[i], -1 - i);
-        CHECK(strcmp(num_format_strerror(errors[i]), "unknown status") != 0, 1);
+    for (size_t i = 0; i < sizeof statuses / sizeof *statuses; i++) {
+        compare(statuses[i].text, statuses[i].status, statuses[i].number);
+        compare(statuses[i].text, strcmp(num_format_strerror(statuses[i].number), statuses[i].text), 0);
     }
-    check_bytes("strerror", num_format_strerror(-1), "the struct has no format");
-    CHECK(strcmp(num_format_strerror(-21), "unknown status"), 0);
-    CHECK(strcmp(num_format_strerror(INT32_MIN), "unknown status"), 0);
-    CHECK(strcmp(num_format_strerror(0), "ok"), 0);
-    CHECK(strcmp(num_format_strerror(INT32_MAX), "ok"), 0);
     CHECK(num_format_version(), NUM_FORMAT_VERSION);
     static const int groupings[] = {
         NUM_FORMAT_STANDARD, NUM_FORMAT_INDIAN, NUM_FORMAT_POSIX, NUM_FORMAT_MYRIAD, NUM_FORMAT_SPARSE,
@@ -205,120 +224,22 @@ static void check_errors(void) {
     CHECK(num_format_print_decimal_len(&zeros, 1, 0, 38), -1);
 }
 
-/* Prints a decimal of units of 64 bits, and compares its text. */
-static void check_decimal(const num_format *format, int64_t units, uint32_t scale, const char *expected) {
-    char text[NUM_FORMAT_DECIMAL_MAX];
-    uint64_t high = units < 0 ? UINT64_MAX : 0;
-    memset(text, 'x', sizeof text);
-    compare(expected, num_format_print_decimal(format, (uint64_t)units, high, scale, text, sizeof text),
-            (int)strlen(expected));
-    compare(expected, num_format_print_decimal_len(format, (uint64_t)units, high, scale), (int)strlen(expected));
-    check_bytes(expected, text, expected);
-    CHECK(text[strlen(expected)], 'x');
-}
-
-static void check_decimals(void) {
-    num_format format;
-    CHECK(num_format_locale(&format, "en", 2), 0);
-    check_decimal(&format, 123450, 2, "1,234.50");
-    check_decimal(&format, -5, 2, "-0.05");
-    check_decimal(&format, -50, 2, "-0.50");
-    check_decimal(&format, 1234, 0, "1,234");
-    check_decimal(&format, 0, 1, "0.0");
-    check_decimal(&format, 1, 38, "0.00000000000000000000000000000000000001");
-    CHECK(num_format_locale(&format, "de", 2), 0);
-    check_decimal(&format, -123456789, 3, "-123.456,789");
-    CHECK(num_format_custom_decimal(&format, " ", 1, 2, "~", 1, "::", 2), 0);
-    check_decimal(&format, -123456789, 2, "~12 34 567::89");
-}
-
-/* Texts as decimals: what is returned, and what the units, the scale and `at`, 7, 8 and 9 before, then are. */
-static void check_parsed_decimals(void) {
-    static const struct {
-        const char *text;
-        int returned;
-        int64_t units;
-        uint32_t scale;
-        size_t at;
-    } cases[] = {
-        {"1,234.50", 0, 123450, 2, 9}, {"-1234.5", 0, -12345, 1, 9}, {"7", 0, 7, 0, 9},  {"-0.05", 0, -5, 2, 9},
-        {"0.00", 0, 0, 2, 9},          {"1\xff", -3, 7, 8, 9},       {"1e3", -9, 7, 8, 1}, {"1.234.5", -9, 7, 8, 5},
-        {"1.2,3", -9, 7, 8, 3},        {"", -10, 7, 8, 9},           {".", -10, 7, 8, 9}, {".5", -11, 7, 8, 9},
-        {"1.", -11, 7, 8, 9},          {"1,23.4", -11, 7, 8, 9},     {"-0.00", -11, 7, 8, 9},
-        {"0.000000000000000000000000000000000000001", -14, 7, 8, 9},
-        {"17014118346046923173168730371588410572.8", -12, 7, 8, 9},
-    };
-    num_format format = {0};
-    uint64_t low = 7, high = 0;
-    uint32_t scale = 8;
-    size_t at = 9;
-    CHECK(num_format_parse_decimal(&format, "1", 1, &low, &high, &scale, &at), -1);
-    CHECK(low == 7 && high == 0 && scale == 8 && at == 9, 1);
-    CHECK(num_format_locale(&format, "en", 2), 0);
-    for (size_t i = 0; i < sizeof cases / sizeof *cases; i++) {
-        const char *text = cases[i].text;
-        low = 7, high = 0, scale = 8, at = 9;
-        compare(text, num_format_parse_decimal(&format, text, strlen(text), &low, &high, &scale, &at),
-                cases[i].returned);
-        compare(text, (int64_t)low, cases[i].units);
-        compare(text, high == (cases[i].units < 0 ? UINT64_MAX : 0), 1);
-        compare(text, scale, cases[i].scale);
-        compare(text, (long long)at, (long long)cases[i].at);
-    }
-    static const char lowest[] = "-17,014,118,346,046,923,173,168,730,371,588,410,572.8";
-    CHECK(num_format_parse_decimal(&format, lowest, strlen(lowest), &low, &high, &scale, &at), 0);
-    CHECK(low == 0 && high == (uint64_t)1 << 63 && scale == 1, 1);
-}
-
-/* Texts as numbers of 16 bits, strictly: what is returned, and what the number and `at`, 7 and 9 before,
- * then are. */
+/* What is parsed of no text, by no format or for no type: nothing is written. */
 static void check_strict(void) {
-    static const struct {
-        const char *text;
-        int returned;
-        int64_t number;
-        size_t at;
-    } cases[] = {
-        {"0", 0, 0, 9},         {"-1,234", 0, -1234, 9},  {"-1234", 0, -1234, 9},  {"32,767", 0, 32767, 9},
-        {"1\xff", -3, 7, 9},    {"12.50", -9, 7, 2},      {" 1", -9, 7, 0},        {"1,234 2", -9, 7, 5},
-        {"+1", -9, 7, 0},       {"5-", -9, 7, 1},         {"1\xc2\xa0", -9, 7, 1}, {"", -10, 7, 9},
-        {"-", -10, 7, 9},       {",", -10, 7, 9},         {"1,23", -11, 7, 9},     {"01", -11, 7, 9},
-        {"-0", -11, 7, 9},      {"1234,567", -11, 7, 9},  {"32,768", -12, 7, 9},   {"-32769", -12, 7, 9},
-    };
     num_format format = {0};
     int64_t number = 7;
     uint64_t low = 7, high = 8;
+    uint32_t scale = 8;
     size_t at = 9;
     CHECK(num_format_parse_strict_i64(&format, 64, "1", 1, &number, &at), -1);
+    CHECK(num_format_parse_decimal(&format, "1", 1, &low, &high, &scale, &at), -1);
     CHECK(num_format_locale(&format, "en", 2), 0);
     CHECK(num_format_parse_strict_i64(&format, 256 + 64, "1", 1, &number, &at), -8);
     CHECK(num_format_parse_strict_u64(&format, 7, "1", 1, &low, &at), -8);
-    CHECK(number == 7 && low == 7 && at == 9, 1);
-    for (size_t i = 0; i < sizeof cases / sizeof *cases; i++) {
-        const char *text = cases[i].text;
-        number = 7;
-        at = 9;
-        compare(text, num_format_parse_strict_i64(&format, 16, text, strlen(text), &number, &at),
-                cases[i].returned);
-        compare(text, number, cases[i].number);
-        compare(text, (long long)at, (long long)cases[i].at);
-    }
-    CHECK(num_format_parse_strict_u64(&format, 8, "255", 3, &low, &at), 0);
-    CHECK(low, 255);
-    CHECK(num_format_parse_strict_u64(&format, 8, "256", 3, &low, &at), -12);
-    CHECK(num_format_parse_strict_u64(&format, 64, "-1", 2, &low, &at), -12);
-    CHECK(num_format_parse_strict_u64(&format, 64, "1.5", 3, &low, &at), -9);
-    CHECK(low == 255 && at == 1, 1);
-    CHECK(num_format_parse_strict_u128(&format, "18,446,744,073,709,551,619", 26, &low, &high, &at), 0);
-    CHECK(low == 3 && high == 1, 1);
-    CHECK(num_format_parse_strict_u128(&format, "1,2", 3, &low, &high, &at), -11);
-    CHECK(num_format_parse_strict_i128(&format, "-2", 2, &low, &high, &at), 0);
-    CHECK(low == UINT64_MAX - 1 && high == UINT64_MAX, 1);
-    CHECK(num_format_parse_strict_i128(&format, "--2", 3, &low, &high, &at), -9);
-    CHECK(low == UINT64_MAX - 1 && high == UINT64_MAX && at == 1, 1);
-    format.grouping = NUM_FORMAT_POSIX;
-    CHECK(num_format_parse_strict_i64(&format, 64, "1,234", 5, &number, &at), -9);
-    CHECK(at, 1);
+    CHECK(num_format_parse_strict_i64(&format, 16, "1\xff", 2, &number, &at), -3);
+    CHECK(num_format_parse_strict_u128(&format, "1\xff", 2, &low, &high, &at), -3);
+    CHECK(num_format_parse_decimal(&format, "1\xff", 2, &low, &high, &scale, &at), -3);
+    CHECK(number == 7 && low == 7 && high == 8 && scale == 8 && at == 9, 1);
 }
 
 /* Formats by their texts: whether whole numbers can be misread, and decimals. */
@@ -328,10 +249,7 @@ static void check_ambiguous(void) {
         uint32_t grouping;
         int number, decimal;
     } cases[] = {
-        {",", "-", ".", 1, 0, 0},      {"", "-", ".", 1, 0, 0},       {"7", "-", "7", 3, 0, -19},  {",", "-", ",", 3, 0, 0},
-        {",", "", ".", 1, -19, -19},   {",", "", ".", 3, -19, -19},   {",", "-0", ".", 3, -19, -19}, {"7", "-", ".", 1, -19, -19},
-        {"\xd9\xa3", "-", ".", 2, -19, -19}, {",", "\xc2\xb2", ".", 5, -19, -19}, {"x7", "-", ".", 4, -19, -19},
-        {",", "-", ",", 1, 0, -19},    {",", "-", "", 1, 0, -19},     {",", "-", "7", 1, 0, -19},
+        {",", "-", ".", 1, 0, 0}, {",", "", ".", 1, -19, -19}, {",", "-", ",", 1, 0, -19},
     };
     static const int32_t offsets[] = {0, 1, 2};
     for (size_t i = 0; i < sizeof cases / sizeof *cases; i++) {
@@ -339,59 +257,23 @@ static void check_ambiguous(void) {
         num_format format = {0};
         uint64_t units[4] = {7, 0, 7, 0};
         int64_t number = 7, numbers[2] = {7, 7};
-        uint64_t low = 7, high = 7;
-        uint32_t scale = 7;
+        uint64_t low = 7;
         int32_t statuses[2] = {7, 7};
         size_t at = 7;
         CHECK(num_format_custom_decimal(&format, separator, strlen(separator), cases[i].grouping, minus_sign,
                                         strlen(minus_sign), mark, strlen(mark)), 0);
-        CHECK(num_format_parse_strict_i64(&format, 64, "5", 1, &number, &at), cases[i].number);
-        CHECK(number, cases[i].number ? 7 : 5);
         CHECK(num_format_parse_strict_u64(&format, 8, "\xff", 1, &low, &at), cases[i].number ? -19 : -3);
         CHECK(num_format_parse_strict_i64(&format, 7, "5", 1, &number, &at), -8);
-        CHECK(num_format_parse_strict_i128(&format, "5", 1, &low, &high, &at), cases[i].number);
-        CHECK(num_format_parse_strict_u128(&format, "5", 1, &low, &high, &at), cases[i].number);
-        CHECK(low == (cases[i].number ? 7 : 5) && at == 7, 1);
         CHECK(num_format_parse_column(&format, NUM_FORMAT_I64, 0, offsets, sizeof offsets, NUM_FORMAT_I32, "56", 2,
                                       numbers, sizeof numbers, NULL, 0, 0, statuses, 2), cases[i].number);
         CHECK(numbers[1] == (cases[i].number ? 7 : 6) && statuses[1] == (cases[i].number ? 7 : 0), 1);
         CHECK(num_format_parse_column(&format, NUM_FORMAT_I64, 1, offsets, sizeof offsets, NUM_FORMAT_I32, "56", 2,
                                       numbers, sizeof numbers, NULL, 0, 0, statuses, 2), 0);
         statuses[1] = 7;
-        CHECK(num_format_parse_decimal(&format, "5", 1, &low, &high, &scale, &at), cases[i].decimal);
-        CHECK(scale, cases[i].decimal ? 7 : 0);
         CHECK(num_format_parse_decimal_column(&format, 0, offsets, sizeof offsets, NUM_FORMAT_I32, "56", 2, units,
                                               sizeof units, NULL, 0, 0, statuses, 2), cases[i].decimal);
         CHECK(units[2] == (cases[i].decimal ? 7 : 6) && statuses[1] == (cases[i].decimal ? 7 : 0), 1);
     }
-}
-
-/* The numbers at the ends of each type. */
-static void check_ends(void) {
-    num_format en;
-    char text[NUM_FORMAT_MAX];
-    int64_t number = 0;
-    uint64_t low = 0, high = 0;
-    CHECK(num_format_locale(&en, "en", 2), 0);
-    check_text(&en, INT64_MIN, "-9,223,372,036,854,775,808");
-    CHECK(num_format_parse_i64(&en, 64, "-9,223,372,036,854,775,808", 26, &number), 0);
-    CHECK(number == INT64_MIN, 1);
-    CHECK(num_format_print_u64(&en, UINT64_MAX, text, sizeof text), 26);
-    CHECK(num_format_print_u64_len(&en, UINT64_MAX), 26);
-    check_bytes("UINT64_MAX", text, "18,446,744,073,709,551,615");
-    CHECK(num_format_parse_u64(&en, 64, text, 26, &low), 0);
-    CHECK(low == UINT64_MAX, 1);
-    CHECK(num_format_print_u128(&en, 3, 1, text, sizeof text), 26);
-    CHECK(num_format_print_u128_len(&en, 3, 1), 26);
-    check_bytes("2^64 + 3", text, "18,446,744,073,709,551,619");
-    CHECK(num_format_parse_u128(&en, text, 26, &low, &high), 0);
-    CHECK(low, 3);
-    CHECK(high, 1);
-    CHECK(num_format_print_i128(&en, UINT64_MAX - 1, UINT64_MAX, text, sizeof text), 2);
-    CHECK(num_format_print_i128_len(&en, UINT64_MAX - 1, UINT64_MAX), 2);
-    check_bytes("-2", text, "-2");
-    CHECK(num_format_parse_i128(&en, text, 2, &low, &high), 0);
-    CHECK(low == UINT64_MAX - 1 && high == UINT64_MAX, 1);
 }
 
 /* An array of exactly as many bytes as the longest text, and of one less. */
@@ -428,66 +310,181 @@ static void check_names(void) {
     CHECK(num_format_names(0, name, 1), -2);
 }
 
-/* Language tags: the name of the locale for each, or none. */
+/* Tags that are no text, and a name that does not fit. */
 static void check_lookup(void) {
-    static const struct {
-        const char *tag, *name;
-    } cases[] = {
-        {"de_DE.UTF-8", "de"}, {"en-us", "en"},      {"EN", "en"},         {"zh-hant-TW", "zh-Hant"},
-        {"zh-TW", "zh"},       {"sr_RS@latin", "sr"}, {"C", "en-US-POSIX"}, {"c.UTF-8", "en-US-POSIX"},
-        {"posix", "en-US-POSIX"}, {"de-AT-1901", "de-AT"}, {"ca_es_valencia", "ca-ES-VALENCIA"},
-        {"english", NULL},     {"no", NULL},         {"", NULL},           {".UTF-8", NULL},
-    };
-    for (size_t i = 0; i < sizeof cases / sizeof *cases; i++) {
-        const char *tag = cases[i].tag, *expected = cases[i].name;
-        num_format found, named;
-        char name[NUM_FORMAT_MAX];
-        memset(&found, 'x', sizeof found);
-        memset(name, 'x', sizeof name);
-        named = found;
-        int length = expected ? (int)strlen(expected) : -5;
-        compare(tag, num_format_lookup(&found, tag, strlen(tag)), expected ? 0 : -5);
-        compare(tag, num_format_lookup_name(tag, strlen(tag), name, sizeof name), length);
-        if (expected) {
-            compare(tag, num_format_locale(&named, expected, strlen(expected)), 0);
-            check_bytes(tag, name, expected);
-            compare(tag, num_format_lookup_name(tag, strlen(tag), name, strlen(expected) - 1), -2);
-        }
-        compare(tag, memcmp(&found, &named, sizeof found), 0);
-        compare(tag, name[expected ? strlen(expected) : 0], 'x');
-    }
     num_format format;
     char name[2];
     CHECK(num_format_lookup(&format, "de\xff", 3), -3);
     CHECK(num_format_lookup_name("de\xff", 3, name, sizeof name), -3);
+    CHECK(num_format_lookup_name("de_DE.UTF-8", 11, name, 2), 2);
+    CHECK(num_format_lookup_name("de_DE.UTF-8", 11, name, 1), -2);
 }
 
-/* Characters of one to four bytes, and the calls for names that end at a zero byte and for units of 64 bits. */
-static void check_helpers(void) {
-    CHECK(num_format_text_width("1\u202f234\u202f567", 13), 9);
-    CHECK(num_format_text_width("\u2212\u00e9\U0001d7d9x", 10), 4);
-    CHECK(num_format_text_width("\xff\x80x", 3), 2);
+/* Characters of one to four bytes. */
+static void check_width(void) {
+    static const struct {
+        const char *text;
+        size_t width;
+    } cases[] = {
+        {"", 0}, {"-1,234", 6}, {"1\u202f234\u202f567", 9}, {"\u2212\u00e9\U0001d7d9x", 4}, {"\xff\x80x", 2},
+        {"\u200d\u2010\u061b\u061d\u071c\u208e", 6}, {"\xe2\x80", 1}, {"\xe2", 1}, {"\xd8", 1}, {"\xe2\x80\x8d", 1},
+        {"\x9c\x8e\x80", 0}, {"\u200e-1,234", 6}, {"\u061c-\u200f1", 2}, {"\u200e\xff", 1},
+    };
+    for (size_t i = 0; i < sizeof cases / sizeof *cases; i++)
+        compare(cases[i].text, (int)num_format_text_width(cases[i].text, strlen(cases[i].text)), (int)cases[i].width);
+    CHECK(num_format_text_width("\u200e", 2), 1);
     CHECK(num_format_text_width(NULL, 0), 0);
-    num_format format;
-    char text[NUM_FORMAT_DECIMAL_MAX];
+}
+
+/* Texts as people type them, as numbers of 16 bits under "fr": what is returned, and what the number and `at`, 7 and 9
+ * before, then are. The tables typed.tsv and typed_decimals.tsv have more. */
+static void check_typed(void) {
+    static const struct {
+        const char *text;
+        int returned, number;
+        size_t at;
+    } cases[] = {
+        {" +1 234\n", 0, 1234, 9}, {"\u22121\u00a0234", 0, -1234, 9}, {"-0", 0, 0, 9},   {"- 5", -11, 7, 9},
+        {"1,5", -9, 7, 1},         {"\u22121.5", -9, 7, 4},            {"\xff", -3, 7, 9}, {"40 000", -12, 7, 9},
+        {" ", -10, 7, 9},
+    };
+    num_format format = {0};
+    int16_t number[2] = {7, 8};
     int64_t units = 7;
+    uint32_t scale = 8;
+    size_t at = 9;
+    char text[201];
+    CHECK(num_format_parse_typed(&format, 'x', "1", 1, number, 3, &at), -20);
+    CHECK(num_format_parse_typed(&format, 's', "1", 1, number, 3, &at), -1);
+    CHECK(num_format_locale(&format, "fr", 2), 0);
+    CHECK(num_format_parse_typed(&format, 's', "\xff", 1, number, 3, &at), -15);
+    CHECK(num_format_parse_typed(&format, 's', "\xff", 1, number, 4, &at), -15);
+    for (size_t i = 0; i < sizeof cases / sizeof *cases; i++) {
+        number[0] = 7;
+        at = 9;
+        compare(cases[i].text, num_format_parse_typed(&format, 's', cases[i].text, strlen(cases[i].text), number, 2, &at),
+                cases[i].returned);
+        CHECK(number[0], cases[i].number);
+        CHECK(at, (long long)cases[i].at);
+    }
+    CHECK(number[1], 8);
+    memset(text, '1', sizeof text);
+    CHECK(num_format_parse_typed(&format, 's', text, 199, number, 2, NULL), -12);
+    CHECK(num_format_parse_typed(&format, 's', text, 200, number, 2, NULL), -21);
+    CHECK(num_format_parse_typed_decimal_i64(&format, text, 200, &units, &scale, NULL), -21);
+    CHECK(num_format_parse_typed_decimal_i64(&format, text, 20, &units, &scale, NULL), -12);
+    CHECK(num_format_parse_typed_decimal_i64(&format, "1.5", 3, &units, &scale, &at), -9);
+    CHECK(units == 7 && scale == 8 && at == 1, 1);
+    CHECK(num_format_parse_typed_decimal_i64(&format, " -1 234,50", 10, &units, &scale, NULL), 0);
+    CHECK(units == -123450 && scale == 2, 1);
+    CHECK(num_format_custom_decimal(&format, "'", 1, 1, "-", 1, "\u2019", 3), 0);
+    CHECK(num_format_parse_typed(&format, 's', "\xff", 1, number, 2, NULL), -19);
+}
+
+/* Names that end at a zero byte, or are none, and places of unexpected bytes that are not wanted. */
+static void check_null(void) {
+    num_format format;
+    int64_t number = 7;
+    uint64_t low = 7, high = 7;
     uint32_t scale = 7;
-    size_t at = 7;
     CHECK(num_format_locale_str(&format, "xx"), -5);
+    CHECK(num_format_locale_str(&format, ""), -5);
+    CHECK(num_format_locale_str(&format, "de_DE.UTF-8"), -5);
     CHECK(num_format_lookup_str(&format, "fr_FR.UTF-8"), 0);
+    check_text(&format, 1000, "1\u202f000");
     CHECK(num_format_locale_str(&format, "de"), 0);
-    CHECK(num_format_print_decimal_i64(&format, -95000, 2, text, sizeof text), 7);
-    check_bytes("-950,00", text, "-950,00");
-    CHECK(num_format_parse_decimal_i64(&format, "9223372036854775808", 19, &units, &scale, &at), -12);
-    CHECK(num_format_parse_decimal_i64(&format, "1x", 2, &units, &scale, &at), -9);
-    CHECK(units * 100 + scale * 10 + at, 771);
-    CHECK(num_format_parse_decimal_i64(&format, "-92233720368547758,08", 21, &units, &scale, &at), 0);
-    CHECK(units, INT64_MIN);
-    CHECK(scale, 2);
+    CHECK(num_format_locale_str(&format, NULL), -5);
+    CHECK(num_format_lookup_str(&format, NULL), -5);
+    check_text(&format, 1000, "1.000");
+    CHECK(num_format_parse_strict_i64(&format, 64, "1x", 2, &number, NULL), -9);
+    CHECK(num_format_parse_strict_u64(&format, 64, "1x", 2, &low, NULL), -9);
+    CHECK(num_format_parse_strict_i128(&format, "1x", 2, &low, &high, NULL), -9);
+    CHECK(num_format_parse_strict_u128(&format, "1x", 2, &low, &high, NULL), -9);
+    CHECK(num_format_parse_decimal(&format, "1x", 2, &low, &high, &scale, NULL), -9);
+    CHECK(num_format_parse_decimal_i64(&format, "1x", 2, &number, &scale, NULL), -9);
+    CHECK(number == 7 && low == 7 && high == 7 && scale == 7, 1);
+    CHECK(num_format_parse_decimal_i64(&format, "1,5", 3, &number, &scale, NULL), 0);
+    CHECK(number == 15 && scale == 1, 1);
+}
+
+/* Scales of which the low byte alone would be taken, and an array that is too short. */
+static void check_decimals_i64(void) {
+    static const uint32_t scales[] = {39, 256 + 2, 65536, UINT32_MAX};
+    num_format de;
+    char text[NUM_FORMAT_DECIMAL_MAX];
+    CHECK(num_format_locale_str(&de, "de"), 0);
+    for (size_t i = 0; i < sizeof scales / sizeof *scales; i++)
+        CHECK(num_format_print_decimal_i64(&de, 1, scales[i], text, sizeof text), -13);
+    CHECK(num_format_print_decimal_i64(&de, 100000, 2, text, 7), -2);
+}
+
+/* Texts with a zero byte in arrays of each size up to 4 bytes more than they need: whole, or empty. */
+static void check_format(void) {
+    enum { I64, U64, I128, U128, DECIMAL };
+    static const struct {
+        int call;
+        uint64_t low, high;
+        uint32_t scale;
+        const char *locale, *text;
+    } cases[] = {
+        {I64, (uint64_t)-1234567, 0, 0, "de", "-1.234.567"},
+        {I64, 7, 0, 0, "de", "7"},
+        {I64, (uint64_t)1 << 63, 0, 0, "en", "-9,223,372,036,854,775,808"},
+        {U64, UINT64_MAX, 0, 0, "en", "18,446,744,073,709,551,615"},
+        {I128, UINT64_MAX - 1233, UINT64_MAX, 0, "fr", "-1\u202f234"},
+        {I128, 0, (uint64_t)1 << 63, 0, "en", "-170,141,183,460,469,231,731,687,303,715,884,105,728"},
+        {U128, UINT64_MAX, UINT64_MAX, 0, "en", "340,282,366,920,938,463,463,374,607,431,768,211,455"},
+        {DECIMAL, UINT64_MAX - 123449, UINT64_MAX, 2, "de", "-1.234,50"},
+        {DECIMAL, 0, 1, 2, "de", "184.467.440.737.095.516,16"},
+    };
+    for (size_t i = 0; i < sizeof cases / sizeof *cases; i++) {
+        const char *expected = cases[i].text;
+        const uint64_t low = cases[i].low, high = cases[i].high;
+        const size_t length = strlen(expected);
+        num_format format;
+        compare(expected, num_format_locale_str(&format, cases[i].locale), 0);
+        for (size_t size = 0; size < length + 5; size++) {
+            char text[80];
+            memset(text, 'x', sizeof text);
+            compare(expected, cases[i].call == I64    ? num_format_format_i64(&format, (int64_t)low, text, size)
+                              : cases[i].call == U64  ? num_format_format_u64(&format, low, text, size)
+                              : cases[i].call == I128 ? num_format_format_i128(&format, low, high, text, size)
+                              : cases[i].call == U128 ? num_format_format_u128(&format, low, high, text, size)
+                              : num_format_format_decimal(&format, low, high, cases[i].scale, text, size), (int)length);
+            const size_t kept = length < size ? length : 0, written = size > 0 ? kept + 1 : 0;
+            if (size > 0)
+                compare(expected, strcmp(text, kept ? expected : ""), 0);
+            for (size_t k = written; k < sizeof text; k++)
+                compare(expected, text[k], 'x');
+        }
+    }
+    const num_format zeros = {0};
+    num_format en;
+    char text[4] = "xyz";
+    CHECK(num_format_locale_str(&en, "en"), 0);
+    CHECK(num_format_format_i64(&en, 12345, NULL, 0), 6);
+    CHECK(num_format_format_i64(&zeros, 1, text, 0), -1);
+    check_bytes("nothing is written", text, "xyz");
+    CHECK(num_format_format_u64(&zeros, 1, text, sizeof text), -1);
+    CHECK(memcmp(text, "\0yz", 4), 0);
+    CHECK(num_format_format_decimal(&en, 1, 0, 39, text, sizeof text), -13);
+    CHECK(memcmp(text, "\0yz", 4), 0);
+    num_format longest_format;
+    char all[NUM_FORMAT_MAX + 1];
+    CHECK(num_format_custom(&longest_format, "12345678", 8, 2, "abcdefgh", 8), 0);
+    CHECK(num_format_format_i128(&longest_format, 0, (uint64_t)1 << 63, all, sizeof all), NUM_FORMAT_MAX);
+    CHECK(strcmp(all, longest), 0);
+    char decimal[NUM_FORMAT_DECIMAL_MAX + 1];
+    CHECK(num_format_custom_decimal(&longest_format, "12345678", 8, 2, "abcdefgh", 8, "ABCDEFGH", 8), 0);
+    CHECK(num_format_format_decimal(&longest_format, 0, (uint64_t)1 << 63, 1, decimal, sizeof decimal), NUM_FORMAT_DECIMAL_MAX);
+    CHECK(strcmp(decimal, longest_decimal), 0);
 }
 
 int main(void) {
-    check_helpers();
+    check_width();
+    check_null();
+    check_decimals_i64();
+    check_format();
     check_constants();
     check_layout();
     check_filled();
@@ -496,9 +493,7 @@ int main(void) {
     check_errors();
     check_strict();
     check_ambiguous();
-    check_decimals();
-    check_parsed_decimals();
-    check_ends();
+    check_typed();
     check_longest();
     check_names();
     check_lookup();

@@ -2,7 +2,9 @@
 #include <num_format.hpp>
 
 #include <cstdio>
+#include <iomanip>
 #include <limits>
+#include <sstream>
 
 static int status;
 
@@ -32,7 +34,7 @@ template <class T> static void check_type(const char *name, T end, const std::st
     check(name, texts.bytes == "7" + text && texts.size() == 3 && texts.is_null(1) && !texts.is_null(2) && texts[1].empty());
     check(name, de.parse_column<std::optional<T>>(texts) == values && de.parse_column<T>(texts) == std::vector<T>{7, 0, end});
     check(name, de.print_column(std::vector<T>{end, 7}).bytes == text + "7");
-    if constexpr (numfmt::is_units<T>) {
+    if constexpr (numfmt::detail::is_units<T>) {
         const auto decimals = de.print_decimal_column(values, 2);
         check(name, decimals.bytes == "0,07" + decimal && decimals.is_null(1));
         check(name, de.parse_decimal_column<std::optional<T>>(decimals, 2) == values);
@@ -87,20 +89,84 @@ static void check_columns(const numfmt::format &de, const numfmt::format &sevens
     check("bad_offsets, none", throws<numfmt::bad_offsets>([&] { de.parse_column(texts); }, -16));
 }
 
+// A text that takes no memory, in a string, a stream and C.
+static void check_texts(const numfmt::format &de) {
+    std::string prices = "from ";
+    de.append(prices, -1234), prices += " to ", de.append(prices, numfmt::uint128(1000000));
+    check("append", prices == "from -1.234 to 1.000.000");
+    const auto text = de.text(std::uint8_t(255));
+    check("text", text.view() == "255" && text.size() == 3 && std::strcmp(text.c_str(), "255") == 0);
+    check("decimal_text", de.decimal_text({-123450, 2}).view() == "-1.234,50" && numfmt::text().view().empty());
+    check("decimal_text, bad_scale", throws<numfmt::bad_scale>([&] { de.decimal_text({1, 256 + 2}); }, -13));
+    std::ostringstream stream;
+    stream << std::setw(9) << std::setfill('.') << de.text(-1234) << '|' << de.decimal_text({5, 1});
+    check("<<", stream.str() == "...-1.234|0,5");
+#ifdef __cpp_lib_format
+    check("std::format", std::format("{:*>9}|{}", de.text(-1234), de.decimal_text({5, 1})) == "***-1.234|0,5");
+#endif
+    char longest[NUM_FORMAT_MAX];
+    const auto wide = numfmt::format::custom("12345678", NUM_FORMAT_INDIAN, "abcdefgh");
+    check("get", num_format_print_i64(&wide.get(), -1000, longest, sizeof longest) == 20 && wide.print(-1000) == std::string(longest, 20));
+    const auto commas = numfmt::format::custom(",", NUM_FORMAT_POSIX), points = numfmt::format::custom(".", NUM_FORMAT_POSIX);
+    check("prints_alike, not equal", commas.prints_alike(points) && commas != points);
+    check("equal, minus sign", commas != numfmt::format::custom(",", NUM_FORMAT_POSIX, "~"));
+    check("prints_alike", de.prints_alike(numfmt::format::locale("id")) && !de.prints_alike(wide));
+}
+
+// What try_parse and the like return, beside what the calls that throw do.
+static void check_tries(const numfmt::format &de) {
+    check("try_parse, empty", de.try_parse<numfmt::uint128>({}).status == -10 && de.try_parse<int>({}).status == -10);
+    check("try_parse_decimal", de.try_parse_decimal("-1.234,50").value.units == -123450 && de.try_parse_decimal("1,2,3").at == 3);
+    check("try_parse_decimal, 64 bits", de.try_parse_decimal("-9223372036854775808").value.units == std::numeric_limits<std::int64_t>::min()
+          && de.try_parse_decimal("-9223372036854775809").status == -12 && de.try_parse_decimal("9223372036854775808").status == -12
+          && de.try_parse_decimal<std::uint64_t>("18446744073709551615").value.units == UINT64_MAX
+          && de.try_parse_decimal<std::uint64_t>("18446744073709551616").status == -12
+          && de.try_parse_decimal<std::uint8_t>("2,56").status == -12 && de.try_parse_decimal<std::int8_t>("-1,28").value.scale == 2);
+    check("try_locale", numfmt::format::try_locale("de") == de && !numfmt::format::try_locale("xx"));
+    check("try_lookup", numfmt::format::try_lookup("de_DE.UTF-8") == de && !numfmt::format::try_lookup({}));
+    check("try_custom", numfmt::format::try_custom("'", 1)->print(1000) == "1'000" && !numfmt::format::try_custom("'", 6));
+}
+
+// Texts as people type them.
+static void check_typed(const numfmt::format &de) {
+    const auto fr = numfmt::format::locale("fr");
+    check("parse_typed", fr.parse_typed<std::int16_t>(" -1 234") == -1234 && fr.parse_typed<numfmt::uint128>("+1 234") == 1234);
+    check("try_parse_typed", fr.try_parse_typed<std::uint8_t>("256").status == -12 && fr.try_parse_typed<int>("1.5").at == 1);
+    check("text_too_long", throws<numfmt::text_too_long>([&] { fr.parse_typed<int>(std::string(200, '1')); }, -21));
+    check("parse_typed_decimal", fr.parse_typed_decimal("-1 234,50").units == -123450 && fr.try_parse_typed_decimal(".").at == 0);
+    using texts = std::vector<std::string>;
+    const texts wrong{"1", "1 2.3"};
+    check("typed columns", fr.parse_column(texts{"1 234", " 7"}, NUM_FORMAT_TYPED) == std::vector<std::int64_t>{1234, 7}
+          && fr.parse_decimal_column(texts{"1 234,5", "-0,10"}, 2, NUM_FORMAT_TYPED) == std::vector<std::int64_t>{123450, -10}
+          && de.parse_column(texts{"(1.5)"}, NUM_FORMAT_LENIENT) == std::vector<std::int64_t>{15});
+    check("typed column, refused", throws<numfmt::unexpected>([&] { fr.parse_column(wrong, NUM_FORMAT_TYPED); }, -9, 3, 1)
+          && throws<numfmt::unexpected>([&] { fr.parse_decimal_column(wrong, 2, NUM_FORMAT_TYPED); }, -9, 3, 1)
+          && throws<numfmt::not_a_number>([&] { fr.parse_column(texts{"x"}, NUM_FORMAT_LENIENT); }, -4));
+}
+
+// Columns from texts, and back.
+static void check_text_columns(const numfmt::format &de) {
+    using texts = std::vector<std::string>;
+    using nullable = std::vector<std::optional<std::string>>;
+    check("column of texts", de.parse_column<int>(texts{"1.234", "-5"}) == std::vector<int>{1234, -5});
+    check("column of views", de.parse_column(std::vector<std::string_view>{"1", "22"}) == std::vector<std::int64_t>{1, 22});
+    check("column of char *", de.parse_decimal_column(std::vector<const char *>{"1,5", "2"}, 2) == std::vector<std::int64_t>{150, 200});
+    check("row of a text", throws<numfmt::unexpected>([&] { de.parse_column(texts{"1", "2x"}); }, -9, 1, 1));
+    const nullable some{"1.000", std::nullopt, ""};
+    const auto column = numfmt::column::of(some);
+    check("column::of", column.size() == 3 && column.is_null(1) && !column.is_null(2) && column.bytes == "1.000");
+    check("texts", column.texts<std::optional<std::string>>() == some && column.texts() == texts{"1.000", "", ""});
+    check("texts, printed", de.print_column(std::vector<int>{1000, 7}).texts() == texts{"1.000", "7"});
+    check("texts, none", numfmt::column::of(texts{}).size() == 0 && numfmt::column().texts().empty());
+    check("nulls", de.parse_column<std::optional<int>>(std::vector<std::optional<std::string>>{std::nullopt, "7"})
+          == std::vector<std::optional<int>>{std::nullopt, 7});
+}
+
 int main() {
     const auto de = numfmt::format::locale("de");
     const auto own = numfmt::format::custom("'", NUM_FORMAT_INDIAN, "~");
-    check("print", de.print(-1234567) == "-1.234.567");
-    check("print, unsigned", de.print(std::uint64_t(-1)) == "18.446.744.073.709.551.615");
-    check("lookup", numfmt::format::lookup("de_DE.UTF-8") == de);
-    check("lookup_name", numfmt::format::lookup_name("zh-hant-TW") == "zh-Hant");
-    check("print, own", own.print(std::int64_t(-1234567)) == "~12'34'567");
-    check("print_len", de.print_len(std::int8_t(-128)) == 4 && de.print_len(~numfmt::uint128(0)) == 51);
-    check("parse", de.parse<std::int16_t>("-1.234") == -1234);
     check("empty texts", numfmt::format::custom({}, 1, {}, {}).print(-1234) == "1234");
-    check("parse, unsigned", de.parse<std::uint8_t>("255") == 255);
     check("equal", de == numfmt::format::locale("de") && de != own);
-    check("reads_back", de.reads_back() && !numfmt::format::custom(",", 1, "").reads_back());
     check("unexpected", throws<numfmt::unexpected>([&] { de.parse<int>("12x"); }, -9, 2));
     check("no_digit", throws<numfmt::no_digit>([&] { de.parse<int>({}); }, -10));
     check("misspelled", throws<numfmt::misspelled>([&] { de.parse<int>("1.23"); }, -11));
@@ -110,7 +176,6 @@ int main() {
     check("ambiguous_format", throws<numfmt::ambiguous_format>([&] { sevens.parse<int>("1"); }, -19));
     check_columns(de, sevens);
     check_types();
-    check("a numeral that is not printed", numfmt::format::custom("7", NUM_FORMAT_POSIX).parse<int>("17") == 17);
     check("unknown_locale", throws<numfmt::unknown_locale>([] { numfmt::format::locale("xx"); }, -5));
     check("unknown_locale, empty", throws<numfmt::unknown_locale>([] { numfmt::format::locale({}); }, -5));
     check("unknown_locale, tag", throws<numfmt::unknown_locale>([] { numfmt::format::lookup({}); }, -5));
@@ -119,21 +184,17 @@ int main() {
     check("too_long", throws<numfmt::too_long>([] { numfmt::format::custom("123456789", 1); }, -6));
     check("bad_grouping", throws<numfmt::bad_grouping>([] { numfmt::format::custom(",", 6); }, -7));
     check("error", throws<numfmt::error>([] { numfmt::format::locale("xx"); }, -5));
-    check("decimal", de.print_decimal({-123450, 2}) == "-1.234,50" && de.parse_decimal("-1.234,50").units == -123450);
-    check("decimal, scale", de.parse_decimal("0,050").scale == 3 && de.parse_decimal("0,050").units == 50);
     check("bad_scale", throws<numfmt::bad_scale>([&] { de.print_decimal({1, 39}); }, -13));
     check("decimal, unexpected", throws<numfmt::unexpected>([&] { de.parse_decimal("1,2,3"); }, -9, 3));
     check("decimal of 65 bits", throws<numfmt::out_of_range>([&] { de.parse_decimal("9223372036854775808"); }, -12));
     check("too_many_decimals", throws<numfmt::too_many_decimals>([&] { de.parse_decimal("0," + std::string(39, '1')); }, -14));
     check("text_width", numfmt::text_width(numfmt::format::locale("fr").print(1234567)) == 9 && numfmt::text_width({}) == 0);
-    const auto wide = numfmt::int128(1) << 100;
-    const char *digits = "1.267.650.600.228.229.401.496.703.205.376";
-    const auto halved = de.parse_decimal<numfmt::int128>(digits + std::string(",5"));
-    check("decimal of 128 bits", halved.units == wide * 10 + 5 && de.print_decimal(halved) == digits + std::string(",5"));
-    check("128 bits", de.print(-wide) == std::string("-") + digits && de.parse<numfmt::int128>(digits) == wide);
-    check("128 bits, unsigned", de.print(~numfmt::uint128(0)).size() == 51 && de.parse<numfmt::uint128>(digits) == numfmt::uint128(wide));
-    check("128 bits, refused", throws<numfmt::out_of_range>([&] { de.parse<numfmt::uint128>("-1"); }, -12));
     check("128 bits, empty", throws<numfmt::no_digit>([&] { de.parse<numfmt::int128>({}); }, -10));
-    check("characters", !numfmt::is_number<char> && !numfmt::is_number<char32_t> && numfmt::is_number<signed char>);
+    using numfmt::detail::is_number;
+    check("characters", !is_number<char> && !is_number<char32_t> && is_number<signed char>);
+    check_texts(de);
+    check_tries(de);
+    check_typed(de);
+    check_text_columns(de);
     return status;
 }

@@ -17,10 +17,3 @@ def rows():
     import locales
 
     return {row["name"]: row for row in locales.rows()}
-
-
-@pytest.fixture(scope="session")
-def recorded():
-    """The recorded results of the Rust crate, with those worked out by hand: the fields of each line."""
-    text = (ROOT / "crates" / "test_oracle" / "stdin").read_text(encoding="utf-8")
-    return [line.split("\t") for line in text.splitlines() if not line.startswith(("#", "changed"))]

@@ -1,41 +1,18 @@
 """Columns: NumPy arrays to texts, and back."""
 import itertools
 import pickle
-from collections import defaultdict
+import tracemalloc
 from decimal import Decimal
 
-import cases
 import pytest
 
 import num_format
-from num_format import Cause, Format, FormatError, ParseError
-from num_format._native import ffi, lib
+from num_format import Cause, Format, FormatError, ParseError, _native
 
 np = pytest.importorskip("numpy")
 columns = pytest.importorskip("num_format.columns")
 
 DTYPES = [np.dtype(f"{kind}{size}") for kind in "iu" for size in (1, 2, 4, 8)]
-
-
-def numbers_of(dtype):
-    """The limits of the dtype, and numbers of each length."""
-    limits = np.iinfo(dtype)
-    return [number for number in cases.NUMBERS if limits.min <= number <= limits.max]
-
-
-@pytest.mark.parametrize("dtype", DTYPES, ids=str)
-@pytest.mark.parametrize("large", [False, True])
-def test_python_prints_the_same(dtype, large):
-    numbers = numbers_of(dtype)
-    assert {np.iinfo(dtype).min, np.iinfo(dtype).max} <= set(numbers)
-    column = columns.format_column(np.array(numbers, dtype=dtype), "en", large=large)
-    expected = [f"{number:,}" for number in numbers]
-    assert column.tolist() == expected
-    assert bytes(column.data) == "".join(expected).encode()
-    assert column.offsets.dtype == (np.int64 if large else np.int32)
-    again = columns.parse_column(column, "en", dtype)
-    assert again.dtype == dtype and again.tolist() == numbers
-    assert columns.parse_column(column, "en", dtype, lenient=True).tolist() == numbers
 
 
 def test_all_locales():
@@ -83,20 +60,6 @@ def test_the_example_of_arrows_specification():
     assert causes.tolist() == [Cause.UNEXPECTED, 0, 0, Cause.UNEXPECTED]
     numbers = columns.StringColumn(column.offsets, b"1,2,345".ljust(64, b"\0"), validity)
     assert columns.parse_column(numbers, "en", lenient=True).tolist() == [12, None, None, 345]
-
-
-def test_pyarrow():
-    pyarrow = pytest.importorskip("pyarrow")
-    for numbers in [np.array([1234, -5, 0, 7]), np.ma.array([1234, -5, 0, 7], mask=[0, 0, 1, 0])]:
-        for large, kind in [(False, pyarrow.StringArray), (True, pyarrow.LargeStringArray)]:
-            column = columns.format_column(numbers, "sv", large=large)
-            array = kind.from_buffers(len(column), *map(pyarrow.py_buffer, column.buffers()))
-            array.validate(full=True)
-            assert array.to_pylist() == column.tolist()
-            validity, offsets, data = array.buffers()
-            assert data.address == column.data.ctypes.data
-            again = columns.StringColumn(np.frombuffer(offsets, dtype=column.offsets.dtype), data, validity)
-            assert columns.parse_column(again, "sv").tolist() == numbers.tolist()
 
 
 def test_nulls():
@@ -260,42 +223,6 @@ def test_rows_that_are_not_utf8():
     assert str(error) == r"row 1: '1,0\udcff0' is refused: it is not UTF-8 at index 3"
 
 
-@pytest.mark.parametrize("dtype", DTYPES, ids=str)
-def test_numbers_outside_a_dtype(dtype):
-    limits = np.iinfo(dtype)
-    numbers = [limits.min, limits.min - 1, limits.max, limits.max + 1, 2**100]
-    outside = [number < limits.min or number > limits.max for number in numbers]
-    for lenient, cause in [(False, Cause.OUT_OF_RANGE), (True, Cause.NOT_A_NUMBER)]:
-        values, causes = columns.try_parse_column([f"{number:,}" for number in numbers], "en", dtype, lenient=lenient)
-        assert causes.tolist() == [cause if is_outside else 0 for is_outside in outside]
-        assert values.tolist() == [None if is_outside else number for number, is_outside in zip(numbers, outside)]
-        assert values.dtype == dtype
-
-
-def test_recorded_strict_results(recorded):
-    """The recorded results of each type of up to 64 bits, a column for each format."""
-    rows = defaultdict(list)
-    for line in recorded:
-        if line[0] in ("read", "strict") and not line[1].startswith("NonZero") and not line[1].endswith("128"):
-            rows[line[1].replace("size", "64"), line[2]].append((cases.text(line[3]), line[4].split(" / ")[-1]))
-    assert sum(map(len, rows.values())) > 2000
-    for (type_name, words), lines in rows.items():
-        form = cases.recorded_format(words)
-        dtype = np.dtype(f"{type_name[0]}{int(type_name[1:]) // 8}")
-        if not form.reads_back():
-            assert {result for _, result in lines} == {"err AmbiguousFormat"}
-            with pytest.raises(FormatError) as caught:
-                columns.try_parse_column([text for text, _ in lines], form, dtype)
-            assert (caught.value.cause, caught.value.text) == (Cause.AMBIGUOUS_FORMAT, repr(form))
-            columns.try_parse_column([text for text, _ in lines], form, dtype, lenient=True)
-            continue
-        values, causes = columns.try_parse_column([text for text, _ in lines], form, dtype)
-        for (text, result), value, cause in zip(lines, values.data.tolist(), causes.tolist()):
-            name = "ok" if cause == 0 else Cause(cause).name.title().replace("_", "")
-            found = f"ok {value}" if cause == 0 else f"err {name}"
-            assert found == result.split(" { at")[0], (text, words, type_name)
-
-
 @pytest.mark.parametrize(
     "offsets", [[0, 2, 1], [-1, 0], [0, 5], [5, 5], [0, -1, 3], [0, 2**31 - 1], [2, 1]]
 )
@@ -308,6 +235,11 @@ def test_bad_offsets(offsets):
         column.offsets[:] = offsets
         with pytest.raises(ValueError):
             columns.parse_column(column, "en")
+        with pytest.raises(ValueError):
+            column.__arrow_c_array__()
+    column.offsets = np.zeros(8, dtype=np.int32)[::-2]
+    with pytest.raises(ValueError, match="contiguous"):
+        columns.parse_column(column, "en")
 
 
 def test_wrong_offsets():
@@ -350,22 +282,42 @@ def test_wrong_arguments():
 
 def test_lists_of_numbers():
     assert columns.format_column([1000, -5], Format(separator="'")).tolist() == ["1'000", "-5"]
-    assert columns.format_column([2**64 - 1], "en").tolist() == ["18,446,744,073,709,551,615"]
+    mixed = [np.int8(-5), np.uint64(2**64 - 1), 7]
+    for numbers in [[2**64 - 1, 1], [2**63, -1], [2**63 - 1, -(2**63)], [-(2**63) - 1], [2**127 - 1, -(2**127)], mixed]:
+        for given in [numbers, tuple(numbers), np.array(numbers, dtype=object), [*numbers, None]]:
+            expected = [f"{int(number):,}" for number in numbers] + [None] * (len(given) - len(numbers))
+            assert columns.format_column(given, "en").tolist() == expected
+            assert columns.format_decimal_column(given, 0, "en").tolist() == expected
+    assert columns.format_column([2**128 - 1, 0, 2**127], "en").tolist() == [f"{2**128 - 1:,}", "0", f"{2**127:,}"]
+    for numbers in [[2**128], [-(2**127) - 1], [2**127, -1]]:
+        with pytest.raises(OverflowError, match="from -2..127 to"):
+            columns.format_column(numbers, "en")
+        with pytest.raises(OverflowError, match="from -2..127 to"):
+            columns.format_decimal_column(numbers, 0, "en")
+    with pytest.raises(OverflowError, match="from -2..127 to"):
+        columns.format_decimal_column([2**127], 0, "en")
     assert columns.format_column([], "en").tolist() == columns.format_column((), "en").tolist() == []
     ragged = np.array([[1], [2, 3]], dtype=object)
-    for values in [[1.5], np.array([1.0]), ["5"], [True], [Decimal(1)], [None, 1.5], ragged, ragged[:1], [[1]]]:
-        with pytest.raises((TypeError, ValueError)):
+    bools = [[True], [True, 5], [5, False, None], [np.True_, 5], np.array([True, 5], dtype=object)]
+    for values in [[1.5], np.array([1.0]), ["5"], *bools, [None, 1.5], ragged, ragged[:1], [[1]]]:
+        with pytest.raises(TypeError):
             columns.format_column(values, "en")
+        with pytest.raises(TypeError):
+            columns.format_decimal_column(values, 2, "en")
+    with pytest.raises(TypeError):
+        columns.format_column([Decimal(1)], "en")
     with pytest.raises(TypeError, match="a float is not exact"):
         columns.format_column([1.5], "en")
 
 
 def test_objects_that_are_null():
-    for null in [None, float("nan"), np.float32("nan"), Decimal("NaN")]:
+    for null in [None, float("nan"), np.float32("nan"), Decimal("NaN"), Decimal("sNaN"), np.ma.masked]:
         row = [1000, null, 5]
-        for values in [row, np.array(row, dtype=object), np.ma.array(row, dtype=object)]:
+        arrays = [] if null is np.ma.masked else [np.array(row, dtype=object), np.ma.array(row, dtype=object)]
+        for values in [row, *arrays]:
             assert columns.format_column(values, "en").tolist() == ["1,000", None, "5"]
-        for texts in [["1,000", null, "5"], [b"1,000", null, b"5"], np.array(["1,000", null, "5"], dtype=object)]:
+        object_texts = [] if null is np.ma.masked else [np.array(["1,000", null, "5"], dtype=object)]
+        for texts in [["1,000", null, "5"], [b"1,000", null, b"5"], *object_texts]:
             assert columns.parse_column(texts, "en").tolist() == [1000, None, 5]
         for both in [columns.format_column([null, null], "en"), columns.parse_column([null, null], "en")]:
             assert both.tolist() == [None, None]
@@ -384,10 +336,78 @@ def test_slices_and_equality():
         assert given[2] in column and column.index("678") == 4 and list(reversed(column)) == given[::-1]
 
 
+def test_masks_and_indices():
+    texts = ["1", None, "2,345", "", "678", None, "9", "10", None, "\u22121\u00a0000"]
+    for given in [texts, [text or "" for text in texts]]:
+        column = columns.StringColumn.from_strings(["x" * 100, *given, "y"])[1:-1]
+        for rows in [[], [0], [9, 0, 0, -1, -10], list(range(10)), [1, 8, 5]]:
+            for chosen in [rows, tuple(rows), np.array(rows, dtype=np.int8), np.array(rows, dtype=np.int64)]:
+                part = column[chosen]
+                assert part.tolist() == [given[row] for row in rows]
+                assert part.data.nbytes == sum(len((given[row] or "").encode()) for row in rows)
+        mask = np.array([text == "9" or text is None for text in given])
+        for chosen in [mask, mask.tolist(), ~mask, np.zeros(10, dtype=bool), np.ones(10, dtype=bool)]:
+            assert column[chosen].tolist() == list(itertools.compress(given, chosen))
+    values, causes = columns.try_parse_column(["1", "x", "2"], "en")
+    assert columns.StringColumn.from_strings(["1", "x", "2"])[causes != 0].tolist() == ["x"]
+    for outside in [[10], [-11], np.array([2**40]), np.array([True]), [True] * 11]:
+        with pytest.raises(IndexError, match="of a column of 10$|^the array of bool"):
+            column[outside]
+    for wrong in [np.array([1.5]), ["1"], np.array([[1]]), 1.5, "1", None]:
+        with pytest.raises(TypeError):
+            column[wrong]
+
+
+def test_slices_cost_what_they_have():
+    """A part of a column is not paid by the whole: what is made of it has its bytes alone."""
+    column = columns.format_column(np.ma.array(np.arange(10**6), mask=np.arange(10**6) % 7 == 0), "en")
+    for start, step in [(500_003, 1), (500_008, 1), (999_990, -1)]:
+        part = column[start : start + 10 * step : step]
+        expected = [None if n % 7 == 0 else f"{n:,}" for n in range(start, start + 10 * step, step)]
+        tracemalloc.start()
+        assert part.tolist() == list(part) == expected and part == columns.StringColumn.from_strings(expected)
+        pickled = pickle.dumps(part)
+        assert pickle.loads(pickled) == part
+        peak = tracemalloc.get_traced_memory()[1]
+        tracemalloc.stop()
+        assert peak < 100_000 and len(pickled) < 1000 and len(part.validity) <= 2
+
+
+def test_what_is_parsed_has_a_mask():
+    for texts in [["1", "2"], ["1", None], [], columns.StringColumn.from_strings(["1"])]:
+        for found in [columns.parse_column(texts, "en"), columns.parse_decimal_column(texts, 2, "en")]:
+            assert type(found) is np.ma.MaskedArray and found.mask.shape == found.shape
+
+
 def test_pandas():
     pandas = pytest.importorskip("pandas")
     numbers, texts = pandas.array([1234567, None, 5]), pandas.array(["1.234.567", None, "5"], dtype="string")
-    assert columns.format_column(numbers, "de") == columns.StringColumn.from_strings(texts)
+    expected = columns.StringColumn.from_strings(["1.234.567", None, "5"])
+    index = pandas.Index([7, 8, 9])
+    for given in [numbers, pandas.Series(numbers, index), numbers.astype("Int32"), pandas.Series([1234567, None, 5], index, "UInt32")]:
+        assert columns.format_column(given, "de") == expected
+    for given in [pandas.Series([1234567, 0], dtype="Int64"), pandas.Series([1234567, 0])]:
+        assert columns.format_column(given, "de").tolist() == ["1.234.567", "0"]
+    for given in [texts, pandas.Series(texts, index)]:
+        again = columns.parse_column(given, "de", np.int32)
+        assert columns.to_pandas(again).equals(numbers.astype("Int32"))
+    assert columns.to_pandas(expected).equals(texts)
+    decimals = columns.to_pandas(columns.parse_decimal_column(["1.5", None], 2, "en", object))
+    assert decimals.dtype == object and decimals.tolist() == [Decimal("1.50"), None]
+    for given in [pandas.Series([1.5]), pandas.array([1.5, None]), pandas.array([True, None]), pandas.Series(["1"])]:
+        with pytest.raises(TypeError):
+            columns.format_column(given, "de")
+
+
+def test_the_error_of_a_lenient_row():
+    """A byte that is not UTF-8 has its place under each format, also one that strict parsing refuses."""
+    for form in [Format(minus_sign=""), Format(separator="7"), Format.locale("en")]:
+        with pytest.raises(ParseError) as caught:
+            columns.parse_column([b"5", b"12\xff"], form, lenient=True)
+        assert (caught.value.cause, caught.value.at, caught.value.row) == (Cause.NOT_UTF8, 2, 1)
+        with pytest.raises(ParseError) as caught:
+            columns.parse_column(["5", "x"], form, lenient=True)
+        assert (caught.value.cause, caught.value.at, caught.value.row) == (Cause.NOT_A_NUMBER, None, 1)
 
 
 def test_more_bytes_than_offsets_of_32_bits_say():
@@ -399,9 +419,9 @@ def test_more_bytes_than_offsets_of_32_bits_say():
     numbers[2**31 // width :] = 0
     with pytest.raises(OverflowError, match="large=True"):
         columns.format_column(numbers, form)
-    for given, status in [(numbers, lib.NUM_FORMAT_TOO_MANY_BYTES), (numbers[:-1], lib.NUM_FORMAT_TOO_SMALL)]:
-        offsets, data, length = np.full(len(given) + 1, 7, dtype=np.int32), bytearray(b"7"), ffi.new("size_t *", 7)
-        values = lib.NUM_FORMAT_I64, ffi.from_buffer(given), given.nbytes, ffi.NULL, 0, 0
-        texts = ffi.from_buffer(offsets), offsets.nbytes, lib.NUM_FORMAT_I32, ffi.from_buffer(data), len(data), length
-        assert lib.num_format_print_column(form._struct, *values, *texts) == status
-        assert (offsets == 7).all() and (data, length[0]) == (b"7", 7)
+    for given, status in [(numbers, _native.TOO_MANY_BYTES), (numbers[:-1], _native.TOO_SMALL)]:
+        offsets, data = np.full(len(given) + 1, 7, dtype=np.int32), np.full(1, 7, dtype=np.uint8)
+        values = form._bytes, _native.I64, -1, given.ctypes.data, given.nbytes
+        texts = offsets.ctypes.data, offsets.nbytes, _native.I32, data.ctypes.data, data.nbytes
+        assert _native.print_column(*values, *texts) == status
+        assert (offsets == 7).all() and data[0] == 7

@@ -1,5 +1,7 @@
 """Columns of decimals: units at a scale, and back."""
+import decimal
 import random
+import time
 from decimal import Decimal
 
 import pytest
@@ -163,9 +165,55 @@ def test_decimals():
     for number in ["0.001", "1E37", "1E-39", "Infinity"]:
         with pytest.raises(ValueError if number == "0.001" else OverflowError):
             columns.format_decimal_column([Decimal(number)], 2, "en")
-    for values in [[Decimal(1), 2], [1.5], ["1.5"]]:
+    for values in [[Decimal(1), 2], [2, Decimal(1)], [Decimal(1), True]]:
+        with pytest.raises(TypeError, match="either units or Decimals"):
+            columns.format_decimal_column(values, 2, "en")
+    for values in [[1.5], ["1.5"], [1, True]]:
         with pytest.raises(TypeError):
             columns.format_decimal_column(values, 2, "en")
+
+
+class Loud(Decimal):
+    """A class that is made of Decimal, with a text of its own."""
+
+    def __str__(self):
+        return "1"
+
+
+def test_decimals_of_each_form():
+    """Those of which C reads the text, and those that are left to Python: exponents, many digits, a class's own text."""
+    texts = ["0", "-0", "-0.00", "0E-7", "1E+3", "-17E+2", "1.50", "0.10", "1E-2", "0.0100", "99.99", "1" * 35]
+    texts += ["-" + "9" * 35, "170141183460469231731687303715884105.727", "1" * 34 + ".5", "0.050", "5E-0", "-1E-3"]
+    numbers = [*map(Decimal, texts), Loud("-2.5")]
+    wide = decimal.Context(prec=60)
+    # A zero has no minus sign.
+    expected = [f"{wide.quantize(number, Decimal('0.001')):,f}" if number else "0.000" for number in numbers]
+    assert columns.format_decimal_column(numbers, 3, "en").tolist() == expected
+    for number in ["1E+36", "1" * 37, "0.0001", "1.0005", "123456789012345678901234567890123.0001"]:
+        with pytest.raises(ValueError if "." in number else OverflowError):
+            columns.format_decimal_column([Decimal("1"), Decimal(number)], 3, "en")
+    assert num_format.format(Loud("-2.5"), "en") == "-2.5"
+
+
+def test_a_column_of_decimals_is_faster_than_a_loop():
+    numbers = [Decimal(number).scaleb(-2) for number in range(-50_000, 50_000)]
+    form = num_format.Format.locale("de")
+    column = columns.format_decimal_column(numbers, 2, form)
+    texts = column.tolist()
+    works = {
+        "printed": lambda: columns.format_decimal_column(numbers, 2, form),
+        "printed in a loop": lambda: [num_format.format(number, form) for number in numbers],
+        "parsed": lambda: columns.parse_decimal_column(column, 2, form, object),
+        "parsed in a loop": lambda: [num_format.parse_decimal(text, form) for text in texts],
+    }
+    times = {name: min(timed(work) for _ in range(5)) for name, work in works.items()}
+    assert times["printed"] < times["printed in a loop"] and times["parsed"] < times["parsed in a loop"], times
+
+
+def timed(work):
+    start = time.process_time_ns()
+    work()
+    return time.process_time_ns() - start
 
 
 def test_texts_of_very_different_lengths():

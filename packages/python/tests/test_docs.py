@@ -1,6 +1,9 @@
 """The examples in docstrings and in README.md."""
+import contextlib
 import doctest
 import inspect
+import io
+import re
 from pathlib import Path
 
 import pytest
@@ -39,6 +42,21 @@ def test_readme():
     assert failures == 0 and tries > 5
 
 
+def test_the_first_lines_of_the_readme():
+    """It opens with lines that can be pasted, and with what they print."""
+    opening = re.match(r"# .*\n\n```python\n(.*?)```\n\n```text\n(.*?)```\n", README.read_text(encoding="utf-8"), re.S)
+    assert opening[1].count("\n") == 3
+    with contextlib.redirect_stdout(io.StringIO()) as printed:
+        exec(opening[1], {})
+    assert printed.getvalue() == opening[2]
+
+
+def test_links_of_the_readme():
+    """An index shows it, where a link to a file of the repository has no end."""
+    links = re.findall(r"\]\(\s*([^)\s]*)\s*\)", README.read_text(encoding="utf-8"))
+    assert links and all(link.startswith("https://") for link in links)
+
+
 def test_pandas():
     pytest.importorskip("pandas")
     failures, tries = doctest.testfile(str(README.with_name("pandas.md")), module_relative=False, encoding="utf-8")
@@ -55,3 +73,12 @@ def test_types_are_there():
                 hints = inspect.signature(item)
                 assert hints.return_annotation is not inspect.Signature.empty
                 assert all(p.annotation is not inspect.Parameter.empty for p in hints.parameters.values())
+
+
+def test_public_names():
+    """`dir` shows them, and no others; each is documented as if it was of the module that users import."""
+    assert dir(num_format) == sorted([*num_format.__all__, "__version__", "columns"])
+    assert dir(columns) == sorted(columns.__all__)
+    assert num_format.format_number is num_format.format
+    for name in num_format.__all__:
+        assert getattr(num_format, name).__module__ == "num_format"

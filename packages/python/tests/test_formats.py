@@ -1,62 +1,46 @@
 """Formats, locales and their errors."""
 import copy
+import inspect
 import pickle
-import re
 
-import cases
 import pytest
 
 import num_format
 from num_format import Cause, Format, FormatError, Grouping
 
 
-def test_locales_have_the_data_of_the_table(rows):
-    groupings = [Grouping.STANDARD, Grouping.INDIAN, Grouping.POSIX]
-    for name, row in rows.items():
-        form = Format.locale(name)
-        assert (form.separator, form.minus_sign) == (row["sep"], row["min"])
-        assert (form.decimal_mark, form.grouping) == (row["dec"], groupings[row["group"]])
-        assert form.reads_back()
-
-
-def test_names(recorded, rows):
-    """The names that the Rust crate knows, and other words as language tags."""
-    names = {name.lower(): name for name in rows}
-    lines = [line for line in recorded if line[0] == "names"]
-    assert len(lines) > 1000
-    for _, text, result in lines:
-        kind, _, rest = result.partition(" ")
-        name = cases.text(text)
-        expected = rest if kind == "ok" else looked_up(name, names)
-        if expected is not None:
-            assert Format.locale(name) == Format.locale(expected)
-        else:
-            with pytest.raises(FormatError) as caught:
-                Format.locale(name)
-            assert (caught.value.cause, caught.value.argument) == (Cause.UNKNOWN_LOCALE, "locale")
-
-
-def looked_up(tag, names):
-    """The name of RFC 4647: subtags are taken from the end of the tag until a name is left."""
-    tag = re.split("[.@]", tag)[0].replace("_", "-").encode().lower().decode()
-    if tag in ("c", "posix"):
-        return "en-US-POSIX"
-    while tag and tag not in names:
-        tag = tag.rpartition("-")[0]
-    return names.get(tag)
-
-
-def test_lookup(rows):
-    names = {name.lower(): name for name in rows}
-    endings = ["", ".UTF-8", "@euro", ".utf8@x-y", "-XX", "_XX.UTF-8", "-x-y", "-", "--", "x", " ", "\u00e9", "\0"]
-    tags = ["C", "POSIX", "c.UTF-8", "Posix@x", "english", "", ".", "-", "iw", "zh-TW", "de\u017fde", "\u212aea"]
-    for name in rows:
-        for tag in (name, name.replace("-", "_"), name.lower(), name.upper(), name[:-1], name[1:], f"x-{name}"):
-            tags += [tag + ending for ending in endings]
-    for tag in tags:
-        assert num_format.lookup(tag) == looked_up(tag, names), tag
-    examples = {"de_DE.UTF-8": "de", "en-us": "en", "zh-hant-TW": "zh-Hant", "sr_RS@latin": "sr", "no": None}
-    assert {tag: num_format.lookup(tag) for tag in examples} == examples
+@pytest.mark.parametrize(
+    ("header", "name"),
+    [
+        ("de,en;q=0.9", "de"),
+        ("de;q=0.9", "de"),
+        ("en;q=0.5, de;q=0.9", "de"),
+        ("en-US,en", "en"),
+        ("en-US,en;q=0.9,de;q=0.8", "en"),
+        ("tlh, pt-BR;q=0.8, *;q=0.5", "pt"),
+        ("da, en-GB;q=0.8, en;q=0.7", "da"),
+        ("fr;q=0.5,de;q=0.5", "fr"),
+        ("fr;q=0, de;q=0.001", "de"),
+        ("fr ; q=0.7 ,\tde ; Q=1.000", "de"),
+        ("fr;q=1.5, de;q=0.1", "de"),
+        ("fr;q=x;y, de", "de"),
+        (",,de,", "de"),
+        ("*", None),
+        ("*,en;q=0", None),
+        ("fr;q=0", None),
+        (",", None),
+        ("tlh,xx-YY;q=0.3", None),
+    ],
+)
+def test_headers_of_browsers(header, name):
+    """Accept-Language of RFC 9110: a weight is from 0 to 1 with at most three decimals, 1 if there is none, and 0 is no."""
+    assert num_format.lookup(header) == name
+    if name:
+        assert Format.locale(header) == Format.locale(name) and num_format.format(5, header) == "5"
+    else:
+        with pytest.raises(FormatError) as caught:
+            Format.locale(header)
+        assert (caught.value.cause, caught.value.text) == (Cause.UNKNOWN_LOCALE, header)
 
 
 def test_tags_in_place_of_names():
@@ -153,6 +137,9 @@ def test_refused_groupings():
 
 
 def test_refused_names():
+    for name in [[], None, 1, b"de"]:
+        with pytest.raises(TypeError, match="must be a str, not"):
+            Format.locale(name)
     for name in ["", "xx", "english", "de\0", "de" * 1000]:
         with pytest.raises(FormatError, match="and none is found for it as a language tag") as caught:
             num_format.format(1, name)
@@ -162,12 +149,7 @@ def test_refused_names():
     assert caught.value.cause is Cause.NOT_UTF8
 
 
-def test_reads_back_and_prints_alike():
-    assert not Format(minus_sign="").reads_back()
-    assert not Format(separator="0").reads_back()
-    assert Format(separator="0", grouping="Posix").reads_back()
-    assert Format(separator="x", grouping="Posix").prints_alike(Format(separator="", grouping="Indian"))
-    assert not Format().prints_alike(Format.locale("de"))
+def test_wrong_types_of_another_format():
     with pytest.raises(TypeError):
         Format().prints_alike("en")
 
@@ -193,6 +175,16 @@ def test_messages_are_short():
 
 
 def test_each_cause_has_a_message():
+    assert len({cause.reason for cause in Cause}) == len(Cause)
     for cause in Cause:
-        assert str(num_format.ParseError("1", cause)).startswith("'1' is refused: ")
+        assert str(num_format.ParseError("1", cause)) == f"'1' is refused: {cause.reason}"
         assert eval(repr(cause)) is cause
+        # help() has a line of each.
+        assert f"\n    {cause.name}: " in inspect.getdoc(Cause)
+
+
+def test_the_base_of_the_errors():
+    error = num_format.NumFormatError("x", Cause.NO_DIGIT)
+    assert (error.text, error.cause, str(error)) == ("x", Cause.NO_DIGIT, "'x' is refused: it has no digit")
+    with pytest.raises(TypeError):
+        num_format.NumFormatError("x")

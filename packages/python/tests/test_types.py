@@ -26,7 +26,10 @@ column: StringColumn = format_column(np.array([1]), "de")
 column = format_column([1, 2], "de", large=True)
 column = format_decimal_column(np.zeros(2, WIDE), 2, "de")
 column = format_decimal_column([decimal, None], 2, "de")[1:]
-width: int = num_format.text_width(decimal, "de_DE")
+width: int = num_format.text_width(decimal, "de_DE") + num_format.text_width("1 234")
+text = num_format.format(5.0, "de", decimals=2) + num_format.format_number(decimal, "de", decimals=2)
+column = StringColumn.from_arrow(column[[0, 1]])[np.array([True, False])]
+reason: str = num_format.Cause.NO_DIGIT.reason
 text_or_null: str | None = column[0]
 parse_column(["1", None], "de", np.int8)
 try:
@@ -40,6 +43,9 @@ WRONG = [
     'num_format.format("5", "de")',
     "num_format.format(5.0, 'de')",
     "num_format.format(5)",
+    "num_format.format(5.0, 'de', 2)",
+    "num_format.format(5, 'de', decimals='2')",
+    "num_format.text_width(5)",
     "num_format.parse(5, 'de')",
     "num_format.parse(b'5', 'de')",
     "num_format.parse('5', 5)",

@@ -1,10 +1,11 @@
 use crate::custom_format_builder::CustomFormatBuilder;
+use crate::ffi::RawFormat;
 use crate::format::Format;
 use crate::grouping::Grouping;
 use crate::locale::Locale;
 use crate::strings::{
-    DecString, DecimalStr, InfString, InfinityStr, MinString, MinusSignStr, NanStr, NanString,
-    PlusSignStr, PlusString, SepString, SeparatorStr,
+    DecString, DecimalStr, InfString, InfinityStr, MinString, MinusSignStr, NanStr, NanString, PlusSignStr, PlusString,
+    SepString, SeparatorStr,
 };
 
 /// A format of your own. Implements [`Format`].
@@ -122,6 +123,12 @@ impl Format for CustomFormat {
     #[inline]
     fn separator(&self) -> SeparatorStr<'_> {
         self.sep.as_borrowed()
+    }
+
+    #[inline]
+    fn raw(&self) -> Option<RawFormat> {
+        let (SepString(separator), MinString(minus_sign), DecString(mark)) = (&self.sep, &self.min, &self.dec);
+        Some(RawFormat::of_texts(&separator.0, self.grp, &minus_sign.0, &mark.0))
     }
 }
 

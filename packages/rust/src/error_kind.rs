@@ -31,10 +31,9 @@ pub enum ErrorKind {
 impl fmt::Display for ErrorKind {
     fn fmt(&self, f: &mut fmt::Formatter<'_>) -> fmt::Result {
         match self {
-            ErrorKind::Capacity { len, cap } => write!(
-                f,
-                "Attempted to write input of length {len} bytes into a buffer with capacity {cap} bytes."
-            ),
+            ErrorKind::Capacity { len, cap } => {
+                write!(f, "Attempted to write input of length {len} bytes into a buffer with capacity {cap} bytes.")
+            }
             ErrorKind::Other(message) => f.write_str(message),
             ErrorKind::ParseLocale(input) => {
                 write!(f, "Failed to parse {input} into a valid locale.")

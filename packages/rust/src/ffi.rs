@@ -6,7 +6,9 @@
 
 #![allow(unsafe_code)]
 
-use core::str;
+use core::ffi::c_void;
+use core::mem::{self, MaybeUninit};
+use core::{slice, str};
 
 use crate::format::Format;
 use crate::grouping::Grouping;
@@ -29,6 +31,7 @@ mod status {
     pub(super) const OUT_OF_RANGE: i32 = -12;
     pub(super) const TOO_MANY_DECIMALS: i32 = -14;
     pub(super) const AMBIGUOUS_FORMAT: i32 = -19;
+    pub(super) const TEXT_TOO_LONG: i32 = -21;
 }
 
 /// A status that the proved library does not return.
@@ -37,7 +40,7 @@ const OTHER_LIBRARY: &str = "the library that is linked is not the proved one";
 /// The struct `num_format` of the header: what the library needs of a format.
 #[repr(C)]
 #[derive(Clone, Copy, Debug, Default, PartialEq, Eq)]
-pub(crate) struct RawFormat {
+pub struct RawFormat {
     separator: [u8; 8],
     minus_sign: [u8; 8],
     decimal_mark: [u8; 8],
@@ -64,12 +67,7 @@ extern "C" {
     fn num_format_locale(format: *mut RawFormat, name: *const u8, length: usize) -> i32;
     #[cfg(test)]
     fn num_format_names(place: usize, name: *mut u8, capacity: usize) -> i32;
-    fn num_format_lookup_name(
-        tag: *const u8,
-        tag_length: usize,
-        name: *mut u8,
-        capacity: usize,
-    ) -> i32;
+    fn num_format_lookup_name(tag: *const u8, tag_length: usize, name: *mut u8, capacity: usize) -> i32;
     fn num_format_print_decimal(
         format: *const RawFormat,
         low: u64,
@@ -87,52 +85,87 @@ extern "C" {
         scale: *mut u32,
         at: *mut usize,
     ) -> i32;
+    fn num_format_parse_typed(
+        format: *const RawFormat,
+        type_of: u32,
+        text: *const u8,
+        length: usize,
+        value: *mut c_void,
+        value_size: usize,
+        at: *mut usize,
+    ) -> i32;
+    fn num_format_parse_typed_decimal(
+        format: *const RawFormat,
+        text: *const u8,
+        length: usize,
+        low: *mut u64,
+        high: *mut u64,
+        scale: *mut u32,
+        at: *mut usize,
+    ) -> i32;
+    fn num_format_text_width(text: *const u8, length: usize) -> usize;
     fn num_format_reads_back(format: *const RawFormat) -> i32;
     fn num_format_prints_alike(first: *const RawFormat, second: *const RawFormat) -> i32;
 }
 
 impl RawFormat {
     /// The format of plain texts, such as `-1234.50`.
-    pub(crate) const PLAIN: RawFormat = RawFormat {
-        separator: [0; 8],
-        minus_sign: *b"-\0\0\0\0\0\0\0",
-        decimal_mark: *b".\0\0\0\0\0\0\0",
-        separator_length: 0,
-        minus_sign_length: 1,
-        decimal_mark_length: 1,
-        grouping: 3,
-        reserved: [0; 4],
-    };
+    pub(crate) const PLAIN: RawFormat = RawFormat::new("", Grouping::Posix, "-", ".");
 
-    /// Returns what whole numbers need of a format. Its decimal mark is not asked for.
+    /// Returns the format of these texts, each of at most 8 bytes, without a call: the bytes are those that
+    /// `num_format_custom_decimal` writes, and each call that is given them tests them.
+    #[inline]
+    pub(crate) const fn new(separator: &str, grouping: Grouping, minus_sign: &str, decimal_mark: &str) -> RawFormat {
+        RawFormat {
+            separator: padded(separator),
+            minus_sign: padded(minus_sign),
+            decimal_mark: padded(decimal_mark),
+            separator_length: separator.len() as u8,
+            minus_sign_length: minus_sign.len() as u8,
+            decimal_mark_length: decimal_mark.len() as u8,
+            grouping: code(grouping),
+            reserved: [0; 4],
+        }
+    }
+
+    /// Returns the format of these texts, whose bytes are padded already.
+    #[inline]
+    pub(crate) fn of_texts(
+        separator: &Text<8>,
+        grouping: Grouping,
+        minus_sign: &Text<8>,
+        decimal_mark: &Text<8>,
+    ) -> RawFormat {
+        RawFormat {
+            separator: separator.bytes,
+            minus_sign: minus_sign.bytes,
+            decimal_mark: decimal_mark.bytes,
+            separator_length: separator.len as u8,
+            minus_sign_length: minus_sign.len as u8,
+            decimal_mark_length: decimal_mark.len as u8,
+            grouping: code(grouping),
+            reserved: [0; 4],
+        }
+    }
+
+    /// Returns what whole numbers need of a format. The decimal mark of one that is not of this crate is not asked for.
     #[inline]
     pub(crate) fn of<F: Format>(format: &F) -> RawFormat {
-        RawFormat::filled(format, ".")
+        format.raw().unwrap_or_else(|| {
+            let separator = format.separator().into_str();
+            let minus_sign = format.minus_sign().into_str();
+            RawFormat::new(separator, format.grouping(), minus_sign, ".")
+        })
     }
 
     /// Returns what decimals need of a format.
     #[inline]
     pub(crate) fn with_decimal_mark<F: Format>(format: &F) -> RawFormat {
-        RawFormat::filled(format, format.decimal().into_str())
-    }
-
-    /// Returns a format, without a call: the bytes are those that `num_format_custom_decimal` writes, and each
-    /// call that is given them tests them.
-    #[inline]
-    fn filled<F: Format>(format: &F, decimal_mark: &str) -> RawFormat {
-        let (separator, separator_length) = padded(format.separator().into_str());
-        let (minus_sign, minus_sign_length) = padded(format.minus_sign().into_str());
-        let (decimal_mark, decimal_mark_length) = padded(decimal_mark);
-        RawFormat {
-            separator,
-            minus_sign,
-            decimal_mark,
-            separator_length,
-            minus_sign_length,
-            decimal_mark_length,
-            grouping: code(format.grouping()),
-            reserved: [0; 4],
-        }
+        format.raw().unwrap_or_else(|| RawFormat {
+            decimal_mark: padded(format.decimal().into_str()),
+            decimal_mark_length: format.decimal().into_str().len() as u8,
+            ..RawFormat::of(format)
+        })
     }
 
     /// Returns the format that the library makes of these.
@@ -183,7 +216,7 @@ impl RawFormat {
 
 /// Returns the constant of the header for a grouping.
 #[inline]
-fn code(grouping: Grouping) -> u8 {
+const fn code(grouping: Grouping) -> u8 {
     match grouping {
         Grouping::Standard => 1,
         Grouping::Indian => 2,
@@ -195,17 +228,65 @@ fn code(grouping: Grouping) -> u8 {
     }
 }
 
-/// Returns the bytes of a text of at most 8 bytes, with zeros after them, and its length.
+/// Returns the bytes of a text of at most 8 bytes, with zeros after them.
 #[inline]
-fn padded(text: &str) -> ([u8; 8], u8) {
+const fn padded(text: &str) -> [u8; 8] {
+    let text = text.as_bytes();
     let mut bytes = [0; 8];
-    for (byte, byte_of_text) in bytes.iter_mut().zip(text.bytes()) {
-        *byte = byte_of_text;
+    let mut i = 0;
+    while i < text.len() {
+        bytes[i] = text[i];
+        i += 1;
     }
-    (bytes, text.len() as u8)
+    bytes
 }
 
-/// A text of at most `N` bytes, in place: a copy of a `str`, or what the library printed. Its bytes are UTF-8.
+/// Returns how many columns a text takes.
+pub(crate) fn text_width(text: &str) -> usize {
+    // SAFETY: the pointer and the length are those of one `str`.
+    unsafe { num_format_text_width(text.as_ptr(), text.len()) }
+}
+
+/// What the library prints.
+pub(crate) trait Print {
+    /// Writes the text at the start of an array, and returns its length, or a negative number if it is longer than the
+    /// capacity.
+    ///
+    /// # Safety
+    ///
+    /// The pointer is that of an array of as many bytes as the capacity.
+    unsafe fn print(self, format: &RawFormat, text: *mut u8, capacity: usize) -> i32;
+}
+
+/// The units and the scale of a decimal. The scale is at most 38.
+impl Print for (i128, u8) {
+    #[inline]
+    unsafe fn print(self, format: &RawFormat, text: *mut u8, capacity: usize) -> i32 {
+        let (low, high) = halves(self.0 as u128);
+        // SAFETY: the caller ensures it.
+        unsafe { num_format_print_decimal(format, low, high, u32::from(self.1), text, capacity) }
+    }
+}
+
+/// Calls a function with the text of a number, which has at most `MAX_DECIMAL_LEN` bytes.
+#[inline]
+pub(crate) fn with_text<P: Print, R>(number: P, format: &RawFormat, then: impl FnOnce(&str) -> R) -> R {
+    let mut bytes = MaybeUninit::<[u8; MAX_DECIMAL_LEN]>::uninit();
+    let start = bytes.as_mut_ptr().cast::<u8>();
+    // SAFETY: the array has as many bytes.
+    let len = length(unsafe { number.print(format, start, MAX_DECIMAL_LEN) });
+    // SAFETY: the library has written these bytes, which are UTF-8 as it is proved.
+    then(unsafe { str::from_utf8_unchecked(slice::from_raw_parts(start, len)) })
+}
+
+/// Returns the length of a text that fits, for which no call fails.
+#[inline]
+fn length(status: i32) -> usize {
+    usize::try_from(status).expect(OTHER_LIBRARY)
+}
+
+/// A text of at most `N` bytes, in place: a copy of a `str`, or what the library printed. Its bytes are UTF-8. Those
+/// after a copy are zeros.
 #[derive(Clone, Copy)]
 pub(crate) struct Text<const N: usize> {
     bytes: [u8; N],
@@ -216,19 +297,14 @@ impl<const N: usize> Text<N> {
     /// Returns the empty text.
     #[inline]
     pub(crate) const fn new() -> Self {
-        Text {
-            bytes: [0; N],
-            len: 0,
-        }
+        Text { bytes: [0; N], len: 0 }
     }
 
     /// Returns a copy of a text, or `None` if it has more than `N` bytes.
     #[inline]
     pub(crate) fn copied(text: &str) -> Option<Self> {
         let mut copy = Text::new();
-        copy.bytes
-            .get_mut(..text.len())?
-            .copy_from_slice(text.as_bytes());
+        copy.bytes.get_mut(..text.len())?.copy_from_slice(text.as_bytes());
         copy.len = text.len();
         Some(copy)
     }
@@ -240,43 +316,31 @@ impl<const N: usize> Text<N> {
         unsafe { str::from_utf8_unchecked(&self.bytes[..self.len]) }
     }
 
-    /// Becomes the text that a call writes, given a pointer to `N` bytes and that capacity. The call returns the
-    /// length.
+    /// Becomes the text of a number, and returns its length.
     #[inline]
-    fn fill(&mut self, print: impl FnOnce(*mut u8, usize) -> i32) {
-        let status = print(self.bytes.as_mut_ptr(), N);
-        // No text is longer than the capacity, so no call fails.
-        self.len = usize::try_from(status).expect(OTHER_LIBRARY);
+    pub(crate) fn print<P: Print>(&mut self, number: P, format: &RawFormat) -> usize {
+        // SAFETY: the array has as many bytes.
+        self.len = length(unsafe { number.print(format, self.bytes.as_mut_ptr(), N) });
+        self.len
     }
 
     /// Becomes the name that the library has for the locale at a place.
     #[cfg(test)]
     pub(crate) fn print_name(&mut self, place: usize) {
-        // SAFETY: `fill` gives a pointer to as many bytes as the capacity.
-        self.fill(|name, capacity| unsafe { num_format_names(place, name, capacity) });
+        // SAFETY: the array has as many bytes.
+        self.len = length(unsafe { num_format_names(place, self.bytes.as_mut_ptr(), N) });
     }
 
     /// Returns the name that the library has for the locale of a tag, if it has one.
     pub(crate) fn of_lookup(tag: &str) -> Option<Self> {
         let mut name = Text::new();
         // SAFETY: the pointers and lengths are those of one `str` and of one array.
-        let status =
-            unsafe { num_format_lookup_name(tag.as_ptr(), tag.len(), name.bytes.as_mut_ptr(), N) };
+        let status = unsafe { num_format_lookup_name(tag.as_ptr(), tag.len(), name.bytes.as_mut_ptr(), N) };
         if status == status::UNKNOWN_LOCALE {
             return None;
         }
-        name.len = usize::try_from(status).expect(OTHER_LIBRARY);
+        name.len = length(status);
         Some(name)
-    }
-
-    /// Becomes the text of a decimal.
-    #[inline]
-    pub(crate) fn print_decimal(&mut self, units: i128, scale: u8, format: &RawFormat) {
-        let (low, high) = halves(units as u128);
-        // SAFETY: `fill` gives a pointer to as many bytes as the capacity.
-        self.fill(|text, capacity| unsafe {
-            num_format_print_decimal(format, low, high, u32::from(scale), text, capacity)
-        });
     }
 }
 
@@ -289,6 +353,7 @@ pub(crate) enum Refusal {
     TooManyDecimals,
     Misspelled,
     OutOfRange,
+    TextTooLong,
 }
 
 /// Returns whether a call that parses leniently wrote a number, by its status.
@@ -313,15 +378,13 @@ fn checked(status: i32, at: usize) -> Result<(), Refusal> {
         status::TOO_MANY_DECIMALS => Err(Refusal::TooManyDecimals),
         status::MISSPELLED => Err(Refusal::Misspelled),
         status::OUT_OF_RANGE => Err(Refusal::OutOfRange),
+        status::TEXT_TOO_LONG => Err(Refusal::TextTooLong),
         _ => panic!("{OTHER_LIBRARY}"),
     }
 }
 
 /// A type of number that the library has calls for. Numbers of fewer bits are converted to it and from it.
-pub(crate) trait Number: Sized {
-    /// Makes `text` the text of the number.
-    fn print<const N: usize>(self, format: &RawFormat, text: &mut Text<N>);
-
+pub(crate) trait Number: Print + Sized {
     /// Returns the number of at most `bits` bits that the digits and the sign of the text denote.
     fn parse(bits: u32, text: &str, format: &RawFormat) -> Option<Self>;
 
@@ -332,19 +395,8 @@ pub(crate) trait Number: Sized {
 macro_rules! impl_number {
     ($type:ty, $print:ident, $parse:ident, $parse_strict:ident) => {
         extern "C" {
-            fn $print(
-                format: *const RawFormat,
-                number: $type,
-                text: *mut u8,
-                capacity: usize,
-            ) -> i32;
-            fn $parse(
-                format: *const RawFormat,
-                bits: u32,
-                text: *const u8,
-                length: usize,
-                number: *mut $type,
-            ) -> i32;
+            fn $print(format: *const RawFormat, number: $type, text: *mut u8, capacity: usize) -> i32;
+            fn $parse(format: *const RawFormat, bits: u32, text: *const u8, length: usize, number: *mut $type) -> i32;
             fn $parse_strict(
                 format: *const RawFormat,
                 bits: u32,
@@ -355,19 +407,20 @@ macro_rules! impl_number {
             ) -> i32;
         }
 
-        impl Number for $type {
+        impl Print for $type {
             #[inline]
-            fn print<const N: usize>(self, format: &RawFormat, text: &mut Text<N>) {
-                // SAFETY: `fill` gives a pointer to as many bytes as the capacity.
-                text.fill(|text, capacity| unsafe { $print(format, self, text, capacity) });
+            unsafe fn print(self, format: &RawFormat, text: *mut u8, capacity: usize) -> i32 {
+                // SAFETY: the caller ensures it.
+                unsafe { $print(format, self, text, capacity) }
             }
+        }
 
+        impl Number for $type {
             #[inline]
             fn parse(bits: u32, text: &str, format: &RawFormat) -> Option<Self> {
                 let mut number = 0;
                 // SAFETY: the pointers are those of a `str` and of references.
-                let status =
-                    unsafe { $parse(format, bits, text.as_ptr(), text.len(), &mut number) };
+                let status = unsafe { $parse(format, bits, text.as_ptr(), text.len(), &mut number) };
                 is_parsed(status).then_some(number)
             }
 
@@ -375,53 +428,22 @@ macro_rules! impl_number {
             fn parse_strict(bits: u32, text: &str, format: &RawFormat) -> Result<Self, Refusal> {
                 let (mut number, mut at) = (0, 0);
                 // SAFETY: the pointers are those of a `str` and of references.
-                let status = unsafe {
-                    $parse_strict(
-                        format,
-                        bits,
-                        text.as_ptr(),
-                        text.len(),
-                        &mut number,
-                        &mut at,
-                    )
-                };
+                let status = unsafe { $parse_strict(format, bits, text.as_ptr(), text.len(), &mut number, &mut at) };
                 checked(status, at).map(|()| number)
             }
         }
     };
 }
 
-impl_number!(
-    i64,
-    num_format_print_i64,
-    num_format_parse_i64,
-    num_format_parse_strict_i64
-);
-impl_number!(
-    u64,
-    num_format_print_u64,
-    num_format_parse_u64,
-    num_format_parse_strict_u64
-);
+impl_number!(i64, num_format_print_i64, num_format_parse_i64, num_format_parse_strict_i64);
+impl_number!(u64, num_format_print_u64, num_format_parse_u64, num_format_parse_strict_u64);
 
 /// Numbers of 128 bits are given and returned by their halves.
 macro_rules! impl_wide_number {
     ($type:ty, $print:ident, $parse:ident, $parse_strict:ident) => {
         extern "C" {
-            fn $print(
-                format: *const RawFormat,
-                low: u64,
-                high: u64,
-                text: *mut u8,
-                capacity: usize,
-            ) -> i32;
-            fn $parse(
-                format: *const RawFormat,
-                text: *const u8,
-                length: usize,
-                low: *mut u64,
-                high: *mut u64,
-            ) -> i32;
+            fn $print(format: *const RawFormat, low: u64, high: u64, text: *mut u8, capacity: usize) -> i32;
+            fn $parse(format: *const RawFormat, text: *const u8, length: usize, low: *mut u64, high: *mut u64) -> i32;
             fn $parse_strict(
                 format: *const RawFormat,
                 text: *const u8,
@@ -432,20 +454,21 @@ macro_rules! impl_wide_number {
             ) -> i32;
         }
 
-        impl Number for $type {
+        impl Print for $type {
             #[inline]
-            fn print<const N: usize>(self, format: &RawFormat, text: &mut Text<N>) {
+            unsafe fn print(self, format: &RawFormat, text: *mut u8, capacity: usize) -> i32 {
                 let (low, high) = halves(self as u128);
-                // SAFETY: `fill` gives a pointer to as many bytes as the capacity.
-                text.fill(|text, capacity| unsafe { $print(format, low, high, text, capacity) });
+                // SAFETY: the caller ensures it.
+                unsafe { $print(format, low, high, text, capacity) }
             }
+        }
 
+        impl Number for $type {
             #[inline]
             fn parse(_: u32, text: &str, format: &RawFormat) -> Option<Self> {
                 let (mut low, mut high) = (0, 0);
                 // SAFETY: the pointers are those of a `str` and of references.
-                let status =
-                    unsafe { $parse(format, text.as_ptr(), text.len(), &mut low, &mut high) };
+                let status = unsafe { $parse(format, text.as_ptr(), text.len(), &mut low, &mut high) };
                 is_parsed(status).then(|| whole(low, high) as $type)
             }
 
@@ -453,52 +476,72 @@ macro_rules! impl_wide_number {
             fn parse_strict(_: u32, text: &str, format: &RawFormat) -> Result<Self, Refusal> {
                 let (mut low, mut high, mut at) = (0, 0, 0);
                 // SAFETY: the pointers are those of a `str` and of references.
-                let status = unsafe {
-                    $parse_strict(
-                        format,
-                        text.as_ptr(),
-                        text.len(),
-                        &mut low,
-                        &mut high,
-                        &mut at,
-                    )
-                };
+                let status = unsafe { $parse_strict(format, text.as_ptr(), text.len(), &mut low, &mut high, &mut at) };
                 checked(status, at).map(|()| whole(low, high) as $type)
             }
         }
     };
 }
 
-impl_wide_number!(
-    i128,
-    num_format_print_i128,
-    num_format_parse_i128,
-    num_format_parse_strict_i128
-);
-impl_wide_number!(
-    u128,
-    num_format_print_u128,
-    num_format_parse_u128,
-    num_format_parse_strict_u128
-);
+impl_wide_number!(i128, num_format_print_i128, num_format_parse_i128, num_format_parse_strict_i128);
+impl_wide_number!(u128, num_format_print_u128, num_format_parse_u128, num_format_parse_strict_u128);
+
+/// A call of the library that parses a decimal.
+type ParseDecimalCall =
+    unsafe extern "C" fn(*const RawFormat, *const u8, usize, *mut u64, *mut u64, *mut u32, *mut usize) -> i32;
+
+/// Returns the units and the scale of the decimal that a call finds in a text.
+fn parse_decimal_by(call: ParseDecimalCall, text: &str, format: &RawFormat) -> Result<(i128, u8), Refusal> {
+    let (mut low, mut high, mut scale, mut at) = (0, 0, 0, 0);
+    // SAFETY: the pointers are those of a `str` and of references.
+    let status = unsafe { call(format, text.as_ptr(), text.len(), &mut low, &mut high, &mut scale, &mut at) };
+    // A scale is at most 38.
+    checked(status, at).map(|()| (whole(low, high) as i128, scale as u8))
+}
 
 /// Returns the units and the scale of the decimal that the text spells.
 pub(crate) fn parse_decimal(text: &str, format: &RawFormat) -> Result<(i128, u8), Refusal> {
-    let (mut low, mut high, mut scale, mut at) = (0, 0, 0, 0);
-    // SAFETY: the pointers are those of a `str` and of references.
+    parse_decimal_by(num_format_parse_decimal, text, format)
+}
+
+/// The same of a text as a person types it.
+pub(crate) fn parse_typed_decimal(text: &str, format: &RawFormat) -> Result<(i128, u8), Refusal> {
+    parse_decimal_by(num_format_parse_typed_decimal, text, format)
+}
+
+/// An integer type, with its `num_format_type` of the header.
+pub(crate) trait Integer: Default {
+    const TYPE: u8;
+}
+
+macro_rules! impl_integer {
+    ($($type:ident: $number:literal),*) => {$(
+        impl Integer for $type {
+            const TYPE: u8 = $number;
+        }
+    )*};
+}
+
+impl_integer!(i8: b'c', i16: b's', i32: b'i', i64: b'l', isize: b'l', i128: b'q');
+impl_integer!(u8: b'C', u16: b'S', u32: b'I', u64: b'L', usize: b'L', u128: b'Q');
+
+/// Returns the integer of a text as a person types it.
+pub(crate) fn parse_typed<I: Integer>(text: &str, format: &RawFormat) -> Result<I, Refusal> {
+    let (mut integer, mut at) = (I::default(), 0);
+    // SAFETY: the pointers and sizes are those of a `str` and of references. The library refuses another size than that
+    // of the type, and each of its bytes may be any.
     let status = unsafe {
-        num_format_parse_decimal(
+        num_format_parse_typed(
             format,
+            I::TYPE.into(),
             text.as_ptr(),
             text.len(),
-            &mut low,
-            &mut high,
-            &mut scale,
+            (&mut integer as *mut I).cast(),
+            mem::size_of::<I>(),
             &mut at,
         )
     };
-    // A scale is at most 38.
-    checked(status, at).map(|()| (whole(low, high) as i128, scale as u8))
+    checked(status, at).map(|()| integer)
 }
 
 /// Returns the low and the high half.
@@ -521,23 +564,11 @@ mod tests {
     #[test]
     fn formats_are_filled_as_the_library_does() {
         for grouping in [Grouping::Standard, Grouping::Indian, Grouping::Posix] {
-            for text in [
-                "",
-                "x",
-                "é",
-                "€",
-                "🙌",
-                "abcde",
-                "€€",
-                "\u{200e}-\u{200e}",
-                "abcdefgh",
-            ] {
+            for text in ["", "x", "é", "€", "🙌", "abcde", "€€", "\u{200e}-\u{200e}", "abcdefgh"] {
                 let builder = CustomFormat::builder().grouping(grouping);
-                for builder in [
-                    builder.clone().separator(text),
-                    builder.clone().minus_sign(text),
-                    builder.decimal(text),
-                ] {
+                for builder in
+                    [builder.clone().separator(text), builder.clone().minus_sign(text), builder.decimal(text)]
+                {
                     let format = builder.build().unwrap();
                     let raw = RawFormat::with_decimal_mark(&format);
                     assert_eq!(raw, RawFormat::by_library(&format));

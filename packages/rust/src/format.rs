@@ -71,6 +71,13 @@ pub trait Format {
 
     /// Returns the separator between groups of digits, such as `,`.
     fn separator(&self) -> SeparatorStr<'_>;
+
+    /// Returns the struct that the library takes, where it is at hand. It says what the other methods say.
+    #[doc(hidden)]
+    #[inline]
+    fn raw(&self) -> Option<RawFormat> {
+        None
+    }
 }
 
 /// Returns whether every number, printed under the format, parses as the same number again, as any type that

@@ -4,9 +4,9 @@ use core::num::{NonZeroU128, NonZeroU16, NonZeroU32, NonZeroU64, NonZeroU8, NonZ
 
 use crate::buffer::Buffer;
 use crate::error::Error;
-use crate::ffi::{Number, RawFormat};
+use crate::ffi::{parse_typed, with_text, Number, RawFormat};
 use crate::format::Format;
-use crate::parsing::{FromFormattedStr, StrictError};
+use crate::parsing::{FromFormattedStr, StrictError, TypedError};
 use crate::sealed::Sealed;
 use crate::to_formatted_str::ToFormattedStr;
 
@@ -15,52 +15,55 @@ macro_rules! impl_integers {
         impl Sealed for $type {}
 
         impl ToFormattedStr for $type {
+            #[inline]
             fn read_to_buffer<F: Format>(&self, buf: &mut Buffer, format: &F) -> usize {
-                (*self as $number).print(&RawFormat::of(format), &mut buf.text);
-                buf.len()
+                buf.text.print(*self as $number, &RawFormat::of(format))
+            }
+
+            #[inline]
+            fn with_text<F: Format, R>(&self, format: &F, then: impl FnOnce(&str) -> R) -> R {
+                with_text(*self as $number, &RawFormat::of(format), then)
             }
         }
 
         // The library returns a number of as many bits as it is asked for.
         impl FromFormattedStr for $type {
+            #[inline]
             fn from_formatted_str<F: Format>(s: &str, format: &F) -> Result<$type, Error> {
                 $number::parse($type::BITS, s, &RawFormat::of(format))
                     .map(|n| n as $type)
                     .ok_or_else(|| Error::parse_number(s))
             }
 
-            fn from_strict_str<F: Format>(s: &str, format: &F) -> Result<$type, StrictError> {
-                let number = $number::parse_strict($type::BITS, s, &RawFormat::of(format))?;
+            #[inline]
+            fn from_raw_str(s: &str, format: &RawFormat) -> Result<$type, StrictError> {
+                let number = $number::parse_strict($type::BITS, s, format)?;
                 Ok(number as $type)
+            }
+
+            fn from_raw_typed_str(s: &str, format: &RawFormat) -> Result<$type, TypedError<StrictError>> {
+                Ok(parse_typed(s, format)?)
             }
         }
     )*};
 }
 
-impl_integers!(
-    i8 as i64,
-    i16 as i64,
-    i32 as i64,
-    i64 as i64,
-    isize as i64,
-    i128 as i128
-);
-impl_integers!(
-    u8 as u64,
-    u16 as u64,
-    u32 as u64,
-    u64 as u64,
-    usize as u64,
-    u128 as u128
-);
+impl_integers!(i8 as i64, i16 as i64, i32 as i64, i64 as i64, isize as i64, i128 as i128);
+impl_integers!(u8 as u64, u16 as u64, u32 as u64, u64 as u64, usize as u64, u128 as u128);
 
 macro_rules! impl_non_zero_integers {
     ($($type:ident as $integer:ident),*) => {$(
         impl Sealed for $type {}
 
         impl ToFormattedStr for $type {
+            #[inline]
             fn read_to_buffer<F: Format>(&self, buf: &mut Buffer, format: &F) -> usize {
                 self.get().read_to_buffer(buf, format)
+            }
+
+            #[inline]
+            fn with_text<F: Format, R>(&self, format: &F, then: impl FnOnce(&str) -> R) -> R {
+                self.get().with_text(format, then)
             }
         }
 
@@ -70,8 +73,13 @@ macro_rules! impl_non_zero_integers {
                     .ok_or_else(|| Error::parse_number(s))
             }
 
-            fn from_strict_str<F: Format>(s: &str, format: &F) -> Result<$type, StrictError> {
-                $type::new($integer::from_strict_str(s, format)?).ok_or(StrictError::OutOfRange)
+            fn from_raw_str(s: &str, format: &RawFormat) -> Result<$type, StrictError> {
+                $type::new($integer::from_raw_str(s, format)?).ok_or(StrictError::OutOfRange)
+            }
+
+            fn from_raw_typed_str(s: &str, format: &RawFormat) -> Result<$type, TypedError<StrictError>> {
+                let number = $integer::from_raw_typed_str(s, format)?;
+                $type::new(number).ok_or(TypedError::Number(StrictError::OutOfRange))
             }
         }
     )*};

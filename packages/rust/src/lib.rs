@@ -1,9 +1,14 @@
 #![cfg_attr(not(feature = "std"), no_std)]
 #![cfg_attr(feature = "std", doc = include_str!("../README.md"))]
 #![cfg_attr(
-    not(feature = "std"),
-    doc = "Numbers with separators between groups of digits, and back, without std."
+    feature = "std",
+    doc = "
+## In this documentation
+
+Numbers are printed by [`Buffer`], [`ToFormattedString`] and [`WriteFormatted`], and parsed by [`parsing`], under a
+[`Format`]: a [`Locale`] or a [`CustomFormat`]. New are [`Decimal`], [`StrictParser`] and [`TypedParser`](parsing::TypedParser)."
 )]
+#![cfg_attr(not(feature = "std"), doc = "Numbers with separators between groups of digits, and back, without std.")]
 #![deny(
     future_incompatible,
     missing_copy_implementations,
@@ -39,20 +44,21 @@ mod strings;
 mod to_formatted_str;
 #[cfg(feature = "std")]
 mod to_formatted_string;
+mod typed;
 #[cfg(feature = "std")]
 mod write_formatted;
 
-pub use self::buffer::Buffer;
+pub use self::buffer::{Buffer, DecimalBuffer};
 pub use self::custom_format::CustomFormat;
 pub use self::custom_format_builder::CustomFormatBuilder;
-pub use self::decimal::{Decimal, DecimalError, MAX_SCALE};
+pub use self::decimal::{Decimal, DecimalError, DecimalParser, Rounding, MAX_SCALE};
 pub use self::error::Error;
 pub use self::error_kind::ErrorKind;
 pub use self::format::{prints_alike, reads_back, Format};
-pub use self::formatted::Formatted;
+pub use self::formatted::{text_width, Formatted};
 pub use self::grouping::Grouping;
 pub use self::locale::Locale;
-pub use self::parsing::{ParseDecimal, ParseDecimalError, StrictError};
+pub use self::parsing::{ParseAtScaleError, ParseDecimal, ParseDecimalError, StrictError, StrictParser};
 pub use self::to_formatted_str::ToFormattedStr;
 #[cfg(feature = "std")]
 pub use self::to_formatted_string::ToFormattedString;
@@ -68,7 +74,5 @@ mod sealed {
 pub mod utils {
     #[cfg(not(feature = "std"))]
     pub use crate::strings::ErrString;
-    pub use crate::strings::{
-        DecimalStr, InfinityStr, MinusSignStr, NanStr, PlusSignStr, SeparatorStr,
-    };
+    pub use crate::strings::{DecimalStr, InfinityStr, MinusSignStr, NanStr, PlusSignStr, SeparatorStr};
 }

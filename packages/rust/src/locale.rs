@@ -1,7 +1,7 @@
 use core::str::FromStr;
 
 use crate::error::Error;
-use crate::ffi::{Text, MAX_LEN};
+use crate::ffi::{RawFormat, Text, MAX_LEN};
 use crate::format::Format;
 use crate::grouping::Grouping;
 use crate::strings::{DecimalStr, InfinityStr, MinusSignStr, NanStr, PlusSignStr, SeparatorStr};
@@ -9,6 +9,9 @@ use crate::strings::{DecimalStr, InfinityStr, MinusSignStr, NanStr, PlusSignStr,
 mod table;
 
 pub use self::table::Locale;
+
+/// The names, in rising byte order, which is that of the variants.
+static NAMES: [&str; table::LEN] = table::NAMES;
 
 /// The data of a locale.
 struct Row {
@@ -20,6 +23,7 @@ struct Row {
     nan: NanStr<'static>,
     plus_sign: PlusSignStr<'static>,
     separator: SeparatorStr<'static>,
+    raw: RawFormat,
 }
 
 /// Returns a row. That its texts are short enough is tested where it is compiled.
@@ -43,13 +47,67 @@ const fn row(
         nan: NanStr::constant(nan),
         plus_sign: PlusSignStr::constant(plus_sign),
         separator: SeparatorStr::constant(separator),
+        raw: RawFormat::new(separator, grouping, minus_sign, decimal),
     }
+}
+
+/// A power of two that is larger than the number of names, so that few names share a slot.
+const SLOTS: usize = 2048;
+
+/// What a slot has that is free.
+const FREE: u16 = u16::MAX;
+
+/// The places of the names: each in the first slot from its hash on that is free.
+static PLACES: [u16; SLOTS] = {
+    let mut places = [FREE; SLOTS];
+    let mut place = 0;
+    while place < table::LEN {
+        let mut slot = hash(table::NAMES[place]);
+        while places[slot] != FREE {
+            slot = (slot + 1) % SLOTS;
+        }
+        places[slot] = place as u16;
+        place += 1;
+    }
+    places
+};
+
+/// Returns the slot of a name, in which an underscore counts as a hyphen.
+const fn hash(name: &str) -> usize {
+    let name = name.as_bytes();
+    let mut hash = name.len() as u32;
+    let mut i = 0;
+    while i < name.len() {
+        hash = (hash ^ hyphened(name[i]) as u32).wrapping_mul(0x0100_0193);
+        i += 1;
+    }
+    (hash ^ hash >> 16) as usize % SLOTS
+}
+
+const fn hyphened(byte: u8) -> u8 {
+    if byte == b'_' {
+        b'-'
+    } else {
+        byte
+    }
+}
+
+/// Returns the place of a name, which has hyphens, or an underscore for every hyphen.
+fn place_of(name: &str) -> Option<usize> {
+    let slots = PLACES.iter().cycle().skip(hash(name));
+    let mut places = slots.take_while(|place| **place != FREE);
+    let place = places.find(|place| {
+        let known = NAMES[usize::from(**place)];
+        known == name
+            || known.len() == name.len() && !name.contains('-') && known.bytes().eq(name.bytes().map(hyphened))
+    })?;
+    Some(usize::from(*place))
 }
 
 impl Locale {
     /// Returns the names of all locales, with hyphens, in rising byte order.
     pub fn available_names() -> &'static [&'static str] {
-        &table::NAMES
+        &NAMES
     }
 
     /// Returns the locale of a name, which has hyphens, or an underscore for every hyphen.
@@ -68,18 +126,7 @@ impl Locale {
     /// ```
     pub fn from_name<S: AsRef<str>>(name: S) -> Result<Locale, Error> {
         let name = name.as_ref();
-        let has_underscores = name.contains('_') && !name.contains('-');
-        let hyphened = |byte| {
-            if has_underscores && byte == b'_' {
-                b'-'
-            } else {
-                byte
-            }
-        };
-        table::NAMES
-            .binary_search_by(|known| known.bytes().cmp(name.bytes().map(hyphened)))
-            .map(|place| table::ROWS[place].locale)
-            .map_err(|_| Error::parse_locale(name))
+        place_of(name).map(|place| table::ROWS[place].locale).ok_or_else(|| Error::parse_locale(name))
     }
 
     /// Returns the locale for a language tag, as an environment or a browser gives one. num-format has no such
@@ -123,7 +170,7 @@ impl Locale {
 
     /// Returns the name, with hyphens.
     pub fn name(&self) -> &'static str {
-        table::NAMES[*self as usize]
+        NAMES[*self as usize]
     }
 
     /// Returns the text for a value that is not a number.
@@ -182,6 +229,11 @@ impl Format for Locale {
     fn separator(&self) -> SeparatorStr<'_> {
         self.row().separator
     }
+
+    #[inline]
+    fn raw(&self) -> Option<RawFormat> {
+        Some(self.row().raw)
+    }
 }
 
 impl FromStr for Locale {
@@ -196,12 +248,11 @@ impl FromStr for Locale {
 mod tests {
     use std::format;
 
-    use super::{table, Locale, Text, MAX_LEN};
-    use crate::ffi::RawFormat;
+    use super::{table, Locale, RawFormat, Text, MAX_LEN, NAMES};
 
     #[test]
     fn the_table_is_that_of_the_library() {
-        for (place, (row, known)) in table::ROWS.iter().zip(table::NAMES).enumerate() {
+        for (place, (row, known)) in table::ROWS.iter().zip(NAMES).enumerate() {
             assert_eq!((row.locale as usize, row.locale.name()), (place, known));
             let mut name = Text::<MAX_LEN>::new();
             name.print_name(place);
@@ -213,7 +264,7 @@ mod tests {
 
     #[test]
     fn the_library_knows_the_same_names() {
-        for name in table::NAMES {
+        for name in NAMES {
             for text in [
                 name.replace('-', "_"),
                 name.replacen('-', "_", 1),

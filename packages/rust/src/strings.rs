@@ -68,7 +68,7 @@ macro_rules! define_text {
             derive(serde::Serialize, serde::Deserialize),
             serde(transparent)
         )]
-        pub(crate) struct $owned(Inline<$max_len>);
+        pub(crate) struct $owned(pub(crate) Inline<$max_len>);
 
         impl $owned {
             pub(crate) fn new<S: AsRef<str>>(s: S) -> Result<$owned, Error> {
@@ -124,13 +124,11 @@ define_text!(
 
 /// A text of at most `N` bytes, in place. It is compared, hashed and shown as its `str`.
 #[derive(Clone)]
-pub(crate) struct Inline<const N: usize>(Text<N>);
+pub(crate) struct Inline<const N: usize>(pub(crate) Text<N>);
 
 impl<const N: usize> Inline<N> {
     fn new(s: &str) -> Result<Self, Error> {
-        Text::copied(s)
-            .map(Inline)
-            .ok_or_else(|| Error::capacity(s.len(), N))
+        Text::copied(s).map(Inline).ok_or_else(|| Error::capacity(s.len(), N))
     }
 }
 
@@ -167,11 +165,7 @@ impl<const N: usize> fmt::Debug for Inline<N> {
 /// 256 bytes.
 #[cfg(not(feature = "std"))]
 #[derive(Clone, Debug, PartialEq, Eq, Hash)]
-#[cfg_attr(
-    feature = "with-serde",
-    derive(serde::Serialize, serde::Deserialize),
-    serde(transparent)
-)]
+#[cfg_attr(feature = "with-serde", derive(serde::Serialize, serde::Deserialize), serde(transparent))]
 pub struct ErrString(Inline<256>);
 
 #[cfg(not(feature = "std"))]

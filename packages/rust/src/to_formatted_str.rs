@@ -11,6 +11,12 @@ pub trait ToFormattedStr: Sealed + Sized {
     where
         F: Format;
 
+    /// Calls a function with the text of the number.
+    #[doc(hidden)]
+    fn with_text<F, R>(&self, format: &F, then: impl FnOnce(&str) -> R) -> R
+    where
+        F: Format;
+
     /// Returns the number, to be displayed under the format. It allocates nothing, and a width counts: see
     /// [`Formatted`]. num-format has no such method.
     ///

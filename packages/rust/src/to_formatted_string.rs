@@ -1,7 +1,6 @@
 use std::fmt;
 use std::io;
 
-use crate::buffer::Buffer;
 use crate::decimal::Decimal;
 use crate::format::Format;
 use crate::sealed::Sealed;
@@ -30,57 +29,39 @@ pub trait ToFormattedString: Sealed + Sized {
     /// Returns the text of the number.
     fn to_formatted_string<F>(&self, format: &F) -> String
     where
-        F: Format,
-    {
-        let mut s = String::new();
-        self.read_to_fmt_writer(&mut s, format)
-            .expect("a string takes each text");
-        s
-    }
+        F: Format;
 }
 
-impl<N: ToFormattedStr> ToFormattedString for N {
-    fn read_to_fmt_writer<F, W>(&self, mut w: W, format: &F) -> Result<usize, fmt::Error>
-    where
-        F: Format,
-        W: fmt::Write,
-    {
-        let mut buffer = Buffer::new();
-        buffer.write_formatted(self, format);
-        w.write_str(&buffer)?;
-        Ok(buffer.len())
-    }
+/// Implements the trait by `with_text`. The generics are in brackets.
+macro_rules! impl_to_formatted_string {
+    ([$($generics:tt)*] $type:ty) => {
+        impl<$($generics)*> ToFormattedString for $type {
+            fn read_to_fmt_writer<F, W>(&self, mut w: W, format: &F) -> Result<usize, fmt::Error>
+            where
+                F: Format,
+                W: fmt::Write,
+            {
+                self.with_text(format, |text| w.write_str(text).map(|()| text.len()))
+            }
 
-    fn read_to_io_writer<F, W>(&self, mut w: W, format: &F) -> Result<usize, io::Error>
-    where
-        F: Format,
-        W: io::Write,
-    {
-        let mut buffer = Buffer::new();
-        buffer.write_formatted(self, format);
-        w.write_all(buffer.as_bytes())?;
-        Ok(buffer.len())
-    }
+            fn read_to_io_writer<F, W>(&self, mut w: W, format: &F) -> Result<usize, io::Error>
+            where
+                F: Format,
+                W: io::Write,
+            {
+                self.with_text(format, |text| w.write_all(text.as_bytes()).map(|()| text.len()))
+            }
+
+            #[inline]
+            fn to_formatted_string<F>(&self, format: &F) -> String
+            where
+                F: Format,
+            {
+                self.with_text(format, str::to_owned)
+            }
+        }
+    };
 }
 
-impl ToFormattedString for Decimal {
-    fn read_to_fmt_writer<F, W>(&self, mut w: W, format: &F) -> Result<usize, fmt::Error>
-    where
-        F: Format,
-        W: fmt::Write,
-    {
-        let text = self.text(format);
-        w.write_str(text.as_str())?;
-        Ok(text.as_str().len())
-    }
-
-    fn read_to_io_writer<F, W>(&self, mut w: W, format: &F) -> Result<usize, io::Error>
-    where
-        F: Format,
-        W: io::Write,
-    {
-        let text = self.text(format);
-        w.write_all(text.as_str().as_bytes())?;
-        Ok(text.as_str().len())
-    }
-}
+impl_to_formatted_string!([N: ToFormattedStr] N);
+impl_to_formatted_string!([] Decimal);

@@ -1,19 +1,14 @@
 //! What num-format's documentation shows, by programs written anew.
 #![cfg(feature = "std")]
 
-use num_format::{
-    Buffer, CustomFormat, Error, Grouping, Locale, ToFormattedString, WriteFormatted,
-};
+use num_format::{Buffer, CustomFormat, Error, Grouping, Locale, ToFormattedString, WriteFormatted};
 
 #[test]
 fn formatted_strings() {
     assert_eq!(1000000.to_formatted_string(&Locale::en), "1,000,000");
     // Its first lines: US English, Indian English and French.
     assert_eq!(1000000.to_formatted_string(&Locale::en_IN), "10,00,000");
-    assert_eq!(
-        1000000.to_formatted_string(&Locale::fr),
-        "1\u{202f}000\u{202f}000"
-    );
+    assert_eq!(1000000.to_formatted_string(&Locale::fr), "1\u{202f}000\u{202f}000");
 }
 
 #[test]
@@ -44,11 +39,7 @@ fn a_locale() {
 
 #[test]
 fn a_custom_format() -> Result<(), Error> {
-    let format = CustomFormat::builder()
-        .grouping(Grouping::Indian)
-        .minus_sign("🙌")
-        .separator("😀")
-        .build()?;
+    let format = CustomFormat::builder().grouping(Grouping::Indian).minus_sign("🙌").separator("😀").build()?;
     let mut buffer = Buffer::new();
     buffer.write_formatted(&(-1000000), &format);
     assert_eq!(buffer.as_str(), "🙌10😀00😀000");

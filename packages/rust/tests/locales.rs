@@ -1,6 +1,6 @@
 //! The locales: their names and their data.
 
-use num_format::{ErrorKind, Format, Grouping, Locale};
+use num_format::{Format, Locale};
 
 #[test]
 fn names() {
@@ -13,120 +13,8 @@ fn names() {
         assert_eq!(locale.name(), *name);
         assert_eq!(name.replace('-', "_").parse(), Ok(locale));
         // A variant has the name with underscores, and `as` is a keyword.
-        let variant = if *name == "as" {
-            "as_".into()
-        } else {
-            name.replace('-', "_")
-        };
+        let variant = if *name == "as" { "as_".into() } else { name.replace('-', "_") };
         assert_eq!(format!("{locale:?}"), variant);
-    }
-}
-
-#[test]
-fn names_of_no_locale() {
-    for text in [
-        "",
-        "EN",
-        "en-",
-        "en_US-POSIX",
-        "en-us-posix",
-        "english",
-        "123456789",
-        "xx-YY",
-        "as_",
-    ] {
-        let error = Locale::from_name(text).unwrap_err();
-        assert_eq!(error.kind(), &ErrorKind::ParseLocale(text.into()));
-        assert_eq!(text.parse::<Locale>(), Err(error));
-    }
-}
-
-#[test]
-fn tags() {
-    for (tag, locale) in [
-        ("de_DE.UTF-8", Some(Locale::de)),
-        ("de-AT", Some(Locale::de_AT)),
-        ("DE_at@euro", Some(Locale::de_AT)),
-        ("en-us", Some(Locale::en)),
-        ("en-US-POSIX", Some(Locale::en_US_POSIX)),
-        ("C", Some(Locale::en_US_POSIX)),
-        ("posix", Some(Locale::en_US_POSIX)),
-        ("zh-hant-TW", Some(Locale::zh_Hant)),
-        ("zh-TW", Some(Locale::zh)),
-        ("sr_RS@latin", Some(Locale::sr)),
-        ("no", None),
-        ("english", None),
-        ("", None),
-        ("-de", None),
-        ("dé", None),
-    ] {
-        assert_eq!(Locale::lookup(tag), locale, "{tag}");
-    }
-    for name in Locale::available_names() {
-        let locale = Locale::from_name(name).ok();
-        for tag in [
-            name.to_uppercase(),
-            name.replace('-', "_") + ".UTF-8",
-            format!("{name}-x"),
-        ] {
-            assert_eq!(Locale::lookup(&tag), locale, "{tag}");
-        }
-        assert_eq!(
-            Locale::lookup(name.to_string() + "é"),
-            parent(name),
-            "{name}"
-        );
-    }
-}
-
-/// The locale of a name without its last subtag, or of the longest prefix of it that is one.
-fn parent(name: &str) -> Option<Locale> {
-    let (shorter, _) = name.rsplit_once('-')?;
-    Locale::from_name(shorter).ok().or_else(|| parent(shorter))
-}
-
-/// What the CLDR has of some locales: grouping, decimal mark, infinity, minus sign, NaN, plus sign and separator.
-#[test]
-fn data() {
-    use Grouping::{Indian, Posix, Standard};
-    for (locale, grouping, texts) in [
-        (Locale::en, Standard, [".", "∞", "-", "NaN", "+", ","]),
-        (
-            Locale::de_AT,
-            Standard,
-            [",", "∞", "-", "NaN", "+", "\u{a0}"],
-        ),
-        (Locale::hi, Indian, [".", "∞", "-", "NaN", "+", ","]),
-        (
-            Locale::en_US_POSIX,
-            Posix,
-            [".", "INF", "-", "NaN", "+", ","],
-        ),
-        (
-            Locale::sv,
-            Standard,
-            [",", "∞", "\u{2212}", "NaN", "+", "\u{a0}"],
-        ),
-        (
-            Locale::fi,
-            Standard,
-            [",", "∞", "\u{2212}", "epäluku", "+", "\u{a0}"],
-        ),
-        (
-            Locale::zh_Hant,
-            Standard,
-            [".", "∞", "-", "非數值", "+", ","],
-        ),
-    ] {
-        let found = [
-            locale.decimal(),
-            locale.infinity(),
-            locale.minus_sign(),
-            locale.nan(),
-            locale.plus_sign(),
-            locale.separator(),
-        ];
-        assert_eq!((found, locale.grouping()), (texts, grouping), "{locale:?}");
     }
 }
 

@@ -16,9 +16,10 @@ use std::str::FromStr;
 use num_format::parsing::{FromFormattedStr, ParseFormatted};
 use num_format::utils::{DecimalStr, InfinityStr, MinusSignStr, NanStr, PlusSignStr, SeparatorStr};
 use num_format::{
-    Buffer, CustomFormat, CustomFormatBuilder, Error, ErrorKind, Format, Grouping, Locale,
-    ToFormattedStr, ToFormattedString, WriteFormatted,
+    Buffer, CustomFormat, CustomFormatBuilder, Error, ErrorKind, Format, Grouping, Locale, ToFormattedStr,
+    ToFormattedString, WriteFormatted,
 };
+use num_format::{Decimal, DecimalBuffer, DecimalParser, Formatted, StrictParser};
 
 /// Compiles if the type has the traits.
 macro_rules! has {
@@ -79,12 +80,19 @@ fn errors() {
     has!(ErrorKind: Clone + Debug + Display + Eq + Hash);
     let _: fn(&'static str) -> Error = Error::new;
     let _: fn(&Error) -> &ErrorKind = Error::kind;
-    let _: [fn(String) -> ErrorKind; 3] = [
-        ErrorKind::Other,
-        ErrorKind::ParseLocale,
-        ErrorKind::ParseNumber,
-    ];
+    let _: [fn(String) -> ErrorKind; 3] = [ErrorKind::Other, ErrorKind::ParseLocale, ErrorKind::ParseNumber];
     let _ = ErrorKind::Capacity { len: 9, cap: 8 };
+}
+
+/// `Formatted` is where its format is.
+#[test]
+fn types_are_sent_and_shared() {
+    macro_rules! check {
+        ($($type:ty),*) => {$( has!($type: Send + Sync); )*};
+    }
+    check!(Buffer, CustomFormat, CustomFormatBuilder, Error, Locale, SeparatorStr<'static>);
+    check!(Decimal, DecimalBuffer, DecimalParser, StrictParser);
+    check!(Formatted<'static, i32, Locale>);
 }
 
 #[test]
@@ -119,14 +127,7 @@ fn texts_of_formats() {
             let _: fn($text<'static>) -> &'static str = $text::into_str;
         )*};
     }
-    check!(
-        DecimalStr,
-        InfinityStr,
-        MinusSignStr,
-        NanStr,
-        PlusSignStr,
-        SeparatorStr
-    );
+    check!(DecimalStr, InfinityStr, MinusSignStr, NanStr, PlusSignStr, SeparatorStr);
 }
 
 #[test]
@@ -150,19 +151,10 @@ fn numbers() {
         )*};
     }
     check!(u8, u16, u32, u64, u128, usize, i8, i16, i32, i64, i128, isize);
-    check!(
-        NonZeroU8,
-        NonZeroU16,
-        NonZeroU32,
-        NonZeroU64,
-        NonZeroU128,
-        NonZeroUsize
-    );
+    check!(NonZeroU8, NonZeroU16, NonZeroU32, NonZeroU64, NonZeroU128, NonZeroUsize);
     let _: fn(&u8, &mut Buffer, &Locale) -> usize = ToFormattedStr::read_to_buffer;
-    let _: fn(&u8, String, &Locale) -> Result<usize, fmt::Error> =
-        ToFormattedString::read_to_fmt_writer;
-    let _: fn(&u8, Vec<u8>, &Locale) -> Result<usize, io::Error> =
-        ToFormattedString::read_to_io_writer;
+    let _: fn(&u8, String, &Locale) -> Result<usize, fmt::Error> = ToFormattedString::read_to_fmt_writer;
+    let _: fn(&u8, Vec<u8>, &Locale) -> Result<usize, io::Error> = ToFormattedString::read_to_io_writer;
     let _: fn(&u8, &Locale) -> String = ToFormattedString::to_formatted_string;
     let _: fn(&str, &Locale) -> Result<u8, Error> = FromFormattedStr::from_formatted_str;
     let _: fn(&&'static str, &Locale) -> Result<u8, Error> = ParseFormatted::parse_formatted;
@@ -212,18 +204,12 @@ fn writers() {
         io::StderrLock<'static>,
         io::StdoutLock<'static>,
     );
-    check!(
-        &'static mut [u8],
-        &'static File,
-        &'static TcpStream,
-        &'static mut fmt::Formatter<'static>
-    );
+    check!(&'static mut [u8], &'static File, &'static TcpStream, &'static mut fmt::Formatter<'static>);
     #[cfg(unix)]
     {
         use std::os::unix::net::UnixStream;
         check_both!(UnixStream);
         check!(&'static UnixStream);
     }
-    let _: fn(&mut String, &u8, &Locale) -> Result<usize, io::Error> =
-        WriteFormatted::write_formatted;
+    let _: fn(&mut String, &u8, &Locale) -> Result<usize, io::Error> = WriteFormatted::write_formatted;
 }

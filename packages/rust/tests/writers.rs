@@ -45,23 +45,15 @@ fn cursors_and_slices() {
 #[test]
 fn a_slice_without_space() {
     let mut bytes = [b'.'; 4];
-    let error = (&mut bytes[..])
-        .write_formatted(&1000, &Locale::en)
-        .unwrap_err();
+    let error = (&mut bytes[..]).write_formatted(&1000, &Locale::en).unwrap_err();
     assert_eq!(error.kind(), io::ErrorKind::WriteZero);
     assert_eq!(&bytes, b"1,00");
 }
 
 #[test]
 fn buffered_writers_and_boxes() {
-    assert_eq!(
-        write(BufWriter::new(Vec::new())).into_inner().unwrap(),
-        b"1,000-7"
-    );
-    assert_eq!(
-        write(LineWriter::new(Vec::new())).into_inner().unwrap(),
-        b"1,000-7"
-    );
+    assert_eq!(write(BufWriter::new(Vec::new())).into_inner().unwrap(), b"1,000-7");
+    assert_eq!(write(LineWriter::new(Vec::new())).into_inner().unwrap(), b"1,000-7");
     let mut bytes = Vec::new();
     let boxed: Box<dyn Write + '_> = Box::new(&mut bytes);
     drop(write(boxed));
@@ -99,11 +91,7 @@ fn files() {
 #[cfg(unix)]
 #[test]
 fn a_childs_input() {
-    let mut child = Command::new("cat")
-        .stdin(Stdio::piped())
-        .stdout(Stdio::piped())
-        .spawn()
-        .unwrap();
+    let mut child = Command::new("cat").stdin(Stdio::piped()).stdout(Stdio::piped()).spawn().unwrap();
     drop(write(child.stdin.take().unwrap()));
     assert_eq!(child.wait_with_output().unwrap().stdout, b"1,000-7");
 }
@@ -137,8 +125,7 @@ struct Total(i64);
 impl fmt::Display for Total {
     fn fmt(&self, mut f: &mut fmt::Formatter<'_>) -> fmt::Result {
         f.write_str("total ")?;
-        f.write_formatted(&self.0, &Locale::en)
-            .map_err(|_| fmt::Error)?;
+        f.write_formatted(&self.0, &Locale::en).map_err(|_| fmt::Error)?;
         Ok(())
     }
 }

@@ -8,10 +8,10 @@
 
 :mod:`num_format.columns` has the same for NumPy arrays. Calls may be made from any thread.
 """
+from . import _native
 from ._errors import Cause, FormatError, NumFormatError, ParseError
 from ._format import Format, Grouping, locales, lookup
-from ._native import lib
-from ._numbers import format, parse, parse_decimal, text_width
+from ._numbers import format, format_number, parse, parse_decimal, text_width
 
 __all__ = [
     "Cause",
@@ -21,6 +21,7 @@ __all__ = [
     "NumFormatError",
     "ParseError",
     "format",
+    "format_number",
     "locales",
     "lookup",
     "parse",
@@ -28,5 +29,8 @@ __all__ = [
     "text_width",
 ]
 
-_version = lib.num_format_version()
-__version__ = f"{_version // 10_000}.{_version // 100 % 100}.{_version % 100}"
+__version__ = f"{_native.VERSION // 10_000}.{_native.VERSION // 100 % 100}.{_native.VERSION % 100}"
+
+
+def __dir__() -> list[str]:
+    return [*__all__, "__version__", "columns"]

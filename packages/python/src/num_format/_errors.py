@@ -1,7 +1,9 @@
 """Why a text is refused, and the exceptions that say so."""
+from __future__ import annotations
+
 import enum
 
-from ._native import lib
+from . import _native
 
 
 class Cause(enum.IntEnum):
@@ -11,36 +13,49 @@ class Cause(enum.IntEnum):
     >>> try:
     ...     num_format.parse("1,23", "en")
     ... except num_format.ParseError as error:
-    ...     error.cause
-    Cause.MISSPELLED
+    ...     error.cause, error.cause.reason
+    (Cause.MISSPELLED, 'it is not as its number is printed')
+
+    Attributes:
+        NOT_UTF8: The text is not UTF-8: the ``str`` has a lone surrogate.
+        NOT_A_NUMBER: Lenient parsing: there is no digit, a numeric character is none of 0 to 9, there are more digits
+            than the longest number has, or the number is none of the type.
+        UNKNOWN_LOCALE: No locale has the name, and none is found for it as a language tag.
+        TOO_LONG: A text of a format has more than 8 bytes in UTF-8.
+        BAD_GROUPING: There is no such grouping.
+        UNEXPECTED: A character is of no minus sign, digit, separator or decimal mark, as the x of 12x. The error says
+            where.
+        NO_DIGIT: There is no digit, as in an empty text.
+        MISSPELLED: The text is not as its number is printed, grouped or not: under ``en`` as 01, 1,23, 1234,567 and -0.
+        OUT_OF_RANGE: The text is as its number is printed, and the number is below the least of the type or above its
+            largest.
+        TOO_MANY_DECIMALS: More than 38 digits follow the decimal mark.
+        DIGITS_LOST: In a column, a digit past the scale is not 0.
+        AMBIGUOUS_FORMAT: A text can be misread under the format: the minus sign is empty, or it or a separator that is
+            printed has a numeric character. For decimals, also where the decimal mark is empty, has one, or is such a
+            separator. For texts as people type them, also where two characters of separator and mark can be typed for
+            one another, as ' and U+2019.
+        TEXT_TOO_LONG: A text as a person types it is longer than that of any number.
     """
 
-    #: The text is not UTF-8: the ``str`` has a lone surrogate.
-    NOT_UTF8 = lib.NUM_FORMAT_NOT_UTF8
-    #: Lenient parsing: there is no digit, a numeric character is none of 0 to 9, there are more digits than the longest
-    #: number has, or the number is none of the type.
-    NOT_A_NUMBER = lib.NUM_FORMAT_NOT_A_NUMBER
-    #: No locale has the name, and none is found for it as a language tag.
-    UNKNOWN_LOCALE = lib.NUM_FORMAT_UNKNOWN_LOCALE
-    #: A text of a format has more than 8 bytes in UTF-8.
-    TOO_LONG = lib.NUM_FORMAT_TOO_LONG
-    #: There is no such grouping.
-    BAD_GROUPING = lib.NUM_FORMAT_BAD_GROUPING
-    #: A character is of no minus sign, digit, separator or decimal mark. The error says where.
-    UNEXPECTED = lib.NUM_FORMAT_UNEXPECTED
-    #: There is no digit.
-    NO_DIGIT = lib.NUM_FORMAT_NO_DIGIT
-    #: The text is not as its number is printed, grouped or not: under ``en`` as 01, 1,23, 1234,567 and -0.
-    MISSPELLED = lib.NUM_FORMAT_MISSPELLED
-    #: The text is as its number is printed, and the number is below the least of the type or above its largest.
-    OUT_OF_RANGE = lib.NUM_FORMAT_OUT_OF_RANGE
-    #: More than 38 digits follow the decimal mark.
-    TOO_MANY_DECIMALS = lib.NUM_FORMAT_TOO_MANY_DECIMALS
-    #: In a column, a digit past the scale is not 0.
-    DIGITS_LOST = lib.NUM_FORMAT_DIGITS_LOST
-    #: A text can be misread under the format: the minus sign is empty, or it or a separator that is printed has a
-    #: numeric character. For decimals, also where the decimal mark is empty, has one, or is such a separator.
-    AMBIGUOUS_FORMAT = lib.NUM_FORMAT_AMBIGUOUS_FORMAT
+    NOT_UTF8 = _native.NOT_UTF8
+    NOT_A_NUMBER = _native.NOT_A_NUMBER
+    UNKNOWN_LOCALE = _native.UNKNOWN_LOCALE
+    TOO_LONG = _native.TOO_LONG
+    BAD_GROUPING = _native.BAD_GROUPING
+    UNEXPECTED = _native.UNEXPECTED
+    NO_DIGIT = _native.NO_DIGIT
+    MISSPELLED = _native.MISSPELLED
+    OUT_OF_RANGE = _native.OUT_OF_RANGE
+    TOO_MANY_DECIMALS = _native.TOO_MANY_DECIMALS
+    DIGITS_LOST = _native.DIGITS_LOST
+    AMBIGUOUS_FORMAT = _native.AMBIGUOUS_FORMAT
+    TEXT_TOO_LONG = _native.TEXT_TOO_LONG
+
+    @property
+    def reason(self) -> str:
+        """A line of English, as messages have it. A program of another language has its own lines, by cause."""
+        return _REASONS[self]
 
     def __repr__(self) -> str:
         return f"Cause.{self.name}"
@@ -61,6 +76,7 @@ _REASONS = {
     Cause.TOO_MANY_DECIMALS: "it has too many decimals",
     Cause.DIGITS_LOST: "a digit past the scale is not 0",
     Cause.AMBIGUOUS_FORMAT: "a text can be misread under the format",
+    Cause.TEXT_TOO_LONG: "it is longer than any number's text",
 }
 
 # The most characters of a refused text that a message shows.
@@ -72,10 +88,20 @@ def _shown(text: str) -> str:
 
 
 class NumFormatError(ValueError):
-    """A text is refused. The base of :class:`ParseError` and :class:`FormatError`."""
+    """A text is refused. The base of :class:`ParseError` and :class:`FormatError`.
 
-    text: str
-    cause: Cause
+    Attributes:
+        text: The text.
+        cause: Why it is refused.
+    """
+
+    def __init__(self, text: str, cause: Cause) -> None:
+        super().__init__(text, cause)
+        self.text = text
+        self.cause = cause
+
+    def __str__(self) -> str:
+        return f"{_shown(self.text)} is refused: {self.cause.reason}"
 
 
 class ParseError(NumFormatError):
@@ -85,6 +111,9 @@ class ParseError(NumFormatError):
     >>> num_format.parse("12.50", "en")
     Traceback (most recent call last):
     num_format.ParseError: '12.50' is refused: unexpected character at index 2
+    >>> num_format.parse("1 234", "fr")
+    Traceback (most recent call last):
+    num_format.ParseError: '1 234' is refused: unexpected character at index 1, U+0020 for U+202F: typed=True reads it
 
     Attributes:
         text: The text. In a column, bytes that are not UTF-8 are lone surrogates in it.
@@ -94,17 +123,38 @@ class ParseError(NumFormatError):
         row: The row of a column, or None.
     """
 
-    def __init__(self, text: str, cause: Cause, at: int | None = None, row: int | None = None) -> None:
-        super().__init__(text, cause, at, row)
-        self.text = text
-        self.cause = cause
+    def __init__(
+        self,
+        text: str,
+        cause: Cause,
+        at: int | None = None,
+        row: int | None = None,
+        strictly: tuple[bytes, bool] | None = None,
+    ) -> None:
+        super().__init__(text, cause)
+        self.args = text, cause, at, row
         self.at = at
         self.row = row
+        # The bytes of the format under which it was parsed strictly, and whether as a whole number.
+        self._strictly = strictly
 
     def __str__(self) -> str:
         place = "" if self.at is None else f" at index {self.at}"
         row = "" if self.row is None else f"row {self.row}: "
-        return f"{row}{_shown(self.text)} is refused: {_REASONS[self.cause]}{place}"
+        return f"{row}{super().__str__()}{place}{self._advice()}"
+
+    def _advice(self) -> str:
+        """Returns that the text is one as a person types it, if so, and which character the format has there."""
+        if self._strictly is None or self.cause not in (Cause.UNEXPECTED, Cause.MISSPELLED):
+            return ""
+        struct, is_whole = self._strictly
+        plain = _native.parse_decimal(struct, self.text, str, _native.TYPED)
+        if not isinstance(plain, str) or (is_whole and "." in plain):
+            return ""
+        printed, at, wanted = _native.print_plain(struct, plain) or "", self.at or 0, ""
+        if self.at is not None and printed[:at] == self.text[:at] and not printed[at : at + 1].isdecimal():
+            wanted = f", U+{ord(self.text[at]):04X} for U+{ord(printed[at]):04X}"
+        return f"{wanted}: typed=True reads it"
 
 
 class FormatError(NumFormatError):
@@ -128,15 +178,14 @@ class FormatError(NumFormatError):
     """
 
     def __init__(self, argument: str, text: str, cause: Cause) -> None:
-        super().__init__(argument, text, cause)
+        super().__init__(text, cause)
+        self.args = argument, text, cause
         self.argument = argument
-        self.text = text
-        self.cause = cause
 
     def __str__(self) -> str:
         if self.cause is Cause.AMBIGUOUS_FORMAT:
             return f"{self.text} is ambiguous"
-        return f"{self.argument} {_shown(self.text)} is refused: {_REASONS[self.cause]}"
+        return f"{self.argument} {super().__str__()}"
 
 
 # Tracebacks and pickles name the classes as users import them.

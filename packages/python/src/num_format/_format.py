@@ -3,10 +3,11 @@ from __future__ import annotations
 
 import enum
 import functools
+import re
 from typing import Any, final
 
+from . import _native
 from ._errors import Cause, FormatError
-from ._native import ffi, lib
 
 # The most bytes of each text of a format.
 _MOST_BYTES = 8
@@ -45,15 +46,8 @@ class Grouping(enum.Enum):
         return f"Grouping.{self.name}"
 
 
-_NUMBERS = {grouping: getattr(lib, f"NUM_FORMAT_{grouping.name}") for grouping in Grouping}
+_NUMBERS = {grouping: getattr(_native, grouping.name) for grouping in Grouping}
 _GROUPINGS = {number: grouping for grouping, number in _NUMBERS.items()}
-
-
-def encoded(text: str, errors: str = "strict") -> bytes:
-    """Returns the text in UTF-8, with lone surrogates as `str.encode` encodes them for these `errors`."""
-    if not isinstance(text, str):
-        raise TypeError(f"the text must be a str, not {type(text).__name__}")
-    return text.encode(errors=errors)
 
 
 @final
@@ -85,10 +79,9 @@ class Format:
         TypeError: A text is no ``str``.
     """
 
-    __slots__ = ("_bytes", "_struct")
+    __slots__ = ("_bytes",)
 
     _bytes: bytes
-    _struct: Any
 
     def __init__(
         self,
@@ -99,27 +92,22 @@ class Format:
         decimal_mark: str = ".",
     ) -> None:
         texts = {"separator": separator, "minus_sign": minus_sign, "decimal_mark": decimal_mark}
-        parts = {name: _encoded_part(name, text) for name, text in texts.items()}
-        mark, sign, between = parts["decimal_mark"], parts["minus_sign"], parts["separator"]
+        lengths = {name: _length(name, text) for name, text in texts.items()}
         try:
             number = _NUMBERS[Grouping(grouping)]
         except ValueError:
             raise FormatError("grouping", str(grouping), Cause.BAD_GROUPING) from None
-        struct = ffi.new("num_format *")
-        status = lib.num_format_custom_decimal(
-            struct, between, len(between), number, sign, len(sign), mark, len(mark)
-        )
-        if status < 0:
-            name = next(name for name, part in parts.items() if len(part) > _MOST_BYTES)
-            raise FormatError(name, texts[name], Cause(status))
-        self._struct = struct
-        self._bytes = bytes(ffi.buffer(struct))
+        made = _native.custom(separator, minus_sign, decimal_mark, number)
+        if isinstance(made, int):
+            name = next(name for name, length in lengths.items() if length > _MOST_BYTES)
+            raise FormatError(name, texts[name], Cause(made))
+        self._bytes = made
 
     @staticmethod
     def locale(name: str) -> Format:
         """Returns the format of a locale.
 
-        The name is one of :func:`locales`, or a language tag for which :func:`lookup` finds one.
+        The name is one of :func:`locales`, or a language tag or a browser's header for which :func:`lookup` finds one.
 
         >>> from num_format import Format
         >>> Format.locale("de_CH.UTF-8")
@@ -129,27 +117,29 @@ class Format:
             FormatError: No locale is found (`UNKNOWN_LOCALE`), or the name has a lone surrogate (`NOT_UTF8`).
             TypeError: The name is no ``str``.
         """
+        if not isinstance(name, str):
+            raise TypeError(f"the name must be a str, not {type(name).__name__}")
         return _locale(name)
 
     @property
     def separator(self) -> str:
         """What is between two groups of digits."""
-        return self._text("separator")
+        return _native.parts(self._bytes)[0]
 
     @property
     def minus_sign(self) -> str:
         """What is before the digits of a number below 0."""
-        return self._text("minus_sign")
+        return _native.parts(self._bytes)[1]
 
     @property
     def decimal_mark(self) -> str:
         """What is before the decimals of a ``Decimal``."""
-        return self._text("decimal_mark")
+        return _native.parts(self._bytes)[2]
 
     @property
     def grouping(self) -> Grouping:
         """How many digits are in a group."""
-        return _GROUPINGS[self._struct.grouping]
+        return _GROUPINGS[_native.parts(self._bytes)[3]]
 
     def reads_back(self) -> bool:
         """Returns whether every ``int`` that is printed under the format parses as the same number again.
@@ -161,7 +151,7 @@ class Format:
         >>> Format.locale("sv").reads_back(), Format(minus_sign="").reads_back()
         (True, False)
         """
-        return bool(lib.num_format_reads_back(self._struct))
+        return _native.reads_back(self._bytes)
 
     def prints_alike(self, other: Format) -> bool:
         """Returns whether each ``int`` has the same text under both formats.
@@ -172,11 +162,7 @@ class Format:
         """
         if not isinstance(other, Format):
             raise TypeError(f"the other must be a Format, not {type(other).__name__}")
-        return bool(lib.num_format_prints_alike(self._struct, other._struct))
-
-    def _text(self, name: str) -> str:
-        array, length = getattr(self._struct, name), getattr(self._struct, f"{name}_length")
-        return bytes(array[0:length]).decode()
+        return _native.prints_alike(self._bytes, other._bytes)
 
     def __eq__(self, other: object) -> bool:
         if not isinstance(other, Format):
@@ -200,10 +186,12 @@ class Format:
         return _from_parts, (self.separator, self.grouping, self.minus_sign, self.decimal_mark)
 
 
-def _encoded_part(argument: str, text: str) -> bytes:
-    """Returns a text of a format in UTF-8."""
+def _length(argument: str, text: str) -> int:
+    """Returns how many bytes a text has in UTF-8."""
+    if not isinstance(text, str):
+        raise TypeError(f"the {argument} must be a str, not {type(text).__name__}")
     try:
-        return encoded(text)
+        return len(text.encode())
     except UnicodeEncodeError:
         raise FormatError(argument, text, Cause.NOT_UTF8) from None
 
@@ -218,15 +206,13 @@ def _from_parts(separator: str, grouping: Grouping, minus_sign: str, decimal_mar
 @functools.lru_cache(maxsize=1024)
 def _locale(name: str) -> Format:
     """Returns the format of a locale. A name is the tag for which it is found itself. What is raised is not kept."""
-    struct = ffi.new("num_format *")
-    text = _encoded_part("locale", name)
-    status = lib.num_format_lookup(struct, text, len(text))
-    if status < 0:
-        raise FormatError("locale", name, Cause(status))
-    found = object.__new__(Format)
-    found._struct = struct
-    found._bytes = bytes(ffi.buffer(struct))
-    return found
+    _length("locale", name)
+    found = _native.locale(_preferred(name))
+    if isinstance(found, int):
+        raise FormatError("locale", name, Cause(found))
+    made = object.__new__(Format)
+    made._bytes = found
+    return made
 
 
 def to_format(format: Format | str) -> Format:
@@ -246,13 +232,7 @@ def locales() -> tuple[str, ...]:
     >>> len(num_format.locales()), num_format.locales()[:4]
     (542, ('af', 'af-NA', 'agq', 'ak'))
     """
-    text = ffi.new("char[]", lib.NUM_FORMAT_MAX)
-    return tuple(_name(place, text) for place in range(lib.NUM_FORMAT_LOCALES))
-
-
-def _name(place: int, text: Any) -> str:
-    length = lib.num_format_names(place, text, lib.NUM_FORMAT_MAX)
-    return ffi.unpack(text, length).decode()
+    return tuple(map(_native.name, range(_native.LOCALES)))
 
 
 def lookup(tag: str) -> str | None:
@@ -266,14 +246,32 @@ def lookup(tag: str) -> str | None:
     >>> num_format.lookup("de_DE.UTF-8"), num_format.lookup("zh-hant-TW"), num_format.lookup("english")
     ('de', 'zh-Hant', None)
 
+    Of a browser's header Accept-Language, the tag of the highest weight for which there is a locale is looked up.
+
+    >>> num_format.lookup("tlh, pt-BR;q=0.8, en;q=0.9, *;q=0.1"), num_format.lookup("de,en;q=0.9")
+    ('en', 'de')
+
     Raises:
         FormatError: The tag has a lone surrogate (`NOT_UTF8`).
         TypeError: The tag is no ``str``.
     """
-    given = _encoded_part("tag", tag)
-    name = ffi.new("char[]", lib.NUM_FORMAT_MAX)
-    length = lib.num_format_lookup_name(given, len(given), name, lib.NUM_FORMAT_MAX)
-    return None if length < 0 else ffi.unpack(name, length).decode()
+    _length("tag", tag)
+    found = _native.lookup_name(_preferred(tag))
+    return found if isinstance(found, str) else None
+
+
+# A tag in a header, and its weight.
+_WEIGHTED = re.compile(r"[ \t]*([^ \t;]+)[ \t]*(?:;[ \t]*[qQ]=(0(?:\.[0-9]{0,3})?|1(?:\.0{0,3})?)[ \t]*)?")
+
+
+def _preferred(tag: str) -> str:
+    """Returns the tag, or of a header with several the best for which there is a locale, or an empty text."""
+    if "," not in tag and ";" not in tag:
+        return tag
+    found = [each.groups(default="1") for each in map(_WEIGHTED.fullmatch, tag.split(",")) if each]
+    known = [(name, float(weight)) for name, weight in found if isinstance(_native.lookup_name(name), str)]
+    # Of equal weights the first.
+    return max([each for each in known if each[1]], key=lambda each: each[1], default=("", 0))[0]
 
 
 for _public in (Grouping, Format, locales, lookup):

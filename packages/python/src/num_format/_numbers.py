@@ -1,47 +1,48 @@
 """Single numbers: printed, and parsed."""
 from __future__ import annotations
 
+import decimal
 import operator
 from decimal import Decimal
-from typing import Any, SupportsIndex
+from typing import SupportsIndex, overload
 
 from ._errors import Cause, FormatError, NumFormatError, ParseError
-from ._format import Format, encoded, to_format
-from ._native import ffi, lib
+from ._format import Format, to_format
+from ._native import LENIENT, STRICT, TYPED, parse_int, print_int, print_plain, print_units
+from ._native import parse_decimal as _parse_decimal
 
-# The least and the largest number of 64 and of 128 bits, and the largest unsigned one of 128.
-_I64_MIN, _I64_MAX = -(2**63), 2**63 - 1
-_I128_MIN, _I128_MAX = -(2**127), 2**127 - 1
-_U128_MAX = 2**128 - 1
-
-_U64_MASK = 2**64 - 1
-
-# The calls that parse, by type. Each is made until one has the number.
-_STRICT = lib.num_format_parse_strict_i64, lib.num_format_parse_strict_i128, lib.num_format_parse_strict_u128
-_LENIENT = lib.num_format_parse_i64, lib.num_format_parse_i128, lib.num_format_parse_u128
-
-# The errors with which a number of 64 bits is refused and one of 128 may be not.
-_MAY_BE_WIDER = {lib.NUM_FORMAT_OUT_OF_RANGE, lib.NUM_FORMAT_NOT_A_NUMBER}
+# The least and the largest number of units that a decimal has.
+_UNITS_MIN, _UNITS_MAX = -(2**127), 2**127 - 1
 
 # The most decimals of a decimal, and the most digits after the first that its units can have.
-_MOST_DECIMALS = 38
+MOST_DECIMALS = 38
 
 _TOO_MANY_DIGITS = "the digits of the Decimal are not in the range from -2**127 to 2**127 - 1"
 _TOO_MANY_DECIMALS = "the Decimal has more than 38 decimals"
 
-_MAX = lib.NUM_FORMAT_MAX
-_DECIMAL_MAX = lib.NUM_FORMAT_DECIMAL_MAX
+# In which each number of at most 39 digits before its mark is rounded, whatever the user's context says.
+_ROUNDING = decimal.Context(
+    prec=2 * MOST_DECIMALS + 2, rounding=decimal.ROUND_HALF_EVEN, Emin=decimal.MIN_EMIN, Emax=decimal.MAX_EMAX, traps=[]
+)
 
-# What a call writes is new for each call, so threads share nothing. A text is not cleared: no more of it is
-# read than was written.
-_new = ffi.new
-_new_text = ffi.new_allocator(should_clear_after_alloc=False)
-_I64, _U64, _U32, _SIZE = map(ffi.typeof, ["int64_t *", "uint64_t *", "uint32_t *", "size_t *"])
-_TEXT, _DECIMAL_TEXT = ffi.typeof(f"char[{_MAX}]"), ffi.typeof(f"char[{_DECIMAL_MAX}]")
+# As `Decimal` of a text of at most 39 digits, which it is faster than.
+_exact = _ROUNDING.create_decimal
+
+# Characters that no column has: marks of direction, as in the minus sign of `he`.
+_INVISIBLE = "\u200e", "\u200f", "\u061c"
+
+# As `str`, also for a class that is made of Decimal and has another one.
+_plain = Decimal.__str__
 
 
-def format(number: SupportsIndex | Decimal, format: Format | str) -> str:
-    """Returns the text of a number under a format.
+@overload
+def format(number: SupportsIndex | Decimal, format: Format | str, *, decimals: None = None) -> str: ...
+@overload
+def format(number: SupportsIndex | Decimal | float, format: Format | str, *, decimals: SupportsIndex) -> str: ...
+def format(
+    number: SupportsIndex | Decimal | float, format: Format | str, *, decimals: SupportsIndex | None = None
+) -> str:
+    """Returns the text of a number under a format. It is `format_number` too, a name that hides no builtin.
 
     >>> import num_format
     >>> num_format.format(-1234567, "de")
@@ -49,97 +50,158 @@ def format(number: SupportsIndex | Decimal, format: Format | str) -> str:
     >>> num_format.format(1234567, num_format.Format(separator="_", grouping="Myriad"))
     '123_4567'
 
-    A ``Decimal`` keeps its decimals, zeros at the end too, and is never rounded: `quantize` does that. A
-    negative zero is printed as zero.
+    A ``Decimal`` keeps its decimals, zeros at the end too. With `decimals` a number has so many: its exact value,
+    also that of a ``float``, is rounded half to even. A negative zero is printed as zero.
 
     >>> from decimal import Decimal
-    >>> num_format.format(Decimal("1234.50"), "de")
-    '1.234,50'
-    >>> num_format.format(Decimal("2.675").quantize(Decimal("0.01")), "de")
-    '2,68'
+    >>> num_format.format(Decimal("1234.50"), "de"), num_format.format(1234.5, "de", decimals=2)
+    ('1.234,50', '1.234,50')
+    >>> num_format.format(Decimal("2.675"), "de", decimals=2), num_format.format(2.675, "de", decimals=2)
+    ('2,68', '2,67')
+    >>> Decimal(2.675)
+    Decimal('2.67499999999999982236431605997495353221893310546875')
 
     Args:
         number: An ``int`` from -2**127 to 2**128 - 1, or what has one as its `__index__`, such as NumPy's
             integers; or a ``Decimal`` of at most 38 decimals, whose digits without the mark are a number from
-            -2**127 to 2**127 - 1.
+            -2**127 to 2**127 - 1. With `decimals` also a ``float``, or NumPy's of at most 64 bits.
         format: A :class:`Format`, or the name of a locale, or a language tag such as ``"de_DE"``.
+        decimals: To how many decimals the number is rounded, from 0 to 38; or None for those that it has.
 
     Raises:
         OverflowError: The number is none of these, or is infinite.
-        ValueError: The ``Decimal`` is no number (NaN).
+        ValueError: The number is NaN, or `decimals` is another number.
         FormatError: No locale is found.
-        TypeError: The number is of another type. A ``bool`` is refused, and so is a ``float``.
+        TypeError: The number is of another type. A ``bool`` is refused, and so is a ``float`` without `decimals`.
     """
-    struct = to_format(format)._struct
-    if type(number) is not int:
-        if isinstance(number, Decimal):
-            return _decimal_text(number, struct)
-        # NumPy's bool has an `__index__` too.
-        if isinstance(number, bool) or getattr(number, "dtype", None) == bool:
-            raise TypeError("a bool is not printed as a number")
-        try:
-            number = operator.index(number)
-        except TypeError:
-            found = type(number).__name__
-            raise TypeError(f"the number must be an int or a decimal.Decimal, not {found}") from None
-    text = _new_text(_TEXT)
-    if _I64_MIN <= number <= _I64_MAX:
-        length = lib.num_format_print_i64(struct, number, text, _MAX)
-    elif 0 < number <= _U128_MAX:
-        length = lib.num_format_print_u128(struct, *halves(number), text, _MAX)
-    elif _I128_MIN <= number < 0:
-        length = lib.num_format_print_i128(struct, *halves(number), text, _MAX)
+    struct = (format if type(format) is Format else to_format(format))._bytes
+    if decimals is not None:
+        return _decimal_text(_rounded(number, decimals), struct)
+    if type(number) is int:
+        return print_int(struct, number)
+    if isinstance(number, Decimal):
+        return _decimal_text(number, struct)
+    return print_int(struct, _index(number))
+
+
+format_number = _format = format
+
+
+def _index(number: object) -> int:
+    """Returns the int that is such a number."""
+    # NumPy's bool has an `__index__` too.
+    if isinstance(number, bool) or getattr(number, "dtype", None) == bool:
+        raise TypeError("a bool is not printed as a number")
+    try:
+        return operator.index(number)  # type: ignore[arg-type]
+    except TypeError:
+        pass
+    if _is_float(number):
+        raise TypeError("a float is not exact: decimals=2 rounds it to 2 decimals, or make it a decimal.Decimal")
+    raise TypeError(f"the number must be an int or a decimal.Decimal, not {type(number).__name__}")
+
+
+def _is_float(number: object) -> bool:
+    """Returns whether a number is a float, or one of NumPy's that is exactly a float."""
+    dtype = getattr(number, "dtype", None)
+    return isinstance(number, float) or (getattr(dtype, "kind", "") == "f" and getattr(dtype, "itemsize", 16) <= 8)
+
+
+def _rounded(number: object, decimals: SupportsIndex) -> Decimal:
+    """Returns the number that has so many decimals and is nearest to this one, half to even."""
+    scale = to_scale(decimals, "decimals")
+    if isinstance(number, Decimal):
+        exact = number
     else:
-        raise OverflowError("the number is not in the range from -2**127 to 2**128 - 1")
-    return ffi.unpack(text, length).decode()
+        exact = Decimal(float(number)) if _is_float(number) else Decimal(_index(number))  # type: ignore[arg-type]
+    _check_finite(exact)
+    if exact and exact.adjusted() > MOST_DECIMALS:
+        raise OverflowError(_TOO_MANY_DIGITS)
+    return exact.quantize(Decimal((0, (1,), -scale)), context=_ROUNDING)
 
 
-_format = format
+def to_scale(scale: SupportsIndex, what: str = "the scale") -> int:
+    """Returns how many decimals a number has."""
+    if not 0 <= operator.index(scale) <= MOST_DECIMALS:
+        raise ValueError(f"{what} must be from 0 to {MOST_DECIMALS}, not {scale}")
+    return operator.index(scale)
 
 
-def text_width(number: SupportsIndex | Decimal, format: Format | str) -> int:
-    """Returns how many characters the text of a number has, for columns that are aligned. It takes what `format` does.
+@overload
+def text_width(number: str) -> int: ...
+@overload
+def text_width(number: SupportsIndex | Decimal, format: Format | str, *, decimals: None = None) -> int: ...
+@overload
+def text_width(number: SupportsIndex | Decimal | float, format: Format | str, *, decimals: SupportsIndex) -> int: ...
+def text_width(
+    number: SupportsIndex | Decimal | float | str,
+    format: Format | str | None = None,
+    *,
+    decimals: SupportsIndex | None = None,
+) -> int:
+    """Returns how many columns the text of a number takes where each character takes one, or those of a text.
+
+    Characters that take none do not count: U+200E, U+200F and U+061C, which are in the minus sign of some locales.
 
     >>> import num_format
     >>> num_format.text_width(-1234567, "fr"), len(num_format.format(-1234567, "fr").encode())
     (10, 14)
+    >>> num_format.text_width(-1234, "he"), len(num_format.format(-1234, "he")), num_format.text_width("1 234")
+    (6, 7, 5)
+
+    Args:
+        number: What `format` takes, or a text.
+        format: What `format` takes. A text needs none.
+        decimals: What `format` takes.
     """
-    return len(_format(number, format))
+    if isinstance(number, str):
+        text = number
+    elif format is None:
+        raise TypeError("the width of a number depends on a format")
+    else:
+        text = _format(number, format, decimals=decimals)  # type: ignore[arg-type]
+    return len(text) - sum(map(text.count, _INVISIBLE))
 
 
-def halves(number: int) -> tuple[int, int]:
-    """Returns the low and the high half of a number of 128 bits, in two's complement."""
-    return number & _U64_MASK, number >> 64 & _U64_MASK
+def _check_finite(number: Decimal) -> None:
+    if number.is_nan():
+        raise ValueError("the number is NaN")
+    if number.is_infinite():
+        raise OverflowError("the number is infinite")
 
 
 def units_of(number: Decimal) -> tuple[int, int]:
     """Returns the units and the scale of a decimal."""
-    if not number.is_finite():
-        # Raises what it raises for int() too: a ValueError for NaN, an OverflowError for infinity.
-        int(number)
+    _check_finite(number)
     # Looks at the exponent first, since 1E+999999 has as many digits.
-    if number and number.adjusted() > _MOST_DECIMALS:
+    if number and number.adjusted() > MOST_DECIMALS:
         raise OverflowError(_TOO_MANY_DIGITS)
-    if number.adjusted() < -_MOST_DECIMALS:
+    if number.adjusted() < -MOST_DECIMALS:
         raise OverflowError(_TOO_MANY_DECIMALS)
     whole, _, decimals = f"{number:f}".partition(".")
-    if len(decimals) > _MOST_DECIMALS:
+    if len(decimals) > MOST_DECIMALS:
         raise OverflowError(_TOO_MANY_DECIMALS)
     units = int(whole + decimals)
-    if not _I128_MIN <= units <= _I128_MAX:
+    if not _UNITS_MIN <= units <= _UNITS_MAX:
         raise OverflowError(_TOO_MANY_DIGITS)
     return units, len(decimals)
 
 
-def _decimal_text(number: Decimal, struct: Any) -> str:
+def _decimal_text(number: Decimal, struct: bytes) -> str:
     """Returns the text of a decimal."""
-    units, scale = units_of(number)
-    text = _new_text(_DECIMAL_TEXT)
-    length = lib.num_format_print_decimal(struct, *halves(units), scale, text, _DECIMAL_MAX)
-    return ffi.unpack(text, length).decode()
+    text = print_plain(struct, _plain(number))
+    # One with an exponent, or of more digits than always fit, is looked at here.
+    return text if text is not None else print_units(struct, *units_of(number))
 
 
-def parse(text: str, format: Format | str, *, lenient: bool = False) -> int:
+def way_of(lenient: bool, typed: bool) -> int:
+    """Returns the number of a way to parse."""
+    if lenient and typed:
+        raise ValueError("a text is parsed leniently or as it is typed, not both")
+    return LENIENT if lenient else TYPED if typed else STRICT
+
+
+def parse(text: str, format: Format | str, *, lenient: bool = False, typed: bool = False) -> int:
     """Returns the number that a text spells.
 
     The text has to be exactly as the number is printed, with its separators or without any.
@@ -151,6 +213,16 @@ def parse(text: str, format: Format | str, *, lenient: bool = False) -> int:
     Traceback (most recent call last):
     num_format.ParseError: '1.23' is refused: it is not as its number is printed
 
+    With `typed`, it may be as a person types it (no data type is meant): a space, an apostrophe, a comma or a point
+    stands for the character of its kind that the format has, a hyphen for its minus sign, and blanks at the ends and a
+    plus sign are dropped. Use this for what people typed, and the first for what programs wrote.
+
+    >>> num_format.parse(" 1 234", "fr", typed=True), num_format.parse("-5", "sv", typed=True)
+    (1234, -5)
+    >>> num_format.parse("1,23", "en", typed=True)
+    Traceback (most recent call last):
+    num_format.ParseError: '1,23' is refused: it is not as its number is printed
+
     With `lenient`, the number is that of the digits 0 to 9 in order, negated if the text begins with the
     minus sign, and **each character that is not numeric is ignored**, a decimal mark too:
 
@@ -161,31 +233,22 @@ def parse(text: str, format: Format | str, *, lenient: bool = False) -> int:
         text: A number from -2**127 to 2**128 - 1 as digits.
         format: A :class:`Format`, or the name or the tag of a locale.
         lenient: Whether each character that is not numeric is ignored.
+        typed: Whether the text is as a person types it.
 
     Raises:
         ParseError: The text is refused. The error has the cause and, for an unexpected character, its index.
         FormatError: No locale is found, or the format is ambiguous (`AMBIGUOUS_FORMAT`), but not with `lenient`.
         TypeError: The text is no ``str``.
+        ValueError: Both `lenient` and `typed` are set.
     """
-    struct = to_format(format)._struct
-    given = encoded(text, "surrogatepass")
-    i64, i128, u128 = _LENIENT if lenient else _STRICT
-    number = _new(_I64)
-    at = () if lenient else (_new(_SIZE),)
-    status = i64(struct, 64, given, len(given), number, *at)
-    if status == 0:
-        return number[0]
-    if status in _MAY_BE_WIDER:
-        low, high = _new(_U64), _new(_U64)
-        if i128(struct, given, len(given), low, high, *at) == 0:
-            return signed(low[0], high[0])
-        status = u128(struct, given, len(given), low, high, *at)
-        if status == 0:
-            return high[0] << 64 | low[0]
-    raise _refusal(text, format, status, *at)
+    struct = (format if type(format) is Format else to_format(format))._bytes
+    found = parse_int(struct, text, way_of(lenient, typed) if lenient or typed else STRICT)
+    if isinstance(found, int):
+        return found
+    raise _refusal(text, format, *found, None if lenient or typed else (struct, True))
 
 
-def parse_decimal(text: str, format: Format | str) -> Decimal:
+def parse_decimal(text: str, format: Format | str, *, typed: bool = False) -> Decimal:
     """Returns the decimal that a text spells.
 
     The text has to be exactly as the decimal is printed, with its separators or without any. The result has
@@ -198,44 +261,49 @@ def parse_decimal(text: str, format: Format | str) -> Decimal:
     Traceback (most recent call last):
     num_format.ParseError: '1.234.50' is refused: it is not as its number is printed
 
+    With `typed`, it may be as a person types it (no data type is meant), as by :func:`parse`:
+
+    >>> num_format.parse_decimal("1'234.50", "de-CH", typed=True)
+    Decimal('1234.50')
+
     Args:
         text: A decimal of at most 38 decimals, whose digits without the mark are a number from -2**127 to
             2**127 - 1.
         format: A :class:`Format`, or the name or the tag of a locale.
+        typed: Whether the text is as a person types it.
 
     Raises:
         ParseError: The text is refused. The error has the cause and, for an unexpected character, its index.
         FormatError: No locale is found, or the format is ambiguous (`AMBIGUOUS_FORMAT`).
         TypeError: The text is no ``str``.
     """
-    struct = to_format(format)._struct
-    low, high, scale, at = _new(_U64), _new(_U64), _new(_U32), _new(_SIZE)
-    given = encoded(text, "surrogatepass")
-    status = lib.num_format_parse_decimal(struct, given, len(given), low, high, scale, at)
-    if status < 0:
-        raise _refusal(text, format, status, at)
-    return decimal_of(signed(low[0], high[0]), scale[0])
+    try:
+        struct = format._bytes  # type: ignore[union-attr]
+    except AttributeError:
+        struct = to_format(format)._bytes
+    found = _parse_decimal(struct, text, _exact, TYPED if typed else STRICT)
+    if type(found) is tuple:
+        raise _refusal(text, format, *found, None if typed else (struct, False))
+    return found  # type: ignore[return-value]
 
 
-def decimal_of(units: int, scale: int) -> Decimal:
-    """Returns units divided by 10 to the power of the scale."""
-    # A string is converted exactly, which arithmetic in a context is not.
-    return Decimal(f"{units}E-{scale}")
+def first_surrogate(text: str) -> int:
+    """Returns the index of the first lone surrogate."""
+    return next(k for k, each in enumerate(text) if "\ud800" <= each <= "\udfff")
 
 
-def signed(low: int, high: int) -> int:
-    """Returns the number of 128 bits with these halves, in two's complement."""
-    number = high << 64 | low
-    return number if number <= _I128_MAX else number - 2**128
-
-
-def _refusal(text: str, format: Format | str, status: int, at: Any = None) -> NumFormatError:
+def _refusal(
+    text: str, format: Format | str, status: int, at: int, strictly: tuple[bytes, bool] | None
+) -> NumFormatError:
     """Returns the error of a text that was refused with the status: at the byte, if one was unexpected."""
     cause = Cause(status)
     if cause is Cause.AMBIGUOUS_FORMAT:
         return FormatError("format", repr(format), cause)
     if cause is Cause.NOT_UTF8:
-        return ParseError(text, cause, next(k for k, each in enumerate(text) if "\ud800" <= each <= "\udfff"))
-    if cause is not Cause.UNEXPECTED:
-        return ParseError(text, cause)
-    return ParseError(text, cause, len(text.encode()[: at[0]].decode()))
+        return ParseError(text, cause, first_surrogate(text))
+    index = len(text.encode()[:at].decode()) if cause is Cause.UNEXPECTED else None
+    return ParseError(text, cause, index, strictly=strictly)
+
+
+for _public in (format, text_width, parse, parse_decimal):
+    _public.__module__ = "num_format"

@@ -1110,9 +1110,11 @@ pub enum Locale {
     zu,
 }
 
+pub(super) const LEN: usize = 542;
+
 /// The names, in rising byte order, which is that of the variants.
 #[rustfmt::skip]
-pub(super) static NAMES: [&str; 542] = [
+pub(super) const NAMES: [&str; LEN] = [
     "af", "af-NA", "agq", "ak", "am", "ar", "ar-AE", "ar-BH", "ar-DJ", "ar-DZ", "ar-EG", "ar-EH",
     "ar-ER", "ar-IL", "ar-IQ", "ar-JO", "ar-KM", "ar-KW", "ar-LB", "ar-LY", "ar-MA", "ar-MR",
     "ar-OM", "ar-PS", "ar-QA", "ar-SA", "ar-SD", "ar-SO", "ar-SS", "ar-SY", "ar-TD", "ar-TN",
@@ -1167,7 +1169,7 @@ pub(super) static NAMES: [&str; 542] = [
 /// The data of each locale, in the same order: its variant, grouping, decimal mark, infinity, minus sign,
 /// NaN, plus sign and separator.
 #[rustfmt::skip]
-pub(super) static ROWS: [Row; 542] = [
+pub(super) static ROWS: [Row; LEN] = [
     row(Locale::af, Grouping::Standard, ",", "\u{221e}", "-", "NaN", "+", "\u{a0}"),
     row(Locale::af_NA, Grouping::Standard, ",", "\u{221e}", "-", "NaN", "+", "\u{a0}"),
     row(Locale::agq, Grouping::Standard, ",", "\u{221e}", "-", "NaN", "+", "\u{a0}"),
