@@ -39,7 +39,7 @@ BUILT += [CRATES / "regroup_lines_cli/out/regroup_lines_cli"]
 # A link of a document to a file of the repository, and a README's code, traps and section of calls.
 LINK = re.compile(r"\[([^]]*)\]\((?!https?:|#)([^)#\s]*)(#[^)]*)?\)")
 CODE = re.compile(r"^```(?:rust|sql)\n(.*?)^```$", re.MULTILINE | re.DOTALL)
-CALLS = re.compile(r"^(\*\*Traps\*\*.*?)^\*\*Times\*\*.*?(^## Calls.*?)^## Install", re.MULTILINE | re.DOTALL)
+CALLS = re.compile(r"^(\*\*Traps\*\*.*?)^\*\*\[Times\].*?(^## Calls.*?)^## Install", re.MULTILINE | re.DOTALL)
 
 # No debug information, which has paths of this machine.
 PLAIN = f"-g0 -ffile-prefix-map={ROOT}=."
@@ -80,9 +80,9 @@ def glibc(folder):
     return max(needed)
 
 
-def install(built, prefix, destdir=""):
+def install(built, prefix, libdir="lib", destdir=""):
     """Installs the library and the programs."""
-    env = {**os.environ, "DESTDIR": str(destdir)}
+    env = {**os.environ, "LIBDIR": libdir, "DESTDIR": str(destdir)}
     subprocess.run([ROOT / "packages" / "c" / "install", prefix, built[0]], env=env, check=True)
     subprocess.run([ROOT / "tools" / "install", prefix, *built[1:]], env=env, check=True)
 
@@ -181,7 +181,7 @@ def make_debian(built, folder, made, time):
         print("no Debian package: there is no `dpkg-deb`")
         return []
     top = made / "debian"
-    install(built, "/usr", top)
+    install(built, "/usr", "lib/x86_64-linux-gnu", top)
     notices = top / "usr" / "share" / "doc"
     (notices / "num-format").mkdir()
     shutil.copy(ROOT / "NOTICE", notices / "num-format" / "copyright")

@@ -97,30 +97,30 @@ macro_rules! define_text {
     };
 }
 
-define_text!(
+define_text! {
     /// A decimal mark: a text of at most 8 bytes.
     DecimalStr, DecString, MAX_DEC_LEN
-);
-define_text!(
+}
+define_text! {
     /// A text for infinity, of at most 128 bytes.
     InfinityStr, InfString, MAX_INF_LEN
-);
-define_text!(
+}
+define_text! {
     /// A minus sign: a text of at most 8 bytes.
     MinusSignStr, MinString, MAX_MIN_LEN
-);
-define_text!(
+}
+define_text! {
     /// A text for a value that is not a number, of at most 64 bytes.
     NanStr, NanString, MAX_NAN_LEN
-);
-define_text!(
+}
+define_text! {
     /// A plus sign: a text of at most 8 bytes.
     PlusSignStr, PlusString, MAX_PLUS_LEN
-);
-define_text!(
+}
+define_text! {
     /// A separator between groups of digits: a text of at most 8 bytes.
     SeparatorStr, SepString, MAX_SEP_LEN
-);
+}
 
 /// A text of at most `N` bytes, in place. It is compared, hashed and shown as its `str`.
 #[derive(Clone)]

@@ -902,7 +902,7 @@ def _narrowed(
     else:
         is_there = (wide["high"] == 0) & (wide["low"] <= limits.max)
     causes[~is_there & (causes == 0)] = Cause.OUT_OF_RANGE
-    return np.where(is_there, wide["low"], 0).astype(dtype)
+    return np.where(is_there, wide["low"], np.uint64(0)).astype(dtype)
 
 
 def _unchecked(
