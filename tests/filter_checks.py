@@ -49,6 +49,11 @@ FAILURES = [
     (["--version"], b"", "stdout", 2 * [b""]),
 ]
 
+# Mounts two file systems, prints the numbers of a file of each, and rejects the lines of the first into the second.
+TWO_DEVICES = """mkdir one two; mount -t tmpfs none one; mount -t tmpfs none two
+printf '1,000\\nx\\n' > one/given; : > two/rejects; stat -c %i one/given two/rejects | paste -s
+"$0" --rejects two/rejects --invalid ignore en de one/given; cat two/rejects"""
+
 # What is said of the format `xx`.
 UNKNOWN = b"regroup-lines: 'xx' names no format\nTry 'regroup-lines --help' for more information.\n"
 
@@ -235,6 +240,19 @@ def check_new_rejects(tally, program, folder):
             tally.compare(f"descriptor {descriptor} is closed: outputs", (ended.stdout, ended.stderr), others)
 
 
+def check_two_devices(tally, program):
+    """Files that have the same number on two devices are two: one is read, and the other has the rejected lines."""
+    if tally.lacks("unshare", "files of two devices"):
+        return
+    with tempfile.TemporaryDirectory() as folder:
+        ended = run(["unshare", "-rm", "sh", "-ec", TWO_DEVICES, program], capture_output=True, cwd=folder)
+    numbers, _, rest = ended.stdout.partition(b"\n")
+    if len(set(numbers.split())) != 1:
+        tally.skip("files of two devices", "no two file systems can be mounted, or their files have other numbers")
+    else:
+        tally.compare("files of two devices", (ended.returncode, rest, ended.stderr), (0, b"1.000\nx\n", b""))
+
+
 def random_record(randomly):
     """A record with numbers, or what is none, in its second and fourth fields, if it has as many."""
     fields = [random_field(randomly), randomly.choice(AMOUNTS), random_field(randomly), randomly.choice(AMOUNTS)]
@@ -360,6 +378,14 @@ def check_slow_input(tally, program):
             found = (lines, ended.stdout.read(), ended.wait(RUN_SECONDS))
         name = " ".join(options) or "no option"
         tally.compare(name, found, ([b"a\t1.000\tb\n", b"c\t2.000,5\td\n"], b"", 0))
+    with tempfile.TemporaryDirectory() as folder:
+        words = [program, "--line-buffered", "--rejects=rejects", "--invalid=ignore", "en", "de"]
+        with subprocess.Popen(words, stdin=subprocess.PIPE, stdout=subprocess.PIPE, cwd=folder) as ended:
+            ended.stdin.write(b"x\n1,000\n")
+            ended.stdin.flush()
+            found = (ended.stdout.readline(), Path(folder, "rejects").read_bytes())
+            ended.stdin.close()
+        tally.compare("a rejected line", found, (b"1.000\n", b"x\n"))
 
 
 def check_long(tally, program):
@@ -450,7 +476,7 @@ def main():
     program = Path(sys.argv[1]).resolve() if len(sys.argv) > 1 else PROGRAM
     tally = Tally()
     checks = [check_help, check_open_input, check_records, check_random_records, check_random_fields, check_sum, check_rejects]
-    checks += [check_failures, check_closed_pipe, check_slow_input, check_output_is_input, check_long, check_engines]
+    checks += [check_two_devices, check_failures, check_closed_pipe, check_slow_input, check_output_is_input, check_long, check_engines]
     for check in *checks, check_header:
         check(tally, program)
     tally.end()

@@ -189,7 +189,7 @@ def test_decimals_of_each_form():
     # A zero has no minus sign.
     expected = [f"{wide.quantize(number, Decimal('0.001')):,f}" if number else "0.000" for number in numbers]
     assert columns.format_decimal_column(numbers, 3, "en").tolist() == expected
-    for number in ["1E+36", "1" * 37, "0.0001", "1.0005", "123456789012345678901234567890123.0001"]:
+    for number in ["1E+36", "1" * 37, "9" * 36, "0.0001", "1.0005", "123456789012345678901234567890123.0001"]:
         with pytest.raises(ValueError if "." in number else OverflowError):
             columns.format_decimal_column([Decimal("1"), Decimal(number)], 3, "en")
     assert num_format.format(Loud("-2.5"), "en") == "-2.5"

@@ -1,6 +1,8 @@
 //! Decimals: what the tables of cases do not say of them. `replay.rs` prints, parses, rescales, compares, adds and
 //! subtracts them.
 
+use std::collections::HashSet;
+
 use num_format::{
     CustomFormat, Decimal, DecimalError, Locale, ParseAtScaleError, ParseDecimal, ParseDecimalError, Rounding,
     MAX_SCALE,
@@ -59,8 +61,16 @@ fn a_precision_rounds() {
     assert_eq!(format!("[{:8.2}]", decimal(-12_345, 3)), "[  -12.34]");
     assert_eq!(format!("{:.0}", decimal(25, 1)), "2");
     assert_eq!(format!("{:.400}", decimal(15, 1)).len(), 40);
+    assert_eq!(format!("{:.400}", decimal(12_345, 0)), format!("12345.{}", "0".repeat(34)));
     let text = format!("[{:>9.1}]", decimal(123_456, 2).formatted(&Locale::de));
     assert_eq!(text, "[  1.234,6]");
+}
+
+#[test]
+fn equal_decimals_have_one_hash() {
+    let found: HashSet<Decimal> =
+        [(15, 1), (150, 2), (-15, 1), (15, 0)].map(|(units, scale)| decimal(units, scale)).into();
+    assert_eq!(found.len(), 3);
 }
 
 fn parse(text: &str) -> Decimal {

@@ -2,7 +2,10 @@
 //! alike.
 
 use num_format::utils::{DecimalStr, InfinityStr, MinusSignStr, NanStr, PlusSignStr, SeparatorStr};
-use num_format::{Buffer, CustomFormat, CustomFormatBuilder, Error, ErrorKind, Format, Grouping, Locale};
+use num_format::{
+    Buffer, CustomFormat, CustomFormatBuilder, Decimal, DecimalBuffer, Error, ErrorKind, Format, Grouping, Locale,
+    ParseDecimal,
+};
 
 #[test]
 fn a_builder_begins_with_en() {
@@ -70,11 +73,12 @@ fn groupings_are_those_of_num_format() {
 /// Without std an error keeps whole characters of a text within 256 bytes; with std, all of it.
 #[test]
 fn errors_of_long_texts() {
-    let text = "a".repeat(255) + "é";
-    let kept = if cfg!(feature = "std") { &*text } else { &text[..255] };
-    assert_eq!(Error::new(&text).to_string(), kept);
-    let error = Locale::from_name(&text).unwrap_err();
-    assert!(matches!(error.kind(), ErrorKind::ParseLocale(name) if name.as_str() == kept));
+    for (text, len) in [("a".repeat(255) + "é", 255), ("a".repeat(254) + "éa", 256)] {
+        let kept = if cfg!(feature = "std") { &*text } else { &text[..len] };
+        assert_eq!(Error::new(&text).to_string(), kept);
+        let error = Locale::from_name(&text).unwrap_err();
+        assert!(matches!(error.kind(), ErrorKind::ParseLocale(name) if name.as_str() == kept));
+    }
 }
 
 #[test]
@@ -117,6 +121,48 @@ impl Format for Dotted {
     fn separator(&self) -> SeparatorStr<'_> {
         SeparatorStr::new("·").unwrap()
     }
+}
+
+/// The same with a decimal mark.
+struct Marked;
+
+impl Format for Marked {
+    fn decimal(&self) -> DecimalStr<'_> {
+        DecimalStr::new("::").unwrap()
+    }
+
+    fn grouping(&self) -> Grouping {
+        Dotted.grouping()
+    }
+
+    fn infinity(&self) -> InfinityStr<'_> {
+        unreachable!()
+    }
+
+    fn minus_sign(&self) -> MinusSignStr<'_> {
+        MinusSignStr::new("minus ").unwrap()
+    }
+
+    fn nan(&self) -> NanStr<'_> {
+        unreachable!()
+    }
+
+    fn plus_sign(&self) -> PlusSignStr<'_> {
+        unreachable!()
+    }
+
+    fn separator(&self) -> SeparatorStr<'_> {
+        SeparatorStr::new("·").unwrap()
+    }
+}
+
+#[test]
+fn decimals_under_a_format_of_ones_own() {
+    let price = Decimal::new(-123_450, 2).unwrap();
+    let mut buffer = DecimalBuffer::new();
+    buffer.write_formatted(&price, &Marked);
+    assert_eq!(buffer.as_str(), "minus 1·234::50");
+    assert_eq!(buffer.parse_decimal(&Marked), Ok(price));
 }
 
 #[test]
