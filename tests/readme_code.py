@@ -14,9 +14,8 @@ packages/, has to end with status 0, and to print what is shown: after `prints` 
 `text` after it, or in NAME.expected where it reads NAME.tsv. `rt run --` and `rt try --` run the program that is built. So does
 `tools/install PREFIX`. A block of `sh` in docs/GUIDE.md is one script, and runs in a folder that has examples/. Each other
 command that README.md, docs/CALLERS.md or the README of a package shows in a block of `sh` is one of ELSEWHERE: a test
-that runs it. Each link to a file has an end. Each function, clause, definition, crate and option that README.md,
-CONTRIBUTING.md, docs/ or crates/ name between backticks stands in a file that is no document. Where a README of
-packages/ shows other code or what it prints, the test of that package has to name README.md.
+that runs it. Each link to a file has an end. What document_names.py compares agrees. Where a README of packages/ shows
+other code or what it prints, the test of that package has to name README.md.
 """
 import os
 import re
@@ -25,6 +24,7 @@ import tempfile
 from pathlib import Path
 from textwrap import dedent
 
+import document_names
 from tally import ROOT, Tally, heading, run
 
 EXAMPLES = ROOT / "crates" / "test_readme"
@@ -183,31 +183,6 @@ def check_guide(tally, top):
             tally.compare(name, (ended.returncode, ended.stdout, ended.stderr), (0, text, ""))
 
 
-# A name of several words, or an option.
-NAME = re.compile(r"(?<![\w-])--[a-z]+(?:-[a-z]+)*|\b[a-z]\w*_\w+|\b[A-Z][a-z]+\w*[A-Z]\w*")
-
-# What a document names of pandas and of the kit.
-OTHERS = {"read_csv", "--allow-holes", "--only"}
-
-
-def all_names():
-    """The names in the files of the repository but documents and tables, and those of its files."""
-    found = set(OTHERS)
-    for folder, folders, files in os.walk(ROOT):
-        folders[:] = [name for name in folders if name not in {".git", "__pycache__", "out", "target"}]
-        for file in map(Path(folder).joinpath, files):
-            if file.suffix not in {".md", ".tsv"} and file != Path(__file__).resolve():
-                found.update([file.stem], NAME.findall(file.read_text(encoding="utf-8", errors="ignore")))
-    return found
-
-
-def gone_names(path, names):
-    """The names between backticks in a document that stand nowhere else."""
-    text = re.sub(r"^```.*?^```$", "", path.read_text(encoding="utf-8"), flags=re.DOTALL | re.MULTILINE)
-    for name in sorted({name for code in re.findall(r"`([^`]+)`", text) for name in NAME.findall(code)} - names):
-        yield f"{path.relative_to(ROOT)}: there is no {name}"
-
-
 def main():
     if "--run" in sys.argv:
         tally = Tally()
@@ -230,10 +205,7 @@ def main():
         different += not_run(path)
     for path in [path for pattern in DOCUMENTS for path in sorted(ROOT.glob(pattern))]:
         different += dead_links(path)
-    names = all_names()
-    for path in [readme, ROOT / "CONTRIBUTING.md", *sorted(ROOT.glob("docs/*.md")), *sorted(ROOT.glob("crates/*.md"))]:
-        if path.name != "DIFFERENCES.md":
-            different += gone_names(path, names)
+    different += document_names.problems()
     different += [f"{file} is not there" for file in ELSEWHERE.values() if not (ROOT / file).is_file()]
     tally = Tally()
     tally.add("the code and commands of README.md, docs/ and packages/", "\n".join(different))
