@@ -5,13 +5,16 @@
 - Each single word between backticks in docs/THEOREMS.md is defined in a crate, as a clause, a definition or a call.
 - docs/ARCHITECTURE.md has each crate, and no other.
 - A recipe of CONTRIBUTING.md names each file, or its crate, that has all groupings, or all causes of rejection.
+- Each size in its table of calls that may fail stands in a file that the row names, or is the length of a text there.
 - The results in docs/GUIDE.md are those of the models by which tools/ writes cases.
 - README.md, and all documents, have at most so many words beside what scripts write into them.
 """
 import os
 import re
 from pathlib import Path
+from urllib.parse import unquote_to_bytes
 
+import case_files
 from tally import ROOT
 
 import locales
@@ -45,7 +48,7 @@ RECIPES = {
 
 # What a script writes into a document, and the most words of documents.
 WRITTEN = re.compile(r"<!-- \S+ writes: .*?<!-- end -->", re.DOTALL)
-MOST = {"README.md": 700, "all documents": 16_000}
+MOST = {"README.md": 700, "all documents": 17_800}
 
 
 def text_of(path):
@@ -116,6 +119,45 @@ def left_out(every):
                 yield f"CONTRIBUTING.md: {start} does not name {place}"
 
 
+# A row of the table of calls that may fail, a size there, and what the row names: crates, files of cases, tables and scripts.
+SIZES = re.compile(r"^\|(?!Call\||-)([^|]+)\|([^|]+)\|$", re.MULTILINE)
+SIZE = re.compile(r"(?<![\w-])(\d[\d,]*)(?: ([KM])iB)?")
+PLACE = re.compile(r"\b(test_\w+|num_format_vectors|[\w/]+\.(?:py|tsv|cases))\b")
+
+
+def numbers_at(place):
+    """The numbers that a file or the sources of a crate have, the lengths of texts there too."""
+    if place.endswith(".cases"):
+        for path in (ROOT / "crates").glob(f"*/cases/{place}"):
+            yield from re.findall(r"\d+", text_of(path))
+            cases, files = case_files.read(path)
+            for case in cases:
+                texts = [*case.words, case.given, case.out or b"", case.err or b""]
+                yield from (str(len(text.rstrip(b"\n"))) for text in texts)
+            yield from (str(len(content)) for content in files.values())
+    elif place.endswith(".tsv"):
+        lines = text_of(ROOT / "tests" / "cases" / place).splitlines()
+        yield from (str(len(unquote_to_bytes(field))) for line in lines for field in line.split("\t"))
+    else:
+        paths = [ROOT / place] if place.endswith(".py") else (ROOT / "crates" / place / "src").glob("*.rt")
+        for path in paths:
+            yield from re.findall(r"\d+", text_of(path).replace("_", ""))
+
+
+def untested_sizes():
+    """The sizes in CONTRIBUTING.md that no file which their row names has."""
+    table = text_of(ROOT / "CONTRIBUTING.md").partition("|Call|Its largest size|\n")[2]
+    calls = SIZES.findall(table.partition("\n\n")[0])
+    for call, sizes in calls:
+        found = {number for place in PLACE.findall(sizes) for number in numbers_at(place)}
+        for number, unit in SIZE.findall(sizes):
+            size = int(number.replace(",", "")) * {"": 1, "K": 1024, "M": 1024**2}[unit]
+            if str(size) not in found:
+                yield f"CONTRIBUTING.md: no file of its row has the size {number}: {call}"
+    if not calls:
+        yield "CONTRIBUTING.md has no table of largest sizes"
+
+
 def rows(title):
     """The rows of texts of the table below a heading of docs/GUIDE.md: the texts, and all cells."""
     section = text_of(ROOT / "docs/GUIDE.md").split(f"## {title}\n")[1].split("\n## ")[0]
@@ -173,5 +215,5 @@ def problems():
     every = [path for path in files() if path.is_file()]
     paths = [ROOT / "README.md", ROOT / "CONTRIBUTING.md", *sorted(ROOT.glob("docs/*.md")), *sorted(ROOT.glob("crates/*.md"))]
     yield from gone_names([path for path in paths if path.name != "DIFFERENCES.md"], every)
-    for found in undefined(), other_crates(), left_out(every), other_results(), too_long():
+    for found in undefined(), other_crates(), left_out(every), untested_sizes(), other_results(), too_long():
         yield from found

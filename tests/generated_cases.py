@@ -23,7 +23,7 @@ LOCALES = {"en": ",.-", "de": ".,-", "fr": "\u202f,-", "sv": "\u00a0,\u2212"}
 CENT = Decimal("0.01")
 LEDGERS = {
     "at the ends": [(2**127 - 1) * CENT, -(2**127) * CENT, (2**127 - 1) * CENT],
-    "of 2000 lines": [place * Decimal("12345.67") - 10_000_000 for place in range(2000)],
+    "of 5000 lines": [place * Decimal("12345.67") - 10_000_000 for place in range(5000)],
 }
 
 

@@ -22,7 +22,7 @@ fn assert_displayed<T: Display>(
     value: &T,
     text: &str,
 ) -> Result<(), Fail> {
-    let shown = format!(in alloc; "{value}|{value:*^400}|{value:.0}")?;
+    let shown = format!(in alloc; "{value}|{value:*^65535}|{value:.0}")?;
     let expected = format!(in alloc; "{text}|{text}|{text}")?;
     assert_equal(rt, shown.as_str(), expected.as_str());
     Ok(())
@@ -35,7 +35,7 @@ fn assert_debugged<T: Debug>(
     value: &T,
     text: &str,
 ) -> Result<(), Fail> {
-    let shown = format!(in alloc; "{value:?}|{value:*^400?}")?;
+    let shown = format!(in alloc; "{value:?}|{value:*^65535?}")?;
     let expected = format!(in alloc; "{text}|{text}")?;
     assert_equal(rt, shown.as_str(), expected.as_str());
     Ok(())

@@ -226,15 +226,16 @@ fn one_line_at_most_is_flushed(rt: HostRuntime) -> Result<(), Fail> {
     Ok(())
 }
 
-/// Asserts what a fault displays.
+/// Asserts what a fault displays, at each width.
 fn assert_message(
     rt: &impl Abort,
     alloc: Global,
     fault: &RegroupFault,
     message: &str,
 ) -> Result<(), Fail> {
-    let displayed = format!(in alloc; "{fault}")?;
-    assert_eq!(rt; displayed.as_str(), message);
+    let displayed = format!(in alloc; "{fault}|{fault:*^65535}")?;
+    let expected = format!(in alloc; "{message}|{message}")?;
+    assert_eq!(rt; displayed.as_str(), expected.as_str());
     Ok(())
 }
 

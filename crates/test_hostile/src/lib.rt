@@ -15,6 +15,7 @@
 //! | `bytes` | numbers into writers of bytes that make short writes, fail, or write nothing |
 //! | `text` | numbers into writers of text that fail |
 //! | `inputs` | lines that are regrouped, and those at fault |
+//! | `kinds` | each kind of line from a reader that gives parts of it: how often the output is flushed and written to |
 //! | `lines` | lines from readers that give them in pieces, are interrupted or fail |
 //! | `rejects` | lines at fault that go to a writer of their own, where it or another one fails |
 //! | `outputs` | lines from readers to writers that both do what a list says |
@@ -28,6 +29,8 @@
 mod bytes;
 #[cfg(test)]
 mod inputs;
+#[cfg(test)]
+mod kinds;
 #[cfg(test)]
 mod lines;
 #[cfg(test)]

@@ -18,6 +18,11 @@ def test_numbers_with_an_exponent(text):
     assert num_format.format(number, "en") == f"{int(number):,}"
 
 
+def test_the_most_decimals():
+    for text in ["1E-38", "-12E-38", "0E-38"]:
+        assert num_format.format(Decimal(text), "en") == f"{Decimal(text):f}"
+
+
 def test_negative_zeros_are_zeros():
     assert num_format.format(Decimal("-0.00"), "en") == "0.00"
     assert num_format.format(Decimal("-0"), "en") == "0"
