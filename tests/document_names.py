@@ -1,7 +1,7 @@
-"""What documents say of names, files and results, and how long they are, beside the repository. readme_code.py shows it.
+"""What documents say of names, files and results, and how long they are. readme_code.py shows what differs.
 
-- Each name of several words between backticks in README.md, CONTRIBUTING.md, docs/ or crates/ stands in a file that is no
-  document, each file there is one of the repository, and each option is one that regroup-lines or a script takes.
+- Each name of several words between backticks in README.md, CONTRIBUTING.md, docs/ or crates/ stands in a file that is
+  no document, each file there is one of the repository, and each option is one that regroup-lines or a script takes.
 - Each single word between backticks in docs/THEOREMS.md is defined in a crate, as a clause, a definition or a call.
 - docs/ARCHITECTURE.md has each crate, and no other.
 - A recipe of CONTRIBUTING.md names each file, or its crate, that has all groupings, or all causes of rejection.
@@ -94,8 +94,8 @@ def undefined():
     sources = [*ROOT.glob("crates/*/src/**/*.rt"), *ROOT.glob("crates/*/specs/**/*.antt")]
     found = {name for path in sources for names in DEFINED.findall(text_of(path)) for name in names}
     found |= {path.stem for path in sources} | WORDS
-    for word in sorted({code for code in quoted(ROOT / "docs/THEOREMS.md") if re.fullmatch(r"[A-Za-z]\w+", code)} - found):
-        yield f"docs/THEOREMS.md: no crate defines {word}"
+    words = {code for code in quoted(ROOT / "docs/THEOREMS.md") if re.fullmatch(r"[A-Za-z]\w+", code)}
+    yield from (f"docs/THEOREMS.md: no crate defines {word}" for word in sorted(words - found))
 
 
 def other_crates():
@@ -119,7 +119,7 @@ def left_out(every):
                 yield f"CONTRIBUTING.md: {start} does not name {place}"
 
 
-# A row of the table of calls that may fail, a size there, and what the row names: crates, files of cases, tables and scripts.
+# A row of the table of calls that may fail, a size there, and what it names: crates, files of cases, tables and scripts.
 SIZES = re.compile(r"^\|(?!Call\||-)([^|]+)\|([^|]+)\|$", re.MULTILINE)
 SIZE = re.compile(r"(?<![\w-])(\d[\d,]*)(?: ([KM])iB)?")
 PLACE = re.compile(r"\b(test_\w+|num_format_vectors|[\w/]+\.(?:py|tsv|cases))\b")
@@ -213,7 +213,8 @@ def too_long():
 def problems():
     """All of these."""
     every = [path for path in files() if path.is_file()]
-    paths = [ROOT / "README.md", ROOT / "CONTRIBUTING.md", *sorted(ROOT.glob("docs/*.md")), *sorted(ROOT.glob("crates/*.md"))]
-    yield from gone_names([path for path in paths if path.name != "DIFFERENCES.md"], every)
+    patterns = "README.md", "CONTRIBUTING.md", "docs/*.md", "crates/*.md"
+    paths = [path for pattern in patterns for path in sorted(ROOT.glob(pattern)) if path.name != "DIFFERENCES.md"]
+    yield from gone_names(paths, every)
     for found in undefined(), other_crates(), left_out(every), untested_sizes(), other_results(), too_long():
         yield from found
