@@ -167,7 +167,8 @@ def slower(rows):
     for row in rows:
         if row.is_above and not row.is_digits:
             found.setdefault(row.beside, []).append(row)
-    said = (f"{beside} at {' and '.join(f'*{row.does}*' for row in each)} ({between(each)})" for beside, each in found.items())
+    what = {beside: " and ".join(f"*{row.does}*" for row in each) for beside, each in found.items()}
+    said = (f"{beside} at {what[beside]} ({between(each)})" for beside, each in found.items())
     return f"Slower than {', '.join(said)}." if found else "Nowhere slower."
 
 

@@ -34,8 +34,8 @@ TAKEN = re.compile(r"(?:\bnew\(alloc, |\.long\(|flag\(\s*alloc,\s*)\"([a-z-]+)\"
 
 # Where a clause, a definition or a call is defined, and words of Rust and of the prover.
 DEFINED = re.compile(
-    r"\b(?:fn|ensures|ghost|struct|enum|trait|type|const|mod)\s+(\w+)|^\s*(?:pub |abbrev |unfoldable |record |data )*(\w+)\s*:|"
-    r"\b(?:record|data|abbrev) (?:pub )?(\w+)|^\s+([A-Z]\w+)\b",
+    r"\b(?:fn|ensures|ghost|struct|enum|trait|type|const|mod)\s+(\w+)|"
+    r"^\s*(?:pub |abbrev |unfoldable |record |data )*(\w+)\s*:|\b(?:record|data|abbrev) (?:pub )?(\w+)|^\s+([A-Z]\w+)\b",
     re.MULTILINE,
 )
 WORDS = {"Debug", "Display", "IfErr", "OnErr", "bool", "elim", "i128", "result", "true"}
@@ -82,7 +82,8 @@ def gone_names(paths, every):
     """The names, files and options of documents that are nowhere else."""
     found = {name for path in every if not is_data(path) for name in [path.stem, *NAME.findall(text_of(path))]}
     found = {name for name in found if not name.startswith("--")} | OTHERS | options()
-    ends = {"/".join(path.parts[start:]) for path in every for start in range(len(ROOT.parts), len(path.parts))} | {EXAMPLE}
+    ends = {EXAMPLE}
+    ends |= {"/".join(path.parts[start:]) for path in every for start in range(len(ROOT.parts), len(path.parts))}
     for path in paths:
         for code in quoted(path):
             for name in sorted(set(NAME.findall(code)) - found | set(FILE.findall(code)) - ends):
@@ -100,8 +101,8 @@ def undefined():
 
 def other_crates():
     """The crates that the table of docs/ARCHITECTURE.md does not have, or has though they are not there."""
-    rows = re.findall(r"^\|((?:num_format|regroup|uses|test)[\w, ]*)\|", text_of(ROOT / "docs/ARCHITECTURE.md"), re.MULTILINE)
-    listed = {name for row in rows for name in row.split(", ")}
+    cells = re.findall(r"^\|((?:num_format|regroup|uses|test)[\w, ]*)\|", text_of(ROOT / "docs/ARCHITECTURE.md"), re.M)
+    listed = {name for cell in cells for name in cell.split(", ")}
     for name in sorted(listed ^ {path.name for path in (ROOT / "crates").iterdir() if path.is_dir()}):
         yield f"docs/ARCHITECTURE.md: {name} is a row and no crate, or a crate and no row"
 
@@ -119,7 +120,7 @@ def left_out(every):
                 yield f"CONTRIBUTING.md: {start} does not name {place}"
 
 
-# A row of the table of calls that may fail, a size there, and what it names: crates, files of cases, tables and scripts.
+# A row of the table of calls that may fail, a size, and what it names: crates, files of cases, tables and scripts.
 SIZES = re.compile(r"^\|(?!Call\||-)([^|]+)\|([^|]+)\|$", re.MULTILINE)
 SIZE = re.compile(r"(?<![\w-])(\d[\d,]*)(?: ([KM])iB)?")
 PLACE = re.compile(r"\b(test_\w+|num_format_vectors|[\w/]+\.(?:py|tsv|cases))\b")

@@ -22,7 +22,8 @@ ROOT = Path(__file__).resolve().parent.parent
 TOP = "../.."
 STYLE = ROOT / "tools" / "api_page.css"
 HEAD = """<!DOCTYPE html><html lang="en"><meta charset="utf-8"><meta name="viewport" content="width=device-width">
-<title>num_format for Rattle: public calls</title><link rel="stylesheet" href="style.css"><nav id="index"><b>Public calls in Rattle</b>{nav}</nav><a class="top" href="#index">Index</a>
+<title>num_format for Rattle: public calls</title><link rel="stylesheet" href="style.css">
+<nav id="index"><b>Public calls in Rattle</b>{nav}</nav><a class="top" href="#index">Index</a>
 <main><p>The calls in Rattle, which is Rust with contracts. C, C++, Python, Rust and SQL have others: see the
 <a href="../../README.md">README</a>. Below a call is its contract, which is proved;
 <a href="../../docs/THEOREMS.md">THEOREMS</a> says how to read one, and names in it link to their definitions.{main}</main>"""
