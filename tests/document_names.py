@@ -22,7 +22,9 @@ import spelling
 import typed_texts
 
 # A name of several words, an option, and a file.
-NAME = re.compile(r"(?<![\w-])--[a-z]+(?:-[a-z]+)*|\b[a-z]\w*_\w+|\b[A-Z][a-z]+\w*[A-Z]\w*")
+NAME = re.compile(
+    r"(?<![\w-])--[a-z]+(?:-[a-z]+)*|(?<![\w-])[a-z]+-[a-z]\w*|\b[a-z]\w*_\w+|\b[A-Z][a-z]+\w*[A-Z]\w*"
+)
 FILE = re.compile(r"(?:[\w.-]+/)*[\w.-]+\.(?:antt|c|cases|cpp|edit|h|hpp|md|py|rs|rt|tsv|txt)\b")
 
 # What a document names of pandas, of the kit, of pip and of numfmt, and a file that stands for all of its kind.
@@ -35,7 +37,8 @@ TAKEN = re.compile(r"(?:\bnew\(alloc, |\.long\(|flag\(\s*alloc,\s*)\"([a-z-]+)\"
 # Where a clause, a definition or a call is defined, and words of Rust and of the prover.
 DEFINED = re.compile(
     r"\b(?:fn|ensures|ghost|struct|enum|trait|type|const|mod)\s+(\w+)|"
-    r"^\s*(?:pub |abbrev |unfoldable |record |data )*(\w+)\s*:|\b(?:record|data|abbrev) (?:pub )?(\w+)|^\s+([A-Z]\w+)\b",
+    r"^\s*(?:pub |abbrev |unfoldable |record |data )*(\w+)\s*:|"
+    r"\b(?:record|data|abbrev) (?:pub )?(\w+)|^\s+([A-Z]\w+)\b",
     re.MULTILINE,
 )
 WORDS = {"Debug", "Display", "IfErr", "OnErr", "bool", "elim", "i128", "result", "true"}
