@@ -14,7 +14,8 @@ from tally import ROOT, elapsed
 # A skipped check, and the last line.
 SKIPPED = re.compile(r"^skipped:? (.*?): (.*)$", re.M)
 COUNTED = re.compile(r"(\d+) passed, (\d+) failed(?:, \d+ skipped)?\n\Z")
-FAILED = re.compile(r"^FAILED .*$", re.M)
+# What is always shown: what failed, and how many cases were replayed.
+SHOWN = re.compile(r"^(?:FAILED .*|\S+: \d+ cases, and .*)$", re.M)
 
 
 class Jobs:
@@ -75,7 +76,7 @@ class Jobs:
         counted = COUNTED.search(printed)
         passed, failed = map(int, counted.groups()) if counted else (0, 0)
         self.tally.count(passed, failed)
-        shown = printed if self.shows_all else "".join(f"{line}\n" for line in FAILED.findall(printed))
+        shown = printed if self.shows_all else "".join(f"{line}\n" for line in SHOWN.findall(printed))
         print(f"{shown}{elapsed()} {name}: {passed} passed, {failed} failed in {seconds} s", flush=True)
         if not is_counted:
             self.tally.add(name, f"status {status} after {printed[-900:]}" if status else None)

@@ -1,4 +1,5 @@
 """Counts the checks of programs, and runs programs."""
+import argparse
 import os
 import shutil
 import subprocess
@@ -66,6 +67,15 @@ class Tally:
         skipped = f", {len(self.skipped)} skipped" if self.skipped else ""
         print(f"{self.passed} passed, {self.failed} failed{skipped}")
         sys.exit(1 if self.failed else 0)
+
+
+def package_words(library):
+    """What the words of a package's test command ask for: the tables of cases alone, and the library for C."""
+    parser = argparse.ArgumentParser(description="Tests a package.")
+    parser.add_argument("--cases", action="store_true", help="replay the tables of cases alone")
+    parser.add_argument("library", nargs="?", type=Path, default=library, help="libnum_format_c.a")
+    given = parser.parse_args()
+    return given.cases, given.library.resolve()
 
 
 def elapsed():

@@ -7,8 +7,8 @@
 
 The first needs the kit alone, and runs by `rt try`, side by side: the tests of each crate that has some, the stored run
 and the cases of programs (commands.py), the tables of cases (tests/replay.py), the examples of the doc comments
-(doc_examples.py) and the code of README.md (readme_code.py). Nothing is proved by it. Programs and the library for C that
-were built before replay the tables too.
+(doc_examples.py) and the code of README.md (readme_code.py). Nothing is proved by it. Programs that were built before
+replay the tables too, and over a library for C that was built before each language does.
 
 With --prove, side by side:
 
@@ -61,6 +61,9 @@ BUILT = {
 REPLAYED = {"test_oracle": "rattle", "regroup": "regroup", "regroup_lines_cli": "regroup-lines"}
 REPLAY = ROOT / "tests" / "replay.py"
 
+# The packages whose test replays the tables in their language.
+REPLAYING = ["python", "rust", "sqlite", "postgresql"]
+
 # How nice to `rt ci`, which has the longer way to go, is all else.
 SOON = 5
 
@@ -94,6 +97,12 @@ def start_unproved(jobs):
         jobs.script(f"cases of {name}", "commands.py", "--try", name)
     for name in "regroup", "regroup-lines", "c", "c++":
         jobs.script(f"the tables of cases by {name}", REPLAY, "--built", name)
+    for package in REPLAYING:
+        name = f"the tables of cases by {package}"
+        if LIBRARY.is_file():
+            jobs.script(name, ROOT / "packages" / package / "test", "--cases", LIBRARY)
+        else:
+            jobs.tally.skip(name, "the library for C was not built: --prove does that")
     start_documents(jobs)
 
 

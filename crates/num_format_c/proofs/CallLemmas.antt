@@ -1,5 +1,6 @@
 -- Results, as they cross to C.
-use Rattle.std.proofs.Common.{◌≡◌, ℕ, ℤ, pos, List, refl, ap, subst, Option, Some, None, Result, Ok, Err, MatchOption, ◌∙◌, Bool, true, false, if◌then◌else◌}
+use Rattle.std.proofs.Common.{◌≡◌, ℕ, ℤ, pos, List, refl, ap, subst, Option, Some, None, Result, Ok, Err, MatchOption, ◌∙◌, Bool, true}
+use Rattle.std.proofs.Common.{false, if◌then◌else◌}
 use Rattle.std.specs.Prelude.{IsTrue, MatchResult, ◌↔◌}
 use Rattle.num_format.specs.Kind.{Kind}
 use Rattle.num_format_c.specs.Calls.{Fails, Parses, ParsesInto, Stores, Tells, code}

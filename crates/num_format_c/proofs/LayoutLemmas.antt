@@ -59,4 +59,5 @@ whole_if false c len size n none is = cc
 
 pub whole_rows : (t : Representation) (values : List ℕ) (v : Validity) (n : ℕ) → row_count t values v ≡ Some n → length values ≡ n * t.size
 whole_rows t values v n is =
-    whole_if (length values % t.size == 0) (covers v (length values / t.size)) (length values) t.size n (eqb-true (length values % t.size) 0) is
+    whole_if (length values % t.size == 0) (covers v (length values / t.size)) (length values) t.size n
+    (eqb-true (length values % t.size) 0) is

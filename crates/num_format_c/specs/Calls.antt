@@ -1,5 +1,7 @@
 -- What the calls of C return and write.
-use Rattle.std.specs.Prelude.{◌≡◌, ℕ, ◌+◌, ◌*◌, ◌^◌, ◌<◌, ◌≤◌, ◌==◌, ℤ, pos, negsuc, nat_eq, Bool, not, ◌&&◌, ◌||◌, List, [], ◌∷◌, ◌++◌, length, drop, Option, Some, None, Result, Ok, Err, IfSome, MatchOption, MatchResult, IsUtf8, if◌then◌else◌}
+use Rattle.std.specs.Prelude.{◌≡◌, ℕ, ◌+◌, ◌*◌, ◌^◌, ◌<◌, ◌≤◌, ◌==◌, ℤ, pos, negsuc, nat_eq, Bool, not, ◌&&◌, ◌||◌}
+use Rattle.std.specs.Prelude.{List, [], ◌∷◌, ◌++◌, length, drop, Option, Some, None, Result, Ok, Err, IfSome, MatchOption, MatchResult}
+use Rattle.std.specs.Prelude.{IsUtf8, if◌then◌else◌}
 use Rattle.std.specs.Fmt.{is_char_start}
 use Rattle.std.specs.Int.{cast_signed, w128}
 use Rattle.std.specs.List.{starts_with}
@@ -29,7 +31,10 @@ use Rattle.num_format_typed.specs.declared.typed.TypedError.TheVariants as typed
 use Rattle.num_format_c.specs.Held.{Agrees, HasFormat, IsPadded, format_of, format_with, grouping_of}
 use Rattle.num_format_c.specs.declared.format.NumFormat.{NumFormat}
 use Rattle.num_format_c.specs.declared.status.Status.{Status}
-use Rattle.num_format_c.specs.declared.status.Status.TheVariants.{BadFormat, TooSmall, NotUtf8, NotANumber, UnknownLocale, TooLong, BadGrouping, BadBits, Unexpected, NoDigit, Misspelled, OutOfRange, BadScale, TooManyDecimals, BadLength, BadOffsets, TooManyBytes, DigitsLost, AmbiguousFormat, BadType, TextTooLong}
+use Rattle.num_format_c.specs.declared.status.Status.TheVariants.{BadFormat, TooSmall, NotUtf8, NotANumber, UnknownLocale, TooLong}
+use Rattle.num_format_c.specs.declared.status.Status.TheVariants.{BadGrouping, BadBits, Unexpected, NoDigit, Misspelled, OutOfRange}
+use Rattle.num_format_c.specs.declared.status.Status.TheVariants.{BadScale, TooManyDecimals, BadLength, BadOffsets, TooManyBytes}
+use Rattle.num_format_c.specs.declared.status.Status.TheVariants.{DigitsLost, AmbiguousFormat, BadType, TextTooLong}
 
 -- the number by which an error crosses to C; `negsuc n` is the number one below -n
 abbrev pub code : Status → ℤ
@@ -114,8 +119,8 @@ pub record ParsesInto (k : Kind) (s : NumFormat) (text : List ℕ) (old new resu
   pub refused : HasFormat s → IsUtf8 text → Refused k (format_of s) text → Fails NotANumber old new result
   pub number : HasFormat s → IsUtf8 text → ¬ Refused k (format_of s) text → (result ≡ pos 0) × (new ≡ denoted (format_of s) text)
 
--- a way of parsing: what it returns of a text, and how an error of it crosses to C, as a status, and the place of the unexpected byte or else
--- the old one
+-- a way of parsing: what it returns of a text, and how an error of it crosses to C, as a status, and the place of the unexpected byte
+-- or else the old one
 pub record Parsing (X E : Type 0) : Type 1 where
   pub Returns : FormatData → List ℕ → Result X E → Type 0
   pub status : E → Status
@@ -179,7 +184,8 @@ abbrev pub decimals : Parsing FixedPoint ParseDecimalError
 decimals = record { Returns = DecimalResult; status = decimal_status_of; place = decimal_place_of }
 
 abbrev pub typed_decimals : Parsing FixedPoint (TypedError ParseDecimalError)
-typed_decimals = record { Returns = TypedDecimalResult; status = typed_status_of decimal_status_of; place = typed_place_of decimal_place_of }
+typed_decimals =
+    record { Returns = TypedDecimalResult; status = typed_status_of decimal_status_of; place = typed_place_of decimal_place_of }
 
 abbrev pub at_scale : (scale : ℕ) → Parsing FixedPoint ParseAtScaleError
 at_scale scale = record { Returns = λ f t. AtScaleResult f t scale; status = at_scale_status_of; place = at_scale_place_of }
@@ -206,22 +212,27 @@ mapped value (Ok x) = Ok (value x)
 mapped value (Err e) = Err e
 
 -- a text is parsed under the format of a struct, `Gives` holds of what is returned, and the place of an unexpected byte is written
-pub record Crosses {X E Y : Type 0} (p : Parsing X E) (Gives : Result X Status → Y → Type 0) (s : NumFormat) (text : List ℕ) (old new : ℕ) (result : Y) : Type 0 where
+pub record Crosses {X E Y : Type 0} (p : Parsing X E) (Gives : Result X Status → Y → Type 0) (s : NumFormat) (text : List ℕ)
+    (old new : ℕ) (result : Y) : Type 0 where
   pub bad_format : ¬ HasFormat s → Gives (Err BadFormat) result × (new ≡ old)
-  pub parsed : HasFormat s → (r : Result X E) × p.Returns (format_of s) text r × Gives (crossed p.status r) result × (new ≡ place_after p.place r old)
+  pub parsed : HasFormat s → (r : Result X E) × p.Returns (format_of s) text r × Gives (crossed p.status r) result
+      × (new ≡ place_after p.place r old)
 
 -- the result is returned
-abbrev pub Gets : {A X E : Type 0} → Parsing X E → (A → X) → NumFormat → (text : List ℕ) → (old new : ℕ) → (result : Result A Status) → Type 0
+abbrev pub Gets : {A X E : Type 0} → Parsing X E → (A → X) → NumFormat → (text : List ℕ) → (old new : ℕ)
+    → (result : Result A Status) → Type 0
 Gets p value = Crosses p (λ r result. r ≡ mapped value result)
 
 -- what was parsed is stored
-abbrev pub Into : {X B E : Type 0} → Parsing X E → (X → B) → NumFormat → (text : List ℕ) → (old new : B) → (at_old at_new : ℕ) → (result : ℤ) → Type 0
+abbrev pub Into : {X B E : Type 0} → Parsing X E → (X → B) → NumFormat → (text : List ℕ) → (old new : B) → (at_old at_new : ℕ)
+    → (result : ℤ) → Type 0
 Into p value s text old new = Crosses p (λ r result. Stores value r old new result) s text
 
 -- a text begins with a mark of the direction of writing: U+061C, U+200E or U+200F
 abbrev pub begins_with_mark : List ℕ → Bool
 begins_with_mark t =
-    starts_with nat_eq t (0xD8 ∷ 0x9C ∷ []) || starts_with nat_eq t (0xE2 ∷ 0x80 ∷ 0x8E ∷ []) || starts_with nat_eq t (0xE2 ∷ 0x80 ∷ 0x8F ∷ [])
+    starts_with nat_eq t (0xD8 ∷ 0x9C ∷ []) || starts_with nat_eq t (0xE2 ∷ 0x80 ∷ 0x8E ∷ [])
+    || starts_with nat_eq t (0xE2 ∷ 0x80 ∷ 0x8F ∷ [])
 
 -- the columns that a text takes: one for each byte that begins a character, but none for such a mark
 abbrev pub columns_of : List ℕ → ℕ

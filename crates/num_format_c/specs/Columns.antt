@@ -1,5 +1,6 @@
 -- What the calls of C do with columns.
-use Rattle.std.specs.Prelude.{◌≡◌, ◌≢◌, ℕ, ◌+◌, ◌^◌, ◌<◌, ◌≤◌, min, ℤ, pos, List, length, slice_index_or, slice_range, Option, Result, IsTrue, MatchOption, MatchResult}
+use Rattle.std.specs.Prelude.{◌≡◌, ◌≢◌, ℕ, ◌+◌, ◌^◌, ◌<◌, ◌≤◌, min, ℤ, pos, List, length, slice_index_or, slice_range}
+use Rattle.std.specs.Prelude.{Option, Result, IsTrue, MatchOption, MatchResult}
 use Rattle.num_format.specs.Format.{FormatData}
 use Rattle.std.specs.Int.{w128}
 use Rattle.num_format.specs.Kind.{I128, Kind}
@@ -65,7 +66,8 @@ PrintsNumbers value_code offset_code s values old new result =
     MatchOption (value_type_of value_code) (Fails BadType old new result) (λ type.
     MatchOption (offset_type_of offset_code) (Fails BadType old new result) (λ t.
     UnderFormat s (λ f. MatchType type (λ v.
-    PrintsCounted (row_text v (text_of f) values.bytes.now values.validity) (row_count v values.bytes.now values.validity) t old new result)) old new result))
+    PrintsCounted (row_text v (text_of f) values.bytes.now values.validity)
+    (row_count v values.bytes.now values.validity) t old new result)) old new result))
 
 -- decimals of one scale are printed
 pub record PrintsDecimals (scale offset_code : ℕ) (s : NumFormat) (units : Values) (old new : Printed) (result : ℤ) : Type 0 where
@@ -88,7 +90,8 @@ abbrev pub MeasuresNumbers : (value_code : ℕ) → NumFormat → Values → (ol
 MeasuresNumbers value_code s values old new result =
     MatchOption (value_type_of value_code) (Fails BadType old new result) (λ type.
     UnderFormat s (λ f. MatchType type (λ v.
-    MeasuresCounted (row_text v (text_of f) values.bytes.now values.validity) (row_count v values.bytes.now values.validity) old new result)) old new result)
+    MeasuresCounted (row_text v (text_of f) values.bytes.now values.validity)
+    (row_count v values.bytes.now values.validity) old new result)) old new result)
 
 -- that of the texts of decimals of one scale is written
 pub record MeasuresDecimals (scale : ℕ) (s : NumFormat) (units : Values) (old new : ℕ) (result : ℤ) : Type 0 where
@@ -122,7 +125,8 @@ pub record ParsesRow (Parses : RowParser) (has_value : Type 0) (s : NumFormat) (
 abbrev pub AreParsed : RowParser → Representation → OffsetType → NumFormat → Texts → (old new : Parsed) → (n : ℕ) → Type 0
 AreParsed Parses v t s c old new n =
     (k : ℕ) → k < n →
-    ParsesRow Parses (IsTrue (is_valid c.validity k)) s (slice_range c.bytes.now (offset_at t c.offsets.now k) (offset_at t c.offsets.now (k + 1)))
+    ParsesRow Parses (IsTrue (is_valid c.validity k)) s
+    (slice_range c.bytes.now (offset_at t c.offsets.now k) (offset_at t c.offsets.now (k + 1)))
     (number_at v old.values k) (number_at v new.values k) (slice_index_or new.statuses k (pos 0))
 
 -- a column of n rows has n + 1 offsets and n statuses
@@ -159,12 +163,16 @@ abbrev pub ParsesNumbers : (value_code offset_code mode : ℕ) → NumFormat →
 ParsesNumbers value_code offset_code mode s c old new result =
     MatchOption (value_type_of value_code) (Fails BadType old new result) (λ type.
     MatchOption (offset_type_of offset_code) (Fails BadType old new result) (λ t.
-    (mode ≡ 0 → ParsesUnder IsUnambiguous s (MatchType type (λ v. ParsesValues (Row (numbers v.kind) (λ z. z)) v t s c old new result)) old new result)
-    × (mode ≡ 2 → ParsesUnder IsTypable s (MatchType type (λ v. ParsesValues (Row (typed_numbers v.kind) (λ z. z)) v t s c old new result)) old new result)
-    × (mode ≢ 0 → mode ≢ 2 → ParsesUnder IsAny s (MatchType type (λ v. ParsesValues (ParsesInto v.kind) v t s c old new result)) old new result)))
+    (mode ≡ 0 → ParsesUnder IsUnambiguous s
+    (MatchType type (λ v. ParsesValues (Row (numbers v.kind) (λ z. z)) v t s c old new result)) old new result)
+    × (mode ≡ 2 → ParsesUnder IsTypable s
+    (MatchType type (λ v. ParsesValues (Row (typed_numbers v.kind) (λ z. z)) v t s c old new result)) old new result)
+    × (mode ≢ 0 → mode ≢ 2 → ParsesUnder IsAny s
+    (MatchType type (λ v. ParsesValues (ParsesInto v.kind) v t s c old new result)) old new result)))
 
 -- decimals of one scale are parsed
-pub record ParsesDecimals {E : Type 0} (p : Parsing FixedPoint E) (IsClear : FormatData → Type 0) (scale offset_code : ℕ) (s : NumFormat) (c : Texts) (old new : Parsed) (result : ℤ) : Type 0 where
+pub record ParsesDecimals {E : Type 0} (p : Parsing FixedPoint E) (IsClear : FormatData → Type 0) (scale offset_code : ℕ)
+    (s : NumFormat) (c : Texts) (old new : Parsed) (result : ℤ) : Type 0 where
   pub bad_scale : MAX_SCALE < scale → Fails BadScale old new result
   pub column : scale ≤ MAX_SCALE → MatchOption (offset_type_of offset_code) (Fails BadType old new result) (λ t.
       ParsesUnder IsClear s (ParsesValues (Row p (λ d. d.units)) decimal_units t s c old new result) old new result)
@@ -178,7 +186,8 @@ abbrev pub StoresBytes : Representation → (old new : List ℕ) → Result ℤ 
 StoresBytes v old new r result = MatchResult r (λ z. (result ≡ pos 0) × (v.number new ≡ z)) (λ status. Fails status old new result)
 
 -- one number of a type is parsed as people type it, and its bytes are written
-pub record ParsesTypedInto (v : Representation) (k : Kind) (s : NumFormat) (text : List ℕ) (old new : List ℕ) (at_old at_new : ℕ) (result : ℤ) : Type 0 where
+pub record ParsesTypedInto (v : Representation) (k : Kind) (s : NumFormat) (text : List ℕ) (old new : List ℕ)
+    (at_old at_new : ℕ) (result : ℤ) : Type 0 where
   pub bad_format : ¬ HasFormat s → Fails BadFormat old new result × (at_new ≡ at_old)
   pub bad_length : HasFormat s → ¬ (length old ≡ v.size) → Fails BadLength old new result × (at_new ≡ at_old)
   pub parsed : HasFormat s → length old ≡ v.size → Crosses (typed_numbers k) (StoresBytes v old new) s text at_old at_new result

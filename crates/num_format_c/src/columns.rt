@@ -58,7 +58,8 @@ struct NumberPrinter<'a, N: Value, F: Format> {
 impl<'a, N: Value, F: Format> Printer for NumberPrinter<'a, N, F> {
     ghost rows = { λ p. p.rows.len };
 
-    ghost text = { λ p. row_text N.repr (text_of (F.answers p.format.now)) p.rows.values.bytes.now p.rows.values.validity };
+    ghost text = { λ p. row_text N.repr (text_of (F.answers p.format.now))
+        p.rows.values.bytes.now p.rows.values.validity };
 
     fn len(&self) -> usize {
         self.rows.len
@@ -102,7 +103,8 @@ impl<'a, F: Format> DecimalPrinter<'a, F> {
 impl<'a, F: Format> Printer for DecimalPrinter<'a, F> {
     ghost rows = { λ p. p.rows.len };
 
-    ghost text = { λ p. row_text decimal_units (decimal_at p.scale (F.answers p.format.now)) p.rows.values.bytes.now p.rows.values.validity };
+    ghost text = { λ p. row_text decimal_units (decimal_at p.scale (F.answers p.format.now))
+        p.rows.values.bytes.now p.rows.values.validity };
 
     fn len(&self) -> usize {
         self.rows.len
@@ -284,7 +286,8 @@ fn measure_numbers<N: Value, F: Format>(
     values: &Values,
     len: &mut usize,
 ) -> Result<i32, Status>
-    ensures { MeasuresCounted (row_text N.repr (text_of (F.answers format.now)) values.now.bytes.now values.now.validity)
+    ensures { MeasuresCounted
+        (row_text N.repr (text_of (F.answers format.now)) values.now.bytes.now values.now.validity)
         (row_count N.repr values.now.bytes.now values.now.validity) len.old len.new (returned result) }
 {
     let rows = Rows::<N>::new(values)?;
@@ -507,8 +510,10 @@ pub fn parse_one(
     value: &mut [u8],
     at: &mut usize,
 ) -> Result<i32, Status>
-    ensures { MatchOption (value_type_of value_code) (Fails BadType value.old value.new (returned result) × (at.new ≡ at.old))
-        (λ type. MatchType type (λ v. ParsesTypedInto v v.kind format.now text.now value.old value.new at.old at.new (returned result))) }
+    ensures { MatchOption (value_type_of value_code)
+        (Fails BadType value.old value.new (returned result) × (at.new ≡ at.old))
+        (λ type. MatchType type
+        (λ v. ParsesTypedInto v v.kind format.now text.now value.old value.new at.old at.new (returned result))) }
 {
     let value_type = ValueType::from_code(value_code).ok_or(Status::BadType)?;
     let format = Held::new(format)?;
@@ -524,7 +529,8 @@ fn parse_one_of<F: Format>(
     at: &mut usize,
 ) -> Result<i32, Status>
     ensures { (s : NumFormat) → IsFormatOf (F.answers format.now) s
-        → MatchType value_type (λ v. ParsesTypedInto v v.kind s text.now value.old value.new at.old at.new (returned result)) }
+        → MatchType value_type
+        (λ v. ParsesTypedInto v v.kind s text.now value.old value.new at.old at.new (returned result)) }
 {
     for_type!(value_type, parse_number(format, text, value, at))
 }

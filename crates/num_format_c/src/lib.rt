@@ -1,12 +1,12 @@
 //! num-format for C: a static library over `num_format`, whose header is `num_format.h`.
 //!
-//! This file has the exports. They do no work of their own: [`calls`] and [`columns`] do it with Rust's types. [`format`]
-//! reads and fills the struct of a C program, [`layout`] has the values, texts and offsets of a column as bytes, and
-//! [`status`] and [`wide`] have what crosses to C: errors, and numbers of 128 bits by their halves.
+//! This file has the exports. They do no work of their own: [`calls`] and [`columns`] do it with Rust's types.
+//! [`format`] reads and fills the struct of a C program, [`layout`] has the values, texts and offsets of a column as
+//! bytes, and [`status`] and [`wide`] have what crosses to C: errors, and numbers of 128 bits by their halves.
 //!
-//! What programs are compiled with stays: the exports and their parameters, the fields of `NumFormat`, and the numbers of
-//! [`Status`](status::Status), `ValueType`, `OffsetType` and groupings. A change there is one of `num_format.h` too. All else
-//! may be changed.
+//! What programs are compiled with stays: the exports and their parameters, the fields of `NumFormat`, and the numbers
+//! of [`Status`](status::Status), `ValueType`, `OffsetType` and groupings. A change there is one of `num_format.h` too.
+//! All else may be changed.
 //!
 //! The header says what a C program has to know, and what it must ensure. The contracts here say
 //! what each call returns and writes, for any bytes of a struct and of a text.
@@ -394,7 +394,8 @@ pub extern "C" fn num_format_parse_typed(
     at: &mut usize,
 ) -> i32
     ensures { MatchOption (value_type_of value_type) (Fails BadType value.old value.new result × (at.new ≡ at.old))
-        (λ type. MatchType type (λ v. ParsesTypedInto v v.kind format.now text.now value.old value.new at.old at.new result)) }
+        (λ type. MatchType type
+        (λ v. ParsesTypedInto v v.kind format.now text.now value.old value.new at.old at.new result)) }
 {
     returned(columns::parse_one(format, value_type, text, value, at))
 }
@@ -466,7 +467,8 @@ pub extern "C" fn num_format_print_column_len(
     bit_offset: usize,
     len: &mut usize,
 ) -> i32
-    ensures { MeasuresNumbers value_type format.now (to_values values.entry bits.entry bit_offset) len.old len.new result }
+    ensures { MeasuresNumbers value_type format.now (to_values values.entry bits.entry bit_offset)
+        len.old len.new result }
 {
     let values = &Values::new(values, bits, bit_offset);
     returned(columns::measure(format, value_type, values, len))
@@ -477,8 +479,8 @@ pub extern "C" fn num_format_print_column_len(
 /// number of a null row stays, and its status is 0.
 ///
 /// Errors, in this order: a number of no type, a struct that has no format, a format under which a text can be
-/// misread unless it parses leniently, values that are not those of whole rows, another number of offsets or statuses or
-/// fewer bits than the rows need, an offset that is below the one before it, or past the bytes.
+/// misread unless it parses leniently, values that are not those of whole rows, another number of offsets or statuses
+/// or fewer bits than the rows need, an offset that is below the one before it, or past the bytes.
 #[unsafe(no_mangle)]
 pub extern "C" fn num_format_parse_column(
     format: &NumFormat,
@@ -492,7 +494,8 @@ pub extern "C" fn num_format_parse_column(
     bit_offset: usize,
     statuses: &mut [i32],
 ) -> i32
-    ensures { ParsesNumbers value_type offset_type mode format.now (to_texts offsets.entry bytes.entry bits.entry bit_offset)
+    ensures { ParsesNumbers value_type offset_type mode format.now
+        (to_texts offsets.entry bytes.entry bits.entry bit_offset)
         (to_parsed values.old statuses.old) (to_parsed values.new statuses.new) result }
 {
     let texts = &Texts::new(offsets, bytes, bits, bit_offset);
@@ -565,7 +568,8 @@ pub extern "C" fn num_format_parse_decimal_column(
     bit_offset: usize,
     statuses: &mut [i32],
 ) -> i32
-    ensures { ParsesDecimals (at_scale scale) MarksDecimals scale offset_type format.now (to_texts offsets.entry bytes.entry bits.entry bit_offset)
+    ensures { ParsesDecimals (at_scale scale) MarksDecimals scale offset_type format.now
+        (to_texts offsets.entry bytes.entry bits.entry bit_offset)
         (to_parsed units.old statuses.old) (to_parsed units.new statuses.new) result }
 {
     let texts = &Texts::new(offsets, bytes, bits, bit_offset);
@@ -586,7 +590,8 @@ pub extern "C" fn num_format_parse_typed_decimal_column(
     bit_offset: usize,
     statuses: &mut [i32],
 ) -> i32
-    ensures { ParsesDecimals (typed_at_scale scale) TypesDecimals scale offset_type format.now (to_texts offsets.entry bytes.entry bits.entry bit_offset)
+    ensures { ParsesDecimals (typed_at_scale scale) TypesDecimals scale offset_type format.now
+        (to_texts offsets.entry bytes.entry bits.entry bit_offset)
         (to_parsed units.old statuses.old) (to_parsed units.new statuses.new) result }
 {
     let texts = &Texts::new(offsets, bytes, bits, bit_offset);

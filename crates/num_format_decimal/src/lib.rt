@@ -1,9 +1,9 @@
 //! Numbers of a fixed number of decimals, as amounts of money are written: exact, and printed under any format
 //! of `num_format`.
 //!
-//! Each file imports only earlier ones of `error`, `decimal`, `powers`, `rounding`, `arithmetic`, `comparing`, `buffer`,
-//! `length`, `printing`, `reading`, `parsing`, `parser`, `marks` and `laws`. Any may be changed. Whole numbers are printed
-//! and parsed by the crates below.
+//! Each file imports only earlier ones of `error`, `decimal`, `powers`, `rounding`, `arithmetic`, `comparing`,
+//! `buffer`, `length`, `printing`, `reading`, `parsing`, `parser`, `marks` and `laws`. Any may be changed. Whole
+//! numbers are printed and parsed by the crates below.
 //!
 //! A [`Decimal`] is a whole number of units and a scale: 150 at scale 2 is 1.50.
 //!

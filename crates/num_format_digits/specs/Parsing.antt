@@ -34,7 +34,7 @@ abbrev pub IsDigitsCause : {X E : Type 0} → Type 0 → E → ((ℕ → ℕ) �
 IsDigitsCause Taken ambiguous place parses z t (Number e) =
     (¬ Taken × (e ≡ ambiguous))
     ⊎ (HasOneSet z t × (length (ascii_of z t) ≤ MAX_DECIMAL_LEN)
-        × ((inner : _) × parses (ascii_of z t) (Err inner) × (e ≡ place (place_in z t) inner)))
+    × ((inner : _) × parses (ascii_of z t) (Err inner) × (e ≡ place (place_in z t) inner)))
 IsDigitsCause Taken ambiguous place parses z t e = Taken × IsTextCause z t e
 
 -- what parsing returns: what the text with 0 to 9 is parsed as, if each of its numeric characters is a digit of the set, or the cause

@@ -14,7 +14,8 @@ use Rattle.num_format_parsing.specs.Strict.{SpellsNumber, StopsAt, IsExpected, I
 use Rattle.num_format_parsing.specs.declared.reading.Reading.{Reading}
 use Rattle.num_format_parsing.specs.declared.reading.Reading.TheVariants.{Number, TooLarge, Unspelled}
 use Rattle.num_format_parsing.specs.declared.error.StrictError.{StrictError}
-use Rattle.num_format_parsing.specs.declared.error.StrictError.TheVariants.{AmbiguousFormat, NotUtf8, Unexpected, NoDigit, Misspelled, OutOfRange}
+use Rattle.num_format_parsing.specs.declared.error.StrictError.TheVariants.{AmbiguousFormat, NotUtf8, Unexpected, NoDigit, Misspelled}
+use Rattle.num_format_parsing.specs.declared.error.StrictError.TheVariants.{OutOfRange}
 use Rattle.num_format_parsing.proofs.SpellingLemmas.{figures-spelled, is_negative-pos, no_other-spelled, spelled-once, unexpected-none}
 
 stops-not : (f : FormatData) (t : List ℕ) (a : ℕ) → StopsAt f t a → IsExpected f t → ⊥

@@ -10,7 +10,8 @@ use Rattle.num_format_int.specs.Kind.{Kind, IsValueOf}
 use Rattle.num_format_int.specs.Text.{text_of}
 use Rattle.num_format_parsing.specs.Reading.{figures, is_negative_text, is_other_numeral}
 use Rattle.num_format_parsing.specs.declared.error.StrictError.{StrictError}
-use Rattle.num_format_parsing.specs.declared.error.StrictError.TheVariants.{AmbiguousFormat, NotUtf8, Unexpected, NoDigit, Misspelled, OutOfRange}
+use Rattle.num_format_parsing.specs.declared.error.StrictError.TheVariants.{AmbiguousFormat, NotUtf8, Unexpected, NoDigit, Misspelled}
+use Rattle.num_format_parsing.specs.declared.error.StrictError.TheVariants.{OutOfRange}
 
 -- a text without digits and other numeric characters
 pub record HasNoNumeral (text : List ℕ) : Type 0 where

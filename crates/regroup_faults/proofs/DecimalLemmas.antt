@@ -5,7 +5,8 @@ use Rattle.std.proofs.lemmas.Bool.Decides.{Decides-and, Decides-like, Decides-lt
 use Rattle.std.specs.Prelude.{FitsSigned, MatchOption, negsuc, pos, suc, zero, ℤ, ◌&&◌, ◌||◌}
 use Rattle.num_format_decimal.specs.FixedPoint.{FixedPoint, fixed_point}
 use Rattle.num_format.specs.Format.{FormatData, HasUtf8Texts}
-use Rattle.num_format_decimal.specs.Parsing.{IsDecimalCause, ParsesDecimal, SpellsDecimal, SpellsNone, after_mark, unexpected_in_decimal, with_separators, without_separators}
+use Rattle.num_format_decimal.specs.Parsing.{IsDecimalCause, ParsesDecimal, SpellsDecimal, SpellsNone, after_mark, unexpected_in_decimal}
+use Rattle.num_format_decimal.specs.Parsing.{with_separators, without_separators}
 use Rattle.num_format_decimal.specs.Marks.{IsPlainFormat, MarksDecimals}
 use Rattle.num_format_decimal.specs.declared.parsing.ParseDecimalError.{ParseDecimalError}
 use Rattle.num_format_decimal.specs.Text.{decimal_text}
@@ -161,10 +162,14 @@ module _ (f : FormatData) (utf8 : HasUtf8Texts f) where
     why-is AmbiguousFormat cause = rw (unmarked cause) refl
     why-is NotUtf8 cause = rw (marks-Decides.1 cause.0, false_from_ne_true (is_utf8 t) (λ yes. cause.1 (IsUtf8-from_is_utf8 t yes))) refl
     why-is (Unexpected at) cause = why-unspelled cause.0 cause.1.spells_none ∙ ap (why_left f t) cause.1.rest ∙ left-at at cause.1.inside
-    why-is NoDigit cause = why-unspelled cause.0 cause.1.expected.spells_none ∙ ap (why_left f t) cause.1.expected.rest ∙ rw cause.1.fault refl
+    why-is NoDigit cause = why-unspelled cause.0 cause.1.expected.spells_none ∙ ap (why_left f t) cause.1.expected.rest
+        ∙ rw cause.1.fault refl
     why-is TooManyDecimals cause =
-        let many : nat_le (length (after_mark f t)) MAX_SCALE ≡ false = false_from_ne_true _ (λ few. omega (arith, leb-true _ _ few, cause.1.fault.1)) in
-        why-unspelled cause.0 cause.1.expected.spells_none ∙ ap (why_left f t) cause.1.expected.rest ∙ rw (some-digit cause.1.fault.0, many) refl
+        let many : nat_le (length (after_mark f t)) MAX_SCALE ≡ false =
+        false_from_ne_true _ (λ few. omega (arith, leb-true _ _ few, cause.1.fault.1)) in
+        why-unspelled cause.0 cause.1.expected.spells_none ∙ ap (why_left f t) cause.1.expected.rest
+        ∙ rw (some-digit cause.1.fault.0, many) refl
     why-is Misspelled cause =
-        why-unspelled cause.0 cause.1.expected.spells_none ∙ ap (why_left f t) cause.1.expected.rest ∙ rw (some-digit cause.1.fault.0, le-leb _ _ cause.1.fault.1) refl
+        why-unspelled cause.0 cause.1.expected.spells_none ∙ ap (why_left f t) cause.1.expected.rest
+        ∙ rw (some-digit cause.1.fault.0, le-leb _ _ cause.1.fault.1) refl
     why-is OutOfRange cause = why-spelled cause.0 cause.1.decimal cause.1.spelled cause.1.bound

@@ -12,10 +12,12 @@ use Rattle.num_format_decimal.specs.Parsing.{DecimalResult, ParsesDecimal}
 use Rattle.num_format_decimal.specs.declared.buffer.TheConstants.{MAX_DECIMAL_LEN}
 use Rattle.num_format_decimal.specs.declared.parsing.ParseDecimalError.{ParseDecimalError}
 use Rattle.num_format_decimal.specs.declared.parsing.ParseDecimalError.TheVariants as decimal
-use Rattle.num_format_typed.specs.Typed.{IsTypable, TypedDecimalResult, TypedResult, core_of, map_error, place_in, placed_decimal, typed_text}
+use Rattle.num_format_typed.specs.Typed.{IsTypable, TypedDecimalResult, TypedResult, core_of, map_error, place_in, placed_decimal}
+use Rattle.num_format_typed.specs.Typed.{typed_text}
 use Rattle.num_format_typed.specs.declared.typed.TypedError.{TypedError}
 use Rattle.num_format_typed.specs.declared.typed.TypedError.TheVariants.{Number, TooLong}
-use Rattle.regroup_faults.proofs.DecimalLemmas.{decimal_read-none, decimal_read-parsed, marks-Decides, parsed-utf8, plain-marks, why-is, why-parsed}
+use Rattle.regroup_faults.proofs.DecimalLemmas.{decimal_read-none, decimal_read-parsed, marks-Decides, parsed-utf8, plain-marks, why-is}
+use Rattle.regroup_faults.proofs.DecimalLemmas.{why-parsed}
 use Rattle.regroup_faults.specs.Decimals.{decimal_read, typed_read, types_decimals}
 use Rattle.regroup_faults.specs.Messages.{why_in, why_placed, why_refused, why_untyped}
 use Rattle.regroup_faults.specs.declared.message.Why.{Why}
@@ -68,34 +70,45 @@ module _ (f : FormatData) (utf8 : HasUtf8Texts f) where
     typed-utf8 d (TypedResult.too_long taken e parses text long is) = absurd (cc is)
     typed-utf8 d (TypedResult.typed taken e parses text short strict second is) = text
 
-    short-or : (strict : Result FixedPoint ParseDecimalError) → DecimalResult f (typed_text f t) strict → decimal_read f (typed_text f t) ≡ result_ok strict
+    short-or : (strict : Result FixedPoint ParseDecimalError) → DecimalResult f (typed_text f t) strict
+        → decimal_read f (typed_text f t) ≡ result_ok strict
     short-or (Ok d) second = decimal_read-parsed f utf8 (typed_text f t) d ((second.decimal d).0 refl)
     short-or (Err e) second = decimal_read-none f utf8 (typed_text f t) (λ d parsed. let is = (second.decimal d).1 parsed in absurd (cc is))
 
-    pub typed_read-is : IsUtf8 t → (r : Result FixedPoint (TypedError ParseDecimalError)) → TypedDecimalResult f t r → typed_read f t ≡ result_ok r
+    pub typed_read-is : IsUtf8 t → (r : Result FixedPoint (TypedError ParseDecimalError)) → TypedDecimalResult f t r
+        → typed_read f t ≡ result_ok r
     unfolding typed_read
-    typed_read-is text r (TypedResult.format_refused not is) = rw (false_from_ne_true (types_decimals f) (λ yes. not (types-Decides.0 yes)), is) refl
-    typed_read-is text r (TypedResult.printed taken d parses is) = rw (types-Decides.1 taken, decimal_read-parsed f utf8 t d ((parses.decimal d).0 refl), is) refl
+    typed_read-is text r (TypedResult.format_refused not is) =
+        rw (false_from_ne_true (types_decimals f) (λ yes. not (types-Decides.0 yes)), is) refl
+    typed_read-is text r (TypedResult.printed taken d parses is) =
+        rw (types-Decides.1 taken, decimal_read-parsed f utf8 t d ((parses.decimal d).0 refl), is) refl
     typed_read-is text r (TypedResult.no_text taken e parses not is) = absurd (not text)
     typed_read-is text r (TypedResult.too_long taken e parses utf8_text long is) =
-        let many : nat_le (length (typed_text f t)) MAX_DECIMAL_LEN ≡ false = false_from_ne_true _ (λ few. omega (arith, leb-true _ _ few, long)) in
+        let many : nat_le (length (typed_text f t)) MAX_DECIMAL_LEN ≡ false =
+        false_from_ne_true _ (λ few. omega (arith, leb-true _ _ few, long)) in
         rw (types-Decides.1 taken, refused-none e parses, many, is) refl
     typed_read-is text r (TypedResult.typed taken e parses utf8_text short (Ok d) second is) =
         rw (types-Decides.1 taken, refused-none e parses, le-leb _ _ short, short-or (Ok d) second, is) refl
     typed_read-is text r (TypedResult.typed taken e parses utf8_text short (Err e2) second is) =
         rw (types-Decides.1 taken, refused-none e parses, le-leb _ _ short, short-or (Err e2) second, is) refl
 
-    why-strict : (strict : Result FixedPoint ParseDecimalError) → DecimalResult f (typed_text f t) strict → (r : Result FixedPoint (TypedError ParseDecimalError)) →
+    why-strict : (strict : Result FixedPoint ParseDecimalError) → DecimalResult f (typed_text f t) strict
+        → (r : Result FixedPoint (TypedError ParseDecimalError)) →
         r ≡ map_error (placed_decimal (place_in f t)) strict → why_placed (place_in f t) (why_refused f (typed_text f t)) ≡ why_result r
     why-strict (Ok d) second r is = rw (why-parsed f utf8 (typed_text f t) d ((second.decimal d).0 refl), is) refl
     why-strict (Err e) second r is = rw (why-is f utf8 (typed_text f t) e ((second.refused e).0 refl), is) (in-placed (place_in f t) e)
 
-    pub why_untyped-is : IsUtf8 t → (r : Result FixedPoint (TypedError ParseDecimalError)) → TypedDecimalResult f t r → why_untyped f t ≡ why_result r
+    pub why_untyped-is : IsUtf8 t → (r : Result FixedPoint (TypedError ParseDecimalError)) → TypedDecimalResult f t r
+        → why_untyped f t ≡ why_result r
     unfolding why_untyped
-    why_untyped-is text r (TypedResult.format_refused not is) = rw (false_from_ne_true (types_decimals f) (λ yes. not (types-Decides.0 yes)), is) refl
-    why_untyped-is text r (TypedResult.printed taken d parses is) = rw (types-Decides.1 taken, decimal_read-parsed f utf8 t d ((parses.decimal d).0 refl), is) refl
+    why_untyped-is text r (TypedResult.format_refused not is) =
+        rw (false_from_ne_true (types_decimals f) (λ yes. not (types-Decides.0 yes)), is) refl
+    why_untyped-is text r (TypedResult.printed taken d parses is) =
+        rw (types-Decides.1 taken, decimal_read-parsed f utf8 t d ((parses.decimal d).0 refl), is) refl
     why_untyped-is text r (TypedResult.no_text taken e parses not is) = absurd (not text)
-    why_untyped-is text r (TypedResult.too_long taken e parses utf8_text long is) = rw (types-Decides.1 taken, refused-none e parses, lt-ltb _ _ long, is) refl
+    why_untyped-is text r (TypedResult.too_long taken e parses utf8_text long is) =
+        rw (types-Decides.1 taken, refused-none e parses, lt-ltb _ _ long, is) refl
     why_untyped-is text r (TypedResult.typed taken e parses utf8_text short strict second is) =
-        let few : nat_lt MAX_DECIMAL_LEN (length (typed_text f t)) ≡ false = false_from_ne_true _ (λ many. omega (arith, ltb-true _ _ many, short)) in
+        let few : nat_lt MAX_DECIMAL_LEN (length (typed_text f t)) ≡ false =
+        false_from_ne_true _ (λ many. omega (arith, ltb-true _ _ many, short)) in
         rw (types-Decides.1 taken, refused-none e parses, few) (why-strict strict second r is)

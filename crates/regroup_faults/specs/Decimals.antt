@@ -59,5 +59,6 @@ types_decimals format =
 unfoldable pub typed_read : FormatData → List ℕ → Option FixedPoint
 typed_read format text =
     if types_decimals format
-    then option_or (decimal_read format text) (if nat_le (length (typed_text format text)) MAX_DECIMAL_LEN then decimal_read format (typed_text format text) else None)
+    then option_or (decimal_read format text)
+    (if nat_le (length (typed_text format text)) MAX_DECIMAL_LEN then decimal_read format (typed_text format text) else None)
     else None

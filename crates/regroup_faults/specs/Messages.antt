@@ -1,5 +1,6 @@
 -- The messages that name faults.
-use Rattle.std.specs.Prelude.{ℕ, ◌+◌, ◌-◌, ◌/◌, ◌%◌, nat_le, nat_lt, ◌==◌, Bool, ◌&&◌, not, is_some, if◌then◌else◌, List, [], ◌∷◌, ◌++◌, length, codes, Option, None, Some}
+use Rattle.std.specs.Prelude.{ℕ, ◌+◌, ◌-◌, ◌/◌, ◌%◌, nat_le, nat_lt, ◌==◌, Bool, ◌&&◌, not, is_some, if◌then◌else◌}
+use Rattle.std.specs.Prelude.{List, [], ◌∷◌, ◌++◌, length, codes, Option, None, Some}
 use Rattle.std.specs.Fmt.{decimal}
 use Rattle.std.specs.Char.{is_ascii_digit}
 use Rattle.std.specs.List.{find, flat_map, list_any, zip}
@@ -40,7 +41,8 @@ why_in _ = why.Unknown
 
 -- what is known of a text that spells no decimal, by what is left of it from the first byte on that strict parsing does not expect
 abbrev pub why_left : FormatData → (text rest : List ℕ) → Why
-why_left from text [] = if not (bytes_eq (figures text) []) && nat_le (length (after_mark from text)) MAX_SCALE then why.Misspelled else why.Unknown
+why_left from text [] =
+    if not (bytes_eq (figures text) []) && nat_le (length (after_mark from text)) MAX_SCALE then why.Misspelled else why.Unknown
 why_left from text (b ∷ rest) = why.Unexpected (length text - length (b ∷ rest))
 
 -- nothing where there is a decimal
@@ -51,7 +53,8 @@ unless_spelled (Some decimal) known = why.Unknown
 -- why strict parsing refuses a text, if it does, and decimals can be told under the format
 unfoldable pub why_refused : FormatData → List ℕ → Why
 why_refused from text =
-    if marks_decimals from && is_utf8 text then unless_spelled (spelled from text) (why_left from text (unexpected_in_decimal from text)) else why.Unknown
+    if marks_decimals from && is_utf8 text
+    then unless_spelled (spelled from text) (why_left from text (unexpected_in_decimal from text)) else why.Unknown
 
 -- the first characters in which two texts differ
 abbrev pub first_change : List ℕ → List ℕ → Option (ℕ × ℕ)
@@ -188,7 +191,8 @@ line_message name (Some number) cause hint =
 
 -- the message that names the fault of a line, in an input of this name that is read under the format; other faults have none
 abbrev pub fault_message : (name : List ℕ) → Reading → FormatData → Fault → List ℕ
-fault_message name reading from fault = line_message name (line_of fault) (cause (why_not reading from (refused_in fault)) fault) (hint fault)
+fault_message name reading from fault =
+    line_message name (line_of fault) (cause (why_not reading from (refused_in fault)) fault) (hint fault)
 
 -- the messages that name faults, one after the other
 abbrev pub messages : (name : List ℕ) → Reading → FormatData → List Fault → List ℕ

@@ -62,7 +62,8 @@ pub(crate) enum Why {
     Misspelled,
     /// With the format's own characters it has more bytes than the text of any number.
     TooLong,
-    /// So many bytes are before an unexpected one, where a person typed the first character for the second, which the format has.
+    /// So many bytes are before an unexpected one, where a person typed the first character for the second, which the
+    /// format has.
     Typed(usize, char, char),
 }
 
@@ -76,8 +77,8 @@ macro_rules! joined {
 }
 
 /// Returns the message that names the fault of a line, with a newline, in an input of this name that is read under the
-/// format. It is empty for a fault that no line has. It ends with a hint for bytes that are not UTF-8, and for a text without a
-/// digit in the first line, which may be a header.
+/// format. It is empty for a fault that no line has. It ends with a hint for bytes that are not UTF-8, and for a text
+/// without a digit in the first line, which may be a header.
 ///
 /// ```rust
 /// let fault = RegroupFault::TooLong(7, 4096);
@@ -197,7 +198,8 @@ fn few_text(count: FieldCount) -> ArrayString<MAX_CAUSE_LEN>
     )
 }
 
-/// Returns a message with the name of the input and the number of a line before the cause and the hint, or nothing where no line is at fault.
+/// Returns a message with the name of the input and the number of a line before the cause and the hint, or nothing
+/// where no line is at fault.
 fn line_message(
     name: &str,
     line: Option<u64>,
@@ -402,7 +404,8 @@ fn why_meant<F: Format>(text: &str, from: &F, before: usize) -> Why
     why_changed(before, first_change(text, printed.as_str()))
 }
 
-/// Returns the same by the first characters in which the text differs from that of its number. A digit stands for no other character.
+/// Returns the same by the first characters in which the text differs from that of its number. A digit stands for no
+/// other character.
 fn why_changed(before: usize, change: Option<(char, char)>) -> Why
     ensures { result ≡ why_changed before change }
 {

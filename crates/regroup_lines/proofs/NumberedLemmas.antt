@@ -1,5 +1,13 @@
 -- What is written in place of a line depends on the line's number in the fault alone.
-use Rattle.regroup_lines.proofs.Common.{failed_writer, Bool, Err, Fault, FewFields, Field, FieldNotText, Fields, FixedPoint, FormatData, Lenient, Line, List, MARK, None, NotText, Ok, Option, ParseNumber, Reading, Refusal, Result, Rules, Some, Span, Strict, TooMany, Typed, [], after, ap, are_enough, between, body_written, cases_Bool, cut_text, inl, inr, decimal_read, decimal_text, decimal_written, drop, typed_read, false, field_count, field_read, field_with, field_written, fields_of, fields_written, if◌then◌else◌, in_field, is_barred, is_chosen, is_utf8, join_with_byte, length, list_any, nat_le, number_place, number_read, number_written, numbers_replaced, ok_or, option_map, output_delimiter, passes_mark, place_written, refl, result_map_both, slice_range, take, text_fault, text_of, trimmed, true, with_first, ℕ, ℤ, ◌&&◌, ◌++◌, ◌+◌, ◌==◌, ◌∙◌, ◌∷◌, ◌≡◌}
+use Rattle.regroup_lines.proofs.Common.{failed_writer, Bool, Err, Fault, FewFields, Field, FieldNotText, Fields, FixedPoint, FormatData}
+use Rattle.regroup_lines.proofs.Common.{Lenient, Line, List, MARK, None, NotText, Ok, Option, ParseNumber, Reading, Refusal, Result, Rules}
+use Rattle.regroup_lines.proofs.Common.{Some, Span, Strict, TooMany, Typed, [], after, ap, are_enough, between, body_written, cases_Bool}
+use Rattle.regroup_lines.proofs.Common.{cut_text, inl, inr, decimal_read, decimal_text, decimal_written, drop, typed_read, false}
+use Rattle.regroup_lines.proofs.Common.{field_count, field_read, field_with, field_written, fields_of, fields_written, if◌then◌else◌}
+use Rattle.regroup_lines.proofs.Common.{in_field, is_barred, is_chosen, is_utf8, join_with_byte, length, list_any, nat_le, number_place}
+use Rattle.regroup_lines.proofs.Common.{number_read, number_written, numbers_replaced, ok_or, option_map, output_delimiter, passes_mark}
+use Rattle.regroup_lines.proofs.Common.{place_written, refl, result_map_both, slice_range, take, text_fault, text_of, trimmed, true}
+use Rattle.regroup_lines.proofs.Common.{with_first, ℕ, ℤ, ◌&&◌, ◌++◌, ◌+◌, ◌==◌, ◌∙◌, ◌∷◌, ◌≡◌}
 use Rattle.regroup_lines.specs.declared.rules.Span.TheVariants as span
 
 -- the same fault of a text, in the line of this number
@@ -47,8 +55,10 @@ module _ (rules : Rules) (from to : FormatData) (n m : ℕ) where
   of_text (Some text) refusal = refl
   of_text None refusal = refl
 
-  by_decimal : (decimal : Option FixedPoint) (text : List ℕ) → decimal_written decimal to n text ≡ numbered n (decimal_written decimal to m text)
-  by_decimal decimal text = either n (is_utf8 text) _ _ (Err (NotText n)) (Err (NotText m)) (of_text (option_map (decimal_text to) decimal) (ParseNumber (cut_text text))) refl
+  by_decimal : (decimal : Option FixedPoint) (text : List ℕ)
+      → decimal_written decimal to n text ≡ numbered n (decimal_written decimal to m text)
+  by_decimal decimal text = either n (is_utf8 text) _ _ (Err (NotText n)) (Err (NotText m))
+      (of_text (option_map (decimal_text to) decimal) (ParseNumber (cut_text text))) refl
 
   number : (reading : Reading) (text : List ℕ) → number_written reading from to n text ≡ numbered n (number_written reading from to m text)
   number Lenient text = either n (is_utf8 text) _ _ (Err (NotText n)) (Err (NotText m)) (of_value (number_read from text)) refl

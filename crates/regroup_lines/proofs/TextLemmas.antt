@@ -1,5 +1,9 @@
 -- The number in the text of a line.
-use Rattle.regroup_lines.proofs.Common.{ParseDecimalError, Result, DecimalResult, LineFault, line_fault_of, result_map_both, result_or, ◌∙◌, Err, append-nil, fixed_point, FixedPoint, FormatData, HasUtf8Texts, IsUtf8, IsUtf8-from_is_utf8, Lenient, List, Ok, ParsesDecimal, Refused, Strict, ap, cases_Bool, decimal_text, denoted, false, false_from_ne_true, inl, inr, is_utf8, is_utf8-from_IsUtf8, number_written, refl, sym, text_fault, text_of, None, Typed, typed_read, ℕ, ℤ, ◌≡◌}
+use Rattle.regroup_lines.proofs.Common.{ParseDecimalError, Result, DecimalResult, LineFault, line_fault_of, result_map_both, result_or, ◌∙◌}
+use Rattle.regroup_lines.proofs.Common.{Err, append-nil, fixed_point, FixedPoint, FormatData, HasUtf8Texts, IsUtf8, IsUtf8-from_is_utf8}
+use Rattle.regroup_lines.proofs.Common.{Lenient, List, Ok, ParsesDecimal, Refused, Strict, ap, cases_Bool, decimal_text, denoted, false}
+use Rattle.regroup_lines.proofs.Common.{false_from_ne_true, inl, inr, is_utf8, is_utf8-from_IsUtf8, number_written, refl, sym, text_fault}
+use Rattle.regroup_lines.proofs.Common.{text_of, None, Typed, typed_read, ℕ, ℤ, ◌≡◌}
 use Rattle.num_format.specs.Kind.{signed}
 use Rattle.std.proofs.Math.Nat.{div-one}
 use Rattle.std.specs.Prelude.{unsigned_abs}
@@ -34,7 +38,8 @@ module _ (from to : FormatData) (number : ℕ) (text : List ℕ) where
   typed-refused : (typed_read from text ≡ None) → number_written Typed from to number text ≡ Err (text_fault number text)
   typed-refused none = elim (cases_Bool (is_utf8 text)) [ inl is ↦ rw (is, none) refl | inr other ↦ rw other refl ]
 
-  pub typed-read : HasUtf8Texts from → (r : Result FixedPoint (TypedError ParseDecimalError)) → TypedDecimalResult from text r → (fault : LineFault) → line_fault_of fault ≡ text_fault number text →
+  pub typed-read : HasUtf8Texts from → (r : Result FixedPoint (TypedError ParseDecimalError)) → TypedDecimalResult from text r
+      → (fault : LineFault) → line_fault_of fault ≡ text_fault number text →
       number_written Typed from to number text ≡ result_map_both (decimal_text to) line_fault_of (result_or r (Err fault))
   typed-read utf8 (Ok d) result fault same =
       let is = typed-utf8 from utf8 text d result in

@@ -16,7 +16,8 @@ use num_format_typed::{TypedError, TypedParser};
 use regroup_faults::Reading;
 use std::marker::Model;
 
-/// A parser of the numbers of an input. It asks their format for its symbols once, but for lenient reading. A contract sees it as the data of the format.
+/// A parser of the numbers of an input. It asks their format for its symbols once, but for lenient reading. A contract
+/// sees it as the data of the format.
 #[derive(Drop)]
 pub(crate) struct Parser<'a, F: Format> {
     /// The format.
@@ -38,7 +39,8 @@ impl<'a, F: Format> Model for Parser<'a, F> {
     ghost view = { λ p. F.answers p.format.now };
 
     ghost invariant = { λ p. HasUtf8Texts (F.answers p.format.now)
-        × MatchOption p.decimals (¬ (MarksDecimals (F.answers p.format.now))) (λ parser. parser ≡ F.answers p.format.now)
+        × MatchOption p.decimals (¬ (MarksDecimals (F.answers p.format.now)))
+        (λ parser. parser ≡ F.answers p.format.now)
         × MatchOption p.typed (¬ (IsTypable (F.answers p.format.now))) (λ parser. parser ≡ F.answers p.format.now) };
 }
 

@@ -97,7 +97,8 @@ impl<'a> Files<'a> {
         }
     }
 
-    /// Returns whether the file of this name is written already, or is read: as one of the inputs, or for the format of `@FILE`.
+    /// Returns whether the file of this name is written already, or is read: as one of the inputs, or for the format of
+    /// `@FILE`.
     fn uses(&self, name: &str, words: &[&str], inputs: &[&str]) -> bool {
         let Some(id) = FileId::named(self.rt, name) else {
             return false;
@@ -149,8 +150,9 @@ impl Open for Files<'_> {
     }
 }
 
-/// Opens `/dev/null` in place of each standard stream that is closed, so that the next file that is opened does not become that stream:
-/// for writing where the program reads and for reading where it writes, so that it still fails there. Returns what has to stay open.
+/// Opens `/dev/null` in place of each standard stream that is closed, so that the next file that is opened does not
+/// become that stream: for writing where the program reads and for reading where it writes, so that it still fails
+/// there. Returns what has to stay open.
 fn stand_ins(rt: &HostRuntime) -> [Option<File>; 3] {
     let is_closed = |stream: &str| fs::metadata(rt, stream).is_err();
     let input = if is_closed("/dev/stdin") {

@@ -1,5 +1,6 @@
 -- The formats that words and files name, and what is wrong with those that name none.
-use Rattle.std.specs.Prelude.{◌≡◌, ℕ, ◌==◌, Bool, true, false, not, ◌&&◌, ◌||◌, if◌then◌else◌, nat_eq, List, [], ◌∷◌, ◌++◌, length, drop, codes, Option, None, Some, is_some, option_and_then, Result, Ok, Err, ⊤, ◌⊎◌}
+use Rattle.std.specs.Prelude.{◌≡◌, ℕ, ◌==◌, Bool, true, false, not, ◌&&◌, ◌||◌, if◌then◌else◌, nat_eq, List, []}
+use Rattle.std.specs.Prelude.{◌∷◌, ◌++◌, length, drop, codes, Option, None, Some, is_some, option_and_then, Result, Ok, Err, ⊤, ◌⊎◌}
 use Rattle.std.specs.Char.{is_ascii_digit, is_ascii_whitespace}
 use Rattle.std.specs.List.{list_any, starts_with}
 use Rattle.std.specs.Option.{option_map}
@@ -27,7 +28,8 @@ use Rattle.regroup_lines.specs.declared.rules.Span.TheVariants as span
 use Rattle.regroup_stream.specs.Files.{HoldsFormat, Unfit, unfit_message, unfit_of}
 use Rattle.regroup_stream.specs.Files.Unfit.{Unread}
 use Rattle.regroup_stream.specs.declared.words.Ambiguity.{Ambiguity}
-use Rattle.regroup_stream.specs.declared.words.Ambiguity.TheVariants.{NoMinusSign, NoDecimalMark, SameSymbol, NumeralInSymbol, TypedAlike, BlankMinusSign, PrintsDelimiter}
+use Rattle.regroup_stream.specs.declared.words.Ambiguity.TheVariants.{NoMinusSign, NoDecimalMark, SameSymbol, NumeralInSymbol}
+use Rattle.regroup_stream.specs.declared.words.Ambiguity.TheVariants.{TypedAlike, BlankMinusSign, PrintsDelimiter}
 use Rattle.regroup_stream.specs.declared.words.Misuse.{Misuse}
 use Rattle.regroup_stream.specs.declared.words.Misuse.TheVariants as misuse
 use Rattle.regroup_stream.specs.declared.words.Source.{Source}
@@ -95,7 +97,7 @@ NamesPlainOrOther false word found = NamesCustomOrLocale (starts_with nat_eq wor
 abbrev pub NamesFormat : List ℕ → Option FormatData → Type 0
 NamesFormat word found = NamesPlainOrOther (bytes_eq word (codes "plain")) word found
 
--- numbers are read under the format: strictly only where each decimal parses back from its text, and typed where it has one meaning then too
+-- numbers are read under the format: strictly only where each decimal parses back from its text, and typed where that has one meaning
 abbrev pub IsReadUnder : Reading → FormatData → Type 0
 IsReadUnder Strict format = MarksDecimals format
 IsReadUnder Typed format = MarksDecimals format × IsTypable format
@@ -174,7 +176,8 @@ IsFormatOf (File name bytes) result = IsHeld name bytes result
 -- what is wrong with two of them: the first has no format, or one that is not read; or else the second has none, or one that is ambiguous
 pub data IsWrong (reading : Reading) (from to : Named) : Wrong → Type 0 where
   first : (wrong : Wrong) → IsFormatOf from (Err wrong) → IsWrong reading from to wrong
-  unread : (format : FormatData) (why : Ambiguity) → IsFormatOf from (Ok format) → IsUnread reading format why → IsWrong reading from to (Ambiguous (text_of_named from) why)
+  unread : (format : FormatData) (why : Ambiguity) → IsFormatOf from (Ok format) → IsUnread reading format why
+      → IsWrong reading from to (Ambiguous (text_of_named from) why)
   second : (format : FormatData) (wrong : Wrong) → IsFormatOf from (Ok format) → IsReadUnder reading format → IsFormatOf to (Err wrong) → IsWrong reading from to wrong
   unwritten : (source target : FormatData) → IsFormatOf from (Ok source) → IsReadUnder reading source → IsFormatOf to (Ok target) → ¬ MarksDecimals target →
       IsWrong reading from to (Ambiguous (text_of_named to) (ambiguity_of target))
@@ -209,7 +212,8 @@ has_byte text byte = list_any (λ b. b == byte) text
 -- whether a number that is printed under the format may have this byte
 abbrev pub prints_byte : FormatData → ℕ → Bool
 prints_byte format b =
-    is_ascii_digit b || (has_byte (printed_separator format.grouping format.separator) b || (has_byte format.minus_sign b || has_byte format.decimal b))
+    is_ascii_digit b || (has_byte (printed_separator format.grouping format.separator) b
+    || (has_byte format.minus_sign b || has_byte format.decimal b))
 
 -- whether a number that is printed may have the delimiter
 abbrev pub prints_delimiter : FormatData → Option ℕ → Bool
@@ -234,7 +238,8 @@ fitting span from to (Err wrong) = Err wrong
 fitting span from to (Ok formats) = ok_unless formats (misfit span from to formats)
 
 -- what is named is told, or else what is wrong
-pub record NamesFormatsFor (reading : Reading) (span : Span) (from to : Named) (result : Result (FormatData × FormatData) Wrong) : Type 0 where
+pub record NamesFormatsFor (reading : Reading) (span : Span) (from to : Named)
+    (result : Result (FormatData × FormatData) Wrong) : Type 0 where
   pub named : Result (FormatData × FormatData) Wrong
   pub names : NamesFormats reading from to named
   pub told : result ≡ fitting span from to named

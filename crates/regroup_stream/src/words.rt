@@ -115,8 +115,8 @@ pub enum Ambiguity {
     SameSymbol,
     /// A symbol has a digit or another numeric character.
     NumeralInSymbol,
-    /// The separator and the decimal mark have two characters that people type for one another, or the minus sign begins with a space or a plus
-    /// sign, and numbers are read as people type them.
+    /// The separator and the decimal mark have two characters that people type for one another, or the minus sign
+    /// begins with a space or a plus sign, and numbers are read as people type them.
     TypedAlike,
     /// The minus sign begins with ASCII whitespace, which is not part of a number.
     BlankMinusSign,
@@ -251,19 +251,22 @@ pub fn formats_named<'a>(
     })
 }
 
-/// Returns the formats that two words or files name, as [`formats_named`] does, if numbers are told by them where the rules say they are.
+/// Returns the formats that two words or files name, as [`formats_named`] does, if numbers are told by them where the
+/// rules say they are.
 ///
 /// ```rust
 /// let list = [FieldRange { first: 2, last: Some(2) }];
 /// let (delimiter, quotes, output) = (b',', false, None);
 /// let span = Span::Fields(Fields { list: &list, delimiter, quotes, output });
-/// formats_for(alloc, Reading::Strict, &span, Source::Word("plain"), Source::Word("de")).err()    // Some(Ambiguous("de", PrintsDelimiter))
+/// let (from, to) = (Source::Word("plain"), Source::Word("de"));
+/// formats_for(alloc, Reading::Strict, &span, from, to).err()    // Some(Ambiguous("de", PrintsDelimiter))
 /// ```
 ///
 /// # Errors
 ///
-/// Returns the error of `formats_named`; or else that the minus sign of the first or of the second begins with whitespace, which is not part of a
-/// number, or that a number may have the delimiter, where fields are neither in quotes nor written anew.
+/// Returns the error of `formats_named`; or else that the minus sign of the first or of the second begins with
+/// whitespace, which is not part of a number, or that a number may have the delimiter, where fields are neither in
+/// quotes nor written anew.
 pub fn formats_for<'a>(
     alloc: Global,
     reading: Reading,

@@ -8,4 +8,6 @@ pub returns : goal.returns
 returns c =
     let same : to_z w32 (of_z w32 c.stored_decimal.result) ≡ c.stored_decimal.result = search rules in
     rw same
-    (into decimals c.args.format.now c.args.text.now (λ d. d) (λ d. d) (fixed_point (signed_wide c.args.low.now c.args.high.now) c.args.scale.now) _ c.args.at.now _ _ c.parse_decimal.result c.parse_decimal.ensures c.stored_decimal.ensures)
+    (into decimals c.args.format.now c.args.text.now (λ d. d) (λ d. d)
+    (fixed_point (signed_wide c.args.low.now c.args.high.now) c.args.scale.now) _ c.args.at.now _ _ c.parse_decimal.result
+    c.parse_decimal.ensures c.stored_decimal.ensures)

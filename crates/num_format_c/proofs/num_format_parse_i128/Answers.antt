@@ -8,4 +8,5 @@ pub returns : goal.returns
 returns c =
     let same : to_z w32 (of_z w32 c.stored_wide.result) ≡ c.stored_wide.result = search rules in
     rw same
-    (into (λ n. n) c.args.format.now c.args.text.now (signed_wide c.args.low.now c.args.high.now) _ _ (kind_of I128) c.parse.result c.parse.ensures c.stored_wide.ensures)
+    (into (λ n. n) c.args.format.now c.args.text.now (signed_wide c.args.low.now c.args.high.now) _ _
+    (kind_of I128) c.parse.result c.parse.ensures c.stored_wide.ensures)

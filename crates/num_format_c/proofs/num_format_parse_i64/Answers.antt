@@ -7,4 +7,5 @@ pub returns : goal.returns
 returns c =
     let same : to_z w32 (of_z w32 c.stored.result) ≡ c.stored.result = search rules in
     rw same
-    (into_any (λ n. n) c.args.format.now c.args.text.now c.args.number.now _ _ (signed_kind c.args.bits) c.parse_signed.result c.parse_signed.ensures c.stored.ensures)
+    (into_any (λ n. n) c.args.format.now c.args.text.now c.args.number.now _ _
+    (signed_kind c.args.bits) c.parse_signed.result c.parse_signed.ensures c.stored.ensures)

@@ -8,4 +8,5 @@ pub returns : goal.returns
 returns c =
     let same : to_z w32 (of_z w32 c.stored_wide.result) ≡ c.stored_wide.result = search rules in
     rw same
-    (into (numbers (kind_of I128)) c.args.format.now c.args.text.now (λ n. n) (λ z. z) (signed_wide c.args.low.now c.args.high.now) _ c.args.at.now _ _ c.parse_strict.result c.parse_strict.ensures c.stored_wide.ensures)
+    (into (numbers (kind_of I128)) c.args.format.now c.args.text.now (λ n. n) (λ z. z)
+    (signed_wide c.args.low.now c.args.high.now) _ c.args.at.now _ _ c.parse_strict.result c.parse_strict.ensures c.stored_wide.ensures)

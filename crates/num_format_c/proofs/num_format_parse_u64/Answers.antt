@@ -7,4 +7,5 @@ pub returns : goal.returns
 returns c =
     let same : to_z w32 (of_z w32 c.stored.result) ≡ c.stored.result = search rules in
     rw same
-    (into_any (λ n. pos n) c.args.format.now c.args.text.now (pos c.args.number.now) _ _ (unsigned_kind c.args.bits) c.parse_unsigned.result c.parse_unsigned.ensures c.stored.ensures)
+    (into_any (λ n. pos n) c.args.format.now c.args.text.now (pos c.args.number.now) _ _
+    (unsigned_kind c.args.bits) c.parse_unsigned.result c.parse_unsigned.ensures c.stored.ensures)

@@ -6,5 +6,7 @@ pub returns : goal.returns
 returns g c =
     let k = g.N.Sealed.kind in
     let value = g.N.Sealed.value in
-    gets (numbers k) c.args.format.now c.args.text.now value c.args.at.now c.crossed.new.at _ c.in_ok-format.ensures c.from_strict_bytes.result
-    (strict_mapped k value _ c.args.text.now c.from_strict_bytes.result c.from_strict_bytes.ensures) c.crossed.result c.crossed.ensures.result c.crossed.ensures.place
+    gets (numbers k) c.args.format.now c.args.text.now value c.args.at.now c.crossed.new.at _ c.in_ok-format.ensures
+    c.from_strict_bytes.result
+    (strict_mapped k value _ c.args.text.now c.from_strict_bytes.result c.from_strict_bytes.ensures) c.crossed.result
+    c.crossed.ensures.result c.crossed.ensures.place

@@ -22,7 +22,13 @@ loop-row-preserved g c =
           (slice_range c.args.texts.now.bytes.now (offset k) (offset (k + 1))) (number_at v c.args.values.now k) new status)
           (number_at v c.loop-row.values) (number_at v c.parse_row.new.values) (λ k. slice_index_or c.loop-row.statuses k (pos 0)) (λ k. slice_index_or (slice_set c.loop-row.statuses row status) k (pos 0)) row
           (c.loop-row.invariant.parsed s given)
-          (rw (get_or-set_same c.loop-row.statuses row status (pos 0) (omega arith), ← prior, ← c.is_valid-is_valid.ensures, ← c.get-start.ensures, ← c.get.ensures) (c.parse_row.ensures.parsed s given))
+          (rw (
+            get_or-set_same c.loop-row.statuses row status (pos 0) (omega arith),
+            ← prior,
+            ← c.is_valid-is_valid.ensures,
+            ← c.get-start.ensures,
+            ← c.get.ensures,
+          ) (c.parse_row.ensures.parsed s given))
           (λ k other. ap v.number (c.parse_row.ensures.others k other))
           (λ k other. get_or-set_other c.loop-row.statuses row k status (pos 0) other));
       left = λ k le. c.parse_row.ensures.others k (λ same. absurd (omega (arith, same, le))) ∙ c.loop-row.invariant.left k (omega (arith, le));

@@ -5,7 +5,8 @@ use Rattle.std.proofs.lemmas.Nat.{from_le_bytes-to_le_bytes_8}
 use Rattle.num_format_text.proofs.HashLemmas.{first_byte, hashed_apart}
 use Rattle.num_format_parsing.specs.Laws.{HasUsize, StrictErrorHashLaw}
 use Rattle.num_format_parsing.specs.declared.error.StrictError.{StrictError}
-use Rattle.num_format_parsing.specs.declared.error.StrictError.TheVariants.{AmbiguousFormat, NotUtf8, Unexpected, NoDigit, Misspelled, OutOfRange}
+use Rattle.num_format_parsing.specs.declared.error.StrictError.TheVariants.{AmbiguousFormat, NotUtf8, Unexpected, NoDigit, Misspelled}
+use Rattle.num_format_parsing.specs.declared.error.StrictError.TheVariants.{OutOfRange}
 use Rattle.num_format_parsing.proofs.laws.strict_errors.Goals as goal
 
 -- the bytes that a hasher is given next

@@ -11,4 +11,5 @@ returns-then-not-is_wide g c =
 pub returns : goal.returns
 returns g c =
     let within : IsWithin (2 ^ 128) g.N.Sealed.kind = rw c.if-not-is_wide.false at c.is_wide.ensures.within in
-    reading-past (2 ^ 128) g.N.Sealed.kind within c.args.grouping c.args.separator.now c.args.text.now c.read_wide.result c.read_wide.ensures
+    reading-past (2 ^ 128) g.N.Sealed.kind within c.args.grouping c.args.separator.now c.args.text.now c.read_wide.result
+    c.read_wide.ensures

@@ -7,5 +7,6 @@ pub returns-then-whole-safe_figures : goal.returns-then-whole-safe_figures
 returns-then-whole-safe_figures g c =
     let safe = c.safe_figures.ensures in
     let read = c.in-Some.ensures in
-    let few = number-few g.A.Accumulator.bound g.A.Accumulator.safe c.args.text.now (omega (arith, read.1.figures, safe.value, c.if-whole-safe_figures.true)) safe.below in
+    let few = number-few g.A.Accumulator.bound g.A.Accumulator.safe c.args.text.now
+    (omega (arith, read.1.figures, safe.value, c.if-whole-safe_figures.true)) safe.below in
     (read.0, c.number.ensures ∙ read.1.number ∙ mod-eq_of_lt few)

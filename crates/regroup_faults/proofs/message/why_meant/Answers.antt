@@ -17,4 +17,5 @@ returns g c =
     let text = c.args.text.now in
     let is = typed_read-is from c.format_data.ensures.utf8 text c.utf8.text _ c.parse_typed_decimal.ensures in
     let change = c.first_change.ensures ∙ ap (first_change text) (c.as_str.ensures.same ∙ c.write_formatted.ensures.text) in
-    c.why_changed.ensures ∙ ap (why_changed c.args.before) change ∙ sym (ap (why_meant from text c.args.before) (is ∙ ap result_ok c.in-Ok.is))
+    c.why_changed.ensures ∙ ap (why_changed c.args.before) change
+    ∙ sym (ap (why_meant from text c.args.before) (is ∙ ap result_ok c.in-Ok.is))

@@ -14,7 +14,8 @@ returns-in-Some c = rw c.text.ensures (IsWrong.unread c.in_ok-source.source c.in
 pub returns-in_err-target : goal.returns-in_err-target
 returns-in_err-target c =
     let p = err_from_is_err_and c.from_residual-in_err-target.result c.from_residual-in_err-target.ensures.1 in
-    rw (p.1, p.2) (IsWrong.second c.in_ok-source.source (wrong_of c.in_err-target.field-0.0) c.in_ok-source.ensures c.in_default.ensures c.in_err-target.ensures)
+    rw (p.1, p.2) (IsWrong.second c.in_ok-source.source (wrong_of c.in_err-target.field-0.0) c.in_ok-source.ensures c.in_default.ensures
+    c.in_err-target.ensures)
 
 pub returns-then-not-marks_decimals : goal.returns-then-not-marks_decimals
 returns-then-not-marks_decimals c =

@@ -7,4 +7,6 @@ returns g c = λ s given.
     let k = g.N.Sealed.kind in
     let value = g.N.Sealed.value in
     row (typed_numbers k) s c.args.text.now value (λ z. z) c.crossed.new.at c.crossed.result
-    (gets (typed_numbers k) s c.args.text.now value 0 c.crossed.new.at _ given c.parse_bytes.result (typed_number_mapped k value _ c.args.text.now c.parse_bytes.result c.parse_bytes.ensures) c.crossed.result c.crossed.ensures.result c.crossed.ensures.place)
+    (gets (typed_numbers k) s c.args.text.now value 0 c.crossed.new.at _ given c.parse_bytes.result
+    (typed_number_mapped k value _ c.args.text.now c.parse_bytes.result c.parse_bytes.ensures) c.crossed.result c.crossed.ensures.result
+    c.crossed.ensures.place)

@@ -1,4 +1,5 @@
-use Rattle.regroup_lines.proofs.Common.{DecimalResult, HasUtf8Texts, MarksDecimals, MatchOption, Ok, SFits, ap, fixed_point, refl, rules, subst, sym, w128, ◌∙◌, ◌≡◌}
+use Rattle.regroup_lines.proofs.Common.{DecimalResult, HasUtf8Texts, MarksDecimals, MatchOption, Ok, SFits, ap, fixed_point, refl, rules}
+use Rattle.regroup_lines.proofs.Common.{subst, sym, w128, ◌∙◌, ◌≡◌}
 use Rattle.std.proofs.lemmas.Int.{to_z-of_z}
 use Rattle.regroup_lines.proofs.TextLemmas.{lenient-accepted, lenient-refused, strict-read, strict-refused, typed-read, whole_text}
 use Rattle.regroup_lines.proofs.number.Parser.read.Goals as goal
@@ -19,7 +20,8 @@ returns-in-Strict-None g c to =
 pub returns-in-Typed-default : goal.returns-in-Typed-default
 returns-in-Typed-default g c to =
     let utf8 = subst HasUtf8Texts c.self.view_is c.self.invariant.0 in
-    rw (c.in-Typed-default.is-0, c.or-in-Typed-default.ensures) (typed-read c.args.self.now to c.args.number c.args.text.now utf8 c.read_typed.result c.read_typed.ensures _ refl)
+    rw (c.in-Typed-default.is-0, c.or-in-Typed-default.ensures)
+    (typed-read c.args.self.now to c.args.number c.args.text.now utf8 c.read_typed.result c.read_typed.ensures _ refl)
 
 pub returns-in-Ok : goal.returns-in-Ok
 returns-in-Ok g c to =

@@ -5,7 +5,8 @@ use Rattle.regroup_lines.proofs.number.Parser.read_typed.Goals as goal
 pub returns-in-Some : goal.returns-in-Some
 returns-in-Some g c =
     let from = g.F.Format.answers c.self.inside.format.now in
-    let same : c.in-Some.parser ≡ from = subst (λ typed. MatchOption typed (¬ (IsTypable from)) (λ p. p ≡ from)) c.in-Some.is c.self.invariant.2 in
+    let same : c.in-Some.parser ≡ from = subst (λ typed. MatchOption typed (¬ (IsTypable from)) (λ p. p ≡ from)) c.in-Some.is
+    c.self.invariant.2 in
     subst (λ f. TypedDecimalResult f c.args.text.now c.parse_decimal_bytes.result) (same ∙ c.self.view_is) c.parse_decimal_bytes.ensures
 
 pub returns-in-None : goal.returns-in-None
