@@ -11,7 +11,7 @@ ROWS = [
     ("C", "snprintf, sscanf", "`snprintf` of `%'ld`", "`sscanf` of `%'ld`", False),
     ("C++", "format.print, format.parse", "`format.print(n)`", "`format.parse<", True),
     ("C++", "num_put, num_get", "`out << n`", "`in >> n`", False),
-    ("Rust", "write_formatted, parse_strict", "`buffer.write_formatted(", "`text.parse_strict(", True),
+    ("Rust", "write_formatted, parse_strict", "`buffer.write_formatted(", "`text.parse_strict(&format)", True),
     ("Rust", "num-format 0.4.4, not strict", "num-format 0.4.4", "num-format 0.4.4", False),
     ("SQLite", "num_format, num_parse", "`num_format(n,", "`num_parse(t,", True),
     ("SQLite", "printf, CAST(replace ..)", "`printf('%,d'", "`CAST(replace(t,", False),
@@ -26,7 +26,7 @@ ROWS = [
 # In pixels: the chart, where names end, where each panel starts and how wide it is, where rows start, and a row.
 WIDTH, NAMES, PANELS, PANEL, TOP, ROW = 800, 282, (300, 556), 206, 104, 23
 # The nanoseconds at both ends of the scale, and those with a line.
-FROM, TO, LINES = 30, 20_000, [100, 1_000, 10_000]
+FROM, TO, LINES = 20, 20_000, [100, 1_000, 10_000]
 BOTTOM = TOP + ROW * len(ROWS)
 BOLD = ' font-weight="bold"'
 

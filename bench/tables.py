@@ -162,12 +162,13 @@ def between(rows):
 
 
 def slower(rows):
-    """The calls over which a median is above one by more than a copy shows, by how much."""
+    """The calls over which a median is above one by more than a copy shows, in what and by how much."""
     found = {}
     for row in rows:
         if row.is_above and not row.is_digits:
             found.setdefault(row.beside, []).append(row)
-    said = (f"{beside} ({between(each)})" for beside, each in found.items())
+    what = {beside: " and ".join(f"*{row.does}*" for row in each) for beside, each in found.items()}
+    said = (f"{beside} at {what[beside]} ({between(each)})" for beside, each in found.items())
     return f"Slower than {', '.join(said)}." if found else "Nowhere slower."
 
 

@@ -14,10 +14,8 @@ packages/, has to end with status 0, and to print what is shown: after `prints` 
 `text` after it, or in NAME.expected where it reads NAME.tsv. `rt run --` and `rt try --` run the program that is built. So does
 `tools/install PREFIX`. A block of `sh` in docs/GUIDE.md is one script, and runs in a folder that has examples/. Each other
 command that README.md, docs/CALLERS.md or the README of a package shows in a block of `sh` is one of ELSEWHERE: a test
-that runs it. Each link to a file has an end. Each function, clause, definition, crate and option that README.md,
-CONTRIBUTING.md, docs/ or crates/ name between backticks stands in a file that is no document. Each size in CONTRIBUTING.md's
-table of calls that may fail stands in a file that its row names, or is the length of a text there. Where a README of
-packages/ shows other code or what it prints, the test of that package has to name README.md.
+that runs it. Each link to a file has an end. What document_names.py compares agrees. Where a README of packages/ shows
+other code or what it prints, the test of that package has to name README.md.
 """
 import os
 import re
@@ -25,9 +23,8 @@ import sys
 import tempfile
 from pathlib import Path
 from textwrap import dedent
-from urllib.parse import unquote_to_bytes
 
-import case_files
+import document_names
 from tally import ROOT, Tally, heading, run
 
 EXAMPLES = ROOT / "crates" / "test_readme"
@@ -186,70 +183,6 @@ def check_guide(tally, top):
             tally.compare(name, (ended.returncode, ended.stdout, ended.stderr), (0, text, ""))
 
 
-# A name of several words, or an option.
-NAME = re.compile(r"(?<![\w-])--[a-z]+(?:-[a-z]+)*|\b[a-z]\w*_\w+|\b[A-Z][a-z]+\w*[A-Z]\w*")
-
-# What a document names of pandas and of the kit.
-OTHERS = {"read_csv", "--allow-holes", "--only"}
-
-
-def all_names():
-    """The names in the files of the repository but documents and tables, and those of its files."""
-    found = set(OTHERS)
-    for folder, folders, files in os.walk(ROOT):
-        folders[:] = [name for name in folders if name not in {".git", "__pycache__", "out", "target"}]
-        for file in map(Path(folder).joinpath, files):
-            if file.suffix not in {".md", ".tsv"} and file != Path(__file__).resolve():
-                found.update([file.stem], NAME.findall(file.read_text(encoding="utf-8", errors="ignore")))
-    return found
-
-
-def gone_names(path, names):
-    """The names between backticks in a document that stand nowhere else."""
-    text = re.sub(r"^```.*?^```$", "", path.read_text(encoding="utf-8"), flags=re.DOTALL | re.MULTILINE)
-    for name in sorted({name for code in re.findall(r"`([^`]+)`", text) for name in NAME.findall(code)} - names):
-        yield f"{path.relative_to(ROOT)}: there is no {name}"
-
-
-# A row of the table of calls that may fail, a size there, and what the row names: crates, files of cases, tables and scripts.
-ROW = re.compile(r"^\|(?!Call\||-)([^|]+)\|([^|]+)\|$", re.MULTILINE)
-SIZE = re.compile(r"(?<![\w-])(\d[\d,]*)(?: ([KM])iB)?")
-PLACE = re.compile(r"\b(test_\w+|num_format_vectors|[\w/]+\.(?:py|tsv|cases))\b")
-
-
-def numbers_at(place):
-    """The numbers that a file or the sources of a crate have, the lengths of texts there too."""
-    if place.endswith(".cases"):
-        for path in (ROOT / "crates").glob(f"*/cases/{place}"):
-            yield from re.findall(r"\d+", path.read_text(encoding="utf-8"))
-            cases, files = case_files.read(path)
-            for case in cases:
-                texts = [*case.words, case.given, case.out or b"", case.err or b""]
-                yield from (str(len(text.rstrip(b"\n"))) for text in texts)
-            yield from (str(len(content)) for content in files.values())
-    elif place.endswith(".tsv"):
-        lines = (ROOT / "tests" / "cases" / place).read_text(encoding="ascii").splitlines()
-        yield from (str(len(unquote_to_bytes(field))) for line in lines for field in line.split("\t"))
-    else:
-        paths = [ROOT / place] if place.endswith(".py") else (ROOT / "crates" / place / "src").glob("*.rt")
-        for path in paths:
-            yield from re.findall(r"\d+", path.read_text(encoding="utf-8").replace("_", ""))
-
-
-def untested_sizes():
-    """The sizes in CONTRIBUTING.md that no file which their row names has."""
-    table = (ROOT / "CONTRIBUTING.md").read_text(encoding="utf-8").partition("|Call|Its largest size|\n")[2]
-    rows = ROW.findall(table.partition("\n\n")[0])
-    for call, sizes in rows:
-        found = {number for place in PLACE.findall(sizes) for number in numbers_at(place)}
-        for number, unit in SIZE.findall(sizes):
-            size = int(number.replace(",", "")) * {"": 1, "K": 1024, "M": 1024**2}[unit]
-            if str(size) not in found:
-                yield f"CONTRIBUTING.md: no file of its row has the size {number}: {call}"
-    if not rows:
-        yield "CONTRIBUTING.md has no table of largest sizes"
-
-
 def main():
     if "--run" in sys.argv:
         tally = Tally()
@@ -272,11 +205,7 @@ def main():
         different += not_run(path)
     for path in [path for pattern in DOCUMENTS for path in sorted(ROOT.glob(pattern))]:
         different += dead_links(path)
-    names = all_names()
-    for path in [readme, ROOT / "CONTRIBUTING.md", *sorted(ROOT.glob("docs/*.md")), *sorted(ROOT.glob("crates/*.md"))]:
-        if path.name != "DIFFERENCES.md":
-            different += gone_names(path, names)
-    different += untested_sizes()
+    different += document_names.problems()
     different += [f"{file} is not there" for file in ELSEWHERE.values() if not (ROOT / file).is_file()]
     tally = Tally()
     tally.add("the code and commands of README.md, docs/ and packages/", "\n".join(different))

@@ -22,11 +22,12 @@ ROOT = Path(__file__).resolve().parent.parent
 TOP = "../.."
 STYLE = ROOT / "tools" / "api_page.css"
 HEAD = """<!DOCTYPE html><html lang="en"><meta charset="utf-8"><meta name="viewport" content="width=device-width">
-<title>num_format for Rattle: public calls</title><link rel="stylesheet" href="style.css"><nav><b>Public calls in Rattle</b>{nav}</nav>
+<title>num_format for Rattle: public calls</title><link rel="stylesheet" href="style.css">
+<nav id="index"><b>Public calls in Rattle</b>{nav}</nav><a class="top" href="#index">Index</a>
 <main><p>The calls in Rattle, which is Rust with contracts. C, C++, Python, Rust and SQL have others: see the
 <a href="../../README.md">README</a>. Below a call is its contract, which is proved;
 <a href="../../docs/THEOREMS.md">THEOREMS</a> says how to read one, and names in it link to their definitions.{main}</main>"""
-CRATES = ["num_format", "num_format_decimal"]
+CRATES = ["num_format", "num_format_decimal", "num_format_typed", "num_format_digits"]
 LAWS = "laws"
 # The files in the order in which a reader needs them; others follow.
 ORDER = """lib buffer to_formatted_str to_formatted_string formatted write_formatted decimal parsing strict locale
@@ -159,8 +160,13 @@ def main():
             page += f'<{tag} id="{path}">{anchor(f"{TOP}/{file.relative_to(ROOT)}", heading(path))}</{tag}>'
             page += markdown(crate, "".join(re.findall(r"^//! ?(.*\n)", file.read_text(), re.M)))
             page += "".join(section(crate, *pair) for pair in pairs)
-    for tag, path in re.findall(r'<(h[123]) id="([^"]*)"', page):
-        nav += {"h1": "<h2>{}</h2>", "h2": "<p>{}", "h3": " {}"}[tag].format(anchor(f"#{path}", heading(path)))
+    # Methods are named in the index only where a module has no type of its own.
+    has_types = False
+    for tag, path in re.findall(r'<(h[1-4]) id="([^"]*)"', page):
+        has_types = tag == "h3" or has_types and tag == "h4"
+        if tag != "h4" or not has_types:
+            shown = {"h1": "<h2>{}</h2>", "h2": "<p>{}"}.get(tag, " {}")
+            nav += shown.format(anchor(f"#{path}", heading(path)))
     page = HEAD.format(nav=nav, main=page)
     ends = re.findall('id="([^"]*)"', page)
     wrong = [f"no #{name}" for name in re.findall('href="#([^"]*)"', page) if name not in ends]
