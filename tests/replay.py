@@ -4,6 +4,7 @@
     python3 tests/replay.py NAME COMMAND ..          # a command that is a replayer, as tests/README.md says
     python3 tests/replay.py [--program FILE] NAME    # rattle, regroup or regroup-lines: FILE, or else unproved
     python3 tests/replay.py --built NAME             # the same, c or c++, over what crates/*/out has, and else skipped
+    python3 tests/replay.py --quick ..               # the same, of wrong tables by one case of 16
 
 For each table is printed how many of its cases ran, how many the language can't say and why, and how many differ: their
 sum has to be the cases of the table. Replayed are tests/cases; a copy with each result changed, where each case that runs
@@ -36,8 +37,8 @@ REPORT = re.compile(r"^(\w+)\.tsv: ran (\d+), cannot say (\d+)(?: \((.*)\))?, di
 # The tables whose errors have causes.
 CAUSES = ["strict", "decimals_parsed", "decimals_at_scale", "typed", "typed_decimals"]
 
-# Of how many cases of a wrong table one is run, where a program runs unproved.
-UNPROVED_EVERY = 16
+# Of how many cases of a wrong table one is run, where a program runs unproved or it has to be quick.
+QUICK_EVERY = 16
 
 
 def changed(result):
@@ -108,7 +109,7 @@ def replay(tally, name, made, every=1):
     print("\n".join([*lines, f"{name}: {ran} cases, and {unsaid} that it cannot say"]))
 
 
-def replay_c(tally, name, library):
+def replay_c(tally, name, library, every):
     """Builds and checks the replayer of C or C++ over that library."""
     compiler, *words, source = COMPILERS[name]
     if tally.lacks(compiler, f"the tables of cases in {name}"):
@@ -120,32 +121,33 @@ def replay_c(tally, name, library):
         if subprocess.run(words, stdin=subprocess.DEVNULL, check=False).returncode:
             tally.add(source.name, "not built")
         else:
-            replay(tally, name, partial(programs.Replayer, [made]))
+            replay(tally, name, partial(programs.Replayer, [made]), every)
 
 
 def main():
     parser = argparse.ArgumentParser(description="Replays the tables of cases.")
     parser.add_argument("--program", type=Path, metavar="FILE", help="the program, or the library for C, as it was built")
     parser.add_argument("--built", action="store_true", help="over what crates/*/out has")
+    parser.add_argument("--quick", action="store_true", help="of wrong tables by one case of 16")
     parser.add_argument("name")
     parser.add_argument("command", nargs=argparse.REMAINDER)
     given = parser.parse_args()
-    tally = Tally()
+    tally, every = Tally(), QUICK_EVERY if given.quick else 1
     program = given.program and given.program.resolve()
     if given.built:
         crate = None if given.name in COMPILERS else programs.OF[given.name].crate
         program = ROOT / "crates" / crate / "out" / crate if crate else LIBRARY
     if given.command:
-        replay(tally, given.name, partial(programs.Replayer, given.command))
+        replay(tally, given.name, partial(programs.Replayer, given.command), every)
     elif program and not program.is_file():
         if not given.built:
             tally.add(program.name, "it was not built")
         tally.skip(f"the tables of cases by {given.name}", "it was not built: --prove does that")
     elif given.name in COMPILERS:
-        replay_c(tally, given.name, program or LIBRARY)
+        replay_c(tally, given.name, program or LIBRARY, every)
     else:
         made = partial(programs.OF[given.name], program)
-        replay(tally, given.name, made, 1 if program else UNPROVED_EVERY)
+        replay(tally, given.name, made, every if program else QUICK_EVERY)
     tally.end()
 
 

@@ -96,7 +96,7 @@ def start_unproved(jobs):
     for name in reversed(others):
         jobs.script(f"cases of {name}", "commands.py", "--try", name)
     for name in "regroup", "regroup-lines", "c", "c++":
-        jobs.script(f"the tables of cases by {name}", REPLAY, "--built", name)
+        jobs.script(f"the tables of cases by {name}", REPLAY, "--built", "--quick", name)
     for package in REPLAYING:
         name = f"the tables of cases by {package}"
         if LIBRARY.is_file():
