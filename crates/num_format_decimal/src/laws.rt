@@ -2,7 +2,10 @@
 //!
 //! The contract of each function is a law. There is nothing to compute, so the bodies are empty, or call getters for
 //! what their contracts say. A caller that needs a law in a proof calls its function.
+ghost use Rattle.std.specs.Prelude.{◌≡◌};
 ghost use Rattle.num_format_locale.specs.Data.{locale_data};
+ghost use Rattle.num_format_decimal.specs.declared.buffer.TheConstants.{MAX_DECIMAL_LEN};
+ghost use Rattle.num_format_decimal.specs.declared.decimal.TheConstants.{MAX_SCALE};
 ghost use Rattle.num_format_decimal.specs.Laws.{MarkNeededLaw, OrderLaw, RoundingLaw, TextBoundLaw};
 ghost use Rattle.num_format_decimal.specs.Marks.{MarksDecimals};
 
@@ -12,6 +15,12 @@ use num_format_locale::Locale;
 /// Decimals are in the order of their units, each times 10 to the power of the other's scale. So 1.50 equals 1.5.
 pub fn order()
     ensures { OrderLaw }
+{}
+
+/// A decimal has at most 38 decimals, and its text at most 199 bytes.
+pub fn limits()
+    ensures scale { MAX_SCALE ≡ 38 }
+    ensures bytes { MAX_DECIMAL_LEN ≡ 199 }
 {}
 
 /// No text of a decimal has more than 199 bytes. That of `i128::MIN` at scale 1 has as many where the grouping is
