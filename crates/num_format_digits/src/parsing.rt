@@ -1,12 +1,12 @@
 //! Strict parsing of a text in one digit set.
-ghost use Rattle.std.specs.Prelude.{◌≡◌, None, Some, MatchOption, MatchResult};
+ghost use Rattle.std.specs.Prelude.{◌≡◌, None, Some, MatchOption, MatchResult, length};
 ghost use Rattle.std.specs.Str.{chars};
+ghost use Rattle.num_format_decimal.specs.declared.buffer.TheConstants.{MAX_DECIMAL_LEN};
 ghost use Rattle.num_format_typed.specs.Typed.{placed, placed_decimal};
 ghost use Rattle.num_format_digits.specs.Digits.{HasOneSet, ascii_of, other_from};
 ghost use Rattle.num_format_digits.specs.Parsing.{DecimalInDigits, IsTextCause, ParsesInDigits, place_in};
 
 use crate::digits::Digits;
-use arrayvec::ArrayString;
 use num_format_decimal::{Decimal, DecimalParser, MAX_DECIMAL_LEN, ParseDecimalError};
 use num_format_parsing::{FromFormattedStr, StrictError, StrictParser};
 use num_format_text::Format;
@@ -49,8 +49,9 @@ impl Digits {
             Ok(parser) => parser,
             Err(error) => return Err(DigitsError::Number(error)),
         };
-        let ascii = self.to_ascii(text)?;
-        match parser.parse(ascii.as_str()) {
+        let mut array = [0; MAX_DECIMAL_LEN];
+        let ascii = self.to_ascii(text, &mut array)?;
+        match parser.parse_bytes(ascii) {
             Ok(number) => Ok(number),
             Err(error) => Err(DigitsError::Number(self.placed(text, error))),
         }
@@ -73,23 +74,30 @@ impl Digits {
             Ok(parser) => parser,
             Err(error) => return Err(DigitsError::Number(error)),
         };
-        let ascii = self.to_ascii(text)?;
-        match parser.parse(ascii.as_str()) {
+        let mut array = [0; MAX_DECIMAL_LEN];
+        let ascii = self.to_ascii(text, &mut array)?;
+        match parser.parse_bytes(ascii) {
             Ok(decimal) => Ok(decimal),
             Err(error) => Err(DigitsError::Number(self.placed_decimal(text, error))),
         }
     }
 
-    /// Returns the text with `0` to `9` for the digits of the set, or why it is no text of the set.
-    pub fn to_ascii<E>(self, text: &str) -> Result<ArrayString<MAX_DECIMAL_LEN>, DigitsError<E>>
+    /// Writes the text with `0` to `9` for the digits of the set to the start of an array, and returns these bytes, or
+    /// why it is no text of the set.
+    pub fn to_ascii<'s, E>(
+        self,
+        text: &str,
+        array: &'s mut [u8],
+    ) -> Result<&'s [u8], DigitsError<E>>
+        requires { length array.old ≡ MAX_DECIMAL_LEN }
         ensures { MatchResult result
-            (λ ascii. HasOneSet self text.now × (ascii.bytes ≡ ascii_of self text.now))
+            (λ ascii. HasOneSet self text.now × (ascii.now ≡ ascii_of self text.now))
             (λ e. IsTextCause self text.now e) }
     {
         if let Some(at) = self.find_other(text) {
             return Err(DigitsError::OtherNumeral { at });
         }
-        match rewrite("", text, &self) {
+        match rewrite("", text, &self, array) {
             Some(ascii) => Ok(ascii),
             None => Err(DigitsError::TooLong),
         }

@@ -83,6 +83,17 @@ pub record IsTypable (f : FormatData) : Type 0 where
   pub no_plus : begins_with Plus (core_of f) ≡ false
   pub apart : has_shared (separator_of f) f.decimal (core_of f) ≡ false
 
+-- minus signs, decimal marks and separators that most formats have
+abbrev pub usual_signs : List (List ℕ)
+usual_signs = codes "-" ∷ (0xE2 ∷ 0x88 ∷ 0x92 ∷ []) ∷ []
+
+abbrev pub usual_marks : List (List ℕ)
+usual_marks = codes "." ∷ codes "," ∷ []
+
+abbrev pub usual_separators : List (List ℕ)
+usual_separators =
+    codes "," ∷ codes "." ∷ (0xC2 ∷ 0xA0 ∷ []) ∷ (0xE2 ∷ 0x80 ∷ 0xAF ∷ []) ∷ (0xE2 ∷ 0x80 ∷ 0x99 ∷ []) ∷ [] ∷ []
+
 -- a text without what counts for nothing at its ends
 abbrev pub trimmed : List ℕ → List ℕ
 trimmed t = without_ends (is_of End) t

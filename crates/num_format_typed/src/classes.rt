@@ -24,10 +24,14 @@ pub enum Class {
 }
 
 impl Class {
-    /// Returns whether a character is of the class.
+    /// Returns whether a character is of the class. Most that are asked about are digits, which are of none.
+    #[inline(always)]
     pub fn has(self, c: char) -> bool
         ensures { result ≡ is_of self c }
     {
+        if c.is_ascii_digit() {
+            return false;
+        }
         match self {
             Class::Space => is_space(c),
             Class::Apostrophe => matches!(
@@ -47,6 +51,7 @@ impl Class {
     }
 
     /// Returns the class of a character that a separator or a decimal mark may have, or `None` if it has none.
+    #[inline(always)]
     pub fn of(c: char) -> Option<Class>
         ensures { result ≡ class_of c }
     {

@@ -1,12 +1,11 @@
 //! Texts rewritten character by character, in place, and where a byte of the new text comes from.
-ghost use Rattle.std.specs.Prelude.{◌≡◌, ◌≤◌, ◌<◌, ◌++◌, ℕ, [], ◌∷◌, IfSome, MatchOption, length, encode_utf8};
+ghost use Rattle.std.specs.Prelude.{◌≡◌, ◌≤◌, ◌<◌, ◌++◌, ◌+◌, ℕ, [], ◌∷◌, IfSome, MatchOption, length, take, encode_utf8};
 ghost use Rattle.std.specs.Str.{chars, encode_utf8_all};
 ghost use Rattle.num_format_decimal.specs.declared.buffer.TheConstants.{MAX_DECIMAL_LEN};
 ghost use Rattle.num_format_typed.specs.Classes.{is_of};
 ghost use Rattle.num_format_typed.specs.Rewriting.{bytes_within, images, without_end, without_front};
 
 use crate::classes::Class;
-use arrayvec::ArrayString;
 use num_format_decimal::MAX_DECIMAL_LEN;
 
 /// A map of characters to those that stand for them.
@@ -18,24 +17,59 @@ pub trait Image {
         ensures { result ≡ image self.now c };
 }
 
-/// Returns a prefix and the images of a text's characters after it, or `None` if these are more bytes than the text of
-/// any number has.
-pub fn rewrite<I: Image>(prefix: &str, text: &str, map: &I) -> Option<ArrayString<MAX_DECIMAL_LEN>>
-    ensures { MatchOption result (MAX_DECIMAL_LEN < length (prefix.now ++ images (I.image map.now) text.now))
-        (λ rewritten. rewritten.bytes ≡ prefix.now ++ images (I.image map.now) text.now) }
+/// Writes a prefix and the images of a text's characters after it to the start of an array, and returns these bytes, or
+/// `None` if they are more than the text of any number has.
+pub fn rewrite<'s, I: Image>(
+    prefix: &str,
+    text: &str,
+    map: &I,
+    array: &'s mut [u8],
+) -> Option<&'s [u8]>
+    requires { length array.old ≡ MAX_DECIMAL_LEN }
+    ensures text { MatchOption result (MAX_DECIMAL_LEN < length (prefix.now ++ images (I.image map.now) text.now))
+        (λ bytes. bytes.now ≡ prefix.now ++ images (I.image map.now) text.now) }
+    ensures fits { IfSome result (λ bytes. length bytes.now ≤ MAX_DECIMAL_LEN) }
 {
-    let mut rewritten = ArrayString::new();
-    let Ok(()) = rewritten.try_push_str(prefix) else {
-        return None;
-    };
+    let mut len = put(prefix.as_bytes(), 0, array)?;
     let mut left = text;
     while let Some((c, rest)) = split_first(left) {
-        let Ok(()) = rewritten.try_push(map.image(c)) else {
-            return None;
-        };
+        len = put_char(map.image(c), len, array)?;
         left = rest;
     }
-    Some(rewritten)
+    let written = &array[..];
+    Some(&written[..len])
+}
+
+/// Writes a character after so many bytes of an array, and returns their number then, or `None` if it does not fit.
+#[inline(always)]
+fn put_char(c: char, len: usize, array: &mut [u8]) -> Option<usize>
+    requires { len ≤ length array.old }
+    ensures text { MatchOption result (length array.old < len + length (encode_utf8 c))
+        (λ end. (end ≤ length array.new) × (take end array.new ≡ take len array.old ++ encode_utf8 c)) }
+    ensures length { length array.new ≡ length array.old }
+{
+    if c.is_ascii() && len < array.len() {
+        array[len] = c as u8;
+        return Some(len + 1);
+    }
+    let mut buffer = [0; 4];
+    put(c.encode_utf8(&mut buffer).as_bytes(), len, array)
+}
+
+/// Does the same for bytes.
+#[inline]
+fn put(bytes: &[u8], len: usize, array: &mut [u8]) -> Option<usize>
+    requires { len ≤ length array.old }
+    ensures text { MatchOption result (length array.old < len + length bytes.now)
+        (λ end. (end ≤ length array.new) × (take end array.new ≡ take len array.old ++ bytes.now)) }
+    ensures length { length array.new ≡ length array.old }
+{
+    if array.len() - len < bytes.len() {
+        return None;
+    }
+    let end = len + bytes.len();
+    array[len..end].copy_from_slice(bytes);
+    Some(end)
 }
 
 /// Returns how many bytes the first characters of a text have, whose images have no more than so many bytes.
@@ -89,6 +123,7 @@ fn split_last(text: &str) -> Option<(&str, char)>
 }
 
 /// Returns a text without the characters of a class at its start.
+#[inline]
 pub fn without_front(text: &str, class: Class) -> &str
     ensures value { result.now ≡ without_front (is_of class) text.now }
     ensures bound { length result.now ≤ length text.now }
@@ -104,6 +139,7 @@ pub fn without_front(text: &str, class: Class) -> &str
 }
 
 /// Returns a text without the characters of a class at its end.
+#[inline]
 pub fn without_end(text: &str, class: Class) -> &str
     ensures value { result.now ≡ without_end (is_of class) text.now }
     ensures bound { length result.now ≤ length text.now }

@@ -1,19 +1,18 @@
 //! Parsing texts as people type them.
-ghost use Rattle.std.specs.Prelude.{◌≡◌, ◌↔◌, ◌++◌, ◌<◌, ◌≤◌, ℕ, [], IsTrue, MatchOption, MatchResult, IsUtf8, drop, length, Err, nat_eq, true, false};
+ghost use Rattle.std.specs.Prelude.{◌≡◌, ◌↔◌, ◌++◌, ◌<◌, ◌≤◌, ℕ, [], Contains, IfSome, IsTrue, MatchOption, MatchResult, IsUtf8, drop, length, Err, nat_eq, true, false};
 ghost use Rattle.std.specs.List.{find, list_any, starts_with};
 ghost use Rattle.std.specs.Str.{chars, encode_utf8_all};
 ghost use Rattle.num_format_decimal.specs.declared.buffer.TheConstants.{MAX_DECIMAL_LEN};
 ghost use Rattle.num_format_decimal.specs.Marks.{MarksDecimals};
 ghost use Rattle.num_format_decimal.specs.Parsing.{DecimalResult};
-ghost use Rattle.num_format_parsing.specs.Strict.{ParsesStrictly};
+ghost use Rattle.num_format_parsing.specs.Strict.{IsUnambiguous, ParsesStrictly};
 ghost use Rattle.num_format_parsing.specs.declared.error.StrictError.TheVariants as strict;
 ghost use Rattle.num_format_typed.specs.Classes.{class_of, is_of};
 ghost use Rattle.num_format_typed.specs.Rewriting.{without_ends};
-ghost use Rattle.num_format_typed.specs.Typed.{IsTypable, ParsesTyped, RescaleResult, TypedAtScaleResult, TypedDecimalResult, at_any_scale, begins_with, body_of, core_of, has_class, has_minus, has_shared, is_nonzero_digit, is_own, is_shared_in, own_char, place_in, placed, placed_decimal, put, separator_of, sign_of, trimmed, typed_message_of, typed_text, unsigned};
+ghost use Rattle.num_format_typed.specs.Typed.{IsTypable, ParsesTyped, RescaleResult, TypedAtScaleResult, TypedDecimalResult, at_any_scale, begins_with, body_of, core_of, has_class, has_minus, has_shared, is_nonzero_digit, is_own, is_shared_in, own_char, place_in, placed, placed_decimal, put, separator_of, sign_of, trimmed, typed_message_of, typed_text, unsigned, usual_marks, usual_separators, usual_signs};
 
 use crate::classes::Class;
 use crate::rewriting::{Image, bytes_within, rewrite, split_first, without_end, without_front};
-use arrayvec::ArrayString;
 use num_format_decimal::{
     Decimal, DecimalParser, MAX_DECIMAL_LEN, ParseAtScaleError, ParseDecimalError, Rounding,
 };
@@ -56,6 +55,7 @@ pub struct Symbols<'a> {
 impl<'a> Image for Symbols<'a> {
     ghost image = { λ symbols. put symbols.separator.now symbols.mark.now };
 
+    #[inline(always)]
     fn image(&self, c: char) -> char {
         let Some(class) = Class::of(c) else {
             return c;
@@ -93,7 +93,8 @@ impl<'a> Symbols<'a> {
     }
 }
 
-/// Returns the first character of a class in a text.
+/// Returns the first character of a class in a text. It is not inlined, since few characters of a text are of a class.
+#[inline(never)]
 fn first_of(text: &str, class: Class) -> Option<char>
     ensures { result ≡ find (is_of class) (chars text.now) }
 {
@@ -108,6 +109,7 @@ fn has_class(text: &str, class: Class) -> bool
 }
 
 /// Returns whether a text begins with a character of a class.
+#[inline]
 fn begins_with(text: &str, class: Class) -> bool
     ensures { result ≡ begins_with class text.now }
 {
@@ -139,53 +141,111 @@ fn without_first(text: &str) -> &str
     }
 }
 
-/// A parser of typed texts under one format. It asks the format for its symbols once.
+/// Returns whether a minus sign is one that most formats have.
+#[inline(always)]
+fn is_usual_sign(text: &str) -> bool
+    ensures { IsTrue result → Contains usual_signs text.now }
+{
+    matches!(text, "-" | "\u{2212}")
+}
+
+/// Returns whether a decimal mark is one that most formats have.
+#[inline(always)]
+fn is_usual_mark(text: &str) -> bool
+    ensures { IsTrue result → Contains usual_marks text.now }
+{
+    matches!(text, "." | ",")
+}
+
+/// Returns whether a separator is one that most formats have.
+#[inline(always)]
+fn is_usual_separator(text: &str) -> bool
+    ensures { IsTrue result → Contains usual_separators text.now }
+{
+    matches!(text, "," | "." | "\u{a0}" | "\u{202f}" | "\u{2019}" | "")
+}
+
+/// Returns the minus sign of a format without marks of direction at its ends, or `None` if what people type under the
+/// format has more than one meaning.
+#[inline(always)]
+fn typable_core<'a, F: Format>(
+    format: &'a F,
+    symbols: Symbols<'a>,
+    minus_sign: &'a str,
+) -> Option<&'a str>
+    requires unambiguous { IsUnambiguous (F.answers format.now) }
+    requires separator { symbols.separator.now ≡ separator_of (F.answers format.now) }
+    requires mark { symbols.mark.now ≡ (F.answers format.now).decimal }
+    requires minus_sign { minus_sign.now ≡ (F.answers format.now).minus_sign }
+    ensures { MatchOption result (¬ (IsTypable (F.answers format.now)))
+        (λ core. (core.now ≡ core_of (F.answers format.now)) × IsTypable (F.answers format.now)) }
+{
+    let Symbols { separator, mark } = symbols;
+    if is_usual_mark(mark) && is_usual_sign(minus_sign) && is_usual_separator(separator) {
+        return Some(minus_sign);
+    }
+    rare_core(format, symbols, minus_sign)
+}
+
+/// Does the same, whatever the symbols.
+#[cold]
+#[inline(never)]
+fn rare_core<'a, F: Format>(
+    format: &'a F,
+    symbols: Symbols<'a>,
+    minus_sign: &'a str,
+) -> Option<&'a str>
+    requires unambiguous { IsUnambiguous (F.answers format.now) }
+    requires separator { symbols.separator.now ≡ separator_of (F.answers format.now) }
+    requires mark { symbols.mark.now ≡ (F.answers format.now).decimal }
+    requires minus_sign { minus_sign.now ≡ (F.answers format.now).minus_sign }
+    ensures { MatchOption result (¬ (IsTypable (F.answers format.now)))
+        (λ core. (core.now ≡ core_of (F.answers format.now)) × IsTypable (F.answers format.now)) }
+{
+    let Symbols { separator, mark } = symbols;
+    let core = without_ends(minus_sign, Class::Direction);
+    if core.is_empty() || begins_with(core, Class::End) || begins_with(core, Class::Plus) {
+        return None;
+    }
+    if !symbols.are_own(separator) || !symbols.are_own(mark) || symbols.share(core) {
+        return None;
+    }
+    Some(core)
+}
+
+/// Strict parsing under one format, and the symbols by which a text that it refuses is rewritten.
 ///
 /// A contract sees it as the data of its format.
-///
-/// ```rust
-/// let parser = TypedParser::new(&Locale::fr)?;
-/// parser.parse::<i32>("1 234")        // Ok(1234)
-/// parser.parse_decimal("1 234,50")    // Ok(1234.50)
-/// ```
 #[derive(Drop)]
-pub struct TypedParser<'a, F: Format> {
+struct Rewriter<'a, F: Format> {
     numbers: StrictParser<'a, F>,
-    decimals: Option<DecimalParser<'a, F>>,
     minus_sign: &'a str,
     core: &'a str,
     symbols: Symbols<'a>,
 }
 
-impl<'a, F: Format> Model for TypedParser<'a, F> {
-    ghost use Rattle.std.specs.Prelude.{◌≡◌, MatchOption};
+impl<'a, F: Format> Model for Rewriter<'a, F> {
+    ghost use Rattle.std.specs.Prelude.{◌≡◌};
     ghost use Rattle.num_format_text.specs.Format.{FormatData};
-    ghost use Rattle.num_format_decimal.specs.Marks.{MarksDecimals};
     ghost use Rattle.num_format_typed.specs.Typed.{IsTypable, core_of, separator_of};
 
     ghost Value = { FormatData };
 
-    ghost view = { λ p. p.numbers };
+    ghost view = { λ r. r.numbers };
 
-    ghost invariant = { λ p. (p.minus_sign.now ≡ p.numbers.minus_sign)
-        × (p.core.now ≡ core_of p.numbers)
-        × (p.symbols.separator.now ≡ separator_of p.numbers)
-        × (p.symbols.mark.now ≡ p.numbers.decimal)
-        × IsTypable p.numbers
-        × MatchOption p.decimals (¬ (MarksDecimals p.numbers)) (λ d. (d ≡ p.numbers) × MarksDecimals p.numbers) };
+    ghost invariant = { λ r. (r.minus_sign.now ≡ r.numbers.minus_sign)
+        × (r.core.now ≡ core_of r.numbers)
+        × (r.symbols.separator.now ≡ separator_of r.numbers)
+        × (r.symbols.mark.now ≡ r.numbers.decimal)
+        × IsTypable r.numbers };
 }
 
-impl<'a, F: Format> TypedParser<'a, F> {
-    /// Returns a parser of typed texts under the format.
-    ///
-    /// # Errors
-    ///
-    /// [`StrictError::AmbiguousFormat`] exactly if strict parsing refuses the format, if its separator and its mark
-    /// have two characters of one class, as `'` and U+2019, or if its minus sign begins with a space or a plus sign, or
-    /// has a character of a class of which the separator or the mark has one.
-    pub fn new(format: &'a F) -> Result<TypedParser<'a, F>, StrictError>
+impl<'a, F: Format> Rewriter<'a, F> {
+    /// Returns a rewriter for the format, or `AmbiguousFormat` if what people type under it has more than one meaning.
+    #[inline(always)]
+    fn new(format: &'a F) -> Result<Rewriter<'a, F>, StrictError>
         ensures { MatchResult result
-            (λ parser. (parser ≡ F.answers format.now) × IsTypable (F.answers format.now))
+            (λ rewriter. (rewriter ≡ F.answers format.now) × IsTypable (F.answers format.now))
             (λ e. (e ≡ strict.AmbiguousFormat) × ¬ (IsTypable (F.answers format.now))) }
     {
         let minus_sign = format.minus_sign().into_str();
@@ -193,40 +253,22 @@ impl<'a, F: Format> TypedParser<'a, F> {
         let Ok(numbers) = StrictParser::new(format) else {
             return Err(StrictError::AmbiguousFormat);
         };
-        let symbols = Symbols {
-            separator: numbers.separator(),
-            mark,
+        let separator = numbers.separator();
+        let symbols = Symbols { separator, mark };
+        let Some(core) = typable_core(format, symbols, minus_sign) else {
+            return Err(StrictError::AmbiguousFormat);
         };
-        let core = without_ends(minus_sign, Class::Direction);
-        if core.is_empty() || begins_with(core, Class::End) || begins_with(core, Class::Plus) {
-            return Err(StrictError::AmbiguousFormat);
-        }
-        if !symbols.are_own(symbols.separator) || !symbols.are_own(mark) || symbols.share(core) {
-            return Err(StrictError::AmbiguousFormat);
-        }
-        Ok(TypedParser {
+        Ok(Rewriter {
             numbers,
-            decimals: DecimalParser::new(format).ok(),
             minus_sign,
             core,
             symbols,
         })
     }
 
-    /// Returns the number that a person means by the text: the one that strict parsing returns of it with the format's
-    /// own characters in place of those that were typed.
-    ///
-    /// ```rust
-    /// let parser = TypedParser::new(&Locale::de_CH)?;
-    /// parser.parse::<i32>("+1'234")     // Ok(1234), where de-CH prints U+2019
-    /// parser.parse::<i32>("1'23")       // Err(Number(Misspelled))
-    /// ```
-    ///
-    /// # Errors
-    ///
-    /// A [`TypedError`], but not `AmbiguousFormat` and `NotUtf8`.
-    #[inline]
-    pub fn parse<N: FromFormattedStr>(&self, text: &str) -> Result<N, TypedError<StrictError>>
+    /// Returns the number that a person means by the text.
+    #[inline(always)]
+    fn parse<N: FromFormattedStr>(&self, text: &str) -> Result<N, TypedError<StrictError>>
         ensures { ParsesTyped N.kind N.value self.now text.now result }
     {
         match self.numbers().parse(text) {
@@ -236,15 +278,8 @@ impl<'a, F: Format> TypedParser<'a, F> {
     }
 
     /// Returns the number that a person means by the text of the bytes.
-    ///
-    /// # Errors
-    ///
-    /// As [`parse`](TypedParser::parse), and `NotUtf8`.
-    #[inline]
-    pub fn parse_bytes<N: FromFormattedStr>(
-        &self,
-        bytes: &[u8],
-    ) -> Result<N, TypedError<StrictError>>
+    #[inline(always)]
+    fn parse_bytes<N: FromFormattedStr>(&self, bytes: &[u8]) -> Result<N, TypedError<StrictError>>
         ensures { ParsesTyped N.kind N.value self.now bytes.now result }
     {
         match self.numbers().parse_bytes(bytes) {
@@ -264,34 +299,28 @@ impl<'a, F: Format> TypedParser<'a, F> {
         requires refused { (e : StrictError) × ParsesStrictly N.kind N.value self.now text.now (Err e) }
         ensures { ParsesTyped N.kind N.value self.now text.now result }
     {
-        let Some(typed) = self.rewrite(text) else {
+        let mut array = [0; MAX_DECIMAL_LEN];
+        let Some(typed) = self.rewrite(text, &mut array) else {
             return Err(TypedError::TooLong);
         };
-        match self.numbers().parse(typed.as_str()) {
+        match self.numbers().parse_bytes(typed) {
             Ok(number) => Ok(number),
             Err(error) => Err(TypedError::Number(self.placed(text, error))),
         }
     }
 
-    /// Returns the decimal that a person means by the text, with as many decimals as were typed.
-    ///
-    /// ```rust
-    /// let parser = TypedParser::new(&Locale::fr)?;
-    /// parser.parse_decimal("1 234,50")    // Ok(1234.50)
-    /// parser.parse_decimal("-0,00")       // Ok(0.00)
-    /// ```
-    ///
-    /// # Errors
-    ///
-    /// As [`parse`](TypedParser::parse), but with the causes of decimals, and `AmbiguousFormat` if the mark is the
-    /// separator, or no mark.
-    #[inline]
-    pub fn parse_decimal(&self, text: &str) -> Result<Decimal, TypedError<ParseDecimalError>>
+    /// Returns the decimal that a person means by the text. `decimals` is the strict parser of the same format.
+    #[inline(always)]
+    fn parse_decimal(
+        &self,
+        decimals: &DecimalParser<'a, F>,
+        text: &str,
+    ) -> Result<Decimal, TypedError<ParseDecimalError>>
+        requires same { decimals.now ≡ self.now }
+        requires typable { IsTypable self.now }
+        requires marks { MarksDecimals self.now }
         ensures { TypedDecimalResult self.now text.now result }
     {
-        let Some(decimals) = self.decimals() else {
-            return Err(TypedError::Number(ParseDecimalError::AmbiguousFormat));
-        };
         match decimals.parse(text) {
             Ok(decimal) => Ok(decimal),
             Err(_) => self.parse_rewritten_decimal(decimals, text),
@@ -299,20 +328,17 @@ impl<'a, F: Format> TypedParser<'a, F> {
     }
 
     /// Returns the decimal that a person means by the text of the bytes.
-    ///
-    /// # Errors
-    ///
-    /// As [`parse_decimal`](TypedParser::parse_decimal), and `NotUtf8`.
-    #[inline]
-    pub fn parse_decimal_bytes(
+    #[inline(always)]
+    fn parse_decimal_bytes(
         &self,
+        decimals: &DecimalParser<'a, F>,
         bytes: &[u8],
     ) -> Result<Decimal, TypedError<ParseDecimalError>>
+        requires same { decimals.now ≡ self.now }
+        requires typable { IsTypable self.now }
+        requires marks { MarksDecimals self.now }
         ensures { TypedDecimalResult self.now bytes.now result }
     {
-        let Some(decimals) = self.decimals() else {
-            return Err(TypedError::Number(ParseDecimalError::AmbiguousFormat));
-        };
         match decimals.parse_bytes(bytes) {
             Ok(decimal) => Ok(decimal),
             Err(_) => match str::from_utf8(bytes) {
@@ -336,53 +362,13 @@ impl<'a, F: Format> TypedParser<'a, F> {
         requires refused { (e : ParseDecimalError) × DecimalResult self.now text.now (Err e) }
         ensures { TypedDecimalResult self.now text.now result }
     {
-        let Some(typed) = self.rewrite(text) else {
+        let mut array = [0; MAX_DECIMAL_LEN];
+        let Some(typed) = self.rewrite(text, &mut array) else {
             return Err(TypedError::TooLong);
         };
-        match decimals.parse(typed.as_str()) {
+        match decimals.parse_bytes(typed) {
             Ok(decimal) => Ok(decimal),
             Err(error) => Err(TypedError::Number(self.placed_decimal(text, error))),
-        }
-    }
-
-    /// Returns the decimal that a person means by the text at another scale: the same number, or an error.
-    ///
-    /// ```rust
-    /// TypedParser::new(&Locale::fr)?.parse_at_scale("1 234,5", 2)    // Ok(1234.50)
-    /// ```
-    ///
-    /// # Errors
-    ///
-    /// As [`parse_decimal`](TypedParser::parse_decimal), and that of [`rescale`](Decimal::rescale) under
-    /// [`Rounding::Exact`].
-    pub fn parse_at_scale(
-        &self,
-        text: &str,
-        scale: u8,
-    ) -> Result<Decimal, TypedError<ParseAtScaleError>>
-        ensures { TypedAtScaleResult self.now text.now scale result }
-    {
-        match self.parse_decimal(text) {
-            Ok(decimal) => at_scale(decimal, scale),
-            Err(error) => Err(at_any_scale(error)),
-        }
-    }
-
-    /// Returns the decimal that a person means by the text of the bytes at another scale.
-    ///
-    /// # Errors
-    ///
-    /// As [`parse_at_scale`](TypedParser::parse_at_scale), and `NotUtf8`.
-    pub fn parse_bytes_at_scale(
-        &self,
-        bytes: &[u8],
-        scale: u8,
-    ) -> Result<Decimal, TypedError<ParseAtScaleError>>
-        ensures { TypedAtScaleResult self.now bytes.now scale result }
-    {
-        match self.parse_decimal_bytes(bytes) {
-            Ok(decimal) => at_scale(decimal, scale),
-            Err(error) => Err(at_any_scale(error)),
         }
     }
 
@@ -395,24 +381,17 @@ impl<'a, F: Format> TypedParser<'a, F> {
         &self.numbers
     }
 
-    /// Returns the strict parser of decimals, if the format marks decimals.
-    #[inline(always)]
-    fn decimals(&self) -> Option<&DecimalParser<'a, F>>
-        ensures marks { MatchOption result (¬ (MarksDecimals self.now))
-            (λ decimals. (decimals.now ≡ self.now) × MarksDecimals self.now) }
-        ensures typable { IsTypable self.now }
-    {
-        self.decimals.as_ref()
-    }
-
-    /// Returns what a typed text stands for, or `None` if it is too long.
-    fn rewrite(&self, text: &str) -> Option<ArrayString<MAX_DECIMAL_LEN>>
-        ensures { MatchOption result (MAX_DECIMAL_LEN < length (typed_text self.now text.now))
-            (λ typed. typed.bytes ≡ typed_text self.now text.now) }
+    /// Writes what a typed text stands for to the start of an array, and returns these bytes, or `None` if they are too
+    /// many.
+    fn rewrite<'s>(&self, text: &str, array: &'s mut [u8]) -> Option<&'s [u8]>
+        requires { length array.old ≡ MAX_DECIMAL_LEN }
+        ensures text { MatchOption result (MAX_DECIMAL_LEN < length (typed_text self.now text.now))
+            (λ typed. typed.now ≡ typed_text self.now text.now) }
+        ensures fits { IfSome result (λ typed. length typed.now ≤ MAX_DECIMAL_LEN) }
     {
         let inner = without_ends(text, Class::End);
         let body = self.body(inner);
-        rewrite(self.sign(inner, body), body, &self.symbols)
+        rewrite(self.sign(inner, body), body, &self.symbols, array)
     }
 
     /// Returns what follows the sign of a trimmed text.
@@ -497,6 +476,183 @@ impl<'a, F: Format> TypedParser<'a, F> {
     }
 }
 
+/// A parser of typed texts under one format. It asks the format for its symbols once.
+///
+/// A contract sees it as the data of its format.
+///
+/// ```rust
+/// let parser = TypedParser::new(&Locale::fr)?;
+/// parser.parse::<i32>("1 234")        // Ok(1234)
+/// parser.parse_decimal("1 234,50")    // Ok(1234.50)
+/// ```
+#[derive(Drop)]
+pub struct TypedParser<'a, F: Format> {
+    rewriter: Rewriter<'a, F>,
+    decimals: Option<DecimalParser<'a, F>>,
+}
+
+impl<'a, F: Format> Model for TypedParser<'a, F> {
+    ghost use Rattle.std.specs.Prelude.{◌≡◌, MatchOption};
+    ghost use Rattle.num_format_text.specs.Format.{FormatData};
+    ghost use Rattle.num_format_decimal.specs.Marks.{MarksDecimals};
+
+    ghost Value = { FormatData };
+
+    ghost view = { λ p. p.rewriter };
+
+    ghost invariant = { λ p.
+        MatchOption p.decimals (¬ (MarksDecimals p.rewriter)) (λ d. (d ≡ p.rewriter) × MarksDecimals p.rewriter) };
+}
+
+impl<'a, F: Format> TypedParser<'a, F> {
+    /// Returns a parser of typed texts under the format.
+    ///
+    /// # Errors
+    ///
+    /// [`StrictError::AmbiguousFormat`] exactly if strict parsing refuses the format, if its separator and its mark
+    /// have two characters of one class, as `'` and U+2019, or if its minus sign begins with a space or a plus sign, or
+    /// has a character of a class of which the separator or the mark has one.
+    pub fn new(format: &'a F) -> Result<TypedParser<'a, F>, StrictError>
+        ensures { MatchResult result
+            (λ parser. (parser ≡ F.answers format.now) × IsTypable (F.answers format.now))
+            (λ e. (e ≡ strict.AmbiguousFormat) × ¬ (IsTypable (F.answers format.now))) }
+    {
+        match Rewriter::new(format) {
+            Ok(rewriter) => Ok(TypedParser {
+                rewriter,
+                decimals: DecimalParser::new(format).ok(),
+            }),
+            Err(error) => Err(error),
+        }
+    }
+
+    /// Returns the number that a person means by the text: the one that strict parsing returns of it with the format's
+    /// own characters in place of those that were typed.
+    ///
+    /// ```rust
+    /// let parser = TypedParser::new(&Locale::de_CH)?;
+    /// parser.parse::<i32>("+1'234")     // Ok(1234), where de-CH prints U+2019
+    /// parser.parse::<i32>("1'23")       // Err(Number(Misspelled))
+    /// ```
+    ///
+    /// # Errors
+    ///
+    /// A [`TypedError`], but not `AmbiguousFormat` and `NotUtf8`.
+    #[inline]
+    pub fn parse<N: FromFormattedStr>(&self, text: &str) -> Result<N, TypedError<StrictError>>
+        ensures { ParsesTyped N.kind N.value self.now text.now result }
+    {
+        self.rewriter.parse(text)
+    }
+
+    /// Returns the number that a person means by the text of the bytes.
+    ///
+    /// # Errors
+    ///
+    /// As [`parse`](TypedParser::parse), and `NotUtf8`.
+    #[inline]
+    pub fn parse_bytes<N: FromFormattedStr>(
+        &self,
+        bytes: &[u8],
+    ) -> Result<N, TypedError<StrictError>>
+        ensures { ParsesTyped N.kind N.value self.now bytes.now result }
+    {
+        self.rewriter.parse_bytes(bytes)
+    }
+
+    /// Returns the decimal that a person means by the text, with as many decimals as were typed.
+    ///
+    /// ```rust
+    /// let parser = TypedParser::new(&Locale::fr)?;
+    /// parser.parse_decimal("1 234,50")    // Ok(1234.50)
+    /// parser.parse_decimal("-0,00")       // Ok(0.00)
+    /// ```
+    ///
+    /// # Errors
+    ///
+    /// As [`parse`](TypedParser::parse), but with the causes of decimals, and `AmbiguousFormat` if the mark is the
+    /// separator, or no mark.
+    #[inline]
+    pub fn parse_decimal(&self, text: &str) -> Result<Decimal, TypedError<ParseDecimalError>>
+        ensures { TypedDecimalResult self.now text.now result }
+    {
+        match self.decimals() {
+            Some(decimals) => self.rewriter.parse_decimal(decimals, text),
+            None => Err(TypedError::Number(ParseDecimalError::AmbiguousFormat)),
+        }
+    }
+
+    /// Returns the decimal that a person means by the text of the bytes.
+    ///
+    /// # Errors
+    ///
+    /// As [`parse_decimal`](TypedParser::parse_decimal), and `NotUtf8`.
+    #[inline]
+    pub fn parse_decimal_bytes(
+        &self,
+        bytes: &[u8],
+    ) -> Result<Decimal, TypedError<ParseDecimalError>>
+        ensures { TypedDecimalResult self.now bytes.now result }
+    {
+        match self.decimals() {
+            Some(decimals) => self.rewriter.parse_decimal_bytes(decimals, bytes),
+            None => Err(TypedError::Number(ParseDecimalError::AmbiguousFormat)),
+        }
+    }
+
+    /// Returns the decimal that a person means by the text at another scale: the same number, or an error.
+    ///
+    /// ```rust
+    /// TypedParser::new(&Locale::fr)?.parse_at_scale("1 234,5", 2)    // Ok(1234.50)
+    /// ```
+    ///
+    /// # Errors
+    ///
+    /// As [`parse_decimal`](TypedParser::parse_decimal), and that of [`rescale`](Decimal::rescale) under
+    /// [`Rounding::Exact`].
+    pub fn parse_at_scale(
+        &self,
+        text: &str,
+        scale: u8,
+    ) -> Result<Decimal, TypedError<ParseAtScaleError>>
+        ensures { TypedAtScaleResult self.now text.now scale result }
+    {
+        match self.parse_decimal(text) {
+            Ok(decimal) => at_scale(decimal, scale),
+            Err(error) => Err(at_any_scale(error)),
+        }
+    }
+
+    /// Returns the decimal that a person means by the text of the bytes at another scale.
+    ///
+    /// # Errors
+    ///
+    /// As [`parse_at_scale`](TypedParser::parse_at_scale), and `NotUtf8`.
+    pub fn parse_bytes_at_scale(
+        &self,
+        bytes: &[u8],
+        scale: u8,
+    ) -> Result<Decimal, TypedError<ParseAtScaleError>>
+        ensures { TypedAtScaleResult self.now bytes.now scale result }
+    {
+        match self.parse_decimal_bytes(bytes) {
+            Ok(decimal) => at_scale(decimal, scale),
+            Err(error) => Err(at_any_scale(error)),
+        }
+    }
+
+    /// Returns the strict parser of decimals, if the format marks decimals.
+    #[inline(always)]
+    fn decimals(&self) -> Option<&DecimalParser<'a, F>>
+        ensures marks { MatchOption result (¬ (MarksDecimals self.now))
+            (λ decimals. (decimals.now ≡ self.now) × MarksDecimals self.now) }
+        ensures typable { IsTypable self.now }
+    {
+        self.rewriter.numbers();
+        self.decimals.as_ref()
+    }
+}
+
 /// Returns a decimal at another scale.
 fn at_scale(decimal: Decimal, scale: u8) -> Result<Decimal, TypedError<ParseAtScaleError>>
     ensures { RescaleResult decimal scale result }
@@ -551,8 +707,8 @@ pub fn parse_typed<N: FromFormattedStr, F: Format>(
 ) -> Result<N, TypedError<StrictError>>
     ensures { ParsesTyped N.kind N.value (F.answers format.now) text.now result }
 {
-    match TypedParser::new(format) {
-        Ok(parser) => parser.parse(text),
+    match Rewriter::new(format) {
+        Ok(rewriter) => rewriter.parse(text),
         Err(error) => Err(TypedError::Number(error)),
     }
 }
@@ -568,8 +724,8 @@ pub fn parse_typed_bytes<N: FromFormattedStr, F: Format>(
 ) -> Result<N, TypedError<StrictError>>
     ensures { ParsesTyped N.kind N.value (F.answers format.now) bytes.now result }
 {
-    match TypedParser::new(format) {
-        Ok(parser) => parser.parse_bytes(bytes),
+    match Rewriter::new(format) {
+        Ok(rewriter) => rewriter.parse_bytes(bytes),
         Err(error) => Err(TypedError::Number(error)),
     }
 }
@@ -590,10 +746,13 @@ pub fn parse_typed_decimal<F: Format>(
 ) -> Result<Decimal, TypedError<ParseDecimalError>>
     ensures { TypedDecimalResult (F.answers format.now) text.now result }
 {
-    match TypedParser::new(format) {
-        Ok(parser) => parser.parse_decimal(text),
-        Err(_) => Err(TypedError::Number(ParseDecimalError::AmbiguousFormat)),
-    }
+    let Ok(rewriter) = Rewriter::new(format) else {
+        return Err(TypedError::Number(ParseDecimalError::AmbiguousFormat));
+    };
+    let Ok(decimals) = DecimalParser::new(format) else {
+        return Err(TypedError::Number(ParseDecimalError::AmbiguousFormat));
+    };
+    rewriter.parse_decimal(&decimals, text)
 }
 
 /// Returns the decimal that a person means by the text of the bytes under a format.
@@ -607,10 +766,13 @@ pub fn parse_typed_decimal_bytes<F: Format>(
 ) -> Result<Decimal, TypedError<ParseDecimalError>>
     ensures { TypedDecimalResult (F.answers format.now) bytes.now result }
 {
-    match TypedParser::new(format) {
-        Ok(parser) => parser.parse_decimal_bytes(bytes),
-        Err(_) => Err(TypedError::Number(ParseDecimalError::AmbiguousFormat)),
-    }
+    let Ok(rewriter) = Rewriter::new(format) else {
+        return Err(TypedError::Number(ParseDecimalError::AmbiguousFormat));
+    };
+    let Ok(decimals) = DecimalParser::new(format) else {
+        return Err(TypedError::Number(ParseDecimalError::AmbiguousFormat));
+    };
+    rewriter.parse_decimal_bytes(&decimals, bytes)
 }
 
 /// Returns the decimal that a person means by the text at another scale: the same number, or an error.
@@ -625,10 +787,8 @@ pub fn parse_typed_at_scale<F: Format>(
 ) -> Result<Decimal, TypedError<ParseAtScaleError>>
     ensures { TypedAtScaleResult (F.answers format.now) text.now scale result }
 {
-    match TypedParser::new(format) {
-        Ok(parser) => parser.parse_at_scale(text, scale),
-        Err(_) => Err(TypedError::Number(ParseAtScaleError::Parse(
-            ParseDecimalError::AmbiguousFormat,
-        ))),
+    match parse_typed_decimal(text, format) {
+        Ok(decimal) => at_scale(decimal, scale),
+        Err(error) => Err(at_any_scale(error)),
     }
 }

@@ -1,6 +1,7 @@
-use Rattle.std.proofs.Common.{◌≡◌, ◌++◌, length}
+use Rattle.std.proofs.Common.{◌≡◌, ◌≤◌, ◌++◌, length, take}
 use denote.Shadow.{shadow}
 use denote.Text.{Utf8}
+use Rattle.num_format_decimal.specs.declared.buffer.TheConstants.{MAX_DECIMAL_LEN}
 use Rattle.num_format_typed.specs.Rewriting.{images}
 use Rattle.num_format_typed.proofs.rewriting.rewrite.Given as goal
 
@@ -8,7 +9,9 @@ use Rattle.num_format_typed.proofs.rewriting.rewrite.Given as goal
 abbrev pub invariant-loop-c : goal.invariant-loop-c
 invariant-loop-c g l =
     shadow (Utf8 l.left)
-    × (l.prefix ++ images (g.I.Image.image l.map) l.text ≡ l.rewritten.bytes ++ images (g.I.Image.image l.map) l.left)
+    × (l.prefix ++ images (g.I.Image.image l.map) l.text ≡ take l.len l.array ++ images (g.I.Image.image l.map) l.left)
+    × (l.len ≤ length l.array)
+    × (length l.array ≡ MAX_DECIMAL_LEN)
 
 abbrev pub decreases-loop-c : goal.decreases-loop-c
 decreases-loop-c g l = length l.left

@@ -1,9 +1,7 @@
-use Rattle.std.proofs.Common.{refl, rules}
-use Rattle.num_format_typed.specs.Typed.{TypedResult}
+use Rattle.std.proofs.Common.{subst}
+use Rattle.num_format_text.specs.Format.{FormatData}
+use Rattle.num_format_typed.specs.Typed.{TypedDecimalResult}
 use Rattle.num_format_typed.proofs.typed.TypedParser.parse_decimal_bytes.Goals as goal
 
-pub returns-in-Ok : goal.returns-in-Ok
-returns-in-Ok g c = TypedResult.printed (c.decimals.ensures.typable, c.in-Some.ensures.marks.1) c.in-Ok.decimal (search rules) refl
-
-pub returns-in-Err-from_utf8 : goal.returns-in-Err-from_utf8
-returns-in-Err-from_utf8 g c = TypedResult.no_text (c.decimals.ensures.typable, c.in-Some.ensures.marks.1) c.in-Err.field-0 (search rules) (search rules) refl
+pub returns-in-Some : goal.returns-in-Some
+returns-in-Some g c = subst (λ (f : FormatData). TypedDecimalResult f c.args.bytes.now c.parse_decimal_bytes.result) c.self.view_is c.parse_decimal_bytes.ensures

@@ -1,0 +1,6 @@
+use Rattle.std.proofs.Common.{refl, rules}
+use Rattle.num_format_typed.specs.Typed.{TypedResult}
+use Rattle.num_format_typed.proofs.typed.Rewriter.parse_decimal.Goals as goal
+
+pub returns-in-Ok : goal.returns-in-Ok
+returns-in-Ok g c = TypedResult.printed (c.requires.typable, c.requires.marks) c.in-Ok.decimal (search rules) refl
