@@ -85,7 +85,8 @@ static void check_columns(const numfmt::format &de, const numfmt::format &sevens
     texts.validity = {}, texts.offsets[1] = 9;
     check("bad_offsets", throws<numfmt::bad_offsets>([&] { de.parse_column(texts); }, -16));
     check("bad_offsets, row", throws<numfmt::bad_offsets>([&] { texts[1]; }, -16, 0, 1));
-    check("bad_offsets, past the rows", throws<numfmt::bad_offsets>([&] { texts[9]; }, -16, 0, 9));
+    const numfmt::column one{{0, 1}, "1", {}};
+    check("bad_offsets, past the rows", throws<numfmt::bad_offsets>([&] { one[1]; }, -16, 0, 1));
     texts.offsets[0] = -1;
     check("bad_offsets, below 0", throws<numfmt::bad_offsets>([&] { texts[0]; }, -16));
     texts.offsets.clear();
