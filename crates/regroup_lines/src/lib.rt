@@ -436,7 +436,8 @@ fn pass_bytes<W: Write, X: Write>(
     }
 }
 
-/// Sends a line with its numbers regrouped, and the byte that ends it. A byte order mark is passed on, and so are the numbers of a header.
+/// Sends a line with its numbers regrouped, and the byte that ends it. A byte order mark, and the numbers of a header, are
+/// passed on.
 fn regroup_body<'a, W: Write, F: Format, G: Format>(
     job: &Job<F, G>,
     line: &Record<'a>,

@@ -104,7 +104,7 @@ pub struct Rules<'a> {
     pub span: Span<'a>,
     /// How the numbers are read.
     pub reading: Reading,
-    /// How many lines at the start are headers, and each record that begins in one of them: no number of a header is read.
+    /// How many lines at the start are headers, and each record that begins in one of them: no number of it is read.
     pub header_lines: u64,
     /// Whether a place is passed on as it is where a number has no byte.
     pub passes_empty: bool,
