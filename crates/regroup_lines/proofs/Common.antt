@@ -47,6 +47,7 @@ pub use Rattle.regroup_lines.specs.Lines.{
   fields_of,
   fields_replaced,
   fields_written,
+  header_written,
   joined,
   lenient,
   line_after,
@@ -75,6 +76,7 @@ pub use Rattle.regroup_lines.specs.Lines.{
   sending_line,
   stop_returned,
   text_sent,
+  unmarked_written,
   with_first,
 }
 pub use Rattle.regroup_lines.specs.Lines.Stop.{Ended, Endless, Failed, Unflushed, Unread}

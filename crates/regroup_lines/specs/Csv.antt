@@ -81,15 +81,15 @@ abbrev pub placed : Fields → (line_end : ℕ) → (is_quoted : Bool) → (fiel
 placed fields line_end is_quoted field place text = placed_as (output_of fields line_end is_quoted text) line_end is_quoted field place text
 
 -- a field without a number by how the fields are written
-abbrev pub passed_as : Option Output → Fields → (line_end : ℕ) → (field : List ℕ) → List ℕ
-passed_as None fields line_end field = field
-passed_as (Some output) fields line_end field =
-    let is_quoted = fields.quotes && is_opened field in
+abbrev pub passed_as : Option Output → (quotes : Bool) → (line_end : ℕ) → (field : List ℕ) → List ℕ
+passed_as None quotes line_end field = field
+passed_as (Some output) quotes line_end field =
+    let is_quoted = quotes && is_opened field in
     output_as output line_end is_quoted [] (drop (cond is_quoted 1 0) field) []
 
 -- a field with this text in place of that of the number, if there is one
 abbrev pub field_with : Fields → (line_end : ℕ) → (field : List ℕ) → Option (List ℕ) → List ℕ
-field_with fields line_end field None = passed_as fields.output fields line_end field
+field_with fields line_end field None = passed_as fields.output fields.quotes line_end field
 field_with fields line_end field (Some text) =
     placed fields line_end (fields.quotes && is_quoted field (trimmed field (0, length field))) field (number_place fields.quotes field) text
 

@@ -25,13 +25,13 @@ mod records;
 pub mod rules;
 mod sending;
 
-ghost use Rattle.std.specs.Prelude.{◌≡◌, ◌+◌, ◌++◌, [], ◌≤◌, length, true};
+ghost use Rattle.std.specs.Prelude.{◌≡◌, ◌+◌, ◌++◌, [], ◌≤◌, Ok, length, true};
 ghost use Rattle.std.specs.Result.{result_map_both};
 ghost use Rattle.regroup_lines.specs.Ended.{ended_by};
 ghost use Rattle.regroup_faults.specs.Fault.{are_any, fault_of};
 ghost use Rattle.regroup_lines.specs.Input.{IsEnded, IsLong, array_len, held};
 ghost use Rattle.regroup_lines.specs.LineFaults.{line_fault_of};
-ghost use Rattle.regroup_lines.specs.Lines.{MARK, after, body_written, fault_named, fault_sent, lenient, line_after, long_fault, numbers_replaced, passes_mark, place_written, quotes_in, record_sent, text_sent};
+ghost use Rattle.regroup_lines.specs.Lines.{MARK, after, body_written, fault_named, fault_sent, header_written, lenient, line_after, long_fault, passes_mark, place_written, quotes_in, record_sent, text_sent, unmarked_written};
 ghost use Rattle.regroup_lines.specs.Records.{after_text, line_reached};
 ghost use Rattle.regroup_faults.specs.Messages.{messages};
 ghost use Rattle.regroup_lines.specs.Places.{place_of};
@@ -436,7 +436,8 @@ fn pass_bytes<W: Write, X: Write>(
     }
 }
 
-/// Sends a line with its numbers regrouped, and the byte that ends it. A header, and a byte order mark, are passed on.
+/// Sends a line with its numbers regrouped, and the byte that ends it. A byte order mark, and the numbers of a header, are
+/// passed on.
 fn regroup_body<'a, W: Write, F: Format, G: Format>(
     job: &Job<F, G>,
     line: &Record<'a>,
@@ -446,9 +447,6 @@ fn regroup_body<'a, W: Write, F: Format, G: Format>(
     ensures { SendsLine job.now.rules.now.line_end (body_written job.now.rules.now job.now.parser (G.answers job.now.to.now) line.now.number line.now.text.now)
         (W.contents w.old) (W.contents w.new) (result_map_both (λ sent. sent) line_fault_of result) }
 {
-    if line.number <= job.rules.header_lines {
-        return send_whole(line.ended, w).or(Err(LineFault::Write));
-    }
     if !job.rules.span.passes_mark(line.number, line.text) {
         return regroup_numbers(job, line, w);
     }
@@ -469,7 +467,7 @@ fn regroup_marked<'a, W: Write, F: Format, G: Format>(
     w: &mut W,
 ) -> Result<(), LineFault<'a>>
     requires { IsEnded job.now.rules.now.line_end rest.now }
-    ensures { SendsLine job.now.rules.now.line_end (after MARK (numbers_replaced job.now.rules.now.span job.now.rules.now job.now.parser (G.answers job.now.to.now) rest.now.number rest.now.text.now))
+    ensures { SendsLine job.now.rules.now.line_end (after MARK (unmarked_written job.now.rules.now job.now.parser (G.answers job.now.to.now) rest.now.number rest.now.text.now))
         (W.contents w.old) (W.contents w.new) (result_map_both (λ sent. sent) line_fault_of result) }
 {
     // Of a line at fault nothing is sent, so it is read before the mark is sent.
@@ -480,7 +478,31 @@ fn regroup_marked<'a, W: Write, F: Format, G: Format>(
     }
 }
 
-/// Sends a line with its numbers regrouped, and the byte that ends it.
+/// Sends a header, and the byte that ends it. It has no number.
+#[cold]
+#[inline(never)]
+fn send_header<'a, W: Write, F: Format, G: Format>(
+    job: &Job<F, G>,
+    line: &Record<'a>,
+    w: &mut W,
+) -> Result<(), LineFault<'a>>
+    requires { IsEnded job.now.rules.now.line_end line.now }
+    ensures { SendsLine job.now.rules.now.line_end (Ok (header_written job.now.rules.now.span job.now.rules.now.line_end line.now.text.now))
+        (W.contents w.old) (W.contents w.new) (result_map_both (λ sent. sent) line_fault_of result) }
+{
+    match &job.rules.span {
+        Span::Fields(fields) => {
+            let none = Fields {
+                list: &[],
+                ..*fields
+            };
+            regroup_fields(job, &none, line, w)
+        }
+        Span::Line | Span::Trimmed => send_whole(line.ended, w).or(Err(LineFault::Write)),
+    }
+}
+
+/// Sends a line with its numbers regrouped, or a header, and the byte that ends it.
 #[inline(always)]
 fn regroup_numbers<'a, W: Write, F: Format, G: Format>(
     job: &Job<F, G>,
@@ -488,10 +510,13 @@ fn regroup_numbers<'a, W: Write, F: Format, G: Format>(
     w: &mut W,
 ) -> Result<(), LineFault<'a>>
     requires { IsEnded job.now.rules.now.line_end line.now }
-    ensures { SendsLine job.now.rules.now.line_end (numbers_replaced job.now.rules.now.span job.now.rules.now job.now.parser (G.answers job.now.to.now) line.now.number line.now.text.now)
+    ensures { SendsLine job.now.rules.now.line_end (unmarked_written job.now.rules.now job.now.parser (G.answers job.now.to.now) line.now.number line.now.text.now)
         (W.contents w.old) (W.contents w.new) (result_map_both (λ sent. sent) line_fault_of result) }
 {
     let (rules, text) = (job.rules, line.text);
+    if line.number <= rules.header_lines {
+        return send_header(job, line, w);
+    }
     let place = match &rules.span {
         Span::Trimmed => trim(text, 0..text.len()),
         Span::Line => 0..text.len(),

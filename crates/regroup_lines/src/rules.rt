@@ -52,7 +52,7 @@ pub enum Quoting {
 /// A field needs quotes if it has the delimiter, a quote, a carriage return, a newline, or the byte that ends a line. In
 /// quotes, each of its quotes is doubled. The text of a field that begins with a quote is what is in quotes, with each doubled quote
 /// as one, and what follows the quote that closes it: that of `"12"3` is `123`. A carriage return at the end of a field that is not in
-/// quotes stays where it is, since it may end the line. Header lines, and lines at fault that are passed on, are as they were read.
+/// quotes stays where it is, since it may end the line. Lines at fault that are passed on are as they were read.
 ///
 /// ```rust
 /// let output = Output {
@@ -104,7 +104,7 @@ pub struct Rules<'a> {
     pub span: Span<'a>,
     /// How the numbers are read.
     pub reading: Reading,
-    /// How many lines at the start are passed on as they are, and each record that begins in one of them.
+    /// How many lines at the start are headers, and each record that begins in one of them: no number of it is read.
     pub header_lines: u64,
     /// Whether a place is passed on as it is where a number has no byte.
     pub passes_empty: bool,
