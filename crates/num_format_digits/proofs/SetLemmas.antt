@@ -1,11 +1,13 @@
 -- What holds of each digit set, and of its digits.
-use Rattle.std.proofs.Common.{◌≡◌, ℕ, ◌+◌, ◌-◌, ◌<◌, ◌≤◌, inl, inr, Bool, true, false, not, ◌&&◌, ◌||◌, suc, zero, List, [], ◌∷◌, ◌++◌, length, take, drop, get_or, refl, ap, ◌∙◌, sym, subst, arith}
+use Rattle.std.proofs.Common.{◌≡◌, ℕ, ◌+◌, ◌-◌, ◌<◌, ◌≤◌, inl, inr, Bool, true, false, not, ◌&&◌, ◌||◌, suc, zero, List, [], ◌∷◌, ◌++◌}
+use Rattle.std.proofs.Common.{length, take, drop, get_or, refl, ap, ◌∙◌, sym, subst, arith}
 use Rattle.std.specs.Prelude.{All, Contains, Some, bytes_eq, ◌==◌, nat_lt, nat_le, encode_utf8, map}
 use Rattle.std.specs.Char.{is_ascii_digit, IsScalar}
 use Rattle.std.specs.List.{list_all, list_any}
 use Rattle.std.proofs.lemmas.Bool.{agree_below, agree_below_at, and_from, and_left, and_parts, and_right, both_ways, cases_Bool, or_cases}
 use Rattle.std.proofs.lemmas.Bool.Decides.{nat_tests}
-use Rattle.std.proofs.lemmas.List.Elements.{All-nil, All-cons, All-contains, Contains-append_left, Contains-append_right, Contains-get_or, Contains-push}
+use Rattle.std.proofs.lemmas.List.Elements.{All-nil, All-cons, All-contains, Contains-append_left, Contains-append_right, Contains-get_or}
+use Rattle.std.proofs.lemmas.List.Elements.{Contains-push}
 use Rattle.std.proofs.lemmas.List.{get_or-map, get_or-take, length-map, length-take-le, take-take}
 use Rattle.std.proofs.lemmas.Slice.Eq.{bytes_eq-Decides}
 use denote.Ref.{Bor}
@@ -57,15 +59,18 @@ sound-60 = refl
 all_from : (k : ℕ) (zs : List ℕ) → list_all is_sound (take k zs) ≡ true → list_all is_sound (drop k zs) ≡ true → list_all is_sound zs ≡ true
 all_from zero zs first rest = rest
 all_from (suc k) [] first rest = refl
-all_from (suc k) (z ∷ zs) first rest = let both = and_parts (is_sound z) (list_all is_sound (take k zs)) first in and_from _ _ both.0 (all_from k zs both.1 rest)
+all_from (suc k) (z ∷ zs) first rest = let both = and_parts (is_sound z) (list_all is_sound (take k zs)) first in
+    and_from _ _ both.0 (all_from k zs both.1 rest)
 
 all-sound : list_all is_sound (zeros sets) ≡ true
 unfolding sets
-all-sound = all_from 20 (drop 0 (zeros sets)) sound-0 (all_from 20 (drop 20 (zeros sets)) sound-20 (all_from 20 (drop 40 (zeros sets)) sound-40 (sound-60)))
+all-sound = all_from 20 (drop 0 (zeros sets)) sound-0 (all_from 20 (drop 20 (zeros sets)) sound-20
+    (all_from 20 (drop 40 (zeros sets)) sound-40 (sound-60)))
 
 each : (zs : List ℕ) → list_all is_sound zs ≡ true → All (λ z. is_sound z ≡ true) zs
 each [] all = All-nil (λ z. is_sound z ≡ true)
-each (z ∷ zs) all = let both = and_parts (is_sound z) (list_all is_sound zs) all in All-cons (λ z. is_sound z ≡ true) z zs both.0 (each zs both.1)
+each (z ∷ zs) all = let both = and_parts (is_sound z) (list_all is_sound zs) all in
+    All-cons (λ z. is_sound z ≡ true) z zs both.0 (each zs both.1)
 
 sound : (z : ℕ) → IsZero z → is_sound z ≡ true
 sound z is = All-contains (λ z. is_sound z ≡ true) (zeros sets) z (each (zeros sets) all-sound) is
@@ -81,14 +86,16 @@ pub digit-scalar : (z d : ℕ) → IsZero z → d < 10 → IsScalar (z + d)
 digit-scalar z d is small =
     elim (or_cases (is_low z) (is_high z) (place z is)) [
       | inl low ↦ grind (arith, nat_tests, low)
-      | inr high ↦ (let both = and_parts (nat_le 0xE000 z) (nat_lt (z + 9) 0x110000) high in let one = both.0 in let two = both.1 in grind (arith, nat_tests, one, two))
+      | inr high ↦ (let both = and_parts (nat_le 0xE000 z) (nat_lt (z + 9) 0x110000) high in let one = both.0 in let two = both.1 in
+          grind (arith, nat_tests, one, two))
     ]
 
 pub zero-scalar : (z : ℕ) → IsZero z → IsScalar z
 zero-scalar z is = let same : z + 0 ≡ z = omega arith in subst IsScalar same (digit-scalar z 0 is (omega arith))
 
 -- their bytes differ in the last one alone
-halves : (z : ℕ) → IsZero z → (agree_below (λ d. bytes_eq (encode_utf8 (z + d)) (last_raised (encode_utf8 z) d)) (λ d. true) 10 ≡ true) × (nat_lt (get_or (encode_utf8 z) (length (encode_utf8 z) - 1) 0) 0xF7 ≡ true)
+halves : (z : ℕ) → IsZero z → (agree_below (λ d. bytes_eq (encode_utf8 (z + d)) (last_raised (encode_utf8 z) d)) (λ d. true) 10 ≡ true)
+    × (nat_lt (get_or (encode_utf8 z) (length (encode_utf8 z) - 1) 0) 0xF7 ≡ true)
 halves z is = and_parts _ _ (others z is).1
 
 pub digit-bytes : (z d : ℕ) → IsZero z → d < 10 → encode_utf8 (z + d) ≡ last_raised (encode_utf8 z) d
@@ -107,15 +114,18 @@ width z w bytes has = sym (ap length has.same) ∙ length-take-le w bytes has.wi
 last : (z w : ℕ) (bytes : List ℕ) → HasZero z w bytes → get_or (encode_utf8 z) (length (encode_utf8 z) - 1) 0 ≡ get_or bytes (w - 1) 0
 last z w bytes has =
     let some = has.some in
-    ap (λ n. get_or (encode_utf8 z) (n - 1) 0) (width z w bytes has) ∙ ap (λ xs. get_or xs (w - 1) 0) (sym has.same) ∙ get_or-take w bytes (w - 1) 0 (omega arith)
+    ap (λ n. get_or (encode_utf8 z) (n - 1) 0) (width z w bytes has) ∙ ap (λ xs. get_or xs (w - 1) 0) (sym has.same)
+    ∙ get_or-take w bytes (w - 1) 0 (omega arith)
 
 pub zero-fits : (z w : ℕ) (bytes : List ℕ) → IsZero z → HasZero z w bytes → get_or bytes (w - 1) 0 < 0xF7
 zero-fits z w bytes is has = omega (arith, last-fits z is, last z w bytes has)
 
-pub zero-raised : (z w d : ℕ) (bytes : List ℕ) → IsZero z → d < 10 → HasZero z w bytes → take (w - 1) bytes ++ (get_or bytes (w - 1) 0 + d) ∷ [] ≡ encode_utf8 (z + d)
+pub zero-raised : (z w d : ℕ) (bytes : List ℕ) → IsZero z → d < 10 → HasZero z w bytes
+    → take (w - 1) bytes ++ (get_or bytes (w - 1) 0 + d) ∷ [] ≡ encode_utf8 (z + d)
 zero-raised z w d bytes is small has =
     let front : take (length (encode_utf8 z) - 1) (encode_utf8 z) ≡ take (w - 1) bytes =
-    ap (λ n. take (n - 1) (encode_utf8 z)) (width z w bytes has) ∙ ap (take (w - 1)) (sym has.same) ∙ take-take (w - 1) w bytes (omega arith) in
+    ap (λ n. take (n - 1) (encode_utf8 z)) (width z w bytes has) ∙ ap (take (w - 1)) (sym has.same)
+    ∙ take-take (w - 1) w bytes (omega arith) in
     sym (digit-bytes z d is small ∙ ap (λ xs. xs ++ (get_or (encode_utf8 z) (length (encode_utf8 z) - 1) 0 + d) ∷ []) front
     ∙ ap (λ b. take (w - 1) bytes ++ (b + d) ∷ []) (last z w bytes has))
 
@@ -192,14 +202,17 @@ shown-plain z c is none = elim (cases_Bool (is_digit_of z c)) [
 pub among-contains : (rows : List (List ℕ × ℕ)) (name : List ℕ) (z : ℕ) → zero_among rows name ≡ Some z → Contains (zeros rows) z
 among-contains [] name z wrong = cc
 among-contains (r ∷ rows) name z is = elim (cases_Bool (bytes_eq r.0 name)) [
-  | inl same ↦ (let e : Some r.1 ≡ Some z = rw same at is in let first : r.1 ≡ z = cc in subst (Contains (zeros (r ∷ rows))) first (Contains-append_left (r.1 ∷ []) (zeros rows) r.1 (Contains-push [] r.1)))
-  | inr other ↦ (let e : zero_among rows name ≡ Some z = rw other at is in Contains-append_right (r.1 ∷ []) (zeros rows) z (among-contains rows name z e))
+  | inl same ↦ (let e : Some r.1 ≡ Some z = rw same at is in let first : r.1 ≡ z = cc in
+      subst (Contains (zeros (r ∷ rows))) first (Contains-append_left (r.1 ∷ []) (zeros rows) r.1 (Contains-push [] r.1)))
+  | inr other ↦ (let e : zero_among rows name ≡ Some z = rw other at is in
+      Contains-append_right (r.1 ∷ []) (zeros rows) z (among-contains rows name z e))
 ]
 
 any-contains : (zs : List ℕ) (z : ℕ) → list_any (λ y. y == z) zs ≡ true → Contains zs z
 any-contains [] z some = let wrong : false ≡ true = some in cc
 any-contains (y ∷ zs) z some = elim (cases_Bool (y == z)) [
-  | inl same ↦ (let e : y ≡ z = grind (arith, nat_tests, same) in subst (Contains (y ∷ zs)) e (Contains-append_left (y ∷ []) zs y (Contains-push [] y)))
+  | inl same ↦ (let e : y ≡ z = grind (arith, nat_tests, same) in
+      subst (Contains (y ∷ zs)) e (Contains-append_left (y ∷ []) zs y (Contains-push [] y)))
   | inr other ↦ Contains-append_right (y ∷ []) zs z (any-contains zs z (rw other at some))
 ]
 
@@ -222,10 +235,12 @@ unfolding sets
 latin = any-contains (zeros sets) 48 refl
 
 -- the zero at a place, of rows that are the sets
-pub zero-at : (rows : List (Bor (List ℕ) × ℕ)) (i : ℕ) (d : Bor (List ℕ) × ℕ) → map (λ s. (s.0.now, s.1)) rows ≡ sets → i < length rows → (get_or rows i d).1 ≡ get_or (zeros sets) i 0
+pub zero-at : (rows : List (Bor (List ℕ) × ℕ)) (i : ℕ) (d : Bor (List ℕ) × ℕ) → map (λ s. (s.0.now, s.1)) rows ≡ sets → i < length rows
+    → (get_or rows i d).1 ≡ get_or (zeros sets) i 0
 zero-at rows i d same inside =
     let full : i < length (map (λ s. (s.0.now, s.1)) rows) = omega (arith, length-map {B = List ℕ × ℕ} rows (λ s. (s.0.now, s.1))) in
-    sym (ap (λ rs. get_or (zeros rs) i 0) (sym same) ∙ get_or-map (λ r. r.1) (map (λ s. (s.0.now, s.1)) rows) i ([], 0) 0 full ∙ ap (λ r. r.1) (get_or-map {Y = List ℕ × ℕ} (λ s. (s.0.now, s.1)) rows i d ([], 0) inside))
+    sym (ap (λ rs. get_or (zeros rs) i 0) (sym same) ∙ get_or-map (λ r. r.1) (map (λ s. (s.0.now, s.1)) rows) i ([], 0) 0 full
+    ∙ ap (λ r. r.1) (get_or-map {Y = List ℕ × ℕ} (λ s. (s.0.now, s.1)) rows i d ([], 0) inside))
 
 pub set-count : length (zeros sets) ≡ 77
 unfolding sets

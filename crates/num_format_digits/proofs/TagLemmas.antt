@@ -1,5 +1,6 @@
 -- The parts of a tag.
-use Rattle.std.proofs.Common.{◌≡◌, ℕ, suc, ◌+◌, ◌<◌, inl, inr, Bool, true, false, List, [], ◌∷◌, length, Option, Some, None, refl, ap, ◌∙◌, sym, arith}
+use Rattle.std.proofs.Common.{◌≡◌, ℕ, suc, ◌+◌, ◌<◌, inl, inr, Bool, true, false, List, [], ◌∷◌, length, Option, Some, None, refl, ap, ◌∙◌}
+use Rattle.std.proofs.Common.{sym, arith}
 use Rattle.std.specs.Prelude.{◌==◌, ◌↔◌, IsTrue, MatchOption, bytes_eq}
 use Rattle.std.specs.Str.{byte}
 use Rattle.std.specs.List.{after_first, onto_first, position_or_len}
@@ -15,7 +16,8 @@ no_cut : (t : List ℕ) → position_or_len (λ b. b == 45) t ≡ length t → p
 no_cut [] end = refl
 no_cut (b ∷ t) end = elim (cases_Bool (b == 45)) [
   | inl hyphen ↦ (let wrong : 0 ≡ suc (length t) = rw hyphen at end in absurd (omega arith))
-  | inr other ↦ (let rest : 1 + position_or_len (λ b. b == 45) t ≡ suc (length t) = rw other at end in rw (other, no_cut t (omega arith)) refl)
+  | inr other ↦ (let rest : 1 + position_or_len (λ b. b == 45) t ≡ suc (length t) = rw other at end in
+      rw (other, no_cut t (omega arith)) refl)
 ]
 
 pub cut-parts : (t : List ℕ) (r : Option (Bor (List ℕ) × Bor (List ℕ))) → IsSplitOnceResult 45 t r →
@@ -23,7 +25,8 @@ pub cut-parts : (t : List ℕ) (r : Option (Bor (List ℕ) × Bor (List ℕ))) �
 cut-parts t None is = no_cut t (split_once_first 45 t None is (omega arith))
 cut-parts t (Some x) is =
     let found = split_once_first 45 t (Some x) is (omega arith) in
-    slice_split_first (λ b. b == 45) t 0 found.0 ∙ ap (λ a. a ∷ parts (after_first (λ b. b == 45) t)) (sym found.1) ∙ ap (λ b. x.0.now ∷ parts b) (sym found.2)
+    slice_split_first (λ b. b == 45) t 0 found.0 ∙ ap (λ a. a ∷ parts (after_first (λ b. b == 45) t)) (sym found.1)
+    ∙ ap (λ b. x.0.now ∷ parts b) (sym found.2)
 
 pub parts-some : (t : List ℕ) → or_empty (parts t) ≡ parts t
 parts-some [] = refl

@@ -1,5 +1,6 @@
 -- Texts in the digits of a set, by their characters.
-use Rattle.std.proofs.Common.{◌≡◌, ℕ, suc, ◌+◌, ◌-◌, ◌<◌, ◌≤◌, ◌⊎◌, inl, inr, true, false, List, [], ◌∷◌, ◌++◌, length, Some, None, refl, ap, ◌∙◌, sym, arith, get_or, append-nil, IsUtf8}
+use Rattle.std.proofs.Common.{◌≡◌, ℕ, suc, ◌+◌, ◌-◌, ◌<◌, ◌≤◌, ◌⊎◌, inl, inr, true, false, List, [], ◌∷◌, ◌++◌, length, Some, None, refl}
+use Rattle.std.proofs.Common.{ap, ◌∙◌, sym, arith, get_or, append-nil, IsUtf8}
 use Rattle.std.specs.Prelude.{map, encode_utf8}
 use Rattle.std.specs.Char.{is_ascii_digit}
 use Rattle.std.specs.List.{list_any}
@@ -61,7 +62,8 @@ shown-scalars z (c ∷ cs) is all =
     let both = and_parts _ _ all in
     let rest = shown-scalars z cs is both.1 in
     elim (cases_Bool (is_ascii_digit c)) [
-      | inl digit ↦ (let small : c - 48 < 10 = grind (arith, nat_tests, digit) in and_from _ _ (rw digit (digit-scalar z (c - 48) is small)) rest)
+      | inl digit ↦ (let small : c - 48 < 10 = grind (arith, nat_tests, digit) in
+          and_from _ _ (rw digit (digit-scalar z (c - 48) is small)) rest)
       | inr other ↦ and_from _ _ (rw other both.0) rest
     ]
 
@@ -75,7 +77,8 @@ shown-chars z t is utf8 =
 pub other-own : (z at c : ℕ) (cs : List ℕ) → is_other z c ≡ false → other_from z at (c ∷ cs) ≡ other_from z (at + length (encode_utf8 c)) cs
 other-own z at c cs own = rw own
 
-other-parts : (z at c : ℕ) (cs : List ℕ) → other_from z at (c ∷ cs) ≡ None → (is_other z c ≡ false) × (other_from z (at + length (encode_utf8 c)) cs ≡ None)
+other-parts : (z at c : ℕ) (cs : List ℕ) → other_from z at (c ∷ cs) ≡ None → (is_other z c ≡ false)
+    × (other_from z (at + length (encode_utf8 c)) cs ≡ None)
 other-parts z at c cs none = elim (cases_Bool (is_other z c)) [
   | inl other ↦ (let wrong : Some at ≡ None = rw other at none in cc)
   | inr own ↦ (own, sym (other-own z at c cs own) ∙ none)
@@ -87,20 +90,28 @@ plain-again : (z at : ℕ) (cs : List ℕ) → IsZero z → list_any is_other_nu
 plain-again z at [] is none = (refl, refl)
 plain-again z at (c ∷ cs) is none =
     let parts = or_parts _ _ none in
-    let rest = plain-again z (at + length (encode_utf8 (shown z c))) cs is parts.1 in
-    (other-own z at (shown z c) (map (shown z) cs) (shown-own z c is parts.0) ∙ rest.0, ap (λ d. d ∷ map (plain_char z) (map (shown z) cs)) (plain-shown z c is parts.0) ∙ ap (λ ds. c ∷ ds) rest.1)
+    let rest = plain-again z (at + length (encode_utf8 (shown z c))) cs is parts.1 in (
+      other-own z at (shown z c) (map (shown z) cs) (shown-own z c is parts.0) ∙ rest.0,
+      ap (λ d. d ∷ map (plain_char z) (map (shown z) cs)) (plain-shown z c is parts.0) ∙ ap (λ ds. c ∷ ds) rest.1,
+    )
 
-pub reads_back : (z : ℕ) (t : List ℕ) → IsZero z → IsUtf8 t → list_any is_other_numeral (chars t) ≡ false → HasOneSet z (in_digits z t) × (ascii_of z (in_digits z t) ≡ t)
+pub reads_back : (z : ℕ) (t : List ℕ) → IsZero z → IsUtf8 t → list_any is_other_numeral (chars t) ≡ false → HasOneSet z (in_digits z t)
+    × (ascii_of z (in_digits z t) ≡ t)
 reads_back z t is utf8 none =
     let cs = (shown-chars z t is utf8).1 in
-    let again = plain-again z 0 (chars t) is none in
-    (ap (other_from z 0) cs ∙ again.0, ap (λ ds. encode_utf8_all (map (plain_char z) ds)) cs ∙ ap encode_utf8_all again.1 ∙ encodes-chars t utf8)
+    let again = plain-again z 0 (chars t) is none in (
+      ap (other_from z 0) cs ∙ again.0,
+      ap (λ ds. encode_utf8_all (map (plain_char z) ds)) cs ∙ ap encode_utf8_all again.1
+          ∙ encodes-chars t utf8,
+    )
 
 shown-again : (z at : ℕ) (cs : List ℕ) → IsZero z → other_from z at cs ≡ None → map (shown z) (map (plain_char z) cs) ≡ cs
 shown-again z at [] is none = refl
 shown-again z at (c ∷ cs) is none =
     let parts = other-parts z at c cs none in
-    ap (λ d. d ∷ map (shown z) (map (plain_char z) cs)) (shown-plain z c is parts.0) ∙ ap (λ ds. c ∷ ds) (shown-again z (at + length (encode_utf8 c)) cs is parts.1)
+    ap (λ d. d ∷ map (shown z) (map (plain_char z) cs)) (shown-plain z c is parts.0)
+    ∙ ap (λ ds. c ∷ ds) (shown-again z (at + length (encode_utf8 c)) cs is parts.1)
 
 pub one_set : (z : ℕ) (t : List ℕ) → IsZero z → IsUtf8 t → HasOneSet z t → in_digits z (ascii_of z t) ≡ t
-one_set z t is utf8 none = in_digits-encodes z (map (plain_char z) (chars t)) ∙ ap encode_utf8_all (shown-again z 0 (chars t) is none) ∙ encodes-chars t utf8
+one_set z t is utf8 none = in_digits-encodes z (map (plain_char z) (chars t)) ∙ ap encode_utf8_all (shown-again z 0 (chars t) is none)
+    ∙ encodes-chars t utf8

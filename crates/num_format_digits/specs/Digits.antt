@@ -1,5 +1,6 @@
 -- Digit sets, and texts in their digits.
-use Rattle.std.specs.Prelude.{◌≡◌, ◌≤◌, ℕ, ◌+◌, ◌-◌, Bool, not, ◌&&◌, if◌then◌else◌, List, [], ◌∷◌, Contains, bytes_eq, find, length, map, take, Option, Some, None, unwrap_or, encode_utf8}
+use Rattle.std.specs.Prelude.{◌≡◌, ◌≤◌, ℕ, ◌+◌, ◌-◌, Bool, not, ◌&&◌, if◌then◌else◌, List, [], ◌∷◌, Contains}
+use Rattle.std.specs.Prelude.{bytes_eq, find, length, map, take, Option, Some, None, unwrap_or, encode_utf8}
 use Rattle.std.specs.Char.{is_ascii_digit}
 use Rattle.std.specs.Int.{is_in_range}
 use Rattle.std.specs.List.{flat_map}

@@ -10,7 +10,8 @@ use Rattle.num_format_digits.specs.Digits.{HasOneSet, IsZero, ascii_of, in_digit
 
 -- a text in a digit set has the digits of the set where the text has 0 to 9, and its other characters
 abbrev pub ShownLaw : Type 0
-ShownLaw = (zero : ℕ) (t : List ℕ) → IsZero zero → IsUtf8 t → IsUtf8 (in_digits zero t) × (chars (in_digits zero t) ≡ map (shown zero) (chars t))
+ShownLaw = (zero : ℕ) (t : List ℕ) → IsZero zero → IsUtf8 t
+    → IsUtf8 (in_digits zero t) × (chars (in_digits zero t) ≡ map (shown zero) (chars t))
 
 -- a text without numerals but 0 to 9, shown in a set, is one of that set, and is that text again
 abbrev pub ReadsBackLaw : Type 0
@@ -26,7 +27,7 @@ pub data SpellsIn (z : ℕ) (f : FormatData) (t : List ℕ) (n : ℤ) : Type 0 w
   with_separators : t ≡ in_digits z (text_of f n) → SpellsIn z f t n
   without_separators : t ≡ in_digits z (text_of (ungrouped f) n) → SpellsIn z f t n
 
--- under a format that is not ambiguous, a text spells n in a set exactly if all its numerals are of the set, and with 0 to 9 for them it spells n
+-- under a format that is not ambiguous, a text spells n in a set exactly if its numerals are of the set, and with 0 to 9 for them it does
 abbrev pub SpellingLaw : Type 0
 SpellingLaw = (z : ℕ) (f : FormatData) (t : List ℕ) (n : ℤ) → IsZero z → IsUnambiguous f → HasUtf8Texts f → IsUtf8 t →
     SpellsIn z f t n ↔ (HasOneSet z t × SpellsNumber f (ascii_of z t) n)

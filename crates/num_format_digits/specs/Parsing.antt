@@ -30,7 +30,8 @@ place_in z t at = bytes_within (plain_char z) at (chars t)
 
 -- when a text is refused for a cause, where a format has to be taken, and the text with 0 to 9 is parsed as the relation says: first if
 -- the format is not
-abbrev pub IsDigitsCause : {X E : Type 0} → Type 0 → E → ((ℕ → ℕ) → E → E) → (List ℕ → Result X E → Type 0) → ℕ → List ℕ → DigitsError E → Type 0
+abbrev pub IsDigitsCause : {X E : Type 0} → Type 0 → E → ((ℕ → ℕ) → E → E) → (List ℕ → Result X E → Type 0)
+    → ℕ → List ℕ → DigitsError E → Type 0
 IsDigitsCause Taken ambiguous place parses z t (Number e) =
     (¬ Taken × (e ≡ ambiguous))
     ⊎ (HasOneSet z t × (length (ascii_of z t) ≤ MAX_DECIMAL_LEN)
@@ -38,7 +39,8 @@ IsDigitsCause Taken ambiguous place parses z t (Number e) =
 IsDigitsCause Taken ambiguous place parses z t e = Taken × IsTextCause z t e
 
 -- what parsing returns: what the text with 0 to 9 is parsed as, if each of its numeric characters is a digit of the set, or the cause
-abbrev pub InDigits : {X E : Type 0} → Type 0 → E → ((ℕ → ℕ) → E → E) → (List ℕ → Result X E → Type 0) → ℕ → List ℕ → Result X (DigitsError E) → Type 0
+abbrev pub InDigits : {X E : Type 0} → Type 0 → E → ((ℕ → ℕ) → E → E) → (List ℕ → Result X E → Type 0)
+    → ℕ → List ℕ → Result X (DigitsError E) → Type 0
 InDigits Taken ambiguous place parses z t result =
     MatchResult result (λ x. HasOneSet z t × parses (ascii_of z t) (Ok x)) (IsDigitsCause Taken ambiguous place parses z t)
 

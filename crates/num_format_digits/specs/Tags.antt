@@ -1,5 +1,6 @@
 -- The digit set that a language tag names.
-use Rattle.std.specs.Prelude.{◌≡◌, ◌==◌, ℕ, Bool, List, [], ◌∷◌, bytes_eq, codes, map, if◌then◌else◌, Option, Some, None, Result, Ok, MatchResult, IsSome}
+use Rattle.std.specs.Prelude.{◌≡◌, ◌==◌, ℕ, Bool, List, [], ◌∷◌, bytes_eq, codes, map, if◌then◌else◌}
+use Rattle.std.specs.Prelude.{Option, Some, None, Result, Ok, MatchResult, IsSome}
 use Rattle.std.specs.Bool.{MatchBool}
 use Rattle.std.specs.Char.{to_ascii_lowercase}
 use Rattle.std.specs.List.{slice_split}
@@ -38,9 +39,10 @@ name_at ps = if is_some (after (codes "nu") ps) then [] else first ps
 abbrev pub digits_in : List ℕ → Option (List ℕ)
 digits_in tag = option_map name_at (option_and_then (after (codes "nu")) (after (codes "u") (parts tag)))
 
--- what is returned of a tag with that name: nothing, the default set of the locale as which it is looked up, the set of the name, or an error
+-- what is returned of a tag with that name: nothing, the default set of the locale that the tag finds, the set of the name, or an error
 abbrev pub TagResult : {E : Type 0} → List ℕ → Option (List ℕ) → Result (Option ℕ) E → Type 0
 TagResult tag None result = result ≡ Ok None
 TagResult tag (Some name) result = MatchBool (bytes_eq name (codes "native"))
-    (MatchResult result (λ zero. (place : ℕ) × LooksUpTag tag (Some place) × (zero ≡ Some (default_zero (name_of place)))) (λ e. LooksUpTag tag None))
+    (MatchResult result (λ zero. (place : ℕ) × LooksUpTag tag (Some place) × (zero ≡ Some (default_zero (name_of place))))
+    (λ e. LooksUpTag tag None))
     (MatchResult result (λ zero. (zero ≡ digits_named name) × IsSome zero) (λ e. digits_named name ≡ None))

@@ -87,8 +87,8 @@ pub trait Format {
         ensures { result ≡ (answers self.now).separator };
 
     /// Returns whether the minus sign and the separator are known to have only characters that those of locales have,
-    /// of which none is numeric. Strict parsing looks at the characters of other formats with each text, but a parser that
-    /// is kept for many texts does once.
+    /// of which none is numeric. Strict parsing looks at the characters of other formats with each text, but a parser
+    /// that is kept for many texts does once.
     ///
     /// ```rust
     /// Format::has_common_symbols(&Locale::en)    // true

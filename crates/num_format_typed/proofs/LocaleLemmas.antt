@@ -33,5 +33,7 @@ length-table = length-map members entry_of ∙ length-members
 pub locale_typable : (place : ℕ) → place < LEN → IsTypable (locale_data place)
 locale_typable place within =
     let well = entry_is_well_formed place within in
-    typable (locale_data place) (unambiguous_from_common (locale_data place) (record { sign_given = well.min_given; sign = well.min_characters; separator = well.sep_characters }))
-    (All-get_or (λ e. entry_passes e ≡ true) table place no_entry (omega (arith, length-table)) (AllPass-from_list_all (λ e. entry_passes e) table all_pass))
+    typable (locale_data place) (unambiguous_from_common (locale_data place)
+    (record { sign_given = well.min_given; sign = well.min_characters; separator = well.sep_characters }))
+    (All-get_or (λ e. entry_passes e ≡ true) table place no_entry (omega (arith, length-table))
+    (AllPass-from_list_all (λ e. entry_passes e) table all_pass))

@@ -43,9 +43,11 @@ chars-push t front c utf8 utf8_front same =
     ∙ sym (encodes-append (chars front) (c ∷ [])))
 
 -- where characters that pass end from the end, or the one before them passes
-pub end-stops : (p : ℕ → Bool) (all cs ds bytes : List ℕ) (c : ℕ) → trim_end p all ≡ trim_end p cs → cs ≡ ds ++ c ∷ [] → p c ≡ false → encode_utf8_all cs ≡ bytes → bytes ≡ encode_utf8_all (trim_end p all)
+pub end-stops : (p : ℕ → Bool) (all cs ds bytes : List ℕ) (c : ℕ) → trim_end p all ≡ trim_end p cs → cs ≡ ds ++ c ∷ [] → p c ≡ false
+    → encode_utf8_all cs ≡ bytes → bytes ≡ encode_utf8_all (trim_end p all)
 end-stops p all cs ds bytes c so_far last fails same =
     sym same ∙ ap encode_utf8_all (last ∙ sym (trim_end-kept p ds c fails) ∙ ap (trim_end p) (sym last) ∙ sym so_far)
 
-pub end-passes : (p : ℕ → Bool) (all cs ds : List ℕ) (c : ℕ) → trim_end p all ≡ trim_end p cs → cs ≡ ds ++ c ∷ [] → p c ≡ true → trim_end p all ≡ trim_end p ds
+pub end-passes : (p : ℕ → Bool) (all cs ds : List ℕ) (c : ℕ) → trim_end p all ≡ trim_end p cs → cs ≡ ds ++ c ∷ [] → p c ≡ true
+    → trim_end p all ≡ trim_end p ds
 end-passes p all cs ds c so_far last passes = so_far ∙ ap (trim_end p) last ∙ trim_end-push p ds c passes

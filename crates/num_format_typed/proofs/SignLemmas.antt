@@ -20,7 +20,8 @@ starts-not t p lacks =
     ]
 
 -- a text without its first character
-pub first-dropped : (t rest : List ℕ) (c : ℕ) → chars t ≡ c ∷ chars rest → t ≡ encode_utf8 c ++ rest → encode_utf8_all (chars t) ≡ t → rest ≡ encode_utf8_all (drop 1 (chars t))
+pub first-dropped : (t rest : List ℕ) (c : ℕ) → chars t ≡ c ∷ chars rest → t ≡ encode_utf8 c ++ rest → encode_utf8_all (chars t) ≡ t
+    → rest ≡ encode_utf8_all (drop 1 (chars t))
 first-dropped t rest c first split whole =
     let same : encode_utf8 c ++ encode_utf8_all (chars rest) ≡ encode_utf8 c ++ rest = sym (ap encode_utf8_all first) ∙ whole ∙ split in
     sym (ap (λ cs. encode_utf8_all (drop 1 cs)) first ∙ (encode_same c c (encode_utf8_all (chars rest)) rest same).1)

@@ -15,7 +15,8 @@ use Rattle.num_format_text.specs.Format.{FormatData}
 use Rattle.num_format_parsing.specs.Strict.{IsUnambiguous}
 use Rattle.num_format_typed.specs.Classes.{is_of}
 use Rattle.num_format_typed.specs.Rewriting.{without_ends}
-use Rattle.num_format_typed.specs.Typed.{IsTypable, begins_with, core_of, has_shared, is_own, separator_of, usual_marks, usual_separators, usual_signs}
+use Rattle.num_format_typed.specs.Typed.{IsTypable, begins_with, core_of, has_shared, is_own, separator_of, usual_marks, usual_separators}
+use Rattle.num_format_typed.specs.Typed.{usual_signs}
 use Rattle.num_format_typed.specs.declared.classes.Class.TheVariants.{Direction, End, Plus}
 
 -- what is asked of symbols, as a test; `core` is the minus sign without marks of direction at its ends
@@ -61,13 +62,20 @@ usual : (separator mark sign : List ℕ) → Contains usual_separators separator
 usual s d m in_s in_d in_m =
     let of_sign = of_all (λ m. sign_passes m) usual_signs m usual_pass in_m in
     let of_mark = of_all (λ d. passes_under m d) usual_marks d of_sign in_d in
-    let both : passes_with m d s ≡ true = of_all (λ s. passes_with m d s) usual_separators s of_mark in_s in
-    ((slice_eq-Decides Decides-eqb (without_ends (is_of Direction) m) m (pointwise nat_eq (without_ends (is_of Direction) m) m) refl).0 (first_so _ _ both), second_so _ _ both)
+    let both : passes_with m d s ≡ true = of_all (λ s. passes_with m d s) usual_separators s of_mark in_s in (
+      (slice_eq-Decides Decides-eqb (without_ends (is_of Direction) m) m (pointwise nat_eq (without_ends (is_of Direction) m) m) refl).0
+          (first_so _ _ both),
+      second_so _ _ both,
+    )
 
 -- so a format with usual symbols is typable, and its minus sign has no marks of direction at its ends
-pub usual-typable : (f : FormatData) (separator mark sign : List ℕ) → IsUnambiguous f → separator ≡ separator_of f → mark ≡ f.decimal → sign ≡ f.minus_sign →
+pub usual-typable : (f : FormatData) (separator mark sign : List ℕ) → IsUnambiguous f → separator ≡ separator_of f → mark ≡ f.decimal
+    → sign ≡ f.minus_sign →
     Contains usual_separators separator → Contains usual_marks mark → Contains usual_signs sign → (sign ≡ core_of f) × IsTypable f
 usual-typable f s d m unambiguous same_s same_d same_m in_s in_d in_m =
     let both = usual s d m in_s in_d in_m in
-    let core : m ≡ core_of f = sym both.0 ∙ ap (without_ends (is_of Direction)) same_m in
-    (core, typable f unambiguous (sym (ap (λ x. passes x f.decimal (core_of f)) same_s) ∙ sym (ap (λ x. passes s x (core_of f)) same_d) ∙ sym (ap (λ x. passes s d x) core) ∙ both.1))
+    let core : m ≡ core_of f = sym both.0 ∙ ap (without_ends (is_of Direction)) same_m in (
+      core,
+      typable f unambiguous (sym (ap (λ x. passes x f.decimal (core_of f)) same_s) ∙ sym (ap (λ x. passes s x (core_of f)) same_d)
+          ∙ sym (ap (λ x. passes s d x) core) ∙ both.1),
+    )

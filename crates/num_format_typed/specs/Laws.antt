@@ -27,7 +27,8 @@ PrintedAtScaleLaw = (f : FormatData) (t : List ℕ) (scale : ℕ) (d : FixedPoin
 
 -- a text is typed for one number at most, and for one decimal
 abbrev pub OnceLaw : {X : Type 0} → Kind → (X → ℤ) → Type 0
-OnceLaw {X} k value = (f : FormatData) (t : List ℕ) (x y : X) → ParsesTyped k value f t (Ok x) → ParsesTyped k value f t (Ok y) → value x ≡ value y
+OnceLaw {X} k value = (f : FormatData) (t : List ℕ) (x y : X) → ParsesTyped k value f t (Ok x) → ParsesTyped k value f t (Ok y)
+    → value x ≡ value y
 
 abbrev pub OnceDecimalLaw : Type 0
 OnceDecimalLaw = (f : FormatData) (t : List ℕ) (x y : FixedPoint) → TypedDecimalResult f t (Ok x) → TypedDecimalResult f t (Ok y) → x ≡ y

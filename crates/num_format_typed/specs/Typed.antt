@@ -1,5 +1,6 @@
 -- What a typed text stands for, and what parsing it returns.
-use Rattle.std.specs.Prelude.{◌≡◌, ℕ, ℤ, ◌+◌, ◌-◌, ◌<◌, ◌≤◌, nat_eq, Bool, true, false, ◌&&◌, ◌||◌, ◌==◌, List, [], ◌∷◌, ◌++◌, length, drop, if◌then◌else◌, Option, Some, None, unwrap_or, Result, Ok, Err, MatchResult, IsUtf8, codes}
+use Rattle.std.specs.Prelude.{◌≡◌, ℕ, ℤ, ◌+◌, ◌-◌, ◌<◌, ◌≤◌, nat_eq, Bool, true, false, ◌&&◌, ◌||◌, ◌==◌, List, [], ◌∷◌, ◌++◌}
+use Rattle.std.specs.Prelude.{length, drop, if◌then◌else◌, Option, Some, None, unwrap_or, Result, Ok, Err, MatchResult, IsUtf8, codes}
 use Rattle.std.specs.Int.{is_in_range}
 use Rattle.std.specs.List.{find, list_all, list_any, starts_with}
 use Rattle.std.specs.Option.{option_or}

@@ -111,7 +111,8 @@ pub fn split_first(text: &str) -> Option<(char, &str)>
 #[inline]
 fn split_last(text: &str) -> Option<(&str, char)>
     ensures parts { MatchOption result (chars text.now ≡ [])
-        (λ parts. (chars text.now ≡ chars parts.0.now ++ parts.1 ∷ []) × (text.now ≡ parts.0.now ++ encode_utf8 parts.1)) }
+        (λ parts. (chars text.now ≡ chars parts.0.now ++ parts.1 ∷ [])
+        × (text.now ≡ parts.0.now ++ encode_utf8 parts.1)) }
     ensures shorter { IfSome result (λ parts. length parts.0.now < length text.now) }
     ensures whole { encode_utf8_all (chars text.now) ≡ text.now }
 {

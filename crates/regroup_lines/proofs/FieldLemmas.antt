@@ -191,7 +191,8 @@ placed-anew cs e quoted field from to text output is =
 pub passed-anew : (cs : Fields) (e : ℕ) (field : List ℕ) (output : Output) (quoted : Bool) → cs.output ≡ Some output → quoted ≡ (cs.quotes && is_opened field) →
     passed_as cs.output cs.quotes e field ≡ output_as output e quoted [] (slice_range field (bool_byte quoted) (length field)) []
 passed-anew cs e field output quoted is opens =
-    ap (λ o. passed_as o cs.quotes e field) is ∙ ap (λ q. output_as output e q [] (drop (cond q 1 0) field) []) (sym opens) ∙ by quoted ∙ ap (λ l. output_as output e quoted [] l []) (sym (take_rest field (bool_byte quoted)))
+    ap (λ o. passed_as o cs.quotes e field) is ∙ ap (λ q. output_as output e q [] (drop (cond q 1 0) field) []) (sym opens) ∙ by quoted
+    ∙ ap (λ l. output_as output e quoted [] l []) (sym (take_rest field (bool_byte quoted)))
   where
     by : (q : Bool) → output_as output e q [] (drop (cond q 1 0) field) [] ≡ output_as output e q [] (drop (bool_byte q) field) []
     by true = refl
@@ -220,9 +221,11 @@ placed-plain cs e quoted line sent start end from to text low within ordered is 
     ∙ rw front (simp append_assoc)
 
 pub passed-plain : (cs : Fields) (e : ℕ) (line : List ℕ) (sent start end : ℕ) → sent ≤ start → start ≤ end → cs.output ≡ None →
-    before_field cs (slice_range line sent start) ++ passed_as cs.output cs.quotes e (slice_range line start end) ≡ slice_range line sent end
+    before_field cs (slice_range line sent start) ++ passed_as cs.output cs.quotes e (slice_range line start end)
+    ≡ slice_range line sent end
 passed-plain cs e line sent start end low ordered none =
-    ap (λ b. b ++ passed_as cs.output cs.quotes e (slice_range line start end)) (before-plain cs _ none) ∙ ap (λ o. slice_range line sent start ++ passed_as o cs.quotes e (slice_range line start end)) none
+    ap (λ b. b ++ passed_as cs.output cs.quotes e (slice_range line start end)) (before-plain cs _ none)
+    ∙ ap (λ o. slice_range line sent start ++ passed_as o cs.quotes e (slice_range line start end)) none
     ∙ sym (slice-more line sent start end low ordered)
 
 pub sent-known : (known : Type 0) (s : Bool) (written : Result (List ℕ) Fault) (a b : Option (List ℕ)) (r : Result (Unit {0}) Fault) → SendsIf s ⊤ written a b r → SendsIf s known written a b r

@@ -4,9 +4,11 @@ use Rattle.regroup_lines.proofs.Common.{Lenient, Line, List, MARK, None, NotText
 use Rattle.regroup_lines.proofs.Common.{Some, Span, Strict, TooMany, Typed, [], after, ap, are_enough, between, body_written, cases_Bool}
 use Rattle.regroup_lines.proofs.Common.{cut_text, inl, inr, decimal_read, decimal_text, decimal_written, drop, typed_read, false}
 use Rattle.regroup_lines.proofs.Common.{field_count, field_read, field_with, field_written, fields_of, fields_written, if◌then◌else◌}
-use Rattle.regroup_lines.proofs.Common.{header_written, in_field, is_barred, is_chosen, is_utf8, join_with_byte, length, list_any, nat_le, number_place}
+use Rattle.regroup_lines.proofs.Common.{header_written, in_field, is_barred, is_chosen, is_utf8, join_with_byte, length, list_any, nat_le}
+use Rattle.regroup_lines.proofs.Common.{number_place}
 use Rattle.regroup_lines.proofs.Common.{number_read, number_written, numbers_replaced, ok_or, option_map, output_delimiter, passes_mark}
-use Rattle.regroup_lines.proofs.Common.{place_written, refl, result_map_both, slice_range, take, text_fault, text_of, trimmed, true, unmarked_written}
+use Rattle.regroup_lines.proofs.Common.{place_written, refl, result_map_both, slice_range, take, text_fault, text_of, trimmed, true}
+use Rattle.regroup_lines.proofs.Common.{unmarked_written}
 use Rattle.regroup_lines.proofs.Common.{with_first, ℕ, ℤ, ◌&&◌, ◌++◌, ◌+◌, ◌==◌, ◌∙◌, ◌∷◌, ◌≡◌}
 use Rattle.regroup_lines.specs.declared.rules.Span.TheVariants as span
 
@@ -107,6 +109,8 @@ module _ (rules : Rules) (from to : FormatData) (n m : ℕ) where
   body-numbered text headers marks =
       let rest = drop (length MARK) text in
       let unmarked : (text : List ℕ) → unmarked_written rules from to n text ≡ numbered n (unmarked_written rules from to m text) =
-      λ text. rw headers (either n (nat_le m rules.header_lines) (Ok (header_written rules.span rules.line_end text)) (Ok (header_written rules.span rules.line_end text)) _ _ refl (numbers rules.span text)) in
+      λ text. rw headers (either n (nat_le m rules.header_lines) (Ok (header_written rules.span rules.line_end text))
+      (Ok (header_written rules.span rules.line_end text)) _ _ refl (numbers rules.span text)) in
       rw marks (either n (passes_mark rules.span m text) _ _ _ _
-      (ap (after MARK) (unmarked rest) ∙ mapped n (λ written. MARK ++ written) (λ fault. fault) (λ fault. refl) (unmarked_written rules from to m rest)) (unmarked text))
+      (ap (after MARK) (unmarked rest) ∙ mapped n (λ written. MARK ++ written) (λ fault. fault) (λ fault. refl)
+      (unmarked_written rules from to m rest)) (unmarked text))

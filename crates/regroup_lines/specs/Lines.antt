@@ -1,5 +1,6 @@
 -- What regrouping the lines of an input writes and returns.
-use Rattle.std.specs.Prelude.{ℕ, ◌+◌, ◌==◌, nat_eq, nat_le, nat_lt, Bool, false, true, ◌&&◌, not, if◌then◌else◌, List, [], ◌∷◌, ◌++◌, length, map, take, drop, slice_range, Option, None, Some, Result, Ok, Err}
+use Rattle.std.specs.Prelude.{ℕ, ◌+◌, ◌==◌, nat_eq, nat_le, nat_lt, Bool, false, true, ◌&&◌, not, if◌then◌else◌}
+use Rattle.std.specs.Prelude.{List, [], ◌∷◌, ◌++◌, length, map, take, drop, slice_range, Option, None, Some, Result, Ok, Err}
 use Rattle.std.specs.List.{join_with_byte, list_any, starts_with}
 use Rattle.std.specs.Option.{ok_or, option_map}
 use Rattle.std.specs.Result.{result_map_both}
@@ -170,17 +171,20 @@ passes_mark (span.Fields fields) number text = (number == 1) && begins_with_mark
 abbrev pub header_written : Span → (line_end : ℕ) → List ℕ → List ℕ
 header_written span.Line line_end text = text
 header_written span.Trimmed line_end text = text
-header_written (span.Fields fields) line_end text = join_with_byte (output_delimiter fields) (map (λ field. field_with fields line_end field None) (fields_of fields text))
+header_written (span.Fields fields) line_end text =
+    join_with_byte (output_delimiter fields) (map (λ field. field_with fields line_end field None) (fields_of fields text))
 
 -- what is written in place of a line without a byte order mark
 abbrev pub unmarked_written : Rules → FormatData → FormatData → ℕ → List ℕ → Result (List ℕ) Fault
 unmarked_written rules from to number text =
-    if nat_le number rules.header_lines then Ok (header_written rules.span rules.line_end text) else numbers_replaced rules.span rules from to number text
+    if nat_le number rules.header_lines then Ok (header_written rules.span rules.line_end text) else
+    numbers_replaced rules.span rules from to number text
 
 -- what is written in place of a line
 abbrev pub body_written : Rules → FormatData → FormatData → ℕ → List ℕ → Result (List ℕ) Fault
 body_written rules from to number text =
-    if passes_mark rules.span number text then after MARK (unmarked_written rules from to number (drop (length MARK) text)) else unmarked_written rules from to number text
+    if passes_mark rules.span number text then after MARK (unmarked_written rules from to number (drop (length MARK) text)) else
+    unmarked_written rules from to number text
 
 -- whether a line at fault is passed on
 abbrev pub passes : Invalid → Bool

@@ -264,7 +264,8 @@ impl<F: Format, G: Format> Line<'_, F, G> {
     fn pass<W: Write>(&self, field: &Field<'_>, w: &mut W) -> Result<usize, Unsent>
         ensures sent { SendsBut self.now.sends (λ from. slice_range field.now.line.now from field.now.end)
             (Ok (before_field self.now.fields.now (slice_range field.now.line.now field.now.sent field.now.start)
-            ++ passed_as self.now.fields.now.output self.now.fields.now.quotes self.now.job.now.rules.now.line_end (slice_range field.now.line.now field.now.start field.now.end)))
+            ++ passed_as self.now.fields.now.output self.now.fields.now.quotes self.now.job.now.rules.now.line_end
+            (slice_range field.now.line.now field.now.start field.now.end)))
             (W.contents w.old) (W.contents w.new) (result_map_both (λ from. from) (λ unsent. Write) result) }
         ensures within { IfOk result (λ from. from ≤ field.now.end) }
         ensures anew { IfOk result (λ from. (self.now.fields.now.output ≡ None) ⊎ (from ≡ field.now.end)) }

@@ -436,8 +436,8 @@ fn pass_bytes<W: Write, X: Write>(
     }
 }
 
-/// Sends a line with its numbers regrouped, and the byte that ends it. A byte order mark, and the numbers of a header, are
-/// passed on.
+/// Sends a line with its numbers regrouped, and the byte that ends it. A byte order mark, and the numbers of a header,
+/// are passed on.
 fn regroup_body<'a, W: Write, F: Format, G: Format>(
     job: &Job<F, G>,
     line: &Record<'a>,
@@ -467,7 +467,9 @@ fn regroup_marked<'a, W: Write, F: Format, G: Format>(
     w: &mut W,
 ) -> Result<(), LineFault<'a>>
     requires { IsEnded job.now.rules.now.line_end rest.now }
-    ensures { SendsLine job.now.rules.now.line_end (after MARK (unmarked_written job.now.rules.now job.now.parser (G.answers job.now.to.now) rest.now.number rest.now.text.now))
+    ensures { SendsLine job.now.rules.now.line_end
+        (after MARK (unmarked_written job.now.rules.now job.now.parser (G.answers job.now.to.now)
+        rest.now.number rest.now.text.now))
         (W.contents w.old) (W.contents w.new) (result_map_both (λ sent. sent) line_fault_of result) }
 {
     // Of a line at fault nothing is sent, so it is read before the mark is sent.
@@ -487,7 +489,8 @@ fn send_header<'a, W: Write, F: Format, G: Format>(
     w: &mut W,
 ) -> Result<(), LineFault<'a>>
     requires { IsEnded job.now.rules.now.line_end line.now }
-    ensures { SendsLine job.now.rules.now.line_end (Ok (header_written job.now.rules.now.span job.now.rules.now.line_end line.now.text.now))
+    ensures { SendsLine job.now.rules.now.line_end
+        (Ok (header_written job.now.rules.now.span job.now.rules.now.line_end line.now.text.now))
         (W.contents w.old) (W.contents w.new) (result_map_both (λ sent. sent) line_fault_of result) }
 {
     match &job.rules.span {
@@ -510,7 +513,9 @@ fn regroup_numbers<'a, W: Write, F: Format, G: Format>(
     w: &mut W,
 ) -> Result<(), LineFault<'a>>
     requires { IsEnded job.now.rules.now.line_end line.now }
-    ensures { SendsLine job.now.rules.now.line_end (unmarked_written job.now.rules.now job.now.parser (G.answers job.now.to.now) line.now.number line.now.text.now)
+    ensures { SendsLine job.now.rules.now.line_end
+        (unmarked_written job.now.rules.now job.now.parser (G.answers job.now.to.now)
+        line.now.number line.now.text.now)
         (W.contents w.old) (W.contents w.new) (result_map_both (λ sent. sent) line_fault_of result) }
 {
     let (rules, text) = (job.rules, line.text);

@@ -1,4 +1,4 @@
-//! Each kind of line, of which a reader gives parts: the output is flushed before each read, and a line is written together.
+//! Each kind of line, of which a reader gives parts: the output is flushed before each read, and a line is one write.
 
 use crate::ReadStep::Give;
 use crate::rules::RULES;
@@ -43,7 +43,7 @@ const SECOND: Fields<'static> = Fields {
     output: None,
 };
 
-/// The rules, lines, what is written of them under `de`, and the writes of the output, of messages and of rejected lines.
+/// The rules, lines, what is written of them under `de`, and the writes of output, messages and rejected lines.
 type Kind<'a> = (Rules<'a>, &'a [u8], &'a [u8], [usize; 3]);
 
 #[rattlefmt::skip]
@@ -122,7 +122,8 @@ fn a_long_number(rt: HostRuntime) -> Result<(), Fail> {
         .separator("stuvwxyz")
         .grouping(Grouping::Indian)
         .build()?;
-    let out = b"1stuvwxyz70stuvwxyz14stuvwxyz11stuvwxyz83stuvwxyz46stuvwxyz04stuvwxyz69stuvwxyz20stuvwxyz692\n";
+    let out =
+        b"1stuvwxyz70stuvwxyz14stuvwxyz11stuvwxyz83stuvwxyz46stuvwxyz04stuvwxyz69stuvwxyz20stuvwxyz692\n";
     let kind: Kind<'_> = (PLAIN, b"17014118346046920692\n", out, [1, 0, 0]);
     for steps in &PARTS {
         assert_kind(&rt, rt.alloc(), &kind, steps, &format)?;

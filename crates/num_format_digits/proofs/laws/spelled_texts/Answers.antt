@@ -13,14 +13,16 @@ use Rattle.num_format_digits.proofs.TextLemmas.{one_set, reads_back}
 use Rattle.num_format_digits.proofs.laws.spelled_texts.Goals as goal
 
 -- what spells n is shown, and is of one set
-shown : (z : ℕ) (f : FormatData) (t a : List ℕ) (n : ℤ) → IsZero z → HasPlainSymbols f → SpellsNumber f a n → t ≡ in_digits z a → HasOneSet z t × SpellsNumber f (ascii_of z t) n
+shown : (z : ℕ) (f : FormatData) (t a : List ℕ) (n : ℤ) → IsZero z → HasPlainSymbols f → SpellsNumber f a n → t ≡ in_digits z a
+    → HasOneSet z t × SpellsNumber f (ascii_of z t) n
 shown z f t a n is symbols spells same =
     let other = no_other-spelled f a n symbols spells in
     let back = reads_back z a is other.utf8 other.plain in
     (subst (HasOneSet z) (sym same) back.0, subst (λ x. SpellsNumber f x n) (sym (ap (ascii_of z) same ∙ back.1)) spells)
 
 -- one way and the other
-there : (z : ℕ) (f : FormatData) (t : List ℕ) (n : ℤ) → IsZero z → HasPlainSymbols f → SpellsIn z f t n → HasOneSet z t × SpellsNumber f (ascii_of z t) n
+there : (z : ℕ) (f : FormatData) (t : List ℕ) (n : ℤ) → IsZero z → HasPlainSymbols f → SpellsIn z f t n → HasOneSet z t
+    × SpellsNumber f (ascii_of z t) n
 there z f t n is symbols (SpellsIn.with_separators same) = shown z f t _ n is symbols (SpellsNumber.with_separators refl) same
 there z f t n is symbols (SpellsIn.without_separators same) = shown z f t _ n is symbols (SpellsNumber.without_separators refl) same
 

@@ -1,5 +1,6 @@
 -- num_format_digits/proofs/printing/put_byte/Answers.antt
-use Rattle.std.proofs.Common.{◌≡◌, ◌+◌, ◌-◌, ◌≤◌, ◌++◌, ◌∙◌, length, take, drop, ap, sym, arith, ℕ, List, [], ◌∷◌, get_or, set, append_assoc, length-append}
+use Rattle.std.proofs.Common.{◌≡◌, ◌+◌, ◌-◌, ◌≤◌, ◌++◌, ◌∙◌, length, take, drop, ap, sym, arith, ℕ, List, [], ◌∷◌, get_or, set}
+use Rattle.std.proofs.Common.{append_assoc, length-append}
 use Rattle.std.specs.Prelude.{encode_utf8}
 use Rattle.std.specs.Char.{is_ascii_digit}
 use borrow.Rule.Slice.PartMut.{put_mid}
@@ -28,10 +29,18 @@ raised xs ys bytes n w v same four fits some few =
     let split : i ≡ n + k = omega arith in
     let inside : n ≤ length xs = omega arith in
     let written = take-put_mid n (n + 4 - n) xs ys (n + 4) (omega (arith, ap length same)) inside in
-    let long : n + 4 ≤ length b = omega (arith, length-take (n + 4) b, ap length written, length-append (take n xs) ys, length-take-le n xs inside, ap length same) in
+    let long : n + 4 ≤ length b = omega (
+      arith,
+      length-take (n + 4) b,
+      ap length written,
+      length-append (take n xs) ys,
+      length-take-le n xs inside,
+      ap length same,
+    ) in
     ap (λ m. take m (set b i v)) next
     ∙ take_more_set b i v (omega arith)
-    ∙ ap (λ t. t ++ v ∷ []) (sym (take-take i (n + 4) b (omega arith)) ∙ ap (take i) written ∙ ap (λ m. take m (take n xs ++ ys)) split ∙ after xs ys n k inside ∙ ap (λ t. take n xs ++ take k t) same)
+    ∙ ap (λ t. t ++ v ∷ []) (sym (take-take i (n + 4) b (omega arith)) ∙ ap (take i) written ∙ ap (λ m. take m (take n xs ++ ys)) split
+    ∙ after xs ys n k inside ∙ ap (λ t. take n xs ++ take k t) same)
     ∙ append_assoc (take n xs) (take k bytes) (v ∷ [])
 
 pub overflow_add-array : goal.overflow_add-array
@@ -44,8 +53,19 @@ returns-clause-text c =
     let a = c.args in
     let digit = c.if-not-is_ascii_digit.ensures in
     let d = a.byte - 48 in
-    let shown : shown_byte a.digits a.byte ≡ encode_utf8 (a.digits + d) = cond-true (is_ascii_digit a.byte) (encode_utf8 (a.digits + d)) (a.byte ∷ []) (sym digit.value) in
+    let shown : shown_byte a.digits a.byte ≡ encode_utf8 (a.digits + d) =
+    cond-true (is_ascii_digit a.byte) (encode_utf8 (a.digits + d)) (a.byte ∷ []) (sym digit.value) in
     let copied = c.copy_from_slice.ensures in
-    let four : length a.zero ≡ 4 = omega (arith, ap length copied.after, copied.len, length-take (a.len + 4 - a.len) (drop a.len a.array.now), length-drop a.len a.array.now, c.requires.fits) in
-    raised a.array.now c.copy_from_slice.new.self a.zero a.len a.width (get_or a.zero (a.width - 1) 0 + d) copied.after four c.requires.fits c.requires.zero.some (omega (arith, c.requires.zero.within, four))
-    ∙ ap (λ t. take a.len a.array.now ++ t) (zero-raised a.digits a.width d a.zero c.requires.set (let h = digit.cases in omega arith) c.requires.zero ∙ sym shown)
+    let four : length a.zero ≡ 4 = omega (
+      arith,
+      ap length copied.after,
+      copied.len,
+      length-take (a.len + 4 - a.len) (drop a.len a.array.now),
+      length-drop a.len a.array.now,
+      c.requires.fits,
+    ) in
+    raised a.array.now c.copy_from_slice.new.self a.zero a.len a.width
+    (get_or a.zero (a.width - 1) 0 + d) copied.after four c.requires.fits c.requires.zero.some
+    (omega (arith, c.requires.zero.within, four))
+    ∙ ap (λ t. take a.len a.array.now ++ t) (zero-raised a.digits a.width d a.zero c.requires.set
+    (let h = digit.cases in omega arith) c.requires.zero ∙ sym shown)

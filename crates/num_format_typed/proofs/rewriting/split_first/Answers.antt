@@ -16,7 +16,13 @@ pub returns-clause-shorter : goal.returns-clause-shorter
 returns-clause-shorter c =
     let first : c.args.text.now ≡ encode_utf8 c.in-Some.first ++ c.as_str.result.now =
     sym c.chars-chars.ensures.rest ∙ c.in-Some.ensures.steps.0 ∙ ap (λ r. encode_utf8 c.in-Some.first ++ r) (sym c.as_str.ensures) in
-    omega (arith, ap length first, length-append (encode_utf8 c.in-Some.first) c.as_str.result.now, length-encode c.in-Some.first, len_utf8_bounds c.in-Some.first)
+    omega (
+      arith,
+      ap length first,
+      length-append (encode_utf8 c.in-Some.first) c.as_str.result.now,
+      length-encode c.in-Some.first,
+      len_utf8_bounds c.in-Some.first,
+    )
 
 pub returns-clause-whole : goal.returns-clause-whole
 returns-clause-whole c = encodes-chars c.args.text.now c.utf8.text

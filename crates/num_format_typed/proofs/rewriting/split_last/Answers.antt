@@ -5,7 +5,8 @@ use Rattle.num_format_typed.proofs.RewritingLemmas.{chars-none, chars-push}
 use Rattle.num_format_typed.proofs.rewriting.split_last.Goals as goal
 
 pub returns-in_default-clause-parts : goal.returns-in_default-clause-parts
-returns-in_default-clause-parts c = chars-none c.args.text.now (omega (arith, ap length c.chars-chars.ensures.rest, c.in_default.ensures.steps))
+returns-in_default-clause-parts c = chars-none c.args.text.now
+    (omega (arith, ap length c.chars-chars.ensures.rest, c.in_default.ensures.steps))
 
 pub returns-in_default-clause-whole : goal.returns-in_default-clause-whole
 returns-in_default-clause-whole c = encodes-chars c.args.text.now c.utf8.text
@@ -20,7 +21,13 @@ pub returns-clause-shorter : goal.returns-clause-shorter
 returns-clause-shorter c =
     let last : c.args.text.now ≡ c.as_str.result.now ++ encode_utf8 c.in-Some.last =
     sym c.chars-chars.ensures.rest ∙ c.in-Some.ensures.steps ∙ ap (λ r. r ++ encode_utf8 c.in-Some.last) (sym c.as_str.ensures) in
-    omega (arith, ap length last, length-append c.as_str.result.now (encode_utf8 c.in-Some.last), length-encode c.in-Some.last, len_utf8_bounds c.in-Some.last)
+    omega (
+      arith,
+      ap length last,
+      length-append c.as_str.result.now (encode_utf8 c.in-Some.last),
+      length-encode c.in-Some.last,
+      len_utf8_bounds c.in-Some.last,
+    )
 
 pub returns-clause-whole : goal.returns-clause-whole
 returns-clause-whole c = encodes-chars c.args.text.now c.utf8.text

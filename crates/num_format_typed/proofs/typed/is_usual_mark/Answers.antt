@@ -4,7 +4,9 @@ use Rattle.num_format_typed.specs.Typed.{usual_marks}
 use Rattle.num_format_typed.proofs.typed.is_usual_mark.Goals as goal
 
 pub returns-in-text : goal.returns-in-text
-returns-in-text c = let same : c.args.text.now ≡ 46 ∷ [] = search rules in λ yes. subst (Contains usual_marks) (sym same) (0, omega arith, refl)
+returns-in-text c = let same : c.args.text.now ≡ 46 ∷ [] = search rules in
+    λ yes. subst (Contains usual_marks) (sym same) (0, omega arith, refl)
 
 pub returns-in-text-2 : goal.returns-in-text-2
-returns-in-text-2 c = let same : c.args.text.now ≡ 44 ∷ [] = search rules in λ yes. subst (Contains usual_marks) (sym same) (1, omega arith, refl)
+returns-in-text-2 c = let same : c.args.text.now ≡ 44 ∷ [] = search rules in
+    λ yes. subst (Contains usual_marks) (sym same) (1, omega arith, refl)

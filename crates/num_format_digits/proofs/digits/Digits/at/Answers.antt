@@ -8,4 +8,5 @@ returns c = zero-at c.sets.result.now c.args.place _ c.sets.ensures.listed (omeg
 
 pub invariant_of-result : goal.invariant_of-result
 invariant_of-result c =
-    subst IsZero (sym (zero-at c.sets.result.now c.args.place _ c.sets.ensures.listed (omega (arith, c.sets.ensures.count, c.requires)))) (zero-there c.args.place c.requires)
+    subst IsZero (sym (zero-at c.sets.result.now c.args.place _ c.sets.ensures.listed (omega (arith, c.sets.ensures.count, c.requires))))
+    (zero-there c.args.place c.requires)

@@ -8,7 +8,8 @@ use Rattle.num_format_digits.proofs.SetLemmas.{set-count}
 use Rattle.num_format_digits.proofs.digits.Digits.of_digit.Goals as goal
 
 -- one more zero
-step : (ch i : ℕ) → i < 77 → find (λ z. is_digit_of z ch) (drop i (zeros sets)) ≡ find (λ z. is_digit_of z ch) (get_or (zeros sets) i 0 ∷ drop (i + 1) (zeros sets))
+step : (ch i : ℕ) → i < 77 → find (λ z. is_digit_of z ch) (drop i (zeros sets)) ≡ find (λ z. is_digit_of z ch)
+    (get_or (zeros sets) i 0 ∷ drop (i + 1) (zeros sets))
 step ch i inside = at_drop_more (find (λ z. is_digit_of z ch)) (zeros sets) i 0 (omega (arith, set-count, inside))
 
 pub returns-then-has : goal.returns-then-has
@@ -28,8 +29,10 @@ loop-place-preserved c =
     let ch = c.args.c in
     let z = get_or (zeros sets) i 0 in
     let no : is_digit_of z ch ≡ false = ap (λ z. is_digit_of z ch) (sym c.at-digits.ensures) ∙ sym c.has.ensures ∙ c.if-has.false in
-    c.loop-place.invariant ∙ step ch i (omega arith) ∙ cond-false (is_digit_of z ch) (Some z) (find (λ z. is_digit_of z ch) (drop (i + 1) (zeros sets))) no
+    c.loop-place.invariant ∙ step ch i (omega arith) ∙ cond-false (is_digit_of z ch) (Some z)
+    (find (λ z. is_digit_of z ch) (drop (i + 1) (zeros sets))) no
 
 pub returns : goal.returns
 returns c =
-    sym (c.loop-place.invariant ∙ at_drop_all (find (λ z. is_digit_of z c.args.c)) (zeros sets) c.loop-place.place (omega (arith, set-count, c.loop-place-test.false)))
+    sym (c.loop-place.invariant ∙ at_drop_all (find (λ z. is_digit_of z c.args.c)) (zeros sets) c.loop-place.place
+    (omega (arith, set-count, c.loop-place-test.false)))

@@ -13,4 +13,5 @@ default name (Some z) same = locale-zero z (among-contains locales name z (sym s
 pub invariant_of-result : goal.invariant_of-result
 invariant_of-result c =
     let name = c.name.result.now in
-    subst IsZero (sym c.unwrap_or.ensures) (default name c.zero_of-zero.result (c.zero_of-zero.ensures ∙ ap (λ rows. zero_among rows name) c.locales.ensures))
+    subst IsZero (sym c.unwrap_or.ensures) (default name c.zero_of-zero.result
+    (c.zero_of-zero.ensures ∙ ap (λ rows. zero_among rows name) c.locales.ensures))

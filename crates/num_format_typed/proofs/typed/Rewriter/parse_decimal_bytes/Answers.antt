@@ -6,4 +6,5 @@ pub returns-in-Ok : goal.returns-in-Ok
 returns-in-Ok g c = TypedResult.printed (c.requires.typable, c.requires.marks) c.in-Ok.decimal (search rules) refl
 
 pub returns-in-Err-from_utf8 : goal.returns-in-Err-from_utf8
-returns-in-Err-from_utf8 g c = TypedResult.no_text (c.requires.typable, c.requires.marks) c.in-Err.field-0 (search rules) (search rules) refl
+returns-in-Err-from_utf8 g c = TypedResult.no_text (c.requires.typable, c.requires.marks) c.in-Err.field-0 (search rules)
+    (search rules) refl
