@@ -1,5 +1,5 @@
 //! Strict parsing of a text in one digit set.
-ghost use Rattle.std.specs.Prelude.{◌≡◌, None, Some, MatchOption, MatchResult, length};
+ghost use Rattle.std.specs.Prelude.{◌≡◌, ◌≤◌, None, Some, IfOk, MatchOption, MatchResult, length};
 ghost use Rattle.std.specs.Str.{chars};
 ghost use Rattle.num_format_decimal.specs.declared.buffer.TheConstants.{MAX_DECIMAL_LEN};
 ghost use Rattle.num_format_typed.specs.Typed.{placed, placed_decimal};
@@ -90,9 +90,10 @@ impl Digits {
         array: &'s mut [u8],
     ) -> Result<&'s [u8], DigitsError<E>>
         requires { length array.old ≡ MAX_DECIMAL_LEN }
-        ensures { MatchResult result
+        ensures text { MatchResult result
             (λ ascii. HasOneSet self text.now × (ascii.now ≡ ascii_of self text.now))
             (λ e. IsTextCause self text.now e) }
+        ensures fits { IfOk result (λ ascii. length ascii.now ≤ MAX_DECIMAL_LEN) }
     {
         if let Some(at) = self.find_other(text) {
             return Err(DigitsError::OtherNumeral { at });
