@@ -1,4 +1,4 @@
-//! Texts rewritten character by character, in place, and where a byte of the new text comes from.
+//! Texts rewritten character by character into an array, and where a byte of the new text comes from.
 ghost use Rattle.std.specs.Prelude.{◌≡◌, ◌≤◌, ◌<◌, ◌++◌, ◌+◌, ℕ, [], ◌∷◌, IfSome, MatchOption, length, take, encode_utf8};
 ghost use Rattle.std.specs.Str.{chars, encode_utf8_all};
 ghost use Rattle.num_format_decimal.specs.declared.buffer.TheConstants.{MAX_DECIMAL_LEN};
