@@ -2,7 +2,7 @@
 
 use num_format::Locale;
 
-/// The longest line of names.
+/// The longest line of names, or of arms but for their indent.
 const LINE_LENGTH: usize = 96;
 
 /// The most constants in one function: the checker takes long over more.
@@ -51,23 +51,23 @@ fn place_of(locale: Locale) -> Option<usize> {{
     {}
 }}
 {functions}"#,
-        lines(&names),
+        lines(&names).join("\\\n").trim_end(),
         nested(&calls),
     )
 }
 
-/// Returns the names with a space between each two, on lines that each continue the literal.
-fn lines(names: &[&str]) -> String {
+/// Returns lines of words with a space after each.
+fn lines<W: AsRef<str>>(words: &[W]) -> Vec<String> {
     let mut lines = vec![String::new()];
-    for name in names {
-        if lines[lines.len() - 1].len() + name.len() > LINE_LENGTH {
+    for word in words.iter().map(AsRef::as_ref) {
+        if lines[lines.len() - 1].len() + word.len() > LINE_LENGTH {
             lines.push(String::new());
         }
         let line = lines.len() - 1;
-        lines[line] += name;
+        lines[line] += word;
         lines[line].push(' ');
     }
-    lines.join("\\\n").trim_end().to_string()
+    lines
 }
 
 /// Returns the first of the calls that has a place.
@@ -79,10 +79,14 @@ fn nested(calls: &[String]) -> String {
 
 /// Returns the function that knows the places of some constants, whose first place is given.
 fn function(variants: &[String], first: usize) -> String {
-    let arms: String = variants
+    let arms: Vec<String> = variants
         .iter()
         .enumerate()
-        .map(|(index, variant)| format!("        Locale::{variant} => {},\n", first + index))
+        .map(|(index, variant)| format!("Locale::{variant} => {},", first + index))
+        .collect();
+    let arms: String = lines(&arms)
+        .iter()
+        .map(|line| format!("        {}\n", line.trim_end()))
         .collect();
     format!(
         "
