@@ -510,8 +510,8 @@ impl<'a, F: Format> TypedParser<'a, F> {
     /// # Errors
     ///
     /// [`StrictError::AmbiguousFormat`] exactly if strict parsing refuses the format, if its separator and its mark
-    /// have two characters of one class, as `'` and U+2019, or if its minus sign begins with a space or a plus sign, or
-    /// has a character of a class of which the separator or the mark has one.
+    /// have two characters of one class, as `'` and U+2019, or if its minus sign has marks of direction alone, begins
+    /// with a space or a plus sign, or has a character of a class of which the separator or the mark has one.
     pub fn new(format: &'a F) -> Result<TypedParser<'a, F>, StrictError>
         ensures { MatchResult result
             (λ parser. (parser ≡ F.answers format.now) × IsTypable (F.answers format.now))
