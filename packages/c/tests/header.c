@@ -336,18 +336,8 @@ static void check_width(void) {
     CHECK(num_format_text_width(NULL, 0), 0);
 }
 
-/* Texts as people type them, as numbers of 16 bits under "fr": what is returned, and what the number and `at`, 7 and 9
- * before, then are. The tables typed.tsv and typed_decimals.tsv have more. */
+/* Texts as people type them, as numbers of 16 bits under "fr": what typed.tsv and typed_decimals.tsv do not say. */
 static void check_typed(void) {
-    static const struct {
-        const char *text;
-        int returned, number;
-        size_t at;
-    } cases[] = {
-        {" +1 234\n", 0, 1234, 9}, {"\u22121\u00a0234", 0, -1234, 9}, {"-0", 0, 0, 9},   {"- 5", -11, 7, 9},
-        {"1,5", -9, 7, 1},         {"\u22121.5", -9, 7, 4},            {"\xff", -3, 7, 9}, {"40 000", -12, 7, 9},
-        {" ", -10, 7, 9},
-    };
     num_format format = {0};
     int16_t number[2] = {7, 8};
     int64_t units = 7;
@@ -359,15 +349,10 @@ static void check_typed(void) {
     CHECK(num_format_locale(&format, "fr", 2), 0);
     CHECK(num_format_parse_typed(&format, 's', "\xff", 1, number, 3, &at), -15);
     CHECK(num_format_parse_typed(&format, 's', "\xff", 1, number, 4, &at), -15);
-    for (size_t i = 0; i < sizeof cases / sizeof *cases; i++) {
-        number[0] = 7;
-        at = 9;
-        compare(cases[i].text, num_format_parse_typed(&format, 's', cases[i].text, strlen(cases[i].text), number, 2, &at),
-                cases[i].returned);
-        CHECK(number[0], cases[i].number);
-        CHECK(at, (long long)cases[i].at);
-    }
-    CHECK(number[1], 8);
+    CHECK(num_format_parse_typed(&format, 's', "\u22121.5", 6, number, 2, &at), -9);
+    CHECK(number[0] == 7 && at == 4, 1);
+    CHECK(num_format_parse_typed(&format, 's', " +1 234\n", 8, number, 2, &at), 0);
+    CHECK(number[0] == 1234 && number[1] == 8 && at == 4, 1);
     memset(text, '1', sizeof text);
     CHECK(num_format_parse_typed(&format, 's', text, 199, number, 2, NULL), -12);
     CHECK(num_format_parse_typed(&format, 's', text, 200, number, 2, NULL), -21);

@@ -62,11 +62,8 @@ def strict_result(text, form):
 @pytest.mark.parametrize(
     ("text", "cause", "at"),
     [
-        ("", Cause.NO_DIGIT, None),
-        ("1,23", Cause.MISSPELLED, None),
         ("12.50", Cause.UNEXPECTED, 2),
         (str(2**128), Cause.OUT_OF_RANGE, None),
-        (str(-(2**127) - 1), Cause.OUT_OF_RANGE, None),
         ("9" * 5000, Cause.OUT_OF_RANGE, None),
         ("1\ud800", Cause.NOT_UTF8, 1),
     ],
@@ -112,10 +109,9 @@ def test_wrong_types_of_numbers(number):
 
 @pytest.mark.parametrize("text", [1, b"1", None, ["1"], bytearray(b"1")])
 def test_wrong_types_of_texts(text):
-    with pytest.raises(TypeError):
-        num_format.parse(text, "en")
-    with pytest.raises(TypeError):
-        num_format.parse(text, "en", lenient=True)
+    for lenient in [False, True]:
+        with pytest.raises(TypeError):
+            num_format.parse(text, "en", lenient=lenient)
 
 
 @pytest.mark.parametrize("form", [None, 1, b"en", ("en",), ["en"], Format])

@@ -90,12 +90,14 @@ fn debug_shows_the_fields_of_num_format() {
     );
 }
 
-/// A format of one's own, whose texts that whole numbers do not need are never asked for.
-struct Dotted;
+/// A format of one's own, of whose texts those that are not needed are never asked for.
+struct Dotted {
+    mark: Option<&'static str>,
+}
 
 impl Format for Dotted {
     fn decimal(&self) -> DecimalStr<'_> {
-        unreachable!()
+        DecimalStr::new(self.mark.unwrap()).unwrap()
     }
 
     fn grouping(&self) -> Grouping {
@@ -123,51 +125,14 @@ impl Format for Dotted {
     }
 }
 
-/// The same with a decimal mark.
-struct Marked;
-
-impl Format for Marked {
-    fn decimal(&self) -> DecimalStr<'_> {
-        DecimalStr::new("::").unwrap()
-    }
-
-    fn grouping(&self) -> Grouping {
-        Dotted.grouping()
-    }
-
-    fn infinity(&self) -> InfinityStr<'_> {
-        unreachable!()
-    }
-
-    fn minus_sign(&self) -> MinusSignStr<'_> {
-        MinusSignStr::new("minus ").unwrap()
-    }
-
-    fn nan(&self) -> NanStr<'_> {
-        unreachable!()
-    }
-
-    fn plus_sign(&self) -> PlusSignStr<'_> {
-        unreachable!()
-    }
-
-    fn separator(&self) -> SeparatorStr<'_> {
-        SeparatorStr::new("·").unwrap()
-    }
-}
-
 #[test]
-fn decimals_under_a_format_of_ones_own() {
-    let price = Decimal::new(-123_450, 2).unwrap();
-    let mut buffer = DecimalBuffer::new();
-    buffer.write_formatted(&price, &Marked);
-    assert_eq!(buffer.as_str(), "minus 1·234::50");
-    assert_eq!(buffer.parse_decimal(&Marked), Ok(price));
-}
-
-#[test]
-fn a_format_of_ones_own() {
+fn formats_of_ones_own() {
     let mut buffer = Buffer::new();
-    buffer.write_formatted(&-1_234_567, &Dotted);
+    buffer.write_formatted(&-1_234_567, &Dotted { mark: None });
     assert_eq!(buffer.as_str(), "minus 1·234·567");
+    let (price, marked) = (Decimal::new(-123_450, 2).unwrap(), Dotted { mark: Some("::") });
+    let mut buffer = DecimalBuffer::new();
+    buffer.write_formatted(&price, &marked);
+    assert_eq!(buffer.as_str(), "minus 1·234::50");
+    assert_eq!(buffer.parse_decimal(&marked), Ok(price));
 }
