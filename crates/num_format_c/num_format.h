@@ -226,9 +226,9 @@ int32_t num_format_parse_strict_u128(const num_format *format, const char *text,
  *
  * Errors, in this order: NUM_FORMAT_BAD_TYPE, NUM_FORMAT_BAD_FORMAT, and
  * - NUM_FORMAT_BAD_LENGTH: value_size is not the size of the type.
- * - NUM_FORMAT_AMBIGUOUS_FORMAT: as by num_format_parse_strict_i64; or the separator and the decimal mark have two
- *   characters of one kind, as "'" and U+2019; or the minus sign begins with a space or a plus sign, or has only marks
- *   of the direction of writing. This holds for no locale.
+ * - NUM_FORMAT_AMBIGUOUS_FORMAT: as by num_format_parse_strict_i64; or two characters of the separator and the decimal
+ *   mark are of one kind, as "'" and U+2019, or one of the minus sign and one of these; or the minus sign begins with a
+ *   space or a plus sign, or has only marks of the direction of writing. This holds for no locale.
  * - NUM_FORMAT_NOT_UTF8.
  * - NUM_FORMAT_TEXT_TOO_LONG: the text that it stands for has more than NUM_FORMAT_DECIMAL_MAX bytes.
  * - Those of num_format_parse_strict_i64 of the text that it stands for. `at` counts the bytes of the text as given. */
