@@ -570,8 +570,8 @@ impl<'a, F: Format> TypedParser<'a, F> {
     ///
     /// # Errors
     ///
-    /// As [`parse`](TypedParser::parse), but with the causes of decimals, and `AmbiguousFormat` if the mark is the
-    /// separator, or no mark.
+    /// As [`parse`](TypedParser::parse), but with the causes of decimals, and `AmbiguousFormat` where `marks_decimals`
+    /// is false.
     #[inline]
     pub fn parse_decimal(&self, text: &str) -> Result<Decimal, TypedError<ParseDecimalError>>
         ensures { TypedDecimalResult self.now text.now result }
