@@ -83,7 +83,7 @@ impl Digits {
     }
 
     /// Writes the text with `0` to `9` for the digits of the set to the start of an array, and returns these bytes, or
-    /// why it is no text of the set.
+    /// why it is refused.
     pub fn to_ascii<'s, E>(
         self,
         text: &str,

@@ -101,7 +101,7 @@ impl DigitText {
 
 /// Writes a text with the set's digits for `0` to `9` to the start of an array, and returns its length in bytes.
 ///
-/// For callers that have an array, as programs in C. Each byte of the text needs four.
+/// For callers that have an array. Each byte of the text needs four.
 #[inline]
 pub fn put_text(text: &[u8], digits: Digits, array: &mut [u8]) -> usize
     requires { 4 * length text.now ≤ length array.old }
