@@ -100,13 +100,13 @@ pub enum Span<'a> {
 /// How the lines of an input are regrouped.
 #[derive(Clone, Copy, Debug, PartialEq, Eq)]
 pub struct Rules<'a> {
-    /// Where the numbers of a line are. The other bytes of the line are passed on.
+    /// Where the numbers of a line are, and how its fields are written.
     pub span: Span<'a>,
     /// How the numbers are read.
     pub reading: Reading,
     /// How many lines at the start are headers, and each record that begins in one of them: no number of it is read.
     pub header_lines: u64,
-    /// Whether a place is passed on as it is where a number has no byte.
+    /// Whether a place is passed on where a number has no byte.
     pub passes_empty: bool,
     /// What is done with a line at fault.
     pub invalid: Invalid,
