@@ -19,7 +19,7 @@ pub enum RegroupFault {
     TooMany,
     /// The line of the first number has more bytes than the second number.
     TooLong(u64, u32),
-    /// The line of this number has too few fields, or the record that ends in it.
+    /// The line of this number has too few fields, or the record that begins in it.
     FewFields(u64, FieldCount),
     /// A read failed, also one that was interrupted.
     Read,
@@ -31,7 +31,7 @@ pub enum RegroupFault {
     Line(u64, Error),
     /// In the line of the first number, the field of the second number does not parse.
     Field(u64, u64, Error),
-    /// A quote is not closed where the input ends, after the line of this number.
+    /// In the record that begins in the line of this number, a quote is not closed.
     Unclosed(u64),
     /// A write failed, also one that was interrupted, or wrote no bytes.
     Write,

@@ -115,8 +115,8 @@ pub enum Ambiguity {
     SameSymbol,
     /// A symbol has a digit or another numeric character.
     NumeralInSymbol,
-    /// The separator and the decimal mark have two characters that people type for one another, or the minus sign
-    /// begins with a space or a plus sign, and numbers are read as people type them.
+    /// People type two characters of the separator, the decimal mark and the minus sign for one another, or the minus
+    /// sign begins with a space or a plus sign, and numbers are read as people type them.
     TypedAlike,
     /// The minus sign begins with ASCII whitespace, which is not part of a number.
     BlankMinusSign,
