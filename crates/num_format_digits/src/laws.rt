@@ -8,7 +8,8 @@ pub fn shown_texts()
     ensures { ShownLaw }
 {}
 
-/// A text whose numerals are all `0` to `9`, as that of a number under a locale, parses in a set as it does itself.
+/// A text whose numerals are all `0` to `9`, as that of a number under a locale, is shown in a set as a text of that
+/// set, which with `0` to `9` for its digits is the text again.
 pub fn texts_read_back()
     ensures { ReadsBackLaw }
 {}
