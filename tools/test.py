@@ -16,14 +16,14 @@ With --prove, side by side:
   from which the programs go to crates/NAME/out here, so that tools/install and tools/release prove nothing again.
   With --edits that has all; else it has no must-fail edits, not the library for C, and not the crates of tests that
   trials.py names: those run unproved meanwhile, as do the examples of the doc comments.
-- Once a program is proved, the cases of commands.py and the tables of tests/cases run on it as each compiler built it, and
-  what no case can say: program_checks.py, filter_checks.py, stream_checks.py, memory_checks.py, which refuses memory, and
-  the READMEs' commands.
-- `rt lib` proves and builds the library for C in this repository. Over it run the tables, the tests of each package, which
-  replay them in its language, the programs of
-  examples/ and packages/c/tests/header.c (library_checks.py), the counts of instructions (work_checks.py), with the
-  programs those of a release (packages/release/checks) and of what is measured (bench/test), and own_project.py, which
-  proves a crate in a repository of its own over what `rt lib` proved.
+- Once a program is proved, the cases of commands.py and the tables of tests/cases run on it as each compiler built it,
+  and what no case can say: program_checks.py, filter_checks.py, stream_checks.py, memory_checks.py, which refuses
+  memory, and the READMEs' commands.
+- `rt lib` proves and builds the library for C in this repository. Over it run the tables in C and C++, the tests of
+  each package, which but for C replay them in its language, the programs of examples/ and two of packages/c/tests
+  (library_checks.py), the counts of instructions (work_checks.py), with the programs those of a release
+  (packages/release/checks) and of what is measured (bench/test), and own_project.py, which proves a crate in a
+  repository of its own over what `rt lib` proved.
 
 The log has the time at which each crate was proved, and for each edit the error that refused it. The last lines name
 each check that was skipped and why, and say how many passed and failed. The exit status is 1 where one failed.
