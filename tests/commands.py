@@ -4,6 +4,7 @@
     python3 tests/commands.py [CRATE ..]                # over crates/CRATE/out/CRATE, which `rt run` proves and builds
     python3 tests/commands.py --program FILE CRATE      # over that program
     python3 tests/commands.py --try [CRATE ..]          # unproved: `rt try --cases` builds the program once
+    python3 tests/commands.py --try CRATE csv.cases     # the cases of this file alone
 
 The head of case_files.py says how a case is written. With --try the stored run of the crate, its files args, stdin and
 stdout, is a case too, and texts of each length are left out. The last line says how many cases passed and failed. The
@@ -121,16 +122,22 @@ def main():
     parser.add_argument("--program", type=Path, help="run this program")
     parser.add_argument("--try", action="store_true", dest="is_tried", help="run what `rt try` builds, unproved")
     parser.add_argument("--part", default="1/1", metavar="K/N", help="run every N-th case, from the K-th on")
-    parser.add_argument("crates", nargs="*", metavar="CRATE")
+    parser.add_argument("words", nargs="*", metavar="CRATE or FILE.cases")
     given = parser.parse_args()
     part, parts = map(int, given.part.split("/"))
+    only = tuple(f"{word}:" for word in given.words if word.endswith(".cases"))
+    crates = [word for word in given.words if not word.endswith(".cases")]
     tally = Tally()
-    for crate in given.crates or sorted(path.parent.name for path in (ROOT / "crates").glob("*/cases")):
+    for crate in crates or sorted(path.parent.name for path in (ROOT / "crates").glob("*/cases")):
         heading(f"cases of {crate}")
         cases, files = of(crate)
         long = list(generated_cases.LENGTHS.get(crate, list)())
+        if only:
+            cases, long = [case for case in cases if case.name.startswith(only)], []
+            tally.add(f"{crate} has a case", None if cases else "no file of these names")
         if given.is_tried:
-            check_tried(tally, crate, [*stored(crate), *cases][part - 1 :: parts], files)
+            cases = cases if only else [*stored(crate), *cases]
+            check_tried(tally, crate, cases[part - 1 :: parts], files)
             if long and part == parts:
                 tally.skip(f"{len(long)} cases of {crate}", "texts of each length: --prove runs them")
         else:
