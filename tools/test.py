@@ -92,8 +92,8 @@ def start_unproved(jobs):
     for crate in [path for path in crates if has_tests(path)]:
         jobs.script(f"tests of {crate.name}", "trials.py", crate.name)
     jobs.script("the examples of the doc comments", "doc_examples.py")
-    # Fewer cases are longer ones.
-    for name in reversed(others):
+    # Fewer cases are longer ones. What replays the tables has run.
+    for name in [name for name in reversed(others) if REPLAYED.get(name) != "rattle"]:
         jobs.script(f"cases of {name}", "commands.py", "--try", name)
     for name in "regroup", "regroup-lines", "c", "c++":
         jobs.script(f"the tables of cases by {name}", REPLAY, "--built", "--quick", name)
@@ -112,7 +112,7 @@ def unproved(is_whole):
         yield {IDLE_AFTER}, f"tests of {name}", "trials.py", name
     if not is_whole:
         yield {IDLE_AFTER}, "the tables of cases by rattle", REPLAY, "rattle"
-    for name in [] if is_whole else trials.PROGRAMS:
+    for name in [] if is_whole else [name for name in trials.PROGRAMS if REPLAYED.get(name) != "rattle"]:
         yield {IDLE_AFTER}, f"cases of {name}", "commands.py", "--try", name
     yield {IDLE_AFTER}, "the examples of the doc comments", "doc_examples.py"
 
