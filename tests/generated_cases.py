@@ -11,7 +11,7 @@ from case_files import Case
 from tally import ROOT
 
 import lengths
-from locales import members, sections
+import locales
 
 # More digits than any sum of a ledger has, so that each is exact.
 decimal.getcontext().prec = 60
@@ -36,7 +36,7 @@ def case(words, given="", **expected):
 
 
 def of_regroup():
-    yield case(["names"], out="".join(f"{name}\n" for name, _ in members(sections()["families"])))
+    yield case(["names"], out="".join(f"{row['name']}\n" for row in locales.rows()))
     yield from shown("regroup")
 
 

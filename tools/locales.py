@@ -1,21 +1,22 @@
 #!/usr/bin/env python3
-"""Writes the generated files of crates/num_format_locale, from locales.txt beside this file."""
+"""Writes the generated files of crates/num_format_locale, from the definitions in its specs/."""
 import bisect
 import re
 import textwrap
 import unicodedata
-from itertools import product
+from functools import cache
+from itertools import chain, product
 from pathlib import Path
 from string import ascii_lowercase
 
 HERE = Path(__file__).resolve().parent
 CRATE = HERE.parent / "crates" / "num_format_locale"
-DATA = HERE / "locales.txt"
 WRITTEN = HERE / "locales_written.txt"
-MARK = "Written by tools/locales.py from tools/locales.txt; do not edit."
+MARK = "Written by tools/locales.py from specs/; do not edit."
 PIECE = 64  # rows in one module at most
-GROUPINGS = {"Standard": 0, "Indian": 1, "Posix": 2}
+GROUPINGS = {"standard": 0, "indian": 1, "posix": 2}
 LINE_LENGTH = 100  # columns of a line with several names
+TOKEN = re.compile(r'"[^"]*"|[()]|[^\s()]+')
 
 
 def text(name, **given):
@@ -49,60 +50,84 @@ def filled(entries, indent):
     return lines.replace("\0", " ") + "\n"
 
 
-def sections():
-    """The lines of the data under each heading."""
-    found = {}
-    for line in DATA.read_text(encoding="utf-8").splitlines():
-        if line.startswith("["):
-            lines = found.setdefault(line.strip("[]"), [])
-        elif line.strip() and not line.startswith("#"):
-            lines.append(line)
-    return found
+def has_stem(stem, name):
+    return name == stem or name.startswith(stem + "-")
 
 
-def members(lines):
-    """Each name with its class."""
-    for line in lines:
-        stem, stem_class, words = re.fullmatch(r"(\w+):(\w)(?: \((.*)\))?", line).groups()
-        yield stem, stem_class
-        for word in (words or "").split():
-            word, _, own_class = word.partition(":")
-            yield stem + "-" + word, own_class or stem_class
+# What words mean in an expression of the specs. Any other stands for itself: a class, a grouping, a definition.
+WORDS = {
+    "[]": [],
+    "codes": lambda text: text,
+    "signs": lambda minus, plus: (minus, plus),
+    "same": lambda word: (word, None),
+    "own": lambda word, its_class: (word, its_class),
+    "family": lambda stem, its_class, words: [
+        (stem, its_class), *((f"{stem}-{word}", own_class or its_class) for word, own_class in words)
+    ],
+    "for_names": lambda names, value: (names.__contains__, value),
+    "for_stem": lambda stem, value: (lambda name: has_stem(stem, name), value),
+    "for_stem_but": lambda stem, names, value: (lambda name: has_stem(stem, name) and name not in names, value),
+    "value_for": lambda name, definition, usual: (definition, usual),
+}
 
 
-def is_of(name, names):
-    """Whether a line that ends in `names` is of this name."""
-    words = names.split()
-    if words[0] != "all":
-        return name in words
-    return (name == words[1] or name.startswith(words[1] + "-")) and name not in words[3:]
+def applied(function, *arguments):
+    return function(*arguments) if arguments else function
 
 
-def value_for(name, lines, usual):
-    """What the first line that is of the name says, or else the usual value."""
-    for line in lines:
-        value, names = line.rsplit(": ", 1)
-        if is_of(name, names):
-            return unescaped(value)
-    return usual
+def evaluated(tokens):
+    """The value of an expression, up to the bracket that closes it or to its end."""
+    items, terms = [], []
+    for token in tokens:
+        if token == ")":
+            break
+        if token == "∷":
+            items.append(applied(*terms))
+            terms = []
+        elif token == "++":
+            return applied(*terms) + "".join(evaluated(tokens))
+        elif token == "(":
+            terms.append(evaluated(tokens))
+        elif token.startswith('"'):
+            terms.append(unescaped(token[1:-1]))
+        else:
+            terms.append(chr(int(token, 16)) if token.startswith("0x") else WORDS.get(token, token))
+    last = applied(*terms)
+    return items + last if items else last
+
+
+@cache
+def definition(file, left):
+    """The value of the definition with that left side: the rest of its line, and the indented lines after it."""
+    source = (CRATE / "specs" / file).read_text(encoding="utf-8")
+    right = re.search(rf"^{left} =(.*(?:\n .*)*)", source, re.MULTILINE)[1]
+    return evaluated(iter(TOKEN.findall(right)))
+
+
+def values(file, function):
+    """The function of that name, from the name of a locale to its value."""
+    lines, usual = definition(file, f"{function} name")
+    lines = definition(file, lines)
+    return lambda name: next((value for is_for, value in lines if is_for(name)), usual)
 
 
 def rows():
     """The rows in order, as `Row` has them."""
-    data = sections()
-    classes = {line.split()[0]: [unescaped(text) for text in line.split()[1:]] for line in data["classes"]}
-    for name, its_class in members(data["families"]):
-        decimal_mark, separator = classes[its_class]
-        minus, plus = value_for(name, data["signs"], "- +").split(" ")
+    grouping_of = values("Groupings.antt", "grouping_of")
+    infinity_of = values("Infinities.antt", "infinity_of")
+    nan_of = values("Nans.antt", "nan_of")
+    signs_of = values("Signs.antt", "signs_of")
+    for name, its_class in chain.from_iterable(definition("Families.antt", "families")):
+        minus, plus = signs_of(name)
         yield {
             "name": name,
-            "dec": decimal_mark,
-            "group": GROUPINGS[value_for(name, data["groupings"], "Standard")],
-            "inf": value_for(name, data["infinities"], "\u221e"),
+            "dec": definition("Classes.antt", f"decimal_mark_of {its_class}"),
+            "group": GROUPINGS[grouping_of(name)],
+            "inf": infinity_of(name),
             "min": minus,
-            "nan": value_for(name, data["nans"], "NaN"),
+            "nan": nan_of(name),
             "plus": plus,
-            "sep": separator,
+            "sep": definition("Classes.antt", f"separator_of {its_class}"),
         }
 
 

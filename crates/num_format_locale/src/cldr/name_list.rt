@@ -1,4 +1,4 @@
-//! The names of all rows. Written by tools/locales.py from tools/locales.txt; do not edit.
+//! The names of all rows. Written by tools/locales.py from specs/; do not edit.
 
 /// The names, in rising byte order.
 #[rattlefmt::skip]

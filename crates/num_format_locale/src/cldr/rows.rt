@@ -1,4 +1,4 @@
-//! The rows, in modules of at most 64 each. Written by tools/locales.py from tools/locales.txt; do not edit.
+//! The rows, in modules of at most 64 each. Written by tools/locales.py from specs/; do not edit.
 ghost use Rattle.std.specs.Prelude.{◌<◌};
 ghost use Rattle.num_format_locale.specs.Entry.{ShowsAll};
 ghost use Rattle.num_format_locale.specs.Table.{piece};

@@ -1,4 +1,4 @@
-//! The locales as constants, and the names of the constants. Written by tools/locales.py from tools/locales.txt; do not edit.
+//! The locales as constants, and the names of the constants. Written by tools/locales.py from specs/; do not edit.
 use crate::Locale;
 
 /// One constant a locale. It has the locale's name with `_` for `-`, and that of `as` is `as_`, since

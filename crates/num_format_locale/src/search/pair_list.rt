@@ -1,4 +1,4 @@
-//! The places where pairs of letters begin. Written by tools/locales.py from tools/locales.txt; do not edit.
+//! The places where pairs of letters begin. Written by tools/locales.py from specs/; do not edit.
 
 /// For each pair of letters from `aa` to `zz` the first place whose name begins with that pair or a
 /// later one, and last the number of names.

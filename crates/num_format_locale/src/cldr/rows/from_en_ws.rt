@@ -1,4 +1,4 @@
-//! The rows from `en-WS` to `fr-CF`. Written by tools/locales.py from tools/locales.txt; do not edit.
+//! The rows from `en-WS` to `fr-CF`. Written by tools/locales.py from specs/; do not edit.
 ghost use Rattle.num_format_locale.specs.Entry.{ShowsAll};
 ghost use Rattle.num_format_locale.specs.Table.{piece};
 

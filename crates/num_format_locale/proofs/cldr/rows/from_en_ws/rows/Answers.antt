@@ -1,4 +1,4 @@
--- Written by tools/locales.py from tools/locales.txt; do not edit.
+-- Written by tools/locales.py from specs/; do not edit.
 use Rattle.std.proofs.Common.{refl}
 use lib.Utf8.{encode}
 use Rattle.num_format_locale.specs.Families.{families}
