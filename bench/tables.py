@@ -133,24 +133,29 @@ def read():
     return [Row(*line.strip("| ").split(" | ")) for line in found.splitlines()[2:]], caption
 
 
-def caption(skipped):
-    """What the table is of, with what was skipped."""
+def machine():
+    """The processor, and how many threads it has."""
     try:
         with open("/proc/cpuinfo", encoding="utf-8") as lines:
             name = next(line.split(":", 1)[1].strip() for line in lines if line.startswith("model name"))
     except (OSError, StopIteration):
         name = platform.machine()
+    return f"{name}, {os.cpu_count()} threads"
+
+
+def caption(skipped):
+    """What the table is of, with what was skipped."""
     load, missing = os.getloadavg()[0], "".join(f" Not measured: {line}." for line in skipped)
-    return f"Version {VERSION}, {datetime.date.today()}, {name}, {os.cpu_count()} threads, load {load:.1f} before.{missing}"
+    return f"Version {VERSION}, {datetime.date.today()}, {machine()}, load {load:.1f} before.{missing}"
 
 
-def marks(path, name):
-    return re.compile(rf"(<!-- bench/run writes: {name} -->\n\n)(.*?)(\n\n<!-- end -->)", re.S)
+def marks(name):
+    return re.compile(rf"(<!-- bench/\S+ writes: {name} -->\n\n)(.*?)(\n\n<!-- end -->)", re.S)
 
 
 def block(path, name):
     """What a document has between its marks."""
-    found = marks(path, name).search(path.read_text(encoding="utf-8"))
+    found = marks(name).search(path.read_text(encoding="utf-8"))
     if not found:
         sys.exit(f"{path} has no marks of {name}")
     return found[2]
@@ -222,7 +227,7 @@ def written(rows, below):
 def put(path, name, text):
     """Replaces what is between the marks of a document."""
     old = path.read_text(encoding="utf-8")
-    path.write_text(marks(path, name).sub(lambda found: found[1] + text + found[3], old), encoding="utf-8")
+    path.write_text(marks(name).sub(lambda found: found[1] + text + found[3], old), encoding="utf-8")
 
 
 def write(rows, below):

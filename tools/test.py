@@ -79,6 +79,7 @@ def start_documents(jobs):
     jobs.script("the code in README.md and docs/", "readme_code.py")
     jobs.script("the page of public calls", TOOLS / "api_page.py", "--check", is_counted=False)
     jobs.script("the table of times", ROOT / "bench" / "tables.py", "--check", is_counted=False)
+    jobs.script("the times in README.md", ROOT / "bench" / "times.py", "--check", is_counted=False)
 
 
 def start_unproved(jobs):
