@@ -1,13 +1,13 @@
 #!/usr/bin/env python3
 """Runs the commands of README.md, "Prove and test", in fresh clones, and writes below them what each took.
 
-    python3 bench/times.py             # all four, one after the other: wants a machine that is idle, for more than half an hour
+    python3 bench/times.py             # all four, one after the other, in some 40 minutes
     python3 bench/times.py NAME ..     # of try, test, run and prove those that are named
     python3 bench/times.py --check     # whether the table there is one that this writes
 
-A clone has the last commit, and not what was changed since. What a command prints is shown. Its row is written once it
-has ended with status 0, and else the exit status is 1. Where `rt` says that a proof was kept by an earlier run in another
-folder, a first run takes longer: then no row is written either.
+The machine should be idle. A clone has the last commit, and not what was changed since. What a command prints is shown.
+Its row is written once it has ended with status 0, and else the exit status is 1. Where `rt` says that a proof was kept
+by an earlier run in another folder, a first run would take longer, and no row is written either.
 """
 import argparse
 import datetime
@@ -81,7 +81,7 @@ def problems():
 
 
 def show(line, folder):
-    """Runs a command in a folder, and shows what it prints. Returns its status, and whether it took what was kept elsewhere."""
+    """Runs a command in a folder, and shows what it prints. Returns its status, and whether another run kept its proofs."""
     how = {"stdin": subprocess.DEVNULL, "stdout": subprocess.PIPE, "stderr": subprocess.STDOUT}
     is_kept = False
     with subprocess.Popen(["bash", "-c", line], cwd=folder, text=True, errors="replace", **how) as ran:

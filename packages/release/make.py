@@ -58,7 +58,8 @@ Depends: libc6 (>= 2.{{glibc}})
 Installed-Size: {{size}}
 Description: whole numbers and decimals with separators between groups of digits
  The programs regroup and regroup-lines, and the library for C and C++, shared and
- static. Each function is proved. It needs a processor of level x86-64-v2.
+ static. Each function is proved but those in headers. It needs a processor of
+ level x86-64-v2.
 """
 
 

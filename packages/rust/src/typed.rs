@@ -127,8 +127,8 @@ pub enum TypedError<E> {
     /// With the characters of the format in it, the text has more bytes than the text of any number.
     TooLong,
     /// The cause of strict parsing, which `AmbiguousFormat` is also where two characters of separator, mark and minus
-    /// sign can be typed for one another, as `'` and U+2019, or the minus sign begins with a space or a plus sign. A
-    /// position counts the bytes of the text that was given.
+    /// sign can be typed for one another, as `'` and U+2019, or the minus sign begins with a space or a plus sign, or
+    /// has only marks of the direction of writing. A position counts the bytes of the text that was given.
     Number(E),
 }
 
