@@ -1,5 +1,3 @@
-mod AlikeExamples
+pub mod AlikeExamples
 pub mod AlikeLemmas
 pub mod RoundTripLemmas
-pub mod StrictLemmas
-pub mod TextCharacterLemmas

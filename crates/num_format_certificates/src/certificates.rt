@@ -1,10 +1,11 @@
 //! Certificates: checks of a format, after which it can be trusted for all numbers.
-ghost use Rattle.std.specs.Prelude.{◌≡◌, ◌↔◌, IsTrue, IsUtf8};
+ghost use Rattle.std.specs.Prelude.{◌≡◌, ◌↔◌, IsTrue};
 ghost use Rattle.num_format_certificates.specs.Alike.{Alike};
 ghost use Rattle.num_format_int.specs.Kind.{I128, kind_of};
 ghost use Rattle.num_format_certificates.specs.RoundTrips.{ReadsBack, RoundTrips};
 ghost use Rattle.num_format_int.specs.Text.{text_of};
 
+use crate::laws::{format_data, round_trips};
 use num_format_int::Buffer;
 use num_format_parsing::parsing::ParseFormatted;
 use num_format_text::{Error, Format};
@@ -39,13 +40,15 @@ use num_format_text::{Error, Format};
 pub fn reads_back<F: Format>(format: &F) -> bool
     ensures { IsTrue result ↔ RoundTrips (F.answers format.now) }
 {
+    // These say that the texts of a format are UTF-8, and that two numbers decide for those that are.
+    format_data(format);
+    round_trips();
     number_reads_back(1, format) && number_reads_back(i128::MIN, format)
 }
 
 /// Returns whether the number, printed under the format, parses as that number again.
 fn number_reads_back<F: Format>(n: i128, format: &F) -> bool
-    ensures same { IsTrue result ↔ ReadsBack (kind_of I128) (F.answers format.now) n }
-    ensures utf8 { IsUtf8 (text_of (F.answers format.now) n) }
+    ensures { IsTrue result ↔ ReadsBack (kind_of I128) (F.answers format.now) n }
 {
     let buffer = Buffer::of(&n, format);
     let parsed: Result<i128, Error> = buffer.as_str().parse_formatted(format);
@@ -70,7 +73,7 @@ fn number_reads_back<F: Format>(n: i128, format: &F) -> bool
 /// prints_alike(&Locale::ru, &Locale::xh)       // true, though their decimal marks are , and .
 /// prints_alike(&Locale::en, &Locale::en_IN)    // false: 100,000 and 1,00,000
 /// ```
-#[tactic(auto, using(crate::proofs::AlikeLemmas::deciding))]
+#[tactic(auto, using(crate::proofs::AlikeLemmas::alike_law))]
 pub fn prints_alike<F: Format, G: Format>(f: &F, g: &G) -> bool
     ensures { IsTrue result ↔ Alike (F.answers f.now) (G.answers g.now) }
 {

@@ -28,6 +28,7 @@ pub fn format_data<F: Format>(format: &F)
 }
 
 /// The text of a number is UTF-8, if the minus sign and the separator are.
+#[tactic(auto, using(crate::proofs::RoundTripLemmas::utf8_law))]
 pub fn utf8_texts()
     ensures { Utf8Law }
 {}
@@ -37,12 +38,14 @@ pub fn utf8_texts()
 /// -1 shows the minus sign. 1000 has a separator under `Standard` and `Indian` alone. 100000 has one
 /// under `Standard` and two under `Indian`, and one under `Myriad` and `Sparse`, of which 1000000 has
 /// one and two. None of the four has one under `Posix`.
+#[tactic(auto, using(crate::proofs::AlikeLemmas::alike_law))]
 pub fn alike()
     ensures { AlikeLaw }
 {}
 
 /// None of these four numbers can be left out: for each there are two formats that print it
 /// differently, and the other three alike.
+#[tactic(auto, using(crate::proofs::AlikeExamples::four_needed_law))]
 pub fn four_needed()
     ensures { FourNeededLaw }
 {}
@@ -54,6 +57,7 @@ pub fn four_needed()
 ///
 /// The law is about data whose minus sign and separator are UTF-8, as those of every
 /// [`Format`](num_format_text::Format) are.
+#[tactic(auto, using(crate::proofs::RoundTripLemmas::round_trip_law))]
 pub fn round_trips()
     ensures { RoundTripLaw }
 {}
@@ -61,6 +65,7 @@ pub fn round_trips()
 /// Neither the `i128` value 1 nor `i128::MIN` decides this alone. With the data of `en` and the minus sign
 /// `-0`, 1 parses again and `i128::MIN` does not; with the empty minus sign, `i128::MIN` does and 1 does
 /// not.
+#[tactic(auto, using(crate::proofs::RoundTripLemmas::both_needed_law))]
 pub fn both_needed()
     ensures { BothNeededLaw }
 {}
@@ -69,10 +74,10 @@ pub fn both_needed()
 pub fn locale_round_trips(locale: Locale)
     ensures { RoundTrips (locale_data locale) }
 {
-    // Their contracts say that the locale is in the table, and their types that both texts are UTF-8.
+    // The contract of `name` says that the locale is in the table.
     locale.name();
-    locale.minus_sign();
-    locale.separator();
+    format_data(&locale);
+    round_trips();
 }
 
 /// Under a format by which every number reads back, two numbers of one integer type that have the

@@ -5,7 +5,7 @@ use Rattle.std.specs.Char.{is_ascii_digit}
 use Rattle.std.specs.Int.{is_negative}
 use Rattle.std.specs.Int.Digits.{number_from_digits}
 use Rattle.std.specs.List.{AllByRecursion, list_all}
-use Rattle.std.proofs.lemmas.Bool.{and_right, false_from_ne_true}
+use Rattle.std.proofs.lemmas.Bool.{and_right}
 use Rattle.std.proofs.lemmas.Bool.Decides.{Decides-eqb}
 use Rattle.std.proofs.lemmas.List.{append_cancel_left}
 use Rattle.std.proofs.lemmas.List.Elements.{All-head, All-tail}
@@ -19,18 +19,19 @@ use Rattle.num_format_text.proofs.SizesLemmas.{grouped_or_not}
 use Rattle.num_format_int.specs.Digits.{digits}
 use Rattle.num_format_int.specs.Grouped.{grouped, printed_separator, separated, stands}
 use Rattle.num_format_int.specs.Groups.{last_digits, plain}
-use Rattle.num_format_int.specs.Kind.{I128, signed_number}
+use Rattle.num_format_int.specs.Kind.{signed_number}
 use Rattle.num_format_int.proofs.DigitLemmas.{AreDigits, digits-below_ten, digits_given}
 use Rattle.num_format_int.proofs.GroupedLemmas.{grouped-Posix, grouped-printed, of_either, stands-last}
 use Rattle.num_format_parsing.specs.Reading.{denoted, is_negative_text, magnitude_of}
 use Rattle.num_format_parsing.specs.Shapes.{byte_figures}
 use Rattle.num_format_parsing.specs.Strict.{HasNoNumeral}
 use Rattle.num_format_parsing.proofs.FigureLemmas.{figures-bytes, figures-other}
-use Rattle.num_format_parsing.proofs.UnreadLemmas.{plain-first}
+use Rattle.num_format_parsing.proofs.CommonLemmas.{of_printed}
+use Rattle.num_format_parsing.proofs.SymbolLemmas.{some_first}
+use Rattle.num_format_parsing.proofs.UnreadLemmas.{begins-at_digit, begins-given, plain-first}
 use Rattle.num_format_parsing.proofs.ReadingLemmas.{digits_among-append, digits_among-separated, is_ascii_digit-digit}
-use Rattle.num_format_parsing.proofs.SpellingLemmas.{utf8-separated}
-use Rattle.num_format_certificates.proofs.RoundTripLemmas.{lowest_of_i128, no_prefix, one_of_i128, separated-begins, signed_number-unsigned_abs, unambiguous-from_two}
-use Rattle.num_format_certificates.proofs.TextCharacterLemmas.{of_printed}
+use Rattle.num_format_parsing.proofs.SpellingLemmas.{signed_number-unsigned_abs, utf8-separated}
+use Rattle.num_format_certificates.proofs.RoundTripLemmas.{two-from_all, unambiguous-from_two}
 use Rattle.num_format_decimal.specs.FixedPoint.{FixedPoint, fixed_point}
 use Rattle.num_format_decimal.specs.Marks.{IsPlainFormat, MarksDecimals}
 use Rattle.num_format_decimal.specs.Parsing.{SpellsDecimal}
@@ -44,7 +45,7 @@ plain-from_marks f sign separator mark marks = record {
   sign_utf8 = sign;
   separator_utf8 = separator;
   mark_utf8 = mark;
-  unambiguous = unambiguous-from_two f sign (of_printed IsUtf8 IsUtf8-nil f.grouping f.separator separator) (marks.reads_back I128 _ one_of_i128) (marks.reads_back I128 _ lowest_of_i128);
+  unambiguous = unambiguous-from_two f sign separator (two-from_all f marks.reads_back);
   given = marks.given;
   mark = marks.plain;
 }
@@ -89,6 +90,12 @@ is-separated f g ds some (inr same) = record {
   same = rw same (grouped-Posix f.separator ds ∙ sym (grouped-Posix (printed_separator f.grouping f.separator) ds));
 }
 
+-- separated digits begin with a digit
+separated-begins : (is_due : ℕ → Bool) (s ds : List ℕ) → 0 < length ds → AreDigits ds →
+    (d : ℕ) × (d < 10) × (rest : List ℕ) × (separated is_due s ds ≡ (48 + d) ∷ rest)
+separated-begins is_due s [] given below = absurd (omega arith)
+separated-begins is_due s (d ∷ ds) given below = (d, All-head (λ x. x < 10) d ds below, _, refl)
+
 -- what a text tells: its sign, and the number that its digits write
 pub record Tells (f : FormatData) (t : List ℕ) (negative : Bool) (n : ℕ) : Type 0 where
   pub utf8 : IsUtf8 t
@@ -121,9 +128,9 @@ module _ (f : FormatData) (p : IsPlainFormat f) where
       let body = is-separated f signed.amount.grouping ds (digits_given (n / 10 ^ k)) signed.amount.either in
       let begins = separated-begins body.is_due printed ds (digits_given (n / 10 ^ k)) (digits-below_ten (n / 10 ^ k)) in
       let first : t ≡ (48 + begins.0) ∷ (begins.2 ++ rest) = signed.text ∙ ap (λ xs. xs ++ rest) (signed.amount.text ∙ body.same ∙ begins.3) in
-      false_from_ne_true _ (λ prefix.
-      no_prefix f.minus_sign (begins.2 ++ rest) _ begins.0 begins.1 p.unambiguous.sign_given p.unambiguous.sign.no_digit
-      (sym first ∙ (starts_is Decides-eqb t f.minus_sign (is_negative_text f t) refl).0 prefix))
+      ap (is_negative_text f) first
+      ∙ sym (begins-given f.minus_sign ((48 + begins.0) ∷ (begins.2 ++ rest)) (some_first f.minus_sign p.unambiguous.sign_given))
+      ∙ begins-at_digit f.minus_sign (begins.2 ++ rest) (48 + begins.0) plain-sign.digits (is_ascii_digit-digit begins.0 begins.1)
 
   pub tells-signed : (t : List ℕ) (b : Bool) (n k : ℕ) → IsSigned f t b n k → Tells f t b n
   tells-signed t b n k signed =

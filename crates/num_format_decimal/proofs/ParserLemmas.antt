@@ -10,7 +10,6 @@ use Rattle.std.proofs.lemmas.Bool.Decides.{Decides-eqb}
 use Rattle.std.proofs.lemmas.Int.{ints}
 use Rattle.std.proofs.lemmas.List.{append_cancel_left, drop_at, take_rest}
 use Rattle.std.proofs.lemmas.Slice.Eq.{starts_is}
-use Rattle.std.proofs.lemmas.Str.{IsUtf8-nil}
 use Rattle.num_format_text.specs.Format.{FormatData}
 use Rattle.num_format_text.proofs.SizesLemmas.{grouped_or_not}
 use Rattle.num_format_int.specs.Digits.{digits}
@@ -25,9 +24,8 @@ use Rattle.num_format_parsing.specs.Shapes.{HasSign, byte_figures}
 use Rattle.num_format_parsing.specs.Strict.{IsUnambiguous, ParsesStrictly, SpellsNumber, begins, ungrouped, with_separators, without_separators}
 use Rattle.num_format_parsing.specs.declared.error.StrictError.{StrictError}
 use Rattle.num_format_parsing.specs.declared.error.StrictError.TheVariants as strict
-use Rattle.num_format_parsing.proofs.SpellingLemmas.{signed-abs, signed-sign, sign-behind}
-use Rattle.num_format_certificates.proofs.RoundTripLemmas.{is_negative-pos, round_trips-from_unambiguous, signed_number-unsigned_abs}
-use Rattle.num_format_certificates.proofs.TextCharacterLemmas.{of_printed}
+use Rattle.num_format_parsing.proofs.SpellingLemmas.{is_negative-pos, signed-abs, signed-sign, sign-behind, signed_number-unsigned_abs}
+use Rattle.num_format_certificates.proofs.RoundTripLemmas.{round_trips-from_unambiguous}
 use Rattle.num_format_decimal.specs.declared.parser.Fault.{Fault}
 use Rattle.num_format_decimal.specs.declared.parser.Fault.TheVariants.{TooLarge, Unspelled}
 use Rattle.num_format_decimal.specs.declared.decimal.TheConstants.{MAX_SCALE}
@@ -241,7 +239,7 @@ module _ (f : FormatData) (t : List ℕ) (place end : ℕ) (cut : IsCut f.decima
 -- which formats mark decimals, by their symbols
 pub marks_from : (f : FormatData) → IsUtf8 f.minus_sign → IsUtf8 f.separator → IsUnambiguous f → IsMark f.decimal (printed_separator f.grouping f.separator) → MarksDecimals f
 marks_from f sign separator plain mark = record {
-  reads_back = round_trips-from_unambiguous f sign (of_printed IsUtf8 IsUtf8-nil f.grouping f.separator separator) plain;
+  reads_back = round_trips-from_unambiguous f sign separator plain;
   given = mark.given;
   plain = mark.plain;
   apart = elim (grouped_or_not f.grouping) [ inl none ↦ inl none | inr (sizes, by) ↦ inr (λ same. mark.apart (same ∙ sym (by.printed f.separator))) ];

@@ -1,19 +1,8 @@
-use Rattle.std.proofs.Common.{pos}
-use Rattle.std.proofs.lemmas.Bool.{both_ways}
-use Rattle.num_format_int.specs.Kind.{I128}
-use Rattle.num_format_certificates.proofs.RoundTripLemmas.{one_of_i128, lowest_of_i128, round_trips-from_two}
 use Rattle.num_format_certificates.proofs.certificates.reads_back.Goals as goal
 
 pub returns-then-number_reads_back : goal.returns-then-number_reads_back
 returns-then-number_reads_back g c =
-    let one = c.number_reads_back.ensures in
-    let lowest = c.number_reads_back-then-number_reads_back.ensures in (
-      λ yes. round_trips-from_two _ lowest.utf8 (one.same.0 c.if-number_reads_back.true) (lowest.same.0 yes),
-      λ all. lowest.same.1 (all I128 _ lowest_of_i128),
-    )
-
-pub returns-else-number_reads_back : goal.returns-else-number_reads_back
-returns-else-number_reads_back g c = (
-  λ yes. absurd (both_ways _ c.if-number_reads_back.false yes),
-  λ all. c.number_reads_back.ensures.same.1 (all I128 (pos 1) one_of_i128),
-)
+    let utf8 = c.format_data.ensures.utf8 in
+    let law = c.round_trips.ensures.two_values _ utf8.minus_sign utf8.separator in
+    let lowest = c.number_reads_back-then-number_reads_back.ensures in
+    (λ yes. law.1 (c.number_reads_back.ensures.0 c.if-number_reads_back.true, lowest.0 yes), λ all. lowest.1 (law.0 all).1)
