@@ -520,7 +520,9 @@ pub fn parse_one(
     parse_one_of(value_type, &format, text, value, at)
 }
 
-/// Parses a text as people type it as a number of the type that a type of values is.
+/// Parses a text as people type it as a number of the type that a type of values is. It is inlined, so that the format
+/// stays in registers.
+#[inline(always)]
 fn parse_one_of<F: Format>(
     value_type: ValueType,
     format: &F,

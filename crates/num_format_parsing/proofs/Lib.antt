@@ -7,6 +7,7 @@ pub mod NumberLemmas
 pub mod ReadableLemmas
 mod ReadingExamples
 pub mod ReadingLemmas
+pub mod RefusalLemmas
 pub mod SpellingLemmas
 mod StrictExamples
 pub mod SymbolLemmas

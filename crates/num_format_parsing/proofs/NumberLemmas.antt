@@ -19,7 +19,7 @@ use Rattle.num_format_parsing.specs.Shapes.{byte_figures}
 use Rattle.num_format_parsing.proofs.FigureLemmas.{figures-below, figures-digit, figures-other}
 use Rattle.num_format_parsing.proofs.ReadingLemmas.{digits_among-append, is_other_numeral-ascii}
 
-ascii-all : (t : List ℕ) → list_all is_ascii t ≡ true → IsAscii t
+pub ascii-all : (t : List ℕ) → list_all is_ascii t ≡ true → IsAscii t
 ascii-all [] all = IsAscii-nil
 ascii-all (b ∷ t) all =
     let both = and_parts (is_ascii b) (list_all is_ascii t) all in

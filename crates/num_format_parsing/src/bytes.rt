@@ -61,7 +61,7 @@ pub(crate) fn is_ascii(bytes: &[u8]) -> bool
 /// Returns whether a text begins with a prefix. Most are one byte, whose comparison takes less time than a
 /// call.
 #[inline]
-pub(crate) fn is_prefix(text: &[u8], prefix: &[u8]) -> bool
+pub fn is_prefix(text: &[u8], prefix: &[u8]) -> bool
     ensures { result ≡ starts_with nat_eq text.now prefix.now }
 {
     if prefix.len() == 1 && !text.is_empty() {
@@ -70,12 +70,15 @@ pub(crate) fn is_prefix(text: &[u8], prefix: &[u8]) -> bool
     text.starts_with(prefix)
 }
 
-/// Returns whether the bytes are UTF-8.
+/// Returns whether the bytes are UTF-8. Most are ASCII, which takes less time to see.
 pub fn is_utf8(bytes: &[u8], is_text: bool) -> bool
     requires { IsTrue is_text → IsUtf8 bytes.now }
     ensures { IsTrue result ↔ IsUtf8 bytes.now }
 {
     if is_text {
+        return true;
+    }
+    if is_ascii(bytes) {
         return true;
     }
     match str::from_utf8(bytes) {

@@ -1,5 +1,5 @@
 //! Strict parsing: the number that a text spells, or why it spells none.
-ghost use Rattle.std.specs.Prelude.{◌≡◌, ◌↔◌, ℕ, List, [], ◌<◌, IsTrue, IsUtf8, IfSome, MatchResult};
+ghost use Rattle.std.specs.Prelude.{◌≡◌, ◌↔◌, ℕ, List, [], ◌<◌, IsTrue, IsUtf8, IfSome, MatchOption, MatchResult, Ok, Err};
 ghost use Rattle.num_format_text.specs.Format.{FormatData};
 ghost use Rattle.num_format_int.specs.Grouped.{printed_separator};
 ghost use Rattle.num_format_int.specs.Kind.{signed_number};
@@ -203,6 +203,29 @@ impl<'a, F: Format> StrictParser<'a, F> {
         ensures { ParsesStrictly N.kind N.value self.now bytes.now result }
     {
         self.parse_any(bytes, false)
+    }
+
+    /// Returns the number that the text of these bytes spells, or `None` if they are refused. It looks for no cause.
+    ///
+    /// ```rust
+    /// let parser = StrictParser::new(&Locale::en)?;
+    /// parser.number::<i32>(b"-1,000")    // Some(-1000)
+    /// parser.number::<i32>(b"1,23")      // None
+    /// ```
+    #[inline(always)]
+    pub fn number<N: FromFormattedStr>(&self, bytes: &[u8]) -> Option<N>
+        ensures { MatchOption result ((e : StrictError) × ParsesStrictly N.kind N.value self.now bytes.now (Err e))
+            (λ n. ParsesStrictly N.kind N.value self.now bytes.now (Ok n)) }
+    {
+        let sign = self.sign(bytes);
+        match self.read::<N>(bytes, sign) {
+            Reading::Number(magnitude) => match number_of(sign, magnitude) {
+                Ok(number) => Some(number),
+                Err(_) => None,
+            },
+            Reading::TooLarge => None,
+            Reading::Unspelled => None,
+        }
     }
 
     /// Returns the sign of a text.

@@ -1,12 +1,16 @@
 -- A text without its sign.
 use Rattle.std.proofs.Common.{◌≡◌, ℕ, true, false, List, [], ◌∷◌, ◌++◌, length, refl, ap, ◌∙◌, sym, drop, inl, inr}
-use Rattle.std.specs.Prelude.{encode_utf8, nat_eq}
+use Rattle.std.specs.Prelude.{encode_utf8, nat_eq, ◌||◌}
 use Rattle.std.specs.List.{starts_with}
 use Rattle.std.specs.Str.{chars, encode_utf8_all}
 use Rattle.std.proofs.lemmas.Bool.{cases_Bool}
 use Rattle.std.proofs.lemmas.Bool.Decides.{Decides-eqb}
 use Rattle.std.proofs.lemmas.Slice.Eq.{starts_is}
 use Rattle.std.proofs.lemmas.Str.{encode_same}
+use Rattle.num_format_text.specs.Format.{FormatData}
+use Rattle.num_format_typed.specs.Classes.{is_of}
+use Rattle.num_format_typed.specs.Typed.{begins_with, core_of, first_is, unsigned}
+use Rattle.num_format_typed.specs.declared.classes.Class.TheVariants.{Minus, Plus}
 
 -- whether a text starts with a prefix
 pub starts : (t p : List ℕ) → t ≡ p ++ drop (length p) t → starts_with nat_eq t p ≡ true
@@ -20,11 +24,15 @@ starts-not t p lacks =
     ]
 
 -- a text without its first character
-pub first-dropped : (t rest : List ℕ) (c : ℕ) → chars t ≡ c ∷ chars rest → t ≡ encode_utf8 c ++ rest → encode_utf8_all (chars t) ≡ t
+first-dropped : (t rest : List ℕ) (c : ℕ) → chars t ≡ c ∷ chars rest → t ≡ encode_utf8 c ++ rest → encode_utf8_all (chars t) ≡ t
     → rest ≡ encode_utf8_all (drop 1 (chars t))
 first-dropped t rest c first split whole =
     let same : encode_utf8 c ++ encode_utf8_all (chars rest) ≡ encode_utf8 c ++ rest = sym (ap encode_utf8_all first) ∙ whole ∙ split in
     sym (ap (λ cs. encode_utf8_all (drop 1 cs)) first ∙ (encode_same c c (encode_utf8_all (chars rest)) rest same).1)
 
-pub none-dropped : (t : List ℕ) → chars t ≡ [] → encode_utf8_all (chars t) ≡ t → t ≡ encode_utf8_all (drop 1 (chars t))
-none-dropped t none whole = sym whole ∙ ap encode_utf8_all none ∙ ap (λ cs. encode_utf8_all (drop 1 cs)) (sym none)
+-- a text that begins with another sign than the format's
+pub unsigned-first : (f : FormatData) (t rest : List ℕ) (c : ℕ) → starts_with nat_eq t (core_of f) ≡ false
+    → (is_of Minus c || is_of Plus c) ≡ true → chars t ≡ c ∷ chars rest → t ≡ encode_utf8 c ++ rest → encode_utf8_all (chars t) ≡ t → rest ≡ unsigned f t
+unsigned-first f t rest c other sign first split whole =
+    let signed : (begins_with Minus t || begins_with Plus t) ≡ true = ap (λ cs. first_is Minus cs || first_is Plus cs) first ∙ sign in
+    rw (other, signed) (first-dropped t rest c first split whole)

@@ -1,5 +1,5 @@
 -- A format is typable where tests of its symbols pass, and they do for those that most formats have.
-use Rattle.std.proofs.Common.{◌≡◌, ℕ, ◌≤◌, List, [], Bool, true, ◌&&◌, not, length, refl, ap, ◌∙◌, sym, arith, nat_le}
+use Rattle.std.proofs.Common.{◌≡◌, ℕ, zero, suc, ◌≤◌, List, [], Bool, true, ◌&&◌, not, length, refl, ap, ◌∙◌, sym, arith, nat_le}
 use Rattle.std.specs.Prelude.{nat_eq, Contains}
 use Rattle.std.specs.List.{list_all}
 use Rattle.std.specs.Cmp.{first_so, second_so}
@@ -67,6 +67,12 @@ usual s d m in_s in_d in_m =
           (first_so _ _ both),
       second_so _ _ both,
     )
+
+-- each usual mark is a usual separator
+pub mark-separates : (t : List ℕ) → Contains usual_marks t → Contains usual_separators t
+mark-separates t (zero, among, same) = (0, omega arith, same)
+mark-separates t (suc zero, among, same) = (1, omega arith, same)
+mark-separates t (suc (suc i), among, same) = absurd (omega (arith, among))
 
 -- so a format with usual symbols is typable, and its minus sign has no marks of direction at its ends
 pub usual-typable : (f : FormatData) (separator mark sign : List ℕ) → IsUnambiguous f → separator ≡ separator_of f → mark ≡ f.decimal

@@ -26,8 +26,8 @@ is_of End c = is_space c || is_direction c || c == 9 || c == 10 || c == 13
 -- the class of a character that a separator or a decimal mark may have
 abbrev pub class_of : ℕ → Option Class
 class_of c =
-    if is_of Space c then Some Space
-    else if is_of Apostrophe c then Some Apostrophe
-    else if is_of Comma c then Some Comma
+    if is_of Comma c then Some Comma
     else if is_of Point c then Some Point
+    else if is_of Space c then Some Space
+    else if is_of Apostrophe c then Some Apostrophe
     else None

@@ -93,7 +93,7 @@ usual_marks = codes "." ∷ codes "," ∷ []
 
 abbrev pub usual_separators : List (List ℕ)
 usual_separators =
-    codes "," ∷ codes "." ∷ (0xC2 ∷ 0xA0 ∷ []) ∷ (0xE2 ∷ 0x80 ∷ 0xAF ∷ []) ∷ (0xE2 ∷ 0x80 ∷ 0x99 ∷ []) ∷ [] ∷ []
+    codes "." ∷ codes "," ∷ (0xC2 ∷ 0xA0 ∷ []) ∷ (0xE2 ∷ 0x80 ∷ 0xAF ∷ []) ∷ (0xE2 ∷ 0x80 ∷ 0x99 ∷ []) ∷ [] ∷ []
 
 -- a text without what counts for nothing at its ends
 abbrev pub trimmed : List ℕ → List ℕ

@@ -55,17 +55,17 @@ impl Class {
     pub fn of(c: char) -> Option<Class>
         ensures { result ≡ class_of c }
     {
-        if Class::Space.has(c) {
-            return Some(Class::Space);
-        }
-        if Class::Apostrophe.has(c) {
-            return Some(Class::Apostrophe);
-        }
         if Class::Comma.has(c) {
             return Some(Class::Comma);
         }
         if Class::Point.has(c) {
             return Some(Class::Point);
+        }
+        if Class::Space.has(c) {
+            return Some(Class::Space);
+        }
+        if Class::Apostrophe.has(c) {
+            return Some(Class::Apostrophe);
         }
         None
     }

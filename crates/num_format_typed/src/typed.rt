@@ -1,4 +1,8 @@
 //! Parsing texts as people type them.
+//!
+//! Most are as the format prints them, so strict parsing comes first, and looks for no cause where it refuses a text.
+//! Of the others, many have only spaces around them or a plus sign, so the rest is parsed as it stands where no
+//! character in it is put for another.
 ghost use Rattle.std.specs.Prelude.{◌≡◌, ◌↔◌, ◌++◌, ◌<◌, ◌≤◌, ℕ, [], Contains, IfSome, IsTrue, MatchOption, MatchResult, IsUtf8, drop, length, Err, nat_eq, true, false};
 ghost use Rattle.std.specs.List.{find, list_any, starts_with};
 ghost use Rattle.std.specs.Str.{chars, encode_utf8_all};
@@ -16,6 +20,7 @@ use crate::rewriting::{Image, bytes_within, rewrite, split_first, without_end, w
 use num_format_decimal::{
     Decimal, DecimalParser, MAX_DECIMAL_LEN, ParseAtScaleError, ParseDecimalError, Rounding,
 };
+use num_format_parsing::bytes::{is_prefix, is_utf8};
 use num_format_parsing::{FromFormattedStr, StrictError, StrictParser};
 use num_format_text::Format;
 use std::fmt;
@@ -72,7 +77,14 @@ impl<'a> Symbols<'a> {
     fn are_own(&self, text: &str) -> bool
         ensures { result ≡ is_own self.now.separator.now self.now.mark.now text.now }
     {
-        text.chars().all(|c| self.image(c) == c)
+        let mut left = text;
+        while let Some((c, rest)) = split_first(left) {
+            if self.image(c) != c {
+                return false;
+            }
+            left = rest;
+        }
+        true
     }
 
     /// Returns whether a text has a character that could be typed for one of the symbols.
@@ -120,24 +132,17 @@ fn begins_with(text: &str, class: Class) -> bool
 }
 
 /// Returns a text without a prefix, or `None` if it does not begin with it.
+#[inline(always)]
 fn strip<'t>(text: &'t str, prefix: &str) -> Option<&'t str>
     ensures { MatchOption result (starts_with nat_eq text.now prefix.now ≡ false)
         (λ rest. (starts_with nat_eq text.now prefix.now ≡ true) × (rest.now ≡ drop (length prefix.now) text.now)) }
 {
+    if !is_prefix(text.as_bytes(), prefix.as_bytes()) {
+        return None;
+    }
     match text.strip_prefix(prefix) {
         Some(rest) => Some(rest),
         None => None,
-    }
-}
-
-/// Returns a text without its first character.
-fn without_first(text: &str) -> &str
-    ensures value { result.now ≡ encode_utf8_all (drop 1 (chars text.now)) }
-    ensures bound { length result.now ≤ length text.now }
-{
-    match split_first(text) {
-        Some((_, rest)) => rest,
-        None => text,
     }
 }
 
@@ -146,7 +151,7 @@ fn without_first(text: &str) -> &str
 fn is_usual_sign(text: &str) -> bool
     ensures { IsTrue result → Contains usual_signs text.now }
 {
-    matches!(text, "-" | "\u{2212}")
+    matches!(*text.as_bytes(), [b'-'] | [0xE2, 0x88, 0x92])
 }
 
 /// Returns whether a decimal mark is one that most formats have.
@@ -154,7 +159,7 @@ fn is_usual_sign(text: &str) -> bool
 fn is_usual_mark(text: &str) -> bool
     ensures { IsTrue result → Contains usual_marks text.now }
 {
-    matches!(text, "." | ",")
+    matches!(*text.as_bytes(), [b'.'] | [b','])
 }
 
 /// Returns whether a separator is one that most formats have.
@@ -162,35 +167,17 @@ fn is_usual_mark(text: &str) -> bool
 fn is_usual_separator(text: &str) -> bool
     ensures { IsTrue result → Contains usual_separators text.now }
 {
-    matches!(text, "," | "." | "\u{a0}" | "\u{202f}" | "\u{2019}" | "")
+    if is_usual_mark(text) {
+        return true;
+    }
+    matches!(text, "\u{a0}" | "\u{202f}" | "\u{2019}" | "")
 }
 
 /// Returns the minus sign of a format without marks of direction at its ends, or `None` if what people type under the
 /// format has more than one meaning.
-#[inline(always)]
-fn typable_core<'a, F: Format>(
-    format: &'a F,
-    symbols: Symbols<'a>,
-    minus_sign: &'a str,
-) -> Option<&'a str>
-    requires unambiguous { IsUnambiguous (F.answers format.now) }
-    requires separator { symbols.separator.now ≡ separator_of (F.answers format.now) }
-    requires mark { symbols.mark.now ≡ (F.answers format.now).decimal }
-    requires minus_sign { minus_sign.now ≡ (F.answers format.now).minus_sign }
-    ensures { MatchOption result (¬ (IsTypable (F.answers format.now)))
-        (λ core. (core.now ≡ core_of (F.answers format.now)) × IsTypable (F.answers format.now)) }
-{
-    let Symbols { separator, mark } = symbols;
-    if is_usual_mark(mark) && is_usual_sign(minus_sign) && is_usual_separator(separator) {
-        return Some(minus_sign);
-    }
-    rare_core(format, symbols, minus_sign)
-}
-
-/// Does the same, whatever the symbols.
 #[cold]
 #[inline(never)]
-fn rare_core<'a, F: Format>(
+fn typable_core<'a, F: Format>(
     format: &'a F,
     symbols: Symbols<'a>,
     minus_sign: &'a str,
@@ -255,6 +242,14 @@ impl<'a, F: Format> Rewriter<'a, F> {
         };
         let separator = numbers.separator();
         let symbols = Symbols { separator, mark };
+        if is_usual_mark(mark) && is_usual_sign(minus_sign) && is_usual_separator(separator) {
+            return Ok(Rewriter {
+                numbers,
+                minus_sign,
+                core: minus_sign,
+                symbols,
+            });
+        }
         let Some(core) = typable_core(format, symbols, minus_sign) else {
             return Err(StrictError::AmbiguousFormat);
         };
@@ -266,27 +261,16 @@ impl<'a, F: Format> Rewriter<'a, F> {
         })
     }
 
-    /// Returns the number that a person means by the text.
-    #[inline(always)]
-    fn parse<N: FromFormattedStr>(&self, text: &str) -> Result<N, TypedError<StrictError>>
-        ensures { ParsesTyped N.kind N.value self.now text.now result }
-    {
-        match self.numbers().parse(text) {
-            Ok(number) => Ok(number),
-            Err(_) => self.parse_rewritten(text),
-        }
-    }
-
     /// Returns the number that a person means by the text of the bytes.
     #[inline(always)]
-    fn parse_bytes<N: FromFormattedStr>(&self, bytes: &[u8]) -> Result<N, TypedError<StrictError>>
+    fn parse<N: FromFormattedStr>(&self, bytes: &[u8]) -> Result<N, TypedError<StrictError>>
         ensures { ParsesTyped N.kind N.value self.now bytes.now result }
     {
-        match self.numbers().parse_bytes(bytes) {
-            Ok(number) => Ok(number),
-            Err(_) => match str::from_utf8(bytes) {
-                Ok(text) => self.parse_rewritten(text),
-                Err(_) => Err(TypedError::Number(StrictError::NotUtf8)),
+        match self.numbers().number(bytes) {
+            Some(number) => Ok(number),
+            None => match text_of(bytes) {
+                Some(text) => self.parse_rewritten(text),
+                None => Err(TypedError::Number(StrictError::NotUtf8)),
             },
         }
     }
@@ -309,27 +293,10 @@ impl<'a, F: Format> Rewriter<'a, F> {
         }
     }
 
-    /// Returns the decimal that a person means by the text. `decimals` is the strict parser of the same format.
+    /// Returns the decimal that a person means by the text of the bytes. `decimals` is the strict parser of the same
+    /// format.
     #[inline(always)]
     fn parse_decimal(
-        &self,
-        decimals: &DecimalParser<'a, F>,
-        text: &str,
-    ) -> Result<Decimal, TypedError<ParseDecimalError>>
-        requires same { decimals.now ≡ self.now }
-        requires typable { IsTypable self.now }
-        requires marks { MarksDecimals self.now }
-        ensures { TypedDecimalResult self.now text.now result }
-    {
-        match decimals.parse(text) {
-            Ok(decimal) => Ok(decimal),
-            Err(_) => self.parse_rewritten_decimal(decimals, text),
-        }
-    }
-
-    /// Returns the decimal that a person means by the text of the bytes.
-    #[inline(always)]
-    fn parse_decimal_bytes(
         &self,
         decimals: &DecimalParser<'a, F>,
         bytes: &[u8],
@@ -341,9 +308,9 @@ impl<'a, F: Format> Rewriter<'a, F> {
     {
         match decimals.parse_bytes(bytes) {
             Ok(decimal) => Ok(decimal),
-            Err(_) => match str::from_utf8(bytes) {
-                Ok(text) => self.parse_rewritten_decimal(decimals, text),
-                Err(_) => Err(TypedError::Number(ParseDecimalError::NotUtf8)),
+            Err(_) => match text_of(bytes) {
+                Some(text) => self.parse_rewritten_decimal(decimals, text),
+                None => Err(TypedError::Number(ParseDecimalError::NotUtf8)),
             },
         }
     }
@@ -381,60 +348,60 @@ impl<'a, F: Format> Rewriter<'a, F> {
         &self.numbers
     }
 
-    /// Writes what a typed text stands for to the start of an array, and returns these bytes, or `None` if they are too
-    /// many.
-    fn rewrite<'s>(&self, text: &str, array: &'s mut [u8]) -> Option<&'s [u8]>
+    /// Returns the bytes of what a typed text stands for, or `None` if they are too many: a part of the text, or what is
+    /// written to the start of an array.
+    #[inline(always)]
+    fn rewrite<'s>(&self, text: &'s str, array: &'s mut [u8]) -> Option<&'s [u8]>
         requires { length array.old ≡ MAX_DECIMAL_LEN }
         ensures text { MatchOption result (MAX_DECIMAL_LEN < length (typed_text self.now text.now))
             (λ typed. typed.now ≡ typed_text self.now text.now) }
         ensures fits { IfSome result (λ typed. length typed.now ≤ MAX_DECIMAL_LEN) }
     {
-        let inner = without_ends(text, Class::End);
-        let body = self.body(inner);
-        rewrite(self.sign(inner, body), body, &self.symbols, array)
+        let (sign, body) = self.sign_and_body(without_ends(text, Class::End));
+        if sign.is_empty() && body.len() <= MAX_DECIMAL_LEN && self.symbols.are_own(body) {
+            return Some(body.as_bytes());
+        }
+        rewrite(sign, body, &self.symbols, array)
     }
 
-    /// Returns what follows the sign of a trimmed text.
-    fn body<'t>(&self, text: &'t str) -> &'t str
-        ensures value { result.now ≡ body_of self.now text.now }
-        ensures bound { length result.now ≤ length text.now }
+    /// Returns the sign of what a trimmed text stands for, and what follows the sign of the text.
+    #[inline(always)]
+    fn sign_and_body<'t>(&self, text: &'t str) -> (&'a str, &'t str)
+        ensures sign { result.0.now ≡ sign_of self.now text.now }
+        ensures body { result.1.now ≡ body_of self.now text.now }
+        ensures bound { length result.1.now ≤ length text.now }
     {
-        without_front(self.unsigned(text), Class::Direction)
+        let (has_minus, unsigned) = self.split_sign(text);
+        let body = without_front(unsigned, Class::Direction);
+        if has_minus && has_nonzero_digit(body) {
+            return (self.minus_sign, body);
+        }
+        if is_prefix(body.as_bytes(), self.core.as_bytes()) {
+            return (self.minus_sign, body);
+        }
+        ("", body)
     }
 
-    /// Returns a trimmed text without its sign.
-    fn unsigned<'t>(&self, text: &'t str) -> &'t str
-        ensures value { result.now ≡ unsigned self.now text.now }
-        ensures bound { length result.now ≤ length text.now }
+    /// Returns whether a trimmed text begins with a minus sign, and the text without its sign.
+    #[inline(always)]
+    fn split_sign<'t>(&self, text: &'t str) -> (bool, &'t str)
+        ensures minus { result.0 ≡ has_minus self.now text.now }
+        ensures rest { result.1.now ≡ unsigned self.now text.now }
+        ensures bound { length result.1.now ≤ length text.now }
     {
         if let Some(rest) = strip(text, self.core) {
-            return rest;
+            return (true, rest);
         }
-        if begins_with(text, Class::Minus) || begins_with(text, Class::Plus) {
-            return without_first(text);
+        let Some((first, rest)) = split_first(text) else {
+            return (false, text);
+        };
+        if Class::Minus.has(first) {
+            return (true, rest);
         }
-        text
-    }
-
-    /// Returns the sign of what a trimmed text of this body stands for.
-    fn sign(&self, text: &str, body: &str) -> &'a str
-        requires { body.now ≡ body_of self.now text.now }
-        ensures { result.now ≡ sign_of self.now text.now }
-    {
-        if self.has_minus(text) && has_nonzero_digit(body) {
-            return self.minus_sign;
+        if Class::Plus.has(first) {
+            return (false, rest);
         }
-        if body.as_bytes().starts_with(self.core.as_bytes()) {
-            return self.minus_sign;
-        }
-        ""
-    }
-
-    /// Returns whether a trimmed text begins with a minus sign.
-    fn has_minus(&self, text: &str) -> bool
-        ensures { result ≡ has_minus self.now text.now }
-    {
-        text.as_bytes().starts_with(self.core.as_bytes()) || begins_with(text, Class::Minus)
+        (false, text)
     }
 
     /// Returns an error with its place in the text that was given.
@@ -469,9 +436,9 @@ impl<'a, F: Format> Rewriter<'a, F> {
     {
         let front = without_front(text, Class::End);
         let inner = without_end(front, Class::End);
-        let body = self.body(inner);
+        let (sign, body) = self.sign_and_body(inner);
         let start = text.len() - front.len() + (inner.len() - body.len());
-        let room = at.saturating_sub(self.sign(inner, body).len());
+        let room = at.saturating_sub(sign.len());
         start + bytes_within(room, body, &self.symbols)
     }
 }
@@ -542,7 +509,7 @@ impl<'a, F: Format> TypedParser<'a, F> {
     pub fn parse<N: FromFormattedStr>(&self, text: &str) -> Result<N, TypedError<StrictError>>
         ensures { ParsesTyped N.kind N.value self.now text.now result }
     {
-        self.rewriter.parse(text)
+        self.parse_bytes(text.as_bytes())
     }
 
     /// Returns the number that a person means by the text of the bytes.
@@ -557,7 +524,7 @@ impl<'a, F: Format> TypedParser<'a, F> {
     ) -> Result<N, TypedError<StrictError>>
         ensures { ParsesTyped N.kind N.value self.now bytes.now result }
     {
-        self.rewriter.parse_bytes(bytes)
+        self.rewriter.parse(bytes)
     }
 
     /// Returns the decimal that a person means by the text, with as many decimals as were typed.
@@ -576,10 +543,7 @@ impl<'a, F: Format> TypedParser<'a, F> {
     pub fn parse_decimal(&self, text: &str) -> Result<Decimal, TypedError<ParseDecimalError>>
         ensures { TypedDecimalResult self.now text.now result }
     {
-        match self.decimals() {
-            Some(decimals) => self.rewriter.parse_decimal(decimals, text),
-            None => Err(TypedError::Number(ParseDecimalError::AmbiguousFormat)),
-        }
+        self.parse_decimal_bytes(text.as_bytes())
     }
 
     /// Returns the decimal that a person means by the text of the bytes.
@@ -595,7 +559,7 @@ impl<'a, F: Format> TypedParser<'a, F> {
         ensures { TypedDecimalResult self.now bytes.now result }
     {
         match self.decimals() {
-            Some(decimals) => self.rewriter.parse_decimal_bytes(decimals, bytes),
+            Some(decimals) => self.rewriter.parse_decimal(decimals, bytes),
             None => Err(TypedError::Number(ParseDecimalError::AmbiguousFormat)),
         }
     }
@@ -617,10 +581,7 @@ impl<'a, F: Format> TypedParser<'a, F> {
     ) -> Result<Decimal, TypedError<ParseAtScaleError>>
         ensures { TypedAtScaleResult self.now text.now scale result }
     {
-        match self.parse_decimal(text) {
-            Ok(decimal) => at_scale(decimal, scale),
-            Err(error) => Err(at_any_scale(error)),
-        }
+        self.parse_bytes_at_scale(text.as_bytes(), scale)
     }
 
     /// Returns the decimal that a person means by the text of the bytes at another scale.
@@ -681,6 +642,16 @@ fn without_ends(text: &str, class: Class) -> &str
     without_end(without_front(text, class), class)
 }
 
+/// Returns the text of the bytes, if they are UTF-8.
+fn text_of(bytes: &[u8]) -> Option<&str>
+    ensures { MatchOption result (¬ (IsUtf8 bytes.now)) (λ text. text.now ≡ bytes.now) }
+{
+    if !is_utf8(bytes, false) {
+        return None;
+    }
+    Some(unsafe { str::from_utf8_unchecked(bytes) })
+}
+
 /// Returns whether a text has a digit 1 to 9.
 fn has_nonzero_digit(text: &str) -> bool
     ensures { result ≡ list_any is_nonzero_digit text.now }
@@ -707,10 +678,7 @@ pub fn parse_typed<N: FromFormattedStr, F: Format>(
 ) -> Result<N, TypedError<StrictError>>
     ensures { ParsesTyped N.kind N.value (F.answers format.now) text.now result }
 {
-    match Rewriter::new(format) {
-        Ok(rewriter) => rewriter.parse(text),
-        Err(error) => Err(TypedError::Number(error)),
-    }
+    parse_typed_bytes(text.as_bytes(), format)
 }
 
 /// Returns the number that a person means by the text of the bytes under a format.
@@ -725,7 +693,7 @@ pub fn parse_typed_bytes<N: FromFormattedStr, F: Format>(
     ensures { ParsesTyped N.kind N.value (F.answers format.now) bytes.now result }
 {
     match Rewriter::new(format) {
-        Ok(rewriter) => rewriter.parse_bytes(bytes),
+        Ok(rewriter) => rewriter.parse(bytes),
         Err(error) => Err(TypedError::Number(error)),
     }
 }
@@ -746,13 +714,7 @@ pub fn parse_typed_decimal<F: Format>(
 ) -> Result<Decimal, TypedError<ParseDecimalError>>
     ensures { TypedDecimalResult (F.answers format.now) text.now result }
 {
-    let Ok(rewriter) = Rewriter::new(format) else {
-        return Err(TypedError::Number(ParseDecimalError::AmbiguousFormat));
-    };
-    let Ok(decimals) = DecimalParser::new(format) else {
-        return Err(TypedError::Number(ParseDecimalError::AmbiguousFormat));
-    };
-    rewriter.parse_decimal(&decimals, text)
+    parse_typed_decimal_bytes(text.as_bytes(), format)
 }
 
 /// Returns the decimal that a person means by the text of the bytes under a format.
@@ -772,7 +734,7 @@ pub fn parse_typed_decimal_bytes<F: Format>(
     let Ok(decimals) = DecimalParser::new(format) else {
         return Err(TypedError::Number(ParseDecimalError::AmbiguousFormat));
     };
-    rewriter.parse_decimal_bytes(&decimals, bytes)
+    rewriter.parse_decimal(&decimals, bytes)
 }
 
 /// Returns the decimal that a person means by the text at another scale: the same number, or an error.

@@ -1,8 +1,0 @@
-use Rattle.std.proofs.Common.{subst}
-use Rattle.num_format_text.specs.Format.{FormatData}
-use Rattle.num_format_typed.specs.Typed.{TypedDecimalResult}
-use Rattle.num_format_typed.proofs.typed.parse_typed_decimal.Goals as goal
-
-pub returns : goal.returns
-returns g c = subst (λ (f : FormatData). TypedDecimalResult f c.args.text.now c.parse_decimal.result) c.in-Ok.ensures.0
-    c.parse_decimal.ensures
