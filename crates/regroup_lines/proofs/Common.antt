@@ -82,7 +82,7 @@ pub use Rattle.regroup_lines.specs.Lines.{
 pub use Rattle.regroup_lines.specs.Lines.Stop.{Ended, Endless, Failed, Unflushed, Unread}
 pub use Rattle.regroup_faults.specs.Messages.{fault_message, messages}
 pub use Rattle.regroup_lines.specs.Places.{are_enough, field_count, is_at_most, is_chosen, is_chosen_from, is_enough, one_field, trimmed}
-pub use Rattle.regroup_lines.specs.Records.{Searched, after_bare, after_byte, after_record_byte, after_text, has_end, is_inside, is_open, is_quote, line_reached, lines_ended, next_line, split_at}
+pub use Rattle.regroup_lines.specs.Records.{Searched, after_bare, after_byte, after_record_byte, after_text, has_end, is_inside, is_open, is_quote, line_reached, lines_ended, next_line, record_start, split_at}
 pub use Rattle.regroup_lines.specs.Sending.{Names, PassesLong, Receives, ReceivesBytes, ReceivesEach, ReceivesPrefix, Regroups, RegroupsNaming, Returns, SendsBytes, SendsEach, SendsLine, Writer, by_writer, bytes_to, failed_by, failed_writer, text_to}
 pub use Rattle.regroup_lines.specs.Sending.Writer.{Messages, Output, Rejects}
 pub use Rattle.regroup_lines.specs.declared.Summary.{Summary}

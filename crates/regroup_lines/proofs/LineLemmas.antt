@@ -1,7 +1,7 @@
 -- What regrouping writes and returns, record after record.
-use Rattle.regroup_lines.proofs.Common.{◌≡◌, ℕ, ◌+◌, ◌<◌, ◌≤◌, ◌==◌, Bool, true, false, List, [], ◌∷◌, ◌++◌, length, take, Option, Some, Ok, Err, if◌then◌else◌, refl, sym, ap, ◌∙◌, arith, Result, nat_lt, join_with_byte, eqb-true, false_from_ne_true, Decides-ltb, take-append-le, FormatData, ended_by, Fault, TooLong, TooMany, Unclosed, HasNoEnd, IsLong, IsRecord, Reads, stop_text, Regrouped, Sent, Stop, fault_named, fault_sent, line_after, line_begun, line_sent, long_fault, long_returned, passed, passes, quotes_in, record_sent, regrouped_after, regrouped_parts, regrouped_rest, returning, sending, sending_line, stop_returned, Ended, Unread, is_open, split_at, Start, Rules}
+use Rattle.regroup_lines.proofs.Common.{◌≡◌, ℕ, ◌+◌, ◌<◌, ◌≤◌, ◌==◌, Bool, true, false, List, [], ◌∷◌, ◌++◌, length, take, Option, Some, Ok, Err, if◌then◌else◌, refl, sym, ap, ◌∙◌, arith, Result, nat_lt, join_with_byte, eqb-true, false_from_ne_true, Decides-ltb, take-append-le, FormatData, ended_by, Fault, TooLong, TooMany, Unclosed, HasNoEnd, IsLong, IsRecord, Reads, stop_text, Regrouped, Sent, Stop, fault_named, fault_sent, line_after, line_begun, line_reached, line_sent, long_fault, long_returned, passed, passes, quotes_in, record_sent, regrouped_after, regrouped_parts, regrouped_rest, returning, sending, sending_line, stop_returned, Ended, Unread, is_open, record_start, split_at, Start, Rules}
 use Rattle.regroup_lines.proofs.ChoiceLemmas.{either}
-use Rattle.regroup_lines.proofs.RecordLemmas.{split-first, split-joined, split-none, split-some}
+use Rattle.regroup_lines.proofs.RecordLemmas.{split-first, split-joined, split-none, split-some, start-next}
 
 not_less : (a b : ℕ) → b ≤ a → nat_lt a b ≡ false
 not_less a b le = false_from_ne_true (nat_lt a b) (λ yes. let less = (Decides-ltb a b).0 yes in omega arith)
@@ -20,13 +20,13 @@ passes-fault rules fault bytes does = ap (λ (b : Bool). if b then Ok (passed ru
 pub long_fault-begun : (rules : Rules) (number : ℕ) (begun text : List ℕ) (old new : Option (List ℕ)) → rules.max_line_len < length begun → Reads begun text old new →
     long_fault rules number text ≡ long_fault rules number begun
 long_fault-begun rules number begun text old new long read =
-    ap (λ l. if is_open (quotes_in rules.span) l then Unclosed number else TooLong number rules.max_line_len)
+    ap (λ l. if is_open (quotes_in rules.span) number l then Unclosed number else TooLong number rules.max_line_len)
     (ap (take (rules.max_line_len + 1)) (sym read.joined) ∙ take-append-le (rules.max_line_len + 1) begun read.given (omega (arith, long)))
 
 -- and so of bytes that are that long
 pub long_fault-front : (rules : Rules) (number : ℕ) (text more : List ℕ) → rules.max_line_len < length text → long_fault rules number (text ++ more) ≡ long_fault rules number text
 long_fault-front rules number text more long =
-    ap (λ l. if is_open (quotes_in rules.span) l then Unclosed number else TooLong number rules.max_line_len) (take-append-le (rules.max_line_len + 1) text more (omega (arith, long)))
+    ap (λ l. if is_open (quotes_in rules.span) number l then Unclosed number else TooLong number rules.max_line_len) (take-append-le (rules.max_line_len + 1) text more (omega (arith, long)))
 
 -- what is returned of a record that is too long, by how the reader stopped in it, with so many records before it
 abbrev pub last_returned : (count : ℕ) → Stop → Option (Result ℕ Fault)
@@ -56,40 +56,42 @@ module _ (rules : Rules) (most : ℕ) (from to : FormatData) where
   parts-line stop count number text (next ∷ parts) some = refl
 
   -- a record, and the bytes after it
-  after-line : (stop : Stop) (count number : ℕ) (text bytes : List ℕ) → IsRecord q e Start text →
+  after-line : (stop : Stop) (count number : ℕ) (text bytes : List ℕ) → 0 < number → IsRecord q e (record_start number) text →
       regrouped_after rules most from to stop count number (text ++ e ∷ bytes) ≡ line_and count number text (regrouped_after rules most from to stop (count + 1) (line_after rules number text) bytes)
-  after-line stop count number text bytes is =
-      ap (regrouped_parts rules most from to stop count number) (split-first q e Start text bytes is)
+  after-line stop count number text bytes some is =
+      ap (regrouped_parts rules most from to stop count number) (split-first q e (record_start number) text bytes is)
       ∙ parts-line stop count number text (split_at q e Start bytes) (split-some q e Start bytes)
+      ∙ ap (λ w. line_and count number text (regrouped_parts rules most from to stop (count + 1) (line_after rules number text) (split_at q e w bytes)))
+      (sym (start-next (line_reached q e number text) (omega (arith, some))))
 
   -- bytes after the last record
-  after-rest : (stop : Stop) (count number : ℕ) (text : List ℕ) → HasNoEnd q e Start text → regrouped_after rules most from to stop count number text ≡ regrouped_rest rules most from to stop count number text
-  after-rest stop count number text none = ap (regrouped_parts rules most from to stop count number) (split-none q e Start text none)
+  after-rest : (stop : Stop) (count number : ℕ) (text : List ℕ) → HasNoEnd q e (record_start number) text → regrouped_after rules most from to stop count number text ≡ regrouped_rest rules most from to stop count number text
+  after-rest stop count number text none = ap (regrouped_parts rules most from to stop count number) (split-none q e (record_start number) text none)
 
   abbrev last : ℕ → Regrouped
   last count = returning (Some (Ok count))
 
-  pub rest-empty : (count number : ℕ) (text : List ℕ) → HasNoEnd q e Start text → (length text == 0) ≡ true → regrouped_after rules most from to Ended count number text ≡ last count
+  pub rest-empty : (count number : ℕ) (text : List ℕ) → HasNoEnd q e (record_start number) text → (length text == 0) ≡ true → regrouped_after rules most from to Ended count number text ≡ last count
   rest-empty count number text none empty = after-rest Ended count number text none ∙ (rw empty refl)
 
-  pub rest-line : (count number : ℕ) (text : List ℕ) → HasNoEnd q e Start text → (length text == 0) ≡ false → count + 1 ≤ most → length text ≤ rules.max_line_len →
+  pub rest-line : (count number : ℕ) (text : List ℕ) → HasNoEnd q e (record_start number) text → (length text == 0) ≡ false → count + 1 ≤ most → length text ≤ rules.max_line_len →
       regrouped_after rules most from to Ended count number text ≡ text_and number text (last (count + 1))
   rest-line count number text none some few short = after-rest Ended count number text none ∙ (rw some (line_and-text count number text (last (count + 1)) few short))
 
-  pub line-next : (stop : Stop) (count number : ℕ) (text bytes : List ℕ) → IsRecord q e Start text → count + 1 ≤ most → length text ≤ rules.max_line_len →
+  pub line-next : (stop : Stop) (count number : ℕ) (text bytes : List ℕ) → 0 < number → IsRecord q e (record_start number) text → count + 1 ≤ most → length text ≤ rules.max_line_len →
       regrouped_after rules most from to stop count number (text ++ e ∷ bytes) ≡ text_and number text (regrouped_after rules most from to stop (count + 1) (line_after rules number text) bytes)
-  line-next stop count number text bytes is few short =
-      after-line stop count number text bytes is ∙ line_and-text count number text (regrouped_after rules most from to stop (count + 1) (line_after rules number text) bytes) few short
+  line-next stop count number text bytes some is few short =
+      after-line stop count number text bytes some is ∙ line_and-text count number text (regrouped_after rules most from to stop (count + 1) (line_after rules number text) bytes) few short
 
   -- a failed read or flush
-  pub rest-halted : (stop : Stop) (count number : ℕ) (text : List ℕ) → HasNoEnd q e Start text → count + 1 ≤ most → length text ≤ rules.max_line_len →
+  pub rest-halted : (stop : Stop) (count number : ℕ) (text : List ℕ) → HasNoEnd q e (record_start number) text → count + 1 ≤ most → length text ≤ rules.max_line_len →
       regrouped_rest rules most from to stop count number text ≡ line_begun rules most stop count number text → regrouped_after rules most from to stop count number text ≡ returning (stop_returned stop)
   rest-halted stop count number text none few short rest =
       after-rest stop count number text none ∙ rest
       ∙ either (λ run. run ≡ returning (stop_returned stop)) (length text == 0) (returning (stop_returned stop)) _ refl (rw (not_less most (count + 1) few, not_less rules.max_line_len (length text) short) refl)
 
   -- a record that is too long
-  module _ (count number : ℕ) (text : List ℕ) (few : count + 1 ≤ most) (is : IsLong rules text) where
+  module _ (count number : ℕ) (text : List ℕ) (few : count + 1 ≤ most) (is : IsLong rules number text) where
     over : nat_lt rules.max_line_len (length text) ≡ true
     over = (Decides-ltb rules.max_line_len (length text)).1 is.long
 
@@ -119,15 +121,15 @@ module _ (rules : Rules) (most : ℕ) (from to : FormatData) where
       long-stopped Ended = after-rest Ended count number text is.no_end ∙ (rw some_byte (line_and-long (last (count + 1))))
       long-stopped stop = after-rest stop count number text is.no_end ∙ begun stop ∙ passes_so text (returning (long_returned stop))
 
-      pub long-next : (stop : Stop) (bytes : List ℕ) → is_open q text ≡ false →
+      pub long-next : (stop : Stop) (bytes : List ℕ) → 0 < number → is_open q number text ≡ false →
           regrouped_after rules most from to stop count number (text ++ e ∷ bytes) ≡ sending (sent_long (ended_by e text)) (regrouped_after rules most from to stop (count + 1) (line_after rules number text) bytes)
-      long-next stop bytes closed =
-          after-line stop count number text bytes (is.no_end, closed)
+      long-next stop bytes some closed =
+          after-line stop count number text bytes some (is.no_end, closed)
           ∙ line_and-long (regrouped_after rules most from to stop (count + 1) (line_after rules number text) bytes)
 
   -- a byte after the last record allowed
   pub after-many : (number : ℕ) (text : List ℕ) → 0 < length text → regrouped_after rules most from to Unread most number text ≡ returning (Some (Err TooMany))
-  after-many number text some = by (split_at q e Start text) (split-joined q e Start text)
+  after-many number text some = by (split_at q e (record_start number) text) (split-joined q e (record_start number) text)
     where
       many : nat_lt most (most + 1) ≡ true
       many = (Decides-ltb most (most + 1)).1 (omega arith)

@@ -1,5 +1,5 @@
 -- A record that is too long, piece by piece.
-use Rattle.regroup_lines.proofs.Common.{◌≡◌, ℕ, ◌+◌, ◌<◌, ◌≤◌, true, false, List, [], ◌∷◌, ◌++◌, length, Bool, Option, Some, None, Result, Ok, Err, refl, sym, ap, subst, ◌∙◌, arith, append_assoc, ◌-◌, ◌^◌, is_some, IsAtEnd, Keeps, result_map_both, length-append, ended_by, Fault, Flush, Read, TooMany, HasNoEnd, IsLong, IsRecord, IsStop, Reads, stop_result, stop_text, IsHalt, Stop, quotes_in, Ended, Endless, Failed, Unflushed, Unread, after_byte, after_text, fold-append, is_inside, line_reached, next_line, PassesLong, ReceivesBytes, SendsBytes, Writer, by_writer, failed_by, failed_writer, Within, Start, Rules}
+use Rattle.regroup_lines.proofs.Common.{◌≡◌, ℕ, ◌+◌, ◌<◌, ◌≤◌, true, false, List, [], ◌∷◌, ◌++◌, length, Bool, Option, Some, None, Result, Ok, Err, refl, sym, ap, subst, ◌∙◌, arith, append_assoc, ◌-◌, ◌^◌, is_some, IsAtEnd, Keeps, result_map_both, length-append, ended_by, Fault, Flush, Read, TooMany, HasNoEnd, IsLong, IsRecord, IsStop, Reads, stop_result, stop_text, IsHalt, Stop, quotes_in, Ended, Endless, Failed, Unflushed, Unread, after_byte, after_text, fold-append, is_inside, line_reached, next_line, PassesLong, ReceivesBytes, SendsBytes, Writer, by_writer, failed_by, failed_writer, Within, record_start, Rules}
 use Rattle.regroup_lines.proofs.InputLemmas.{Reads-more, Reads-none}
 use Rattle.regroup_lines.proofs.RecordLemmas.{end-append, reached-append}
 use Rattle.regroup_lines.proofs.WriterLemmas.{ReceivesBytes-after, received-kept}
@@ -8,11 +8,11 @@ use Rattle.regroup_lines.proofs.WriterLemmas.{ReceivesBytes-after, received-kept
 pub record SentLong (rules : Rules) (n0 n1 : ℕ) (within : Within) (begun : List ℕ) (r0 r1 : Option (List ℕ)) (c0 c1 : Option (List ℕ) → Writer → Option (List ℕ)) (count : ℕ) (held : List ℕ) : Type 0 where
   pub text : List ℕ
   pub read : Reads begun text r0 r1
-  pub is : IsLong rules text
+  pub is : IsLong rules n0 text
   pub sent : ReceivesBytes rules.rejects None c0 c1 text
   pub some : count ≤ length text
   pub none : held ≡ []
-  pub after : within ≡ after_text (quotes_in rules.span) Start text
+  pub after : within ≡ after_text (quotes_in rules.span) (record_start n0) text
   pub reached : n1 ≡ line_reached (quotes_in rules.span) rules.line_end n0 text
 
 stop_text-append : (e : ℕ) (stop : Stop) (xs ys : List ℕ) → xs ++ stop_text e stop ys ≡ stop_text e stop (xs ++ ys)
@@ -25,7 +25,7 @@ unsent fault some none = let not : is_some (failed_writer fault) ≡ false = ap 
 
 module _ (rules : Rules) (n0 n2 : ℕ) (begun : List ℕ) (r0 : Option (List ℕ)) (c0 c2 : Option (List ℕ) → Writer → Option (List ℕ)) where
   -- the first write fails
-  pub PassesLong-first : (left : List ℕ) (fault : Fault) → IsLong rules begun → SendsBytes {T = Unit {0}} rules.rejects c0 c2 begun (Err fault) → PassesLong rules n0 n2 begun left r0 r0 c0 c2 (Err fault)
+  pub PassesLong-first : (left : List ℕ) (fault : Fault) → IsLong rules n0 begun → SendsBytes {T = Unit {0}} rules.rejects c0 c2 begun (Err fault) → PassesLong rules n0 n2 begun left r0 r0 c0 c2 (Err fault)
   PassesLong-first left fault long sends = PassesLong.to_stop Unread begun (Reads-none begun r0) long tt sends.1 (unsent fault sends.0)
 
   -- the next piece, where the writer was flushed
@@ -52,15 +52,15 @@ module _ (rules : Rules) (n0 n2 : ℕ) (begun : List ℕ) (r0 : Option (List ℕ
       abbrev whole : List ℕ
       whole = so_far.text ++ text
 
-      after_more : after_text q within text ≡ after_text q Start whole
-      after_more = ap (λ w. after_text q w text) so_far.after ∙ sym (fold-append (after_byte q) Start so_far.text text)
+      after_more : after_text q within text ≡ after_text q (record_start n0) whole
+      after_more = ap (λ w. after_text q w text) so_far.after ∙ sym (fold-append (after_byte q) (record_start n0) so_far.text text)
 
       reached_more : line_reached q e n1 text ≡ line_reached q e n0 whole
       reached_more = ap (λ n. line_reached q e n text) so_far.reached ∙ reached-append q e n0 so_far.text text
 
-      longer : HasNoEnd q e within text → IsLong rules whole
+      longer : HasNoEnd q e within text → IsLong rules n0 whole
       longer none = record {
-        no_end = end-append q e Start so_far.text text so_far.is.no_end (subst (λ w. HasNoEnd q e w text) so_far.after none);
+        no_end = end-append q e (record_start n0) so_far.text text so_far.is.no_end (subst (λ w. HasNoEnd q e w text) so_far.after none);
         long = let long = so_far.is.long in omega (arith, long, length-append so_far.text text);
       }
 

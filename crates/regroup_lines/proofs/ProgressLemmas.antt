@@ -1,5 +1,5 @@
 -- What the lines of an input give that were sent, and how that ends.
-use Rattle.regroup_lines.proofs.Common.{◌≡◌, ℕ, ◌+◌, ◌<◌, ◌≤◌, ◌==◌, Bool, true, false, List, [], ◌∷◌, ◌++◌, length, Option, Some, None, Result, Ok, Err, refl, sym, ap, subst, ◌∙◌, arith, append_assoc, append-nil, ◌-◌, ◌^◌, ◌||◌, is_some, take, Appends, Consumes, IsAtEnd, Keeps, Range, Consumes-kept, Consumes-nil, Consumes-trans, length-append, FormatData, StopsWithin, ended_by, Fault, are_any, Flush, Read, Report, TooLong, TooMany, Unclosed, IsHalt, EndsOrGoesOn, FindsPiece, HasNoEnd, IsLong, IsRecord, IsStop, Reads, array_len, bytes_at, held, stop_result, stop_text, Regrouped, Sent, Stop, fault_named, line_after, long_fault, only_written, passed, passes, quotes_in, record_sent, regrouped, regrouped_after, returning, sending, sending_line, text_sent, Ended, Failed, Unflushed, Unread, messages, is_open, Names, PassesLong, Receives, ReceivesBytes, ReceivesEach, RegroupsNaming, Returns, SendsEach, Writer, by_writer, failed_by, failed_writer, text_to, Summary, Input, Piece, Rules, Start}
+use Rattle.regroup_lines.proofs.Common.{◌≡◌, ℕ, ◌+◌, ◌<◌, ◌≤◌, ◌==◌, Bool, true, false, List, [], ◌∷◌, ◌++◌, length, Option, Some, None, Result, Ok, Err, refl, sym, ap, subst, ◌∙◌, arith, append_assoc, append-nil, ◌-◌, ◌^◌, ◌||◌, is_some, take, Appends, Consumes, IsAtEnd, Keeps, Range, Consumes-kept, Consumes-nil, Consumes-trans, length-append, FormatData, StopsWithin, ended_by, Fault, are_any, Flush, Read, Report, TooLong, TooMany, Unclosed, IsHalt, EndsOrGoesOn, FindsPiece, HasNoEnd, IsLong, IsRecord, IsStop, Reads, array_len, bytes_at, held, stop_result, stop_text, Regrouped, Sent, Stop, fault_named, line_after, long_fault, only_written, passed, passes, quotes_in, record_sent, regrouped, regrouped_after, returning, sending, sending_line, text_sent, Ended, Failed, Unflushed, Unread, messages, is_open, Names, PassesLong, Receives, ReceivesBytes, ReceivesEach, RegroupsNaming, Returns, SendsEach, Writer, by_writer, failed_by, failed_writer, text_to, Summary, Input, Piece, Rules, record_start}
 use Rattle.regroup_lines.specs.declared.input.Piece.TheVariants as piece
 use Rattle.regroup_lines.proofs.ChoiceLemmas.{either}
 use Rattle.regroup_lines.proofs.LineLemmas.{after-many, last_returned, line-next, long-next, long-stopped, long_fault-begun, long_fault-front, rest-empty, rest-halted, rest-line, rest-long}
@@ -24,6 +24,7 @@ pub record Progress (rules : Rules) (name : List ℕ) (most : ℕ) (from to : Fo
   pub consumed : Consumes read_old read_new given
   pub received : ReceivesEach None old new (text_to name rules.reading from sent)
   pub any : has_faults ≡ are_any sent.named
+  pub numbered : 0 < number
   pub within : length held ≤ length given
   pub same : (more : List ℕ) (stop : Stop) → regrouped rules most from to stop (given ++ more) ≡ sending sent (regrouped_after rules most from to stop count number (held ++ more))
 
@@ -52,6 +53,7 @@ module _ (rules : Rules) (name : List ℕ) (most : ℕ) (from to : FormatData) (
     consumed = Consumes-nil r0;
     received = receives-nothing name rules.reading from c0;
     any = refl;
+    numbered = omega arith;
     within = let none = ap length empty in omega (arith, none);
     same = λ more stop. ap (λ l. regrouped_after rules most from to stop 0 1 (l ++ more)) (sym empty);
   }
@@ -65,6 +67,7 @@ module _ (rules : Rules) (name : List ℕ) (most : ℕ) (from to : FormatData) (
       consumed = so_far.consumed;
       received = received-kept (text so_far.sent) c0 s1 s2 t x so_far.received kept;
       any = so_far.any;
+      numbered = so_far.numbered;
       within = so_far.within;
       same = so_far.same;
     }
@@ -78,6 +81,7 @@ module _ (rules : Rules) (name : List ℕ) (most : ℕ) (from to : FormatData) (
         consumed = Consumes-trans r0 r1 r2 so_far.given read.given so_far.consumed read.consumed;
         received = so_far.received;
         any = so_far.any;
+        numbered = so_far.numbered;
         within = let all = ap length read.joined in let before = so_far.within in omega (arith, all, before, length-append held read.given, length-append so_far.given read.given);
         same = λ more stop.
             ap (regrouped rules most from to stop) (append_assoc so_far.given read.given more) ∙ so_far.same (read.given ++ more) stop
@@ -94,6 +98,7 @@ module _ (rules : Rules) (name : List ℕ) (most : ℕ) (from to : FormatData) (
         consumed = so_far.consumed;
         received = λ w. subst (Appends (c0 w) (c2 w)) (sym (text_to-joined name rules.reading from so_far.sent sent w)) (Receives-after None w (c0 w) (c1 w) (c2 w) _ _ (so_far.received w) (receives w));
         any = ap (λ b. b || told) so_far.any ∙ ap (λ b. are_any so_far.sent.named || b) any ∙ sym (are_any-append so_far.sent.named sent.named);
+        numbered = omega arith;
         within = let before = so_far.within in omega (arith, before, length-append line (rules.line_end ∷ left));
         same = λ more stop.
             so_far.same more stop
@@ -166,15 +171,15 @@ module _ (rules : Rules) (name : List ℕ) (most : ℕ) (from to : FormatData) (
     reached bytes read = Progress-reads count number has r1 c1 before bytes r2 (Progress-kept count number has r1 before s1 s t x so_far kept) read
 
     abbrev Finds : Input → Piece → Type 0
-    Finds input found = FindsPiece (quotes_in rules.span) rules.line_end Start before input r1 r2 found
+    Finds input found = FindsPiece (quotes_in rules.span) rules.line_end (record_start number) before input r1 r2 found
 
     -- a line
     module _ (input : Input) (found : Piece) (finds : Finds input found) (place : Range ℕ) (is : found ≡ piece.Line place) (len : array_len input ≡ rules.max_line_len + 1) (line : List ℕ) (same : line ≡ bytes_at input place) where
       abbrev left : List ℕ
       left = held input
 
-      found_line : Reads before (line ++ rules.line_end ∷ left) r1 r2 × IsRecord (quotes_in rules.span) rules.line_end Start line × (length line < array_len input)
-      found_line = found-line (quotes_in rules.span) rules.line_end Start before input r1 r2 found finds place line same is
+      found_line : Reads before (line ++ rules.line_end ∷ left) r1 r2 × IsRecord (quotes_in rules.span) rules.line_end (record_start number) line × (length line < array_len input)
+      found_line = found-line (quotes_in rules.span) rules.line_end (record_start number) before input r1 r2 found finds place line same is
 
       abbrev line_ends : So_far count number has (line ++ rules.line_end ∷ left) r2 c1
       line_ends = reached (line ++ rules.line_end ∷ left) found_line.0
@@ -183,7 +188,7 @@ module _ (rules : Rules) (name : List ℕ) (most : ℕ) (from to : FormatData) (
           ≡ sending_line (text_sent rules from to number line) (regrouped_after rules most from to stop (count + 1) (line_after rules number line) bytes)
       next_so stop bytes =
           let below = found_line.2 in
-          line-next rules most from to stop count number line bytes found_line.1 (omega arith) (omega (arith, below, len))
+          line-next rules most from to stop count number line bytes so_far.numbered found_line.1 (omega arith) (omega (arith, below, len))
           ∙ ap (λ sent. sending_line sent (regrouped_after rules most from to stop (count + 1) (line_after rules number line) bytes)) (closed-record rules from to number line found_line.1.1)
 
       pub Progress-next : (told : Bool) (c2 : Writer → Option (List ℕ)) → SendsEach name rules.reading from (text_sent rules from to number line) c1 c2 (Ok told) →
@@ -200,8 +205,8 @@ module _ (rules : Rules) (name : List ℕ) (most : ℕ) (from to : FormatData) (
 
     -- bytes after the last line
     module _ (input : Input) (found : Piece) (finds : Finds input found) (place : Range ℕ) (is : found ≡ piece.Rest place) (len : array_len input ≡ rules.max_line_len + 1) (rest : List ℕ) (same : rest ≡ bytes_at input place) where
-      found_rest : Reads before rest r1 r2 × HasNoEnd (quotes_in rules.span) rules.line_end Start rest × (length rest < array_len input) × IsAtEnd r2
-      found_rest = found-rest (quotes_in rules.span) rules.line_end Start before input r1 r2 found finds place rest same is
+      found_rest : Reads before rest r1 r2 × HasNoEnd (quotes_in rules.span) rules.line_end (record_start number) rest × (length rest < array_len input) × IsAtEnd r2
+      found_rest = found-rest (quotes_in rules.span) rules.line_end (record_start number) before input r1 r2 found finds place rest same is
 
       pub Regroups-empty : (length rest == 0) ≡ true → Naming r2 c1 (Ok (record { lines = count; has_faults = has }))
       Regroups-empty empty =
@@ -224,7 +229,7 @@ module _ (rules : Rules) (name : List ℕ) (most : ℕ) (from to : FormatData) (
             last_so (record-sent rules from to number rest) sends
 
     -- a read or a flush fails
-    pub Regroups-halted : (bytes : List ℕ) → Reads before bytes r1 r2 → HasNoEnd (quotes_in rules.span) rules.line_end Start bytes → length bytes ≤ rules.max_line_len → (fault : Fault) → IsHalt rules.flushes fault →
+    pub Regroups-halted : (bytes : List ℕ) → Reads before bytes r1 r2 → HasNoEnd (quotes_in rules.span) rules.line_end (record_start number) bytes → length bytes ≤ rules.max_line_len → (fault : Fault) → IsHalt rules.flushes fault →
         Naming r2 c1 (Err fault)
     Regroups-halted bytes read none short Read is =
         Regroups-fault count number has r2 c1 bytes Failed Read c1 (reached bytes read) tt (rest-halted rules most from to Failed count number bytes none (omega arith) short refl) refl (λ w. refl)
@@ -240,16 +245,16 @@ module _ (rules : Rules) (name : List ℕ) (most : ℕ) (from to : FormatData) (
       abbrev fault_long : Fault
       fault_long = long_fault rules number begun
 
-      found_long : Reads before begun r1 r2 × HasNoEnd (quotes_in rules.span) rules.line_end Start begun × (array_len input ≤ length begun)
+      found_long : Reads before begun r1 r2 × HasNoEnd (quotes_in rules.span) rules.line_end (record_start number) begun × (array_len input ≤ length begun)
       found_long = subst (Finds input) is finds
 
-      is_long : IsLong rules begun
+      is_long : IsLong rules number begun
       is_long = record { no_end = found_long.1; long = let long = found_long.2 in omega (arith, long, len) }
 
       pub Regroups-long : passes rules.invalid ≡ false → Naming r2 c1 (Err fault_long)
       Regroups-long aborts =
           Regroups-fault count number has r2 c1 begun Unread fault_long c1 (reached begun found_long.0) tt (rest-long rules most from to count number begun (omega arith) is_long aborts)
-          (either (λ fault. failed_writer fault ≡ None) (is_open (quotes_in rules.span) (take (rules.max_line_len + 1) begun)) (Unclosed number) (TooLong number rules.max_line_len) refl refl) (λ w. refl)
+          (either (λ fault. failed_writer fault ≡ None) (is_open (quotes_in rules.span) number (take (rules.max_line_len + 1) begun)) (Unclosed number) (TooLong number rules.max_line_len) refl refl) (λ w. refl)
 
       module _ (does : passes rules.invalid ≡ true) (named : Fault) (same : named ≡ fault_long) (t2 : Option (List ℕ)) where
         abbrev faults : List Fault
@@ -262,7 +267,7 @@ module _ (rules : Rules) (name : List ℕ) (most : ℕ) (from to : FormatData) (
         Told result = Names (messages name rules.reading from (fault_named rules.invalid named)) (are_any (fault_named rules.invalid named)) t t2 result
 
         -- the reader stopped in it
-        module _ (stop : Stop) (bytes : List ℕ) (r3 : Option (List ℕ)) (more : Reads begun bytes r2 r3) (long : IsLong rules bytes) (known : IsStop rules.flushes stop bytes r3) where
+        module _ (stop : Stop) (bytes : List ℕ) (r3 : Option (List ℕ)) (more : Reads begun bytes r2 r3) (long : IsLong rules number bytes) (known : IsStop rules.flushes stop bytes r3) where
           abbrev all : Regrouped
           all = sending (long_sent (stop_text rules.line_end stop bytes)) (returning (last_returned count stop))
 
@@ -297,7 +302,7 @@ module _ (rules : Rules) (name : List ℕ) (most : ℕ) (from to : FormatData) (
               passed-received name rules.reading from rules.rejects failed s t t2 x (of t2) faults bytes (subst (λ f. Appends t t2 (messages name rules.reading from (fault_named rules.invalid f))) same names.1) (sent t2)
 
           -- the byte that ends it
-          module _ (bytes : List ℕ) (more : Reads begun (bytes ++ rules.line_end ∷ left) r2 r3) (long : IsLong rules bytes) (closed : is_open (quotes_in rules.span) bytes ≡ false) where
+          module _ (bytes : List ℕ) (more : Reads begun (bytes ++ rules.line_end ∷ left) r2 r3) (long : IsLong rules number bytes) (closed : is_open (quotes_in rules.span) number bytes ≡ false) where
             abbrev after_line : So_far count number has (bytes ++ rules.line_end ∷ left) r3 c1
             after_line = Progress-reads count number has r2 c1 begun (bytes ++ rules.line_end ∷ left) r3 (reached begun found_long.0) more
 
@@ -305,7 +310,7 @@ module _ (rules : Rules) (name : List ℕ) (most : ℕ) (from to : FormatData) (
                 ≡ sending (long_sent (ended_by rules.line_end bytes)) (regrouped_after rules most from to stop (count + 1) (line_after rules number bytes) others)
             next_long stop others =
                 long-next rules most from to count number bytes (omega arith) long fault_long
-                (sym (long_fault-front rules number bytes (rules.line_end ∷ left) long.long) ∙ long_fault-begun rules number begun (bytes ++ rules.line_end ∷ left) r2 r3 is_long.long more) does stop others closed
+                (sym (long_fault-front rules number bytes (rules.line_end ∷ left) long.long) ∙ long_fault-begun rules number begun (bytes ++ rules.line_end ∷ left) r2 r3 is_long.long more) does stop others so_far.numbered closed
 
           pub Progress-long : (ended : Bool) → ended ≡ false → Passes (Ok ended) → So_far (count + 1) after_number (has || told) left r3 (of t2)
           Progress-long ended is (PassesLong.to_end bytes read long closed sent returned) =

@@ -1,32 +1,38 @@
 -- Where records and their fields end, byte after byte.
-use Rattle.regroup_lines.proofs.Common.{take_rest, ◌≡◌, ℕ, ◌+◌, ◌-◌, ◌<◌, ◌≤◌, ◌==◌, Bool, true, false, List, [], ◌∷◌, ◌++◌, length, take, drop, get_or, slice_range, Option, Some, None, refl, sym, ap, subst, ◌∙◌, arith, eq-eqb, take-append-drop, All, cases_Bool, inl, inr, cond, ◌&&◌, not, suc, fold, join_with_byte, onto_first, eqb-true, or_from, or_parts, drop-drop, drop_more, length-drop, take_all, take_more, take-append-le, false_from_ne_true, get_or-drop, length-append, zero, fold-append, sum_by-append, take-add, unwrap_or, HasNoEnd, IsRecord, after_byte, after_record_byte, Searched, after_text, has_end, is_inside, line_reached, lines_ended, split_at, Within, after_bare, is_quote, Start}
+use Rattle.regroup_lines.proofs.Common.{take_rest, ◌≡◌, ℕ, ◌+◌, ◌-◌, ◌<◌, ◌≤◌, ◌==◌, Bool, true, false, List, [], ◌∷◌, ◌++◌, length, take, drop, get_or, slice_range, Option, Some, None, ⊤, if◌then◌else◌, refl, sym, ap, subst, ◌∙◌, arith, eq-eqb, take-append-drop, All, cases_Bool, inl, inr, cond, ◌&&◌, not, suc, fold, join_with_byte, onto_first, eqb-true, or_from, or_parts, drop-drop, drop_more, length-drop, take_all, take_more, take-append-le, false_from_ne_true, get_or-drop, length-append, zero, fold-append, sum_by-append, take-add, unwrap_or, HasNoEnd, IsRecord, after_byte, after_record_byte, Searched, after_text, has_end, is_inside, is_open, line_reached, lines_ended, split_at, Within, after_bare, begins_with_mark, is_quote, nat_eq, next_line, record_start, Start}
+use Rattle.std.specs.List.{starts_with}
 use Rattle.memchr.specs.Find.{IsFirstByte, Nowhere, Passes, is_byte, is_byte2}
 use Rattle.regroup_lines.proofs.ChoiceLemmas.{either}
-use Rattle.regroup_lines.specs.declared.records.Within.TheVariants.{Bare, Quoted}
+use Rattle.regroup_lines.specs.declared.records.Within.TheVariants.{Bare, Mark, Mark1, Mark2, Quoted}
 
 -- what follows a text where there are no quotes
 after-none : (w : Within) (text : List ℕ) → w ≡ after_text None w text
 after-none w [] = refl
 after-none w (b ∷ text) = after-none w text
 
--- what follows a text without quotes: outside quotes its last byte tells, and inside quotes it ends nothing
+-- what follows a text without quotes: in a field and outside quotes its last byte tells, and inside quotes it ends nothing
 abbrev Unquoted : List ℕ → Type 0
 Unquoted text = All (λ b. is_quote b ≡ false) text
 
-after-unquoted : (d b : ℕ) (w : Within) → is_inside w ≡ false → is_quote b ≡ false → after_byte (Some d) w b ≡ after_bare d b
-after-unquoted d b Start outside plain = rw plain refl
-after-unquoted d b Bare outside plain = refl
-after-unquoted d b Quoted outside plain = absurd (cc)
+abbrev InField : Within → Type 0
+InField Start = ⊤
+InField Bare = ⊤
+InField w = ⊥
 
-pub after-last : (q : Option ℕ) (w : Within) (text : List ℕ) → is_inside w ≡ false → 1 ≤ length text → Unquoted text → after_byte q w (get_or text (length text - 1) 0) ≡ after_text q w text
-after-last None w text outside some plain = after-none w text
-after-last (Some d) w [] outside some plain = absurd (omega arith)
-after-last (Some d) w (b ∷ []) outside some plain = refl
-after-last (Some d) w (b ∷ c ∷ text) outside some plain =
+after-unquoted : (d b : ℕ) (w : Within) → InField w → is_quote b ≡ false → after_byte (Some d) w b ≡ after_bare d Bare b
+after-unquoted d b Start in_field plain = rw plain refl
+after-unquoted d b Bare in_field plain = refl
+after-unquoted d b w in_field plain = absurd in_field
+
+pub after-last : (q : Option ℕ) (w : Within) (text : List ℕ) → InField w → 1 ≤ length text → Unquoted text → after_byte q w (get_or text (length text - 1) 0) ≡ after_text q w text
+after-last None w text in_field some plain = after-none w text
+after-last (Some d) w [] in_field some plain = absurd (omega arith)
+after-last (Some d) w (b ∷ []) in_field some plain = refl
+after-last (Some d) w (b ∷ c ∷ text) in_field some plain =
     let last : length (b ∷ c ∷ text) - 1 ≡ suc (length (c ∷ text) - 1) = omega arith in
     let here = plain (suc (length (c ∷ text) - 1)) 0 (omega arith) in
-    let next = ap is_inside (after-unquoted d b w outside (plain 0 b (omega arith))) ∙ either (λ v. is_inside v ≡ false) (b == d) Start Bare refl refl in
-    ap (λ n. after_byte (Some d) w (get_or (b ∷ c ∷ text) n 0)) last ∙ after-unquoted d _ w outside here ∙ sym (after-unquoted d _ (after_byte (Some d) w b) next here)
+    let next = subst InField (sym (after-unquoted d b w in_field (plain 0 b (omega arith)))) (either InField (b == d) Start Bare tt tt) in
+    ap (λ n. after_byte (Some d) w (get_or (b ∷ c ∷ text) n 0)) last ∙ after-unquoted d _ w in_field here ∙ sym (after-unquoted d _ (after_byte (Some d) w b) next here)
     ∙ after-last (Some d) (after_byte (Some d) w b) (c ∷ text) next (omega arith) (λ k x low. plain (suc k) x (omega (arith, low)))
 
 pub after-quoted : (q : Option ℕ) (w : Within) (text : List ℕ) → is_inside w ≡ true → Unquoted text → w ≡ after_text q w text
@@ -43,6 +49,62 @@ slice-more text a b c low high =
     let there : a + (b - a) ≡ b = omega arith in
     ap (λ n. take n (drop a text)) sum ∙ take-add (b - a) (c - b) (drop a text)
     ∙ ap (λ l. slice_range text a b ++ take (c - b) l) (drop-drop (b - a) a text ∙ ap (λ n. drop n text) there)
+
+-- two places from which the bytes of a text go on alike
+abbrev Like : Option ℕ → Within → Within → List ℕ → Type 0
+Like q v w [] = is_inside v ≡ is_inside w
+Like q v w (b ∷ text) = (is_inside v ≡ is_inside w) × Like q (after_byte q v b) (after_byte q w b) text
+
+like-same : (q : Option ℕ) (w : Within) (text : List ℕ) → Like q w w text
+like-same q w [] = refl
+like-same q w (b ∷ text) = (refl, like-same q (after_byte q w b) text)
+
+like-none : (v w : Within) (text : List ℕ) → is_inside v ≡ is_inside w → Like None v w text
+like-none v w [] same = same
+like-none v w (b ∷ text) same = (same, like-none v w text same)
+
+like-but : (q : Option ℕ) (text : List ℕ) (is : Bool) (u v w : Within) → Like q v w text → Like q (if is then u else v) (if is then u else w) text
+like-but q text true u v w like = like-same q u text
+like-but q text false u v w like = like
+
+-- the start of an input and that of a record, where no mark is
+module _ (d : ℕ) where
+  like-marked : (n : ℕ) (next : Within) (b : ℕ) (text : List ℕ) → (b ≡ n → Like (Some d) next Bare text) → Like (Some d) (after_bare d (if b == n then next else Bare) b) (after_bare d Bare b) text
+  like-marked n next b text marked =
+      like-but (Some d) text (b == d) Start _ Bare (elim (cases_Bool (b == n)) [ inl is ↦ rw is (marked (eqb-true b n is)) | inr is ↦ rw is (like-same (Some d) Bare text) ])
+
+  like-third : (text : List ℕ) → starts_with nat_eq text (191 ∷ []) ≡ false → Like (Some d) Mark2 Bare text
+  like-third [] plain = refl
+  like-third (b ∷ text) plain = (refl, like-marked 191 Start b text (λ is. let never : true ≡ false = rw is at plain in absurd (cc)))
+
+  like-second : (text : List ℕ) → starts_with nat_eq text (187 ∷ 191 ∷ []) ≡ false → Like (Some d) Mark1 Bare text
+  like-second [] plain = refl
+  like-second (b ∷ text) plain = (refl, like-marked 187 Mark2 b text (λ is. like-third text (rw is at plain)))
+
+like-start : (q : Option ℕ) (text : List ℕ) → begins_with_mark text ≡ false → Like q Mark Start text
+like-start None text plain = like-none Mark Start text refl
+like-start (Some d) [] plain = refl
+like-start (Some d) (b ∷ text) plain = (refl, like-but (Some d) text (is_quote b) Quoted _ _ (like-marked d 239 Mark1 b text (λ is. like-second d text (rw is at plain))))
+
+like-split : (q : Option ℕ) (e : ℕ) (v w : Within) (text : List ℕ) → Like q v w text → split_at q e v text ≡ split_at q e w text
+like-split q e v w [] like = refl
+like-split q e v w (b ∷ text) like = rw (like.0, like-split q e (after_byte q v b) (after_byte q w b) text like.1) refl
+
+like-inside : (q : Option ℕ) (v w : Within) (text : List ℕ) → Like q v w text → is_inside (after_text q v text) ≡ is_inside (after_text q w text)
+like-inside q v w [] like = like
+like-inside q v w (b ∷ text) like = like-inside q (after_byte q v b) (after_byte q w b) text like.1
+
+-- an input that begins with no mark, and a record that does not
+pub split-plain : (q : Option ℕ) (e : ℕ) (text : List ℕ) → begins_with_mark text ≡ false → split_at q e Mark text ≡ split_at q e Start text
+split-plain q e text plain = like-split q e Mark Start text (like-start q text plain)
+
+pub open-plain : (q : Option ℕ) (n : ℕ) (text : List ℕ) → (n ≡ 1 → begins_with_mark text ≡ false) → is_open q n text ≡ is_inside (after_text q Start text)
+open-plain q n text plain =
+    like-inside q (record_start n) Start text (elim (cases_Bool (n == 1)) [ inl is ↦ rw is (like-start q text (plain (eqb-true n 1 is))) | inr is ↦ rw is (like-same q Start text) ])
+
+-- a record after another
+pub start-next : (n : ℕ) → 0 < n → record_start (next_line n) ≡ Start
+start-next n some = rw (false_from_ne_true (next_line n == 1) (λ yes. let one = eqb-true (next_line n) 1 yes in omega (arith, some, one))) refl
 
 -- a byte that ends a part
 outside-parts : (same inside : Bool) → (same && not inside) ≡ true → (same ≡ true) × (inside ≡ false)

@@ -29,4 +29,4 @@ text-sent rules from to number text = body-sent rules text _ (body_written-sent 
 
 pub record-sent : (rules : Rules) (from to : FormatData) (number : ℕ) (text : List ℕ) → IsSent (record_sent rules from to number text)
 record-sent rules from to number text =
-    either (λ x. IsSent x) (is_open (quotes_in rules.span) text) _ _ (fault-sent rules (Unclosed number) _ refl) (text-sent rules from to number text)
+    either (λ x. IsSent x) (is_open (quotes_in rules.span) number text) _ _ (fault-sent rules (Unclosed number) _ refl) (text-sent rules from to number text)

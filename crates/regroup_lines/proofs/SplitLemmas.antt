@@ -2,10 +2,11 @@
 use Rattle.regroup_lines.proofs.Common.{Bool, Ended, Err, Fault, FormatData, List, MARK, Ok, Regrouped, Result, Rules, Sent, Some, Span, Start, TooMany, Unclosed, [], ap, append_assoc, are_any, arith, begins_with_mark, body_sent, body_written, both_ways, ended_by, eq-eqb, eqb-true, false, false_from_ne_true, fault_named, fault_sent, if◌then◌else◌, is_open, join_with_byte, joined, le-ltb, length, length-take, line_after, line_sent, long_fault, lt-leb, ltb-false, nat_eq, nat_le, nat_lt, only_written, passed, passes, passes_mark, quotes_in, refl, regrouped, regrouped_parts, returning, sending_line, split_at, subst, sym, take, take-append-le, text_sent, true, without_end, ℕ, ⊤, ◌&&◌, ◌++◌, ◌+◌, ◌<◌, ◌==◌, ◌||◌, ◌∙◌, ◌∷◌, ◌≡◌, ◌≤◌}
 use lib.Pointwise.{pointwise, pointwise_long}
 use Rattle.regroup_lines.specs.Laws.{SplitLaw, SplitsInto}
+use Rattle.regroup_lines.specs.declared.records.Within.TheVariants.{Mark}
 use Rattle.regroup_lines.specs.declared.rules.Invalid.{Invalid}
 use Rattle.regroup_lines.specs.declared.rules.Invalid.TheVariants.{Abort, Fail, Warn, Ignore}
 use Rattle.regroup_lines.specs.declared.rules.Span.TheVariants as span
-use Rattle.regroup_lines.proofs.RecordLemmas.{split-append, split-joined, split-some}
+use Rattle.regroup_lines.proofs.RecordLemmas.{open-plain, split-append, split-joined, split-plain, split-some}
 use Rattle.regroup_lines.proofs.FieldLemmas.{and_false, joined-tail, tail_of}
 use Rattle.regroup_lines.proofs.WriterLemmas.{are_any-append, joined-assoc}
 use Rattle.regroup_lines.proofs.NumberedLemmas.{body-numbered, numbered, with_number}
@@ -160,11 +161,14 @@ module _ (rules : Rules) (most : ℕ) (from to : FormatData) where
 
   line-same : (none : rules.header_lines ≡ 0) (n k p q : ℕ) (text : List ℕ) → k ≤ n → q ≤ p → 0 < q → (q ≡ 1 → begins_with_mark text ≡ false) → SameLine (at_line n p text) (at_line k q text)
   unfolding at_line
-  line-same none n k p q text fewer_lines below some plain = many-case rules from to p q most (n + 1) (k + 1) (nat_lt most (n + 1)) _ _ refl (fewer most (n + 1) (k + 1) (omega (arith, fewer_lines)))
+  line-same none n k p q text fewer_lines below some plain =
+      let opens : is_open (quotes_in rules.span) p text ≡ is_open (quotes_in rules.span) q text =
+      open-plain (quotes_in rules.span) p text (λ one. plain (omega (arith, one, below, some))) ∙ sym (open-plain (quotes_in rules.span) q text plain) in
+      many-case rules from to p q most (n + 1) (k + 1) (nat_lt most (n + 1)) _ _ refl (fewer most (n + 1) (k + 1) (omega (arith, fewer_lines)))
       (faulty-same rules from to p q (nat_lt rules.max_line_len (length text)) (long_fault rules p text) (long_fault rules q text) (ended_by rules.line_end text) _ _
-      (faulty-same rules from to p q (is_open (quotes_in rules.span) text) (Unclosed p) (Unclosed q) (ended_by rules.line_end (without_end rules.line_end text)) _ _
+      (rw opens (faulty-same rules from to p q (is_open (quotes_in rules.span) q text) (Unclosed p) (Unclosed q) (ended_by rules.line_end (without_end rules.line_end text)) _ _
       (text-same rules from to p q text (past-header p rules.header_lines none (omega (arith, some, below)) ∙ sym (past-header q rules.header_lines none some))
-      (same-mark rules.span p q text below some plain))))
+      (same-mark rules.span p q text below some plain)))))
 
   shifts : (none : rules.header_lines ≡ 0) (n k p q before total : ℕ) (parts : List (List ℕ)) → n ≡ before + k → q ≤ p → 0 < q → (q ≡ 1 → IsPlain parts) → (run n p parts).returned ≡ Some (Ok total) →
       Shifts (run n p parts) (run k q parts) before total
@@ -226,11 +230,14 @@ unfolding run
 split_law rules most from to a b lines none plain closed is =
     let q = quotes_in rules.span in
     let e = rules.line_end in
-    let split : List ℕ → List (List ℕ) = split_at q e Start in
-    let whole : regrouped rules most from to Ended (ended_by e a ++ b) ≡ run rules most from to 0 1 (split a ++ split b) =
-    ap (regrouped rules most from to Ended) (append_assoc a (e ∷ []) b) ∙ ap (run rules most from to 0 1) (split-append q e Start a b closed) in
-    let first : regrouped rules most from to Ended (ended_by e a) ≡ run rules most from to 0 1 (split a ++ [] ∷ []) = ap (run rules most from to 0 1) (split-append q e Start a [] closed) in
-    let parts = both rules most from to none (split a) (split b) lines (split-some q e Start b)
-    (plain-parts e b (split b) (split-joined q e Start b) plain) (ap (λ r. r.returned) (sym whole) ∙ is) in
+    let split : List ℕ → List (List ℕ) = split_at q e Mark in
+    let later = split_at q e Start b in
+    let whole : regrouped rules most from to Ended (ended_by e a ++ b) ≡ run rules most from to 0 1 (split a ++ later) =
+    ap (regrouped rules most from to Ended) (append_assoc a (e ∷ []) b) ∙ ap (run rules most from to 0 1) (split-append q e Mark a b closed) in
+    let first : regrouped rules most from to Ended (ended_by e a) ≡ run rules most from to 0 1 (split a ++ [] ∷ []) = ap (run rules most from to 0 1) (split-append q e Mark a [] closed) in
+    let second : regrouped rules most from to Ended b ≡ run rules most from to 0 1 later = ap (run rules most from to 0 1) (split-plain q e b plain) in
+    let parts = both rules most from to none (split a) later lines (split-some q e Start b)
+    (plain-parts e b later (split-joined q e Start b) plain) (ap (λ r. r.returned) (sym whole) ∙ is) in
     subst (λ r. SplitsInto r (regrouped rules most from to Ended (ended_by e a)) (regrouped rules most from to Ended b) lines) (sym whole)
-    (subst (λ r. SplitsInto (run rules most from to 0 1 (split a ++ split b)) r (regrouped rules most from to Ended b) lines) (sym first) parts)
+    (subst (λ r. SplitsInto (run rules most from to 0 1 (split a ++ later)) r (regrouped rules most from to Ended b) lines) (sym first)
+    (subst (λ r. SplitsInto (run rules most from to 0 1 (split a ++ later)) (run rules most from to 0 1 (split a ++ [] ∷ [])) r lines) (sym second) parts))

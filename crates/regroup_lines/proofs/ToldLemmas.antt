@@ -94,10 +94,10 @@ other_fault f other is = cc
 -- a line of an input
 module _ (rules : Rules) (from to : FormatData) (number : ℕ) (text : List ℕ) where
   -- a record with quotes that are closed, or not
-  pub closed-record : is_open (quotes_in rules.span) text ≡ false → record_sent rules from to number text ≡ text_sent rules from to number text
+  pub closed-record : is_open (quotes_in rules.span) number text ≡ false → record_sent rules from to number text ≡ text_sent rules from to number text
   closed-record closed = rw closed refl
 
-  pub open-record : is_open (quotes_in rules.span) text ≡ true → record_sent rules from to number text ≡ fault_sent rules (Unclosed number) (ended_by rules.line_end (without_end rules.line_end text))
+  pub open-record : is_open (quotes_in rules.span) number text ≡ true → record_sent rules from to number text ≡ fault_sent rules (Unclosed number) (ended_by rules.line_end (without_end rules.line_end text))
   open-record unclosed = rw unclosed refl
 
   -- by what is written in place of it

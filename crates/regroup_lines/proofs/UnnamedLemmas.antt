@@ -27,7 +27,7 @@ module _ (rules : Rules) (aborts : passes rules.invalid ≡ false) (most : ℕ) 
   line-unnamed count number text =
       either IsUnnamed (nat_lt most (count + 1)) (Err TooMany) _ tt
       (either IsUnnamed (nat_lt rules.max_line_len (length text)) _ _ (fault-unnamed (long_fault rules number text) (ended_by rules.line_end text))
-      (either IsUnnamed (is_open (quotes_in rules.span) text) _ _ (fault-unnamed (Unclosed number) (ended_by rules.line_end (without_end rules.line_end text)))
+      (either IsUnnamed (is_open (quotes_in rules.span) number text) _ _ (fault-unnamed (Unclosed number) (ended_by rules.line_end (without_end rules.line_end text)))
       (body-unnamed text (body_written rules from to number text))))
 
   sending-unnamed : (line : Result Sent Fault) (rest : Regrouped) → IsUnnamed line → IsBare rest.sent → IsBare (sending_line line rest).sent
@@ -67,7 +67,7 @@ pub Regroups-naming_none : (rules : Rules) (name : List ℕ) (most : ℕ) (from 
     RegroupsNaming rules name most from to r0 r1 old new result → Regroups rules most from to r0 r1 (old Output) (new Output) (result_map_both (λ summary. summary.lines) (λ fault. fault) result)
 Regroups-naming_none rules name most from to r0 r1 old new result aborts all =
     let whole = regrouped rules most from to all.stop all.given in
-    let bare = parts-unnamed rules aborts most from to all.stop 0 1 (records_of rules all.given) in
+    let bare = parts-unnamed rules aborts most from to all.stop 0 1 (records_of rules 1 all.given) in
     let received = subst (λ (sent : Sent). (w : Writer) → Receives (failed_by result) w (old w) (new w) (text_to name rules.reading from sent w)) bare all.received in
     record {
       given = all.given;

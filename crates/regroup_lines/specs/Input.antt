@@ -7,13 +7,12 @@ use Rattle.regroup_faults.specs.Fault.{Fault}
 use Rattle.regroup_faults.specs.Fault.Fault.{Flush, Read, TooMany}
 use Rattle.regroup_lines.specs.Lines.{Stop, quotes_in}
 use Rattle.regroup_lines.specs.Lines.Stop.{Ended, Endless, Failed, Unflushed, Unread}
-use Rattle.regroup_lines.specs.Records.{after_text, has_end, is_inside}
+use Rattle.regroup_lines.specs.Records.{after_text, has_end, is_inside, record_start}
 use Rattle.regroup_lines.specs.declared.input.Input.{Input}
 use Rattle.regroup_lines.specs.declared.input.Piece.{Piece}
 use Rattle.regroup_lines.specs.declared.input.Record.{Record}
 use Rattle.regroup_lines.specs.declared.input.Piece.TheVariants.{Line, Rest, TooLong}
 use Rattle.regroup_lines.specs.declared.records.Within.{Within}
-use Rattle.regroup_lines.specs.declared.records.Within.TheVariants.{Start}
 use Rattle.regroup_lines.specs.declared.rules.Rules.{Rules}
 
 -- the bytes that are held
@@ -71,9 +70,9 @@ abbrev pub EndsOrGoesOn : List ℕ → Option (List ℕ) → Option (List ℕ) �
 EndsOrGoesOn held old new true = Reads held [] old new × IsAtEnd new
 EndsOrGoesOn held old new false = (text : List ℕ) × Reads held text old new × (0 < length text)
 
--- bytes of a record that is too long, without the byte that ends it
-pub record IsLong (rules : Rules) (text : List ℕ) : Type 0 where
-  pub no_end : HasNoEnd (quotes_in rules.span) rules.line_end Start text
+-- bytes of a record that is too long, and begins in the line of this number, without the byte that ends it
+pub record IsLong (rules : Rules) (number : ℕ) (text : List ℕ) : Type 0 where
+  pub no_end : HasNoEnd (quotes_in rules.span) rules.line_end (record_start number) text
   pub long : rules.max_line_len < length text
 
 -- what is known where a reader stopped so, which gave these bytes and others before them

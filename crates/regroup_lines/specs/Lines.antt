@@ -19,7 +19,7 @@ use Rattle.regroup_faults.specs.Fault.{Fault, in_field}
 use Rattle.regroup_faults.specs.Fault.Fault.{TooMany, TooLong, FewFields, Flush, Read, NotText, Line, Unclosed}
 use Rattle.regroup_lines.specs.LineFaults.{text_fault}
 use Rattle.regroup_lines.specs.Places.{are_enough, field_count, is_chosen, trimmed}
-use Rattle.regroup_lines.specs.Records.{is_open, is_quote, line_reached, next_line, split_at}
+use Rattle.regroup_lines.specs.Records.{is_open, is_quote, line_reached, next_line, record_start, split_at}
 use Rattle.regroup_lines.specs.declared.records.Within.TheVariants.{Start}
 use Rattle.regroup_lines.specs.declared.rules.Fields.{Fields}
 use Rattle.regroup_lines.specs.declared.rules.Invalid.{Invalid}
@@ -225,11 +225,11 @@ lenient = record { span = span.Line; reading = Lenient; header_lines = 0; passes
 -- ends lines
 abbrev pub record_sent : Rules → FormatData → FormatData → ℕ → List ℕ → Result Sent Fault
 record_sent rules from to number text =
-    if is_open (quotes_in rules.span) text then fault_sent rules (Unclosed number) (ended_by rules.line_end (without_end rules.line_end text)) else text_sent rules from to number text
+    if is_open (quotes_in rules.span) number text then fault_sent rules (Unclosed number) (ended_by rules.line_end (without_end rules.line_end text)) else text_sent rules from to number text
 
 -- the fault of a line or a record that is too long: quotes that its first bytes do not close
 abbrev pub long_fault : Rules → ℕ → List ℕ → Fault
-long_fault rules number text = if is_open (quotes_in rules.span) (take (rules.max_line_len + 1) text) then Unclosed number else TooLong number rules.max_line_len
+long_fault rules number text = if is_open (quotes_in rules.span) number (take (rules.max_line_len + 1) text) then Unclosed number else TooLong number rules.max_line_len
 
 -- what is sent of the record that so many are before, and that begins in the line of this number, or its first fault: it may be one too many,
 -- or too long
@@ -280,13 +280,13 @@ regrouped_parts rules most from to stop count number (rest ∷ []) = regrouped_r
 regrouped_parts rules most from to stop count number (text ∷ next ∷ parts) =
     sending_line (line_sent rules most from to count number text) (regrouped_parts rules most from to stop (count + 1) (line_after rules number text) (next ∷ parts))
 
--- the lines or records of a text
-abbrev pub records_of : Rules → List ℕ → List (List ℕ)
-records_of rules bytes = split_at (quotes_in rules.span) rules.line_end Start bytes
+-- the lines or records of a text, of which the first begins in the line of this number
+abbrev pub records_of : Rules → ℕ → List ℕ → List (List ℕ)
+records_of rules number bytes = split_at (quotes_in rules.span) rules.line_end (record_start number) bytes
 
--- the bytes of an input, with so many records before them, of which the first begins in the line of this number
+-- the bytes of an input, with so many records before them, from the line of this number on
 abbrev pub regrouped_after : Rules → (most : ℕ) → FormatData → FormatData → Stop → (count number : ℕ) → List ℕ → Regrouped
-regrouped_after rules most from to stop count number bytes = regrouped_parts rules most from to stop count number (records_of rules bytes)
+regrouped_after rules most from to stop count number bytes = regrouped_parts rules most from to stop count number (records_of rules number bytes)
 
 -- an input that may have this many lines, or records: the bytes that a reader gave, and how it stopped
 abbrev pub regrouped : Rules → (most : ℕ) → FormatData → FormatData → Stop → List ℕ → Regrouped

@@ -2,7 +2,7 @@
 use Rattle.std.specs.Prelude.{◌≡◌, ℕ, ◌+◌, ◌-◌, ◌^◌, ◌≤◌, ◌==◌, length, min, take, Bool, false, true, ◌&&◌, ◌||◌, not, if◌then◌else◌, List, [], ◌∷◌, Option, None, Some}
 use Rattle.std.specs.List.{count_by, fold, onto_first}
 use Rattle.regroup_lines.specs.declared.records.Within.{Within}
-use Rattle.regroup_lines.specs.declared.records.Within.TheVariants.{Start, Bare, Quoted}
+use Rattle.regroup_lines.specs.declared.records.Within.TheVariants.{Mark, Mark1, Mark2, Start, Bare, Quoted}
 
 -- whether a byte is a quote
 abbrev pub is_quote : ℕ → Bool
@@ -10,21 +10,27 @@ is_quote b = b == 34
 
 -- whether the next byte is inside quotes
 abbrev pub is_inside : Within → Bool
-is_inside Start = false
-is_inside Bare = false
 is_inside Quoted = true
+is_inside within = false
 
--- what follows a byte outside quotes that opens none
-abbrev pub after_bare : (delimiter : ℕ) → ℕ → Within
-after_bare delimiter b = if b == delimiter then Start else Bare
+-- what follows a byte outside quotes that opens none, by what follows it unless it is a delimiter
+abbrev pub after_bare : (delimiter : ℕ) → (other : Within) → ℕ → Within
+after_bare delimiter other b = if b == delimiter then Start else other
 
 -- what follows a byte, by the delimiter of the fields that may be in quotes, if they may: a quote opens quotes as the first byte of a field and,
--- as the second of two, again after one that closes them
+-- as the second of two, again after one that closes them; a field begins after a byte order mark too
 abbrev pub after_byte : (quotes : Option ℕ) → Within → ℕ → Within
 after_byte None within b = within
-after_byte (Some delimiter) Start b = if is_quote b then Quoted else after_bare delimiter b
-after_byte (Some delimiter) Bare b = after_bare delimiter b
+after_byte (Some delimiter) Mark b = if is_quote b then Quoted else after_bare delimiter (if b == 239 then Mark1 else Bare) b
+after_byte (Some delimiter) Mark1 b = after_bare delimiter (if b == 187 then Mark2 else Bare) b
+after_byte (Some delimiter) Mark2 b = after_bare delimiter (if b == 191 then Start else Bare) b
+after_byte (Some delimiter) Start b = if is_quote b then Quoted else after_bare delimiter Bare b
+after_byte (Some delimiter) Bare b = after_bare delimiter Bare b
 after_byte (Some delimiter) Quoted b = if is_quote b then Start else Quoted
+
+-- where the first byte of a record is, by the number of its line: an input may begin with a byte order mark
+abbrev pub record_start : ℕ → Within
+record_start number = if number == 1 then Mark else Start
 
 -- what follows a text
 abbrev pub after_text : (quotes : Option ℕ) → Within → List ℕ → Within
@@ -51,13 +57,13 @@ pub record Searched (quotes : Option ℕ) (end : ℕ) (within : Within) (text : 
 abbrev pub after_record_byte : (quotes : Option ℕ) → (end : ℕ) → Within → ℕ → Within
 after_record_byte quotes end within b = if (b == end) && not (is_inside within) then Start else after_byte quotes within b
 
--- whether records end inside quotes
+-- whether the records of an input end inside quotes
 abbrev pub is_left_open : (quotes : Option ℕ) → (end : ℕ) → List ℕ → Bool
-is_left_open quotes end text = is_inside (fold (after_record_byte quotes end) Start text)
+is_left_open quotes end text = is_inside (fold (after_record_byte quotes end) Mark text)
 
--- whether one record does
-abbrev pub is_open : (quotes : Option ℕ) → List ℕ → Bool
-is_open quotes text = is_inside (after_text quotes Start text)
+-- whether one record does, which begins in the line of this number
+abbrev pub is_open : (quotes : Option ℕ) → (number : ℕ) → List ℕ → Bool
+is_open quotes number text = is_inside (after_text quotes (record_start number) text)
 
 -- how many lines end inside a part of a record
 abbrev pub lines_ended : (quotes : Option ℕ) → (line_end : ℕ) → List ℕ → ℕ

@@ -78,10 +78,10 @@ SendsBytes rejects old new bytes (Err fault) = (is_some (failed_writer fault) �
 -- what a call that passes on a record that is too long does, of which these bytes were held at first: it sends the record up to the byte that ends it,
 -- and these are left, or up to where the reader stopped; it returns whether the input ended, and the number of its line goes on to that of the next record
 pub data PassesLong (rules : Rules) (number_old number_new : ℕ) (begun left : List ℕ) (read_old read_new : Option (List ℕ)) (old new : Option (List ℕ) → Writer → Option (List ℕ)) (result : Result Bool Fault) : Type 0 where
-  to_end : (text : List ℕ) → Reads begun (text ++ rules.line_end ∷ left) read_old read_new → IsLong rules text → is_open (quotes_in rules.span) text ≡ false →
+  to_end : (text : List ℕ) → Reads begun (text ++ rules.line_end ∷ left) read_old read_new → IsLong rules number_old text → is_open (quotes_in rules.span) number_old text ≡ false →
       ReceivesBytes rules.rejects (failed_by result) old new (ended_by rules.line_end text) → (failed_by result ≡ None → (result ≡ Ok false) × (number_new ≡ line_after rules number_old text)) →
       PassesLong rules number_old number_new begun left read_old read_new old new result
-  to_stop : (stop : Stop) (text : List ℕ) → Reads begun text read_old read_new → IsLong rules text → IsStop rules.flushes stop text read_new →
+  to_stop : (stop : Stop) (text : List ℕ) → Reads begun text read_old read_new → IsLong rules number_old text → IsStop rules.flushes stop text read_new →
       ReceivesBytes rules.rejects (failed_by result) old new (stop_text rules.line_end stop text) → (failed_by result ≡ None → stop_result stop ≡ Some result) →
       PassesLong rules number_old number_new begun left read_old read_new old new result
 

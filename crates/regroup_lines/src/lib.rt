@@ -205,7 +205,7 @@ pub fn regroup_at_most<R: Read, W: Write, E: Write, X: Write, F: Format, G: Form
     let mut input = Input::new(buffer);
     let (mut number, mut has_faults) = (1, false);
     for lines in 0..most {
-        match input.next_piece(rules, Within::Start, r, w)? {
+        match input.next_piece(rules, Within::first(number), r, w)? {
             Piece::Line(place) => {
                 let line = input.line(place, number);
                 has_faults |= regroup_line(&job, &line, w, e, x)?;
@@ -254,7 +254,7 @@ fn long_fault(rules: &Rules, number: u64, input: &Input<'_>) -> RegroupFault
     requires { length (held input.now) ≤ rules.now.max_line_len + 1 }
     ensures { fault_of result ≡ long_fault rules.now number (held input.now) }
 {
-    if is_open(rules, input.held()) {
+    if is_open(rules, number, input.held()) {
         RegroupFault::Unclosed(number)
     } else {
         RegroupFault::TooLong(number, rules.max_line_len)
@@ -277,7 +277,7 @@ fn regroup_last<'a, W: Write, E: Write, X: Write, F: Format, G: Format>(
         (by_writer (W.contents w.old) (E.contents e.old) (X.contents x.old)) (by_writer (W.contents w.new) (E.contents e.new) (X.contents x.new))
         (result_map_both (λ told. told) line_fault_of result) }
 {
-    if is_open(job.rules, line.text) {
+    if is_open(job.rules, line.number, line.text) {
         let ended = &line.ended[..len_without(job.rules.line_end, line.text) + 1];
         return pass_fault(job, LineFault::Unclosed(line.number), ended, w, e, x);
     }
@@ -363,14 +363,14 @@ fn send_long<R: Read, W: Write, X: Write>(
     w: &mut W,
     x: &mut X,
 ) -> Result<bool, RegroupFault>
-    requires long { IsLong rules.now (held input.old) }
+    requires long { IsLong rules.now number.old (held input.old) }
     requires len { array_len input.old ≡ rules.now.max_line_len + 1 }
     ensures passes { PassesLong rules.now number.old number.new (held input.old) (held input.new) (R.remaining r.old) (R.remaining r.new)
         (λ told. by_writer (W.contents w.old) told (X.contents x.old)) (λ told. by_writer (W.contents w.new) told (X.contents x.new))
         (result_map_both (λ ended. ended) fault_of result) }
     ensures len { array_len input.new ≡ array_len input.old }
 {
-    let mut within = Within::Start;
+    let mut within = Within::first(*number);
     send_held(rules, &mut within, number, input, w, x)?;
     for _ in 0..u64::MAX {
         match input.next_piece(rules, within, r, w) {
@@ -412,7 +412,7 @@ fn send_held<W: Write, X: Write>(
     ensures number { number.new ≡ line_reached (quotes_in rules.now.span) rules.now.line_end number.old (held input.old) }
 {
     let bytes = input.held();
-    *within = within.after(rules, bytes);
+    *within = within.after(rules.quotes(), bytes);
     *number = line_reached(rules, *number, bytes);
     let sent = pass_bytes(rules, bytes, w, x);
     input.clear();

@@ -2,14 +2,20 @@
 ghost use Rattle.std.specs.Prelude.{◌≡◌, ◌≤◌, ◌<◌, All, false, get_or, length};
 ghost use Rattle.regroup_lines.specs.Ended.{len_without};
 ghost use Rattle.regroup_lines.specs.Lines.{quotes_in};
-ghost use Rattle.regroup_lines.specs.Records.{Searched, after_byte, after_text, is_inside, is_open, is_quote, line_reached};
+ghost use Rattle.regroup_lines.specs.Records.{Searched, after_byte, after_text, is_inside, is_open, is_quote, line_reached, record_start};
 
-use crate::rules::{QUOTE, Rules};
+use crate::rules::{MARK, QUOTE, Rules};
 use memchr::{memchr, memchr2};
 
 /// Where the next byte of a record is.
 #[derive(Clone, Copy, Debug, PartialEq, Eq)]
 pub(crate) enum Within {
+    /// At the start of an input: a byte order mark may be there, or the first field.
+    Mark,
+    /// After the first byte of a byte order mark.
+    Mark1,
+    /// After the first two.
+    Mark2,
     /// Where a quote opens quotes: at the start of a field, or after a quote in quotes, which closes them unless it is one of two.
     Start,
     /// In a field, where a quote opens none.
@@ -19,25 +25,40 @@ pub(crate) enum Within {
 }
 
 impl Within {
+    /// Returns where the first byte of a record is that begins in the line of this number.
+    #[inline]
+    pub(crate) fn first(number: u64) -> Within
+        ensures { result ≡ record_start number }
+    {
+        if number == 1 {
+            Within::Mark
+        } else {
+            Within::Start
+        }
+    }
+
     /// Returns where the byte after a text is.
     #[inline]
-    pub(crate) fn after(self, rules: &Rules, text: &[u8]) -> Within
-        ensures { result ≡ after_text (quotes_in rules.now.span) self text.now }
+    pub(crate) fn after(self, quotes: Option<u8>, text: &[u8]) -> Within
+        ensures { result ≡ after_text quotes self text.now }
     {
-        let quotes = rules.quotes();
         text.iter()
             .fold(self, |within, byte| within.after_byte(quotes, *byte))
     }
 
-    /// Returns where the byte after a text without quotes is: in quotes no other byte matters, and outside them the last one tells.
+    /// Returns where the byte after a text without quotes is: in quotes no other byte matters, and outside them, behind a mark, the last one tells.
     #[inline]
     fn after_plain(self, quotes: Option<u8>, text: &[u8]) -> Within
         requires { All (λ b. is_quote b ≡ false) text.now }
         ensures { result ≡ after_text quotes self text.now }
     {
-        match text {
-            [.., last] if !self.is_inside() => self.after_byte(quotes, *last),
-            _ => self,
+        match self {
+            Within::Quoted => self,
+            Within::Start | Within::Bare => match text {
+                [.., last] => self.after_byte(quotes, *last),
+                [] => self,
+            },
+            _ => self.after(quotes, text),
         }
     }
 
@@ -52,8 +73,11 @@ impl Within {
         match self {
             Within::Quoted if byte == QUOTE => Within::Start,
             Within::Quoted => Within::Quoted,
-            Within::Start if byte == QUOTE => Within::Quoted,
+            Within::Start | Within::Mark if byte == QUOTE => Within::Quoted,
             _ if byte == delimiter => Within::Start,
+            Within::Mark if byte == MARK[0] => Within::Mark1,
+            Within::Mark1 if byte == MARK[1] => Within::Mark2,
+            Within::Mark2 if byte == MARK[2] => Within::Start,
             _ => Within::Bare,
         }
     }
@@ -104,11 +128,13 @@ pub(crate) fn len_without(end: u8, text: &[u8]) -> usize
     }
 }
 
-/// Returns whether a record has quotes that are not closed.
-pub(crate) fn is_open(rules: &Rules, text: &[u8]) -> bool
-    ensures { result ≡ is_open (quotes_in rules.now.span) text.now }
+/// Returns whether a record that begins in the line of this number has quotes that are not closed.
+pub(crate) fn is_open(rules: &Rules, number: u64, text: &[u8]) -> bool
+    ensures { result ≡ is_open (quotes_in rules.now.span) number text.now }
 {
-    Within::Start.after(rules, text).is_inside()
+    Within::first(number)
+        .after(rules.quotes(), text)
+        .is_inside()
 }
 
 /// Returns the number of the line in which a part of a record ends, by that of the line in which it begins.
