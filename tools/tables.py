@@ -6,7 +6,8 @@
 A table keeps its head, the recorded results of the Rust crate and what was worked out by hand, which is all above the
 line that begins with WRITTEN. What follows is written anew: by Python's integers and `decimal`, as spelling.py,
 decimals.py and decimal_texts.py have them, and from the texts of grouped_texts.txt. Python also prints the number and
-parses the text of each case that is kept. The rows are the same in each run.
+parses the text of each case that is kept. The rows are the same in each run. What digit_texts.py writes follows from
+them, and is written too.
 """
 import itertools
 import json
@@ -18,6 +19,7 @@ from urllib.parse import quote_from_bytes, unquote_to_bytes
 
 import decimal_texts
 import decimals
+import digit_texts
 import grouped_texts
 import spelling
 import typed_texts
@@ -414,6 +416,7 @@ def main():
         for source, made in parts:
             text += f"{WRITTEN}: {source}.\n{''.join(made())}"
         (CASES / f"{name}.tsv").write_text(text, encoding="utf-8")
+    digit_texts.main()
 
 
 if __name__ == "__main__":
