@@ -54,6 +54,21 @@ static void show_columns(void) {
     printf("parse typed decimals: %d, %lld %lld\n", result, (long long)parsed_units[0], (long long)parsed_units[2]);
 }
 
+/* A decimal becomes its sum with another one, the difference, and the nearest with two decimals, which is below 0. */
+static void show_arithmetic(void) {
+    uint64_t low = 12345, high = 0;
+    uint32_t scale = 2;
+    int32_t order = 7;
+    show_number("add", num_format_decimal_add(&low, &high, &scale, 5, 0, 3), &low);
+    printf("scale: %u\n", (unsigned)scale);
+    show_number("subtract", num_format_decimal_subtract(&low, &high, &scale, 200, 0, 0), &low);
+    show_number("rescale, exact", num_format_decimal_rescale(&low, &high, &scale, 2, NUM_FORMAT_EXACT), &low);
+    show_number("rescale, half to even", num_format_decimal_rescale(&low, &high, &scale, 2, NUM_FORMAT_HALF_EVEN), &low);
+    show("compare", num_format_decimal_compare(low, high, scale, 0, 0, 0, &order));
+    printf("order: %d\n", (int)order);
+    show_number("add, scale 39", num_format_decimal_add(&low, &high, &scale, 1, 0, 39), &low);
+}
+
 int main(void) {
     uint64_t low = 7, high = 9, unsigned_number = 5;
     int64_t number = 5;
@@ -134,6 +149,7 @@ int main(void) {
     show_number("parse typed decimal, low", num_format_parse_typed_decimal(&de, "+1.234,5", 8, &low, &high, &scale, &place), &low);
     show_number("parse typed decimal, 64 bits", num_format_parse_typed_decimal_i64(&de, "-0,0", 4, &number, &scale, NULL), &number);
     show_number("parse decimal, 64 bits", num_format_parse_decimal_i64(&de, "-0,50", 5, &number, &scale, NULL), &number);
+    show_arithmetic();
     show_columns();
     printf("width: %zu\n", num_format_text_width("1\u202f234", 7));
     printf("version: %u\n", (unsigned)num_format_version());

@@ -335,6 +335,37 @@ static inline int32_t num_format_parse_decimal_i64(const num_format *format, con
 static inline int32_t num_format_parse_typed_decimal_i64(const num_format *format, const char *text, size_t length,
                                                          int64_t *units, uint32_t *scale, size_t *at);
 
+/* Add a decimal to the one whose halves and scale these are, or subtract it from that, write the result in its place,
+ * and return 0. The result is exact, at the larger of both scales: 1.50 less 0.125 is 1.375.
+ *
+ * Errors: NUM_FORMAT_BAD_SCALE, else NUM_FORMAT_OUT_OF_RANGE: the units are no signed number of 128 bits. */
+int32_t num_format_decimal_add(uint64_t *low, uint64_t *high, uint32_t *scale, uint64_t other_low,
+                               uint64_t other_high, uint32_t other_scale);
+int32_t num_format_decimal_subtract(uint64_t *low, uint64_t *high, uint32_t *scale, uint64_t other_low,
+                                    uint64_t other_high, uint32_t other_scale);
+
+/* What becomes of a decimal that has more decimals than a scale. Any other number is as the first. */
+typedef enum num_format_rounding {
+    NUM_FORMAT_EXACT = 0,               /* the same number, or NUM_FORMAT_DIGITS_LOST */
+    NUM_FORMAT_HALF_EVEN = 1,           /* the nearest, and of two the even one: of 2.5 it is 2, and of 3.5 it is 4 */
+    NUM_FORMAT_HALF_AWAY_FROM_ZERO = 2, /* the nearest, and of two the one farther from 0: of 2.5 it is 3 */
+    NUM_FORMAT_TOWARD_ZERO = 3          /* the digits that are left: of 2.9 it is 2, and of -2.9 it is -2 */
+} num_format_rounding;
+
+/* Writes the decimal at a new scale in its place, as one of num_format_rounding says, and returns 0.
+ *
+ * Errors: NUM_FORMAT_BAD_SCALE of either scale, else NUM_FORMAT_DIGITS_LOST, of NUM_FORMAT_EXACT alone, else
+ * NUM_FORMAT_OUT_OF_RANGE: the units at the scale are no signed number of 128 bits. */
+int32_t num_format_decimal_rescale(uint64_t *low, uint64_t *high, uint32_t *scale, uint32_t new_scale,
+                                   uint32_t rounding);
+
+/* Writes -1, 0 or 1 as the decimal is below, at or above the value of another one, and returns 0. 1.50 and 1.5 are of
+ * one value.
+ *
+ * Error: NUM_FORMAT_BAD_SCALE. */
+int32_t num_format_decimal_compare(uint64_t low, uint64_t high, uint32_t scale, uint64_t other_low,
+                                   uint64_t other_high, uint32_t other_scale, int32_t *order);
+
 /* ---- Columns: many numbers at once, their texts in the layout of a column of strings of Apache Arrow ---- */
 
 /* The types of values and offsets, as Arrow's C data interface names them, which has no integers of 128 bits. */
@@ -460,7 +491,7 @@ typedef enum num_format_status {
     NUM_FORMAT_BAD_LENGTH = -15,      /* sizes of a column do not fit one another, or that of a value its type */
     NUM_FORMAT_BAD_OFFSETS = -16,     /* an offset is below 0 or the one before it, or past the bytes */
     NUM_FORMAT_TOO_MANY_BYTES = -17,  /* the texts have more bytes than an offset can say */
-    NUM_FORMAT_DIGITS_LOST = -18,     /* the text has digits other than 0 that the scale has not */
+    NUM_FORMAT_DIGITS_LOST = -18,     /* a decimal has digits other than 0 that the scale has not */
     NUM_FORMAT_AMBIGUOUS_FORMAT = -19, /* a text can be misread under the format, which parses none strictly */
     NUM_FORMAT_BAD_TYPE = -20,        /* no type of values or offsets has this number */
     NUM_FORMAT_TEXT_TOO_LONG = -21    /* a text as a person types it is longer than that of any number */
@@ -631,7 +662,7 @@ static inline const char *num_format_strerror(int32_t status) {
     case NUM_FORMAT_BAD_LENGTH: return "the sizes of a column's arrays do not fit one another";
     case NUM_FORMAT_BAD_OFFSETS: return "an offset is below 0 or the one before it, or past the bytes";
     case NUM_FORMAT_TOO_MANY_BYTES: return "the texts have more bytes than an offset can say";
-    case NUM_FORMAT_DIGITS_LOST: return "the text has digits other than 0 that the scale has not";
+    case NUM_FORMAT_DIGITS_LOST: return "the decimal has digits other than 0 that the scale has not";
     case NUM_FORMAT_AMBIGUOUS_FORMAT: return "the format is ambiguous";
     case NUM_FORMAT_BAD_TYPE: return "no such type";
     case NUM_FORMAT_TEXT_TOO_LONG: return "the text is longer than that of any number";

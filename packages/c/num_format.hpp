@@ -144,6 +144,17 @@ struct halves {
     }
 };
 
+/// The decimal that a call writes, which may be in the place of one.
+template <class T, class Call> result<basic_decimal<T>> decimal_by(Call call, basic_decimal<T> number = {}) {
+    static_assert(is_units<T>, "units of at most 128 bits with a sign");
+    result<basic_decimal<T>> found;
+    halves of(number.units);
+    found.status = call(&of.low, &of.high, &number.scale, &found.at);
+    if (found.status == 0 && !of.to(number.units)) found.status = NUM_FORMAT_OUT_OF_RANGE;
+    if (found.status == 0) found.value = number;
+    return found;
+}
+
 /// The number of what a column has: of T, and of std::optional<T>, which may be null.
 template <class T> struct element { using number = T; };
 template <class T> struct element<std::optional<T>> { using number = T; };
@@ -157,6 +168,52 @@ template <class T> std::vector<std::uint8_t> validity_of(const std::vector<std::
     return validity;
 }
 } // namespace detail
+
+/// The sum and the difference of two decimals, at the larger of both scales, and a decimal at another scale, or the status for
+/// which there is none: that of num_format.h, and NUM_FORMAT_OUT_OF_RANGE where T has not the units.
+template <class T> result<basic_decimal<T>> try_add(const basic_decimal<T> &a, const basic_decimal<T> &b) {
+    const detail::halves of(b.units);
+    return detail::decimal_by<T>([&](auto low, auto high, auto scale, auto) {
+        return num_format_decimal_add(low, high, scale, of.low, of.high, b.scale);
+    }, a);
+}
+template <class T> result<basic_decimal<T>> try_subtract(const basic_decimal<T> &a, const basic_decimal<T> &b) {
+    const detail::halves of(b.units);
+    return detail::decimal_by<T>([&](auto low, auto high, auto scale, auto) {
+        return num_format_decimal_subtract(low, high, scale, of.low, of.high, b.scale);
+    }, a);
+}
+template <class T>
+result<basic_decimal<T>> try_rescale(const basic_decimal<T> &a, std::uint32_t to, num_format_rounding rounding = NUM_FORMAT_EXACT) {
+    return detail::decimal_by<T>([&](auto low, auto high, auto scale, auto) {
+        return num_format_decimal_rescale(low, high, scale, to, std::uint32_t(rounding));
+    }, a);
+}
+
+/// -1, 0 or 1 as a decimal is below, at or above the value of another, or NUM_FORMAT_BAD_SCALE.
+template <class T> result<std::int32_t> try_compare(const basic_decimal<T> &a, const basic_decimal<T> &b) {
+    const detail::halves x(a.units), y(b.units);
+    result<std::int32_t> found;
+    found.status = num_format_decimal_compare(x.low, x.high, a.scale, y.low, y.high, b.scale, &found.value);
+    return found;
+}
+
+#ifdef __cpp_exceptions
+/// The same. Throws bad_scale, digits_lost or out_of_range.
+template <class T> basic_decimal<T> operator+(const basic_decimal<T> &a, const basic_decimal<T> &b) {
+    return detail::accepted(try_add(a, b));
+}
+template <class T> basic_decimal<T> operator-(const basic_decimal<T> &a, const basic_decimal<T> &b) {
+    return detail::accepted(try_subtract(a, b));
+}
+template <class T>
+basic_decimal<T> rescale(const basic_decimal<T> &a, std::uint32_t to, num_format_rounding rounding = NUM_FORMAT_EXACT) {
+    return detail::accepted(try_rescale(a, to, rounding));
+}
+template <class T> std::int32_t compare(const basic_decimal<T> &a, const basic_decimal<T> &b) {
+    return detail::accepted(try_compare(a, b));
+}
+#endif
 
 /// A text that was printed, in an array of its own: no memory is requested for it. It has a zero byte after it.
 class text {
@@ -343,12 +400,12 @@ public:
 
     /// The decimal that a text spells, with as many decimals, or a status.
     template <class T = std::int64_t> result<basic_decimal<T>> try_parse_decimal(std::string_view text) const {
-        return decimal_by<T>([&](auto... to) { return num_format_parse_decimal(&held, text.data(), text.size(), to...); });
+        return detail::decimal_by<T>([&](auto... to) { return num_format_parse_decimal(&held, text.data(), text.size(), to...); });
     }
 
     /// The decimal that a text is as a person types it (no data type is meant), or a status.
     template <class T = std::int64_t> result<basic_decimal<T>> try_parse_typed_decimal(std::string_view text) const {
-        return decimal_by<T>([&](auto... to) {
+        return detail::decimal_by<T>([&](auto... to) {
             return num_format_parse_typed_decimal(&held, text.data(), text.size(), to...);
         });
     }
@@ -501,18 +558,6 @@ public:
 #endif
 private:
     format() : held() {}
-
-    /// The decimal that a call writes.
-    template <class T, class Parse> static result<basic_decimal<T>> decimal_by(Parse parse) {
-        static_assert(detail::is_units<T>, "units of at most 128 bits with a sign");
-        result<basic_decimal<T>> found;
-        basic_decimal<T> number{};
-        detail::halves of;
-        found.status = parse(&of.low, &of.high, &number.scale, &found.at);
-        if (found.status == 0 && !of.to(number.units)) found.status = NUM_FORMAT_OUT_OF_RANGE;
-        if (found.status == 0) found.value = number;
-        return found;
-    }
 
     /// What a call that fills a struct returns, and the format if it is 0.
     template <class Fill> static std::pair<std::int32_t, std::optional<format>> made(Fill fill) {

@@ -1,3 +1,4 @@
+pub mod ArithmeticLemmas
 pub mod ByteLemmas
 pub mod CallLemmas
 pub mod LayoutLemmas

@@ -20,6 +20,7 @@ use Rattle.num_format_decimal.specs.FixedPoint.{FixedPoint, fixed_point}
 use Rattle.num_format_decimal.specs.Parsing.{AtScaleResult, DecimalResult}
 use Rattle.num_format_decimal.specs.Text.{decimal_text}
 use Rattle.num_format_decimal.specs.declared.decimal.TheConstants.{MAX_SCALE}
+use Rattle.num_format_decimal.specs.declared.error.DecimalError.{DecimalError}
 use Rattle.num_format_decimal.specs.declared.error.DecimalError.TheVariants as rescale
 use Rattle.num_format_decimal.specs.declared.parsing.ParseAtScaleError.{ParseAtScaleError}
 use Rattle.num_format_decimal.specs.declared.parsing.ParseAtScaleError.TheVariants.{Parse, Rescale}
@@ -86,10 +87,10 @@ pub record Prints (s : NumFormat) (z : ℤ) (old new : List ℕ) (result : ℤ) 
   pub text : HasFormat s → Writes (text_of (format_of s) z) old new result
 
 -- a decimal is printed under the format of a struct into an array
-pub record PrintsDecimal (s : NumFormat) (units : ℤ) (scale : ℕ) (old new : List ℕ) (result : ℤ) : Type 0 where
-  pub bad_scale : MAX_SCALE < scale → Fails BadScale old new result
-  pub bad_format : scale ≤ MAX_SCALE → ¬ HasFormat s → Fails BadFormat old new result
-  pub text : scale ≤ MAX_SCALE → HasFormat s → Writes (decimal_text (format_of s) (fixed_point units scale)) old new result
+pub record PrintsDecimal (s : NumFormat) (d : FixedPoint) (old new : List ℕ) (result : ℤ) : Type 0 where
+  pub bad_scale : MAX_SCALE < d.scale → Fails BadScale old new result
+  pub bad_format : d.scale ≤ MAX_SCALE → ¬ HasFormat s → Fails BadFormat old new result
+  pub text : d.scale ≤ MAX_SCALE → HasFormat s → Writes (decimal_text (format_of s) d) old new result
 
 -- the length of a text under the format of a struct is returned
 pub record ReturnsLength (s : NumFormat) (text : FormatData → List ℕ) (result : ℤ) : Type 0 where
@@ -97,9 +98,9 @@ pub record ReturnsLength (s : NumFormat) (text : FormatData → List ℕ) (resul
   pub size : HasFormat s → result ≡ pos (length (text (format_of s)))
 
 -- the length of the text of a decimal under the format of a struct is returned
-pub record ReturnsDecimalLength (s : NumFormat) (units : ℤ) (scale : ℕ) (result : ℤ) : Type 0 where
-  pub bad_scale : MAX_SCALE < scale → result ≡ code BadScale
-  pub measured : scale ≤ MAX_SCALE → ReturnsLength s (λ f. decimal_text f (fixed_point units scale)) result
+pub record ReturnsDecimalLength (s : NumFormat) (d : FixedPoint) (result : ℤ) : Type 0 where
+  pub bad_scale : MAX_SCALE < d.scale → result ≡ code BadScale
+  pub measured : d.scale ≤ MAX_SCALE → ReturnsLength s (λ f. decimal_text f d) result
 
 -- a text is parsed under the format of a struct as a number of the kind
 pub record Parses {A : Type 0} (k : Kind) (value : A → ℤ) (s : NumFormat) (text : List ℕ) (result : Result A Status) : Type 0 where
@@ -153,12 +154,15 @@ abbrev pub decimal_place_of : ParseDecimalError → ℕ → ℕ
 decimal_place_of (decimal.Unexpected at) old = at
 decimal_place_of _ old = old
 
--- those of decimals of a scale
+-- those of scales, and of decimals of a scale
+abbrev pub rescale_status_of : DecimalError → Status
+rescale_status_of rescale.ScaleTooLarge = BadScale
+rescale_status_of rescale.DigitsLost = DigitsLost
+rescale_status_of rescale.OutOfRange = OutOfRange
+
 abbrev pub at_scale_status_of : ParseAtScaleError → Status
 at_scale_status_of (Parse e) = decimal_status_of e
-at_scale_status_of (Rescale rescale.ScaleTooLarge) = BadScale
-at_scale_status_of (Rescale rescale.DigitsLost) = DigitsLost
-at_scale_status_of (Rescale rescale.OutOfRange) = OutOfRange
+at_scale_status_of (Rescale e) = rescale_status_of e
 
 abbrev pub at_scale_place_of : ParseAtScaleError → ℕ → ℕ
 at_scale_place_of (Parse e) old = decimal_place_of e old
@@ -246,6 +250,10 @@ unsigned_wide low high = pos (low + high * 2 ^ 64)
 -- a signed number of 128 bits, by the halves of its two's complement
 abbrev pub signed_wide : ℕ → ℕ → ℤ
 signed_wide low high = cast_signed w128 (low + high * 2 ^ 64)
+
+-- a decimal, by the halves of its units and its scale
+abbrev pub decimal_of : (low high scale : ℕ) → FixedPoint
+decimal_of low high scale = fixed_point (signed_wide low high) scale
 
 -- the kind of signed numbers of that many bits
 abbrev pub signed_kind : ℕ → Option Kind

@@ -1,4 +1,5 @@
 -- The definitions that the contracts of this crate use.
+pub mod Arithmetic
 pub mod Calls
 pub mod Columns
 pub mod Held

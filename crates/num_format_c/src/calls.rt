@@ -6,15 +6,14 @@ ghost use Rattle.num_format.specs.Data.{locale_data};
 ghost use Rattle.num_format.specs.Names.{name_of};
 ghost use Rattle.num_format.specs.RoundTrips.{RoundTrips};
 ghost use Rattle.num_format.specs.Text.{text_of};
-ghost use Rattle.num_format_decimal.specs.FixedPoint.{fixed_point};
 ghost use Rattle.num_format_decimal.specs.declared.buffer.TheConstants.{MAX_DECIMAL_LEN};
-ghost use Rattle.num_format_decimal.specs.declared.decimal.TheConstants.{MAX_SCALE};
-ghost use Rattle.num_format_c.specs.Calls.{ByTag, Fills, FillsCustom, FillsLocale, FindsLocale, ReturnsLength, ReturnsDecimalLength, Gets, Parses, Prints, PrintsDecimal, Tells, Writes, WritesName, decimals, numbers, begins_with_mark, columns_of, returned, signed_kind, typed_decimals, unsigned_kind};
+ghost use Rattle.num_format_c.specs.Calls.{ByTag, Fills, FillsCustom, FillsLocale, FindsLocale, ReturnsLength, ReturnsDecimalLength, Gets, Parses, Prints, PrintsDecimal, Tells, Writes, WritesName, decimals, decimal_of, numbers, begins_with_mark, columns_of, returned, signed_kind, typed_decimals, unsigned_kind};
 ghost use Rattle.num_format_c.specs.declared.status.Status.TheVariants.{BadBits};
 ghost use Rattle.num_format_c.specs.Held.{HasFormat, IsFormatOf, format_of};
 
 use crate::format::{Held, NumFormat, grouping_of};
 use crate::status::{Status, crossed};
+use crate::wide::decimal_of;
 use num_format::parsing::{FromFormattedStr, ParseBytesError};
 use num_format::utils::{DecimalStr, MinusSignStr, SeparatorStr};
 use num_format::{Buffer, Format, Locale, ToFormattedStr};
@@ -111,22 +110,23 @@ pub fn text_len<N: ToFormattedStr>(format: &NumFormat, number: &N) -> Result<i32
 /// Prints the decimal at the start of the array, and returns the length of the text.
 pub fn print_decimal(
     format: &NumFormat,
-    units: i128,
+    low: u64,
+    high: u64,
     scale: u32,
     text: &mut [u8],
 ) -> Result<i32, Status>
-    ensures { PrintsDecimal format.now units scale text.old text.new (returned result) }
+    ensures { PrintsDecimal format.now (decimal_of low high scale) text.old text.new (returned result) }
 {
-    let number = decimal_of(units, scale).ok_or(Status::BadScale)?;
+    let number = decimal_of(low, high, scale)?;
     let format = Held::new(format)?;
     write(DecimalBuffer::of(&number, &format).as_str(), text)
 }
 
 /// Returns the length of the text of the decimal.
-pub fn decimal_len(format: &NumFormat, units: i128, scale: u32) -> Result<i32, Status>
-    ensures { ReturnsDecimalLength format.now units scale (returned result) }
+pub fn decimal_len(format: &NumFormat, low: u64, high: u64, scale: u32) -> Result<i32, Status>
+    ensures { ReturnsDecimalLength format.now (decimal_of low high scale) (returned result) }
 {
-    let number = decimal_of(units, scale).ok_or(Status::BadScale)?;
+    let number = decimal_of(low, high, scale)?;
     let format = Held::new(format)?;
     Ok(num_format_decimal::text_len(&number, &format) as i32)
 }
@@ -160,15 +160,6 @@ fn is_char_start(byte: u8) -> bool
     ensures { result ≡ is_char_start byte }
 {
     byte < 0x80 || byte >= 0xC0
-}
-
-/// Returns the decimal with these units and this scale, or `None` if the scale is too large.
-fn decimal_of(units: i128, scale: u32) -> Option<Decimal>
-    ensures { MatchOption result (MAX_SCALE < scale)
-        (λ number. (scale ≤ MAX_SCALE) × (number ≡ fixed_point units scale)) }
-{
-    let scale = u8::try_from(scale).ok()?;
-    Decimal::new(units, scale).ok()
 }
 
 /// Parses the text as a number of the type.

@@ -18,9 +18,10 @@ use crate::layout::{
     set_value, texts_len,
 };
 use crate::status::{Status, crossed};
+use crate::wide::scale_of;
 use num_format::Format;
 use num_format::parsing::StrictParser;
-use num_format_decimal::{Decimal, DecimalBuffer, DecimalParser, MAX_SCALE, marks_decimals};
+use num_format_decimal::{Decimal, DecimalBuffer, DecimalParser, marks_decimals};
 use num_format_int::buffer::PutFront;
 use num_format_int::to_formatted_str::put_text;
 use num_format_typed::{TypedParser, parse_typed_bytes};
@@ -203,7 +204,7 @@ pub fn print_decimals(
     ensures { PrintsDecimals scale offset_code format.now units.now
         (to_printed offsets.old bytes.old len.old) (to_printed offsets.new bytes.new len.new) (returned result) }
 {
-    let scale = scale_of(scale).ok_or(Status::BadScale)?;
+    let scale = scale_of(scale)?;
     let offset_type = OffsetType::from_code(offset_code).ok_or(Status::BadType)?;
     let format = &Held::new(format)?;
     let rows = Rows::new(units)?;
@@ -213,17 +214,6 @@ pub fn print_decimals(
         scale,
     };
     print_rows(&printer, offset_type, offsets, bytes, len)
-}
-
-/// Returns the scale, or `None` if it is too large.
-fn scale_of(scale: u32) -> Option<u8>
-    ensures { MatchOption result (MAX_SCALE < scale) (λ s. (scale ≤ MAX_SCALE) × (s ≡ scale)) }
-{
-    if scale <= MAX_SCALE as u32 {
-        Some(scale as u8)
-    } else {
-        None
-    }
 }
 
 /// Prints the rows into a column, and returns 0.
@@ -303,7 +293,7 @@ pub fn measure_decimals(
 ) -> Result<i32, Status>
     ensures { MeasuresDecimals scale format.now units.now len.old len.new (returned result) }
 {
-    let scale = scale_of(scale).ok_or(Status::BadScale)?;
+    let scale = scale_of(scale)?;
     let format = &Held::new(format)?;
     let rows = Rows::new(units)?;
     let printer = DecimalPrinter {
@@ -571,7 +561,7 @@ pub fn parse_decimals(
     ensures { ParsesDecimals (at_scale scale) MarksDecimals scale offset_code format.now texts.now
         (to_parsed units.old statuses.old) (to_parsed units.new statuses.new) (returned result) }
 {
-    let scale = scale_of(scale).ok_or(Status::BadScale)?;
+    let scale = scale_of(scale)?;
     let offset_type = OffsetType::from_code(offset_code).ok_or(Status::BadType)?;
     let format = Held::new(format)?;
     let Ok(parser) = DecimalParser::new(&format) else {
@@ -593,7 +583,7 @@ pub fn parse_typed_decimals(
     ensures { ParsesDecimals (typed_at_scale scale) TypesDecimals scale offset_code format.now texts.now
         (to_parsed units.old statuses.old) (to_parsed units.new statuses.new) (returned result) }
 {
-    let scale = scale_of(scale).ok_or(Status::BadScale)?;
+    let scale = scale_of(scale)?;
     let offset_type = OffsetType::from_code(offset_code).ok_or(Status::BadType)?;
     let format = Held::new(format)?;
     let Ok(parser) = TypedParser::new(&format) else {

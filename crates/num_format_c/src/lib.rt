@@ -1,11 +1,12 @@
 //! num-format for C: a static library over `num_format`, whose header is `num_format.h`.
 //!
-//! This file has the exports. They do no work of their own: [`calls`] and [`columns`] do it with Rust's types.
-//! [`format`] reads and fills the struct of a C program, [`layout`] has the values, texts and offsets of a column as
-//! bytes, and [`status`] and [`wide`] have what crosses to C: errors, and numbers of 128 bits by their halves.
+//! This file has the exports. They do no work of their own: [`calls`], [`arithmetic`] and [`columns`] do it with
+//! Rust's types. [`format`] reads and fills the struct of a C program, [`layout`] has the values, texts and offsets of a
+//! column as bytes, and [`status`] and [`wide`] have what crosses to C: errors, and numbers of 128 bits by their halves.
 //!
 //! What programs are compiled with stays: the exports and their parameters, the fields of `NumFormat`, and the numbers
-//! of [`Status`](status::Status), `ValueType`, `OffsetType` and groupings. A change there is one of `num_format.h` too.
+//! of [`Status`](status::Status), `ValueType`, `OffsetType`, groupings and roundings. A change there is one of
+//! `num_format.h` too.
 //! All else may be changed.
 //!
 //! The header says what a C program has to know, and what it must ensure. The contracts here say
@@ -23,14 +24,16 @@ ghost use Rattle.num_format.specs.Kind.{kind_of, I128, U128};
 ghost use Rattle.num_format.specs.Names.{name_of};
 ghost use Rattle.num_format.specs.RoundTrips.{RoundTrips};
 ghost use Rattle.num_format.specs.Text.{text_of};
-ghost use Rattle.num_format_decimal.specs.FixedPoint.{fixed_point};
 ghost use Rattle.num_format_decimal.specs.Marks.{MarksDecimals};
-ghost use Rattle.num_format_c.specs.Calls.{ByTag, Fails, Fills, FillsCustom, FillsLocale, ReturnsLength, ReturnsDecimalLength, Into, ParsesInto, Prints, PrintsDecimal, Tells, Writes, WritesName, at_scale, decimals, numbers, signed_kind, signed_wide, columns_of, typed_at_scale, typed_decimals, unsigned_kind, unsigned_wide};
+ghost use Rattle.num_format_decimal.specs.Values.{minus, plus};
+ghost use Rattle.num_format_c.specs.Arithmetic.{Compares, Computes, Rescales, rounding_of};
+ghost use Rattle.num_format_c.specs.Calls.{ByTag, Fails, Fills, FillsCustom, FillsLocale, ReturnsLength, ReturnsDecimalLength, Into, ParsesInto, Prints, PrintsDecimal, Tells, Writes, WritesName, at_scale, decimal_of, decimals, numbers, signed_kind, signed_wide, columns_of, typed_at_scale, typed_decimals, unsigned_kind, unsigned_wide};
 ghost use Rattle.num_format_c.specs.Columns.{MeasuresDecimals, MeasuresNumbers, ParsesDecimals, ParsesNumbers, ParsesTypedInto, PrintsDecimals, PrintsNumbers, TypesDecimals, to_parsed, to_printed};
 ghost use Rattle.num_format_c.specs.Layout.{MatchType, to_texts, to_values, value_type_of};
 ghost use Rattle.num_format_c.specs.declared.status.Status.TheVariants.{BadBits, BadType};
 ghost use Rattle.num_format_c.specs.Held.{HasFormat, format_of};
 
+mod arithmetic;
 mod calls;
 mod columns;
 pub mod format;
@@ -163,10 +166,9 @@ pub extern "C" fn num_format_print_decimal(
     scale: u32,
     text: &mut [u8],
 ) -> i32
-    ensures { PrintsDecimal format.now (signed_wide low high) scale text.old text.new result }
+    ensures { PrintsDecimal format.now (decimal_of low high scale) text.old text.new result }
 {
-    let units = joined(low, high).cast_signed();
-    returned(calls::print_decimal(format, units, scale, text))
+    returned(calls::print_decimal(format, low, high, scale, text))
 }
 
 /// Returns the length of the text that [`num_format_print_i64`] prints.
@@ -213,9 +215,9 @@ pub extern "C" fn num_format_print_decimal_len(
     high: u64,
     scale: u32,
 ) -> i32
-    ensures { ReturnsDecimalLength format.now (signed_wide low high) scale result }
+    ensures { ReturnsDecimalLength format.now (decimal_of low high scale) result }
 {
-    returned(calls::decimal_len(format, joined(low, high).cast_signed(), scale))
+    returned(calls::decimal_len(format, low, high, scale))
 }
 
 /// Returns the columns that a text takes where each character takes one, but a mark of the direction of writing none.
@@ -374,8 +376,7 @@ pub extern "C" fn num_format_parse_decimal(
     at: &mut usize,
 ) -> i32
     ensures { Into decimals (λ d. d) format.now text.now
-        (fixed_point (signed_wide low.old high.old) scale.old)
-        (fixed_point (signed_wide low.new high.new) scale.new) at.old at.new result }
+        (decimal_of low.old high.old scale.old) (decimal_of low.new high.new scale.new) at.old at.new result }
 {
     stored_decimal(calls::parse_decimal(format, text, at), low, high, scale)
 }
@@ -414,8 +415,7 @@ pub extern "C" fn num_format_parse_typed_decimal(
     at: &mut usize,
 ) -> i32
     ensures { Into typed_decimals (λ d. d) format.now text.now
-        (fixed_point (signed_wide low.old high.old) scale.old)
-        (fixed_point (signed_wide low.new high.new) scale.new) at.old at.new result }
+        (decimal_of low.old high.old scale.old) (decimal_of low.new high.new scale.new) at.old at.new result }
 {
     stored_decimal(
         calls::parse_typed_decimal(format, text, at),
@@ -423,6 +423,78 @@ pub extern "C" fn num_format_parse_typed_decimal(
         high,
         scale,
     )
+}
+
+/// Adds a decimal to the one whose units have the halves `low` and `high`, writes the sum in its place, and returns 0.
+/// The sum is exact, at the larger of both scales.
+///
+/// Errors, in this order: a scale above 38, a sum whose units have more than 128 bits.
+#[unsafe(no_mangle)]
+pub extern "C" fn num_format_decimal_add(
+    low: &mut u64,
+    high: &mut u64,
+    scale: &mut u32,
+    other_low: u64,
+    other_high: u64,
+    other_scale: u32,
+) -> i32
+    ensures { Computes plus (decimal_of other_low other_high other_scale)
+        (decimal_of low.old high.old scale.old) (decimal_of low.new high.new scale.new) result }
+{
+    returned(arithmetic::add(low, high, scale, other_low, other_high, other_scale))
+}
+
+/// Subtracts a decimal from another one, as [`num_format_decimal_add`] adds them.
+#[unsafe(no_mangle)]
+pub extern "C" fn num_format_decimal_subtract(
+    low: &mut u64,
+    high: &mut u64,
+    scale: &mut u32,
+    other_low: u64,
+    other_high: u64,
+    other_scale: u32,
+) -> i32
+    ensures { Computes minus (decimal_of other_low other_high other_scale)
+        (decimal_of low.old high.old scale.old) (decimal_of low.new high.new scale.new) result }
+{
+    returned(arithmetic::subtract(low, high, scale, other_low, other_high, other_scale))
+}
+
+/// Writes a decimal at another scale in its place, where it is rounded if that has fewer decimals, and returns 0.
+///
+/// Errors, in this order: a scale above 38, digits that would be lost where nothing is rounded, units of more than
+/// 128 bits.
+#[unsafe(no_mangle)]
+pub extern "C" fn num_format_decimal_rescale(
+    low: &mut u64,
+    high: &mut u64,
+    scale: &mut u32,
+    new_scale: u32,
+    rounding: u32,
+) -> i32
+    ensures { Rescales (rounding_of rounding) new_scale
+        (decimal_of low.old high.old scale.old) (decimal_of low.new high.new scale.new) result }
+{
+    returned(arithmetic::rescale(low, high, scale, new_scale, rounding))
+}
+
+/// Writes -1, 0 or 1 for a decimal below, at or above the value of another, and returns 0.
+///
+/// Error: a scale above 38.
+#[unsafe(no_mangle)]
+pub extern "C" fn num_format_decimal_compare(
+    low: u64,
+    high: u64,
+    scale: u32,
+    other_low: u64,
+    other_high: u64,
+    other_scale: u32,
+    order: &mut i32,
+) -> i32
+    ensures { Compares (decimal_of low high scale) (decimal_of other_low other_high other_scale)
+        order.old order.new result }
+{
+    returned(arithmetic::compare(low, high, scale, other_low, other_high, other_scale, order))
 }
 
 /// Prints the numbers of a column one after another at the start of the bytes, writes where each text ends and how

@@ -1,6 +1,6 @@
 //! The errors of the calls, and the numbers by which they cross to C.
 ghost use Rattle.std.specs.Prelude.{◌≡◌};
-ghost use Rattle.num_format_c.specs.Calls.{Stores, at_scale_place_of, at_scale_status_of, code, crossed, decimal_place_of, decimal_status_of, place_after, place_of, returned, status_of, typed_place_of, typed_status_of};
+ghost use Rattle.num_format_c.specs.Calls.{Stores, at_scale_place_of, at_scale_status_of, code, crossed, decimal_place_of, decimal_status_of, place_after, place_of, rescale_status_of, returned, status_of, typed_place_of, typed_status_of};
 
 use num_format::parsing::StrictError;
 use num_format_decimal::{DecimalError, ParseAtScaleError, ParseDecimalError};
@@ -44,7 +44,7 @@ pub enum Status {
     BadOffsets = -16,
     /// The texts have more bytes than the last offset can say.
     TooManyBytes = -17,
-    /// The text has digits other than zero that the scale has not.
+    /// The decimal has digits other than zero that the scale has not.
     DigitsLost = -18,
     /// A text can be misread under the format, so that none is parsed strictly.
     AmbiguousFormat = -19,
@@ -60,6 +60,18 @@ impl Status {
         ensures { result ≡ code self }
     {
         self as i32
+    }
+}
+
+impl From<DecimalError> for Status {
+    ghost from_gives = { λ error status. status ≡ rescale_status_of error };
+
+    fn from(error: DecimalError) -> Status {
+        match error {
+            DecimalError::ScaleTooLarge => Status::BadScale,
+            DecimalError::DigitsLost => Status::DigitsLost,
+            DecimalError::OutOfRange => Status::OutOfRange,
+        }
     }
 }
 
@@ -138,9 +150,7 @@ impl Cause for ParseAtScaleError {
     fn status(self, at: &mut usize) -> Status {
         match self {
             ParseAtScaleError::Parse(error) => error.status(at),
-            ParseAtScaleError::Rescale(DecimalError::ScaleTooLarge) => Status::BadScale,
-            ParseAtScaleError::Rescale(DecimalError::DigitsLost) => Status::DigitsLost,
-            ParseAtScaleError::Rescale(DecimalError::OutOfRange) => Status::OutOfRange,
+            ParseAtScaleError::Rescale(error) => error.into(),
         }
     }
 }

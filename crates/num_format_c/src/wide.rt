@@ -1,10 +1,11 @@
-//! Numbers of 128 bits by their halves, as they cross to C.
-ghost use Rattle.std.specs.Prelude.{◌≡◌, ℕ, ℤ, ◌+◌, ◌*◌, ◌^◌};
-ghost use Rattle.num_format_decimal.specs.FixedPoint.{fixed_point};
-ghost use Rattle.num_format_c.specs.Calls.{Stores, signed_wide, unsigned_wide};
+//! Numbers of 128 bits and decimals by halves, as they cross to C.
+ghost use Rattle.std.specs.Prelude.{◌≡◌, ℕ, ℤ, ◌+◌, ◌*◌, ◌^◌, ◌<◌, ◌≤◌, MatchResult};
+ghost use Rattle.num_format_decimal.specs.declared.decimal.TheConstants.{MAX_SCALE};
+ghost use Rattle.num_format_c.specs.Calls.{Stores, decimal_of, signed_wide, unsigned_wide};
+ghost use Rattle.num_format_c.specs.declared.status.Status.TheVariants.{BadScale};
 
 use crate::status::Status;
-use num_format_decimal::Decimal;
+use num_format_decimal::{Decimal, MAX_SCALE};
 use num_format_int::sealed::Sealed;
 
 /// The first number that a half does not hold.
@@ -63,20 +64,48 @@ pub fn stored_wide<N: Wide>(parsed: Result<N, Status>, low: &mut u64, high: &mut
     }
 }
 
-/// Writes the units and the scale of the decimal that was parsed, and returns 0, or the number of the error.
+/// Returns the scale, or an error if it is too large.
+pub fn scale_of(scale: u32) -> Result<u8, Status>
+    ensures { MatchResult result (λ s. (scale ≤ MAX_SCALE) × (s ≡ scale))
+        (λ status. (MAX_SCALE < scale) × (status ≡ BadScale)) }
+{
+    if scale <= MAX_SCALE as u32 {
+        Ok(scale as u8)
+    } else {
+        Err(Status::BadScale)
+    }
+}
+
+/// Returns the decimal whose units have these halves, or an error if the scale is too large.
+pub fn decimal_of(low: u64, high: u64, scale: u32) -> Result<Decimal, Status>
+    ensures { MatchResult result (λ number. (scale ≤ MAX_SCALE) × (number ≡ decimal_of low high scale))
+        (λ status. (MAX_SCALE < scale) × (status ≡ BadScale)) }
+{
+    let scale = scale_of(scale)?;
+    Ok(Decimal::new(joined(low, high).cast_signed(), scale)?)
+}
+
+/// Writes the halves of the units and the scale of a decimal.
+pub fn store_decimal(number: Decimal, low: &mut u64, high: &mut u64, scale: &mut u32)
+    ensures { decimal_of low.new high.new scale.new ≡ number }
+{
+    number.units().split(low, high);
+    *scale = number.scale() as u32;
+}
+
+/// Writes the decimal that was parsed, and returns 0, or the number of the error.
 pub fn stored_decimal(
     parsed: Result<Decimal, Status>,
     low: &mut u64,
     high: &mut u64,
     scale: &mut u32,
 ) -> i32
-    ensures { Stores (λ d. d) parsed (fixed_point (signed_wide low.old high.old) scale.old)
-        (fixed_point (signed_wide low.new high.new) scale.new) result }
+    ensures { Stores (λ d. d) parsed (decimal_of low.old high.old scale.old)
+        (decimal_of low.new high.new scale.new) result }
 {
     match parsed {
         Ok(parsed) => {
-            parsed.units().split(low, high);
-            *scale = parsed.scale() as u32;
+            store_decimal(parsed, low, high, scale);
             0
         }
         Err(status) => status.code(),

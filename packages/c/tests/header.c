@@ -73,7 +73,7 @@ static void check_constants(void) {
         {NUM_FORMAT_BAD_LENGTH, -15, "the sizes of a column's arrays do not fit one another"},
         {NUM_FORMAT_BAD_OFFSETS, -16, "an offset is below 0 or the one before it, or past the bytes"},
         {NUM_FORMAT_TOO_MANY_BYTES, -17, "the texts have more bytes than an offset can say"},
-        {NUM_FORMAT_DIGITS_LOST, -18, "the text has digits other than 0 that the scale has not"},
+        {NUM_FORMAT_DIGITS_LOST, -18, "the decimal has digits other than 0 that the scale has not"},
         {NUM_FORMAT_AMBIGUOUS_FORMAT, -19, "the format is ambiguous"},
         {NUM_FORMAT_BAD_TYPE, -20, "no such type"},
         {NUM_FORMAT_TEXT_TOO_LONG, -21, "the text is longer than that of any number"},
@@ -465,8 +465,114 @@ static void check_format(void) {
     CHECK(strcmp(decimal, longest_decimal), 0);
 }
 
+/* A decimal, by the halves of its units and its scale. */
+struct decimal {
+    uint64_t low, high;
+    uint32_t scale;
+};
+
+/* Shows a decimal that is not the one written by hand, or after an error not the one as it was. */
+static void compare_decimal(const char *name, size_t row, int result, struct decimal found, int expected,
+                            struct decimal wanted) {
+    compare(name, result, expected);
+    if (found.low != wanted.low || found.high != wanted.high || found.scale != wanted.scale) {
+        printf("%s: row %d\n", name, (int)row);
+        status = 1;
+    }
+}
+
+/* Sums and differences, in which -2^127 and 2^127 - 1 are the ends, what the ends become at other scales, and orders. */
+static void check_arithmetic(void) {
+#define TOP ((uint64_t)1 << 63)
+    enum { ADD, SUBTRACT };
+    static const struct {
+        int call;
+        struct decimal number, other;
+        int status;
+        struct decimal result;
+    } sums[] = {
+        {ADD, {150, 0, 2}, {25, 0, 1}, 0, {400, 0, 2}},
+        {ADD, {UINT64_MAX - 14, UINT64_MAX, 1}, {2, 0, 0}, 0, {5, 0, 1}},
+        {SUBTRACT, {150, 0, 2}, {125, 0, 3}, 0, {1375, 0, 3}},
+        {ADD, {UINT64_MAX, TOP - 1, 0}, {0, 0, 0}, 0, {UINT64_MAX, TOP - 1, 0}},
+        {ADD, {UINT64_MAX, TOP - 1, 0}, {1, 0, 0}, -12, {UINT64_MAX, TOP - 1, 0}},
+        {SUBTRACT, {0, TOP, 38}, {1, 0, 38}, -12, {0, TOP, 38}},
+        {ADD, {0, TOP, 38}, {UINT64_MAX, TOP - 1, 38}, 0, {UINT64_MAX, UINT64_MAX, 38}},
+        {SUBTRACT, {0, TOP, 0}, {0, TOP, 0}, 0, {0, 0, 0}},
+        {SUBTRACT, {0, 0, 0}, {0, TOP, 0}, -12, {0, 0, 0}},
+        {SUBTRACT, {0x9999999999999999, 0x1999999999999999, 0}, {UINT64_MAX, TOP - 1, 1}, 0, {UINT64_MAX - 4, TOP - 1, 1}},
+        {ADD, {1, 0, 38}, {1, 0, 0}, 0, {0x98A224000000001, 0x4B3B4CA85A86C47A, 38}},
+        {ADD, {2, 0, 0}, {1, 0, 38}, -12, {2, 0, 0}},
+        {ADD, {0, 0, 39}, {0, 0, 0}, -13, {0, 0, 39}},
+        {ADD, {UINT64_MAX, TOP - 1, 0}, {UINT64_MAX, TOP - 1, 39}, -13, {UINT64_MAX, TOP - 1, 0}},
+        {SUBTRACT, {1, 0, 2}, {1, 0, 258}, -13, {1, 0, 2}},
+    };
+    for (size_t i = 0; i < sizeof sums / sizeof *sums; i++) {
+        struct decimal made = sums[i].number, other = sums[i].other;
+        int result = (sums[i].call == ADD ? num_format_decimal_add : num_format_decimal_subtract)(
+            &made.low, &made.high, &made.scale, other.low, other.high, other.scale);
+        compare_decimal("sums", i, result, made, sums[i].status, sums[i].result);
+    }
+    static const struct {
+        struct decimal number;
+        uint32_t scale, rounding;
+        int status;
+        struct decimal result;
+    } rescaled[] = {
+        {{25, 0, 1}, 0, NUM_FORMAT_HALF_EVEN, 0, {2, 0, 0}},
+        {{35, 0, 1}, 0, NUM_FORMAT_HALF_EVEN, 0, {4, 0, 0}},
+        {{UINT64_MAX - 25, UINT64_MAX, 1}, 0, NUM_FORMAT_HALF_EVEN, 0, {UINT64_MAX - 2, UINT64_MAX, 0}},
+        {{25, 0, 1}, 0, NUM_FORMAT_HALF_AWAY_FROM_ZERO, 0, {3, 0, 0}},
+        {{UINT64_MAX - 24, UINT64_MAX, 1}, 0, NUM_FORMAT_HALF_AWAY_FROM_ZERO, 0, {UINT64_MAX - 2, UINT64_MAX, 0}},
+        {{24, 0, 1}, 0, NUM_FORMAT_HALF_AWAY_FROM_ZERO, 0, {2, 0, 0}},
+        {{29, 0, 1}, 0, NUM_FORMAT_TOWARD_ZERO, 0, {2, 0, 0}},
+        {{UINT64_MAX - 28, UINT64_MAX, 1}, 0, NUM_FORMAT_TOWARD_ZERO, 0, {UINT64_MAX - 1, UINT64_MAX, 0}},
+        {{20, 0, 1}, 0, NUM_FORMAT_EXACT, 0, {2, 0, 0}},
+        {{25, 0, 1}, 0, NUM_FORMAT_EXACT, -18, {25, 0, 1}},
+        {{25, 0, 1}, 0, 4, -18, {25, 0, 1}},
+        {{25, 0, 1}, 0, 257, -18, {25, 0, 1}},
+        {{UINT64_MAX, TOP - 1, 38}, 37, NUM_FORMAT_HALF_AWAY_FROM_ZERO, 0, {0xCCCCCCCCCCCCCCCD, 0xCCCCCCCCCCCCCCC, 37}},
+        {{0, TOP, 38}, 0, NUM_FORMAT_HALF_EVEN, 0, {UINT64_MAX - 1, UINT64_MAX, 0}},
+        {{0, TOP, 1}, 1, NUM_FORMAT_EXACT, 0, {0, TOP, 1}},
+        {{1, 0, 0}, 38, NUM_FORMAT_HALF_EVEN, 0, {0x98A224000000000, 0x4B3B4CA85A86C47A, 38}},
+        {{2, 0, 0}, 38, NUM_FORMAT_HALF_EVEN, -12, {2, 0, 0}},
+        {{0, TOP, 0}, 1, NUM_FORMAT_EXACT, -12, {0, TOP, 0}},
+        {{0, 0, 0}, 38, NUM_FORMAT_EXACT, 0, {0, 0, 38}},
+        {{0, 0, 0}, 39, NUM_FORMAT_HALF_EVEN, -13, {0, 0, 0}},
+        {{1, 0, 39}, 0, NUM_FORMAT_HALF_EVEN, -13, {1, 0, 39}},
+        {{1, 0, 0}, 256, NUM_FORMAT_EXACT, -13, {1, 0, 0}},
+    };
+    for (size_t i = 0; i < sizeof rescaled / sizeof *rescaled; i++) {
+        struct decimal made = rescaled[i].number;
+        int result = num_format_decimal_rescale(&made.low, &made.high, &made.scale, rescaled[i].scale, rescaled[i].rounding);
+        compare_decimal("rescaled", i, result, made, rescaled[i].status, rescaled[i].result);
+    }
+    static const struct {
+        struct decimal number, other;
+        int status, order;
+    } orders[] = {
+        {{150, 0, 2}, {15, 0, 1}, 0, 0},
+        {{0, TOP, 0}, {UINT64_MAX, TOP - 1, 38}, 0, -1},
+        {{UINT64_MAX, TOP - 1, 38}, {0, TOP, 38}, 0, 1},
+        {{UINT64_MAX, UINT64_MAX, 38}, {0, 0, 0}, 0, -1},
+        {{UINT64_MAX, TOP - 1, 1}, {UINT64_MAX, TOP - 1, 0}, 0, -1},
+        {{0, TOP, 0}, {0, TOP, 38}, 0, -1},
+        {{1, 0, 39}, {1, 0, 0}, -13, 7},
+        {{1, 0, 0}, {1, 0, 294}, -13, 7},
+    };
+    for (size_t i = 0; i < sizeof orders / sizeof *orders; i++) {
+        struct decimal number = orders[i].number, other = orders[i].other;
+        int32_t order = 7;
+        CHECK(num_format_decimal_compare(number.low, number.high, number.scale, other.low, other.high, other.scale, &order),
+              orders[i].status);
+        CHECK(order, orders[i].order);
+    }
+#undef TOP
+}
+
 int main(void) {
     check_width();
+    check_arithmetic();
     check_null();
     check_decimals_i64();
     check_format();

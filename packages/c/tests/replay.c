@@ -157,6 +157,57 @@ static void decimals_at_scale(char **fields) {
         write_error(status, at);
 }
 
+struct decimal {
+    uint64_t low, high;
+    uint32_t scale;
+};
+
+static struct decimal decimal_of(const char *field) {
+    wide units = number_of(field);
+    return (struct decimal){(uint64_t)units, (uint64_t)(units >> 64), (uint32_t)atoi(strchr(field, '/') + 1)};
+}
+
+/* Writes what a call made of a decimal, or if it has another status than 0 the words for that. */
+static void write_decimal(int status, struct decimal made, struct decimal was, const char *words) {
+    if (status == 0) {
+        write_number("", (wide)made.high << 64 | made.low, 1);
+        write_number("/", made.scale, 0);
+    } else if (made.low != was.low || made.high != was.high || made.scale != was.scale)
+        printf("something is written");
+    else if (words)
+        printf("%s", words);
+    else
+        write_error(status, 0);
+}
+
+static void write_sum(int32_t (*call)(uint64_t *, uint64_t *, uint32_t *, uint64_t, uint64_t, uint32_t),
+                      struct decimal number, struct decimal other) {
+    struct decimal made = number;
+    int status = call(&made.low, &made.high, &made.scale, other.low, other.high, other.scale);
+    putchar('\t');
+    write_decimal(status, made, number, status == NUM_FORMAT_OUT_OF_RANGE ? "none" : NULL);
+}
+
+/* A decimal is negated by subtracting it from 0 at its scale. */
+static void decimals_computed(char **fields) {
+    static const uint32_t roundings[] = {NUM_FORMAT_HALF_EVEN, NUM_FORMAT_HALF_AWAY_FROM_ZERO, NUM_FORMAT_TOWARD_ZERO,
+                                         NUM_FORMAT_EXACT};
+    static const char *const orders[] = {"less\tfalse", "equal\ttrue", "greater\tfalse"};
+    struct decimal first = decimal_of(fields[0]), second = decimal_of(fields[1]), zero = {0, 0, first.scale};
+    int32_t order = 2;
+    for (int k = 0; k < 4; k++) {
+        struct decimal made = first;
+        int status = num_format_decimal_rescale(&made.low, &made.high, &made.scale, (uint32_t)atoi(fields[2]), roundings[k]);
+        write_decimal(status, made, first, NULL);
+        putchar('\t');
+    }
+    num_format_decimal_compare(first.low, first.high, first.scale, second.low, second.high, second.scale, &order);
+    printf("%s", orders[order + 1]);
+    write_sum(num_format_decimal_add, first, second);
+    write_sum(num_format_decimal_subtract, first, second);
+    write_sum(num_format_decimal_subtract, zero, first);
+}
+
 static void tags(char **fields) {
     struct text tag = decoded(fields[0], 0);
     char name[NUM_FORMAT_MAX];
@@ -241,10 +292,10 @@ static void typed_decimals(char **fields) {
 
 int main(void) {
     static const struct table tables[] = {
-        CALL(alike), CALL(decimals_at_scale), CALL(decimals_parsed), CALL(decimals_printed), CALL(lenient), CALL(locales),
-        CALL(names), CALL(padded), CALL(printing), CALL(reads_back), CALL(strict), CALL(tags),
+        CALL(alike), CALL(decimals_at_scale), CALL(decimals_computed), CALL(decimals_parsed), CALL(decimals_printed),
+        CALL(lenient), CALL(locales), CALL(names), CALL(padded), CALL(printing), CALL(reads_back), CALL(strict), CALL(tags),
         CALL(typed), CALL(typed_decimals),
-        {"builders", NULL, "no builder"}, {"decimals_computed", NULL, "no arithmetic"}, {"json", NULL, "no JSON"},
+        {"builders", NULL, "no builder"}, {"json", NULL, "no JSON"},
     };
     return replay(tables);
 }

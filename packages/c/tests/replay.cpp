@@ -129,6 +129,32 @@ static void decimals_at_scale(char **fields) {
     }
 }
 
+static numfmt::basic_decimal<numfmt::int128> decimal_of(const char *field) {
+    return {numfmt::int128(number_of(field)), std::uint32_t(std::atoi(std::strchr(field, '/') + 1))};
+}
+
+/// Writes what was computed, or for a status the words for that.
+static void write_computed(const numfmt::result<numfmt::basic_decimal<numfmt::int128>> &found, const char *words = nullptr) {
+    if (!found && words && found.status == NUM_FORMAT_OUT_OF_RANGE) return void(std::printf("\t%s", words));
+    if (!found) return write_error(found.status, 0);
+    write_number(words ? "\t" : "", wide(found.value.units), true);
+    write_number("/", found.value.scale, false);
+}
+
+// A decimal is negated by subtracting it from 0 at its scale.
+static void decimals_computed(char **fields) {
+    const auto first = decimal_of(fields[0]), second = decimal_of(fields[1]);
+    for (auto rounding : {NUM_FORMAT_HALF_EVEN, NUM_FORMAT_HALF_AWAY_FROM_ZERO, NUM_FORMAT_TOWARD_ZERO, NUM_FORMAT_EXACT}) {
+        write_computed(numfmt::try_rescale(first, std::uint32_t(std::atoi(fields[2])), rounding));
+        std::putchar('\t');
+    }
+    const std::int32_t order = numfmt::compare(first, second);
+    std::printf("%s", order < 0 ? "less\tfalse" : order > 0 ? "greater\tfalse" : "equal\ttrue");
+    write_computed(numfmt::try_add(first, second), "none");
+    write_computed(numfmt::try_subtract(first, second), "none");
+    write_computed(numfmt::try_subtract({0, first.scale}, first), "none");
+}
+
 static void tags(char **fields) {
     const std::string tag = string_of(fields[0]);
     const auto found = numfmt::format::try_lookup(tag);
@@ -151,10 +177,11 @@ static void alike(char **fields) { write(format_of(fields[0]).prints_alike(forma
 
 int main() {
     static const table tables[] = {
-        CALL(alike), CALL(decimals_at_scale), CALL(decimals_parsed), CALL(decimals_printed), CALL(lenient), CALL(names),
+        CALL(alike), CALL(decimals_at_scale), CALL(decimals_computed), CALL(decimals_parsed), CALL(decimals_printed),
+        CALL(lenient), CALL(names),
         CALL(printing), CALL(reads_back), CALL(strict), CALL(tags), CALL(typed),
         CALL(typed_decimals), {"builders", nullptr, "no builder"},
-        {"decimals_computed", nullptr, "no arithmetic"}, {"json", nullptr, "no JSON"},
+        {"json", nullptr, "no JSON"},
         {"locales", nullptr, "no parts of a format"}, {"padded", nullptr, "streams and std::format pad"},
     };
     return replay(tables);

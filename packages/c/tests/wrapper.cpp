@@ -117,6 +117,23 @@ static void check_texts(const numfmt::format &de) {
     check("prints_alike", de.prints_alike(numfmt::format::locale("id")) && !de.prints_alike(wide));
 }
 
+// Sums and orders of decimals of up to 64 bits, whose results may need more.
+static void check_arithmetic() {
+    using numfmt::decimal;
+    constexpr std::int64_t most = std::numeric_limits<std::int64_t>::max();
+    const decimal sum = decimal{150, 2} + decimal{-5, 3}, less = decimal{150, 2} - decimal{2, 0};
+    check("sums", sum.units == 1495 && sum.scale == 3 && less.units == -50 && less.scale == 2);
+    check("rescale", rescale(sum, 1, NUM_FORMAT_HALF_EVEN).units == 15 && numfmt::try_rescale(sum, 1).status == -18
+          && rescale(decimal{-25, 1}, 0, NUM_FORMAT_HALF_AWAY_FROM_ZERO).units == -3);
+    check("compare", compare(decimal{150, 2}, {15, 1}) == 0 && compare(decimal{-1, 38}, {0, 0}) == -1 && compare(decimal{most, 0}, less) == 1);
+    check("sum of 65 bits", throws<numfmt::out_of_range>([] { decimal{most, 0} + decimal{1, 0}; }, -12)
+          && throws<numfmt::out_of_range>([] { decimal{-most, 0} - decimal{2, 0}; }, -12)
+          && (decimal{-most, 0} - decimal{1, 0}).units == -most - 1);
+    check("digits_lost, decimal", throws<numfmt::digits_lost>([&] { rescale(sum, 2); }, -18));
+    check("bad_scale, decimals", throws<numfmt::bad_scale>([&] { compare(sum, {1, 39}); }, -13) && numfmt::try_add(sum, {1, 39}).status == -13);
+    check("unsigned units", numfmt::try_subtract(numfmt::basic_decimal<unsigned>{1, 0}, {2, 0}).status == -12);
+}
+
 // What try_parse and the like return, beside what the calls that throw do.
 static void check_tries(const numfmt::format &de) {
     check("try_parse, empty", de.try_parse<numfmt::uint128>({}).status == -10 && de.try_parse<int>({}).status == -10);
@@ -197,6 +214,7 @@ int main() {
     using numfmt::detail::is_number;
     check("characters", !is_number<char> && !is_number<char32_t> && is_number<signed char>);
     check_texts(de);
+    check_arithmetic();
     check_tries(de);
     check_typed(de);
     check_text_columns(de);
