@@ -87,15 +87,17 @@ impl Decimal {
 
     #[inline]
     fn with_raw_text<R>(&self, format: &RawFormat, then: impl FnOnce(&str) -> R) -> R {
-        ffi::with_text((self.units, self.scale), format, then)
+        ffi::with_text(self.parts(), format, then)
     }
 
-    /// Returns the whole number at or below the value, and by how many units of the largest scale it is above.
-    /// These pairs are in order as the values are.
-    fn parts(&self) -> (i128, i128) {
-        let one = 10_i128.pow(u32::from(self.scale));
-        let unit = 10_i128.pow(u32::from(MAX_SCALE - self.scale));
-        (self.units.div_euclid(one), self.units.rem_euclid(one) * unit)
+    /// Returns the units and the scale.
+    const fn parts(&self) -> (i128, u8) {
+        (self.units, self.scale)
+    }
+
+    /// Returns the decimal of these units and this scale, which is at most [`MAX_SCALE`].
+    const fn of((units, scale): (i128, u8)) -> Decimal {
+        Decimal { units, scale }
     }
 }
 
@@ -113,7 +115,7 @@ impl fmt::Display for Decimal {
 
 impl PartialEq for Decimal {
     fn eq(&self, other: &Decimal) -> bool {
-        self.parts() == other.parts()
+        self.cmp(other).is_eq()
     }
 }
 
@@ -127,13 +129,16 @@ impl PartialOrd for Decimal {
 
 impl Ord for Decimal {
     fn cmp(&self, other: &Decimal) -> Ordering {
-        self.parts().cmp(&other.parts())
+        ffi::compare(self.parts(), other.parts())
     }
 }
 
 impl Hash for Decimal {
+    /// Hashes the whole number at or below the value, and by how many units of the largest scale it is above.
     fn hash<H: Hasher>(&self, state: &mut H) {
-        self.parts().hash(state);
+        let one = 10_i128.pow(u32::from(self.scale));
+        let unit = 10_i128.pow(u32::from(MAX_SCALE - self.scale));
+        (self.units.div_euclid(one), self.units.rem_euclid(one) * unit).hash(state);
     }
 }
 

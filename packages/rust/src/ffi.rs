@@ -6,10 +6,12 @@
 
 #![allow(unsafe_code)]
 
+use core::cmp::Ordering;
 use core::ffi::c_void;
 use core::mem::{self, MaybeUninit};
 use core::{slice, str};
 
+use crate::decimal::{DecimalError, Rounding};
 use crate::format::Format;
 use crate::grouping::Grouping;
 
@@ -19,8 +21,8 @@ pub(crate) const MAX_LEN: usize = 191;
 /// The most bytes of the text of a decimal, under any format: `NUM_FORMAT_DECIMAL_MAX` of the header.
 pub(crate) const MAX_DECIMAL_LEN: usize = 199;
 
-/// The statuses of the header that parsing and looking up return. No other is returned for a struct that has a
-/// format, a `str` and a number of bits that a type has.
+/// The statuses of the header that parsing, looking up and arithmetic return. No other is returned for a struct that
+/// has a format, a `str` and a number of bits that a type has.
 mod status {
     pub(super) const OK: i32 = 0;
     pub(super) const NOT_A_NUMBER: i32 = -4;
@@ -29,7 +31,9 @@ mod status {
     pub(super) const NO_DIGIT: i32 = -10;
     pub(super) const MISSPELLED: i32 = -11;
     pub(super) const OUT_OF_RANGE: i32 = -12;
+    pub(super) const BAD_SCALE: i32 = -13;
     pub(super) const TOO_MANY_DECIMALS: i32 = -14;
+    pub(super) const DIGITS_LOST: i32 = -18;
     pub(super) const AMBIGUOUS_FORMAT: i32 = -19;
     pub(super) const TEXT_TOO_LONG: i32 = -21;
 }
@@ -102,6 +106,33 @@ extern "C" {
         high: *mut u64,
         scale: *mut u32,
         at: *mut usize,
+    ) -> i32;
+    fn num_format_decimal_add(
+        low: *mut u64,
+        high: *mut u64,
+        scale: *mut u32,
+        other_low: u64,
+        other_high: u64,
+        other_scale: u32,
+    ) -> i32;
+    fn num_format_decimal_subtract(
+        low: *mut u64,
+        high: *mut u64,
+        scale: *mut u32,
+        other_low: u64,
+        other_high: u64,
+        other_scale: u32,
+    ) -> i32;
+    fn num_format_decimal_rescale(low: *mut u64, high: *mut u64, scale: *mut u32, new_scale: u32, rounding: u32)
+        -> i32;
+    fn num_format_decimal_compare(
+        low: u64,
+        high: u64,
+        scale: u32,
+        other_low: u64,
+        other_high: u64,
+        other_scale: u32,
+        order: *mut i32,
     ) -> i32;
     fn num_format_text_width(text: *const u8, length: usize) -> usize;
     fn num_format_reads_back(format: *const RawFormat) -> i32;
@@ -507,6 +538,62 @@ pub(crate) fn parse_decimal(text: &str, format: &RawFormat) -> Result<(i128, u8)
 /// The same of a text as a person types it.
 pub(crate) fn parse_typed_decimal(text: &str, format: &RawFormat) -> Result<(i128, u8), Refusal> {
     parse_decimal_by(num_format_parse_typed_decimal, text, format)
+}
+
+/// Returns the units and the scale of what a call writes in the place of a decimal.
+fn computed(
+    (units, scale): (i128, u8),
+    call: impl FnOnce(&mut u64, &mut u64, &mut u32) -> i32,
+) -> Result<(i128, u8), DecimalError> {
+    let ((mut low, mut high), mut scale) = (halves(units as u128), scale.into());
+    match call(&mut low, &mut high, &mut scale) {
+        // A scale is at most 38.
+        status::OK => Ok((whole(low, high) as i128, scale as u8)),
+        status::BAD_SCALE => Err(DecimalError::ScaleTooLarge),
+        status::DIGITS_LOST => Err(DecimalError::DigitsLost),
+        status::OUT_OF_RANGE => Err(DecimalError::OutOfRange),
+        _ => panic!("{OTHER_LIBRARY}"),
+    }
+}
+
+/// A call of the library that adds a decimal to another one, or subtracts it.
+type SumCall = unsafe extern "C" fn(*mut u64, *mut u64, *mut u32, u64, u64, u32) -> i32;
+
+/// Returns the units and the scale of the sum or difference that a call makes of two decimals.
+fn sum_by(call: SumCall, number: (i128, u8), (units, scale): (i128, u8)) -> Result<(i128, u8), DecimalError> {
+    let (other_low, other_high) = halves(units as u128);
+    // SAFETY: the pointers are those of references.
+    computed(number, |low, high, sum_scale| unsafe { call(low, high, sum_scale, other_low, other_high, scale.into()) })
+}
+
+/// Returns the sum of two decimals, each by its units and its scale, at the larger of both scales.
+pub(crate) fn add(number: (i128, u8), other: (i128, u8)) -> Result<(i128, u8), DecimalError> {
+    sum_by(num_format_decimal_add, number, other)
+}
+
+/// The same of the difference.
+pub(crate) fn subtract(number: (i128, u8), other: (i128, u8)) -> Result<(i128, u8), DecimalError> {
+    sum_by(num_format_decimal_subtract, number, other)
+}
+
+/// Returns the decimal of these units and this scale at another scale.
+pub(crate) fn rescale(number: (i128, u8), new_scale: u8, rounding: Rounding) -> Result<(i128, u8), DecimalError> {
+    computed(number, |low, high, scale| {
+        // SAFETY: the pointers are those of references.
+        unsafe { num_format_decimal_rescale(low, high, scale, new_scale.into(), rounding as u32) }
+    })
+}
+
+/// Returns the order of two decimals, each by its units and its scale, which is at most 38.
+pub(crate) fn compare(number: (i128, u8), other: (i128, u8)) -> Ordering {
+    let ((low, high), (other_low, other_high)) = (halves(number.0 as u128), halves(other.0 as u128));
+    let mut order = 0;
+    // SAFETY: the pointer is that of a reference.
+    let status = unsafe {
+        num_format_decimal_compare(low, high, number.1.into(), other_low, other_high, other.1.into(), &mut order)
+    };
+    assert!(status == status::OK, "{OTHER_LIBRARY}");
+    order.cmp(&0)
 }
 
 /// An integer type, with its `num_format_type` of the header.

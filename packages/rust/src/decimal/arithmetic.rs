@@ -1,19 +1,21 @@
-//! Sums, differences and products: exact wherever the result fits.
+//! Sums, differences and products: exact wherever the result fits. Sums and differences are the library's, which is
+//! proved. It has no products and no negated numbers: those are computed here, and only tested.
 
 use core::iter::Sum;
 use core::ops::{Add, AddAssign, Mul, MulAssign, Neg, Sub, SubAssign};
 
 use super::{Decimal, MAX_SCALE};
+use crate::ffi;
 
 impl Decimal {
     /// Returns the sum at the larger of both scales, or `None` if its units there are no `i128`.
     pub fn checked_add(self, other: Decimal) -> Option<Decimal> {
-        self.checked_sum(other, other.is_negative())
+        ffi::add(self.parts(), other.parts()).ok().map(Decimal::of)
     }
 
     /// Returns the difference at the larger of both scales, or `None` if its units there are no `i128`.
     pub fn checked_sub(self, other: Decimal) -> Option<Decimal> {
-        self.checked_sum(other, !other.is_negative())
+        ffi::subtract(self.parts(), other.parts()).ok().map(Decimal::of)
     }
 
     /// Returns the product at the sum of both scales, or `None` if that is above [`MAX_SCALE`] or its units there are
@@ -28,23 +30,6 @@ impl Decimal {
     pub fn checked_neg(self) -> Option<Decimal> {
         let (units, scale) = (self.units.checked_neg()?, self.scale);
         Some(Decimal { units, scale })
-    }
-
-    /// Returns the sum, where the other number has its absolute value and this sign.
-    ///
-    /// An absolute value of more than 128 bits is not needed: no sum with it is an `i128`.
-    fn checked_sum(self, other: Decimal, other_is_negative: bool) -> Option<Decimal> {
-        let scale = self.scale.max(other.scale);
-        let (x, y) = (self.magnitude_at(scale)?, other.magnitude_at(scale)?);
-        let is_negative = self.is_negative();
-        let (is_negative, sum) = if is_negative == other_is_negative {
-            (is_negative, x.checked_add(y)?)
-        } else if x >= y {
-            (is_negative, x - y)
-        } else {
-            (other_is_negative, y - x)
-        };
-        Decimal::with_magnitude(is_negative, sum, scale)
     }
 }
 
