@@ -36,6 +36,10 @@ fn cause_in(alloc: Global, kind: ErrorKind, text: &str) -> Result<String, AllocE
                 option.as_str()
             )
         }
+        ErrorKind::TooManyValues => {
+            let option = quoted(between(text, "' for '", "' found").as_bytes());
+            format!(in alloc; "option {} doesn't allow an argument", option.as_str())
+        }
         ErrorKind::MissingRequiredArgument => {
             let missing = between(text, "not provided:", "\n\n");
             let cause = if missing.contains("<TO>") {
