@@ -9,6 +9,8 @@ use num_format::parsing::{ParseBytesError, StrictError};
 use num_format::utils::{InfinityStr, SeparatorStr};
 use num_format::{Buffer, Error, Locale};
 use num_format_decimal::{DecimalError, ParseAtScaleError, ParseDecimalError};
+use num_format_digits::{DigitText, Digits};
+use num_format_typed::TypedError;
 use std::alloc::Global;
 use std::fmt::{Debug, Display};
 use std::process::Abort;
@@ -167,6 +169,25 @@ fn errors_of_parsing_decimals(rt: HostRuntime) -> Result<(), Fail> {
         assert_displayed(&rt, rt.alloc(), &ParseAtScaleError::Parse(*error), message)?;
     }
     Ok(())
+}
+
+/// An error of a typed text shows that of which it is made.
+#[test]
+fn errors_of_typed_texts(rt: HostRuntime) -> Result<(), Fail> {
+    let too_long: TypedError<ParseDecimalError> = TypedError::TooLong;
+    assert_displayed(&rt, rt.alloc(), &too_long, "The text is too long.")?;
+    for (error, message) in &OF_PARSING_DECIMALS {
+        assert_displayed(&rt, rt.alloc(), &TypedError::Number(*error), message)?;
+    }
+    Ok(())
+}
+
+/// A text in other digits shows itself alone.
+#[test]
+fn texts_in_digits(rt: HostRuntime) -> Result<(), Fail> {
+    assert_displayed(&rt, rt.alloc(), &DigitText::new(), "")?;
+    let text = DigitText::of(&i64::MIN, &Locale::en, Digits::of_locale(Locale::ne));
+    assert_displayed(&rt, rt.alloc(), &text, "-९,२२३,३७२,०३६,८५४,७७५,८०८")
 }
 
 /// A currency shows its code. The codes are those of ISO 4217.
