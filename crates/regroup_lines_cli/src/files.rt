@@ -1,4 +1,5 @@
 //! The files that are read, and those that are written.
+ghost use Rattle.std.specs.Prelude.{⊤};
 
 use regroup_stream::{FileFault, Misuse, Open, Unread};
 use std::fs::{File, Metadata};
@@ -129,6 +130,8 @@ impl<'a> Files<'a> {
 
 impl Open for Files<'_> {
     type Input = Input;
+
+    ghost opens = { λ _ _ _. ⊤ };
 
     fn open(&self, name: &str) -> Result<Input, Unread> {
         if name == "-" {

@@ -6,22 +6,25 @@ use Rattle.std.specs.Prelude.{Bool, Option, max}
 use Rattle.num_format.specs.Format.{FormatData}
 use Rattle.regroup_lines.specs.declared.rules.Rules.{Rules}
 use Rattle.regroup_lines.specs.Sending.{Writer}
-use Rattle.regroup_stream.specs.Inputs.{RunsAll, RunsEach, RunsOne}
+use Rattle.regroup_stream.specs.Inputs.{Opens, RunsAll, RunsEach, RunsOne}
 
-module _ (rules : Rules) (from to : FormatData) (names : List (Bor (List ℕ))) (k : ℕ) (old new : Writer → Option (List ℕ)) (held_old held_new : Writer → List ℕ) where
+module _ (opens : Opens) (rules : Rules) (from to : FormatData) (names : List (Bor (List ℕ))) (k : ℕ)
+    (old new : Writer → Option (List ℕ)) (held_old held_new : Writer → List ℕ) where
   -- one input more
-  pub RunsEach_more : (d : Bor (List ℕ)) (status last highest : ℕ) (goes_on is : Bool) (mid : Writer → Option (List ℕ)) (held : Writer → List ℕ) → k < length names →
-      highest ≡ max status last → goes_on ≡ is → RunsEach rules from to (map (λ name. name.now) (take k names)) status true old mid held_old held →
-      RunsOne rules from to (get_or names k d).now last goes_on mid new held held_new →
-      RunsEach rules from to (map (λ name. name.now) (take (k + 1) names)) highest is old new held_old held_new
+  pub RunsEach_more : (d : Bor (List ℕ)) (status last highest : ℕ) (goes_on is : Bool) (mid : Writer → Option (List ℕ))
+      (held : Writer → List ℕ) → k < length names → highest ≡ max status last → goes_on ≡ is →
+      RunsEach opens rules from to (map (λ name. name.now) (take k names)) status true old mid held_old held →
+      RunsOne opens rules from to (get_or names k d).now last goes_on mid new held held_new →
+      RunsEach opens rules from to (map (λ name. name.now) (take (k + 1) names)) highest is old new held_old held_new
   RunsEach_more d status last highest goes_on is mid held below same_status same_on each one =
       rw (take_more names k d below, map-append, same_status, ← same_on) (RunsEach.more _ _ _ _ _ _ _ _ _ _ _ each one)
 
   -- an input after which none is read
-  pub RunsAll_stopped : (d : Bor (List ℕ)) (status last highest : ℕ) (goes_on : Bool) (mid : Writer → Option (List ℕ)) (held : Writer → List ℕ) → k < length names →
-      highest ≡ max status last → goes_on ≡ false → RunsEach rules from to (map (λ name. name.now) (take k names)) status true old mid held_old held →
-      RunsOne rules from to (get_or names k d).now last goes_on mid new held held_new →
-      RunsAll rules from to (map (λ name. name.now) names) highest old new held_old held_new
+  pub RunsAll_stopped : (d : Bor (List ℕ)) (status last highest : ℕ) (goes_on : Bool) (mid : Writer → Option (List ℕ))
+      (held : Writer → List ℕ) → k < length names → highest ≡ max status last → goes_on ≡ false →
+      RunsEach opens rules from to (map (λ name. name.now) (take k names)) status true old mid held_old held →
+      RunsOne opens rules from to (get_or names k d).now last goes_on mid new held held_new →
+      RunsAll opens rules from to (map (λ name. name.now) names) highest old new held_old held_new
   RunsAll_stopped d status last highest goes_on mid held below same_status stops each one = record {
     tried = map (λ name. name.now) (take (k + 1) names);
     left = map (λ name. name.now) (drop (k + 1) names);
@@ -33,13 +36,14 @@ module _ (rules : Rules) (from to : FormatData) (names : List (Bor (List ℕ))) 
 
   -- the last input
   pub RunsAll_done : (status : ℕ) → length names ≤ k →
-      RunsEach rules from to (map (λ name. name.now) (take k names)) status true old new held_old held_new →
-      RunsAll rules from to (map (λ name. name.now) names) status old new held_old held_new
+      RunsEach opens rules from to (map (λ name. name.now) (take k names)) status true old new held_old held_new →
+      RunsAll opens rules from to (map (λ name. name.now) names) status old new held_old held_new
   RunsAll_done status last each = record {
     tried = map (λ name. name.now) names;
     left = [];
     goes_on = true;
     split = sym (append-nil _);
-    runs = subst (λ some. RunsEach rules from to (map (λ name. name.now) some) status true old new held_old held_new) (take_all k names last) each;
+    runs = subst (λ some. RunsEach opens rules from to (map (λ name. name.now) some) status true old new held_old held_new)
+        (take_all k names last) each;
     all = λ on. refl;
   }

@@ -1,5 +1,5 @@
 -- What the program does with several inputs, one after the other.
-use Rattle.std.specs.Prelude.{◌≡◌, ℕ, ◌==◌, ◌||◌, max, Bool, true, List, [], ◌∷◌, ◌++◌, Option}
+use Rattle.std.specs.Prelude.{◌≡◌, ℕ, ◌==◌, ◌||◌, max, Bool, true, List, [], ◌∷◌, ◌++◌, Option, Result, Ok, Err}
 use Rattle.std.specs.declared.io.ErrorKind.{ErrorKind}
 use Rattle.num_format.specs.Format.{FormatData}
 use Rattle.regroup_lines.specs.declared.rules.Invalid.{Invalid}
@@ -9,6 +9,9 @@ use Rattle.regroup_lines.specs.Sending.{Writer, by_writer}
 use Rattle.regroup_stream.specs.Ending.{End, Finishes}
 use Rattle.regroup_stream.specs.Ending.End.{IsOutput, Unopened}
 use Rattle.regroup_stream.specs.Stream.{Runs}
+use Rattle.regroup_stream.specs.declared.inputs.Unread.{Unread}
+use Rattle.regroup_stream.specs.declared.inputs.Unread.TheVariants as opening
+use Rattle.regroup_stream.specs.declared.inputs.Unread.TheVariants.{CannotOpen}
 
 -- whether the next input is read after one with this status: each of its lines was written
 abbrev pub reads_on : Invalid → (status : ℕ) → Bool
@@ -17,31 +20,41 @@ reads_on Abort status = status == 0
 reads_on Warn status = status == 0
 reads_on Ignore status = status == 0
 
--- whether it is the end of an input that is not read
-pub data IsUnread : End → Type 0 where
-  unopened : (kind : ErrorKind) → IsUnread (Unopened kind)
-  is_output : IsUnread IsOutput
+-- the end of an input that is not read for this reason
+abbrev pub end_of_unread : Unread → End
+end_of_unread (CannotOpen kind) = Unopened kind
+end_of_unread opening.IsOutput = IsOutput
 
--- what the program does with the input of this name, with which status, and whether the next one is read: it regroups its lines, or says
--- why it does not read it
-pub data RunsOne (rules : Rules) (from to : FormatData) (name : List ℕ) : (status : ℕ) → (goes_on : Bool) → (old new : Writer → Option (List ℕ)) → (held_old held_new : Writer → List ℕ) → Type 0 where
+-- what opening an input of a name gives: the bytes that it has, or why it is not read
+abbrev pub Opens : Type 1
+Opens = (name : List ℕ) → Result (Option (List ℕ)) Unread → Type 0
+
+-- what the program does with the input of this name, with which status, and whether the next one is read: where opening it gave these bytes,
+-- it regroups their lines, and else it says why the input is not read
+pub data RunsOne (opens : Opens) (rules : Rules) (from to : FormatData) (name : List ℕ) : (status : ℕ) → (goes_on : Bool)
+    → (old new : Writer → Option (List ℕ)) → (held_old held_new : Writer → List ℕ) → Type 0 where
   read : (status : ℕ) (bytes : Option (List ℕ)) (old new : Writer → Option (List ℕ)) (held_old held_new : Writer → List ℕ) →
-      Runs rules from to name status bytes old new held_new → RunsOne rules from to name status (reads_on rules.invalid status) old new held_old held_new
-  unread : (end : End) (status : ℕ) (out err_old err_new rejects : Option (List ℕ)) (held : Writer → List ℕ) → IsUnread end →
-      Finishes name end status err_old err_new → RunsOne rules from to name status true (by_writer out err_old rejects) (by_writer out err_new rejects) held held
+      opens name (Ok bytes) → Runs rules from to name status bytes old new held_new →
+      RunsOne opens rules from to name status (reads_on rules.invalid status) old new held_old held_new
+  unread : (why : Unread) (status : ℕ) (out err_old err_new rejects : Option (List ℕ)) (held : Writer → List ℕ) →
+      opens name (Err why) → Finishes name (end_of_unread why) status err_old err_new →
+      RunsOne opens rules from to name status true (by_writer out err_old rejects) (by_writer out err_new rejects) held held
 
 -- the same of inputs in turn: the status is the highest of theirs, and only the last one may be such that the next one is not read
-pub data RunsEach (rules : Rules) (from to : FormatData) : (names : List (List ℕ)) → (status : ℕ) → (goes_on : Bool) → (old new : Writer → Option (List ℕ)) → (held_old held_new : Writer → List ℕ) → Type 0 where
-  none : (all : Writer → Option (List ℕ)) (held : Writer → List ℕ) → RunsEach rules from to [] 0 true all all held held
-  more : (names : List (List ℕ)) (name : List ℕ) (status last : ℕ) (goes_on : Bool) (old mid new : Writer → Option (List ℕ)) (held_old held held_new : Writer → List ℕ) →
-      RunsEach rules from to names status true old mid held_old held → RunsOne rules from to name last goes_on mid new held held_new →
-      RunsEach rules from to (names ++ name ∷ []) (max status last) goes_on old new held_old held_new
+pub data RunsEach (opens : Opens) (rules : Rules) (from to : FormatData) : (names : List (List ℕ)) → (status : ℕ) → (goes_on : Bool)
+    → (old new : Writer → Option (List ℕ)) → (held_old held_new : Writer → List ℕ) → Type 0 where
+  none : (all : Writer → Option (List ℕ)) (held : Writer → List ℕ) → RunsEach opens rules from to [] 0 true all all held held
+  more : (names : List (List ℕ)) (name : List ℕ) (status last : ℕ) (goes_on : Bool) (old mid new : Writer → Option (List ℕ))
+      (held_old held held_new : Writer → List ℕ) → RunsEach opens rules from to names status true old mid held_old held →
+      RunsOne opens rules from to name last goes_on mid new held held_new →
+      RunsEach opens rules from to (names ++ name ∷ []) (max status last) goes_on old new held_old held_new
 
 -- the same of all inputs, or of those up to one after which none is read
-pub record RunsAll (rules : Rules) (from to : FormatData) (names : List (List ℕ)) (status : ℕ) (old new : Writer → Option (List ℕ)) (held_old held_new : Writer → List ℕ) : Type 0 where
+pub record RunsAll (opens : Opens) (rules : Rules) (from to : FormatData) (names : List (List ℕ)) (status : ℕ)
+    (old new : Writer → Option (List ℕ)) (held_old held_new : Writer → List ℕ) : Type 0 where
   pub tried : List (List ℕ)
   pub left : List (List ℕ)
   pub goes_on : Bool
   pub split : names ≡ tried ++ left
-  pub runs : RunsEach rules from to tried status goes_on old new held_old held_new
+  pub runs : RunsEach opens rules from to tried status goes_on old new held_old held_new
   pub all : goes_on ≡ true → left ≡ []

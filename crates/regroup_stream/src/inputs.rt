@@ -2,8 +2,9 @@
 ghost use Rattle.std.specs.Prelude.{◌≡◌, ◌+◌, [], length, map};
 ghost use Rattle.std.specs.Io.Buffered.{writer_buffer, writer_contents};
 ghost use Rattle.std.specs.IoError.{error_kind};
+ghost use Rattle.std.specs.Result.{result_map_both};
 ghost use Rattle.regroup_lines.specs.Sending.{by_writer};
-ghost use Rattle.regroup_stream.specs.Inputs.{RunsAll, RunsOne, reads_on};
+ghost use Rattle.regroup_stream.specs.Inputs.{Opens, RunsAll, RunsOne, reads_on};
 ghost use Rattle.regroup_stream.specs.declared.inputs.Unread.TheVariants.{CannotOpen};
 
 use crate::{FAULTY, Formats, REGROUPED, refuse, refuse_output, run};
@@ -16,12 +17,16 @@ pub trait Open {
     /// What is read.
     type Input: Read + Drop;
 
+    /// What opening an input of a name gives: the bytes that it has, or why it is not read.
+    ghost opens: { Self → Opens };
+
     /// Opens the input of that name.
     ///
     /// # Errors
     ///
     /// Returns why it is not read.
-    fn open(&self, name: &str) -> Result<Self::Input, Unread>;
+    fn open(&self, name: &str) -> Result<Self::Input, Unread>
+        ensures { opens self.now name.now (result_map_both Self.Input.remaining (λ why. why) result) };
 }
 
 /// Why an input is not read.
@@ -57,7 +62,7 @@ pub fn run_all<I: Open, O: Write + Drop, E: Write, X: Write + Drop>(
     rejects: &mut BufWriter<X>,
 ) -> u8
     requires { length buffer.old ≡ rules.now.max_line_len + 1 }
-    ensures { RunsAll rules.now formats.now.from formats.now.to (map (λ name. name.now) names.now) result
+    ensures { RunsAll (I.opens inputs.now) rules.now formats.now.from formats.now.to (map (λ name. name.now) names.now) result
         (by_writer (writer_contents O.contents out.old) (E.contents err.old) (writer_contents X.contents rejects.old))
         (by_writer (writer_contents O.contents out.new) (E.contents err.new) (writer_contents X.contents rejects.new))
         (by_writer (writer_buffer out.old) [] (writer_buffer rejects.old)) (by_writer (writer_buffer out.new) [] (writer_buffer rejects.new)) }
@@ -86,7 +91,7 @@ fn run_one<I: Open, O: Write + Drop, E: Write, X: Write + Drop>(
     rejects: &mut BufWriter<X>,
 ) -> (u8, bool)
     requires { length buffer.old ≡ rules.now.max_line_len + 1 }
-    ensures { RunsOne rules.now formats.now.from formats.now.to name.now result.0 result.1
+    ensures { RunsOne (I.opens inputs.now) rules.now formats.now.from formats.now.to name.now result.0 result.1
         (by_writer (writer_contents O.contents out.old) (E.contents err.old) (writer_contents X.contents rejects.old))
         (by_writer (writer_contents O.contents out.new) (E.contents err.new) (writer_contents X.contents rejects.new))
         (by_writer (writer_buffer out.old) [] (writer_buffer rejects.old)) (by_writer (writer_buffer out.new) [] (writer_buffer rejects.new)) }

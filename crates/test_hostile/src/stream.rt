@@ -1,4 +1,5 @@
 //! The program `regroup-lines` where its input, an output or a flush fails.
+ghost use Rattle.std.specs.Prelude.{⊤};
 
 use crate::ReadStep::{Fail, Give};
 use crate::Step::{Interrupt, Take, Zero};
@@ -200,6 +201,8 @@ struct ByName;
 
 impl Open for ByName {
     type Input = &'static [u8];
+
+    ghost opens = { λ _ _ _. ⊤ };
 
     fn open(&self, name: &str) -> Result<&'static [u8], Unread> {
         match name {
