@@ -33,9 +33,9 @@ class Cause(enum.IntEnum):
         DIGITS_LOST: In a column, a digit past the scale is not 0.
         AMBIGUOUS_FORMAT: A text can be misread under the format: the minus sign is empty, or it or a separator that is
             printed has a numeric character. For decimals, also where the decimal mark is empty, has one, or is such a
-            separator. For texts as people type them, also where two characters of separator, mark and minus sign can be
-            typed for one another, as ' and U+2019, or the minus sign begins with a space or a plus sign, or has only
-            marks of the direction of writing.
+            separator. For texts as people type them, also where that separator and the mark have two unlike spaces,
+            apostrophes, commas or points, as ' and U+2019, or the minus sign has one of their kinds, begins with a
+            space or a plus sign, or has only marks of the direction of writing.
         TEXT_TOO_LONG: A text as a person types it is longer than that of any number.
     """
 
