@@ -216,19 +216,20 @@ int32_t num_format_parse_strict_u128(const num_format *format, const char *text,
 /* Parses a text as a person types it (no data type is meant) as a number of a type of num_format_type, below, writes
  * the number, which has value_size bytes at any address, and returns 0.
  *
- * The text stands for one that is parsed strictly, and the number is of that. Spaces, line ends and marks of the
- * direction of writing at both ends count for nothing. A hyphen, a dash or a minus sign at the start stands for the
- * minus sign of the format, which counts for nothing before zero; a plus sign there counts for nothing. Then each
- * space, apostrophe, comma or point stands for the one of its kind that the format has. So a text that is parsed
- * strictly is parsed as the same number, "1 234" with the space of a keyboard is 1234 under "fr", which prints U+202F,
- * and "-5" is -5 under "sv", which prints U+2212. Nothing else is mended: under "en" all of "1,23", "01", "1.234,5",
- * "(5)", "5-" and "- 5" are refused. "1,234" is 1234 under "en", and as a decimal 1.234 under "de".
+ * The text stands for one that is parsed strictly, and the number is of that. Blanks, line ends and marks of the
+ * direction of writing but overrides count for nothing at both ends, and such marks after the sign. A hyphen, a minus
+ * sign or a dash no wider than a digit at the start stands for the minus sign of the format, which counts for nothing
+ * before zero; a plus sign there counts for nothing. Then each space, apostrophe, comma or point stands for the one of
+ * its kind that the format has. So a text that is parsed strictly is parsed as the same number, "1 234" with the space
+ * of a keyboard is 1234 under "fr", which prints U+202F, and "-5" is -5 under "sv", which prints U+2212. Nothing else
+ * is mended: under "en" all of "1,23", "01", "1.234,5", "(5)", "5-" and "- 5" are refused. "1,234" is 1234 under "en",
+ * and as a decimal 1.234 under "de".
  *
  * Errors, in this order: NUM_FORMAT_BAD_TYPE, NUM_FORMAT_BAD_FORMAT, and
  * - NUM_FORMAT_BAD_LENGTH: value_size is not the size of the type.
- * - NUM_FORMAT_AMBIGUOUS_FORMAT: as by num_format_parse_strict_i64; or two characters of the separator and the decimal
- *   mark are of one kind, as "'" and U+2019, or one of the minus sign and one of these; or the minus sign begins with a
- *   space or a plus sign, or has only marks of the direction of writing. This holds for no locale.
+ * - NUM_FORMAT_AMBIGUOUS_FORMAT: as by num_format_parse_strict_i64; or the decimal mark and a separator that is printed
+ *   have two unlike spaces, apostrophes, commas or points, as "'" and U+2019, or the minus sign has one of their kinds,
+ *   begins with a space or a plus sign, or has only marks of the direction of writing. This holds for no locale.
  * - NUM_FORMAT_NOT_UTF8.
  * - NUM_FORMAT_TEXT_TOO_LONG: the text that it stands for has more than NUM_FORMAT_DECIMAL_MAX bytes.
  * - Those of num_format_parse_strict_i64 of the text that it stands for. `at` counts the bytes of the text as given. */

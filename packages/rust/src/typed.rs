@@ -10,9 +10,9 @@ use crate::parsing::{FromFormattedStr, StrictError};
 /// Returns the number of a text as a person types it; no data type is meant.
 ///
 /// A space, an apostrophe, a comma or a point stands for the character of its kind that the format has, and a hyphen
-/// for its minus sign; blanks at the ends and a plus sign are dropped. The text with these is parsed strictly, so nothing
-/// else is mended. Use this for what people typed, and [`from_strict_str`](FromFormattedStr::from_strict_str) for what
-/// programs wrote. num-format has no such function.
+/// for its minus sign; blanks at the ends, a plus sign and a minus sign before zero are dropped. What is left is parsed
+/// strictly, so no digits or groups are mended. Use this for what people typed, and
+/// [`from_strict_str`](FromFormattedStr::from_strict_str) for what programs wrote. num-format has no such function.
 ///
 /// ```
 /// use num_format::parsing::{parse_typed, StrictError, TypedError};
