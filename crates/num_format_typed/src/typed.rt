@@ -476,9 +476,9 @@ impl<'a, F: Format> TypedParser<'a, F> {
     ///
     /// # Errors
     ///
-    /// [`StrictError::AmbiguousFormat`] exactly if strict parsing refuses the format, if its separator and its mark
-    /// have two characters of one class, as `'` and U+2019, or if its minus sign has marks of direction alone, begins
-    /// with a space or a plus sign, or has a character of a class of which the separator or the mark has one.
+    /// [`StrictError::AmbiguousFormat`] exactly if strict parsing refuses the format, if its mark and a separator that
+    /// is printed have two unlike spaces, apostrophes, commas or points, as `'` and U+2019, or if its minus sign has
+    /// one of their kinds, begins with a blank or a plus sign, or has marks of direction alone.
     pub fn new(format: &'a F) -> Result<TypedParser<'a, F>, StrictError>
         ensures { MatchResult result
             (λ parser. (parser ≡ F.answers format.now) × IsTypable (F.answers format.now))
@@ -661,8 +661,8 @@ fn has_nonzero_digit(text: &str) -> bool
 
 /// Returns the number that a person means by the text under a format.
 ///
-/// The text is taken as a person types it: spaces of any kind, any apostrophe and `-` stand for those of the format.
-/// (No data type is meant.)
+/// The text is taken as a person types it: a space, an apostrophe, a comma or a point stands for that of the format,
+/// and `-` for its minus sign. (No data type is meant.)
 ///
 /// ```rust
 /// parse_typed::<i32, _>("-1 234", &Locale::fr)    // Ok(-1234)

@@ -115,8 +115,9 @@ pub enum Ambiguity {
     SameSymbol,
     /// A symbol has a digit or another numeric character.
     NumeralInSymbol,
-    /// People type two characters of the separator, the decimal mark and the minus sign for one another, or the minus
-    /// sign begins with a space or a plus sign, and numbers are read as people type them.
+    /// Numbers are read as people type them, and the decimal mark and a separator that is printed have two unlike
+    /// spaces, apostrophes, commas or points, or the minus sign has one of their kinds, begins with a blank or a plus
+    /// sign, or has marks of direction alone.
     TypedAlike,
     /// The minus sign begins with ASCII whitespace, which is not part of a number.
     BlankMinusSign,
