@@ -622,8 +622,21 @@ private:
 } // namespace numfmt
 
 #ifdef __cpp_lib_format
-/// A text as an argument of std::format, with the fill, side and width of a string.
+/// A text as an argument of std::format, with the fill, side and width of a string. A precision, by which a string is cut, is
+/// refused.
 template <> struct std::formatter<numfmt::text> : std::formatter<std::string_view> {
+    constexpr auto parse(std::format_parse_context &context) {
+        auto at = context.begin();
+        const auto end = std::formatter<std::string_view>::parse(context);
+        for (; at != end; ++at)
+            if (*at == '.' && std::string_view("<^>").find(at[1]) == std::string_view::npos)
+#ifdef __cpp_exceptions
+                throw std::format_error("the text of a number has no precision");
+#else
+                return at;
+#endif
+        return end;
+    }
     template <class Context> auto format(const numfmt::text &printed, Context &context) const {
         return std::formatter<std::string_view>::format(printed.view(), context);
     }

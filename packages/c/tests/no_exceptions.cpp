@@ -14,5 +14,8 @@ int main() {
     de->append(to, -1234567);
     if (to != "-1.234.567" || de->text(7).view() != "7" || de->print_len(1000) != 5) return 1;
     if (de->try_parse<int>("1.234").value != 1234 || de->try_parse<int>("1,5").at != 1) return 1;
+#ifdef __cpp_lib_format
+    if (std::format("{:>7}", de->text(-1234)) != " -1.234") return 1;
+#endif
     return de->try_parse_lenient<int>("1,5").value == 15 && de->try_parse_decimal("1,5").value.scale == 1 ? 0 : 1;
 }

@@ -105,9 +105,6 @@ static void check_texts(const numfmt::format &de) {
     std::ostringstream stream;
     stream << std::setw(9) << std::setfill('.') << de.text(-1234) << '|' << de.decimal_text({5, 1});
     check("<<", stream.str() == "...-1.234|0,5");
-#ifdef __cpp_lib_format
-    check("std::format", std::format("{:*>9}|{}", de.text(-1234), de.decimal_text({5, 1})) == "***-1.234|0,5");
-#endif
     char longest[NUM_FORMAT_MAX];
     const auto wide = numfmt::format::custom("12345678", NUM_FORMAT_INDIAN, "abcdefgh");
     check("get", num_format_print_i64(&wide.get(), -1000, longest, sizeof longest) == 20 && wide.print(-1000) == std::string(longest, 20));
@@ -116,6 +113,38 @@ static void check_texts(const numfmt::format &de) {
     check("equal, minus sign", commas != numfmt::format::custom(",", NUM_FORMAT_POSIX, "~"));
     check("prints_alike", de.prints_alike(numfmt::format::locale("id")) && !de.prints_alike(wide));
 }
+
+#ifdef __cpp_lib_format
+// A text by a format string, with 8 for a field in it, or the error.
+static std::string formatted(std::string_view format, const numfmt::text &text) {
+    const int number = 8;
+    try {
+        return std::vformat(format, std::make_format_args(text, number));
+    } catch (const std::format_error &error) {
+        return error.what();
+    }
+}
+
+// A text in std::format and the like.
+static void check_formatter(const numfmt::format &de) {
+    const auto text = de.text(-1234), five = de.decimal_text({5, 1});
+    check("std::format", std::format("{:*>9}|{}", text, five) == "***-1.234|0,5");
+    const std::pair<const char *, const char *> sides[] = {
+        {"{}", "-1.234"}, {"{:s}", "-1.234"}, {"{:1}", "-1.234"}, {"{:6}", "-1.234"}, {"{:7}", "-1.234 "}, {"{:<8}", "-1.234  "},
+        {"{:^9}", " -1.234  "}, {"{:>9s}", "   -1.234"}, {"{:.<8}", "-1.234.."}, {"{:.^8}", ".-1.234."}, {"{:.>{}}", "..-1.234"},
+        {"{0:\u00e9>{1}}{0}", "\u00e9\u00e9-1.234-1.234"},
+    };
+    for (const auto &[format, expected] : sides) check(format, formatted(format, text) == expected);
+    for (const auto format : {"{:.3}", "{:9.3}", "{:>9.0s}", "{:.>9.3}", "{:<.3}", "{:.{}}", "{0:>{1}.{1}}"})
+        check(format, formatted(format, text) == "the text of a number has no precision");
+    std::string to = "from ";
+    std::format_to(std::back_inserter(to), "{1:>7} to {0:_<4}", five, text);
+    check("std::format_to", to == "from  -1.234 to 0,5_");
+    char bytes[4];
+    check("std::format_to_n", std::format_to_n(bytes, 4, "{:>7}", text).size == 7 && std::string_view(bytes, 4) == " -1.");
+    check("std::formatted_size", std::formatted_size("{:>7}{}", text, five) == 10);
+}
+#endif
 
 // Sums and orders of decimals of up to 64 bits, whose results may need more.
 static void check_arithmetic() {
@@ -214,6 +243,9 @@ int main() {
     using numfmt::detail::is_number;
     check("characters", !is_number<char> && !is_number<char32_t> && is_number<signed char>);
     check_texts(de);
+#ifdef __cpp_lib_format
+    check_formatter(de);
+#endif
     check_arithmetic();
     check_tries(de);
     check_typed(de);
