@@ -15,6 +15,9 @@
 #ifndef NUM_FORMAT_HPP
 #define NUM_FORMAT_HPP
 
+#if __cplusplus < 201703L
+#error "num_format.hpp needs C++17: -std=c++17"
+#endif
 #include "num_format.h"
 #include <cstddef>
 #include <cstdint>
