@@ -2,19 +2,17 @@
 those of other languages.
 
 What a program is to be asked follows from the arguments of a case alone, so each is asked once, and its answers are
-compared with right and wrong tables. A program of Rattle runs as it was built, or unproved by `rt try --cases`.
+compared with right and wrong tables.
 """
 import re
 import subprocess
-import tempfile
 from collections import Counter
 from concurrent.futures import ThreadPoolExecutor
 from pathlib import Path
 from urllib.parse import unquote_to_bytes
 
-import commands
 from case_files import Case
-from tally import ROOT, RUN_SECONDS, run
+from tally import run
 
 from spelling import is_value
 from tables import form, is_ambiguous, rows
@@ -36,25 +34,15 @@ CAUSE = rb"not a number(?: at byte (\d+)(?:: U\+\w+, where FROM has U\+\w+)?)?|n
 NAMED = re.compile(rb"^regroup-lines: -:(\d+): .*: (?:%s)(?:: see --typed)?(?:: a header.*)?$" % CAUSE)
 
 
-def ask(crate, program, asked):
+def ask(program, asked):
     """The status, standard output and standard error of each run, which are a Case without what is expected."""
-    if program:
-        def ended(case):
-            how = run([program, *case.words], input=case.given, capture_output=True, timeout=RUN_SECONDS)
-            return how.returncode, how.stdout, how.stderr
-        with ThreadPoolExecutor() as pool:
-            return list(pool.map(ended, asked))
-    names = [f"case-{number:06}" for number in range(len(asked))]
-    with tempfile.TemporaryDirectory() as folder:
-        for name, case in zip(names, asked):
-            words = b"".join(word + b"\n" for word in case.words)
-            commands.write_files(folder, {name: case.given, f"{name}.args": words})
-        how = {"cwd": ROOT / "crates" / crate, "capture_output": True, "timeout": None}
-        ended = run(["rt", "try", "--seconds", "600", "--cases", folder], **how)
-    outs, ends = commands.outputs(ended.stdout), commands.endings(ended.stderr)
-    if len(ends) != len(asked):
-        print(f"{len(ends)} of {len(asked)} runs ended: {ended.stdout[-900:]} {ended.stderr[-900:]}")
-    return [(ends[name][0], outs.get(name, b""), ends[name][1]) if name in ends else (None, b"", b"") for name in names]
+
+    def ended(case):
+        how = run([program, *case.words], input=case.given, capture_output=True)
+        return how.returncode, how.stdout, how.stderr
+
+    with ThreadPoolExecutor() as pool:
+        return list(pool.map(ended, asked))
 
 
 def decoded(fields):
@@ -76,7 +64,7 @@ class Rattle:
     def __init__(self, program, folders):
         asked = [Case("", [], "".join(f"= {name}\n" + "".join(f"{line}\n" for line in lines)
                                       for name, lines in of_tables(folder)).encode()) for folder in folders]
-        self.printed = dict(zip(folders, ask(self.crate, program, asked)))
+        self.printed = dict(zip(folders, ask(program, asked)))
 
     def replay(self, folder):
         status, out, _ = self.printed[folder]
@@ -162,7 +150,7 @@ class Program(Asked):
                 words, line = request
                 requests.setdefault(words, {})[line] = None
         asked = [Case("", list(words), b"".join(filter(None, given))) for words, given in requests.items()]
-        answers = zip(requests.items(), ask(self.crate, program, asked))
+        answers = zip(requests.items(), ask(program, asked))
         self.answers = {}
         for (words, given), (status, out, err) in answers:
             self.answers.update(self.told(words, list(given), status, out, err))
@@ -173,7 +161,7 @@ class Program(Asked):
 
 
 def is_word(*texts):
-    """Whether texts may be words of a command, one a line for `rt try`."""
+    """Whether texts may be words of a command, and stand in a line of output."""
     return not any(set(text) & set(b"\0\n") for text in map(unquote_to_bytes, texts))
 
 

@@ -15,11 +15,13 @@ import os
 import re
 import subprocess
 import tempfile
+from contextlib import nullcontext
 from functools import partial
 from pathlib import Path
 
 import programs
 from tally import CC, ROOT, Tally, heading
+from tried import tried
 
 CASES = Path(__file__).resolve().parent / "cases"
 
@@ -124,6 +126,10 @@ def replay_c(tally, name, library, every):
             replay(tally, name, partial(programs.Replayer, [made]), every)
 
 
+def replay_program(tally, name, program, every):
+    replay(tally, name, partial(programs.OF[name], program), every)
+
+
 def main():
     parser = argparse.ArgumentParser(description="Replays the tables of cases.")
     parser.add_argument("--program", type=Path, metavar="FILE", help="the program, or the library for C, as it was built")
@@ -133,21 +139,20 @@ def main():
     parser.add_argument("command", nargs=argparse.REMAINDER)
     given = parser.parse_args()
     tally, every = Tally(), QUICK_EVERY if given.quick else 1
-    program = given.program and given.program.resolve()
-    if given.built:
-        crate = None if given.name in COMPILERS else programs.OF[given.name].crate
-        program = ROOT / "crates" / crate / "out" / crate if crate else LIBRARY
     if given.command:
         replay(tally, given.name, partial(programs.Replayer, given.command), every)
-    elif program and not program.is_file():
-        if not given.built:
-            tally.add(program.name, "it was not built")
-        tally.skip(f"the tables of cases by {given.name}", "it was not built: --prove does that")
-    elif given.name in COMPILERS:
-        replay_c(tally, given.name, program or LIBRARY, every)
-    else:
-        made = partial(programs.OF[given.name], program)
-        replay(tally, given.name, made, every if program else QUICK_EVERY)
+        tally.end()
+    crate = None if given.name in COMPILERS else programs.OF[given.name].crate
+    built = LIBRARY if crate is None else ROOT / "crates" / crate / "out" / crate
+    program = given.program.resolve() if given.program else built if given.built or crate is None else None
+    with nullcontext(program) if program else tried(crate) as program:
+        if program and program.is_file():
+            how = replay_c if crate is None else replay_program
+            how(tally, given.name, program, every if given.program or given.built else QUICK_EVERY)
+        elif given.built:
+            tally.skip(f"the tables of cases by {given.name}", "it was not built: --prove does that")
+        else:
+            tally.add(given.name, "it was not built")
     tally.end()
 
 

@@ -36,10 +36,10 @@ from pathlib import Path
 TOOLS = Path(__file__).resolve().parent
 sys.path.append(str(TOOLS.parent / "tests"))
 
-import commands  # noqa: E402
 import library_checks  # noqa: E402
 import memory_checks  # noqa: E402
 import trials  # noqa: E402
+from case_files import of_crate  # noqa: E402
 from jobs import Jobs  # noqa: E402
 from library_checks import LIBRARY  # noqa: E402
 from proofs import copied, keep, prove  # noqa: E402
@@ -87,9 +87,8 @@ def start_unproved(jobs):
     crates = sorted(path for path in (ROOT / "crates").iterdir() if (path / "src").is_dir())
     programs = [path.name for path in crates if (path / "src" / "main.rt").is_file()]
     jobs.script("the tables of cases by rattle", REPLAY, "rattle")
-    first, *others = sorted(programs, key=lambda name: -len(commands.of_crate(name)[0]))
-    for part in "1/2", "2/2":
-        jobs.script(f"cases of {first}, {part}", "commands.py", "--try", "--part", part, first)
+    first, *others = sorted(programs, key=lambda name: -len(of_crate(name)[0]))
+    jobs.script(f"cases of {first}", "commands.py", "--try", first)
     for crate in [path for path in crates if has_tests(path)]:
         jobs.script(f"tests of {crate.name}", "trials.py", crate.name)
     jobs.script("the examples of the doc comments", "doc_examples.py")

@@ -148,22 +148,6 @@ fn blanks_without_end(rt: HostRuntime) -> Result<(), Fail> {
     Ok(())
 }
 
-/// Returns a million. It has no contract, so that the prover need not compute with this number.
-fn million() -> usize {
-    1_000_000
-}
-
-/// The largest number of lines. What follows them is tried after two, since a million take long where each access is
-/// checked.
-#[test]
-fn a_million_lines(rt: HostRuntime) -> Result<(), Fail> {
-    let lines = b"1\n".repeat(rt.alloc(), million())?;
-    let mut reader = lines.as_slice();
-    let result = regroup_lines(&mut reader, &mut io::sink(), &Locale::en, &Locale::en_IN);
-    assert_eq!(rt; result, Ok(million() as u64));
-    Ok(())
-}
-
 /// Regroups at most so many lines of at most 4 bytes, and returns how many.
 fn at_most<R: io::Read, W: io::Write>(
     lines: u64,
