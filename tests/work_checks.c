@@ -46,7 +46,10 @@ void *memset(void *to, int byte, size_t length) {
 /* The text of INT64_MIN. */
 #define LONG TEXT("-9,223,372,036,854,775,808")
 
-static num_format en, built, filled;
+/* A number as fr prints it, with U+202F. */
+#define FRENCH "-1\xe2\x80\xaf" "234"
+
+static num_format en, fr, built, filled;
 static char text[NUM_FORMAT_DECIMAL_MAX];
 static int64_t number;
 static uint64_t low, high;
@@ -76,9 +79,16 @@ static int parse_refused(void) { return num_format_parse_i64(&en, 64, TEXT("one"
 static int strict_short(void) { return num_format_parse_strict_i64(&en, 64, TEXT("-234"), &number, &at); }
 static int strict_long(void) { return num_format_parse_strict_i64(&en, 64, LONG, &number, &at); }
 static int strict_refused(void) { return num_format_parse_strict_i64(&en, 64, TEXT("1,23"), &number, &at); }
-static int parse_decimal(void) { return num_format_parse_decimal(&en, TEXT("1,234.50"), &low, &high, &scale, &at); }
+static int strict_few(void) { return num_format_parse_strict_i64(&en, 64, TEXT("1,234"), &number, &at); }
+static int strict_french(void) { return num_format_parse_strict_i64(&fr, 64, TEXT(FRENCH), &number, &at); }
+static int decimal(void) { return num_format_parse_decimal(&en, TEXT("1,234.50"), &low, &high, &scale, &at); }
+static int decimal_french(void) { return num_format_parse_decimal(&fr, TEXT(FRENCH ",50"), &low, &high, &scale, &at); }
 static int typed_long(void) { return num_format_parse_typed(&en, NUM_FORMAT_I64, LONG, &number, sizeof number, &at); }
 static int typed_plus(void) { return num_format_parse_typed(&en, NUM_FORMAT_I64, TEXT(" +1,234"), &number, sizeof number, &at); }
+static int typed_french(void) { return num_format_parse_typed(&fr, NUM_FORMAT_I64, TEXT("-1 234"), &number, sizeof number, &at); }
+static int typed_decimal(void) { return num_format_parse_typed_decimal(&en, TEXT("1,234.50"), &low, &high, &scale, &at); }
+static int typed_decimal_plus(void) { return num_format_parse_typed_decimal(&en, TEXT(" +1,234.50"), &low, &high, &scale, &at); }
+static int typed_decimal_french(void) { return num_format_parse_typed_decimal(&fr, TEXT("-1 234,50"), &low, &high, &scale, &at); }
 static int typed_column(void) {
     return num_format_parse_column(&en, NUM_FORMAT_I64, NUM_FORMAT_TYPED, TEXTS, parsed, sizeof parsed, NO_NULLS, statuses, ROWS);
 }
@@ -112,12 +122,19 @@ static const struct {
     {"parse strictly i64 -234", strict_short, 0},
     {"parse strictly i64 INT64_MIN", strict_long, 0},
     {"parse strictly i64 1,23, refused", strict_refused, NUM_FORMAT_MISSPELLED},
-    {"parse decimal 1,234.50", parse_decimal, 0},
+    {"parse strictly i64 1,234", strict_few, 0},
+    {"parse strictly i64 -1 234, fr", strict_french, 0},
+    {"parse decimal 1,234.50", decimal, 0},
+    {"parse decimal -1 234,50, fr", decimal_french, 0},
     {"print a column, i64, 4 rows", print_column, 0},
     {"measure a column, i64, 4 rows", measure_column, 0},
     {"parse a column strictly, i64, 4 rows", parse_column, 0},
     {"parse typed i64 INT64_MIN", typed_long, 0},
     {"parse typed i64 +1,234 after a space", typed_plus, 0},
+    {"parse typed i64 -1 234, fr", typed_french, 0},
+    {"parse typed decimal 1,234.50", typed_decimal, 0},
+    {"parse typed decimal +1,234.50 after a space", typed_decimal_plus, 0},
+    {"parse typed decimal -1 234,50, fr", typed_decimal_french, 0},
     {"parse a column as typed, i64, 4 rows", typed_column, 0},
     {"fill with the locale de-AT", locale, 0},
     {"fill with a custom format", custom, 0},
@@ -132,7 +149,7 @@ static int make(int (*call)(void), long times, int returned) {
 }
 
 int main(int count, char **words) {
-    if (num_format_locale(&en, TEXT("en")) != 0 ||
+    if (num_format_locale(&en, TEXT("en")) != 0 || num_format_locale(&fr, TEXT("fr")) != 0 ||
         num_format_custom(&built, TEXT("’’·"), NUM_FORMAT_INDIAN, TEXT("−")) != 0 || print_column() != 0)
         return 1;
     for (size_t i = 0; i < sizeof calls / sizeof *calls; i++) {

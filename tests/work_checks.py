@@ -6,7 +6,8 @@
 
 No contract counts work: a body that prints, copies or tests twice returns the same. tests/work_checks.tsv has how
 many instructions each call of tests/work_checks.c takes, and a call fails that takes over a tenth more or less.
-Where a change means to, write the table again, and commit it with the change.
+Where a change means to, write the table again, and commit it with the change. Whatever the table says, parsing a text
+as people type it takes at most so many times what strict parsing takes of it as it is printed as AT_MOST says.
 
 Valgrind's callgrind counts. The counts are the same in each run and on each processor, and other compilers of the
 program in C change them by a few. Without valgrind or a C compiler the checks are skipped, and a last line says so.
@@ -30,6 +31,14 @@ TIMES = 100
 # How much more or less than in the table a call may take, in hundredths.
 TOLERANCE = 10
 
+# The calls that may take at most so many times what others do.
+AT_MOST = [
+    ("parse typed i64 INT64_MIN", 1.2, "parse strictly i64 INT64_MIN"),
+    ("parse typed i64 +1,234 after a space", 3, "parse strictly i64 1,234"),
+    ("parse typed i64 -1 234, fr", 3, "parse strictly i64 -1 234, fr"),
+    ("parse typed decimal 1,234.50", 1.2, "parse decimal 1,234.50"),
+]
+
 COUNT = ["valgrind", "--tool=callgrind", "--callgrind-out-file=/dev/null"]
 
 
@@ -45,6 +54,16 @@ def check_all(tally, library):
     for name in wanted:
         if name in found:
             tally.add(name, problem(found[name], wanted[name]))
+    compare(tally, found)
+
+
+def compare(tally, found):
+    """Compares what calls take with what others do."""
+    for name, times, other in AT_MOST:
+        if name in found and other in found:
+            is_more = found[name] > times * found[other]
+            why = f"{found[name]} instructions are over {times} times the {found[other]} of: {other}"
+            tally.add(f"{name}, beside {other}", why if is_more else None)
 
 
 def problem(found, wanted):
@@ -102,6 +121,7 @@ def total(program, name, times):
 def write(tally, library):
     """Writes the table, where each call was counted."""
     found = counted(tally, library)
+    compare(tally, found)
     if tally.failed:
         return
     head = "# The instructions of each call, as tests/work_checks.py counts and writes them.\n"
