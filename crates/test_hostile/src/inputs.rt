@@ -210,15 +210,15 @@ fn one_line_at_most_is_flushed(rt: HostRuntime) -> Result<(), Fail> {
     Ok(())
 }
 
-/// Asserts what a fault displays, at each width.
+/// Asserts what a fault displays, also where a width or a precision is asked for.
 fn assert_message(
     rt: &impl Abort,
     alloc: Global,
     fault: &RegroupFault,
     message: &str,
 ) -> Result<(), Fail> {
-    let displayed = format!(in alloc; "{fault}|{fault:*^65535}")?;
-    let expected = format!(in alloc; "{message}|{message}")?;
+    let displayed = format!(in alloc; "{fault}|{fault:*^65535}|{fault:.0}")?;
+    let expected = format!(in alloc; "{message}|{message}|{message}")?;
     assert_eq!(rt; displayed.as_str(), expected.as_str());
     Ok(())
 }
