@@ -1,9 +1,9 @@
 -- The messages that name faults.
 use Rattle.std.specs.Prelude.{ℕ, ◌+◌, ◌-◌, ◌/◌, ◌%◌, nat_le, nat_lt, ◌==◌, Bool, ◌&&◌, not, is_some, if◌then◌else◌}
-use Rattle.std.specs.Prelude.{List, [], ◌∷◌, ◌++◌, length, codes, Option, None, Some}
+use Rattle.std.specs.Prelude.{List, [], ◌∷◌, ◌++◌, length, codes, encode_utf8, Option, None, Some}
 use Rattle.std.specs.Fmt.{decimal}
 use Rattle.std.specs.Char.{is_ascii_digit}
-use Rattle.std.specs.List.{find, flat_map, list_any, zip}
+use Rattle.std.specs.List.{flat_map, list_any}
 use Rattle.std.specs.Str.{bytes_eq, chars, is_utf8}
 use Rattle.num_format.specs.Format.{FormatData}
 use Rattle.num_format.specs.Reading.{figures}
@@ -56,14 +56,18 @@ why_refused from text =
     if marks_decimals from && is_utf8 text
     then unless_spelled (spelled from text) (why_left from text (unexpected_in_decimal from text)) else why.Unknown
 
--- the first characters in which two texts differ
-abbrev pub first_change : List ℕ → List ℕ → Option (ℕ × ℕ)
-first_change text other = find (λ pair. not (pair.0 == pair.1)) (zip (chars text) (chars other))
+-- the first characters in which two texts differ, after how many bytes, of which so many were before these texts
+abbrev pub change_after : (before : ℕ) → (text other : List ℕ) → Option (ℕ × ℕ × ℕ)
+change_after before (c ∷ text) (d ∷ other) = if c == d then change_after (before + length (encode_utf8 c)) text other else Some (before, c, d)
+change_after before text other = None
+
+abbrev pub first_change : List ℕ → List ℕ → Option (ℕ × ℕ × ℕ)
+first_change text other = change_after 0 (chars text) (chars other)
 
 -- the character that stands for one of the format where this byte is unexpected, with that: a digit stands for none
-abbrev pub why_changed : (before : ℕ) → Option (ℕ × ℕ) → Why
+abbrev pub why_changed : (before : ℕ) → Option (ℕ × ℕ × ℕ) → Why
 why_changed before None = why.Unexpected before
-why_changed before (Some pair) = if is_ascii_digit pair.0 then why.Unexpected before else why.Typed before pair.0 pair.1
+why_changed before (Some change) = if is_ascii_digit change.1 then why.Unexpected before else why.Typed change.0 change.1 change.2
 
 -- the same by the decimal that a person means by the text, if there is one
 abbrev pub why_meant : FormatData → List ℕ → (before : ℕ) → Option FixedPoint → Why

@@ -16,6 +16,7 @@ use arrayvec::ArrayString;
 use num_format::laws::format_data;
 use num_format::{Error, ErrorKind, Format};
 use num_format_decimal::{Decimal, DecimalBuffer, ParseDecimalError};
+use num_format_typed::rewriting::split_first;
 use num_format_typed::{TypedError, parse_typed_decimal};
 
 /// The most bytes of what is shown of a name: four for each of its bytes.
@@ -404,21 +405,31 @@ fn why_meant<F: Format>(text: &str, from: &F, before: usize) -> Why
     why_changed(before, first_change(text, printed.as_str()))
 }
 
-/// Returns the same by the first characters in which the text differs from that of its number. A digit stands for no
-/// other character.
-fn why_changed(before: usize, change: Option<(char, char)>) -> Why
+/// Returns the same by the first characters in which the text differs from that of its number, and how many bytes are
+/// before them. A digit stands for no other character.
+fn why_changed(before: usize, change: Option<(usize, char, char)>) -> Why
     ensures { result ≡ why_changed before change }
 {
     match change {
-        Some((met, wanted)) if !met.is_ascii_digit() => Why::Typed(before, met, wanted),
+        Some((at, met, wanted)) if !met.is_ascii_digit() => Why::Typed(at, met, wanted),
         _ => Why::Unexpected(before),
     }
 }
 
-/// Returns the first characters in which two texts differ.
-fn first_change(text: &str, other: &str) -> Option<(char, char)>
+/// Returns the first characters in which two texts differ, after how many bytes of the first one.
+fn first_change(text: &str, other: &str) -> Option<(usize, char, char)>
     ensures { result ≡ first_change text.now other.now }
 {
-    let mut pairs = text.chars().zip(other.chars());
-    pairs.find(|pair| pair.0 != pair.1)
+    let (mut left, mut others) = (text, other);
+    while let Some((met, rest)) = split_first(left) {
+        let Some((wanted, next)) = split_first(others) else {
+            return None;
+        };
+        if met != wanted {
+            return Some((text.len() - left.len(), met, wanted));
+        }
+        left = rest;
+        others = next;
+    }
+    None
 }
