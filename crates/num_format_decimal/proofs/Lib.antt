@@ -7,6 +7,7 @@ pub mod ParserLemmas
 pub mod PartLemmas
 pub mod PrintLemmas
 pub mod ReadLemmas
+mod RefusalLemmas
 pub mod ScaleLemmas
 pub mod SpelledLemmas
 pub mod SumLemmas

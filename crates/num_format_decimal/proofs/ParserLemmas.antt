@@ -21,10 +21,8 @@ use Rattle.num_format_int.proofs.DigitLemmas.{digits-small}
 use Rattle.num_format_int.proofs.GroupedLemmas.{grouped-Posix, grouped-short}
 use Rattle.num_format_parsing.specs.Reading.{is_negative_text}
 use Rattle.num_format_parsing.specs.Shapes.{HasSign, byte_figures}
-use Rattle.num_format_parsing.specs.Strict.{IsUnambiguous, ParsesStrictly, SpellsNumber, begins, ungrouped, with_separators, without_separators}
-use Rattle.num_format_parsing.specs.declared.error.StrictError.{StrictError}
-use Rattle.num_format_parsing.specs.declared.error.StrictError.TheVariants as strict
-use Rattle.num_format_parsing.proofs.SpellingLemmas.{is_negative-pos, signed-abs, signed-sign, sign-behind, signed_number-unsigned_abs}
+use Rattle.num_format_parsing.specs.Strict.{IsUnambiguous, SpellsNumber, begins, ungrouped, with_separators, without_separators}
+use Rattle.num_format_parsing.proofs.SpellingLemmas.{body-told, is_negative-pos, signed-abs, signed-sign, sign-behind}
 use Rattle.num_format_certificates.proofs.RoundTripLemmas.{round_trips-from_unambiguous}
 use Rattle.num_format_decimal.specs.declared.parser.Fault.{Fault}
 use Rattle.num_format_decimal.specs.declared.parser.Fault.TheVariants.{TooLarge, Unspelled}
@@ -32,7 +30,7 @@ use Rattle.num_format_decimal.specs.declared.decimal.TheConstants.{MAX_SCALE}
 use Rattle.num_format_decimal.specs.FixedPoint.{FixedPoint, fixed_point}
 use Rattle.num_format_decimal.specs.Marks.{IsMark, IsPlainFormat, MarksDecimals}
 use Rattle.num_format_decimal.specs.Parsing.{IsDecimalOutOfRange, ParsesDecimal, SpellsDecimal}
-use Rattle.num_format_decimal.specs.Shapes.{HasAmount, HasReading, IsAmount, IsCut, IsSigned, fault_of, tail_digits}
+use Rattle.num_format_decimal.specs.Shapes.{HasAmount, HasReading, IsAmount, IsCut, IsSigned, tail_digits}
 use Rattle.num_format_decimal.specs.Text.{mark_at}
 use Rattle.num_format_decimal.specs.Values.{HasUnits}
 use Rattle.num_format_decimal.proofs.MarkLemmas.{apart-printed, tail-cut, tail-signed, tells-signed, tells-spelled_decimal}
@@ -45,10 +43,10 @@ pub amount_of : (f : FormatData) (t : List ℕ) (z : ℤ) → SpellsNumber f t z
 amount_of f t z (with_separators same) = record { grouping = f.grouping; either = inl refl; text = same }
 amount_of f t z (without_separators same) = record { grouping = (ungrouped f).grouping; either = inr refl; text = same }
 
-pub signed_amount : (f : FormatData) (t : List ℕ) (b : Bool) (n : ℕ) → (b ≡ true → 0 < n) → SpellsNumber f t (signed_number b n) → IsAmount f t b n
-signed_amount f t b n some spells =
+pub signed_amount : (f : FormatData) (t : List ℕ) (b : Bool) (start n : ℕ) → HasSign f t b start → SpellsNumber f t (signed_number b n) → IsAmount f t b n
+signed_amount f t b start n sign spells =
     let z = signed_number b n in
-    subst (λ c. IsAmount f t c n) (signed-sign b n some) (subst (λ j. IsAmount f t (is_negative z) j) (signed-abs b n) (amount_of f t z spells))
+    subst (λ c. IsAmount f t c n) (sym (body-told f t b start z sign spells).sign) (subst (λ j. IsAmount f t (is_negative z) j) (signed-abs b n) (amount_of f t z spells))
 
 pub plain_amount : (f : FormatData) (t : List ℕ) (b : Bool) (start n : ℕ) → HasSign f t b start → drop start t ≡ plain (digits n) → IsAmount f t b n
 plain_amount f t b start n sign same = record {
@@ -72,7 +70,7 @@ number_of f t b n some amount =
         ∙ ap (λ j. (if is_negative (signed_number b n) then f.minus_sign else []) ++ body_of f j) (sym (signed-abs b n))
 
 -- a text that spells no number, and is no zero with a sign, is no amount
-no_amount : (f : FormatData) (t : List ℕ) (b : Bool) (start : ℕ) → HasSign f t b start → ¬ (drop start t ≡ 48 ∷ []) → ((z : ℤ) → ¬ (SpellsNumber f t z)) → (c : Bool) (n : ℕ) → ¬ (IsAmount f t c n)
+pub no_amount : (f : FormatData) (t : List ℕ) (b : Bool) (start : ℕ) → HasSign f t b start → ¬ (drop start t ≡ 48 ∷ []) → ((z : ℤ) → ¬ (SpellsNumber f t z)) → (c : Bool) (n : ℕ) → ¬ (IsAmount f t c n)
 no_amount f t b start sign other none false n amount = none (signed_number false n) (number_of f t false n (λ wrong. absurd (cc)) amount)
 no_amount f t b start sign other none true (suc n) amount = none (signed_number true (suc n)) (number_of f t true (suc n) (λ same. omega arith) amount)
 no_amount f t b start sign other none true zero amount =
@@ -81,28 +79,9 @@ no_amount f t b start sign other none true zero amount =
     let negative : b ≡ true = sign.tested ∙ (starts_is Decides-eqb t minus (is_negative_text f t) refl).1 (48 ∷ []) text in
     other (append_cancel_left minus _ _ (sym (sign-behind f t b start sign ∙ ap (λ (c : Bool). (if c then minus else []) ++ drop start t) negative) ∙ text))
 
-value-of_i128 : (z : ℤ) → FitsSigned w128 z → IsValueOf (kind_of I128) z
+pub value-of_i128 : (z : ℤ) → FitsSigned w128 z → IsValueOf (kind_of I128) z
 value-of_i128 (pos n) fits = record { above = omega (arith, ints, fits.sfits); below = omega (arith, ints, fits.sfits); zero = λ h. refl }
 value-of_i128 (negsuc n) fits = record { above = omega (arith, ints, fits.sfits); below = omega (arith, ints, fits.sfits); zero = λ h. refl }
-
--- what a text is that strict parsing refuses as an `i128`, if it is no zero with a sign
-module _ {X : Type 0} (value : X → ℤ) (f : FormatData) (t : List ℕ) (b : Bool) (start : ℕ) (sign : HasSign f t b start) (nonzero : ¬ (drop start t ≡ 48 ∷ [])) where
-  unspelled : (e : StrictError) → ¬ (e ≡ strict.OutOfRange) → ParsesStrictly (kind_of I128) value f t (Err e) → (c : Bool) (n : ℕ) → ¬ (IsAmount f t c n)
-  unspelled e other parses = no_amount f t b start sign nonzero (λ z spells.
-      let plain = sign.symbols.unambiguous in
-      let refused = (parses.refused strict.OutOfRange).1 (plain, record { number = z; spelled = spells; wrong = λ fits. (let w : false ≡ true = parses.accepted.1 (plain, (z, spells, fits)) in cc) }) in
-      other (let same : e ≡ strict.OutOfRange = cc in same))
-
-  pub amount_refused : (e : StrictError) → ParsesStrictly (kind_of I128) value f t (Err e) → HasAmount f t (Err (fault_of e))
-  amount_refused strict.OutOfRange parses =
-      let cause = (parses.refused strict.OutOfRange).0 refl in
-      let z = cause.1.number in
-      (is_negative z, unsigned_abs z, amount_of f t z cause.1.spelled, λ fits. cause.1.wrong (value-of_i128 z (subst (FitsSigned w128) (signed_number-unsigned_abs z) fits)))
-  amount_refused strict.AmbiguousFormat parses = absurd ((parses.refused strict.AmbiguousFormat).0 refl sign.symbols.unambiguous)
-  amount_refused strict.NotUtf8 parses = unspelled strict.NotUtf8 (λ same. absurd (cc)) parses
-  amount_refused (strict.Unexpected at) parses = unspelled (strict.Unexpected at) (λ same. absurd (cc)) parses
-  amount_refused strict.NoDigit parses = unspelled strict.NoDigit (λ same. absurd (cc)) parses
-  amount_refused strict.Misspelled parses = unspelled strict.Misspelled (λ same. absurd (cc)) parses
 
 begins_starts : (mark t : List ℕ) → begins mark t ≡ true → starts_with nat_eq t mark ≡ true
 begins_starts [] t wrong = cc

@@ -9,8 +9,6 @@ use Rattle.num_format_text.specs.Format.{FormatData}
 use Rattle.num_format_int.specs.Digits.{digits}
 use Rattle.num_format_int.specs.Grouped.{grouped}
 use Rattle.num_format_int.specs.Kind.{signed_number}
-use Rattle.num_format_parsing.specs.declared.error.StrictError.{StrictError}
-use Rattle.num_format_parsing.specs.declared.error.StrictError.TheVariants.{OutOfRange}
 use Rattle.num_format_decimal.specs.declared.decimal.TheConstants.{MAX_SCALE}
 use Rattle.num_format_decimal.specs.declared.parser.Fault.{Fault}
 use Rattle.num_format_decimal.specs.declared.parser.Fault.TheVariants.{TooLarge, Unspelled}
@@ -41,11 +39,6 @@ pub record IsSigned (f : FormatData) (t : List ℕ) (negative : Bool) (n scale :
   pub whole : List ℕ
   pub amount : IsAmount f whole negative (n / 10 ^ scale)
   pub text : t ≡ whole ++ decimals_of f n scale
-
--- why a text is no amount that strict parsing refuses as an `i128`
-abbrev pub fault_of : StrictError → Fault
-fault_of OutOfRange = TooLarge
-fault_of _ = Unspelled
 
 -- what was read of a text as an amount: it, or that it is one that is no `i128`, or none
 abbrev pub HasAmount : FormatData → List ℕ → Result (Bool × ℕ) Fault → Type 0

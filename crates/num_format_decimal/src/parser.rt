@@ -1,12 +1,12 @@
 //! A parser of decimals under one format.
-ghost use Rattle.std.specs.Prelude.{◌≡◌, ◌↔◌, ◌++◌, ◌<◌, ◌≤◌, true, IsTrue, IsUtf8, MatchOption, MatchResult, drop, length};
+ghost use Rattle.std.specs.Prelude.{◌≡◌, ◌↔◌, ◌++◌, ◌<◌, ◌≤◌, true, Err, IsTrue, IsUtf8, MatchOption, MatchResult, Ok, drop, length};
 ghost use Rattle.std.specs.Char.{is_ascii_digit};
 ghost use Rattle.std.specs.List.{list_all};
 ghost use Rattle.num_format_parsing.specs.Strict.{unexpected};
 ghost use Rattle.num_format_decimal.specs.FixedPoint.{FixedPoint};
 ghost use Rattle.num_format_decimal.specs.Marks.{IsMark, IsPlainFormat, MarksDecimals};
 ghost use Rattle.num_format_decimal.specs.Parsing.{AtScaleResult, DecimalResult, IsDecimalCause, SpellsDecimal, after_mark, unexpected_in_decimal};
-ghost use Rattle.num_format_decimal.specs.Shapes.{HasAmount, HasReading, IsCut, fault_of};
+ghost use Rattle.num_format_decimal.specs.Shapes.{HasAmount, HasReading, IsCut};
 ghost use Rattle.num_format_decimal.specs.Text.{mark_at};
 ghost use Rattle.num_format_decimal.specs.declared.decimal.TheConstants.{MAX_SCALE};
 ghost use Rattle.num_format_decimal.specs.declared.parsing.ParseDecimalError.TheVariants as cause;
@@ -15,10 +15,11 @@ use crate::decimal::{Decimal, MAX_SCALE};
 use crate::parsing::{ParseAtScaleError, ParseDecimalError};
 use crate::reading::{joined, trailing_digits, whole_number};
 use crate::rounding::Rounding;
+use num_format_parsing::StrictParser;
 use num_format_parsing::bytes::{begins_with, has_digit, is_utf8};
 use num_format_parsing::causes::expected_end;
+use num_format_parsing::reading::Reading;
 use num_format_parsing::symbols::is_plain;
-use num_format_parsing::{FromFormattedStr, StrictError, StrictParser};
 use num_format_text::Format;
 use std::marker::Model;
 
@@ -118,6 +119,25 @@ impl<'a, F: Format> DecimalParser<'a, F> {
         ensures { DecimalResult self.now bytes.now result }
     {
         self.parse_any(bytes, false)
+    }
+
+    /// Returns the decimal that the text of these bytes spells, or `None` if they are refused. It looks for no cause.
+    ///
+    /// ```rust
+    /// let parser = DecimalParser::new(&Locale::en)?;
+    /// parser.decimal(b"1,234.50")    // Some(1234.50)
+    /// parser.decimal(b"1,23.4")      // None
+    /// ```
+    #[inline(always)]
+    pub fn decimal(&self, bytes: &[u8]) -> Option<Decimal>
+        ensures { MatchOption result ((e : ParseDecimalError) × DecimalResult self.now bytes.now (Err e))
+            (λ d. DecimalResult self.now bytes.now (Ok d)) }
+    {
+        self.mark();
+        match self.read(bytes) {
+            Ok(decimal) => Some(decimal),
+            Err(_) => None,
+        }
     }
 
     /// Returns the decimal that the text spells at another scale: the same number, or an error.
@@ -271,17 +291,15 @@ impl<'a, F: Format> DecimalParser<'a, F> {
     fn amount(&self, text: &[u8]) -> Result<(bool, u128), Fault>
         ensures { HasAmount self.now text.now result }
     {
-        // Most are in groups, or digits alone, and are read without a call.
-        if let Some((is_negative, magnitude)) = self.numbers.grouped_number(text) {
-            return Ok((is_negative, magnitude as u128));
-        }
         let sign = self.numbers.sign(text);
+        // Digits alone are read without a call.
         if let Some(magnitude) = whole_number(&text[sign.len..]) {
             return Ok((sign.is_negative, magnitude as u128));
         }
-        match self.numbers.parse_bytes::<i128>(text) {
-            Ok(whole) => Ok((whole.is_negative(), whole.unsigned_abs())),
-            Err(error) => Err(fault_of(error)),
+        match self.numbers.read::<i128>(text, sign) {
+            Reading::Number(magnitude) => Ok((sign.is_negative, magnitude)),
+            Reading::TooLarge => Err(Fault::TooLarge),
+            Reading::Unspelled => Err(Fault::Unspelled),
         }
     }
 
@@ -328,16 +346,6 @@ impl<'a, F: Format> DecimalParser<'a, F> {
         }
         let start = whole + mark.len();
         (expected_end(text, start, &[]), text.len() - start)
-    }
-}
-
-/// Returns why a text is no amount that strict parsing refuses as an `i128`.
-fn fault_of(error: StrictError) -> Fault
-    ensures { result ≡ fault_of error }
-{
-    match error {
-        StrictError::OutOfRange => Fault::TooLarge,
-        _ => Fault::Unspelled,
     }
 }
 

@@ -13,7 +13,7 @@ mod groups;
 pub mod laws;
 mod lenient;
 pub mod parsing;
-mod reading;
+pub mod reading;
 pub mod strict;
 pub mod symbols;
 

@@ -15,7 +15,7 @@ use num_format_text::Grouping;
 
 /// What was read of a text.
 #[derive(Clone, Copy)]
-pub(crate) enum Reading {
+pub enum Reading {
     /// The text spells a number, whose absolute value this is.
     Number(u128),
     /// The text spells a number that is no value of the type.

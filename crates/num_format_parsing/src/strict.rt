@@ -1,5 +1,5 @@
 //! Strict parsing: the number that a text spells, or why it spells none.
-ghost use Rattle.std.specs.Prelude.{◌≡◌, ◌↔◌, ℕ, List, [], ◌<◌, IsTrue, IsUtf8, IfSome, MatchOption, MatchResult, Ok, Err};
+ghost use Rattle.std.specs.Prelude.{◌≡◌, ◌↔◌, ℕ, List, [], IsTrue, IsUtf8, IfSome, MatchOption, MatchResult, Ok, Err};
 ghost use Rattle.num_format_text.specs.Format.{FormatData};
 ghost use Rattle.num_format_int.specs.Grouped.{printed_separator};
 ghost use Rattle.num_format_int.specs.Kind.{signed_number};
@@ -10,7 +10,7 @@ ghost use Rattle.num_format_parsing.specs.declared.error.StrictError.TheVariants
 
 use crate::causes::cause;
 use crate::error::StrictError;
-use crate::groups::{LONGEST_GROUPS, SHORT_LEN, read_in_groups, read_short};
+use crate::groups::{SHORT_LEN, read_in_groups, read_short};
 use crate::parsing::FromFormattedStr;
 use crate::reading::{Reading, read};
 use crate::symbols::{Sign, is_plain, is_simple, sign_of};
@@ -254,35 +254,6 @@ impl<'a, F: Format> StrictParser<'a, F> {
         self.grouping
     }
 
-    /// Returns whether the number that a text spells is negative, and its absolute value, which is above zero. It may
-    /// return `None` for any text, and does not for most that are in groups with a separator of one byte.
-    ///
-    /// Unlike strict parsing it is inlined, for a caller that reads other parts of a text too.
-    ///
-    /// ```rust
-    /// let parser = StrictParser::new(&Locale::en)?;
-    /// parser.grouped_number(b"-1,234")    // Some((true, 1234))
-    /// parser.grouped_number(b"1,23")      // None
-    /// parser.grouped_number(b"123")       // None
-    /// ```
-    #[inline(always)]
-    pub fn grouped_number(&self, text: &[u8]) -> Option<(bool, u64)>
-        ensures spelled { IfSome result
-            (λ read. SpellsNumber self.now text.now (signed_number read.0 read.1)) }
-        ensures some { IfSome result (λ read. 0 < read.1) }
-    {
-        // A longer text is not read here: in groups of three it has too many digits, or a longer minus sign.
-        if text.len() <= SHORT_LEN || text.len() > LONGEST_GROUPS + 1 {
-            return None;
-        }
-        let sign = self.sign(text);
-        let magnitude = read_in_groups(text, sign, self.separator, self.grouping)?;
-        if magnitude == 0 {
-            return None;
-        }
-        Some((sign.is_negative, magnitude))
-    }
-
     /// Returns the number that the text of the bytes spells, or the first cause for which it is refused.
     ///
     /// Where the caller knows that the bytes are UTF-8, that is not tested again.
@@ -301,9 +272,9 @@ impl<'a, F: Format> StrictParser<'a, F> {
         }
     }
 
-    /// Returns what is read of a text of this sign.
+    /// Returns what is read of a text of this sign. It looks for no cause.
     #[inline(always)]
-    fn read<N: Sealed>(&self, text: &[u8], sign: Sign) -> Reading
+    pub fn read<N: Sealed>(&self, text: &[u8], sign: Sign) -> Reading
         requires { HasSign self.now text.now sign.is_negative sign.len }
         ensures { HasReading N.kind self.now text.now sign.is_negative result }
     {

@@ -1,12 +1,11 @@
 -- Characters taken off a list, and put for others.
-use Rattle.std.proofs.Common.{◌≡◌, ℕ, inl, inr, Bool, true, false, List, [], ◌∷◌, ◌++◌, length, refl, ap, ◌∙◌, sym, arith, append-nil}
-use Rattle.std.specs.Prelude.{IsUtf8, encode_utf8, map, ◌==◌}
+use Rattle.std.proofs.Common.{◌≡◌, ℕ, inl, inr, Bool, true, false, List, [], ◌∷◌, ◌++◌, length, ap, ◌∙◌, sym, arith, append-nil}
+use Rattle.std.specs.Prelude.{IsUtf8, encode_utf8}
 use Rattle.std.specs.List.{list_all}
 use Rattle.std.specs.Str.{chars, encode_utf8_all}
-use Rattle.std.proofs.lemmas.Bool.{and_parts, cases_Bool}
-use Rattle.std.proofs.lemmas.Bool.Decides.{nat_tests}
+use Rattle.std.proofs.lemmas.Bool.{cases_Bool}
 use Rattle.std.proofs.lemmas.Str.{chars-nil, encodes-append, encodes-chars, encodes_same}
-use Rattle.num_format_typed.specs.Rewriting.{images, trim_end}
+use Rattle.num_format_typed.specs.Rewriting.{trim_end}
 
 -- one more that passes at the end
 all-push : (p : ℕ → Bool) (cs : List ℕ) (c : ℕ) → p c ≡ true → list_all p (cs ++ c ∷ []) ≡ list_all p cs
@@ -52,15 +51,3 @@ end-stops p all cs ds bytes c so_far last fails same =
 pub end-passes : (p : ℕ → Bool) (all cs ds : List ℕ) (c : ℕ) → trim_end p all ≡ trim_end p cs → cs ≡ ds ++ c ∷ [] → p c ≡ true
     → trim_end p all ≡ trim_end p ds
 end-passes p all cs ds c so_far last passes = so_far ∙ ap (trim_end p) last ∙ trim_end-push p ds c passes
-
--- a text whose characters all stand for themselves
-map-own : (image : ℕ → ℕ) (cs : List ℕ) → list_all (λ c. image c == c) cs ≡ true → map image cs ≡ cs
-map-own image [] own = refl
-map-own image (c ∷ cs) own =
-    let both = and_parts (image c == c) (list_all (λ c. image c == c) cs) own in
-    let test = both.0 in
-    let same : image c ≡ c = grind (arith, nat_tests, test) in
-    ap (λ x. x ∷ map image cs) same ∙ ap (λ xs. c ∷ xs) (map-own image cs both.1)
-
-pub images-own : (image : ℕ → ℕ) (t : List ℕ) → IsUtf8 t → list_all (λ c. image c == c) (chars t) ≡ true → images image t ≡ t
-images-own image t utf8 own = ap encode_utf8_all (map-own image (chars t) own) ∙ encodes-chars t utf8

@@ -7,6 +7,7 @@ ghost use Rattle.num_format_typed.specs.Rewriting.{bytes_within, images, without
 
 use crate::classes::Class;
 use num_format_decimal::MAX_DECIMAL_LEN;
+use num_format_int::buffer::copy_bytes;
 
 /// A map of characters to those that stand for them.
 pub trait Image {
@@ -68,7 +69,7 @@ fn put(bytes: &[u8], len: usize, array: &mut [u8]) -> Option<usize>
         return None;
     }
     let end = len + bytes.len();
-    array[len..end].copy_from_slice(bytes);
+    copy_bytes(bytes, &mut array[len..end]);
     Some(end)
 }
 

@@ -1,8 +1,6 @@
 //! Parsing texts as people type them.
 //!
 //! Most are as the format prints them, so strict parsing comes first, and looks for no cause where it refuses a text.
-//! Of the others, many have only spaces around them or a plus sign, so the rest is parsed as it stands where no
-//! character in it is put for another.
 ghost use Rattle.std.specs.Prelude.{◌≡◌, ◌↔◌, ◌++◌, ◌<◌, ◌≤◌, ℕ, [], Contains, IfSome, IsTrue, MatchOption, MatchResult, IsUtf8, drop, length, Err, nat_eq, true, false};
 ghost use Rattle.std.specs.List.{find, list_any, starts_with};
 ghost use Rattle.std.specs.Str.{chars, encode_utf8_all};
@@ -306,9 +304,9 @@ impl<'a, F: Format> Rewriter<'a, F> {
         requires marks { MarksDecimals self.now }
         ensures { TypedDecimalResult self.now bytes.now result }
     {
-        match decimals.parse_bytes(bytes) {
-            Ok(decimal) => Ok(decimal),
-            Err(_) => match text_of(bytes) {
+        match decimals.decimal(bytes) {
+            Some(decimal) => Ok(decimal),
+            None => match text_of(bytes) {
                 Some(text) => self.parse_rewritten_decimal(decimals, text),
                 None => Err(TypedError::Number(ParseDecimalError::NotUtf8)),
             },
@@ -348,19 +346,16 @@ impl<'a, F: Format> Rewriter<'a, F> {
         &self.numbers
     }
 
-    /// Returns the bytes of what a typed text stands for, or `None` if they are too many: a part of the text, or what is
-    /// written to the start of an array.
+    /// Writes what a typed text stands for to the start of an array, and returns these bytes, or `None` if they are too
+    /// many.
     #[inline(always)]
-    fn rewrite<'s>(&self, text: &'s str, array: &'s mut [u8]) -> Option<&'s [u8]>
+    fn rewrite<'s>(&self, text: &str, array: &'s mut [u8]) -> Option<&'s [u8]>
         requires { length array.old ≡ MAX_DECIMAL_LEN }
         ensures text { MatchOption result (MAX_DECIMAL_LEN < length (typed_text self.now text.now))
             (λ typed. typed.now ≡ typed_text self.now text.now) }
         ensures fits { IfSome result (λ typed. length typed.now ≤ MAX_DECIMAL_LEN) }
     {
         let (sign, body) = self.sign_and_body(without_ends(text, Class::End));
-        if sign.is_empty() && body.len() <= MAX_DECIMAL_LEN && self.symbols.are_own(body) {
-            return Some(body.as_bytes());
-        }
         rewrite(sign, body, &self.symbols, array)
     }
 
