@@ -24,7 +24,7 @@ pub use Rattle.std.specs.Str.{IsTrimAsciiEnd, IsTrimAsciiStart, all_ascii_digits
 pub use Rattle.std.specs.declared.ops.Range.{Range}
 pub use lib.Seq.{take-add}
 pub use Rattle.regroup_faults.specs.Decimals.{decimal_read, has_no_numeral, is_sign, typed_read}
-pub use Rattle.regroup_lines.specs.Ended.{ended_by, without_end}
+pub use Rattle.regroup_lines.specs.Ended.{ended_by, ended_once, ends_with}
 pub use Rattle.regroup_faults.specs.Fault.{Fault, are_any, fault_of, in_field}
 pub use Rattle.regroup_faults.specs.Fault.Fault.{FewFields, Field, FieldNotText, Flush, Line, NotText, Read, Reject, Report, TooLong, TooMany, Unclosed, Write}
 pub use Rattle.regroup_lines.specs.Input.{EndsOrGoesOn, FindsPiece, HasNoEnd, IsInArray, IsLong, IsRecord, IsStop, Reads, array_len, bytes_at, held, stop_result, stop_text}

@@ -41,27 +41,27 @@ module _ (rules : Rules) (most : ℕ) (from to : FormatData) where
   e = rules.line_end
 
   -- a part that others follow is a record
-  abbrev line_and : ℕ → ℕ → List ℕ → Regrouped → Regrouped
-  line_and count number text rest = sending_line (line_sent rules most from to count number text) rest
+  abbrev line_and : ℕ → ℕ → (ended : List ℕ) → List ℕ → Regrouped → Regrouped
+  line_and count number ended text rest = sending_line (line_sent rules most from to count number ended text) rest
 
   abbrev text_and : ℕ → List ℕ → Regrouped → Regrouped
   text_and number text rest = sending_line (record_sent rules from to number text) rest
 
-  line_and-text : (count number : ℕ) (text : List ℕ) (rest : Regrouped) → count + 1 ≤ most → length text ≤ rules.max_line_len → line_and count number text rest ≡ text_and number text rest
-  line_and-text count number text rest few short = rw (not_less most (count + 1) few, not_less rules.max_line_len (length text) short) refl
+  line_and-text : (count number : ℕ) (ended text : List ℕ) (rest : Regrouped) → count + 1 ≤ most → length text ≤ rules.max_line_len → line_and count number ended text rest ≡ text_and number text rest
+  line_and-text count number ended text rest few short = rw (not_less most (count + 1) few, not_less rules.max_line_len (length text) short) refl
 
   parts-line : (stop : Stop) (count number : ℕ) (text : List ℕ) (parts : List (List ℕ)) → 0 < length parts →
-      regrouped_parts rules most from to stop count number (text ∷ parts) ≡ line_and count number text (regrouped_parts rules most from to stop (count + 1) (line_after rules number text) parts)
+      regrouped_parts rules most from to stop count number (text ∷ parts) ≡ line_and count number (ended_by e text) text (regrouped_parts rules most from to stop (count + 1) (line_after rules number text) parts)
   parts-line stop count number text [] some = absurd (omega arith)
   parts-line stop count number text (next ∷ parts) some = refl
 
   -- a record, and the bytes after it
   after-line : (stop : Stop) (count number : ℕ) (text bytes : List ℕ) → 0 < number → IsRecord q e (record_start number) text →
-      regrouped_after rules most from to stop count number (text ++ e ∷ bytes) ≡ line_and count number text (regrouped_after rules most from to stop (count + 1) (line_after rules number text) bytes)
+      regrouped_after rules most from to stop count number (text ++ e ∷ bytes) ≡ line_and count number (ended_by e text) text (regrouped_after rules most from to stop (count + 1) (line_after rules number text) bytes)
   after-line stop count number text bytes some is =
       ap (regrouped_parts rules most from to stop count number) (split-first q e (record_start number) text bytes is)
       ∙ parts-line stop count number text (split_at q e Start bytes) (split-some q e Start bytes)
-      ∙ ap (λ w. line_and count number text (regrouped_parts rules most from to stop (count + 1) (line_after rules number text) (split_at q e w bytes)))
+      ∙ ap (λ w. line_and count number (ended_by e text) text (regrouped_parts rules most from to stop (count + 1) (line_after rules number text) (split_at q e w bytes)))
       (sym (start-next (line_reached q e number text) (omega (arith, some))))
 
   -- bytes after the last record
@@ -76,12 +76,12 @@ module _ (rules : Rules) (most : ℕ) (from to : FormatData) where
 
   pub rest-line : (count number : ℕ) (text : List ℕ) → HasNoEnd q e (record_start number) text → (length text == 0) ≡ false → count + 1 ≤ most → length text ≤ rules.max_line_len →
       regrouped_after rules most from to Ended count number text ≡ text_and number text (last (count + 1))
-  rest-line count number text none some few short = after-rest Ended count number text none ∙ (rw some (line_and-text count number text (last (count + 1)) few short))
+  rest-line count number text none some few short = after-rest Ended count number text none ∙ (rw some (line_and-text count number _ text (last (count + 1)) few short))
 
   pub line-next : (stop : Stop) (count number : ℕ) (text bytes : List ℕ) → 0 < number → IsRecord q e (record_start number) text → count + 1 ≤ most → length text ≤ rules.max_line_len →
       regrouped_after rules most from to stop count number (text ++ e ∷ bytes) ≡ text_and number text (regrouped_after rules most from to stop (count + 1) (line_after rules number text) bytes)
   line-next stop count number text bytes some is few short =
-      after-line stop count number text bytes some is ∙ line_and-text count number text (regrouped_after rules most from to stop (count + 1) (line_after rules number text) bytes) few short
+      after-line stop count number text bytes some is ∙ line_and-text count number _ text (regrouped_after rules most from to stop (count + 1) (line_after rules number text) bytes) few short
 
   -- a failed read or flush
   pub rest-halted : (stop : Stop) (count number : ℕ) (text : List ℕ) → HasNoEnd q e (record_start number) text → count + 1 ≤ most → length text ≤ rules.max_line_len →
@@ -114,18 +114,18 @@ module _ (rules : Rules) (most : ℕ) (from to : FormatData) where
       passes_so : (bytes : List ℕ) (rest : Regrouped) → sending_line (fault_sent rules (long_fault rules number text) bytes) rest ≡ sending (sent_long bytes) rest
       passes_so bytes rest = ap (λ sent. sending_line sent rest) (ap (λ f. fault_sent rules f bytes) same ∙ passes-fault rules fault bytes does)
 
-      line_and-long : (rest : Regrouped) → line_and count number text rest ≡ sending (sent_long (ended_by e text)) rest
-      line_and-long rest = (rw (not_less most (count + 1) few, over) (passes_so (ended_by e text) rest))
+      line_and-long : (ended : List ℕ) (rest : Regrouped) → line_and count number ended text rest ≡ sending (sent_long ended) rest
+      line_and-long ended rest = (rw (not_less most (count + 1) few, over) (passes_so ended rest))
 
       pub long-stopped : (stop : Stop) → regrouped_after rules most from to stop count number text ≡ sending (sent_long (stop_text e stop text)) (returning (last_returned count stop))
-      long-stopped Ended = after-rest Ended count number text is.no_end ∙ (rw some_byte (line_and-long (last (count + 1))))
+      long-stopped Ended = after-rest Ended count number text is.no_end ∙ (rw some_byte (line_and-long _ (last (count + 1))))
       long-stopped stop = after-rest stop count number text is.no_end ∙ begun stop ∙ passes_so text (returning (long_returned stop))
 
       pub long-next : (stop : Stop) (bytes : List ℕ) → 0 < number → is_open q number text ≡ false →
           regrouped_after rules most from to stop count number (text ++ e ∷ bytes) ≡ sending (sent_long (ended_by e text)) (regrouped_after rules most from to stop (count + 1) (line_after rules number text) bytes)
       long-next stop bytes some closed =
           after-line stop count number text bytes some (is.no_end, closed)
-          ∙ line_and-long (regrouped_after rules most from to stop (count + 1) (line_after rules number text) bytes)
+          ∙ line_and-long (ended_by e text) (regrouped_after rules most from to stop (count + 1) (line_after rules number text) bytes)
 
   -- a byte after the last record allowed
   pub after-many : (number : ℕ) (text : List ℕ) → 0 < length text → regrouped_after rules most from to Unread most number text ≡ returning (Some (Err TooMany))

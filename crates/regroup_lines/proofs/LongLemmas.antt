@@ -1,11 +1,13 @@
 -- A record that is too long, piece by piece.
-use Rattle.regroup_lines.proofs.Common.{◌≡◌, ℕ, ◌+◌, ◌<◌, ◌≤◌, true, false, List, [], ◌∷◌, ◌++◌, length, Bool, Option, Some, None, Result, Ok, Err, refl, sym, ap, subst, ◌∙◌, arith, append_assoc, ◌-◌, ◌^◌, is_some, IsAtEnd, Keeps, result_map_both, length-append, ended_by, Fault, Flush, Read, TooMany, HasNoEnd, IsLong, IsRecord, IsStop, Reads, stop_result, stop_text, IsHalt, Stop, quotes_in, Ended, Endless, Failed, Unflushed, Unread, after_byte, after_text, fold-append, is_inside, line_reached, next_line, PassesLong, ReceivesBytes, SendsBytes, Writer, by_writer, failed_by, failed_writer, Within, record_start, Rules}
+use Rattle.regroup_lines.proofs.Common.{◌≡◌, ℕ, ◌+◌, ◌<◌, ◌≤◌, true, false, List, [], ◌∷◌, ◌++◌, length, Bool, Option, Some, None, Result, Ok, Err, refl, sym, ap, subst, ◌∙◌, arith, append_assoc, ◌-◌, ◌^◌, is_some, IsAtEnd, Keeps, result_map_both, length-append, ended_by, Fault, Flush, Read, TooMany, HasNoEnd, IsLong, IsRecord, IsStop, Reads, stop_result, stop_text, IsHalt, Stop, quotes_in, Ended, Endless, Failed, Unflushed, Unread, after_byte, after_text, fold-append, is_inside, line_reached, next_line, PassesLong, ReceivesBytes, SendsBytes, Writer, by_writer, failed_by, failed_writer, Within, record_start, Rules, ended_once, ends_with, append-nil, ◌==◌, get_or, if◌then◌else◌}
+use Rattle.std.proofs.lemmas.Bool.{lt-ltb}
+use Rattle.std.proofs.lemmas.List.{get_or-append-add}
 use Rattle.regroup_lines.proofs.InputLemmas.{Reads-more, Reads-none}
 use Rattle.regroup_lines.proofs.RecordLemmas.{end-append, reached-append}
 use Rattle.regroup_lines.proofs.WriterLemmas.{ReceivesBytes-after, received-kept}
 
 -- so many pieces of a record were sent: no byte is held that was not
-pub record SentLong (rules : Rules) (n0 n1 : ℕ) (within : Within) (begun : List ℕ) (r0 r1 : Option (List ℕ)) (c0 c1 : Option (List ℕ) → Writer → Option (List ℕ)) (count : ℕ) (held : List ℕ) : Type 0 where
+pub record SentLong (rules : Rules) (n0 n1 : ℕ) (within : Within) (is_ended : Bool) (begun : List ℕ) (r0 r1 : Option (List ℕ)) (c0 c1 : Option (List ℕ) → Writer → Option (List ℕ)) (count : ℕ) (held : List ℕ) : Type 0 where
   pub text : List ℕ
   pub read : Reads begun text r0 r1
   pub is : IsLong rules n0 text
@@ -14,10 +16,26 @@ pub record SentLong (rules : Rules) (n0 n1 : ℕ) (within : Within) (begun : Lis
   pub none : held ≡ []
   pub after : within ≡ after_text (quotes_in rules.span) (record_start n0) text
   pub reached : n1 ≡ line_reached (quotes_in rules.span) rules.line_end n0 text
+  pub ended : is_ended ≡ ends_with rules.line_end false text
 
-stop_text-append : (e : ℕ) (stop : Stop) (xs ys : List ℕ) → xs ++ stop_text e stop ys ≡ stop_text e stop (xs ++ ys)
-stop_text-append e Ended xs ys = sym (append_assoc xs ys (e ∷ []))
-stop_text-append e stop xs ys = refl
+-- whether a text ends with a byte, by whether its beginning does
+ends-some : (e : ℕ) (before : Bool) (text : List ℕ) → 0 < length text → ends_with e before text ≡ (get_or text (length text - 1) 0 == e)
+ends-some e before text some = rw (lt-ltb _ _ some) refl
+
+ends-append : (e : ℕ) (before : Bool) (xs ys : List ℕ) → ends_with e (ends_with e before xs) ys ≡ ends_with e before (xs ++ ys)
+ends-append e before xs [] = ap (ends_with e before) (sym (append-nil xs))
+ends-append e before xs (y ∷ ys) =
+    let last : length (xs ++ y ∷ ys) - 1 ≡ length xs + (length (y ∷ ys) - 1) = omega (arith, length-append xs (y ∷ ys)) in
+    ends-some e (ends_with e before xs) (y ∷ ys) (omega arith)
+    ∙ ap (λ b. b == e) (sym (ap (λ n. get_or (xs ++ y ∷ ys) n 0) last ∙ get_or-append-add xs (y ∷ ys) (length (y ∷ ys) - 1) 0))
+    ∙ sym (ends-some e before (xs ++ y ∷ ys) (omega (arith, length-append xs (y ∷ ys))))
+
+once-append : (e : ℕ) (xs ys : List ℕ) → xs ++ ended_once e (ends_with e false xs) ys ≡ ended_once e false (xs ++ ys)
+once-append e xs ys = by (ends_with e (ends_with e false xs) ys) ∙ ap (λ (b : Bool). if b then xs ++ ys else ended_by e (xs ++ ys)) (ends-append e false xs ys)
+  where
+    by : (ends : Bool) → xs ++ (if ends then ys else ended_by e ys) ≡ (if ends then xs ++ ys else ended_by e (xs ++ ys))
+    by true = refl
+    by false = sym (append_assoc xs ys (e ∷ []))
 
 -- a failed write is no other result
 unsent : {A : Type 0} (fault : Fault) → is_some (failed_writer fault) ≡ true → failed_writer fault ≡ None → A
@@ -29,7 +47,7 @@ module _ (rules : Rules) (n0 n2 : ℕ) (begun : List ℕ) (r0 : Option (List ℕ
   PassesLong-first left fault long sends = PassesLong.to_stop Unread begun (Reads-none begun r0) long tt sends.1 (unsent fault sends.0)
 
   -- the next piece, where the writer was flushed
-  module _ (n1 : ℕ) (within : Within) (holds : List ℕ) (r1 r2 s s1 x : Option (List ℕ)) (count : ℕ) (so_far : SentLong rules n0 n1 within begun r0 r1 c0 (λ told. by_writer s told x) count holds) (kept : Keeps s s1) where
+  module _ (n1 : ℕ) (within : Within) (is_ended : Bool) (holds : List ℕ) (r1 r2 s s1 x : Option (List ℕ)) (count : ℕ) (so_far : SentLong rules n0 n1 within is_ended begun r0 r1 c0 (λ told. by_writer s told x) count holds) (kept : Keeps s s1) where
     abbrev q : Option ℕ
     q = quotes_in rules.span
 
@@ -64,9 +82,9 @@ module _ (rules : Rules) (n0 n2 : ℕ) (begun : List ℕ) (r0 : Option (List ℕ
         long = let long = so_far.is.long in omega (arith, long, length-append so_far.text text);
       }
 
-      pub SentLong-next : Reads holds text r1 r2 → HasNoEnd q e within text → (left : List ℕ) (within2 : Within) → 0 < length text → ReceivesBytes rules.rejects None c1 c2 text → left ≡ [] → within2 ≡ after_text q within text →
-          n2 ≡ line_reached q e n1 text → SentLong rules n0 n2 within2 begun r0 r2 c0 c2 (count + 1) left
-      SentLong-next read none left within2 some sent empty is reached = record {
+      pub SentLong-next : Reads holds text r1 r2 → HasNoEnd q e within text → (left : List ℕ) (within2 : Within) (is_ended2 : Bool) → 0 < length text → ReceivesBytes rules.rejects None c1 c2 text → left ≡ [] → within2 ≡ after_text q within text →
+          n2 ≡ line_reached q e n1 text → is_ended2 ≡ ends_with e is_ended text → SentLong rules n0 n2 within2 is_ended2 begun r0 r2 c0 c2 (count + 1) left
+      SentLong-next read none left within2 is_ended2 some sent empty is reached ends = record {
         text = whole;
         read = more text read;
         is = longer none;
@@ -75,27 +93,31 @@ module _ (rules : Rules) (n0 n2 : ℕ) (begun : List ℕ) (r0 : Option (List ℕ
         none = empty;
         after = is ∙ after_more;
         reached = reached ∙ reached_more;
+        ended = ends ∙ ap (λ b. ends_with e b text) so_far.ended ∙ ends-append e false so_far.text text;
       }
+
+      once : so_far.text ++ ended_once e is_ended text ≡ ended_once e false whole
+      once = ap (λ b. so_far.text ++ ended_once e b text) so_far.ended ∙ once-append e so_far.text text
 
       -- where the reader stopped in it
       module _ (read : Reads holds text r1 r2) (none : HasNoEnd q e within text) (left : List ℕ) where
-        to-stop : (stop : Stop) → IsStop rules.flushes stop whole r2 → (result : Result Bool Fault) → ReceivesBytes rules.rejects (failed_by result) c1 c2 (stop_text e stop text) → (failed_by result ≡ None → stop_result stop ≡ Some result) →
+        to-stop : (stop : Stop) (sent_last : List ℕ) → so_far.text ++ sent_last ≡ stop_text e stop whole → IsStop rules.flushes stop whole r2 → (result : Result Bool Fault) → ReceivesBytes rules.rejects (failed_by result) c1 c2 sent_last → (failed_by result ≡ None → stop_result stop ≡ Some result) →
             PassesLong rules n0 n2 begun left r0 r2 c0 c2 result
-        to-stop stop known result sent returned =
+        to-stop stop sent_last same known result sent returned =
             PassesLong.to_stop stop whole (more text read) (longer none) known
-            (subst (ReceivesBytes rules.rejects (failed_by result) c0 c2) (stop_text-append e stop so_far.text text) (sent_more (failed_by result) (stop_text e stop text) sent)) returned
+            (subst (ReceivesBytes rules.rejects (failed_by result) c0 c2) same (sent_more (failed_by result) sent_last sent)) returned
 
         pub PassesLong-unsent : (fault : Fault) → SendsBytes {T = Unit {0}} rules.rejects c1 c2 text (Err fault) → PassesLong rules n0 n2 begun left r0 r2 c0 c2 (Err fault)
-        PassesLong-unsent fault sends = to-stop Unread tt (Err fault) sends.1 (unsent fault sends.0)
+        PassesLong-unsent fault sends = to-stop Unread text refl tt (Err fault) sends.1 (unsent fault sends.0)
 
         pub PassesLong-halted : (fault : Fault) → IsHalt rules.flushes fault → ReceivesBytes rules.rejects None c1 c2 text → PassesLong rules n0 n2 begun left r0 r2 c0 c2 (Err fault)
-        PassesLong-halted Read is sent = to-stop Failed tt (Err Read) sent (λ none. refl)
-        PassesLong-halted Flush is sent = to-stop Unflushed is (Err Flush) sent (λ none. refl)
+        PassesLong-halted Read is sent = to-stop Failed text refl tt (Err Read) sent (λ none. refl)
+        PassesLong-halted Flush is sent = to-stop Unflushed text refl is (Err Flush) sent (λ none. refl)
         PassesLong-halted fault is sent = absurd is
 
-        pub PassesLong-rest : IsAtEnd r2 → (sent : Result (Unit {0}) Fault) → SendsBytes rules.rejects c1 c2 (ended_by e text) sent → PassesLong rules n0 n2 begun left r0 r2 c0 c2 (result_map_both (λ done. true) (λ fault. fault) sent)
-        PassesLong-rest end (Ok done) sends = to-stop Ended end (Ok true) sends (λ none. refl)
-        PassesLong-rest end (Err fault) sends = to-stop Ended end (Err fault) sends.1 (unsent fault sends.0)
+        pub PassesLong-rest : IsAtEnd r2 → (sent : Result (Unit {0}) Fault) → SendsBytes rules.rejects c1 c2 (ended_once e is_ended text) sent → PassesLong rules n0 n2 begun left r0 r2 c0 c2 (result_map_both (λ done. true) (λ fault. fault) sent)
+        PassesLong-rest end (Ok done) sends = to-stop Ended _ once end (Ok true) sends (λ none. refl)
+        PassesLong-rest end (Err fault) sends = to-stop Ended _ once end (Err fault) sends.1 (unsent fault sends.0)
 
       -- the byte that ends it
       module _ (left : List ℕ) (read : Reads holds (text ++ e ∷ left) r1 r2) (is : IsRecord q e within text) where
@@ -112,7 +134,7 @@ module _ (rules : Rules) (n0 n2 : ℕ) (begun : List ℕ) (r0 : Option (List ℕ
         PassesLong-line (Err fault) sends number = to-end (Err fault) sends.1 (unsent fault sends.0)
 
   -- where enough was read
-  pub PassesLong-endless : (n1 : ℕ) (within : Within) (holds : List ℕ) (r1 : Option (List ℕ)) (count : ℕ) (left : List ℕ) → SentLong rules n0 n1 within begun r0 r1 c0 c2 count holds → 2 ^ 64 - 1 ≤ count →
+  pub PassesLong-endless : (n1 : ℕ) (within : Within) (is_ended : Bool) (holds : List ℕ) (r1 : Option (List ℕ)) (count : ℕ) (left : List ℕ) → SentLong rules n0 n1 within is_ended begun r0 r1 c0 c2 count holds → 2 ^ 64 - 1 ≤ count →
       PassesLong rules n0 n2 begun left r0 r1 c0 c2 (Err TooMany)
-  PassesLong-endless n1 within holds r1 count left so_far enough =
+  PassesLong-endless n1 within is_ended holds r1 count left so_far enough =
       PassesLong.to_stop Endless so_far.text so_far.read so_far.is (let some = so_far.some in omega (arith, some, enough)) so_far.sent (λ none. refl)

@@ -1,5 +1,5 @@
 -- What the lines of an input give that were sent, and how that ends.
-use Rattle.regroup_lines.proofs.Common.{◌≡◌, ℕ, ◌+◌, ◌<◌, ◌≤◌, ◌==◌, Bool, true, false, List, [], ◌∷◌, ◌++◌, length, Option, Some, None, Result, Ok, Err, refl, sym, ap, subst, ◌∙◌, arith, append_assoc, append-nil, ◌-◌, ◌^◌, ◌||◌, is_some, take, Appends, Consumes, IsAtEnd, Keeps, Range, Consumes-kept, Consumes-nil, Consumes-trans, length-append, FormatData, StopsWithin, ended_by, Fault, are_any, Flush, Read, Report, TooLong, TooMany, Unclosed, IsHalt, EndsOrGoesOn, FindsPiece, HasNoEnd, IsLong, IsRecord, IsStop, Reads, array_len, bytes_at, held, stop_result, stop_text, Regrouped, Sent, Stop, fault_named, line_after, long_fault, only_written, passed, passes, quotes_in, record_sent, regrouped, regrouped_after, returning, sending, sending_line, text_sent, Ended, Failed, Unflushed, Unread, messages, is_open, Names, PassesLong, Receives, ReceivesBytes, ReceivesEach, RegroupsNaming, Returns, SendsEach, Writer, by_writer, failed_by, failed_writer, text_to, Summary, Input, Piece, Rules, record_start}
+use Rattle.regroup_lines.proofs.Common.{◌≡◌, ℕ, ◌+◌, ◌<◌, ◌≤◌, ◌==◌, Bool, true, false, List, [], ◌∷◌, ◌++◌, length, Option, Some, None, Result, Ok, Err, refl, sym, ap, subst, ◌∙◌, arith, append_assoc, append-nil, ◌-◌, ◌^◌, ◌||◌, is_some, take, Appends, Consumes, IsAtEnd, Keeps, Range, Consumes-kept, Consumes-nil, Consumes-trans, length-append, FormatData, StopsWithin, ended_by, Fault, are_any, Flush, Read, Report, TooLong, TooMany, Unclosed, IsHalt, EndsOrGoesOn, FindsPiece, HasNoEnd, IsLong, IsRecord, IsStop, Reads, array_len, bytes_at, held, stop_result, stop_text, Regrouped, Sent, Stop, fault_named, line_after, long_fault, only_written, passed, passes, quotes_in, record_sent, regrouped, regrouped_after, returning, sending, sending_line, text_sent, Ended, Failed, Unflushed, Unread, messages, is_open, Names, PassesLong, Receives, ReceivesBytes, ReceivesEach, RegroupsNaming, Returns, SendsEach, Writer, by_writer, failed_by, failed_writer, text_to, Summary, Input, Piece, Rules, record_start, ended_once}
 use Rattle.regroup_lines.specs.declared.input.Piece.TheVariants as piece
 use Rattle.regroup_lines.proofs.ChoiceLemmas.{either}
 use Rattle.regroup_lines.proofs.LineLemmas.{after-many, last_returned, line-next, long-next, long-stopped, long_fault-begun, long_fault-front, rest-empty, rest-halted, rest-line, rest-long}
@@ -324,8 +324,8 @@ module _ (rules : Rules) (name : List ℕ) (most : ℕ) (from to : FormatData) (
           pub Regroups-long_ended : (ended : Bool) → ended ≡ true → Passes (Ok ended) → Naming r3 (of t2) (Ok (record { lines = count + 1; has_faults = has || told }))
           Regroups-long_ended ended is (PassesLong.to_end bytes read long closed sent returned) = let so = (returned refl).0 in absurd (cc)
           Regroups-long_ended ended is (PassesLong.to_stop Ended bytes read long known sent returned) =
-              long_stops Ended bytes r3 read long known (of t2) (Ok (record { lines = count + 1; has_faults = has || told })) (refl, any_last has told (long_sent (ended_by rules.line_end bytes)) any)
-              (receives None (ended_by rules.line_end bytes) sent)
+              long_stops Ended bytes r3 read long known (of t2) (Ok (record { lines = count + 1; has_faults = has || told })) (refl, any_last has told (long_sent (ended_once rules.line_end false bytes)) any)
+              (receives None (ended_once rules.line_end false bytes) sent)
           Regroups-long_ended ended is (PassesLong.to_stop stop bytes read long known sent returned) = let so = returned refl in absurd (cc)
 
           returned_so : (fault : Fault) (stop : Stop) → (failed_writer fault ≡ None → stop_result stop ≡ Some (Err fault)) → failed_writer fault ≡ None → last_returned count stop ≡ Some (Err fault)

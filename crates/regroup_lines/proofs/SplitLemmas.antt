@@ -1,5 +1,5 @@
 -- An input that is split after a byte that ends a line: the output of each part.
-use Rattle.regroup_lines.proofs.Common.{Bool, Ended, Err, Fault, FormatData, List, MARK, Ok, Regrouped, Result, Rules, Sent, Some, Span, Start, TooMany, Unclosed, [], ap, append_assoc, are_any, arith, begins_with_mark, body_sent, body_written, both_ways, ended_by, eq-eqb, eqb-true, false, false_from_ne_true, fault_named, fault_sent, if◌then◌else◌, is_open, join_with_byte, joined, le-ltb, length, length-take, line_after, line_sent, long_fault, lt-leb, ltb-false, nat_eq, nat_le, nat_lt, only_written, passed, passes, passes_mark, quotes_in, refl, regrouped, regrouped_parts, returning, sending_line, split_at, subst, sym, take, take-append-le, text_sent, true, without_end, ℕ, ⊤, ◌&&◌, ◌++◌, ◌+◌, ◌<◌, ◌==◌, ◌||◌, ◌∙◌, ◌∷◌, ◌≡◌, ◌≤◌}
+use Rattle.regroup_lines.proofs.Common.{Bool, Ended, Err, Fault, FormatData, List, MARK, Ok, Regrouped, Result, Rules, Sent, Some, Span, Start, TooMany, Unclosed, [], ap, append_assoc, are_any, arith, begins_with_mark, body_sent, body_written, both_ways, ended_by, eq-eqb, eqb-true, false, false_from_ne_true, fault_named, fault_sent, if◌then◌else◌, is_open, join_with_byte, joined, le-ltb, length, length-take, line_after, line_sent, long_fault, lt-leb, ltb-false, nat_eq, nat_le, nat_lt, only_written, passed, passes, passes_mark, quotes_in, refl, regrouped, regrouped_parts, returning, sending_line, split_at, subst, sym, take, take-append-le, text_sent, true, ℕ, ⊤, ◌&&◌, ◌++◌, ◌+◌, ◌<◌, ◌==◌, ◌||◌, ◌∙◌, ◌∷◌, ◌≡◌, ◌≤◌, ended_once}
 use lib.Pointwise.{pointwise, pointwise_long}
 use Rattle.regroup_lines.specs.Laws.{SplitLaw, SplitsInto}
 use Rattle.regroup_lines.specs.declared.records.Within.TheVariants.{Mark}
@@ -156,17 +156,17 @@ module _ (rules : Rules) (most : ℕ) (from to : FormatData) where
   run : ℕ → ℕ → List (List ℕ) → Regrouped
   run count number parts = regrouped_parts rules most from to Ended count number parts
 
-  at_line : ℕ → ℕ → List ℕ → Result Sent Fault
-  at_line count number text = line_sent rules most from to count number text
+  at_line : ℕ → ℕ → (ended : List ℕ) → List ℕ → Result Sent Fault
+  at_line count number ended text = line_sent rules most from to count number ended text
 
-  line-same : (none : rules.header_lines ≡ 0) (n k p q : ℕ) (text : List ℕ) → k ≤ n → q ≤ p → 0 < q → (q ≡ 1 → begins_with_mark text ≡ false) → SameLine (at_line n p text) (at_line k q text)
+  line-same : (none : rules.header_lines ≡ 0) (n k p q : ℕ) (ended text : List ℕ) → k ≤ n → q ≤ p → 0 < q → (q ≡ 1 → begins_with_mark text ≡ false) → SameLine (at_line n p ended text) (at_line k q ended text)
   unfolding at_line
-  line-same none n k p q text fewer_lines below some plain =
+  line-same none n k p q ended text fewer_lines below some plain =
       let opens : is_open (quotes_in rules.span) p text ≡ is_open (quotes_in rules.span) q text =
       open-plain (quotes_in rules.span) p text (λ one. plain (omega (arith, one, below, some))) ∙ sym (open-plain (quotes_in rules.span) q text plain) in
       many-case rules from to p q most (n + 1) (k + 1) (nat_lt most (n + 1)) _ _ refl (fewer most (n + 1) (k + 1) (omega (arith, fewer_lines)))
-      (faulty-same rules from to p q (nat_lt rules.max_line_len (length text)) (long_fault rules p text) (long_fault rules q text) (ended_by rules.line_end text) _ _
-      (rw opens (faulty-same rules from to p q (is_open (quotes_in rules.span) q text) (Unclosed p) (Unclosed q) (ended_by rules.line_end (without_end rules.line_end text)) _ _
+      (faulty-same rules from to p q (nat_lt rules.max_line_len (length text)) (long_fault rules p text) (long_fault rules q text) ended _ _
+      (rw opens (faulty-same rules from to p q (is_open (quotes_in rules.span) q text) (Unclosed p) (Unclosed q) (ended_once rules.line_end false text) _ _
       (text-same rules from to p q text (past-header p rules.header_lines none (omega (arith, some, below)) ∙ sym (past-header q rules.header_lines none some))
       (same-mark rules.span p q text below some plain)))))
 
@@ -175,17 +175,17 @@ module _ (rules : Rules) (most : ℕ) (from to : FormatData) where
   unfolding run at_line
   shifts none n k p q before total [] sum below some plain is = absurd (cc)
   shifts none n k p q before total (rest ∷ []) sum below some plain is =
-      rest-shifts (length rest == 0) n k before total (at_line n p rest) (at_line k q rest) sum (line-same none n k p q rest (omega (arith, sum)) below some plain) is
+      rest-shifts (length rest == 0) n k before total (at_line n p (ended_once rules.line_end false rest) rest) (at_line k q (ended_once rules.line_end false rest) rest) sum (line-same none n k p q (ended_once rules.line_end false rest) rest (omega (arith, sum)) below some plain) is
   shifts none n k p q before total (text ∷ next ∷ parts) sum below some plain is =
-      shift-line (at_line n p text) (at_line k q text) (run (n + 1) (line_after rules p text) (next ∷ parts)) (run (k + 1) (line_after rules q text) (next ∷ parts)) before total
-      (line-same none n k p q text (omega (arith, sum)) below some plain) is
+      shift-line (at_line n p (ended_by rules.line_end text) text) (at_line k q (ended_by rules.line_end text) text) (run (n + 1) (line_after rules p text) (next ∷ parts)) (run (k + 1) (line_after rules q text) (next ∷ parts)) before total
+      (line-same none n k p q (ended_by rules.line_end text) text (omega (arith, sum)) below some plain) is
       (λ after. shifts none (n + 1) (k + 1) (line_after rules p text) (line_after rules q text) before total (next ∷ parts) (omega (arith, sum)) (omega (arith, below)) (omega arith)
       (λ one. absurd (omega (arith, one, some))) after)
 
   -- a line before others
   run-line : (n p : ℕ) (text : List ℕ) (texts : List (List ℕ)) (next : List ℕ) (parts : List (List ℕ)) →
       run n p (text ∷ (texts ++ next ∷ parts))
-      ≡ sending_line (at_line n p text) (run (n + 1) (line_after rules p text) (texts ++ next ∷ parts))
+      ≡ sending_line (at_line n p (ended_by rules.line_end text) text) (run (n + 1) (line_after rules p text) (texts ++ next ∷ parts))
   unfolding run at_line
   run-line n p text [] next parts = refl
   run-line n p text (other ∷ texts) next parts = refl
@@ -206,7 +206,7 @@ module _ (rules : Rules) (most : ℕ) (from to : FormatData) where
   splits none n p middle total (text ∷ texts) next parts sum some plain is =
       let whole = run-line n p text texts next parts in
       let alone = run-line n p text texts [] [] in
-      rw (whole, alone) (split-line (at_line n p text) (run (n + 1) (line_after rules p text) (texts ++ next ∷ parts)) (run (n + 1) (line_after rules p text) (texts ++ [] ∷ [])) (run 0 1 (next ∷ parts)) middle total
+      rw (whole, alone) (split-line (at_line n p (ended_by rules.line_end text) text) (run (n + 1) (line_after rules p text) (texts ++ next ∷ parts)) (run (n + 1) (line_after rules p text) (texts ++ [] ∷ [])) (run 0 1 (next ∷ parts)) middle total
       (ap (λ r. r.returned) (sym whole) ∙ is) (λ after. splits none (n + 1) (line_after rules p text) middle total texts next parts (omega (arith, sum)) (omega arith) plain after))
 
   both : (none : rules.header_lines ≡ 0) (texts parts : List (List ℕ)) (total : ℕ) → 0 < length parts → IsPlain parts →

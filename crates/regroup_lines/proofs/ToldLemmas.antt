@@ -1,6 +1,5 @@
 -- What is sent of one line and told of it.
-use Rattle.regroup_lines.proofs.Common.{◌≡◌, ◌≢◌, ◌∙◌, ◌++◌, Decides-ltb, eqb-true, ◌+◌, ◌-◌, ◌==◌, ◌&&◌, ◌∷◌, arith, if◌then◌else◌, length, length-append, nat_lt, take, take_all, take_at, ℕ, Bool, true, false, List, [], Option, None, Some, Result, Ok, Err, refl, sym, ap, subst, Appends, result_map_both, result_or, is_utf8, Appends-nil, FormatData, Sends, StopsWithin, ended_by, without_end, Fault, are_any, in_field, Line, NotText, Report, Unclosed, Write, line_fault_of, Sent, body_sent, body_written, fault_named, fault_sent, only_written, passed, passes, quotes_in, record_sent, text_sent, messages, is_open, Names, SendsBytes, bytes_to, SendsEach, SendsLine, Writer, by_writer, failed_writer, text_to, Output, Rejects, LineFault, Rules}
-use Rattle.regroup_lines.specs.Ended.{len_without}
+use Rattle.regroup_lines.proofs.Common.{◌≡◌, ◌≢◌, ◌∙◌, ◌++◌, Decides-ltb, eqb-true, ◌+◌, ◌-◌, ◌==◌, ◌&&◌, ◌∷◌, arith, if◌then◌else◌, length, length-append, nat_lt, take, take_all, take_at, ℕ, Bool, true, false, List, [], Option, None, Some, Result, Ok, Err, refl, sym, ap, subst, Appends, result_map_both, result_or, is_utf8, Appends-nil, FormatData, Sends, StopsWithin, ended_by, Fault, are_any, in_field, Line, NotText, Report, Unclosed, Write, line_fault_of, Sent, body_sent, body_written, fault_named, fault_sent, only_written, passed, passes, quotes_in, record_sent, text_sent, messages, is_open, Names, SendsBytes, bytes_to, SendsEach, SendsLine, Writer, by_writer, failed_writer, text_to, Output, Rejects, LineFault, Rules, ended_once}
 use Rattle.std.specs.List.{slice_index}
 use Rattle.std.proofs.lemmas.Bool.{and_parts}
 use Rattle.std.proofs.lemmas.List.{take_more}
@@ -97,7 +96,7 @@ module _ (rules : Rules) (from to : FormatData) (number : ℕ) (text : List ℕ)
   pub closed-record : is_open (quotes_in rules.span) number text ≡ false → record_sent rules from to number text ≡ text_sent rules from to number text
   closed-record closed = rw closed refl
 
-  pub open-record : is_open (quotes_in rules.span) number text ≡ true → record_sent rules from to number text ≡ fault_sent rules (Unclosed number) (ended_by rules.line_end (without_end rules.line_end text))
+  pub open-record : is_open (quotes_in rules.span) number text ≡ true → record_sent rules from to number text ≡ fault_sent rules (Unclosed number) (ended_once rules.line_end false text)
   open-record unclosed = rw unclosed refl
 
   -- by what is written in place of it
@@ -119,18 +118,3 @@ module _ (rules : Rules) (from to : FormatData) (number : ℕ) (text : List ℕ)
         SendsEach name rules.reading from (fault_sent rules (line_fault_of f) (ended_by rules.line_end text)) (by_writer b d x) c result → Sends_text c result
     text-passed f other is c result passed =
         body-passed rules name from a b d x text (body_written rules from to number text) (line_fault_of f) c result (other_fault f other) (sends_as (Err f) is) passed
-
--- a text that ends with the byte that ends lines is one with it
-pub ended-without : (e : ℕ) (text : List ℕ) → take (len_without e text + 1) (ended_by e text) ≡ ended_by e (without_end e text)
-ended-without e text = by (nat_lt 0 (length text) && (slice_index text (length text - 1) == e)) refl
-  where
-    by : (ends : Bool) → (nat_lt 0 (length text) && (slice_index text (length text - 1) == e)) ≡ ends →
-        take ((if ends then length text - 1 else length text) + 1) (ended_by e text) ≡ ended_by e (take (if ends then length text - 1 else length text) text)
-    by true is =
-        let parts = and_parts _ _ is in
-        let some = (Decides-ltb 0 (length text)).0 parts.0 in
-        let last : length text - 1 + 1 ≡ length text = omega (arith, some) in
-        ap (λ n. take n (ended_by e text)) last ∙ take_at text (e ∷ []) (length text) refl
-        ∙ sym (take_all (length text) text (omega arith)) ∙ sym (ap (λ n. take n text) last) ∙ take_more text (length text - 1) 0 (omega (arith, some))
-        ∙ ap (λ b. take (length text - 1) text ++ b ∷ []) (eqb-true _ e parts.1)
-    by false is = take_all (length text + 1) (ended_by e text) (omega (arith, length-append text (e ∷ []))) ∙ ap (ended_by e) (sym (take_all (length text) text (omega arith)))

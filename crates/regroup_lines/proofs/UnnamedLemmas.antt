@@ -1,5 +1,5 @@
 -- What regrouping returns where it names no fault.
-use Rattle.regroup_lines.proofs.Common.{◌≡◌, ◌≢◌, ℕ, ◌+◌, ◌==◌, false, List, [], ◌∷◌, length, Option, Some, Result, Ok, Err, refl, sym, ap, subst, arith, nat_lt, ⊤, result_map_both, Appends, length-append, FormatData, StopsWithin, ended_by, without_end, Fault, Reject, Report, TooMany, Unclosed, Write, Regrouped, Sent, Stop, body_sent, body_written, fault_sent, line_after, line_begun, line_sent, long_fault, long_returned, only_written, passes, quotes_in, records_of, regrouped, regrouped_parts, regrouped_rest, returning, sending_line, stop_returned, Ended, is_open, Receives, Regroups, RegroupsNaming, Returns, Writer, failed_by, text_to, Messages, Output, Rejects, Summary, Rules}
+use Rattle.regroup_lines.proofs.Common.{◌≡◌, ◌≢◌, ℕ, ◌+◌, ◌==◌, false, List, [], ◌∷◌, length, Option, Some, Result, Ok, Err, refl, sym, ap, subst, arith, nat_lt, ⊤, result_map_both, Appends, length-append, FormatData, StopsWithin, ended_by, Fault, Reject, Report, TooMany, Unclosed, Write, Regrouped, Sent, Stop, body_sent, body_written, fault_sent, line_after, line_begun, line_sent, long_fault, long_returned, only_written, passes, quotes_in, records_of, regrouped, regrouped_parts, regrouped_rest, returning, sending_line, stop_returned, Ended, is_open, Receives, Regroups, RegroupsNaming, Returns, Writer, failed_by, text_to, Messages, Output, Rejects, Summary, Rules, ended_once}
 use Rattle.regroup_lines.proofs.ChoiceLemmas.{either}
 use Rattle.regroup_lines.proofs.LineLemmas.{aborts-fault}
 
@@ -23,11 +23,11 @@ module _ (rules : Rules) (aborts : passes rules.invalid ≡ false) (most : ℕ) 
   body-unnamed text (Ok written) = refl
   body-unnamed text (Err fault) = fault-unnamed fault (ended_by rules.line_end text)
 
-  line-unnamed : (count number : ℕ) (text : List ℕ) → IsUnnamed (line_sent rules most from to count number text)
-  line-unnamed count number text =
+  line-unnamed : (count number : ℕ) (ended text : List ℕ) → IsUnnamed (line_sent rules most from to count number ended text)
+  line-unnamed count number ended text =
       either IsUnnamed (nat_lt most (count + 1)) (Err TooMany) _ tt
-      (either IsUnnamed (nat_lt rules.max_line_len (length text)) _ _ (fault-unnamed (long_fault rules number text) (ended_by rules.line_end text))
-      (either IsUnnamed (is_open (quotes_in rules.span) number text) _ _ (fault-unnamed (Unclosed number) (ended_by rules.line_end (without_end rules.line_end text)))
+      (either IsUnnamed (nat_lt rules.max_line_len (length text)) _ _ (fault-unnamed (long_fault rules number text) ended)
+      (either IsUnnamed (is_open (quotes_in rules.span) number text) _ _ (fault-unnamed (Unclosed number) (ended_once rules.line_end false text))
       (body-unnamed text (body_written rules from to number text))))
 
   sending-unnamed : (line : Result Sent Fault) (rest : Regrouped) → IsUnnamed line → IsBare rest.sent → IsBare (sending_line line rest).sent
@@ -43,14 +43,14 @@ module _ (rules : Rules) (aborts : passes rules.invalid ≡ false) (most : ℕ) 
 
   rest-unnamed : (stop : Stop) (count number : ℕ) (text : List ℕ) → IsBare (regrouped_rest rules most from to stop count number text).sent
   rest-unnamed Ended count number text =
-      either IsRunBare (length text == 0) (returning (Some (Ok count))) _ refl (sending-unnamed (line_sent rules most from to count number text) _ (line-unnamed count number text) refl)
+      either IsRunBare (length text == 0) (returning (Some (Ok count))) _ refl (sending-unnamed (line_sent rules most from to count number (ended_once rules.line_end false text) text) _ (line-unnamed count number _ text) refl)
   rest-unnamed stop count number text = line_begun-unnamed stop count number text
 
   parts-unnamed : (stop : Stop) (count number : ℕ) (parts : List (List ℕ)) → IsBare (regrouped_parts rules most from to stop count number parts).sent
   parts-unnamed stop count number [] = refl
   parts-unnamed stop count number (rest ∷ []) = rest-unnamed stop count number rest
   parts-unnamed stop count number (text ∷ next ∷ parts) =
-      sending-unnamed (line_sent rules most from to count number text) _ (line-unnamed count number text) (parts-unnamed stop (count + 1) (line_after rules number text) (next ∷ parts))
+      sending-unnamed (line_sent rules most from to count number (ended_by rules.line_end text) text) _ (line-unnamed count number _ text) (parts-unnamed stop (count + 1) (line_after rules number text) (next ∷ parts))
 
 -- no writer stops within no text
 stops_nowhere : (a b : Option (List ℕ)) → StopsWithin a b [] → ⊥

@@ -2,7 +2,7 @@
 use Rattle.std.specs.Prelude.{◌≡◌, ℕ, ◌+◌, ◌<◌, ◌≤◌, Bool, true, false, List, [], ◌∷◌, ◌++◌, length, slice_range, Option, None, Some, Result, Ok, Err, ⊤, ◌^◌, ◌-◌}
 use Rattle.std.specs.Io.KnownBytes.{Consumes, IsAtEnd}
 use Rattle.std.specs.declared.ops.Range.{Range}
-use Rattle.regroup_lines.specs.Ended.{ended_by}
+use Rattle.regroup_lines.specs.Ended.{ended_by, ended_once}
 use Rattle.regroup_faults.specs.Fault.{Fault}
 use Rattle.regroup_faults.specs.Fault.Fault.{Flush, Read, TooMany}
 use Rattle.regroup_lines.specs.Lines.{Stop, quotes_in}
@@ -82,9 +82,9 @@ IsStop flushes Unflushed given left = flushes ≡ true
 IsStop flushes Endless given left = 2 ^ 64 - 1 ≤ length given
 IsStop flushes stop given left = ⊤
 
--- what is sent of such a record where the reader stopped so in it: at the end of the input the byte that ends it too
+-- what is sent of such a record where the reader stopped so in it: at the end of the input the byte that ends it too, if it is not the last one
 abbrev pub stop_text : (line_end : ℕ) → Stop → List ℕ → List ℕ
-stop_text line_end Ended text = ended_by line_end text
+stop_text line_end Ended text = ended_once line_end false text
 stop_text line_end stop text = text
 
 -- what is returned there: that the input ended, or why no more was read

@@ -12,7 +12,7 @@ use Rattle.num_format.specs.Text.{text_of}
 use Rattle.num_format_decimal.specs.FixedPoint.{FixedPoint}
 use Rattle.num_format_decimal.specs.Text.{decimal_text}
 use Rattle.num_format.specs.Readable.{number_read}
-use Rattle.regroup_lines.specs.Ended.{ended_by, without_end}
+use Rattle.regroup_lines.specs.Ended.{ended_by, ended_once}
 use Rattle.regroup_lines.specs.Csv.{field_with, is_barred, number_place, output_delimiter}
 use Rattle.regroup_faults.specs.Decimals.{decimal_read, typed_read}
 use Rattle.regroup_faults.specs.Fault.{Fault, in_field}
@@ -225,18 +225,18 @@ lenient = record { span = span.Line; reading = Lenient; header_lines = 0; passes
 -- ends lines
 abbrev pub record_sent : Rules → FormatData → FormatData → ℕ → List ℕ → Result Sent Fault
 record_sent rules from to number text =
-    if is_open (quotes_in rules.span) number text then fault_sent rules (Unclosed number) (ended_by rules.line_end (without_end rules.line_end text)) else text_sent rules from to number text
+    if is_open (quotes_in rules.span) number text then fault_sent rules (Unclosed number) (ended_once rules.line_end false text) else text_sent rules from to number text
 
 -- the fault of a line or a record that is too long: quotes that its first bytes do not close
 abbrev pub long_fault : Rules → ℕ → List ℕ → Fault
 long_fault rules number text = if is_open (quotes_in rules.span) number (take (rules.max_line_len + 1) text) then Unclosed number else TooLong number rules.max_line_len
 
 -- what is sent of the record that so many are before, and that begins in the line of this number, or its first fault: it may be one too many,
--- or too long
-abbrev pub line_sent : Rules → (most : ℕ) → FormatData → FormatData → (count number : ℕ) → List ℕ → Result Sent Fault
-line_sent rules most from to count number text =
+-- or too long, of which these bytes are sent
+abbrev pub line_sent : Rules → (most : ℕ) → FormatData → FormatData → (count number : ℕ) → (ended : List ℕ) → List ℕ → Result Sent Fault
+line_sent rules most from to count number ended text =
     if nat_lt most (count + 1) then Err TooMany else
-    if nat_lt rules.max_line_len (length text) then fault_sent rules (long_fault rules number text) (ended_by rules.line_end text) else record_sent rules from to number text
+    if nat_lt rules.max_line_len (length text) then fault_sent rules (long_fault rules number text) ended else record_sent rules from to number text
 
 -- what a stop returns in a record that is not too long: the fault of a failed read or flush
 abbrev pub stop_returned : Stop → Option (Result ℕ Fault)
@@ -262,11 +262,12 @@ line_begun rules most stop count number text =
     if nat_lt rules.max_line_len (length text) then sending_line (fault_sent rules (long_fault rules number text) text) (returning (long_returned stop)) else
     returning (stop_returned stop)
 
--- what stands after the last byte that ends a record, with so many records before it: at the end it is one unless it is empty
+-- what stands after the last byte that ends a record, with so many records before it: at the end it is one unless it is empty, and in quotes
+-- that are not closed it may end with that byte
 abbrev pub regrouped_rest : Rules → (most : ℕ) → FormatData → FormatData → Stop → (count number : ℕ) → List ℕ → Regrouped
 regrouped_rest rules most from to Ended count number rest =
     if length rest == 0 then returning (Some (Ok count)) else
-    sending_line (line_sent rules most from to count number rest) (returning (Some (Ok (count + 1))))
+    sending_line (line_sent rules most from to count number (ended_once rules.line_end false rest) rest) (returning (Some (Ok (count + 1))))
 regrouped_rest rules most from to stop count number rest = line_begun rules most stop count number rest
 
 -- the number of the line after a record
@@ -278,7 +279,7 @@ abbrev pub regrouped_parts : Rules → (most : ℕ) → FormatData → FormatDat
 regrouped_parts rules most from to stop count number [] = returning None
 regrouped_parts rules most from to stop count number (rest ∷ []) = regrouped_rest rules most from to stop count number rest
 regrouped_parts rules most from to stop count number (text ∷ next ∷ parts) =
-    sending_line (line_sent rules most from to count number text) (regrouped_parts rules most from to stop (count + 1) (line_after rules number text) (next ∷ parts))
+    sending_line (line_sent rules most from to count number (ended_by rules.line_end text) text) (regrouped_parts rules most from to stop (count + 1) (line_after rules number text) (next ∷ parts))
 
 -- the lines or records of a text, of which the first begins in the line of this number
 abbrev pub records_of : Rules → ℕ → List ℕ → List (List ℕ)

@@ -5,7 +5,7 @@ ghost use Rattle.regroup_lines.specs.LineFaults.{IsHalt, line_fault_of};
 ghost use Rattle.regroup_lines.specs.Lines.{quotes_in};
 
 use crate::line_fault::LineFault;
-use crate::records::{Within, find_end};
+use crate::records::{Within, ends_with, find_end};
 use crate::rules::Rules;
 use std::io::{Read, Write};
 use std::ops::Range;
@@ -32,6 +32,23 @@ pub(crate) struct Record<'a> {
     pub(crate) text: &'a [u8],
     /// Its text, and the byte that ends it.
     pub(crate) ended: &'a [u8],
+}
+
+impl<'a> Record<'a> {
+    ghost use Rattle.regroup_lines.specs.Ended.{ended_once};
+    ghost use Rattle.regroup_lines.specs.Input.{IsEnded};
+
+    /// Returns the text and the byte that ends it, unless it ends with that byte, or is empty and what is before it does.
+    pub(crate) fn ended_once(&self, line_end: u8, before: bool) -> &'a [u8]
+        requires { IsEnded line_end self.now }
+        ensures { result.now ≡ ended_once line_end before self.now.text.now }
+    {
+        if ends_with(line_end, before, self.text) {
+            self.text
+        } else {
+            self.ended
+        }
+    }
 }
 
 /// The bytes that were read and belong to no piece yet: those that are held.

@@ -27,7 +27,7 @@ mod sending;
 
 ghost use Rattle.std.specs.Prelude.{◌≡◌, ◌+◌, ◌++◌, [], ◌≤◌, Ok, length, true};
 ghost use Rattle.std.specs.Result.{result_map_both};
-ghost use Rattle.regroup_lines.specs.Ended.{ended_by};
+ghost use Rattle.regroup_lines.specs.Ended.{ended_by, ends_with};
 ghost use Rattle.regroup_faults.specs.Fault.{are_any, fault_of};
 ghost use Rattle.regroup_lines.specs.Input.{IsEnded, IsLong, array_len, held};
 ghost use Rattle.regroup_lines.specs.LineFaults.{line_fault_of};
@@ -42,7 +42,7 @@ use crate::input::{Input, Piece, Record};
 use crate::job::Job;
 use crate::line_fault::LineFault;
 use crate::number::Parser;
-use crate::records::{Within, is_open, len_without, line_reached};
+use crate::records::{Within, ends_with, is_open, line_reached};
 use crate::rules::{MARK, trim};
 pub use crate::rules::{FieldRange, Fields, Invalid, Output, Quoting, Rules, Span};
 use crate::sending::{send_between, send_whole};
@@ -278,7 +278,7 @@ fn regroup_last<'a, W: Write, E: Write, X: Write, F: Format, G: Format>(
         (result_map_both (λ told. told) line_fault_of result) }
 {
     if is_open(job.rules, line.number, line.text) {
-        let ended = &line.ended[..len_without(job.rules.line_end, line.text) + 1];
+        let ended = line.ended_once(job.rules.line_end, false);
         return pass_fault(job, LineFault::Unclosed(line.number), ended, w, e, x);
     }
     regroup_line(job, line, w, e, x)
@@ -353,7 +353,7 @@ fn name_fault<E: Write, F: Format, G: Format>(
 }
 
 /// Sends a record that is too long, piece by piece: the bytes that are held, which it begins with, and those up to the byte that ends it or the end
-/// of the input, and that byte. Returns whether the input ended. The number of its line goes on to that of the next record.
+/// of the input, and that byte once. Returns whether the input ended. The number of its line goes on to that of the next record.
 #[cold]
 fn send_long<R: Read, W: Write, X: Write>(
     rules: &Rules,
@@ -370,8 +370,8 @@ fn send_long<R: Read, W: Write, X: Write>(
         (result_map_both (λ ended. ended) fault_of result) }
     ensures len { array_len input.new ≡ array_len input.old }
 {
-    let mut within = Within::first(*number);
-    send_held(rules, &mut within, number, input, w, x)?;
+    let (mut within, mut is_ended) = (Within::first(*number), false);
+    send_held(rules, &mut within, number, &mut is_ended, input, w, x)?;
     for _ in 0..u64::MAX {
         match input.next_piece(rules, within, r, w) {
             Ok(Piece::Line(place)) => {
@@ -381,12 +381,15 @@ fn send_long<R: Read, W: Write, X: Write>(
                 return Ok(false);
             }
             Ok(Piece::Rest(place)) => {
-                pass_bytes(rules, input.line(place, *number).ended, w, x)?;
+                let line = input.line(place, *number);
+                pass_bytes(rules, line.ended_once(rules.line_end, is_ended), w, x)?;
                 return Ok(true);
             }
-            Ok(Piece::TooLong) => send_held(rules, &mut within, number, input, w, x)?,
+            Ok(Piece::TooLong) => {
+                send_held(rules, &mut within, number, &mut is_ended, input, w, x)?;
+            }
             Err(halt) => {
-                send_held(rules, &mut within, number, input, w, x)?;
+                send_held(rules, &mut within, number, &mut is_ended, input, w, x)?;
                 return Err(halt.into());
             }
         }
@@ -394,12 +397,13 @@ fn send_long<R: Read, W: Write, X: Write>(
     Err(RegroupFault::TooMany)
 }
 
-/// Sends the bytes that are held, which are at fault. Where the next byte is `within` a record goes on to the byte after them, and the number
-/// of the line to that in which they end.
+/// Sends the bytes that are held, which are at fault. Where the next byte is `within` a record goes on to the byte after them, the number
+/// of the line to that in which they end, and whether the last byte is the one that ends lines to theirs.
 fn send_held<W: Write, X: Write>(
     rules: &Rules,
     within: &mut Within,
     number: &mut u64,
+    is_ended: &mut bool,
     input: &mut Input<'_>,
     w: &mut W,
     x: &mut X,
@@ -410,10 +414,12 @@ fn send_held<W: Write, X: Write>(
     ensures len { array_len input.new ≡ array_len input.old }
     ensures within { within.new ≡ after_text (quotes_in rules.now.span) within.old (held input.old) }
     ensures number { number.new ≡ line_reached (quotes_in rules.now.span) rules.now.line_end number.old (held input.old) }
+    ensures ended { is_ended.new ≡ ends_with rules.now.line_end is_ended.old (held input.old) }
 {
     let bytes = input.held();
     *within = within.after(rules.quotes(), bytes);
     *number = line_reached(rules, *number, bytes);
+    *is_ended = ends_with(rules.line_end, *is_ended, bytes);
     let sent = pass_bytes(rules, bytes, w, x);
     input.clear();
     sent

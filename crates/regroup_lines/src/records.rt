@@ -1,6 +1,6 @@
 //! Where fields, lines and records of RFC 4180 end: a byte in quotes ends no field and no record.
 ghost use Rattle.std.specs.Prelude.{◌≡◌, ◌≤◌, ◌<◌, All, false, get_or, length};
-ghost use Rattle.regroup_lines.specs.Ended.{len_without};
+ghost use Rattle.regroup_lines.specs.Ended.{ends_with, len_without};
 ghost use Rattle.regroup_lines.specs.Lines.{quotes_in};
 ghost use Rattle.regroup_lines.specs.Records.{Searched, after_byte, after_text, is_inside, is_open, is_quote, line_reached, record_start};
 
@@ -114,6 +114,16 @@ pub(crate) fn find_end(quotes: Option<u8>, end: u8, within: Within, text: &[u8])
         }
         here = here.after_byte(quotes, text[searched]);
         searched += 1;
+    }
+}
+
+/// Returns whether a text ends with this byte, or, if it is empty, whether what is before it does.
+pub(crate) fn ends_with(end: u8, before: bool, text: &[u8]) -> bool
+    ensures { result ≡ ends_with end before text.now }
+{
+    match text {
+        [.., last] => *last == end,
+        [] => before,
     }
 }
 

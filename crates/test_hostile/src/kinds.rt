@@ -47,7 +47,7 @@ const SECOND: Fields<'static> = Fields {
 type Kind<'a> = (Rules<'a>, &'a [u8], &'a [u8], [usize; 3]);
 
 #[rattlefmt::skip]
-const KINDS: [Kind<'static>; 15] = [
+const KINDS: [Kind<'static>; 18] = [
     (PLAIN, b"1,000\n-5\n", b"1.000\n-5\n", [2, 0, 0]),
     (PLAIN, b"1,000\n1,000", b"1.000\n1.000\n", [2, 0, 0]),
     // What is before a number, the number, what is after it, and the end.
@@ -66,6 +66,9 @@ const KINDS: [Kind<'static>; 15] = [
     (Rules { max_line_len: 8, ..IGNORED }, b"1234567890123456789012\n7\n", b"1234567890123456789012\n7\n", [4, 0, 0]),
     (Rules { max_line_len: 8, ..WARNED }, b"12345678901234567890", b"12345678901234567890\n", [3, 1, 0]),
     (Rules { max_line_len: 8, ..FIELDS }, b"\"a\nb\nc\nd\ne\nf\",1\n", b"\"a\nb\nc\nd\ne\nf\",1\n", [2, 0, 0]),
+    (Rules { max_line_len: 8, ..FIELDS }, b"\"bcdefgh\nj\n", b"\"bcdefgh\nj\n", [2, 0, 0]),
+    (Rules { max_line_len: 8, ..FIELDS }, b"\"bcdefgh\n", b"\"bcdefgh\n", [1, 0, 0]),
+    (Rules { max_line_len: 8, ..FIELDS }, b"\"bcdefghi", b"\"bcdefghi\n", [2, 0, 0]),
 ];
 
 /// Asserts what is written of the lines under a format, by how many writes, and that there is a flush before each read.
