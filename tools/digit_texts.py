@@ -30,6 +30,9 @@ tnsa TANGSA, vaii VAI, wara WARANG CITI, wcho WANCHO"""
 ZEROS = {n: unicodedata.lookup(f"{u} DIGIT ZERO") for n, u in (each.split(maxsplit=1) for each in SETS.split(","))}
 ZEROS["latn"] = "0"
 
+# The most bytes of a text with 0 to 9 for its digits.
+LONGEST = 199
+
 # The group sizes of this locale are those of CLDR 36, and of ICU 72 others.
 OTHER_GROUPS = "ks"
 
@@ -71,11 +74,14 @@ def result_of(call, text, result, shown, name):
     at = first_other(shown, name)
     if at is not None:
         return f"OtherNumeral {{ at: {at} }}"
-    return result.removeprefix("ok ") if result.startswith("ok ") else refused(result, text, shown)
+    if len(text.encode()) > LONGEST:
+        return "TooLong"
+    if result.startswith("ok "):
+        return result.removeprefix("ok ")
+    return f"Number({refused(result, text, shown)})" if call.startswith("typed") else refused(result, text, shown)
 
 
-def parsed(names):
-    tables = {"whole": "strict.tsv", "decimal": "decimals_parsed.tsv"}
+def parsed(names, tables):
     for call, table in tables.items():
         for *kind, form, text, result in rows(table):
             if not form.startswith("locale:") or kind not in ([], ["i64"]):
@@ -128,7 +134,9 @@ def others():
 
 def main():
     names = cycle(ZEROS)
-    both = [*parsed(names), *printed(names), *by_default(), *others()]
+    strict = parsed(names, {"whole": "strict.tsv", "decimal": "decimals_parsed.tsv"})
+    typed = parsed(names, {"typed": "typed.tsv", "typed decimal": "typed_decimals.tsv"})
+    both = [*strict, *printed(names), *by_default(), *others(), *typed]
     (CRATE / "stdin").write_text("".join("\t".join(fields) + "\n" for fields, _ in both))
     (CRATE / "stdout").write_text("".join(result + "\n" for _, result in both))
 

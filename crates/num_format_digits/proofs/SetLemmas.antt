@@ -1,20 +1,21 @@
 -- What holds of each digit set, and of its digits.
 use Rattle.std.proofs.Common.{◌≡◌, ℕ, ◌+◌, ◌-◌, ◌<◌, ◌≤◌, inl, inr, Bool, true, false, not, ◌&&◌, ◌||◌, suc, zero, List, [], ◌∷◌, ◌++◌}
 use Rattle.std.proofs.Common.{length, take, drop, get_or, refl, ap, ◌∙◌, sym, subst, arith}
-use Rattle.std.specs.Prelude.{All, Contains, Some, bytes_eq, ◌==◌, nat_lt, nat_le, encode_utf8, map}
+use Rattle.std.specs.Prelude.{All, Contains, None, Some, bytes_eq, ◌==◌, nat_lt, nat_le, encode_utf8, map}
 use Rattle.std.specs.Char.{is_ascii_digit, IsScalar}
 use Rattle.std.specs.List.{list_all, list_any}
 use Rattle.std.proofs.lemmas.Bool.{agree_below, agree_below_at, and_from, and_left, and_parts, and_right, both_ways, cases_Bool, or_cases}
 use Rattle.std.proofs.lemmas.Bool.Decides.{nat_tests}
 use Rattle.std.proofs.lemmas.List.Elements.{All-nil, All-cons, All-contains, Contains-append_left, Contains-append_right, Contains-get_or}
-use Rattle.std.proofs.lemmas.List.Elements.{Contains-push}
+use Rattle.std.proofs.lemmas.List.Elements.{Contains-push, at_from_Contains}
+use Rattle.std.proofs.lemmas.Option.{slice_get-get_or, slice_get_past}
 use Rattle.std.proofs.lemmas.List.{get_or-map, get_or-take, length-map, length-take-le, take-take}
 use Rattle.std.proofs.lemmas.Slice.Eq.{bytes_eq-Decides}
 use denote.Ref.{Bor}
 use lib.Utf8.{encode}
 unfoldable pub use Rattle.ucd_category.proofs.Computing.{ucd_category}
 use Rattle.num_format_parsing.specs.Reading.{is_numeric, is_other_numeral}
-use Rattle.num_format_digits.specs.Digits.{HasZero, is_digit_of, is_other, IsZero, plain_char, shown, zero_among, zeros}
+use Rattle.num_format_digits.specs.Digits.{HasZero, is_digit_of, is_other, IsZero, plain_char, set_numbered, shown, zero_among, zeros}
 use Rattle.num_format_digits.specs.Sets.{locales, sets}
 
 -- all ten digits are characters, of as many bytes each, and numeric
@@ -234,6 +235,10 @@ pub latin : IsZero 48
 unfolding sets
 latin = any-contains (zeros sets) 48 refl
 
+pub latin_first : set_numbered 0 ≡ Some 48
+unfolding sets
+latin_first = refl
+
 -- the zero at a place, of rows that are the sets
 pub zero-at : (rows : List (Bor (List ℕ) × ℕ)) (i : ℕ) (d : Bor (List ℕ) × ℕ) → map (λ s. (s.0.now, s.1)) rows ≡ sets → i < length rows
     → (get_or rows i d).1 ≡ get_or (zeros sets) i 0
@@ -248,3 +253,15 @@ set-count = refl
 
 pub zero-there : (i : ℕ) → i < 77 → IsZero (get_or (zeros sets) i 0)
 zero-there i inside = Contains-get_or (zeros sets) i 0 (omega (arith, set-count, inside))
+
+-- the zero of the set of a number, and that of some number
+pub numbered_at : (i : ℕ) → i < 77 → set_numbered i ≡ Some (get_or (zeros sets) i 0)
+numbered_at i inside = slice_get-get_or (zeros sets) i 0 (omega (arith, set-count, inside))
+
+pub numbered_past : (i : ℕ) → 77 ≤ i → set_numbered i ≡ None
+numbered_past i past = slice_get_past (zeros sets) i (omega (arith, set-count, past))
+
+pub some_number : (z : ℕ) → IsZero z → (i : ℕ) × (i < 77) × (get_or (zeros sets) i 0 ≡ z)
+some_number z is =
+    let at = at_from_Contains (zeros sets) z is in
+    (at.0, omega (arith, set-count, at.1), at.2 0)

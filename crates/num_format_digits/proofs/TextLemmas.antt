@@ -115,3 +115,14 @@ shown-again z at (c ∷ cs) is none =
 pub one_set : (z : ℕ) (t : List ℕ) → IsZero z → IsUtf8 t → HasOneSet z t → in_digits z (ascii_of z t) ≡ t
 one_set z t is utf8 none = in_digits-encodes z (map (plain_char z) (chars t)) ∙ ap encode_utf8_all (shown-again z 0 (chars t) is none)
     ∙ encodes-chars t utf8
+
+-- in `latn` a text is as it is
+pub in_latin : (t : List ℕ) → in_digits 48 t ≡ t
+in_latin [] = refl
+in_latin (x ∷ xs) = elim (cases_Bool (is_ascii_digit x)) [
+  | inl digit ↦
+      (let ascii : x < 128 = grind (arith, nat_tests, digit) in
+      let same : 48 + (x - 48) ≡ x = grind (arith, nat_tests, digit) in
+      rw (digit, same, encode_ascii x ascii) (ap (λ t. x ∷ t) (in_latin xs)))
+  | inr other ↦ rw other (ap (λ t. x ∷ t) (in_latin xs))
+]

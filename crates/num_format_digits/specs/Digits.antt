@@ -1,6 +1,6 @@
 -- Digit sets, and texts in their digits.
 use Rattle.std.specs.Prelude.{◌≡◌, ◌≤◌, ℕ, ◌+◌, ◌-◌, Bool, not, ◌&&◌, if◌then◌else◌, List, [], ◌∷◌, Contains}
-use Rattle.std.specs.Prelude.{bytes_eq, find, length, map, take, Option, Some, None, unwrap_or, encode_utf8}
+use Rattle.std.specs.Prelude.{bytes_eq, find, length, map, slice_get, take, Option, Some, None, unwrap_or, encode_utf8}
 use Rattle.std.specs.Char.{is_ascii_digit}
 use Rattle.std.specs.Int.{is_in_range}
 use Rattle.std.specs.List.{flat_map}
@@ -26,6 +26,10 @@ default_zero name = unwrap_or (zero_among locales name) 48
 -- the zeros of the sets, and those of the locales' default sets
 abbrev pub zeros : List (List ℕ × ℕ) → List ℕ
 zeros rows = map (λ row. row.1) rows
+
+-- the zero of the set for which a number stands: its place in the order of the sets
+abbrev pub set_numbered : ℕ → Option ℕ
+set_numbered number = slice_get (zeros sets) number
 
 -- a code point is the zero of a set
 abbrev pub IsZero : ℕ → Type 0

@@ -13,7 +13,9 @@ use Rattle.num_format_decimal.specs.declared.buffer.TheConstants.{MAX_DECIMAL_LE
 use Rattle.num_format_decimal.specs.declared.parsing.ParseDecimalError.{ParseDecimalError}
 use Rattle.num_format_decimal.specs.declared.parsing.ParseDecimalError.TheVariants as decimal
 use Rattle.num_format_typed.specs.Rewriting.{bytes_within}
-use Rattle.num_format_typed.specs.Typed.{placed, placed_decimal}
+use Rattle.num_format_typed.specs.Typed.{IsTypable, ParsesTyped, TypedDecimalResult, placed, placed_decimal}
+use Rattle.num_format_typed.specs.declared.typed.TypedError.{TypedError}
+use Rattle.num_format_typed.specs.declared.typed.TypedError.TheVariants as typed
 use Rattle.num_format_digits.specs.Digits.{HasOneSet, ascii_of, other_from, plain_char}
 use Rattle.num_format_digits.specs.declared.parsing.DigitsError.{DigitsError}
 use Rattle.num_format_digits.specs.declared.parsing.DigitsError.TheVariants.{OtherNumeral, TooLong, Number}
@@ -50,3 +52,17 @@ ParsesInDigits k value f = InDigits (IsUnambiguous f) strict.AmbiguousFormat pla
 
 abbrev pub DecimalInDigits : FormatData → ℕ → List ℕ → Result FixedPoint (DigitsError ParseDecimalError) → Type 0
 DecimalInDigits f = InDigits (MarksDecimals f) decimal.AmbiguousFormat placed_decimal (DecimalResult f)
+
+-- an error of typed parsing with another place, where one of strict parsing is given
+abbrev pub placed_typed : {E : Type 0} → ((ℕ → ℕ) → E → E) → (ℕ → ℕ) → TypedError E → TypedError E
+placed_typed placed place typed.TooLong = typed.TooLong
+placed_typed placed place (typed.Number e) = typed.Number (placed place e)
+
+-- of either as a person types it
+abbrev pub TypedInDigits : {X : Type 0} → Kind → (X → ℤ) → FormatData → ℕ → List ℕ
+    → Result X (DigitsError (TypedError StrictError)) → Type 0
+TypedInDigits k value f = InDigits (IsTypable f) (typed.Number strict.AmbiguousFormat) (placed_typed placed) (ParsesTyped k value f)
+
+abbrev pub TypedDecimalInDigits : FormatData → ℕ → List ℕ → Result FixedPoint (DigitsError (TypedError ParseDecimalError)) → Type 0
+TypedDecimalInDigits f =
+    InDigits (IsTypable f × MarksDecimals f) (typed.Number decimal.AmbiguousFormat) (placed_typed placed_decimal) (TypedDecimalResult f)

@@ -1,4 +1,4 @@
--- The digit sets of the CLDR whose digits are Unicode's decimal digits, in the order of their names.
+-- The digit sets of the CLDR whose digits are Unicode's decimal digits: `latn`, and then the others in the order of their names.
 use Prim.Native.String.{String}
 use Rattle.std.specs.Prelude.{ℕ, List, [], ◌∷◌, codes, map}
 
@@ -8,12 +8,12 @@ row (name, z) = (codes name, z)
 
 unfoldable pub sets : List (List ℕ × ℕ)
 sets = map row (
-    ("adlm", 0x1E950) ∷ ("ahom", 0x11730) ∷ ("arab", 0x660) ∷ ("arabext", 0x6F0) ∷ ("bali", 0x1B50) ∷
+    ("latn", 0x30) ∷ ("adlm", 0x1E950) ∷ ("ahom", 0x11730) ∷ ("arab", 0x660) ∷ ("arabext", 0x6F0) ∷ ("bali", 0x1B50) ∷
     ("beng", 0x9E6) ∷ ("bhks", 0x11C50) ∷ ("brah", 0x11066) ∷ ("cakm", 0x11136) ∷ ("cham", 0xAA50) ∷ ("deva", 0x966) ∷
     ("diak", 0x11950) ∷ ("fullwide", 0xFF10) ∷ ("gara", 0x10D40) ∷ ("gong", 0x11DA0) ∷ ("gonm", 0x11D50) ∷
     ("gujr", 0xAE6) ∷ ("gukh", 0x16130) ∷ ("guru", 0xA66) ∷ ("hmng", 0x16B50) ∷ ("hmnp", 0x1E140) ∷ ("java", 0xA9D0) ∷
     ("kali", 0xA900) ∷ ("kawi", 0x11F50) ∷ ("khmr", 0x17E0) ∷ ("knda", 0xCE6) ∷ ("krai", 0x16D70) ∷ ("lana", 0x1A80) ∷
-    ("lanatham", 0x1A90) ∷ ("laoo", 0xED0) ∷ ("latn", 0x30) ∷ ("lepc", 0x1C40) ∷ ("limb", 0x1946) ∷
+    ("lanatham", 0x1A90) ∷ ("laoo", 0xED0) ∷ ("lepc", 0x1C40) ∷ ("limb", 0x1946) ∷
     ("mathbold", 0x1D7CE) ∷ ("mathdbl", 0x1D7D8) ∷ ("mathmono", 0x1D7F6) ∷ ("mathsanb", 0x1D7EC) ∷
     ("mathsans", 0x1D7E2) ∷ ("mlym", 0xD66) ∷ ("modi", 0x11650) ∷ ("mong", 0x1810) ∷ ("mroo", 0x16A60) ∷
     ("mtei", 0xABF0) ∷ ("mymr", 0x1040) ∷ ("mymrepka", 0x116DA) ∷ ("mymrpao", 0x116D0) ∷ ("mymrshan", 0x1090) ∷

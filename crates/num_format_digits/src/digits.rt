@@ -1,9 +1,9 @@
 //! The type [`Digits`].
-ghost use Rattle.std.specs.Prelude.{◌≡◌, ◌<◌, get_or};
+ghost use Rattle.std.specs.Prelude.{◌≡◌, ◌==◌, ◌<◌, Some, get_or};
 ghost use Rattle.std.specs.Str.{chars};
 ghost use Rattle.num_format_locale.specs.Names.{name_of};
 ghost use Rattle.num_format_parsing.specs.Reading.{is_numeric};
-ghost use Rattle.num_format_digits.specs.Digits.{HasZero, IsZero, default_zero, digits_named, first_set, is_digit_of, is_other, plain_char, set_of, zeros};
+ghost use Rattle.num_format_digits.specs.Digits.{HasZero, IsZero, default_zero, digits_named, first_set, is_digit_of, is_other, plain_char, set_numbered, set_of, zeros};
 ghost use Rattle.num_format_digits.specs.Sets.{sets};
 ghost use Rattle.num_format_digits.specs.declared.sets.TheConstants.{LEN};
 
@@ -70,6 +70,13 @@ impl Digits {
         }
     }
 
+    /// Returns the set `latn`, of the digits `0` to `9`.
+    pub fn latin() -> Digits
+        ensures { result ≡ 48 }
+    {
+        Digits { zero: 48 }
+    }
+
     /// Returns the set at a place in the order of the names.
     fn at(place: usize) -> Digits
         requires { place < LEN }
@@ -78,6 +85,51 @@ impl Digits {
         Digits {
             zero: sets::sets()[place].1,
         }
+    }
+
+    /// Returns the set for which a number stands, or `None` if it stands for none: 0 is `latn`, and the others follow in
+    /// the order of their names.
+    ///
+    /// ```rust
+    /// Digits::from_number(0)    // Some(Digits { zero: 48 })
+    /// Digits::from_number(3)    // Some(Digits { zero: 1632 }): arab
+    /// Digits::from_number(77)    // None
+    /// ```
+    #[inline]
+    #[tactic(auto, using(crate::proofs::SetLemmas::numbered_at, crate::proofs::SetLemmas::numbered_past))]
+    pub fn from_number(number: u8) -> Option<Digits>
+        ensures { result ≡ set_numbered number }
+    {
+        if number as usize >= sets::LEN {
+            return None;
+        }
+        Some(Digits::at(number as usize))
+    }
+
+    /// Returns the number that stands for the set.
+    ///
+    /// ```rust
+    /// Digits::of_locale(Locale::ar_EG).number()    // 3
+    /// ```
+    #[tactic(auto, using(crate::proofs::SetLemmas::numbered_at))]
+    pub fn number(self) -> u8
+        ensures { set_numbered result ≡ Some self }
+    {
+        let zero = self.zero();
+        for number in 0..sets::LEN as u8 {
+            if Digits::at(number as usize).zero() == zero {
+                return number;
+            }
+        }
+        unreachable!()
+    }
+
+    /// Returns whether the digits are `0` to `9`, the set `latn`.
+    #[inline]
+    pub fn is_latin(self) -> bool
+        ensures { result ≡ (self == 48) }
+    {
+        self.zero == 48
     }
 
     /// Returns the set of a decimal digit, or `None` for any other character.

@@ -10,6 +10,7 @@
 //! DigitText::of(&1234567, &Locale::ar_EG, arab).as_str()    // "١٬٢٣٤٬٥٦٧"
 //! arab.parse_strict::<i32, _>("١٬٢٣٤", &Locale::ar_EG)      // Ok(1234)
 //! arab.parse_strict::<i32, _>("١٬٢3٤", &Locale::ar_EG)      // Err(OtherNumeral { at: 6 })
+//! arab.parse_typed::<i32, _>(" +١٬٢٣٤", &Locale::ar_EG)     // Ok(1234)
 //! ```
 #![tactic(auto)]
 

@@ -1,18 +1,22 @@
-//! Strict parsing of a text in one digit set.
+//! Parsing of a text in one digit set, strictly or as people type it.
 ghost use Rattle.std.specs.Prelude.{◌≡◌, ◌≤◌, None, Some, IfOk, MatchOption, MatchResult, length};
 ghost use Rattle.std.specs.Str.{chars};
 ghost use Rattle.num_format_decimal.specs.declared.buffer.TheConstants.{MAX_DECIMAL_LEN};
-ghost use Rattle.num_format_typed.specs.Typed.{placed, placed_decimal};
+ghost use Rattle.num_format_decimal.specs.Marks.{MarksDecimals};
+ghost use Rattle.num_format_typed.specs.Typed.{IsTypable, placed, placed_decimal};
 ghost use Rattle.num_format_digits.specs.Digits.{HasOneSet, ascii_of, other_from};
-ghost use Rattle.num_format_digits.specs.Parsing.{DecimalInDigits, IsTextCause, ParsesInDigits, place_in};
+ghost use Rattle.num_format_digits.specs.Parsing.{DecimalInDigits, IsTextCause, ParsesInDigits, TypedDecimalInDigits, TypedInDigits, place_in};
 
 use crate::digits::Digits;
-use num_format_decimal::{Decimal, DecimalParser, MAX_DECIMAL_LEN, ParseDecimalError};
+use num_format_decimal::{
+    Decimal, DecimalParser, MAX_DECIMAL_LEN, ParseDecimalError, marks_decimals,
+};
 use num_format_parsing::{FromFormattedStr, StrictError, StrictParser};
 use num_format_text::Format;
 use num_format_typed::rewriting::{bytes_within, rewrite, split_first};
+use num_format_typed::{TypedError, TypedParser};
 
-/// Why a text was refused as a number in a digit set. `E` is the error of strict parsing.
+/// Why a text was refused as a number in a digit set. `E` is the error of strict or of typed parsing.
 #[derive(Clone, Copy, Debug, PartialEq, Eq)]
 pub enum DigitsError<E> {
     /// The first numeric character of the text that is no digit of the set begins after `at` bytes: a digit of
@@ -23,7 +27,7 @@ pub enum DigitsError<E> {
     },
     /// With `0` to `9` for its digits the text has more bytes than the text of any number.
     TooLong,
-    /// The cause of strict parsing: first `AmbiguousFormat`, whatever the text, and else that of the text with `0` to
+    /// The cause of that parsing: first `AmbiguousFormat`, whatever the text, and else that of the text with `0` to
     /// `9` for its digits. A place counts the bytes of the text that was given.
     Number(E),
 }
@@ -79,6 +83,78 @@ impl Digits {
         match parser.parse_bytes(ascii) {
             Ok(decimal) => Ok(decimal),
             Err(error) => Err(DigitsError::Number(self.placed_decimal(text, error))),
+        }
+    }
+
+    /// Returns the number that a person means by the text in the digits of the set: `parse_typed` of the text with `0` to
+    /// `9` for them. (No data type is meant.)
+    ///
+    /// ```rust
+    /// let arab = Digits::of_locale(Locale::ar_EG);
+    /// arab.parse_typed::<i32, _>(" -١٬٢٣٤", &Locale::ar_EG)    // Ok(-1234)
+    /// ```
+    pub fn parse_typed<N: FromFormattedStr, F: Format>(
+        self,
+        text: &str,
+        format: &F,
+    ) -> Result<N, DigitsError<TypedError<StrictError>>>
+        ensures { TypedInDigits N.kind N.value (F.answers format.now) self text.now result }
+    {
+        let parser = match TypedParser::new(format) {
+            Ok(parser) => parser,
+            Err(error) => return Err(DigitsError::Number(TypedError::Number(error))),
+        };
+        let mut array = [0; MAX_DECIMAL_LEN];
+        let ascii = self.to_ascii(text, &mut array)?;
+        match parser.parse_bytes(ascii) {
+            Ok(number) => Ok(number),
+            Err(TypedError::TooLong) => Err(DigitsError::Number(TypedError::TooLong)),
+            Err(TypedError::Number(error)) => Err(DigitsError::Number(TypedError::Number(
+                self.placed(text, error),
+            ))),
+        }
+    }
+
+    /// Returns the decimal that a person means by the text in the digits of the set. (No data type is meant.)
+    ///
+    /// ```rust
+    /// let arabext = Digits::of_locale(Locale::fa);
+    /// arabext.parse_typed_decimal("+۱۲٫۵۰", &Locale::fa)    // Ok(12.50)
+    /// ```
+    pub fn parse_typed_decimal<F: Format>(
+        self,
+        text: &str,
+        format: &F,
+    ) -> Result<Decimal, DigitsError<TypedError<ParseDecimalError>>>
+        ensures { TypedDecimalInDigits (F.answers format.now) self text.now result }
+    {
+        let ambiguous = DigitsError::Number(TypedError::Number(ParseDecimalError::AmbiguousFormat));
+        let Ok(parser) = TypedParser::new(format) else {
+            return Err(ambiguous);
+        };
+        if !marks_decimals(format) {
+            return Err(ambiguous);
+        }
+        self.typed_decimal(&parser, text)
+    }
+
+    /// Returns the decimal that a person means by the text, under the format of a parser.
+    fn typed_decimal<'a, F: Format>(
+        self,
+        parser: &TypedParser<'a, F>,
+        text: &str,
+    ) -> Result<Decimal, DigitsError<TypedError<ParseDecimalError>>>
+        requires { IsTypable parser.now × MarksDecimals parser.now }
+        ensures { TypedDecimalInDigits parser.now self text.now result }
+    {
+        let mut array = [0; MAX_DECIMAL_LEN];
+        let ascii = self.to_ascii(text, &mut array)?;
+        match parser.parse_decimal_bytes(ascii) {
+            Ok(number) => Ok(number),
+            Err(TypedError::TooLong) => Err(DigitsError::Number(TypedError::TooLong)),
+            Err(TypedError::Number(error)) => Err(DigitsError::Number(TypedError::Number(
+                self.placed_decimal(text, error),
+            ))),
         }
     }
 

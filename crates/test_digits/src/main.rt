@@ -10,7 +10,7 @@ use num_format_decimal::Decimal;
 use num_format_digits::{DigitText, Digits};
 use num_format_locale::Locale;
 use std::alloc::{AllocError, Global};
-use std::{io, str};
+use std::{fmt, io, str};
 
 fn main(rt: HostRuntime) -> io::Result<()> {
     let data = io::read_to_string(rt.alloc(), rt.reader())?;
@@ -33,7 +33,7 @@ fn answer(alloc: Global, line: &str) -> Result<Option<String>, AllocError> {
         "tag" => of_tag(alloc, arguments),
         "text" => of_text(alloc, arguments),
         "print" => printed(alloc, arguments),
-        "whole" | "decimal" => parsed(alloc, call, arguments),
+        "whole" | "decimal" | "typed" | "typed decimal" => parsed(alloc, call, arguments),
         _ => Ok(None),
     }
 }
@@ -92,7 +92,7 @@ fn printed(alloc: Global, arguments: &str) -> Result<Option<String>, AllocError>
     Ok(Some(text))
 }
 
-/// Returns the number that a text is parsed as in a set, under a locale: an `i64`, or a decimal.
+/// Returns the number that a text is parsed as in a set, under a locale: an `i64`, or a decimal, strictly or as typed.
 fn parsed(alloc: Global, call: &str, arguments: &str) -> Result<Option<String>, AllocError> {
     let Some((digits, locale, text)) = read(arguments) else {
         return Ok(None);
@@ -103,18 +103,35 @@ fn parsed(alloc: Global, call: &str, arguments: &str) -> Result<Option<String>, 
     let Ok(text) = str::from_utf8(bytes.as_slice()) else {
         return Ok(None);
     };
-    let text = if call == "whole" {
-        match digits.parse_strict::<i64, Locale>(text, &locale) {
-            Ok(number) => format!(in alloc; "{number}")?,
-            Err(error) => format!(in alloc; "{error:?}")?,
-        }
-    } else {
-        match digits.parse_decimal(text, &locale) {
-            Ok(decimal) => format!(in alloc; "{}/{}", decimal.units(), decimal.scale())?,
-            Err(error) => format!(in alloc; "{error:?}")?,
-        }
+    let text = match call {
+        "whole" => whole(alloc, digits.parse_strict::<i64, Locale>(text, &locale))?,
+        "typed" => whole(alloc, digits.parse_typed::<i64, Locale>(text, &locale))?,
+        "decimal" => decimal(alloc, digits.parse_decimal(text, &locale))?,
+        _ => decimal(alloc, digits.parse_typed_decimal(text, &locale))?,
     };
     Ok(Some(text))
+}
+
+/// Returns a number, or why there is none.
+fn whole<E: fmt::Debug + Drop>(
+    alloc: Global,
+    parsed: Result<i64, E>,
+) -> Result<String, AllocError> {
+    match parsed {
+        Ok(number) => format!(in alloc; "{number}"),
+        Err(error) => format!(in alloc; "{error:?}"),
+    }
+}
+
+/// Returns the units and the scale of a decimal, or why there is none.
+fn decimal<E: fmt::Debug + Drop>(
+    alloc: Global,
+    parsed: Result<Decimal, E>,
+) -> Result<String, AllocError> {
+    match parsed {
+        Ok(decimal) => format!(in alloc; "{}/{}", decimal.units(), decimal.scale()),
+        Err(error) => format!(in alloc; "{error:?}"),
+    }
 }
 
 /// Returns a set and a locale by their names, and what follows.
