@@ -7,8 +7,8 @@
     python3 tests/commands.py --try CRATE csv.cases     # the cases of this file alone
 
 The head of case_files.py says how a case is written. With --try the stored run of the crate, its files args, stdin and
-stdout, is a case too, which `rt ci` compares where it proves the program, and texts of each length are left out. The last
-line says how many cases passed and failed. The exit status is 1 where one failed.
+stdout, is a case too, which `rt ci` compares where it proves the program, and cases that are computed or long are left
+out. The last line says how many cases passed and failed. The exit status is 1 where one failed.
 """
 import argparse
 import tempfile
@@ -20,8 +20,8 @@ from case_files import Case, of_crate, problem
 from tally import ROOT, Tally, heading, run
 from tried import tried
 
-# The most bytes of input and output of a case that runs unproved, where a million lines take minutes.
-MOST_TRIED = 2_000_000
+# The most bytes of words, input and output of a case that runs unproved, where a million lines take minutes.
+MOST_TRIED = 100_000
 
 
 def of(crate):
@@ -30,13 +30,13 @@ def of(crate):
     return [*cases, *generated_cases.OF.get(crate, list)()], files
 
 
-def unproved(tally, crate, cases):
-    """Those cases that run unproved, and the stored run."""
-    lengths = len(list(generated_cases.LENGTHS.get(crate, list)()))
-    short = [case for case in cases if len(case.given) + len(case.out or b"") <= MOST_TRIED]
-    for count, what in (lengths, "texts of each length"), (len(cases) - len(short), "long ones"):
+def unproved(tally, crate):
+    """The cases that run unproved: those of files that are short, and the stored run."""
+    written, computed = of_crate(crate)[0], [*generated_cases.OF.get(crate, list)(), *generated_cases.LENGTHS.get(crate, list)()]
+    short = [case for case in written if sum(map(len, [*case.words, case.given, case.out or b""])) <= MOST_TRIED]
+    for count, what in (len(computed), "computed"), (len(written) - len(short), "long"):
         if count:
-            tally.skip(f"{count} cases of {crate}", f"{what}: --prove runs them")
+            tally.skip(f"{count} {what} cases of {crate}", "--prove runs them")
     return [*stored(crate), *short]
 
 
@@ -80,7 +80,7 @@ def main():
             cases = [case for case in cases if case.name.startswith(only)]
             tally.add(f"{crate} has a case", None if cases else "no file of these names")
         elif given.is_tried:
-            cases = unproved(tally, crate, cases)
+            cases = unproved(tally, crate)
         else:
             cases.extend(generated_cases.LENGTHS.get(crate, list)())
         built = (given.program or ROOT / "crates" / crate / "out" / crate).resolve()
