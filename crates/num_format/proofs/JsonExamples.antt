@@ -38,7 +38,8 @@ a_number = refl
 nine_bytes : format_in (object (member (codes "dec") (string (codes "123456789")) no_members)) ≡ Err (TooLong (codes "dec"))
 nine_bytes = refl
 
-third_key : format_in (object (member (codes "dec") (string (codes ".")) (member (codes "grp") (string (codes "Posix")) no_members))) ≡ Err (Missing (codes "inf"))
+third_key : format_in (object (member (codes "dec") (string (codes ".")) (member (codes "grp") (string (codes "Posix")) no_members)))
+    ≡ Err (Missing (codes "inf"))
 third_key = refl
 
 en : format_in (format_json english) ≡ Ok english

@@ -1,6 +1,8 @@
 -- What the JSON value of a buffer, of a format or of a locale holds.
-use Rattle.num_format_text.specs.declared.capacities.TheConstants.{MAX_DEC_LEN, MAX_INF_LEN, MAX_MIN_LEN, MAX_NAN_LEN, MAX_PLUS_LEN, MAX_SEP_LEN}
-use Rattle.std.proofs.Common.{◌≡◌, ℕ, suc, ◌+◌, ◌/◌, ◌<◌, ◌≤◌, nat_lt, nat_le, Bool, bytes_eq, true, false, List, [], ◌∷◌, ◌++◌, map, length, codes, Option, Some, None, IfSome, Ok, IsUtf8, refl, ap, inl, inr, subst, arith}
+use Rattle.num_format_text.specs.declared.capacities.TheConstants.{MAX_DEC_LEN, MAX_INF_LEN, MAX_MIN_LEN, MAX_NAN_LEN, MAX_PLUS_LEN}
+use Rattle.num_format_text.specs.declared.capacities.TheConstants.{MAX_SEP_LEN}
+use Rattle.std.proofs.Common.{◌≡◌, ℕ, suc, ◌+◌, ◌/◌, ◌<◌, ◌≤◌, nat_lt, nat_le, Bool, bytes_eq, true, false, List, [], ◌∷◌, ◌++◌, map}
+use Rattle.std.proofs.Common.{length, codes, Option, Some, None, IfSome, Ok, IsUtf8, refl, ap, inl, inr, subst, arith}
 use Rattle.std.proofs.lemmas.Bool.{and_parts, both_ways, cases_lt, cond_both, false_from_ne_true, le-leb, le-ltb, lt-ltb, ltb-true}
 use Rattle.std.proofs.lemmas.Str.{IsUtf8-from_is_utf8, is_utf8-from_IsUtf8}
 use Rattle.std.proofs.Output.{has_written_styled_append, has_written_styled_of_eq}
@@ -43,9 +45,11 @@ not_utf8 bs refused = false_from_ne_true (is_utf8 bs) (λ valid. refused (IsUtf8
 pub ruleset json_steps = (items_len-items_of, is_utf8-from_IsUtf8, not_utf8)
 
 -- two writes in a row to a formatter with any options, as one write
-pub two_writes : {W : Type 0} (took : W → List ℕ → W → Type 0) (f g h : Formatter W) (a b all : List ℕ) → HasWrittenStyled took f a g → HasWrittenStyled took g b h
+pub two_writes : {W : Type 0} (took : W → List ℕ → W → Type 0) (f g h : Formatter W) (a b all : List ℕ) → HasWrittenStyled took f a g
+    → HasWrittenStyled took g b h
     → a ++ b ≡ all → HasWrittenStyled took f all h
-two_writes took f g h a b all first second is = has_written_styled_of_eq took _ _ all _ is (has_written_styled_append took _ _ _ _ _ first second)
+two_writes took f g h a b all first second is = has_written_styled_of_eq took _ _ all _ is
+    (has_written_styled_append took _ _ _ _ _ first second)
 
 -- an array of these bytes holds them
 abbrev AreHeld : List ℕ → Type 0
@@ -105,10 +109,12 @@ format_in-format_json f within =
 abbrev names_variant : List ℕ → List ℕ → Bool
 names_variant text name = bytes_eq text (variant_name name)
 
-none_named : (text : List ℕ) (r : Option ℕ) → LEN ≤ position_or_len (names_variant text) table_names → IfSome r (λ place. place < LEN) → IfSome r (λ place. text ≡ variant_name_of place) → r ≡ None
+none_named : (text : List ℕ) (r : Option ℕ) → LEN ≤ position_or_len (names_variant text) table_names → IfSome r (λ place. place < LEN)
+    → IfSome r (λ place. text ≡ variant_name_of place) → r ≡ None
 none_named text None past within named = refl
 none_named text (Some place) past within named =
-    absurd (both_ways _ (fails_before_first (names_variant text) table_names place [] (omega arith)) ((bytes_eq-Decides text (variant_name_of place)).1 named))
+    absurd (both_ways _ (fails_before_first (names_variant text) table_names place [] (omega arith))
+    ((bytes_eq-Decides text (variant_name_of place)).1 named))
 
 -- what a look-up of the name of a variant returns
 pub locale_named_is : (text : List ℕ) (r : Option ℕ) → ((place : ℕ) → place < LEN → text ≡ variant_name_of place → r ≡ Some place)
@@ -127,5 +133,6 @@ locale_named_is text r found within named =
 
 pub locale_in-locale_json : (place : ℕ) → place < LEN → locale_in (locale_json place) ≡ Ok place
 locale_in-locale_json place within =
-    let named : Some place ≡ locale_named (variant_name_of place) = locale_named_is (variant_name_of place) (Some place) (λ other here same. ap Some (variants_differ place other within here same)) within refl in
+    let named : Some place ≡ locale_named (variant_name_of place) = locale_named_is (variant_name_of place) (Some place)
+    (λ other here same. ap Some (variants_differ place other within here same)) within refl in
     rw (← named)

@@ -1,6 +1,8 @@
 -- Buffers, formats and locales as JSON values: the value of each, and what any value holds.
-use Rattle.num_format_text.specs.declared.capacities.TheConstants.{MAX_DEC_LEN, MAX_INF_LEN, MAX_MIN_LEN, MAX_NAN_LEN, MAX_PLUS_LEN, MAX_SEP_LEN}
-use Rattle.std.specs.Prelude.{ℕ, nat_lt, nat_le, bytes_eq, codes, List, [], ◌∷◌, ◌++◌, map, find, position, length, is_some, Option, Some, None, ok_or, option_map, option_and_then, Result, Ok, Err, if◌then◌else◌}
+use Rattle.num_format_text.specs.declared.capacities.TheConstants.{MAX_DEC_LEN, MAX_INF_LEN, MAX_MIN_LEN, MAX_NAN_LEN, MAX_PLUS_LEN}
+use Rattle.num_format_text.specs.declared.capacities.TheConstants.{MAX_SEP_LEN}
+use Rattle.std.specs.Prelude.{ℕ, nat_lt, nat_le, bytes_eq, codes, List, [], ◌∷◌, ◌++◌, map, find, position, length, is_some, Option, Some}
+use Rattle.std.specs.Prelude.{None, ok_or, option_map, option_and_then, Result, Ok, Err, if◌then◌else◌}
 use Rattle.std.specs.Fmt.{decimal}
 use Rattle.std.specs.Str.{is_utf8}
 use Rattle.serde_json.specs.Data.{Data, number, unsigned, string, array, object, Items, no_items, item, member, no_members}

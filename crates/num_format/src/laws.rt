@@ -32,5 +32,6 @@ pub fn json()
 /// Two faults are equal by `==` exactly if they are the same fault, at the same key, and so are a fault
 /// and its clone.
 pub fn json_faults()
-    ensures { EqualityLaw fault_of ⟦<JsonFault as PartialEq>⟧.eq ⟦<JsonFault as Clone>⟧.is_clone ⟦<JsonFault as Clone>⟧.is_infallible }
+    ensures { EqualityLaw fault_of ⟦<JsonFault as PartialEq>⟧.eq ⟦<JsonFault as Clone>⟧.is_clone
+        ⟦<JsonFault as Clone>⟧.is_infallible }
 {}

@@ -1,5 +1,6 @@
 -- What a builder has after calls, and what it builds.
-use Rattle.num_format_text.specs.declared.capacities.TheConstants.{MAX_DEC_LEN, MAX_INF_LEN, MAX_MIN_LEN, MAX_NAN_LEN, MAX_PLUS_LEN, MAX_SEP_LEN}
+use Rattle.num_format_text.specs.declared.capacities.TheConstants.{MAX_DEC_LEN, MAX_INF_LEN, MAX_MIN_LEN, MAX_NAN_LEN, MAX_PLUS_LEN}
+use Rattle.num_format_text.specs.declared.capacities.TheConstants.{MAX_SEP_LEN}
 use Rattle.std.specs.Prelude.{ℕ, nat_le, List, length, Option, Some, None, unwrap_or, Result, Ok, Err, if◌then◌else◌}
 use Rattle.std.specs.List.{filter_map, last_or}
 use Rattle.num_format_text.specs.declared.grouping.Grouping.{Grouping}
@@ -38,7 +39,8 @@ choices_of f = record {
   separator = Ok f.separator;
 }
 
--- a call of a builder's method: of the setter of one field with the bytes of its text or with its grouping, or of `format` with the data of a format
+-- a call of a builder's method: of the setter of one field with the bytes of its text or with its grouping, or of `format` with the data of
+-- a format
 pub data Call : Type 0 where
   SetDecimal : List ℕ → Call
   SetGrouping : Grouping → Call

@@ -15,9 +15,12 @@ pub record EnglishLaw : Type 0 where
 -- after any calls a builder has the last value of each field, so it builds the same after all calls that agree in these
 pub record BuildingLaw : Type 0 where
   pub last : (before : Choices) (calls : List Call) → fold after_call before calls ≡ last_choices before calls
-  pub same : (c d : Choices) (xs ys : List Call) → last_choices c xs ≡ last_choices d ys → built (fold after_call c xs) ≡ built (fold after_call d ys)
+  pub same : (c d : Choices) (xs ys : List Call) → last_choices c xs ≡ last_choices d ys
+      → built (fold after_call c xs) ≡ built (fold after_call d ys)
 
--- a builder that was given the data of a format builds that format; and formats with the same grouping, minus sign and separator, as equal ones have, print every number alike
+-- a builder that was given the data of a format builds that format; and formats with the same grouping, minus sign and separator, as equal
+-- ones have, print every number alike
 pub record CustomFormatLaw : Type 0 where
   pub same : (f : FormatData) → built (choices_of f) ≡ Ok f
-  pub alike : (f g : FormatData) → f.grouping ≡ g.grouping → f.minus_sign ≡ g.minus_sign → f.separator ≡ g.separator → (z : ℤ) → text_of f z ≡ text_of g z
+  pub alike : (f g : FormatData) → f.grouping ≡ g.grouping → f.minus_sign ≡ g.minus_sign → f.separator ≡ g.separator → (z : ℤ)
+      → text_of f z ≡ text_of g z

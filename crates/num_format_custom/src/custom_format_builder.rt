@@ -1,6 +1,7 @@
 //! A builder of custom formats.
 ghost use Rattle.std.specs.Prelude.{◌≡◌};
-ghost use Rattle.num_format_custom.specs.Building.{SetDecimal, SetFormat, SetGrouping, SetInfinity, SetMinusSign, SetNan, SetPlusSign, SetSeparator, after_call, built, choices_of};
+ghost use Rattle.num_format_custom.specs.Building.{SetDecimal, SetFormat, SetGrouping, SetInfinity, SetMinusSign};
+ghost use Rattle.num_format_custom.specs.Building.{SetNan, SetPlusSign, SetSeparator, after_call, built, choices_of};
 ghost use Rattle.num_format_locale.specs.Data.{locale_data};
 
 use crate::choice::Choice;

@@ -30,8 +30,10 @@ pub fn custom_formats()
 /// By `==`, two formats are equal exactly if all their data are, and two builders exactly if they have
 /// the same in each field. A clone is equal to its source, and needs no memory.
 pub fn equality()
-    ensures formats { EqualityLaw (λ x. x) ⟦<CustomFormat as PartialEq>⟧.eq ⟦<CustomFormat as Clone>⟧.is_clone ⟦<CustomFormat as Clone>⟧.is_infallible }
-    ensures builders { EqualityLaw (λ x. x) ⟦<CustomFormatBuilder as PartialEq>⟧.eq ⟦<CustomFormatBuilder as Clone>⟧.is_clone ⟦<CustomFormatBuilder as Clone>⟧.is_infallible }
+    ensures formats { EqualityLaw (λ x. x) ⟦<CustomFormat as PartialEq>⟧.eq ⟦<CustomFormat as Clone>⟧.is_clone
+        ⟦<CustomFormat as Clone>⟧.is_infallible }
+    ensures builders { EqualityLaw (λ x. x) ⟦<CustomFormatBuilder as PartialEq>⟧.eq
+        ⟦<CustomFormatBuilder as Clone>⟧.is_clone ⟦<CustomFormatBuilder as Clone>⟧.is_infallible }
 {}
 
 /// Different formats are hashed differently, and equal ones alike.

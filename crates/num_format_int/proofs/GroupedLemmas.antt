@@ -1,5 +1,6 @@
 -- Laws of grouped digits.
-use Rattle.std.proofs.Common.{◌≡◌, ℕ, zero, suc, ◌+◌, ◌-◌, ◌*◌, ◌/◌, ◌<◌, ◌≤◌, inl, inr, Bool, true, false, List, [], ◌∷◌, ◌++◌, length, refl, ap, ◌∙◌, sym, arith, length-append}
+use Rattle.std.proofs.Common.{◌≡◌, ℕ, zero, suc, ◌+◌, ◌-◌, ◌*◌, ◌/◌, ◌<◌, ◌≤◌, inl, inr, Bool, true, false, List, [], ◌∷◌, ◌++◌, length}
+use Rattle.std.proofs.Common.{refl, ap, ◌∙◌, sym, arith, length-append}
 use Rattle.std.specs.Prelude.{nat_le, nat_lt, if◌then◌else◌}
 use Rattle.std.proofs.lemmas.Bool.{cases_lt}
 use Rattle.std.proofs.lemmas.Bool.Decides.{nat_tests}
@@ -23,10 +24,12 @@ within-same p q zero same = refl
 within-same p q (suc d) same = rw (same d (omega arith), within-same p q d (λ r inside. same r (omega arith)))
 
 -- a grouping separates digits as its sizes do
-pub grouped-by : (g : Grouping) (sizes : Sizes) → GroupsBy g sizes → (s ds : List ℕ) → grouped g s ds ≡ separated (separates sizes (length ds)) s ds
+pub grouped-by : (g : Grouping) (sizes : Sizes) → GroupsBy g sizes → (s ds : List ℕ)
+    → grouped g s ds ≡ separated (separates sizes (length ds)) s ds
 grouped-by g sizes by s ds = separated-same (stands g (length ds)) (separates sizes (length ds)) s ds (by.same (length ds))
 
-within-by : (sizes : Sizes) → HaveShape sizes → (d r : ℕ) → sizes.least ≤ d → separators_within (separates sizes d) r ≡ (if nat_lt sizes.last r then suc ((r - sizes.last - 1) / sizes.size) else 0)
+within-by : (sizes : Sizes) → HaveShape sizes → (d r : ℕ) → sizes.least ≤ d
+    → separators_within (separates sizes d) r ≡ (if nat_lt sizes.last r then suc ((r - sizes.last - 1) / sizes.size) else 0)
 within-by sizes shape d zero many = grind (arith, nat_tests)
 within-by sizes shape d (suc r) many =
     let before = within-by sizes shape d r many in grind (arith, nat_tests, shape, before, many)
@@ -44,7 +47,8 @@ pub separators-few : (g : Grouping) (sizes : Sizes) → GroupsBy g sizes → (d 
 separators-few g sizes by d few = within-none (stands g d) d (λ r inside. by.same d r inside ∙ separates-few sizes d r few)
 
 -- among as many or more, one stands before the last group, and one before each whole group to its left
-pub separators-many : (g : Grouping) (sizes : Sizes) → GroupsBy g sizes → (d : ℕ) → sizes.least ≤ d → separators g d ≡ suc ((d - sizes.last - 1) / sizes.size)
+pub separators-many : (g : Grouping) (sizes : Sizes) → GroupsBy g sizes → (d : ℕ) → sizes.least ≤ d
+    → separators g d ≡ suc ((d - sizes.last - 1) / sizes.size)
 separators-many g sizes by d many =
     let long : nat_lt sizes.last d ≡ true = grind (arith, nat_tests, by.beyond) in
     within-same (stands g d) (separates sizes d) d (by.same d) ∙ within-by sizes by.shape d d many ∙ rw long refl
@@ -57,7 +61,8 @@ length-when : (b : Bool) (s : List ℕ) → length (if b then s else []) ≡ (if
 length-when true s = omega arith
 length-when false s = omega arith
 
-length-separated : (is_due : ℕ → Bool) (s ds : List ℕ) → length (separated is_due s ds) ≡ length ds + separators_within is_due (length ds) * length s
+length-separated : (is_due : ℕ → Bool) (s ds : List ℕ) → length (separated is_due s ds)
+    ≡ length ds + separators_within is_due (length ds) * length s
 length-separated is_due s [] = omega arith
 length-separated is_due s (d ∷ ds) =
     simp (length-append, length-when (is_due (length ds)) s, length-separated is_due s ds) (omega arith)
@@ -100,7 +105,8 @@ grouped-Posix s ds = grouped-none Posix refl s ds
 
 -- nor have fewer digits than the shortest number that has one
 pub grouped-few : (g : Grouping) (sizes : Sizes) → GroupsBy g sizes → (s ds : List ℕ) → length ds < sizes.least → grouped g s ds ≡ plain ds
-grouped-few g sizes by s ds few = separated-plain (stands g (length ds)) s ds (λ r inside. by.same (length ds) r inside ∙ separates-few sizes (length ds) r few)
+grouped-few g sizes by s ds few = separated-plain (stands g (length ds)) s ds (λ r inside. by.same (length ds) r inside
+    ∙ separates-few sizes (length ds) r few)
 
 last-least3 : (sizes : Sizes) → HaveShape sizes → 3 ≤ sizes.last
 last-least3 sizes shape = omega (arith, shape)
@@ -128,7 +134,8 @@ empty_either_way false ds = refl
 -- an empty separator does not show
 pub separated-none : (is_due : ℕ → Bool) (ds : List ℕ) → separated is_due [] ds ≡ plain ds
 separated-none is_due [] = refl
-separated-none is_due (d ∷ ds) = ap (λ right. (48 + d) ∷ right) (empty_either_way (is_due (length ds)) (separated is_due [] ds) ∙ separated-none is_due ds)
+separated-none is_due (d ∷ ds) = ap (λ right. (48 + d) ∷ right) (empty_either_way (is_due (length ds)) (separated is_due [] ds)
+    ∙ separated-none is_due ds)
 
 pub grouped-empty : (g : Grouping) (s ds : List ℕ) → length s ≡ 0 → grouped g s ds ≡ plain ds
 grouped-empty g s ds empty = ap (λ t. grouped g t ds) (nil_from_length s empty) ∙ separated-none (stands g (length ds)) ds

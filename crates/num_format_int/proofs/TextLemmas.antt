@@ -1,5 +1,6 @@
 -- What follows for the text of a number.
-use Rattle.std.proofs.Common.{◌≡◌, ℕ, ◌+◌, ◌-◌, ◌*◌, ◌^◌, ◌<◌, ◌≤◌, Bool, true, false, List, [], ◌∷◌, ◌++◌, length, refl, ap, arith, length-append, ℤ, pos, negsuc, unsigned_abs, append_assoc}
+use Rattle.std.proofs.Common.{◌≡◌, ℕ, ◌+◌, ◌-◌, ◌*◌, ◌^◌, ◌<◌, ◌≤◌, Bool, true, false, List, [], ◌∷◌, ◌++◌, length, refl, ap, arith}
+use Rattle.std.proofs.Common.{length-append, ℤ, pos, negsuc, unsigned_abs, append_assoc}
 use Rattle.std.specs.Prelude.{if◌then◌else◌, ◌≤ℤ◌}
 use Rattle.std.specs.Int.{is_negative}
 use Rattle.std.proofs.lemmas.Int.{ints}
@@ -33,7 +34,8 @@ unsigned_abs-lt (pos n) low high = omega (arith, ints)
 unsigned_abs-lt (negsuc n) low high = omega (arith, ints)
 
 -- no text is longer than a buffer
-pub length-text_of-le_max : (f : FormatData) (z : ℤ) → IsWithinCapacity f → negsuc (2 ^ 127 - 1) ≤ℤ z → z ≤ℤ pos (2 ^ 128 - 1) → length (text_of f z) ≤ MAX_BUF_LEN
+pub length-text_of-le_max : (f : FormatData) (z : ℤ) → IsWithinCapacity f → negsuc (2 ^ 127 - 1) ≤ℤ z → z ≤ℤ pos (2 ^ 128 - 1)
+    → length (text_of f z) ≤ MAX_BUF_LEN
 length-text_of-le_max f z fits low high =
     let few = length-digits-le39 (unsigned_abs z) (unsigned_abs-lt z low high) in
     let short = length-sign (is_negative z) f.minus_sign fits.minus_sign in
@@ -45,23 +47,27 @@ unfolding digits
 length-digits-i128-MIN = refl
 
 -- the longest text
-pub length-text_of-i128-MIN : (f : FormatData) → f.grouping ≡ Indian → length f.separator ≡ 8 → length f.minus_sign ≡ 8 → length (text_of f (negsuc (2 ^ 127 - 1))) ≡ MAX_BUF_LEN
+pub length-text_of-i128-MIN : (f : FormatData) → f.grouping ≡ Indian → length f.separator ≡ 8 → length f.minus_sign ≡ 8
+    → length (text_of f (negsuc (2 ^ 127 - 1))) ≡ MAX_BUF_LEN
 length-text_of-i128-MIN f indian separator minus_sign =
     rw (length-text_of f (negsuc (2 ^ 127 - 1)), length-digits-i128-MIN, indian, separator, minus_sign)
 
 -- digits and separators begin with the first digit
-pub body_of-begins : (f : FormatData) (n first : ℕ) (others : List ℕ) → digits n ≡ first ∷ others → (rest : List ℕ) × (body_of f n ≡ (48 + first) ∷ rest)
+pub body_of-begins : (f : FormatData) (n first : ℕ) (others : List ℕ) → digits n ≡ first ∷ others
+    → (rest : List ℕ) × (body_of f n ≡ (48 + first) ∷ rest)
 body_of-begins f n first others e = (_, ap (grouped f.grouping f.separator) e)
 
 -- separated digits end with the last digit
-separated-ends : (is_due : ℕ → Bool) → is_due 0 ≡ false → (s others : List ℕ) (last : ℕ) → (before : List ℕ) × (separated is_due s (others ++ (last ∷ [])) ≡ before ++ ((48 + last) ∷ []))
+separated-ends : (is_due : ℕ → Bool) → is_due 0 ≡ false → (s others : List ℕ) (last : ℕ)
+    → (before : List ℕ) × (separated is_due s (others ++ (last ∷ [])) ≡ before ++ ((48 + last) ∷ []))
 separated-ends is_due none s [] last = ([], rw none)
 separated-ends is_due none s (d ∷ others) last =
     let rest = separated-ends is_due none s others last in
     ((48 + d) ∷ ((if is_due (length (others ++ (last ∷ []))) then s else []) ++ rest.0), rw (rest.1, append_assoc))
 
 -- digits and separators end with the last digit
-pub body_of-ends : (f : FormatData) (n last : ℕ) (others : List ℕ) → digits n ≡ others ++ (last ∷ []) → (before : List ℕ) × (body_of f n ≡ before ++ ((48 + last) ∷ []))
+pub body_of-ends : (f : FormatData) (n last : ℕ) (others : List ℕ) → digits n ≡ others ++ (last ∷ [])
+    → (before : List ℕ) × (body_of f n ≡ before ++ ((48 + last) ∷ []))
 body_of-ends f n last others e =
     let d = length (others ++ (last ∷ [])) in
     let some : 0 < d = omega (arith, length-append others (last ∷ [])) in

@@ -1,5 +1,6 @@
 -- The table of the three digits of each number below a thousand.
-use Rattle.std.proofs.Common.{◌≡◌, ℕ, zero, suc, ◌+◌, ◌*◌, ◌-◌, ◌/◌, ◌%◌, ◌<◌, ◌≤◌, inl, inr, Bool, true, ◌&&◌, ltb, List, arith, refl, ap, ◌∙◌, [], ◌∷◌, ◌++◌, take, drop, IsAscii}
+use Rattle.std.proofs.Common.{◌≡◌, ℕ, zero, suc, ◌+◌, ◌*◌, ◌-◌, ◌/◌, ◌%◌, ◌<◌, ◌≤◌, inl, inr, Bool, true, ◌&&◌, ltb, List, arith, refl, ap}
+use Rattle.std.proofs.Common.{◌∙◌, [], ◌∷◌, ◌++◌, take, drop, IsAscii}
 use Rattle.std.proofs.Math.Seq.{drop-append-add}
 use Rattle.std.proofs.lemmas.Bool.{cases_lt}
 use Rattle.std.proofs.lemmas.Bool.Decides.{Decides-by_and, Decides-ltb}
@@ -16,7 +17,8 @@ all_ascii (b ∷ bs) = ltb b 128 && all_ascii bs
 -- so that each index is a boundary of characters
 pub triples_ascii : IsAscii TRIPLES.now
 triples_ascii =
-    IsAscii-from_all TRIPLES.now ((Decides-by_and (λ b. ltb b 128) (λ b. b < 128) all_ascii (λ b. Decides-ltb b 128) refl (λ _ _. refl) TRIPLES.now).0 refl)
+    IsAscii-from_all TRIPLES.now ((Decides-by_and (λ b. ltb b 128) (λ b. b < 128) all_ascii (λ b. Decides-ltb b 128) refl
+    (λ _ _. refl) TRIPLES.now).0 refl)
 
 -- the three digits of so many numbers in turn
 triples : (count first : ℕ) → List ℕ
@@ -56,7 +58,8 @@ triple-cut p below =
     rw (three, at_place p below)
 
 -- three digits without leading zeros
-pub without_zeros : (n skipped : ℕ) → n < 1000 → (n < 10 → skipped ≡ 2) → (10 ≤ n → n < 100 → skipped ≡ 1) → (100 ≤ n → skipped ≡ 0) → drop skipped (plain (last_digits 3 n)) ≡ plain (digits n)
+pub without_zeros : (n skipped : ℕ) → n < 1000 → (n < 10 → skipped ≡ 2) → (10 ≤ n → n < 100 → skipped ≡ 1) → (100 ≤ n → skipped ≡ 0)
+    → drop skipped (plain (last_digits 3 n)) ≡ plain (digits n)
 without_zeros n skipped below two one none =
     elim (cases_lt n 10) [
       | inl small ↦ let own : n % 10 ≡ n = omega arith in rw (two small, digits-small n small, own)

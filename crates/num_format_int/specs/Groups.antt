@@ -42,7 +42,8 @@ pub record BeginsBefore (is_due : ℕ → Bool) (separator right old new : List 
 -- digits that are whole groups were prepended, with their separators
 abbrev pub PrependsGroups : (size : ℕ) → (ds separator before after : List ℕ) → Type 0
 PrependsGroups size ds separator before after =
-    (is_due : ℕ → Bool) (right old : List ℕ) → HasGroups is_due size → BeginsBefore is_due separator right old before → BeginsBefore is_due separator (ds ++ right) old after
+    (is_due : ℕ → Bool) (right old : List ℕ) → HasGroups is_due size → BeginsBefore is_due separator right old before
+    → BeginsBefore is_due separator (ds ++ right) old after
 
 -- the digits of n but for those of `first` were prepended in whole groups
 pub record PrependsAllBut (size n first : ℕ) (separator before after : List ℕ) : Type 0 where
@@ -55,9 +56,11 @@ pub record PrependsAllBut (size n first : ℕ) (separator before after : List �
 -- digits were prepended, of which the first group may be shorter, with separators between the groups
 abbrev pub PrependsDigits : (size : ℕ) → (ds separator before after : List ℕ) → Type 0
 PrependsDigits size ds separator before after =
-    (is_due : ℕ → Bool) (right old : List ℕ) → HasGroups is_due size → BeginsBefore is_due separator right old before → after ≡ separated is_due separator (ds ++ right) ++ old
+    (is_due : ℕ → Bool) (right old : List ℕ) → HasGroups is_due size → BeginsBefore is_due separator right old before
+    → after ≡ separated is_due separator (ds ++ right) ++ old
 
--- before the old text stand the digits with separators before a last group and before groups of that size, wherever that is where they are due
+-- before the old text stand the digits with separators before a last group and before groups of that size, wherever that is where they are
+-- due
 abbrev pub IsGroupedBefore : (last size : ℕ) → (separator ds old new : List ℕ) → Type 0
 IsGroupedBefore last size separator ds old new =
     (is_due : ℕ → Bool) → HasLastGroup is_due last → HasGroups is_due size → new ≡ separated is_due separator ds ++ old

@@ -1,5 +1,6 @@
 -- Laws of the digits and the text of a number.
-use Rattle.std.specs.Prelude.{◌≡◌, ℕ, ◌+◌, ◌-◌, ◌*◌, ◌/◌, ◌%◌, ◌^◌, ◌<◌, ◌≤◌, ℤ, pos, negsuc, ◌≤ℤ◌, unsigned_abs, List, [], ◌∷◌, ◌++◌, length, if◌then◌else◌}
+use Rattle.std.specs.Prelude.{◌≡◌, ℕ, ◌+◌, ◌-◌, ◌*◌, ◌/◌, ◌%◌, ◌^◌, ◌<◌, ◌≤◌, ℤ, pos, negsuc, ◌≤ℤ◌, unsigned_abs, List, [], ◌∷◌, ◌++◌}
+use Rattle.std.specs.Prelude.{length, if◌then◌else◌}
 use Rattle.std.specs.Int.{is_negative}
 use Rattle.std.specs.Int.Digits.{number_from_digits}
 use Rattle.num_format_text.specs.declared.capacities.TheConstants.{MAX_MIN_LEN, MAX_SEP_LEN}
@@ -25,10 +26,14 @@ LengthLaw = (f : FormatData) (z : ℤ) →
 
 -- no text of a number from -2 ^ 127 to 2 ^ 128 - 1 has more than `MAX_BUF_LEN` bytes, and that of -2 ^ 127 can have as many
 pub record BoundLaw : Type 0 where
-  pub bound : (f : FormatData) (z : ℤ) → IsWithinCapacity f → negsuc (2 ^ 127 - 1) ≤ℤ z → z ≤ℤ pos (2 ^ 128 - 1) → length (text_of f z) ≤ MAX_BUF_LEN
-  pub reached : (f : FormatData) → f.grouping ≡ Indian → length f.separator ≡ MAX_SEP_LEN → length f.minus_sign ≡ MAX_MIN_LEN → length (text_of f (negsuc (2 ^ 127 - 1))) ≡ MAX_BUF_LEN
+  pub bound : (f : FormatData) (z : ℤ) → IsWithinCapacity f → negsuc (2 ^ 127 - 1) ≤ℤ z → z ≤ℤ pos (2 ^ 128 - 1)
+      → length (text_of f z) ≤ MAX_BUF_LEN
+  pub reached : (f : FormatData) → f.grouping ≡ Indian → length f.separator ≡ MAX_SEP_LEN → length f.minus_sign ≡ MAX_MIN_LEN
+      → length (text_of f (negsuc (2 ^ 127 - 1))) ≡ MAX_BUF_LEN
 
 -- the digits and separators of a number begin with its first digit and end with its last: no separator leads or trails
 pub record EndsLaw : Type 0 where
-  pub begins : (f : FormatData) (n first : ℕ) (others : List ℕ) → digits n ≡ first ∷ others → (rest : List ℕ) × (body_of f n ≡ (48 + first) ∷ rest)
-  pub ends : (f : FormatData) (n last : ℕ) (others : List ℕ) → digits n ≡ others ++ (last ∷ []) → (before : List ℕ) × (body_of f n ≡ before ++ ((48 + last) ∷ []))
+  pub begins : (f : FormatData) (n first : ℕ) (others : List ℕ) → digits n ≡ first ∷ others
+      → (rest : List ℕ) × (body_of f n ≡ (48 + first) ∷ rest)
+  pub ends : (f : FormatData) (n last : ℕ) (others : List ℕ) → digits n ≡ others ++ (last ∷ [])
+      → (before : List ℕ) × (body_of f n ≡ before ++ ((48 + last) ∷ []))

@@ -3,7 +3,8 @@
 //! A [`Buffer`] is an array of [`MAX_BUF_LEN`] bytes, which no number outgrows under any format. Its
 //! text ends where the array ends and grows to the left, since the digits of a number are found from
 //! the last to the first.
-ghost use Rattle.std.specs.Prelude.{◌≡◌, ℕ, List, ◌+◌, ◌-◌, ◌*◌, ◌<◌, ◌≤◌, ◌==◌, [], ◌∷◌, ◌++◌, length, take, drop, Some, IsUtf8};
+ghost use Rattle.std.specs.Prelude.{◌≡◌, ℕ, List, ◌+◌, ◌-◌, ◌*◌, ◌<◌, ◌≤◌, ◌==◌, [], ◌∷◌, ◌++◌, length, take, drop};
+ghost use Rattle.std.specs.Prelude.{Some, IsUtf8};
 ghost use Rattle.std.specs.Str.{IsCharBoundary};
 ghost use Rattle.num_format_int.specs.declared.buffer.TheConstants.{MAX_BUF_LEN};
 ghost use Rattle.std.specs.Fmt.{WritesOnOk, WritesStyledOnOk};
@@ -185,10 +186,7 @@ pub trait PutFront {
         requires few { skipped ≤ 2 }
         requires boundary { (skipped ≤ length text.now) × IsCharBoundary text.now skipped }
         requires fits { length text.now + length (held self.old) + 2 ≤ CAPACITY }
-        ensures { held self.new ≡ drop skipped text.now ++ held self.old }
-    {
-        self.put_front(&text[skipped..]);
-    }
+        ensures { held self.new ≡ drop skipped text.now ++ held self.old };
 }
 
 impl PutFront for Buffer {
@@ -222,7 +220,8 @@ pub fn copy_before(text: &str, skipped: usize, place: usize, array: &mut [u8]) -
     ensures whole { drop (place - length text.now) array.new ≡ text.now ++ drop place array.old }
     ensures before { take (place - length text.now) array.new ≡ take (place - length text.now) array.old }
     ensures length { length array.new ≡ length array.old }
-    ensures utf8 { IsCharBoundary text.now skipped → ∥ IsUtf8 (drop place array.old) ∥₁ → ∥ IsUtf8 (drop result array.new) ∥₁ }
+    ensures utf8 { IsCharBoundary text.now skipped → ∥ IsUtf8 (drop place array.old) ∥₁
+        → ∥ IsUtf8 (drop result array.new) ∥₁ }
 {
     let start = place - text.len();
     copy_bytes(text.as_bytes(), &mut array[start..place]);

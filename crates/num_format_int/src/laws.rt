@@ -36,5 +36,5 @@ pub fn text_ends()
 pub fn number_in_range<N: ToFormattedStr>(n: &N)
     ensures { IsValueOf N.kind (N.value n.now) }
 {
-    n.magnitude();
+    n.sign_and_magnitude();
 }

@@ -1,5 +1,6 @@
 -- What holds of every entry, whatever its name.
-use Rattle.std.proofs.Common.{◌≡◌, ◌≢◌, ℕ, ◌<◌, ◌≤◌, List, [], ◌∷◌, length, encode_utf8_all, refl, sym, ap, subst, arith, Bool, true, false, ◌&&◌, nat_eq, nat_le, if◌then◌else◌}
+use Rattle.std.proofs.Common.{◌≡◌, ◌≢◌, ℕ, ◌<◌, ◌≤◌, List, [], ◌∷◌, length, encode_utf8_all, refl, sym, ap, subst, arith, Bool, true, false}
+use Rattle.std.proofs.Common.{◌&&◌, nat_eq, nat_le, if◌then◌else◌}
 use Rattle.std.specs.List.{list_all, list_any}
 use Rattle.std.specs.Str.{chars}
 use Rattle.std.specs.Cmp.{first_so, second_so}
@@ -8,7 +9,8 @@ use Rattle.std.proofs.lemmas.List.Elements.{All-weaker}
 use Rattle.std.proofs.lemmas.List.Sums.{AllPass-from_list_all}
 use Rattle.std.proofs.lemmas.Map.Views.{Contains-from_any}
 use lib.Utf8.{encode}
-use Rattle.num_format_text.specs.declared.capacities.TheConstants.{MAX_DEC_LEN, MAX_INF_LEN, MAX_MIN_LEN, MAX_NAN_LEN, MAX_PLUS_LEN, MAX_SEP_LEN}
+use Rattle.num_format_text.specs.declared.capacities.TheConstants.{MAX_DEC_LEN, MAX_INF_LEN, MAX_MIN_LEN, MAX_NAN_LEN, MAX_PLUS_LEN}
+use Rattle.num_format_text.specs.declared.capacities.TheConstants.{MAX_SEP_LEN}
 use Rattle.num_format_locale.specs.declared.cldr.TheConstants.{LEN}
 use Rattle.num_format_locale.specs.Entry.{IsWellFormed}
 use Rattle.num_format_text.specs.Characters.{HasOnly, minus_sign_characters, separator_characters}
@@ -28,7 +30,8 @@ if_passes test true x y hx hy = hx
 if_passes test false x y hx hy = hy
 
 -- what the usual value and each unusual one pass, the value for a name passes
-value_passes : {X : Type 0} (test : X → Bool) (name : List ℕ) (lines : List (Unusual X)) (usual : X) → test usual ≡ true → list_all (λ line. test line.value) lines ≡ true → test (value_for name lines usual) ≡ true
+value_passes : {X : Type 0} (test : X → Bool) (name : List ℕ) (lines : List (Unusual X)) (usual : X) → test usual ≡ true
+    → list_all (λ line. test line.value) lines ≡ true → test (value_for name lines usual) ≡ true
 value_passes test name [] usual hu h = hu
 value_passes test name (line ∷ lines) usual hu h =
     if_passes test (line.is_for name) line.value (value_for name lines usual) (first_so _ _ h)

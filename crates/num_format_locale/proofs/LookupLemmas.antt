@@ -1,5 +1,7 @@
 -- Lemmas on the look-up of a tag among the names, in any case.
-use Rattle.std.proofs.Common.{◌≡◌, ℕ, zero, suc, ◌+◌, ◌-◌, ◌<◌, ◌≤◌, ◌⊎◌, inl, inr, List, [], ◌∷◌, ◌++◌, length, map, take, drop, slice_index, slice_index_or, arith, refl, sym, ap, subst, ◌∙◌, Option, Some, None, Result, Ok, Err, MatchResult, Bool, true, false, cond, not, min, codes, ◌≢◌, ◌↔◌}
+use Rattle.std.proofs.Common.{◌≡◌, ℕ, zero, suc, ◌+◌, ◌-◌, ◌<◌, ◌≤◌, ◌⊎◌, inl, inr, List, [], ◌∷◌, ◌++◌, length, map, take, drop}
+use Rattle.std.proofs.Common.{slice_index, slice_index_or, arith, refl, sym, ap, subst, ◌∙◌, Option, Some, None, Result, Ok, Err}
+use Rattle.std.proofs.Common.{MatchResult, Bool, true, false, cond, not, min, codes, ◌≢◌, ◌↔◌}
 use Rattle.std.specs.Prelude.{IfNone, IfSome, is_some, nat_le, nat_lt, unwrap_or}
 use Rattle.std.specs.Borrow.{Bor}
 use Rattle.std.specs.Char.{to_ascii_lowercase}
@@ -11,7 +13,8 @@ use Rattle.std.specs.declared.cmp.Ordering.TheVariants.{Less, Equal}
 use Rattle.std.proofs.Math.Nat.{eq-or-lt_of_le}
 use Rattle.std.proofs.lemmas.Bool.{cases_lt, leb-true, ltb-false}
 use Rattle.std.proofs.lemmas.Cmp.{nat_list_cmp_total, tied_itself}
-use Rattle.std.proofs.lemmas.List.{drop_more, get_or-drop, get_or-map, get_or-take, get_or_at, length-append, length-drop, length-map, length-take, length-take-le, take-append-drop, take-map, take-take, take_all, take_at, take_min}
+use Rattle.std.proofs.lemmas.List.{drop_more, get_or-drop, get_or-map, get_or-take, get_or_at, length-append, length-drop, length-map}
+use Rattle.std.proofs.lemmas.List.{length-take, length-take-le, take-append-drop, take-map, take-take, take_all, take_at, take_min}
 use Rattle.std.proofs.lemmas.List.Sorted.{searchable_from_sorted}
 use Rattle.std.proofs.lemmas.List.Sums.{AllPass-from_list_all, prefix_len-le-length, take_while-cons}
 use lib.Utf8.{encode}
@@ -49,7 +52,8 @@ pub lower_order : (p q : ℕ) → p < LEN → q < LEN → slice_cmp nat_cmp (low
 lower_order p q within_p within_q =
     ap (λ a. slice_cmp nat_cmp a (lower (name_of q))) (sym (lower_name_at p within_p))
     ∙ ap (slice_cmp nat_cmp (slice_index_or lower_names p [])) (sym (lower_name_at q within_q))
-    ∙ places_compare lower_names (Rises-from_test lower_names lower_names_pass) p q (omega (arith, length-lower_names)) (omega (arith, length-lower_names))
+    ∙ places_compare lower_names (Rises-from_test lower_names lower_names_pass) p q (omega (arith, length-lower_names))
+    (omega (arith, length-lower_names))
 
 lower_rises : (p q : ℕ) → p < q → q < LEN → slice_cmp nat_cmp (lower (name_of p)) (lower (name_of q)) ≡ Less
 lower_rises p q before within =
@@ -63,10 +67,13 @@ unfolding encode families members table_names
 names_are_short = refl
 
 pub short : (place : ℕ) → place < LEN → length (name_of place) ≤ 14
-short place within = leb-true _ _ (AllPass-from_list_all (λ name. nat_le (length name) 14) table_names names_are_short place [] (omega (arith, length-table_names)))
+short place within =
+    leb-true _ _ (AllPass-from_list_all (λ name. nat_le (length name) 14) table_names names_are_short place []
+    (omega (arith, length-table_names)))
 
 -- the names from place `low` to before place `high`, behind references
-module _ (names : List (Bor (List ℕ))) (listed : map (λ name. name.now) names ≡ table_names) (low high : ℕ) (ordered : low ≤ high) (within : high ≤ LEN) where
+module _ (names : List (Bor (List ℕ))) (listed : map (λ name. name.now) names ≡ table_names) (low high : ℕ) (ordered : low ≤ high)
+    (within : high ≤ LEN) where
   abbrev part : List (Bor (List ℕ))
   part = take (high - low) (drop low names)
 
@@ -144,7 +151,8 @@ beginning language name (inr at) =
       record {
         within = omega arith;
         ends = inr (omega arith, ap (λ t. slice_index t (length at.0)) at.2 ∙ get_or_at at.0 45 at.1 0 (length at.0) refl);
-        same = subst (λ t. IsSameIgnoringCase t name) (sym (ap (take (length at.0)) at.2 ∙ take_at at.0 (45 ∷ at.1) (length at.0) refl)) at.3;
+        same = subst (λ t. IsSameIgnoringCase t name) (sym (ap (take (length at.0)) at.2 ∙ take_at at.0 (45 ∷ at.1) (length at.0) refl))
+            at.3;
       },
     )
 
@@ -197,7 +205,8 @@ module _ (language : List ℕ) (end : ℕ) (left : IsLeft language end) where
         ]
 
     -- where it is no name, the next beginning ends at the last hyphen before its end
-    pub next : (hyphen : ℕ) → hyphen < end → slice_index language hyphen ≡ 45 → ((k : ℕ) → hyphen < k → k < end → slice_index language k ≢ 45) → IsLeft language hyphen
+    pub next : (hyphen : ℕ) → hyphen < end → slice_index language hyphen ≡ 45
+        → ((k : ℕ) → hyphen < k → k < end → slice_index language k ≢ 45) → IsLeft language hyphen
     next hyphen before is none = record {
       within = let w = left.within in omega arith;
       ends = inr ((let w = left.within in omega arith), is);
@@ -262,7 +271,10 @@ module _ (language name : List ℕ) (fits : length name ≤ 14) where
         within = omega (arith, length-head);
         ends = elim at.1.ends [
           | inl all ↦ inl (omega (arith, length-head))
-          | inr hyphen ↦ inr ((let h = hyphen.0 in omega (arith, length-head)), sym (get_or-take 15 language at.0 0 (omega arith)) ∙ hyphen.1)
+          | inr hyphen ↦ inr (
+            (let h = hyphen.0 in omega (arith, length-head)),
+            sym (get_or-take 15 language at.0 0 (omega arith)) ∙ hyphen.1,
+          )
         ];
         same = subst (λ t. IsSameIgnoringCase t name) (take-take at.0 15 language (omega arith)) at.1.same;
       })
@@ -319,7 +331,8 @@ module _ (tag : List ℕ) where
     looked_up place so = record {
       within = so.within;
       posix = λ posix. absurd (not_posix (posix_whole (language_of tag) posix));
-      longest = λ _. longest_of_head (hyphened (language_of tag)) place (subst (λ t. IsLongestMatch t place) (sym (take-map hyphen_for_underscore 15 (language_of tag))) so);
+      longest = λ _. longest_of_head (hyphened (language_of tag)) place
+          (subst (λ t. IsLongestMatch t place) (sym (take-map hyphen_for_underscore 15 (language_of tag))) so);
       other = tt;
       missing = tt;
     }
@@ -345,11 +358,15 @@ first_or_length place n found within is =
     ] refl)
 
 -- what is before that byte in the first bytes of a tag
-pub language_of_head : (tag : List ℕ) (n end : ℕ) (found : Option ℕ) → n ≡ min (length tag) 15 → found ≡ cond (nat_lt (position_or_len ends_language (take n tag)) (length (take n tag))) (Some (position_or_len ends_language (take n tag))) None → end ≡ unwrap_or found (length (take n tag)) → take end (take n tag) ≡ take 15 (language_of tag)
+pub language_of_head : (tag : List ℕ) (n end : ℕ) (found : Option ℕ) → n ≡ min (length tag) 15
+    → found ≡ cond (nat_lt (position_or_len ends_language (take n tag)) (length (take n tag)))
+    (Some (position_or_len ends_language (take n tag))) None → end ≡ unwrap_or found (length (take n tag))
+    → take end (take n tag) ≡ take 15 (language_of tag)
 language_of_head tag n end found most first is =
     let short : n ≡ min 15 (length tag) = omega arith in
     let head : take n tag ≡ take 15 tag = ap (λ m. take m tag) short ∙ take_min 15 tag in
-    ap (λ m. take m (take n tag)) (is ∙ first_or_length _ _ found (prefix_len-le-length (λ each. not (ends_language each)) (take n tag)) first)
+    ap (λ m. take m (take n tag)) (is ∙ first_or_length _ _ found (prefix_len-le-length (λ each. not (ends_language each)) (take n tag))
+    first)
     ∙ ap (before_first ends_language) head ∙ before_first-take ends_language 15 tag
 
 -- what holds where there is no place
@@ -359,14 +376,18 @@ at_none None P is holds = holds
 
 -- the steps of the loop, in the words of the text with its underscores
 module _ (text : List ℕ) (end : ℕ) (left : IsLeft (hyphened text) end) where
-  pub found_if_some : (place : Option ℕ) → IfSome place (λ p. IsSameIgnoringCase (hyphened (take end text)) (name_of p)) → IfSome place (λ p. p < LEN) → IfSome place (IsLongestMatch (hyphened text))
-  found_if_some (Some p) same within = found (hyphened text) end left p within (subst (λ t. IsSameIgnoringCase t (name_of p)) (sym (take-map hyphen_for_underscore end text)) same)
+  pub found_if_some : (place : Option ℕ) → IfSome place (λ p. IsSameIgnoringCase (hyphened (take end text)) (name_of p))
+      → IfSome place (λ p. p < LEN) → IfSome place (IsLongestMatch (hyphened text))
+  found_if_some (Some p) same within = found (hyphened text) end left p within
+      (subst (λ t. IsSameIgnoringCase t (name_of p)) (sym (take-map hyphen_for_underscore end text)) same)
   found_if_some None same within = tt
 
-  module _ (place : Option ℕ) (is : is_some place ≡ false) (missing : IfNone place ((p : ℕ) → p < LEN → ¬ IsSameIgnoringCase (hyphened (take end text)) (name_of p))) where
+  module _ (place : Option ℕ) (is : is_some place ≡ false) (missing : IfNone place ((p : ℕ) → p < LEN
+      → ¬ IsSameIgnoringCase (hyphened (take end text)) (name_of p))) where
     missing_here : (p : ℕ) → p < LEN → ¬ IsSameIgnoringCase (take end (hyphened text)) (name_of p)
     missing_here p within same =
-        at_none place ((q : ℕ) → q < LEN → ¬ IsSameIgnoringCase (hyphened (take end text)) (name_of q)) is missing p within (subst (λ t. IsSameIgnoringCase t (name_of p)) (take-map hyphen_for_underscore end text) same)
+        at_none place ((q : ℕ) → q < LEN → ¬ IsSameIgnoringCase (hyphened (take end text)) (name_of q)) is missing p within
+        (subst (λ t. IsSameIgnoringCase t (name_of p)) (take-map hyphen_for_underscore end text) same)
 
     byte_at : (k : ℕ) → k < end → slice_index (hyphened text) k ≡ hyphen_for_underscore (slice_index (take end text) k)
     byte_at k less =
@@ -378,16 +399,22 @@ module _ (text : List ℕ) (end : ℕ) (left : IsLeft (hyphened text) end) where
     length-here = length-take-le end text (let w = left.within in omega (arith, length-map text hyphen_for_underscore))
 
     pub next_at : (hyphen : ℕ) → hyphen < length (take end text) → hyphen_for_underscore (slice_index (take end text) hyphen) ≡ 45 →
-        ((k : ℕ) → hyphen + 1 ≤ k → k < length (take end text) → hyphen_for_underscore (slice_index (take end text) k) ≢ 45) → IsLeft (hyphened text) hyphen
+        ((k : ℕ) → hyphen + 1 ≤ k → k < length (take end text) → hyphen_for_underscore (slice_index (take end text) k) ≢ 45)
+        → IsLeft (hyphened text) hyphen
     next_at hyphen inside at none =
         let before : hyphen < end = omega (arith, length-here) in
         next (hyphened text) end left missing_here hyphen before (byte_at hyphen before ∙ at)
         (λ k after less same. none k (omega arith) (omega (arith, length-here)) (sym (byte_at k less) ∙ same))
 
-    pub none_at : ((k : ℕ) → k < length (take end text) → hyphen_for_underscore (slice_index (take end text) k) ≢ 45) → (p : ℕ) → p < LEN → ¬ Matches (hyphened text) (name_of p)
-    none_at none = none_matches (hyphened text) end left missing_here (λ k less same. none k (omega (arith, length-here)) (sym (byte_at k less) ∙ same))
+    pub none_at : ((k : ℕ) → k < length (take end text) → hyphen_for_underscore (slice_index (take end text) k) ≢ 45) → (p : ℕ) → p < LEN
+        → ¬ Matches (hyphened text) (name_of p)
+    none_at none =
+        none_matches (hyphened text) end left missing_here (λ k less same. none k (omega (arith, length-here)) (sym (byte_at k less)
+        ∙ same))
 
 -- a language that neither comparison finds to be the same is not `C` or `POSIX`
-pub neither_is_posix : (language : List ℕ) (c posix : Bool) → c ≡ false → posix ≡ false → (c ≡ true ↔ IsSameIgnoringCase language (codes "C")) → (posix ≡ true ↔ IsSameIgnoringCase language (codes "POSIX")) → ¬ IsPosix language
+pub neither_is_posix : (language : List ℕ) (c posix : Bool) → c ≡ false → posix ≡ false
+    → (c ≡ true ↔ IsSameIgnoringCase language (codes "C")) → (posix ≡ true ↔ IsSameIgnoringCase language (codes "POSIX"))
+    → ¬ IsPosix language
 neither_is_posix language c posix no_c no_posix is_c is_posix (inl same) = let both : true ≡ false = sym (is_c.1 same) ∙ no_c in cc
 neither_is_posix language c posix no_c no_posix is_c is_posix (inr same) = let both : true ≡ false = sym (is_posix.1 same) ∙ no_posix in cc

@@ -1,5 +1,6 @@
 -- Lemmas on the names of locales and their places.
-use Rattle.std.proofs.Common.{◌≡◌, ◌≢◌, ℕ, suc, ◌<◌, inl, inr, List, [], ◌∷◌, length, map, Contains, slice_index_or, arith, refl, sym, ap, ◌∙◌}
+use Rattle.std.proofs.Common.{◌≡◌, ◌≢◌, ℕ, suc, ◌<◌, inl, inr, List, [], ◌∷◌, length, map, Contains, slice_index_or, arith, refl, sym, ap}
+use Rattle.std.proofs.Common.{◌∙◌}
 use Rattle.std.specs.Borrow.{Bor}
 use Rattle.std.specs.Cmp.{nat_cmp_is}
 use Rattle.std.specs.Cmp.Lexicographic.{slice_cmp}
@@ -60,7 +61,8 @@ no_underscore place within = names_have_no_underscore place [] (omega (arith, le
 -- texts that rise
 module _ (texts : List (List ℕ)) (rise : Rises texts) where
   -- places compare as their texts do
-  pub places_compare : (p q : ℕ) → p < length texts → q < length texts → slice_cmp nat_cmp (slice_index_or texts p []) (slice_index_or texts q []) ≡ nat_cmp p q
+  pub places_compare : (p q : ℕ) → p < length texts → q < length texts
+      → slice_cmp nat_cmp (slice_index_or texts p []) (slice_index_or texts q []) ≡ nat_cmp p q
   places_compare p q within_p within_q =
       elim (cases_lt p q) [
         | inl less ↦ rise p q less within_q ∙ nat_cmp_is p q Less less
@@ -93,6 +95,7 @@ unique text p q within_p within_q spells_p spells_q =
     (sym (spelled_name text _ (no_underscore p within_p) spells_p) ∙ spelled_name text _ (no_underscore q within_q) spells_q)
 
 -- what a reference to a name points to
-pub name_at : (names : List (Bor (List ℕ))) (place : ℕ) (d : Bor (List ℕ)) → map (λ name. name.now) names ≡ table_names → place < length names → (slice_index_or names place d).now ≡ name_of place
+pub name_at : (names : List (Bor (List ℕ))) (place : ℕ) (d : Bor (List ℕ)) → map (λ name. name.now) names ≡ table_names
+    → place < length names → (slice_index_or names place d).now ≡ name_of place
 name_at names place d listed within =
     sym (get_or-map (λ name. name.now) names place d [] within) ∙ ap (λ all. slice_index_or all place []) listed

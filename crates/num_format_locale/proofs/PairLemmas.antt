@@ -1,5 +1,6 @@
 -- Lemmas on the pairs of letters with which names begin.
-use Rattle.std.proofs.Common.{◌≡◌, ℕ, zero, suc, ◌+◌, ◌<◌, ◌≤◌, ◌&&◌, List, [], ◌∷◌, length, slice_index, slice_index_or, arith, ap, subst, sym, Bool, true, false}
+use Rattle.std.proofs.Common.{◌≡◌, ℕ, zero, suc, ◌+◌, ◌<◌, ◌≤◌, ◌&&◌, List, [], ◌∷◌, length, slice_index, slice_index_or, arith, ap, subst}
+use Rattle.std.proofs.Common.{sym, Bool, true, false}
 use Rattle.std.specs.Prelude.{nat_le, nat_lt}
 use Rattle.std.specs.Char.{IsAsciiLowercase, to_ascii_lowercase}
 use Rattle.std.specs.Cmp.{first_so, second_so}
@@ -28,7 +29,8 @@ is_of_pair begins place pair = nat_le (slice_index begins pair) place && nat_lt 
 abbrev is_listed : List ℕ → ℕ → List ℕ → Bool
 is_listed begins place [] = false
 is_listed begins place (first ∷ []) = false
-is_listed begins place (first ∷ (second ∷ rest)) = (is_letter first && is_letter second) && is_of_pair begins place (place_of_pair first second)
+is_listed begins place (first ∷ (second ∷ rest)) = (is_letter first && is_letter second)
+    && is_of_pair begins place (place_of_pair first second)
 
 -- whether names are, the first of them at a place
 abbrev are_listed : List ℕ → ℕ → List (List ℕ) → Bool
@@ -41,7 +43,8 @@ are_rising [] = true
 are_rising (place ∷ []) = true
 are_rising (place ∷ (next ∷ places)) = nat_le place next && are_rising (next ∷ places)
 
-rising_at : (begins : List ℕ) → are_rising begins ≡ true → (k : ℕ) → suc k < length begins → slice_index begins k ≤ slice_index begins (suc k)
+rising_at : (begins : List ℕ) → are_rising begins ≡ true → (k : ℕ) → suc k < length begins
+    → slice_index begins k ≤ slice_index begins (suc k)
 rising_at [] h k within = absurd (omega arith)
 rising_at (place ∷ []) h k within = absurd (omega arith)
 rising_at (place ∷ (next ∷ places)) h zero within = leb-true _ _ (first_so _ _ h)
@@ -64,7 +67,8 @@ listed begins place (first ∷ (second ∷ rest)) h =
       below = ltb-true _ _ (second_so _ _ around);
     }
 
-listed_at : (begins : List ℕ) (place : ℕ) (names : List (List ℕ)) → are_listed begins place names ≡ true → (k : ℕ) → k < length names → IsListed begins (place + k) (slice_index_or names k [])
+listed_at : (begins : List ℕ) (place : ℕ) (names : List (List ℕ)) → are_listed begins place names ≡ true → (k : ℕ) → k < length names
+    → IsListed begins (place + k) (slice_index_or names k [])
 listed_at begins place [] h k within = absurd (omega arith)
 listed_at begins place (name ∷ names) h zero within =
     let here : place ≡ place + 0 = omega arith in
@@ -74,7 +78,8 @@ listed_at begins place (name ∷ names) h (suc k) within =
     subst (λ p. IsListed begins p (slice_index_or names k [])) here (listed_at begins (suc place) names (second_so _ _ h) k (omega arith))
 
 -- a list of places that passes the tests
-pub lists_pairs : (begins : List ℕ) → length begins ≡ pairs + 1 → list_all (λ place. nat_le place LEN) begins ≡ true → are_rising begins ≡ true → are_listed begins 0 table_names ≡ true → ListsPairs begins
+pub lists_pairs : (begins : List ℕ) → length begins ≡ pairs + 1 → list_all (λ place. nat_le place LEN) begins ≡ true
+    → are_rising begins ≡ true → are_listed begins 0 table_names ≡ true → ListsPairs begins
 lists_pairs begins count within rising listed = record {
   count = count;
   rising = λ pair bound.
@@ -87,17 +92,21 @@ lists_pairs begins count within rising listed = record {
 }
 
 -- a byte that is a letter in lower case, with a hyphen for an underscore, is that letter
-stays : (each wanted : ℕ) → IsAsciiLowercase wanted → to_ascii_lowercase (hyphen_for_underscore each) ≡ to_ascii_lowercase wanted → to_ascii_lowercase each ≡ wanted
+stays : (each wanted : ℕ) → IsAsciiLowercase wanted → to_ascii_lowercase (hyphen_for_underscore each) ≡ to_ascii_lowercase wanted
+    → to_ascii_lowercase each ≡ wanted
 stays each wanted letter h = grind (arith, nat_tests)
 
 -- a text that is a name in any case has two letters, and the name's place is one of their pair
-pub long : (begins : List ℕ) (place : ℕ) (text name : List ℕ) → IsListed begins place name → IsSameIgnoringCase (hyphened text) name → 2 ≤ length text
+pub long : (begins : List ℕ) (place : ℕ) (text name : List ℕ) → IsListed begins place name → IsSameIgnoringCase (hyphened text) name
+    → 2 ≤ length text
 long begins place text [] so same = absurd so
 long begins place text (n ∷ []) so same = absurd so
 long begins place text (n ∷ (m ∷ name)) so same =
     let lengths = simp length-map at (ap length same) in omega (arith, lengths)
 
-pub of_pair : (begins : List ℕ) (place : ℕ) (text name : List ℕ) (d e : ℕ) → IsListed begins place name → IsSameIgnoringCase (hyphened text) name → IsOfPair begins place (to_ascii_lowercase (slice_index_or text 0 d)) (to_ascii_lowercase (slice_index_or text 1 e))
+pub of_pair : (begins : List ℕ) (place : ℕ) (text name : List ℕ) (d e : ℕ) → IsListed begins place name
+    → IsSameIgnoringCase (hyphened text) name → IsOfPair begins place (to_ascii_lowercase (slice_index_or text 0 d))
+    (to_ascii_lowercase (slice_index_or text 1 e))
 of_pair begins place text [] d e so same = absurd so
 of_pair begins place text (n ∷ []) d e so same = absurd so
 of_pair begins place [] (n ∷ (m ∷ name)) d e so same = cc

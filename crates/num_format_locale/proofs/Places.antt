@@ -1,5 +1,6 @@
 -- Where the entries of the table stand in its pieces.
-use Rattle.std.proofs.Common.{◌≡◌, ℕ, ◌+◌, ◌-◌, ◌*◌, ◌/◌, ◌%◌, ◌<◌, List, [], length, take, drop, slice_index_or, encode_utf8_all, refl, sym, ap, subst, ◌∙◌, arith, min}
+use Rattle.std.proofs.Common.{◌≡◌, ℕ, ◌+◌, ◌-◌, ◌*◌, ◌/◌, ◌%◌, ◌<◌, List, [], length, take, drop, slice_index_or, encode_utf8_all, refl}
+use Rattle.std.proofs.Common.{sym, ap, subst, ◌∙◌, arith, min}
 use Rattle.std.proofs.lemmas.List.{length-map, get_or-map, get_or-take, get_or-drop, drop-map, take-map, length-take, length-drop}
 use Rattle.std.proofs.lemmas.Slice.Zip.{AllZip-long}
 use Rattle.num_format_locale.specs.declared.cldr.TheConstants.{LEN}

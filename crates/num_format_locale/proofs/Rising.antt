@@ -1,5 +1,6 @@
 -- The order of the names, and the bytes that they do not have.
-use Rattle.std.proofs.Common.{◌≡◌, ℕ, zero, suc, ◌<◌, List, [], ◌∷◌, length, slice_index_or, refl, subst, arith, Bool, true, false, ◌&&◌, All, Contains, not, nat_eq}
+use Rattle.std.proofs.Common.{◌≡◌, ℕ, zero, suc, ◌<◌, List, [], ◌∷◌, length, slice_index_or, refl, subst, arith, Bool, true, false, ◌&&◌}
+use Rattle.std.proofs.Common.{All, Contains, not, nat_eq}
 use Rattle.std.specs.List.{list_all}
 use Rattle.std.specs.Ordering.{nat_cmp}
 use Rattle.std.specs.declared.cmp.Ordering.{Ordering}
@@ -37,7 +38,8 @@ rises_tail x [] h = refl
 rises_tail x (y ∷ ys) h = second_so _ _ h
 
 -- the first text is less than every other
-rises_first : (x : List ℕ) (ys : List (List ℕ)) → rises (x ∷ ys) ≡ true → (k : ℕ) → k < length ys → slice_cmp nat_cmp x (slice_index_or ys k []) ≡ Less
+rises_first : (x : List ℕ) (ys : List (List ℕ)) → rises (x ∷ ys) ≡ true → (k : ℕ) → k < length ys
+    → slice_cmp nat_cmp x (slice_index_or ys k []) ≡ Less
 rises_first x [] h k within = absurd (omega arith)
 rises_first x (y ∷ ys) h zero within = less_from_test _ (first_so _ _ h)
 rises_first x (y ∷ ys) h (suc k) within =

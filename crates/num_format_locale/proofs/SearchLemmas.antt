@@ -1,5 +1,6 @@
 -- Lemmas on the search among names, and on what the compared names show.
-use Rattle.std.proofs.Common.{◌≡◌, ℕ, zero, suc, ◌+◌, ◌-◌, ◌*◌, ◌/◌, ◌^◌, ◌<◌, ◌≤◌, inl, inr, List, [], ◌∷◌, ◌++◌, length, length-append, append_assoc, append-nil, arith, refl, sym, ap, subst, ◌∙◌, Contains, Option, Some, None, Ok, Err}
+use Rattle.std.proofs.Common.{◌≡◌, ℕ, zero, suc, ◌+◌, ◌-◌, ◌*◌, ◌/◌, ◌^◌, ◌<◌, ◌≤◌, inl, inr, List, [], ◌∷◌, ◌++◌, length, length-append}
+use Rattle.std.proofs.Common.{append_assoc, append-nil, arith, refl, sym, ap, subst, ◌∙◌, Contains, Option, Some, None, Ok, Err}
 use Rattle.std.specs.Prelude.{IfNone, IfSome}
 use Rattle.std.specs.Ordering.{nat_cmp, ordering_reverse}
 use Rattle.std.specs.declared.cmp.Ordering.TheVariants.{Less, Equal, Greater}
@@ -53,7 +54,8 @@ half_left n width left few some less =
 
 module _ (text places : List ℕ) (low high middle : ℕ) where
   -- after a comparison where the text is less than the name in the middle
-  pub falls : IsHalved text places low high → low < high → middle ≡ low + (high - low) / 2 → slice_cmp nat_cmp (hyphened text) (name_of middle) ≡ Less → IsHalved text (places ++ middle ∷ []) low middle
+  pub falls : IsHalved text places low high → low < high → middle ≡ low + (high - low) / 2
+      → slice_cmp nat_cmp (hyphened text) (name_of middle) ≡ Less → IsHalved text (places ++ middle ∷ []) low middle
   falls so more mid less = record {
     ordered = omega arith;
     within = let b = so.within in omega arith;
@@ -63,11 +65,18 @@ module _ (text places : List ℕ) (low high middle : ℕ) where
     listed_above = λ h. Contains-push places middle;
     above = so.above;
     below = λ h. less;
-    halved = λ rest left. rw append_assoc (so.halved (middle ∷ rest) (more, mid, (λ _. left), (λ equal. absurd (cc less)), (λ greater. absurd (cc less))));
+    halved = λ rest left. rw append_assoc (so.halved (middle ∷ rest) (
+      more,
+      mid,
+      (λ _. left),
+      (λ equal. absurd (cc less)),
+      (λ greater. absurd (cc less)),
+    ));
   }
 
   -- after a comparison where it is greater
-  pub rises : IsHalved text places low high → low < high → middle ≡ low + (high - low) / 2 → slice_cmp nat_cmp (hyphened text) (name_of middle) ≡ Greater → IsHalved text (places ++ middle ∷ []) (middle + 1) high
+  pub rises : IsHalved text places low high → low < high → middle ≡ low + (high - low) / 2
+      → slice_cmp nat_cmp (hyphened text) (name_of middle) ≡ Greater → IsHalved text (places ++ middle ∷ []) (middle + 1) high
   rises so more mid greater = record {
     ordered = omega arith;
     within = so.within;
@@ -75,13 +84,21 @@ module _ (text places : List ℕ) (low high middle : ℕ) where
     few = rw (length-append {A = ℕ}) (half_left (length places) (high - low) (high - (middle + 1)) so.few (omega arith) (omega arith));
     listed_below = λ h. let e : middle + 1 - 1 ≡ middle = omega arith in rw e (Contains-push places middle);
     listed_above = λ h. Contains-append_left places (middle ∷ []) high (so.listed_above h);
-    above = λ h. let e : middle + 1 - 1 ≡ middle = omega arith in rw e (nat_list_cmp_total.antisymm (name_of middle) (hyphened text) ∙ ap ordering_reverse greater);
+    above = λ h. let e : middle + 1 - 1 ≡ middle = omega arith in rw e (nat_list_cmp_total.antisymm (name_of middle) (hyphened text)
+        ∙ ap ordering_reverse greater);
     below = so.below;
-    halved = λ rest left. rw append_assoc (so.halved (middle ∷ rest) (more, mid, (λ less. absurd (cc greater)), (λ equal. absurd (cc greater)), (λ _. left)));
+    halved = λ rest left. rw append_assoc (so.halved (middle ∷ rest) (
+      more,
+      mid,
+      (λ less. absurd (cc greater)),
+      (λ equal. absurd (cc greater)),
+      (λ _. left),
+    ));
   }
 
   -- where it is equal, no place follows
-  pub ends : IsHalved text places low high → low < high → middle ≡ low + (high - low) / 2 → slice_cmp nat_cmp (hyphened text) (name_of middle) ≡ Equal → Halves text (places ++ middle ∷ []) 0 LEN
+  pub ends : IsHalved text places low high → low < high → middle ≡ low + (high - low) / 2
+      → slice_cmp nat_cmp (hyphened text) (name_of middle) ≡ Equal → Halves text (places ++ middle ∷ []) 0 LEN
   ends so more mid equal = so.halved (middle ∷ []) (more, mid, (λ less. absurd (cc equal)), (λ _. refl), (λ greater. absurd (cc equal)))
 
 -- where no place is left, none follows
@@ -95,12 +112,14 @@ pub same_text : (x y : List ℕ) → slice_cmp nat_cmp x y ≡ Equal → x ≡ y
 same_text x y equal = slice_cmp-IsAntisymmetric nat_cmp-IsAntisymmetric x y equal
 
 -- a text that is found and not mixed spells the name
-pub finds : (text places : List ℕ) (place : Option ℕ) → ¬ IsMixed text → IfSome place (λ p. (hyphened text ≡ name_of p) × IsLast places p) → IfSome place (λ p. Finds text places p)
+pub finds : (text places : List ℕ) (place : Option ℕ) → ¬ IsMixed text → IfSome place (λ p. (hyphened text ≡ name_of p) × IsLast places p)
+    → IfSome place (λ p. Finds text places p)
 finds text places (Some p) pure at = (spells text (name_of p) pure at.0, at.1)
 finds text places None pure at = tt
 
 -- the same without a list of places
-pub spells_if_found : (text : List ℕ) (place : Option ℕ) → ¬ IsMixed text → IfSome place (λ p. hyphened text ≡ name_of p) → IfSome place (λ p. Spells text (name_of p))
+pub spells_if_found : (text : List ℕ) (place : Option ℕ) → ¬ IsMixed text → IfSome place (λ p. hyphened text ≡ name_of p)
+    → IfSome place (λ p. Spells text (name_of p))
 spells_if_found text (Some p) pure at = spells text (name_of p) pure at
 spells_if_found text None pure at = tt
 
@@ -109,10 +128,13 @@ outside : (text places : List ℕ) (k p : ℕ) → IsBetween text places k → p
 outside text places k p so within same =
     elim (cases_lt p k) [
       | inl less ↦
-          let above : slice_cmp nat_cmp (name_of (k - 1)) (name_of p) ≡ Less = subst (λ t. slice_cmp nat_cmp (name_of (k - 1)) t ≡ Less) same (so.above (omega arith)) in
-          let lower : k - 1 < p = ranked (k - 1) p Less (sym above ∙ order (k - 1) p (let w = so.within in omega arith) within) in omega arith
+          let above : slice_cmp nat_cmp (name_of (k - 1)) (name_of p) ≡ Less =
+          subst (λ t. slice_cmp nat_cmp (name_of (k - 1)) t ≡ Less) same (so.above (omega arith)) in
+          let lower : k - 1 < p = ranked (k - 1) p Less (sym above ∙ order (k - 1) p (let w = so.within in omega arith) within)
+          in omega arith
       | inr more ↦
-          let below : slice_cmp nat_cmp (name_of p) (name_of k) ≡ Less = subst (λ t. slice_cmp nat_cmp t (name_of k) ≡ Less) same (so.below (omega arith)) in
+          let below : slice_cmp nat_cmp (name_of p) (name_of k) ≡ Less = subst (λ t. slice_cmp nat_cmp t (name_of k) ≡ Less) same
+          (so.below (omega arith)) in
           let lower : p < k = ranked p k Less (sym below ∙ order p k within (omega arith)) in omega arith
     ]
 
@@ -121,10 +143,13 @@ pub mixed_spells_none : (text : List ℕ) → IsMixed text → (place : ℕ) →
 mixed_spells_none text mixed place within spelled = unmixed text (name_of place) (no_underscore place within) spelled mixed
 
 -- nor does a text that is no name with hyphens for underscores
-pub other_spells_none : (text : List ℕ) → ((place : ℕ) → place < LEN → ¬ (hyphened text ≡ name_of place)) → (place : ℕ) → place < LEN → ¬ Spells text (name_of place)
-other_spells_none text other place within spelled = other place within (spelled_name text (name_of place) (no_underscore place within) spelled)
+pub other_spells_none : (text : List ℕ) → ((place : ℕ) → place < LEN → ¬ (hyphened text ≡ name_of place)) → (place : ℕ) → place < LEN
+    → ¬ Spells text (name_of place)
+other_spells_none text other place within spelled = other place within
+    (spelled_name text (name_of place) (no_underscore place within) spelled)
 
-pub none_if_missing : (text : List ℕ) (place : Option ℕ) → IfNone place ((k : ℕ) → k < LEN → ¬ (hyphened text ≡ name_of k)) → IfNone place ((k : ℕ) → k < LEN → ¬ Spells text (name_of k))
+pub none_if_missing : (text : List ℕ) (place : Option ℕ) → IfNone place ((k : ℕ) → k < LEN → ¬ (hyphened text ≡ name_of k))
+    → IfNone place ((k : ℕ) → k < LEN → ¬ Spells text (name_of k))
 none_if_missing text (Some p) missing = tt
 none_if_missing text None missing = other_spells_none text missing
 
@@ -144,7 +169,8 @@ looked_up text place within spelled = record {
 }
 
 -- where it spells none, the error that keeps it is
-pub refused : (text : List ℕ) (error : Error) → ((place : ℕ) → place < LEN → ¬ Spells text (name_of place)) → refusal_of error ≡ ParseLocale (cut_text text) → LooksUp text (Err error)
+pub refused : (text : List ℕ) (error : Error) → ((place : ℕ) → place < LEN → ¬ Spells text (name_of place))
+    → refusal_of error ≡ ParseLocale (cut_text text) → LooksUp text (Err error)
 refused text error none keeps = record {
   found = λ place within spelled. absurd (none place within spelled);
   within = tt;
@@ -168,20 +194,24 @@ module _ (text : List ℕ) (low middle high next : ℕ) (so : IsNarrowed text lo
     inside = λ left. omega arith;
     within = let b = so.within in let m = so.inside more in omega arith;
     kept = λ place bound same.
-        let less_name : slice_cmp nat_cmp (name_of place) (name_of middle) ≡ Less = subst (λ t. slice_cmp nat_cmp t (name_of middle) ≡ Less) same less in
+        let less_name : slice_cmp nat_cmp (name_of place) (name_of middle) ≡ Less =
+        subst (λ t. slice_cmp nat_cmp t (name_of middle) ≡ Less) same less in
         let m : middle < LEN = (let b = so.within in let i = so.inside more in omega arith) in
         ((so.kept place bound same).0, ranked place middle Less (sym less_name ∙ order place middle bound m));
   }
 
   -- after one where it is greater
-  pub upper : slice_cmp nat_cmp (hyphened text) (name_of middle) ≡ Greater → next ≡ middle + 1 + (high - (middle + 1)) / 2 → IsNarrowed text (middle + 1) next high
+  pub upper : slice_cmp nat_cmp (hyphened text) (name_of middle) ≡ Greater → next ≡ middle + 1 + (high - (middle + 1)) / 2
+      → IsNarrowed text (middle + 1) next high
   upper greater half = record {
     ordered = omega arith;
     inside = λ left. omega arith;
     within = so.within;
     kept = λ place bound same.
-        let greater_name : slice_cmp nat_cmp (name_of place) (name_of middle) ≡ Greater = subst (λ t. slice_cmp nat_cmp t (name_of middle) ≡ Greater) same greater in
-        let less_name : slice_cmp nat_cmp (name_of middle) (name_of place) ≡ Less = nat_list_cmp_total.antisymm (name_of middle) (name_of place) ∙ ap ordering_reverse greater_name in
+        let greater_name : slice_cmp nat_cmp (name_of place) (name_of middle) ≡ Greater =
+        subst (λ t. slice_cmp nat_cmp t (name_of middle) ≡ Greater) same greater in
+        let less_name : slice_cmp nat_cmp (name_of middle) (name_of place) ≡ Less =
+        nat_list_cmp_total.antisymm (name_of middle) (name_of place) ∙ ap ordering_reverse greater_name in
         let m : middle < LEN = (let b = so.within in let i = so.inside more in omega arith) in
         let above : middle < place = ranked middle place Less (sym less_name ∙ order middle place m bound) in
         (omega arith, (so.kept place bound same).1);

@@ -28,7 +28,8 @@ pub ShowsAll-from_equal : (rows : List Row) (entries : List Entry) → map entry
 ShowsAll-from_equal rows entries same = record { each = subst (AllZip Shows rows) same (each_shown rows) }
 
 -- the row at a place shows the entry at that place
-pub Shows-at : (rows : List Row) (entries : List Entry) (k : ℕ) (d : Row) (e : Entry) → AllZip Shows rows entries → k < length rows → Shows (slice_index_or rows k d) (slice_index_or entries k e)
+pub Shows-at : (rows : List Row) (entries : List Entry) (k : ℕ) (d : Row) (e : Entry) → AllZip Shows rows entries → k < length rows
+    → Shows (slice_index_or rows k d) (slice_index_or entries k e)
 Shows-at [] entries k d e shown within = absurd (omega arith)
 Shows-at (row ∷ rows) [] k d e shown within = absurd shown
 Shows-at (row ∷ rows) (entry ∷ entries) zero d e shown within = shown.0

@@ -1,5 +1,6 @@
 -- Lemmas on texts with hyphens or underscores, and the names that they spell.
-use Rattle.std.proofs.Common.{◌≡◌, ℕ, zero, suc, ◌<◌, ◌⊎◌, ◌||◌, inl, inr, List, [], ◌∷◌, length, map, Contains, arith, refl, sym, ap, subst, ◌∙◌, slice_index_or, Bool, true, false, nat_eq, eq-eqb}
+use Rattle.std.proofs.Common.{◌≡◌, ℕ, zero, suc, ◌<◌, ◌⊎◌, ◌||◌, inl, inr, List, [], ◌∷◌, length, map, Contains, arith, refl, sym, ap}
+use Rattle.std.proofs.Common.{subst, ◌∙◌, slice_index_or, Bool, true, false, nat_eq, eq-eqb}
 use Rattle.std.specs.List.{list_any}
 use Rattle.std.proofs.lemmas.Bool.{eqb-true}
 use Rattle.std.proofs.lemmas.Bool.Decides.{nat_tests}

@@ -1,5 +1,6 @@
 -- Lemmas on tags that are names, in any case.
-use Rattle.std.proofs.Common.{◌≡◌, ℕ, ◌<◌, ◌≤◌, ◌&&◌, ◌||◌, inl, inr, List, [], ◌∷◌, length, arith, refl, sym, ap, subst, ◌∙◌, Option, Some, None, Bool, true, false, cond, not, codes, nat_eq}
+use Rattle.std.proofs.Common.{◌≡◌, ℕ, ◌<◌, ◌≤◌, ◌&&◌, ◌||◌, inl, inr, List, [], ◌∷◌, length, arith, refl, sym, ap, subst, ◌∙◌, Option, Some}
+use Rattle.std.proofs.Common.{None, Bool, true, false, cond, not, codes, nat_eq}
 use Rattle.std.specs.Char.{to_ascii_lowercase}
 use Rattle.std.specs.Cmp.{first_so, second_so}
 use Rattle.std.specs.List.{list_all, take_while}
@@ -17,7 +18,8 @@ use Rattle.num_format_locale.specs.Laws.{FoundByTagLaw}
 use Rattle.num_format_locale.specs.Lookup.{IsLongestMatch, IsPosix, IsSameIgnoringCase, LooksUpTag, Matches, ends_language, language_of}
 use Rattle.num_format_locale.specs.Names.{name_of}
 use Rattle.num_format_locale.specs.Search.{hyphen_for_underscore, hyphened}
-use Rattle.num_format_locale.proofs.LookupLemmas.{beginning, length-lower_names, length-name, lower, lower_name_at, lower_names, lower_names_pass, same_length}
+use Rattle.num_format_locale.proofs.LookupLemmas.{beginning, length-lower_names, length-name, lower, lower_name_at, lower_names}
+use Rattle.num_format_locale.proofs.LookupLemmas.{lower_names_pass, same_length}
 use Rattle.num_format_locale.proofs.NameLemmas.{length-table_names, same_place}
 
 -- whether a byte is none of `.`, `@` and `_`
@@ -26,7 +28,8 @@ is_plain each = not ((nat_eq each 46 || nat_eq each 64) || nat_eq each 95)
 
 -- whether a name in lower case has no other byte, and is not `c` or `posix`
 abbrev is_ordinary : List ℕ → Bool
-is_ordinary name = list_all is_plain (lower name) && (not (bytes_eq (lower name) (codes "c")) && not (bytes_eq (lower name) (codes "posix")))
+is_ordinary name = list_all is_plain (lower name) && (not (bytes_eq (lower name) (codes "c"))
+    && not (bytes_eq (lower name) (codes "posix")))
 
 -- computed over all names
 names_are_ordinary : list_all is_ordinary table_names ≡ true
@@ -75,7 +78,8 @@ module _ (tag : List ℕ) (place : ℕ) (within : place < LEN) (same : IsSameIgn
 
   not_posix : ¬ IsPosix tag
   not_posix (inl c) = differs (lower (name_of place)) (codes "c") (first_so _ _ (second_so _ _ (ordinary place within))) (sym same ∙ c)
-  not_posix (inr posix) = differs (lower (name_of place)) (codes "posix") (second_so _ _ (second_so _ _ (ordinary place within))) (sym same ∙ posix)
+  not_posix (inr posix) = differs (lower (name_of place)) (codes "posix") (second_so _ _ (second_so _ _ (ordinary place within))) (sym same
+      ∙ posix)
 
   -- its longest match is that name
   its_match : (other : ℕ) → IsLongestMatch tag other → other ≡ place
@@ -85,7 +89,8 @@ module _ (tag : List ℕ) (place : ℕ) (within : place < LEN) (same : IsSameIgn
       let other_length : length (name_of other) ≡ at.0 = length-name tag (name_of other) at.0 at.1 in
       let tag_length : length tag ≡ length (name_of place) = same_length tag (name_of place) same in
       let in_tag : at.0 ≤ length tag = at.1.within in
-      let is_other : IsSameIgnoringCase tag (name_of other) = subst (λ t. IsSameIgnoringCase t (name_of other)) (take_all at.0 tag (omega arith)) at.1.same in
+      let is_other : IsSameIgnoringCase tag (name_of other) = subst (λ t. IsSameIgnoringCase t (name_of other))
+      (take_all at.0 tag (omega arith)) at.1.same in
       same_place lower_names (Rises-from_test lower_names lower_names_pass) other place
       (let bound = so.within in omega (arith, length-lower_names)) (omega (arith, length-lower_names))
       (lower_name_at other so.within ∙ sym is_other ∙ same ∙ sym (lower_name_at place within))
@@ -114,7 +119,8 @@ own_language_hyphened (x ∷ xs) whole_plain =
 -- a tag that is a name, with hyphens or with underscores
 module _ (tag : List ℕ) (place : ℕ) (within : place < LEN) (same : hyphened tag ≡ name_of place) where
   its_language : language_of tag ≡ tag
-  its_language = own_language_hyphened tag (subst (λ t. list_all is_plain (lower t) ≡ true) (sym same) (first_so _ _ (ordinary place within)))
+  its_language =
+      own_language_hyphened tag (subst (λ t. list_all is_plain (lower t) ≡ true) (sym same) (first_so _ _ (ordinary place within)))
 
   -- it is no word that is not ordinary
   other_word : (word : List ℕ) → list_all is_plain word ≡ true → not (bytes_eq (lower (name_of place)) word) ≡ true → lower tag ≡ word → ⊥

@@ -1,5 +1,6 @@
 -- Lemmas on the names of variants and their places.
-use Rattle.std.proofs.Common.{◌≡◌, ℕ, ◌<◌, List, [], length, map, slice_index_or, arith, refl, sym, ap, ◌∙◌, MatchResult, Result, Ok, Err, inl, inr, ◌+◌, true}
+use Rattle.std.proofs.Common.{◌≡◌, ℕ, ◌<◌, List, [], length, map, slice_index_or, arith, refl, sym, ap, ◌∙◌, MatchResult, Result, Ok, Err}
+use Rattle.std.proofs.Common.{inl, inr, ◌+◌, true}
 use Rattle.std.specs.Borrow.{Bor}
 use Rattle.std.specs.Cmp.Lexicographic.{slice_cmp}
 use Rattle.std.specs.List.Sorted.{IsBinarySearchResult, IsNonDecreasingBy, IsSearchInRange}

@@ -6,7 +6,8 @@ use Rattle.std.specs.declared.cmp.Ordering.TheVariants.{Less}
 use Rattle.std.specs.Cmp.Lexicographic.{slice_cmp}
 use Rattle.num_format_locale.specs.declared.cldr.record.Row.{Row}
 use Rattle.num_format_text.specs.Characters.{HasOnly, minus_sign_characters, separator_characters}
-use Rattle.num_format_text.specs.declared.capacities.TheConstants.{MAX_DEC_LEN, MAX_INF_LEN, MAX_MIN_LEN, MAX_NAN_LEN, MAX_PLUS_LEN, MAX_SEP_LEN}
+use Rattle.num_format_text.specs.declared.capacities.TheConstants.{MAX_DEC_LEN, MAX_INF_LEN, MAX_MIN_LEN, MAX_NAN_LEN, MAX_PLUS_LEN}
+use Rattle.num_format_text.specs.declared.capacities.TheConstants.{MAX_SEP_LEN}
 
 -- a line of the table: the fields of a `Row`, with each text as the list of its bytes
 pub record Entry : Type 0 where

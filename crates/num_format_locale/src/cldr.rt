@@ -1,7 +1,8 @@
 //! The table of the 542 locales: a row says how one writes numbers.
 //!
-//! A row has the decimal mark, the separator and the signs of a locale, how it groups digits, and its texts for infinity and
-//! for a value that is not a number. The data are those of the Unicode CLDR, as the Rust crate `num-format` 0.4.4 has them.
+//! A row has the decimal mark, the separator and the signs of a locale, how it groups digits, and its texts for
+//! infinity and for a value that is not a number. The data are those of the Unicode CLDR, as the Rust crate
+//! `num-format` 0.4.4 has them.
 //!
 //! Rows are in rising byte order of their names, which is the order of `&str`: `af` is at place 0,
 //! `en` at place 90 and `zu` at place 541. [`row`] returns the row at a place, and [`names`] returns

@@ -3,7 +3,8 @@
 //! The contract of each function is a law: a fact about all texts and all places, over the
 //! definitions alone. The bodies are empty, since there is nothing to compute. A caller that needs
 //! a law in a proof calls its function.
-ghost use Rattle.num_format_locale.specs.Laws.{FoundByNameLaw, FoundByTagLaw, LocaleHashLaw, LocaleOrderLaw, OrderLaw, UniqueLaw, VariantLaw, WellFormedLaw};
+ghost use Rattle.num_format_locale.specs.Laws.{FoundByNameLaw, FoundByTagLaw, LocaleHashLaw, LocaleOrderLaw, OrderLaw};
+ghost use Rattle.num_format_locale.specs.Laws.{UniqueLaw, VariantLaw, WellFormedLaw};
 ghost use Rattle.num_format_text.specs.Equality.{EqualityLaw};
 
 use crate::locale::Locale;
@@ -44,7 +45,8 @@ pub fn well_formed_data()
 /// Two locales are equal by `==` exactly if they are the same, and compare as their names do in byte
 /// order. A clone is the same locale, and is never refused. Different locales are hashed differently.
 pub fn locales()
-    ensures equality { EqualityLaw (λ place. place) ⟦<Locale as PartialEq>⟧.eq ⟦<Locale as Clone>⟧.is_clone ⟦<Locale as Clone>⟧.is_infallible }
+    ensures equality { EqualityLaw (λ place. place) ⟦<Locale as PartialEq>⟧.eq ⟦<Locale as Clone>⟧.is_clone
+        ⟦<Locale as Clone>⟧.is_infallible }
     ensures order { LocaleOrderLaw ⟦<Locale as Ord>⟧.cmp }
     ensures hash { LocaleHashLaw ⟦<Locale as Hash>⟧.hash_input }
 {}

@@ -1,7 +1,7 @@
 //! The locales of num-format, by name.
 //!
-//! `tools/locales.py` writes `constants.rt`, `pair_list.rt`, `cldr/name_list.rt`, `cldr/rows` and `proofs/cldr/rows` from
-//! `specs/`. Any other file may be changed.
+//! `tools/locales.py` writes `constants.rt`, `pair_list.rt`, `cldr/name_list.rt`, `cldr/rows` and `proofs/cldr/rows`
+//! from `specs/`. Any other file may be changed.
 //!
 //! A [`Locale`] is a [`Format`](num_format_text::Format): it says how digits are grouped, and which
 //! texts stand for the decimal mark, the separator, the signs, infinity and NaN. Its data are a row

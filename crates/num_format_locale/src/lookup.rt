@@ -49,7 +49,8 @@ pub(crate) fn longest_match(language: &[u8]) -> Option<usize>
 fn find_ignoring_case(text: &[u8]) -> Option<usize>
     ensures found { IfSome result (λ place. IsSameIgnoringCase (hyphened text.now) (name_of place)) }
     ensures within { IfSome result (λ place. place < LEN) }
-    ensures missing { IfNone result ((place : ℕ) → place < LEN → ¬ IsSameIgnoringCase (hyphened text.now) (name_of place)) }
+    ensures missing { IfNone result ((place : ℕ) → place < LEN
+        → ¬ IsSameIgnoringCase (hyphened text.now) (name_of place)) }
 {
     let (low, high) = narrowed(text);
     let names = &cldr::names()[low..high];
@@ -61,7 +62,8 @@ fn find_ignoring_case(text: &[u8]) -> Option<usize>
 
 /// Returns how the name compares with the text, with hyphens for underscores, both in lower case.
 fn compare_ignoring_case(name: &[u8], text: &[u8]) -> Ordering
-    ensures { result ≡ slice_cmp nat_cmp (map to_ascii_lowercase name.now) (map to_ascii_lowercase (hyphened text.now)) }
+    ensures { result ≡ slice_cmp nat_cmp (map to_ascii_lowercase name.now)
+        (map to_ascii_lowercase (hyphened text.now)) }
 {
     let text = text
         .iter()

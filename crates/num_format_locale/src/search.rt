@@ -8,9 +8,10 @@ ghost use Rattle.num_format_locale.specs.declared.cldr.TheConstants.{LEN};
 ghost use Rattle.num_format_locale.specs.Lookup.{IsSameIgnoringCase};
 ghost use Rattle.num_format_locale.specs.Names.{Spells, name_of};
 ghost use Rattle.num_format_locale.specs.Pairs.{ListsPairs};
-ghost use Rattle.num_format_locale.specs.Search.{Finds, Halves, IsBetween, IsLast, IsMixed, RulesOut, hyphen_for_underscore, hyphened};
+ghost use Rattle.num_format_locale.specs.Search.{Finds, Halves, IsBetween, IsLast, IsMixed, RulesOut};
+ghost use Rattle.num_format_locale.specs.Search.{hyphen_for_underscore, hyphened};
 
-use crate::cldr;
+use crate::cldr::{self, LEN};
 use arrayvec::ArrayVec;
 use std::cmp::Ordering;
 
@@ -36,12 +37,11 @@ pub(crate) fn find_hyphened(text: &[u8]) -> Option<usize>
     ensures within { IfSome result (λ place. place < LEN) }
     ensures missing { IfNone result ((place : ℕ) → place < LEN → ¬ (hyphened text.now ≡ name_of place)) }
 {
-    let names = cldr::names();
     let (mut low, mut high) = narrowed(text);
     // The first name with these letters is mostly a language alone, which is looked up most.
     let mut middle = low;
     while low < high {
-        match compare(text, names[middle].as_bytes()) {
+        match compare(text, middle) {
             Ordering::Equal => return Some(middle),
             Ordering::Less => high = middle,
             Ordering::Greater => low = middle + 1,
@@ -56,7 +56,8 @@ pub(crate) fn find_hyphened(text: &[u8]) -> Option<usize>
 pub(crate) fn narrowed(text: &[u8]) -> (usize, usize)
     ensures ordered { result.0 ≤ result.1 }
     ensures within { result.1 ≤ LEN }
-    ensures kept { (place : ℕ) → place < LEN → IsSameIgnoringCase (hyphened text.now) (name_of place) → (result.0 ≤ place) × (place < result.1) }
+    ensures kept { (place : ℕ) → place < LEN → IsSameIgnoringCase (hyphened text.now) (name_of place)
+        → (result.0 ≤ place) × (place < result.1) }
 {
     let places = first_places();
     let [first, second, ..] = text else {
@@ -101,14 +102,13 @@ fn halve(text: &[u8]) -> (Option<usize>, ArrayVec<usize, 10>)
     ensures missing { IfNone result.0 ((k : ℕ) × IsBetween text.now result.1.items k) }
     ensures halved { Halves text.now result.1.items 0 LEN }
 {
-    let names = cldr::names();
     let mut places = ArrayVec::new();
     let mut low = 0;
-    let mut high = names.len();
+    let mut high = LEN;
     while low < high {
         let middle = low + (high - low) / 2;
         places.push(middle);
-        match compare(text, names[middle].as_bytes()) {
+        match compare(text, middle) {
             Ordering::Equal => return (Some(middle), places),
             Ordering::Less => high = middle,
             Ordering::Greater => low = middle + 1,
@@ -117,10 +117,12 @@ fn halve(text: &[u8]) -> (Option<usize>, ArrayVec<usize, 10>)
     (None, places)
 }
 
-/// Returns how the text, with hyphens for underscores, compares with the name.
-fn compare(text: &[u8], name: &[u8]) -> Ordering
-    ensures { result ≡ slice_cmp nat_cmp (hyphened text.now) name.now }
+/// Returns how the text, with hyphens for underscores, compares with the name at a place.
+fn compare(text: &[u8], place: usize) -> Ordering
+    requires { place < LEN }
+    ensures { result ≡ slice_cmp nat_cmp (hyphened text.now) (name_of place) }
 {
+    let name = cldr::names()[place].as_bytes();
     text.iter()
         .map(|byte| with_hyphen(*byte))
         .cmp(name.iter().copied())

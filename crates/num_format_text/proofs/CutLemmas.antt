@@ -1,5 +1,6 @@
 -- The place where a text is truncated.
-use Rattle.std.proofs.Common.{◌≡◌, ℕ, zero, suc, ◌<◌, ◌≤◌, ◌⊎◌, inl, inr, Bool, true, false, List, length, take, drop, refl, sym, ap, ◌∙◌, subst, take-append-drop, length-append, length-take, arith, IsUtf8}
+use Rattle.std.proofs.Common.{◌≡◌, ℕ, zero, suc, ◌<◌, ◌≤◌, ◌⊎◌, inl, inr, Bool, true, false, List, length, take, drop, refl, sym, ap, ◌∙◌}
+use Rattle.std.proofs.Common.{subst, take-append-drop, length-append, length-take, arith, IsUtf8}
 use Rattle.std.specs.Str.{IsCharBoundary}
 use Rattle.std.proofs.lemmas.Bool.Decides.{nat_tests}
 use Rattle.std.proofs.lemmas.List.{get_or_past, take_at}
@@ -24,7 +25,8 @@ bool_cases true = inl cc
 bool_cases false = inr cc
 
 -- a boundary with no other after it, up to n, is the last one
-pub last_boundary-is : (text : List ℕ) (n place : ℕ) → place ≤ n → IsCharBoundary text place → ((i : ℕ) → place < i → i ≤ n → ¬ (IsCharBoundary text i)) → last_boundary text n ≡ place
+pub last_boundary-is : (text : List ℕ) (n place : ℕ) → place ≤ n → IsCharBoundary text place
+    → ((i : ℕ) → place < i → i ≤ n → ¬ (IsCharBoundary text i)) → last_boundary text n ≡ place
 last_boundary-is text zero place within boundary none = omega arith
 last_boundary-is text (suc n) place within boundary none =
     let cases : (place ≡ suc n) ⊎ (place ≤ n) = grind arith in
@@ -65,7 +67,8 @@ last_boundary-last text (suc n) place within boundary =
       | inr test ↦
           let cases : (place ≡ suc n) ⊎ (place ≤ n) = grind arith in
           elim cases [
-            | inl last ↦ let passes = test-from_IsCharBoundary text place boundary in let both : is_boundary text (suc n) ≡ true = ap (is_boundary text) (sym last) ∙ passes in cc
+            | inl last ↦ let passes = test-from_IsCharBoundary text place boundary in let both : is_boundary text (suc n) ≡ true =
+                ap (is_boundary text) (sym last) ∙ passes in cc
             | inr below ↦ rw test (last_boundary-last text n place below boundary)
           ]
     ]

@@ -1,6 +1,7 @@
 -- How much an error keeps of the text that was refused.
 use Rattle.num_format_text.specs.declared.capacities.TheConstants.{MAX_ERR_LEN}
-use Rattle.std.specs.Prelude.{◌≡◌, ℕ, zero, suc, ◌≤◌, nat_le, nat_lt, Bool, not, ◌&&◌, List, ◌++◌, length, take, slice_index, if◌then◌else◌, IsUtf8}
+use Rattle.std.specs.Prelude.{◌≡◌, ℕ, zero, suc, ◌≤◌, nat_le, nat_lt, Bool, not, ◌&&◌, List, ◌++◌, length, take, slice_index, if◌then◌else◌}
+use Rattle.std.specs.Prelude.{IsUtf8}
 
 -- whether a byte of UTF-8 continues a character: its two highest bits are 10
 abbrev pub is_continuation : ℕ → Bool

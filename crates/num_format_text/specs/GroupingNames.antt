@@ -11,6 +11,10 @@ grouping_name Posix = codes "Posix"
 grouping_name Myriad = codes "Myriad"
 grouping_name Sparse = codes "Sparse"
 
+-- every grouping
+abbrev pub groupings : List Grouping
+groupings = Standard ∷ Indian ∷ Posix ∷ Myriad ∷ Sparse ∷ []
+
 -- the grouping of a name
 abbrev pub grouping_named : List ℕ → Option Grouping
-grouping_named name = find (λ grouping. bytes_eq name (grouping_name grouping)) (Standard ∷ Indian ∷ Posix ∷ Myriad ∷ Sparse ∷ [])
+grouping_named name = find (λ grouping. bytes_eq name (grouping_name grouping)) groupings

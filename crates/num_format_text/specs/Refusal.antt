@@ -27,7 +27,8 @@ HasUsizes _ = Unit {0}
 
 -- a hasher is given the same for two errors exactly if they have the same kind, with the same lengths or the same text
 abbrev pub ErrorHashLaw : (ErrorKind → HashWrites) → Type 0
-ErrorHashLaw hash_input = HashLaw {X = (kind : ErrorKind) × HasUsizes (refusal_of kind)} (λ kind. refusal_of kind.0) (λ kind. hash_input kind.0)
+ErrorHashLaw hash_input = HashLaw {X = (kind : ErrorKind) × HasUsizes (refusal_of kind)} (λ kind. refusal_of kind.0)
+    (λ kind. hash_input kind.0)
 
 -- the message of an error; lengths are in decimal
 abbrev pub message_of : Refusal → List ℕ

@@ -38,6 +38,19 @@ pub struct Sizes {
 }
 
 impl Grouping {
+    /// Every grouping, in the order of their numbers in C.
+    ///
+    /// ```rust
+    /// Grouping::ALL.len()    // 5
+    /// ```
+    pub const ALL: [Grouping; 5] = [
+        Grouping::Standard,
+        Grouping::Indian,
+        Grouping::Posix,
+        Grouping::Myriad,
+        Grouping::Sparse,
+    ];
+
     /// Returns the sizes of the groups in digits, or `None` for `Posix`, which has no groups.
     ///
     /// ```rust
@@ -84,13 +97,9 @@ impl Grouping {
     pub fn from_name(name: &str) -> Option<Grouping>
         ensures { result ≡ grouping_named name.now }
     {
-        match name {
-            "Standard" => Some(Grouping::Standard),
-            "Indian" => Some(Grouping::Indian),
-            "Posix" => Some(Grouping::Posix),
-            "Myriad" => Some(Grouping::Myriad),
-            "Sparse" => Some(Grouping::Sparse),
-            _ => None,
-        }
+        Grouping::ALL
+            .iter()
+            .find(|grouping| name == grouping.name())
+            .copied()
     }
 }

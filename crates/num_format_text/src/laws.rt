@@ -37,7 +37,8 @@ pub fn cut_texts()
 /// Two groupings are equal by `==` exactly if they are the same variant, a clone is the same variant,
 /// and different ones are hashed differently.
 pub fn groupings()
-    ensures equality { EqualityLaw (λ g. g) ⟦<Grouping as PartialEq>⟧.eq ⟦<Grouping as Clone>⟧.is_clone ⟦<Grouping as Clone>⟧.is_infallible }
+    ensures equality { EqualityLaw (λ g. g) ⟦<Grouping as PartialEq>⟧.eq ⟦<Grouping as Clone>⟧.is_clone
+        ⟦<Grouping as Clone>⟧.is_infallible }
     ensures hash { HashLaw (λ g. g) ⟦<Grouping as Hash>⟧.hash_input }
 {}
 
@@ -50,15 +51,18 @@ pub fn texts<S: Symbol>()
 
 /// What [`texts`] says of texts that are stored in place.
 pub fn stored_texts<const CAP: usize>()
-    ensures equality { EqualityLaw (λ s. s) ⟦<BoundedString<CAP> as PartialEq>⟧.eq ⟦<BoundedString<CAP> as Clone>⟧.is_clone ⟦<BoundedString<CAP> as Clone>⟧.is_infallible }
+    ensures equality { EqualityLaw (λ s. s) ⟦<BoundedString<CAP> as PartialEq>⟧.eq
+        ⟦<BoundedString<CAP> as Clone>⟧.is_clone ⟦<BoundedString<CAP> as Clone>⟧.is_infallible }
     ensures hash { HashLaw (λ s. s) ⟦<BoundedString<CAP> as Hash>⟧.hash_input }
 {}
 
 /// Two errors are equal by `==` exactly if they have the same kind, with the same lengths or the same
 /// kept text, and so have an error and its clone. Different ones are hashed differently.
 pub fn errors()
-    ensures kinds { EqualityLaw refusal_of ⟦<ErrorKind as PartialEq>⟧.eq ⟦<ErrorKind as Clone>⟧.is_clone ⟦<ErrorKind as Clone>⟧.is_infallible }
-    ensures errors { EqualityLaw refusal_of ⟦<Error as PartialEq>⟧.eq ⟦<Error as Clone>⟧.is_clone ⟦<Error as Clone>⟧.is_infallible }
+    ensures kinds { EqualityLaw refusal_of ⟦<ErrorKind as PartialEq>⟧.eq ⟦<ErrorKind as Clone>⟧.is_clone
+        ⟦<ErrorKind as Clone>⟧.is_infallible }
+    ensures errors { EqualityLaw refusal_of ⟦<Error as PartialEq>⟧.eq ⟦<Error as Clone>⟧.is_clone
+        ⟦<Error as Clone>⟧.is_infallible }
     ensures hashed_kinds { ErrorHashLaw ⟦<ErrorKind as Hash>⟧.hash_input }
     ensures hashed_errors { ErrorHashLaw ⟦<Error as Hash>⟧.hash_input }
 {}

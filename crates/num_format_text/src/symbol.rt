@@ -4,7 +4,8 @@
 //! type has no data. It distinguishes its text from those of the other symbols, and says how many
 //! bytes the text may have.
 ghost use Rattle.std.specs.Prelude.{ℕ};
-ghost use Rattle.num_format_text.specs.declared.capacities.TheConstants.{MAX_DEC_LEN, MAX_INF_LEN, MAX_MIN_LEN, MAX_NAN_LEN, MAX_PLUS_LEN, MAX_SEP_LEN};
+ghost use Rattle.num_format_text.specs.declared.capacities.TheConstants.{MAX_DEC_LEN, MAX_INF_LEN, MAX_MIN_LEN};
+ghost use Rattle.num_format_text.specs.declared.capacities.TheConstants.{MAX_NAN_LEN, MAX_PLUS_LEN, MAX_SEP_LEN};
 
 use crate::capacities::{
     MAX_DEC_LEN, MAX_INF_LEN, MAX_MIN_LEN, MAX_NAN_LEN, MAX_PLUS_LEN, MAX_SEP_LEN,

@@ -1,9 +1,11 @@
 -- The length of a number's text, in bytes and in characters, and the fill round it.
-use Rattle.std.proofs.Common.{◌≡◌, ℕ, suc, ◌+◌, ◌-◌, ◌*◌, ◌/◌, ◌%◌, ◌^◌, ◌<◌, ◌≤◌, Bool, true, false, List, [], ◌∷◌, ◌++◌, length, refl, ap, ◌∙◌, sym, subst, arith, length-append, append-nil, ℤ, unsigned_abs}
+use Rattle.std.proofs.Common.{◌≡◌, ℕ, suc, ◌+◌, ◌-◌, ◌*◌, ◌/◌, ◌%◌, ◌^◌, ◌<◌, ◌≤◌, Bool, true, false, List, [], ◌∷◌, ◌++◌, length, refl, ap}
+use Rattle.std.proofs.Common.{◌∙◌, sym, subst, arith, length-append, append-nil, ℤ, unsigned_abs}
 use Rattle.std.specs.Prelude.{nat_lt, if◌then◌else◌, All, Option, None, Some, Result, replicate, unwrap_or, encode_utf8}
 use Rattle.std.specs.Int.{is_negative}
 use Rattle.std.specs.List.{count_by, repeat}
-use Rattle.std.specs.Fmt.{char_count, is_char_start, IsDefaultSpec, WritesInCalls, spec_width, spec_align, spec_fill, formatter_spec, formatter_writer, WritesOnOk, WritesStyledOnOk}
+use Rattle.std.specs.Fmt.{char_count, is_char_start, IsDefaultSpec, WritesInCalls, spec_width, spec_align, spec_fill, formatter_spec}
+use Rattle.std.specs.Fmt.{formatter_writer, WritesOnOk, WritesStyledOnOk}
 use Rattle.std.specs.declared.fmt.Alignment.{Alignment}
 use Rattle.std.specs.declared.fmt.Alignment.TheVariants.{Left, Right, Center}
 use Rattle.std.specs.declared.fmt.Error.{Error}
@@ -20,7 +22,8 @@ use Rattle.num_format_int.specs.Digits.{digits}
 use Rattle.num_format_int.specs.Groups.{last_digits}
 use Rattle.num_format_int.specs.Grouped.{grouped, separated, separators, stands}
 use Rattle.num_format_int.specs.Text.{body_of, text_of}
-use Rattle.num_format_int.proofs.DigitLemmas.{by_digits, digits-small, digits-more, digits-split, digits_given, length-digits-le, length-last_digits}
+use Rattle.num_format_int.proofs.DigitLemmas.{by_digits, digits-small, digits-more, digits-split, digits_given, length-digits-le}
+use Rattle.num_format_int.proofs.DigitLemmas.{length-last_digits}
 use Rattle.num_format_int.proofs.GroupedLemmas.{length-grouped}
 use Rattle.num_format_int.proofs.TextLemmas.{length-text_of}
 use Rattle.num_format_writers.specs.Columns.{fill_before, filled, text_size}
@@ -59,7 +62,8 @@ char_count-when true s = sym (length-replicate (char_count s) 0)
 char_count-when false s = char_count-nil
 
 -- separated digits have as many characters as they have bytes with a separator of as many bytes
-char_count-separated : (is_due : ℕ → Bool) (s ds : List ℕ) → All (λ d. d < 10) ds → char_count (separated is_due s ds) ≡ length (separated is_due (replicate (char_count s) 0) ds)
+char_count-separated : (is_due : ℕ → Bool) (s ds : List ℕ) → All (λ d. d < 10) ds
+    → char_count (separated is_due s ds) ≡ length (separated is_due (replicate (char_count s) 0) ds)
 char_count-separated is_due s [] below = char_count-nil
 char_count-separated is_due s (d ∷ ds) below =
     let b = is_due (length ds) in
@@ -77,7 +81,8 @@ char_count-separated is_due s (d ∷ ds) below =
     )
 
 -- the characters of grouped digits
-char_count-grouped : (g : Grouping) (s ds : List ℕ) → All (λ d. d < 10) ds → char_count (grouped g s ds) ≡ length ds + separators g (length ds) * char_count s
+char_count-grouped : (g : Grouping) (s ds : List ℕ) → All (λ d. d < 10) ds
+    → char_count (grouped g s ds) ≡ length ds + separators g (length ds) * char_count s
 char_count-grouped g s ds below =
     char_count-separated (stands g (length ds)) s ds below
     ∙ length-grouped g (replicate (char_count s) 0) ds
@@ -93,7 +98,8 @@ length_text_of f z =
     omega (arith, length-text_of f z, sign_size length refl (is_negative z) f.minus_sign)
 
 -- and in characters
-pub char_count_text_of : (f : FormatData) (z : ℤ) → char_count (text_of f z) ≡ text_size f.grouping z (char_count f.minus_sign) (char_count f.separator)
+pub char_count_text_of : (f : FormatData) (z : ℤ) → char_count (text_of f z)
+    ≡ text_size f.grouping z (char_count f.minus_sign) (char_count f.separator)
 char_count_text_of f z =
     let sign : List ℕ = if is_negative z then f.minus_sign else [] in
     omega (
@@ -110,7 +116,8 @@ count_when false n = omega arith
 -- the bytes that begin a character are as many as the characters
 pub count_by_is_char_start : (text : List ℕ) → count_by is_char_start text ≡ char_count text
 count_by_is_char_start text =
-    sym (is_count_by char_count is_char_start char_count-nil (λ b rest. char_count-cons b rest ∙ count_when (is_char_start b) (char_count rest)) text)
+    sym (is_count_by char_count is_char_start char_count-nil (λ b rest. char_count-cons b rest
+    ∙ count_when (is_char_start b) (char_count rest)) text)
 
 one_at_most : (b : Bool) → (if b then 1 else 0) ≤ 1
 one_at_most true = omega arith
@@ -152,7 +159,8 @@ filled_is width side fill text bytes missing before short some same = rw (some, 
 
 -- what is written for any options is the text alone for a plain formatter
 pub writes_plain : {W : Type 0} (took : W → List ℕ → W → Type 0) (f g : Formatter W) (r : Result (Unit {0}) Error) (text : List ℕ) →
-    WritesStyledOnOk took f r (filled (spec_width (formatter_spec f)) (spec_align (formatter_spec f)) (spec_fill (formatter_spec f)) text) g → WritesOnOk took f r text g
+    WritesStyledOnOk took f r (filled (spec_width (formatter_spec f)) (spec_align (formatter_spec f)) (spec_fill (formatter_spec f)) text) g
+    → WritesOnOk took f r text g
 writes_plain took f g r text styled plain ok =
     let written = styled plain.flush ok in
     let no_width : spec_width (formatter_spec f) ≡ None = rw plain.bare.width in

@@ -1,5 +1,6 @@
 -- How much of a text writers received, write after write.
-use Rattle.std.proofs.Common.{◌≡◌, ℕ, ◌-◌, ◌^◌, ◌<◌, List, [], ◌++◌, length, take, drop, ap, refl, sym, ◌∙◌, append_assoc, length-append, take-append-drop, arith}
+use Rattle.std.proofs.Common.{◌≡◌, ℕ, ◌-◌, ◌^◌, ◌<◌, List, [], ◌++◌, length, take, drop, ap, refl, sym, ◌∙◌, append_assoc, length-append}
+use Rattle.std.proofs.Common.{take-append-drop, arith}
 use Rattle.std.specs.Prelude.{ℤ, Option, None, Result, Ok, Err, IsErr, OnErr}
 use Rattle.std.specs.Io.KnownBytes.{Appends}
 use Rattle.std.proofs.KnownBytes.{Appends-nil, Appends-trans}
@@ -26,7 +27,8 @@ StopsWithin_prefix a b prefix suffix stops = record {
 }
 
 -- so does one that received all of the first and stops within the second
-pub StopsWithin_suffix : (a b c : Option (List ℕ)) (prefix suffix : List ℕ) → Appends a b prefix → StopsWithin b c suffix → StopsWithin a c (prefix ++ suffix)
+pub StopsWithin_suffix : (a b c : Option (List ℕ)) (prefix suffix : List ℕ) → Appends a b prefix → StopsWithin b c suffix
+    → StopsWithin a c (prefix ++ suffix)
 StopsWithin_suffix a b c prefix suffix whole stops = record {
   rest = stops.rest;
   unfinished = stops.unfinished;
@@ -38,7 +40,8 @@ StopsWithin_suffix a b c prefix suffix whole stops = record {
 }
 
 -- a write appends the first n bytes of the rest
-pub HasReceivedUpTo_more : (a b c : Option (List ℕ)) (whole rest : List ℕ) (n : ℕ) → HasReceivedUpTo a b whole rest → Appends b c (take n rest) →
+pub HasReceivedUpTo_more : (a b c : Option (List ℕ)) (whole rest : List ℕ) (n : ℕ) → HasReceivedUpTo a b whole rest
+    → Appends b c (take n rest) →
     HasReceivedUpTo a c whole (take (length rest - n) (drop n rest))
 HasReceivedUpTo_more a b c whole rest n so_far more = record {
   received = so_far.received ++ take n rest;
@@ -66,7 +69,8 @@ Writes_err (Ok n) f z fails = absurd (cc)
 Writes_err (Err e) f z fails = Writes_failed e f z
 
 -- a call that fails since the cursor is past the end of its slice
-pub WritesInSlice_past_end : (old : List ℕ) (from : ℕ) (f : FormatData) (z : ℤ) (e : Error) → length old < from → from < 2 ^ 64 → error_kind e ≡ WriteZero →
+pub WritesInSlice_past_end : (old : List ℕ) (from : ℕ) (f : FormatData) (z : ℤ) (e : Error) → length old < from → from < 2 ^ 64
+    → error_kind e ≡ WriteZero →
     WritesInSlice old from (text_of f z) (Err e) old from
 WritesInSlice_past_end old from f z e past small kind =
     let none : length old - from ≡ 0 = omega arith in

@@ -16,7 +16,8 @@ pub record KeepsOnError (capacity : ℕ) (old text : List ℕ) (result : Result 
   pub kind : IfErr result (λ error. error_kind error ≡ OutOfMemory)
 
 -- a `Formatter`: a plain one passed on the text, and so did one with any width, fill and other options, unless it indents
-pub record WritesToFormatter {W : Type 0} (took : W → List ℕ → W → Type 0) (old : Formatter W) (text : List ℕ) (result : Result ℕ Error) (new : Formatter W) : Type 0 where
+pub record WritesToFormatter {W : Type 0} (took : W → List ℕ → W → Type 0) (old : Formatter W) (text : List ℕ) (result : Result ℕ Error)
+    (new : Formatter W) : Type 0 where
   pub written : OnOk result (IsPlainFormatter old → HasWritten took old text new)
   pub styled : OnOk result (IsFlush old → HasWrittenStyled took old text new)
 

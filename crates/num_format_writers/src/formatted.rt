@@ -4,7 +4,8 @@
 //! to the width that is asked for. [`text_len`] and [`text_width`] return how long the text is, without
 //! printing it.
 ghost use Rattle.std.specs.Prelude.{◌≡◌, ◌+◌, ◌*◌, ◌/◌, ◌≤◌, length, Some};
-ghost use Rattle.std.specs.Fmt.{char_count, is_char_start, WritesOnOk, WritesStyledOnOk, formatter_spec, spec_width, spec_align, spec_fill};
+ghost use Rattle.std.specs.Fmt.{char_count, is_char_start, WritesOnOk, WritesStyledOnOk, formatter_spec, spec_width};
+ghost use Rattle.std.specs.Fmt.{spec_align, spec_fill};
 ghost use Rattle.num_format_int.specs.Digits.{digits};
 ghost use Rattle.num_format_int.specs.Grouped.{separators};
 ghost use Rattle.num_format_int.specs.Text.{text_of};
@@ -137,7 +138,7 @@ fn char_count(text: &str) -> usize
 }
 
 /// Returns whether a byte begins a character.
-fn is_char_start(byte: u8) -> bool
+pub fn is_char_start(byte: u8) -> bool
     ensures { result ≡ is_char_start byte }
 {
     byte < 0x80 || byte >= 0xC0
@@ -188,8 +189,9 @@ fn text_size<N: ToFormattedStr>(
     ensures size { result ≡ text_size grouping (N.value n.now) minus_sign separator }
     ensures bound { result ≤ MAX_BUF_LEN }
 {
-    let unsigned = digits_size(digit_count(n.magnitude()), grouping, separator);
-    if n.is_below_zero() {
+    let (sign, magnitude) = n.sign_and_magnitude();
+    let unsigned = digits_size(digit_count(magnitude), grouping, separator);
+    if sign.unwrap_or(false) {
         minus_sign + unsigned
     } else {
         unsigned

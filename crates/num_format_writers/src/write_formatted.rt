@@ -19,7 +19,8 @@
 //! Code that is generic over std's [`Write`] calls
 //! [`read_to_io_writer`](ToFormattedString::read_to_io_writer), whose contract is about the
 //! writer's `contents`.
-ghost use Rattle.std.specs.Prelude.{◌≡◌, ◌≤◌, ⊤, ℕ, List, Option, Some, None, Result, length, IsOk, IfOk, IfErr, string_bytes, vec_capacity};
+ghost use Rattle.std.specs.Prelude.{◌≡◌, ◌≤◌, ⊤, ℕ, List, Option, Some, None, Result, length, IsOk, IfOk, IfErr};
+ghost use Rattle.std.specs.Prelude.{string_bytes, vec_capacity};
 ghost use Rattle.std.specs.String.{string_capacity};
 ghost use Rattle.std.specs.Io.Cursor.{cursor_inner, cursor_position};
 ghost use Rattle.std.specs.IoError.{error_kind};
@@ -28,7 +29,8 @@ ghost use Rattle.std.specs.declared.io.ErrorKind.TheVariants.{WriteZero};
 ghost use Rattle.std.specs.Result.{OkIff};
 ghost use Rattle.std.specs.Box.{boxed_slice_items};
 ghost use Rattle.num_format_int.specs.Text.{text_of};
-ghost use Rattle.num_format_writers.specs.Writers.{KeepsOnError, WritesToFormatter, WritesInVector, MovesInVector, WritesInSlice, MovesInSlice, WritesToSlice};
+ghost use Rattle.num_format_writers.specs.Writers.{KeepsOnError, WritesToFormatter, WritesInVector, MovesInVector};
+ghost use Rattle.num_format_writers.specs.Writers.{WritesInSlice, MovesInSlice, WritesToSlice};
 ghost use Rattle.num_format_writers.specs.Writing.{Writes};
 
 use crate::to_formatted_string::ToFormattedString;

@@ -11,7 +11,8 @@ pub returns-then-n-lt-FOUR_DIGITS-clause-text : goal.returns-then-n-lt-FOUR_DIGI
 returns-then-n-lt-FOUR_DIGITS-clause-text g c =
     let f = g.F.Format.answers c.args.format.now in
     c.put_first_group.ensures
-    ∙ ap (λ t. t ++ g.B.PutFront.held c.args.buffer.now) (sym (grouped-short f.grouping f.separator (digits c.args.n) (length-digits-le 3 c.args.n (omega arith) (omega arith))))
+    ∙ ap (λ t. t ++ g.B.PutFront.held c.args.buffer.now) (sym (grouped-short f.grouping f.separator (digits c.args.n)
+    (length-digits-le 3 c.args.n (omega arith) (omega arith))))
 
 pub returns-then-n-lt-FOUR_DIGITS-clause-room : goal.returns-then-n-lt-FOUR_DIGITS-clause-room
 returns-then-n-lt-FOUR_DIGITS-clause-room g c =
@@ -30,5 +31,6 @@ returns-clause-room g c =
       arith,
       ap length c.put_long_body.ensures.text,
       length-append (body_of f c.args.n) (g.B.PutFront.held c.args.buffer.now),
-      length-grouped-le183 f.grouping f.separator (digits c.args.n) c.put_long_body.ensures.separator (length-digits-le39 c.args.n (omega arith)),
+      length-grouped-le183 f.grouping f.separator (digits c.args.n) c.put_long_body.ensures.separator
+          (length-digits-le39 c.args.n (omega arith)),
     )

@@ -7,7 +7,8 @@ use Rattle.num_format_int.proofs.to_formatted_str.put_full_groups.Given as goal
 abbrev pub invariant-loop-left : goal.invariant-loop-left
 invariant-loop-left g l = record {
   prepends : PrependsAllBut g.G.Groups.SIZE l.n l.left l.separator (g.B.PutFront.held l.fn.buffer) (g.B.PutFront.held l.buffer);
-  fits : length (g.B.PutFront.held l.buffer) + 5 * length (digits l.left) ≤ length (g.B.PutFront.held l.fn.buffer) + 5 * length (digits l.n);
+  fits : length (g.B.PutFront.held l.buffer) + 5 * length (digits l.left)
+      ≤ length (g.B.PutFront.held l.fn.buffer) + 5 * length (digits l.n);
 }
 
 abbrev pub decreases-loop-left : goal.decreases-loop-left

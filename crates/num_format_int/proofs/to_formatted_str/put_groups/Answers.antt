@@ -8,14 +8,21 @@ at_most_four size base first sizes power within = grind (arith, sizes, power)
 
 pub put_first_group-requires-clause-group : goal.put_first_group-requires-clause-group
 put_first_group-requires-clause-group g c =
-    at_most_four g.G.Groups.SIZE g.G.Groups.BASE c.put_full_groups-first.result g.met.G.Groups.size g.met.G.Groups.base c.put_full_groups-first.ensures.first
+    at_most_four g.G.Groups.SIZE g.G.Groups.BASE c.put_full_groups-first.result g.met.G.Groups.size g.met.G.Groups.base
+    c.put_full_groups-first.ensures.first
 
 pub put_first_group-requires-clause-fits : goal.put_first_group-requires-clause-fits
-put_first_group-requires-clause-fits g c = omega (arith, c.requires.fits, c.put_full_groups-first.ensures.fits, digits_given c.put_full_groups-first.result)
+put_first_group-requires-clause-fits g c = omega (
+  arith,
+  c.requires.fits,
+  c.put_full_groups-first.ensures.fits,
+  digits_given c.put_full_groups-first.result,
+)
 
 pub returns : goal.returns
 returns g c =
     let p = c.put_full_groups-first in
     let some : 0 < g.G.Groups.SIZE = omega (arith, size_bounds g.G.Groups.SIZE g.met.G.Groups.size) in
-    all_digits g.G.Groups.SIZE c.args.n p.result c.args.separator.now (g.B.PutFront.held c.args.buffer.now) (g.B.PutFront.held p.new.buffer) (g.B.PutFront.held c.put_first_group.new.buffer)
+    all_digits g.G.Groups.SIZE c.args.n p.result c.args.separator.now (g.B.PutFront.held c.args.buffer.now) (g.B.PutFront.held p.new.buffer)
+    (g.B.PutFront.held c.put_first_group.new.buffer)
     some (rw g.met.G.Groups.base at p.ensures.first) p.ensures.text c.put_first_group.ensures

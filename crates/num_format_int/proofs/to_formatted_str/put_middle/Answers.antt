@@ -9,12 +9,19 @@ one_more middle leading part power below = rw (power, digits-leading_one middle 
 
 pub put_full_groups-requires-clause-fits : goal.put_full_groups-requires-clause-fits
 put_full_groups-requires-clause-fits g c =
-    omega (arith, c.requires.fits, one_more g.L.LastGroup.MIDDLE c.LEADING.result c.args.part (c.LEADING.ensures ∙ g.met.L.LastGroup.leading) c.requires.part)
+    omega (
+      arith,
+      c.requires.fits,
+      one_more g.L.LastGroup.MIDDLE c.LEADING.result c.args.part (c.LEADING.ensures
+          ∙ g.met.L.LastGroup.leading) c.requires.part,
+    )
 
 pub returns-clause-text : goal.returns-clause-text
 returns-clause-text g c =
-    middle_groups g.G.Groups.SIZE g.L.LastGroup.MIDDLE c.args.part c.put_full_groups.result c.args.separator.now (g.B.PutFront.held c.args.buffer.now) (g.B.PutFront.held c.put_full_groups.new.buffer)
-    g.met.G.Groups.size c.requires.whole c.requires.part (rw g.met.G.Groups.base at c.put_full_groups.ensures.first) (rw (c.LEADING.ensures ∙ g.met.L.LastGroup.leading) at c.put_full_groups.ensures.text)
+    middle_groups g.G.Groups.SIZE g.L.LastGroup.MIDDLE c.args.part c.put_full_groups.result c.args.separator.now
+    (g.B.PutFront.held c.args.buffer.now) (g.B.PutFront.held c.put_full_groups.new.buffer)
+    g.met.G.Groups.size c.requires.whole c.requires.part (rw g.met.G.Groups.base at c.put_full_groups.ensures.first)
+    (rw (c.LEADING.ensures ∙ g.met.L.LastGroup.leading) at c.put_full_groups.ensures.text)
 
 pub returns-clause-fits : goal.returns-clause-fits
 returns-clause-fits g c =

@@ -12,5 +12,6 @@ threes = record { last = 3; size = 3; least = 0 }
 pub returns : goal.returns
 returns g c =
     let ds = digits c.args.n in
-    c.put_separated.ensures (separates threes (length ds)) (last_group-by threes (length ds) (omega arith)) (groups-by threes (inl (refl, refl)) (length ds))
+    c.put_separated.ensures (separates threes (length ds)) (last_group-by threes (length ds) (omega arith))
+    (groups-by threes (inl (refl, refl)) (length ds))
     ∙ ap (λ t. t ++ (g.B.PutFront.held c.args.buffer.now)) (separated-none (separates threes (length ds)) ds)

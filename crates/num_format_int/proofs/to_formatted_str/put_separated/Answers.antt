@@ -35,7 +35,9 @@ returns g c = λ is_due last groups.
     let size = g.L.Groups.SIZE in
     let power = g.met.L.Groups.base in
     let group = ap (last_digits size) (c.parts-first.ensures.last ∙ ap (λ b. n % b) power) ∙ last_digits-mod size n in
-    let before = last_group is_due s old (g.B.PutFront.held c.put_group.new.buffer) size n last (c.put_group.ensures ∙ ap (λ ds. s ++ (plain ds ++ old)) group) in
+    let before = last_group is_due s old (g.B.PutFront.held c.put_group.new.buffer) size n last (c.put_group.ensures
+    ∙ ap (λ ds. s ++ (plain ds ++ old)) group) in
     c.put_parts.ensures is_due (last_digits size n) old groups before
     ∙ ap (λ ds. separated is_due s ds ++ old)
-    (ap (λ m. digits m ++ last_digits size n) (c.parts-first.ensures.rest ∙ ap (λ b. n / b) power) ∙ sym (digits-split size n (rw (← power) c.requires.some)))
+    (ap (λ m. digits m ++ last_digits size n) (c.parts-first.ensures.rest ∙ ap (λ b. n / b) power)
+    ∙ sym (digits-split size n (rw (← power) c.requires.some)))

@@ -1,4 +1,5 @@
-use Rattle.std.proofs.Common.{◌≡◌, ℕ, ◌≤◌, Bool, true, false, List, [], ◌++◌, ◌∙◌, length, drop, refl, sym, arith, append-nil, length-drop, take_all}
+use Rattle.std.proofs.Common.{◌≡◌, ℕ, ◌≤◌, Bool, true, false, List, [], ◌++◌, ◌∙◌, length, drop, refl, sym, arith, append-nil, length-drop}
+use Rattle.std.proofs.Common.{take_all}
 use Rattle.std.specs.Prelude.{IsUtf8, if◌then◌else◌}
 use Rattle.std.specs.Str.{IsCharBoundary}
 use Rattle.std.proofs.lemmas.List.{nil_from_length}
@@ -6,7 +7,8 @@ use Rattle.std.proofs.lemmas.Str.{IsCharBoundary-at_seam, IsCharBoundary-start, 
 use Rattle.num_format_int.proofs.to_formatted_str.put_sign.Goals as goal
 
 -- a text of one byte begins and ends with a character
-either_end : (is_whole : Bool) (skipped : ℕ) (text : List ℕ) → (is_whole ≡ true → skipped ≡ 0) → (is_whole ≡ false → skipped ≡ 1) → IsUtf8 text → length text ≡ 1 →
+either_end : (is_whole : Bool) (skipped : ℕ) (text : List ℕ) → (is_whole ≡ true → skipped ≡ 0) → (is_whole ≡ false → skipped ≡ 1)
+    → IsUtf8 text → length text ≡ 1 →
     (skipped ≤ length text) × IsCharBoundary text skipped
 either_end true skipped text none _ utf8 one = rw (none refl) (omega arith, IsCharBoundary-start text utf8)
 either_end false skipped text _ all utf8 one =
@@ -14,7 +16,8 @@ either_end false skipped text _ all utf8 one =
     rw end (omega arith, IsCharBoundary-at_seam text text [] (sym (append-nil text)) IsUtf8-nil)
 
 -- without its byte nothing is left of it
-whole_or_nothing : (is_whole : Bool) (skipped : ℕ) (text sign body new : List ℕ) → new ≡ drop skipped text ++ body → (is_whole ≡ true → skipped ≡ 0) → (is_whole ≡ false → skipped ≡ 1) →
+whole_or_nothing : (is_whole : Bool) (skipped : ℕ) (text sign body new : List ℕ) → new ≡ drop skipped text ++ body
+    → (is_whole ≡ true → skipped ≡ 0) → (is_whole ≡ false → skipped ≡ 1) →
     text ≡ sign → length sign ≡ 1 → new ≡ (if is_whole then sign else []) ++ body
 whole_or_nothing true skipped text sign body new e none _ same one = rw (e, none refl, same)
 whole_or_nothing false skipped text sign body new e _ all same one =
@@ -30,5 +33,6 @@ returns-then-sign-eq1 g c =
     let sign = c.into_str-sign.result.now in
     let one : length sign ≡ 1 = omega (arith, c.if-sign-eq1.true) in
     let all : c.range.result.now ≡ sign = c.range.ensures.value ∙ take_all 1 sign (omega arith) in
-    whole_or_nothing c.args.is_negative _ c.range.result.now sign (g.B.PutFront.held c.args.buffer.now) (g.B.PutFront.held c.put_end.new.self) c.put_end.ensures (λ yes. rw yes) (λ no. rw no) all one
+    whole_or_nothing c.args.is_negative _ c.range.result.now sign (g.B.PutFront.held c.args.buffer.now)
+    (g.B.PutFront.held c.put_end.new.self) c.put_end.ensures (λ yes. rw yes) (λ no. rw no) all one
     ∙ rw (c.into_str-sign.ensures.same, c.minus_sign.ensures)

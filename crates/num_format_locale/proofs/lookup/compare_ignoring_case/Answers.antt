@@ -12,6 +12,8 @@ pub returns : goal.returns
 returns c =
     cmp_from_yields_List (λ x y. y ≡ x) _ nat_cmp _ c.cmp.ensures.ran
     (YieldsList-from_map _ to_ascii_lowercase (YieldsList-from_slice c.args.name.now (cc)) (cc) (λ x r q k. search rules))
-    (λ it e. YieldsList-from_map _ (λ each. to_ascii_lowercase (hyphen_for_underscore each)) (YieldsList-from_slice c.args.text.now (cc)) (cc) (λ x r q k. search rules))
+    (λ it e. YieldsList-from_map _ (λ each. to_ascii_lowercase (hyphen_for_underscore each)) (YieldsList-from_slice c.args.text.now (cc))
+    (cc) (λ x r q k. search rules))
     (λ x y. refl)
-    ∙ ap (slice_cmp nat_cmp (map to_ascii_lowercase c.args.name.now)) (sym (map-map to_ascii_lowercase hyphen_for_underscore c.args.text.now))
+    ∙ ap (slice_cmp nat_cmp (map to_ascii_lowercase c.args.name.now)) (sym
+    (map-map to_ascii_lowercase hyphen_for_underscore c.args.text.now))

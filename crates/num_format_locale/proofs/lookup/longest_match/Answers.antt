@@ -10,7 +10,8 @@ returns-then-is_some-clause-matched c =
 
 pub returns-in_err-end-clause-missing : goal.returns-in_err-end-clause-missing
 returns-in_err-end-clause-missing c =
-    rw c.from_residual.ensures (none_at c.args.language.now c.loop-place.end c.loop-place.invariant c.find_ignoring_case-place.result (search rules)
+    rw c.from_residual.ensures (none_at c.args.language.now c.loop-place.end c.loop-place.invariant c.find_ignoring_case-place.result
+    (search rules)
     c.find_ignoring_case-place.ensures.missing (search (rules, tests)))
 
 pub loop-place-preserved : goal.loop-place-preserved

@@ -12,7 +12,8 @@ returns-then-is_mixed-clause-missing c =
 pub returns-clause-spelled : goal.returns-clause-spelled
 returns-clause-spelled c =
     elim c.else-is_some.branch [
-      | else-is_some-via-then-is_some+else-is_mixed w ↦ spells_if_found _ _ (λ mixed. let yes = w.is_mixed.ensures.1 mixed in search rules) c.find_hyphened-place.ensures.found
+      | else-is_some-via-then-is_some+else-is_mixed w ↦ spells_if_found _ _ (λ mixed. let yes = w.is_mixed.ensures.1 mixed
+          in search rules) c.find_hyphened-place.ensures.found
       | else-is_some-via-else-is_some w ↦ search rules
     ]
 

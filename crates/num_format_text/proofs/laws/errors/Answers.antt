@@ -36,13 +36,15 @@ fed (ParseNumber text) = le_bytes 8 3 ∷ (text ∷ ((255 ∷ []) ∷ []))
 
 fed_tells : (refusal : Refusal) → HasUsizes refusal → told_by (fed refusal) ≡ refusal
 unfolding le_bytes
-fed_tells (Capacity len cap) within = ap (λ n. Capacity n (from_le_bytes w64 (le_bytes 8 cap))) (from_le_bytes-to_le_bytes_8 len within.0) ∙ ap (λ n. Capacity len n) (from_le_bytes-to_le_bytes_8 cap within.1)
+fed_tells (Capacity len cap) within = ap (λ n. Capacity n (from_le_bytes w64 (le_bytes 8 cap))) (from_le_bytes-to_le_bytes_8 len within.0)
+    ∙ ap (λ n. Capacity len n) (from_le_bytes-to_le_bytes_8 cap within.1)
 fed_tells (Other text) within = refl
 fed_tells (ParseLocale text) within = refl
 fed_tells (ParseNumber text) within = refl
 
 -- a fact of each of the four is one of all kinds
-each : (P : ErrorKind → Type 0) → ((len cap : ℕ) → P (kind.Capacity len cap)) → ((text : _) → P (kind.Other text)) → ((text : _) → P (kind.ParseLocale text)) →
+each : (P : ErrorKind → Type 0) → ((len cap : ℕ) → P (kind.Capacity len cap)) → ((text : _) → P (kind.Other text))
+    → ((text : _) → P (kind.ParseLocale text)) →
     ((text : _) → P (kind.ParseNumber text)) → (error : ErrorKind) → P error
 each P capacity other parse_locale parse_number (kind.Capacity len cap) = capacity len cap
 each P capacity other parse_locale parse_number (kind.Other text) = other text

@@ -10,15 +10,23 @@ invariant_of-self c =
     let start = c.copy_before-start.result in
     let copied = c.copy_before-start.ensures in
     let held : length array ≡ 191 = copied.length ∙ c.self.told in
-    let fits : length c.args.text.now + 2 ≤ before.start = omega (arith, c.self.told, c.requires.fits, ap length c.self.view_is, length-drop before.start before.inner) in
+    let fits : length c.args.text.now + 2 ≤ before.start = omega (
+      arith,
+      c.self.told,
+      c.requires.fits,
+      ap length c.self.view_is,
+      length-drop before.start before.inner,
+    ) in
     let inside : start ≤ length array = omega (arith, held, copied.start, c.self.invariant.0, c.requires.boundary.0) in
     let first = before.start - length c.args.text.now in
     let zeros = zeros_kept before.inner array before.start first (omega arith) copied.before c.self.invariant.2 in
     rw c.copy_from_slice.ensures.after (
       omega (arith, held, inside),
       search (rules, overwrites, held),
-      zeros_written array first (start - 2) 2 start (omega (arith, fits, copied.start, c.requires.few)) (omega (arith, fits, copied.start)) inside zeros,
-      rw (drop-put_mid (start - 2) (start - (start - 2)) array (0 ∷ 0 ∷ []) start (omega (arith, fits, copied.start)) (omega (arith, inside)) (omega (arith, fits, copied.start)))
+      zeros_written array first (start - 2) 2 start (omega (arith, fits, copied.start, c.requires.few))
+          (omega (arith, fits, copied.start)) inside zeros,
+      rw (drop-put_mid (start - 2) (start - (start - 2)) array (0 ∷ 0 ∷ []) start (omega (arith, fits, copied.start))
+          (omega (arith, inside)) (omega (arith, fits, copied.start)))
           (copied.utf8 c.requires.boundary.1 c.self.invariant.3),
     )
 
@@ -28,8 +36,16 @@ returns c =
     let array = c.copy_before-start.new.array in
     let start = c.copy_before-start.result in
     let copied = c.copy_before-start.ensures in
-    let fits : length c.args.text.now + 2 ≤ before.start = omega (arith, c.self.told, c.requires.fits, ap length c.self.view_is, length-drop before.start before.inner) in
-    let inside : start ≤ length array = omega (arith, c.self.told, copied.length, copied.start, c.self.invariant.0, c.requires.boundary.0) in
+    let fits : length c.args.text.now + 2 ≤ before.start = omega (
+      arith,
+      c.self.told,
+      c.requires.fits,
+      ap length c.self.view_is,
+      length-drop before.start before.inner,
+    ) in
+    let inside : start ≤ length array = omega (arith, c.self.told, copied.length, copied.start, c.self.invariant.0, c.requires.boundary.0)
+    in
     let old : drop before.start before.inner ≡ c.args.self.now = search rules in
     rw c.copy_from_slice.ensures.after
-    (drop-put_mid (start - 2) (start - (start - 2)) array (0 ∷ 0 ∷ []) start (omega (arith, fits, copied.start)) (omega (arith, inside)) (omega (arith, fits, copied.start)) ∙ copied.text ∙ rw old refl)
+    (drop-put_mid (start - 2) (start - (start - 2)) array (0 ∷ 0 ∷ []) start (omega (arith, fits, copied.start)) (omega (arith, inside))
+    (omega (arith, fits, copied.start)) ∙ copied.text ∙ rw old refl)

@@ -8,9 +8,11 @@ pub returns-in-Some : goal.returns-in-Some
 returns-in-Some c =
     let spelled = rw c.in-Some.is at c.find.ensures.spelled in
     let within = rw c.in-Some.is at c.find.ensures.within in
-    rw c.at.ensures (looked_up c.args.name.now c.in-Some.place within (subst (λ text. Spells text (name_of c.in-Some.place)) c.as_bytes.ensures.value spelled))
+    rw c.at.ensures (looked_up c.args.name.now c.in-Some.place within (subst
+    (λ text. Spells text (name_of c.in-Some.place)) c.as_bytes.ensures.value spelled))
 
 pub returns-in-None : goal.returns-in-None
 returns-in-None c =
     let missing = rw c.in-None.is at c.find.ensures.missing in
-    refused c.args.name.now c.unknown_name.result (subst (λ text. (place : ℕ) → place < LEN → ¬ Spells text (name_of place)) c.as_bytes.ensures.value missing) c.unknown_name.ensures
+    refused c.args.name.now c.unknown_name.result (subst (λ text. (place : ℕ) → place < LEN
+    → ¬ Spells text (name_of place)) c.as_bytes.ensures.value missing) c.unknown_name.ensures

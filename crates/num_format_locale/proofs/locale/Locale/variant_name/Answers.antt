@@ -7,4 +7,5 @@ pub bounds-variant_names-self-inside : goal.bounds-variant_names-self-inside
 bounds-variant_names-self-inside c = omega (arith, length-names c.variant_names.result.now c.variant_names.ensures)
 
 pub returns : goal.returns
-returns c = name_at c.variant_names.result.now c.variant_names.ensures c.self.inside.place _ c.self.invariant ∙ ap variant_name_of c.self.view_is
+returns c = name_at c.variant_names.result.now c.variant_names.ensures c.self.inside.place _ c.self.invariant
+    ∙ ap variant_name_of c.self.view_is
