@@ -1,5 +1,5 @@
 -- Which numbers decide whether two formats print all numbers alike.
-use Rattle.std.proofs.Common.{◌≡◌, ℕ, ◌*◌, ◌-◌, ◌^◌, ◌<◌, List, [], ◌∷◌, ◌++◌, length, take, drop, refl, sym, ap, ◌∙◌, arith}
+use Rattle.std.proofs.Common.{◌≡◌, ℕ, ◌*◌, ◌-◌, ◌^◌, ◌<◌, List, ◌++◌, length, take, drop, refl, sym, ap, ◌∙◌, arith}
 use Rattle.std.proofs.Common.{ℤ, pos, negsuc, unsigned_abs}
 use Rattle.std.specs.Prelude.{◌≤ℤ◌}
 use Rattle.std.proofs.lemmas.Int.{ints}
@@ -12,7 +12,7 @@ use Rattle.num_format_int.specs.Grouped.{grouped, separators}
 use Rattle.num_format_int.specs.Groups.{plain}
 use Rattle.num_format_int.specs.Text.{body_of, text_of}
 use Rattle.num_format_int.proofs.GroupedLemmas.{grouped-empty, grouped-Posix, length-grouped}
-use Rattle.num_format_certificates.specs.Alike.{Alike, PrintsAlike}
+use Rattle.num_format_certificates.specs.Alike.{Alike}
 use Rattle.num_format_certificates.specs.Laws.{AlikeLaw}
 
 -- digits without a separator, as it is empty or never printed: it takes no byte in 100000

@@ -1,5 +1,5 @@
 -- When every number reads back from its text.
-use Rattle.std.proofs.Common.{◌≡◌, ℕ, suc, ◌+◌, ◌-◌, ◌*◌, ◌^◌, ◌<◌, Bool, true, false, List, [], ◌∷◌, ◌++◌, length, map, refl, ap, ◌∙◌, sym}
+use Rattle.std.proofs.Common.{◌≡◌, ℕ, ◌+◌, ◌-◌, ◌*◌, ◌^◌, ◌<◌, Bool, true, false, List, [], ◌∷◌, ◌++◌, length, map, refl, ap, ◌∙◌, sym}
 use Rattle.std.proofs.Common.{arith, ℤ, pos, negsuc, unsigned_abs, IsUtf8}
 use Rattle.std.specs.Prelude.{codes, filter, if◌then◌else◌, ◌||◌}
 use Rattle.std.specs.Char.{is_ascii_digit}

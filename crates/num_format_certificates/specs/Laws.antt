@@ -1,5 +1,5 @@
 -- Laws of the checks of a format.
-use Rattle.std.specs.Prelude.{◌≡◌, ◌-◌, ◌^◌, ℕ, ℤ, pos, negsuc, ◌↔◌, List, [], ◌∷◌, codes, IsUtf8}
+use Rattle.std.specs.Prelude.{◌≡◌, ◌-◌, ◌^◌, ℤ, pos, negsuc, ◌↔◌, [], ◌∷◌, codes, IsUtf8}
 use Rattle.num_format_text.specs.declared.grouping.Grouping.TheVariants.{Standard, Indian, Myriad, Sparse}
 use Rattle.num_format_text.specs.English.{english_with}
 use Rattle.num_format_text.specs.Format.{FormatData}
@@ -38,7 +38,8 @@ pub record FourNeededLaw : Type 0 where
 
 -- which formats print every number so that it reads back, among those whose minus sign and separator are UTF-8
 pub record RoundTripLaw : Type 0 where
-  pub two_values : (f : FormatData) → IsUtf8 f.minus_sign → IsUtf8 f.separator → RoundTrips f ↔ (ReadsBack (kind_of I128) f (pos 1) × ReadsBack (kind_of I128) f (negsuc (2 ^ 127 - 1)))
+  pub two_values : (f : FormatData) → IsUtf8 f.minus_sign → IsUtf8 f.separator → RoundTrips f
+      ↔ (ReadsBack (kind_of I128) f (pos 1) × ReadsBack (kind_of I128) f (negsuc (2 ^ 127 - 1)))
   pub characters : (f : FormatData) → IsUtf8 f.minus_sign → IsUtf8 f.separator → RoundTrips f ↔ IsUnambiguous f
 
 -- of these two values, neither decides alone: under one format the first reads back and the second does not, under another it is

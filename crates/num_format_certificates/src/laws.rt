@@ -4,7 +4,8 @@
 //! but for those of [`format_data`] and [`locale_round_trips`], which call getters for what their contracts
 //! say. A caller that needs a law in a proof calls its function.
 ghost use Rattle.num_format_locale.specs.Data.{locale_data};
-ghost use Rattle.num_format_certificates.specs.Laws.{AlikeLaw, BothNeededLaw, DistinctTextsLaw, FourNeededLaw, RoundTripLaw, Utf8Law};
+ghost use Rattle.num_format_certificates.specs.Laws.{AlikeLaw, BothNeededLaw, DistinctTextsLaw, FourNeededLaw};
+ghost use Rattle.num_format_certificates.specs.Laws.{RoundTripLaw, Utf8Law};
 ghost use Rattle.num_format_certificates.specs.RoundTrips.{RoundTrips};
 ghost use Rattle.num_format_text.specs.Format.{HasUtf8Texts, IsWithinCapacity};
 

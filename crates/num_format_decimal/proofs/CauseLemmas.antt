@@ -9,11 +9,13 @@ use Rattle.num_format_decimal.specs.declared.error.DecimalError.TheVariants as s
 use Rattle.num_format_decimal.specs.declared.parsing.ParseAtScaleError.{ParseAtScaleError}
 use Rattle.num_format_decimal.specs.declared.parsing.ParseAtScaleError.TheVariants.{Parse, Rescale}
 use Rattle.num_format_decimal.specs.declared.parsing.ParseDecimalError.{ParseDecimalError}
-use Rattle.num_format_decimal.specs.declared.parsing.ParseDecimalError.TheVariants.{AmbiguousFormat, NotUtf8, Unexpected, NoDigit, TooManyDecimals, Misspelled, OutOfRange}
+use Rattle.num_format_decimal.specs.declared.parsing.ParseDecimalError.TheVariants.{AmbiguousFormat, NotUtf8, Unexpected, NoDigit}
+use Rattle.num_format_decimal.specs.declared.parsing.ParseDecimalError.TheVariants.{TooManyDecimals, Misspelled, OutOfRange}
 use Rattle.num_format_decimal.specs.declared.rounding.Rounding.TheVariants.{Exact}
 use Rattle.num_format_decimal.specs.FixedPoint.{FixedPoint}
 use Rattle.num_format_decimal.specs.Marks.{IsPlainFormat, MarksDecimals}
-use Rattle.num_format_decimal.specs.Parsing.{AtScaleResult, DecimalResult, DecimalStopsAt, IsAtScaleCause, IsDecimalCause, IsExpectedDecimal, ParsesAtScale, ParsesDecimal, SpellsDecimal, unexpected_in_decimal}
+use Rattle.num_format_decimal.specs.Parsing.{AtScaleResult, DecimalResult, DecimalStopsAt, IsAtScaleCause, IsDecimalCause}
+use Rattle.num_format_decimal.specs.Parsing.{IsExpectedDecimal, ParsesAtScale, ParsesDecimal, SpellsDecimal, unexpected_in_decimal}
 use Rattle.num_format_decimal.specs.Values.{HasUnits}
 use Rattle.num_format_decimal.specs.Rounded.{CanRescale, CannotRescale, rescaled}
 use Rattle.num_format_decimal.proofs.MarkLemmas.{spelled_once, tells-spelled_decimal}
@@ -24,7 +26,8 @@ stops-not f t a stops expected = omega (arith, ap length (sym stops.rest ∙ exp
 stops-once : (f : FormatData) (t : List ℕ) (a b : ℕ) → DecimalStopsAt f t a → DecimalStopsAt f t b → a ≡ b
 stops-once f t a b p q = omega (arith, ap length (sym p.rest ∙ q.rest), length-drop a t, length-drop b t, p.inside, q.inside)
 
-pub expected_of : (f : FormatData) (t : List ℕ) (at : ℕ) → IsUtf8 t → ((d : FixedPoint) → d.scale ≤ MAX_SCALE → ¬ (SpellsDecimal f t d)) → unexpected_in_decimal f t ≡ drop at t → length t ≤ at → IsExpectedDecimal f t
+pub expected_of : (f : FormatData) (t : List ℕ) (at : ℕ) → IsUtf8 t → ((d : FixedPoint) → d.scale ≤ MAX_SCALE → ¬ (SpellsDecimal f t d))
+    → unexpected_in_decimal f t ≡ drop at t → length t ≤ at → IsExpectedDecimal f t
 expected_of f t at utf8 none rest all = record { spells_none = record { utf8 = utf8; none = none }; rest = rest ∙ drop_all at t all }
 
 -- a text that spells a decimal is UTF-8, and is refused only if its units are no `i128`
@@ -32,14 +35,16 @@ utf8-spelled : (f : FormatData) (t : List ℕ) (d : FixedPoint) → IsPlainForma
 utf8-spelled f t d plain spells = (tells-spelled_decimal f t d.units d.scale plain spells).utf8
 
 module _ (f : FormatData) (t : List ℕ) (plain : IsPlainFormat f) (marks : MarksDecimals f) where
-  spelled_cause : (d : FixedPoint) (e : ParseDecimalError) → SpellsDecimal f t d → d.scale ≤ MAX_SCALE → IsDecimalCause f t e → (e ≡ OutOfRange) × ¬ (HasUnits d)
+  spelled_cause : (d : FixedPoint) (e : ParseDecimalError) → SpellsDecimal f t d → d.scale ≤ MAX_SCALE → IsDecimalCause f t e
+      → (e ≡ OutOfRange) × ¬ (HasUnits d)
   spelled_cause d AmbiguousFormat spells bound p = absurd (p marks)
   spelled_cause d NotUtf8 spells bound p = absurd (p.1 (utf8-spelled f t d plain spells))
   spelled_cause d (Unexpected a) spells bound p = absurd (p.1.spells_none.none d bound spells)
   spelled_cause d NoDigit spells bound p = absurd (p.1.expected.spells_none.none d bound spells)
   spelled_cause d TooManyDecimals spells bound p = absurd (p.1.expected.spells_none.none d bound spells)
   spelled_cause d Misspelled spells bound p = absurd (p.1.expected.spells_none.none d bound spells)
-  spelled_cause d OutOfRange spells bound p = (refl, λ fits. p.1.wrong (subst HasUnits (spelled_once f t d p.1.decimal plain marks.apart spells p.1.spelled) fits))
+  spelled_cause d OutOfRange spells bound p =
+      (refl, λ fits. p.1.wrong (subst HasUnits (spelled_once f t d p.1.decimal plain marks.apart spells p.1.spelled) fits))
 
   -- two causes of one refusal are the same
   only_cause : (d e : ParseDecimalError) → IsDecimalCause f t d → IsDecimalCause f t e → d ≡ e
@@ -64,14 +69,21 @@ module _ (f : FormatData) (t : List ℕ) (plain : IsPlainFormat f) (marks : Mark
   only_cause Misspelled Misspelled p q = refl
 
   -- what is parsed, or refused for a cause, is what parsing returns
-  pub result-judged : (r : Result FixedPoint ParseDecimalError) → MatchResult r (λ d. ParsesDecimal f t d) (λ e. IsDecimalCause f t e) → DecimalResult f t r
+  pub result-judged : (r : Result FixedPoint ParseDecimalError) → MatchResult r (λ d. ParsesDecimal f t d) (λ e. IsDecimalCause f t e)
+      → DecimalResult f t r
   result-judged (Ok a) judged = record {
-    decimal = λ d. ((λ same. let one : a ≡ d = cc in subst (ParsesDecimal f t) one judged), (λ parses. ap Ok (spelled_once f t a d plain marks.apart judged.spelled parses.spelled)));
+    decimal = λ d. (
+      (λ same. let one : a ≡ d = cc in subst (ParsesDecimal f t) one judged),
+      (λ parses. ap Ok (spelled_once f t a d plain marks.apart judged.spelled parses.spelled)),
+    );
     refused = λ e. ((λ wrong. absurd (cc)), (λ cause. absurd ((spelled_cause a e judged.spelled judged.bound cause).1 judged.fits)));
   }
   result-judged (Err d) judged = record {
     decimal = λ a. ((λ wrong. absurd (cc)), (λ parses. absurd ((spelled_cause a d parses.spelled parses.bound judged).1 parses.fits)));
-    refused = λ e. ((λ same. let error : d ≡ e = cc in subst (IsDecimalCause f t) error judged), (λ cause. ap Err (only_cause d e judged cause)));
+    refused = λ e. (
+      (λ same. let error : d ≡ e = cc in subst (IsDecimalCause f t) error judged),
+      (λ cause. ap Err (only_cause d e judged cause)),
+    );
   }
 
 -- a decimal cannot be rescaled for one cause at most, and for none if it can
@@ -101,23 +113,32 @@ module _ (f : FormatData) (t : List ℕ) (scale : ℕ) (r : Result FixedPoint Pa
 
   parses_or_refused : (d : FixedPoint) (e : ParseAtScaleError) → ParsesAtScale f t scale d → ¬ (IsAtScaleCause f t scale e)
   parses_or_refused d (Parse e) p cause = parses_or_not p.spelled e p.parses cause
-  parses_or_refused d (Rescale e) p cause = no_refusal p.spelled scale e p.can (subst (λ z. CannotRescale Exact z scale e) (one_spelled cause.spelled p.spelled cause.parses p.parses) cause.cannot)
+  parses_or_refused d (Rescale e) p cause = no_refusal p.spelled scale e p.can
+      (subst (λ z. CannotRescale Exact z scale e) (one_spelled cause.spelled p.spelled cause.parses p.parses) cause.cannot)
 
   one_refused : (c e : ParseAtScaleError) → IsAtScaleCause f t scale c → IsAtScaleCause f t scale e → c ≡ e
-  one_refused (Parse c) (Parse e) p q = let first = (parsed.refused c).1 p in let second = (parsed.refused e).1 q in (let one : c ≡ e = cc in ap Parse one)
+  one_refused (Parse c) (Parse e) p q = let first = (parsed.refused c).1 p in let second = (parsed.refused e).1 q
+      in (let one : c ≡ e = cc in ap Parse one)
   one_refused (Parse c) (Rescale e) p q = absurd (parses_or_not q.spelled c q.parses p)
   one_refused (Rescale c) (Parse e) p q = absurd (parses_or_not p.spelled e p.parses q)
-  one_refused (Rescale c) (Rescale e) p q = ap Rescale (one_refusal p.spelled scale c e p.cannot (subst (λ z. CannotRescale Exact z scale e) (one_spelled q.spelled p.spelled q.parses p.parses) q.cannot))
+  one_refused (Rescale c) (Rescale e) p q =
+      ap Rescale (one_refusal p.spelled scale c e p.cannot (subst (λ z. CannotRescale Exact z scale e)
+      (one_spelled q.spelled p.spelled q.parses p.parses) q.cannot))
 
-  pub scaled-judged : (x : Result FixedPoint ParseAtScaleError) → MatchResult x (λ d. ParsesAtScale f t scale d) (λ e. IsAtScaleCause f t scale e) → AtScaleResult f t scale x
+  pub scaled-judged : (x : Result FixedPoint ParseAtScaleError) → MatchResult x (λ d. ParsesAtScale f t scale d)
+      (λ e. IsAtScaleCause f t scale e) → AtScaleResult f t scale x
   scaled-judged (Ok d) judged = record {
     decimal = λ y. (
       (λ same. let one : d ≡ y = cc in subst (ParsesAtScale f t scale) one judged),
-      (λ p. ap Ok (judged.same ∙ ap (λ z. rescaled Exact z scale) (one_spelled judged.spelled p.spelled judged.parses p.parses) ∙ sym p.same)),
+      (λ p. ap Ok (judged.same ∙ ap (λ z. rescaled Exact z scale) (one_spelled judged.spelled p.spelled judged.parses p.parses)
+          ∙ sym p.same)),
     );
     refused = λ e. ((λ wrong. absurd (cc)), (λ cause. absurd (parses_or_refused d e judged cause)));
   }
   scaled-judged (Err c) judged = record {
     decimal = λ y. ((λ wrong. absurd (cc)), (λ p. absurd (parses_or_refused y c p judged)));
-    refused = λ e. ((λ same. let one : c ≡ e = cc in subst (IsAtScaleCause f t scale) one judged), (λ cause. ap Err (one_refused c e judged cause)));
+    refused = λ e. (
+      (λ same. let one : c ≡ e = cc in subst (IsAtScaleCause f t scale) one judged),
+      (λ cause. ap Err (one_refused c e judged cause)),
+    );
   }

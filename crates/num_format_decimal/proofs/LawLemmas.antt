@@ -1,5 +1,6 @@
 -- The laws of decimals.
-use Rattle.std.proofs.Common.{◌≡◌, ℕ, suc, ◌+◌, ◌-◌, ◌*◌, ◌/◌, ◌%◌, ◌^◌, ◌<◌, ◌≤◌, Bool, true, false, length, refl, ap, ◌∙◌, sym, arith, ℤ, pos, negsuc}
+use Rattle.std.proofs.Common.{◌≡◌, ℕ, suc, ◌+◌, ◌-◌, ◌*◌, ◌/◌, ◌%◌, ◌^◌, ◌<◌, ◌≤◌, Bool, true, false, length, refl, ap, ◌∙◌, sym, arith, ℤ}
+use Rattle.std.proofs.Common.{pos, negsuc}
 use Rattle.std.specs.Prelude.{◌*ℤ◌, neg_ℤ, if◌then◌else◌}
 use Rattle.std.specs.Int.{is_negative}
 use Rattle.std.specs.Cmp.{nat_cmp_is}
@@ -27,7 +28,8 @@ use Rattle.num_format_decimal.proofs.LengthLemmas.{decimal_text-length}
 use Rattle.num_format_decimal.proofs.TextLemmas.{decimal_text-fits}
 
 -- multiples of two numbers are in their order
-scaled_rank : (a b k : ℕ) (o : Ordering) → 0 < k → MatchOrdering o (a < b) (a ≡ b) (b < a) → MatchOrdering o (a * k < b * k) (a * k ≡ b * k) (b * k < a * k)
+scaled_rank : (a b k : ℕ) (o : Ordering) → 0 < k → MatchOrdering o (a < b) (a ≡ b) (b < a)
+    → MatchOrdering o (a * k < b * k) (a * k ≡ b * k) (b * k < a * k)
 scaled_rank a b k Less some h =
     let next : a + 1 ≤ b = omega arith in
     omega (arith, mul-le-mul_right k next)
@@ -36,7 +38,8 @@ scaled_rank a b k Greater some h =
     let next : b + 1 ≤ a = omega arith in
     omega (arith, mul-le-mul_right k next)
 
-below_rank : (a b k : ℕ) (o : Ordering) → 0 < k → MatchOrdering o (a < b) (a ≡ b) (b < a) → MatchOrdering o (suc a * k - 1 < suc b * k - 1) (suc a * k - 1 ≡ suc b * k - 1) (suc b * k - 1 < suc a * k - 1)
+below_rank : (a b k : ℕ) (o : Ordering) → 0 < k → MatchOrdering o (a < b) (a ≡ b) (b < a)
+    → MatchOrdering o (suc a * k - 1 < suc b * k - 1) (suc a * k - 1 ≡ suc b * k - 1) (suc b * k - 1 < suc a * k - 1)
 below_rank a b k Less some h =
     let next : a + 1 ≤ b = omega arith in
     omega (arith, mul-le-mul_right k next)
@@ -47,7 +50,8 @@ below_rank a b k Greater some h =
 
 scaled_cmp : (x y : ℤ) (k : ℕ) → 0 < k → int_cmp (x *ℤ pos k) (y *ℤ pos k) ≡ int_cmp x y
 scaled_cmp (pos a) (pos b) k some =
-    pos_cmp (a * k) (b * k) ∙ sym (nat_cmp_is (a * k) (b * k) (nat_cmp a b) (scaled_rank a b k (nat_cmp a b) some (ranked a b _ refl))) ∙ sym (pos_cmp a b)
+    pos_cmp (a * k) (b * k) ∙ sym (nat_cmp_is (a * k) (b * k) (nat_cmp a b) (scaled_rank a b k (nat_cmp a b) some (ranked a b _ refl)))
+    ∙ sym (pos_cmp a b)
 scaled_cmp (pos a) (negsuc b) k some = ap (λ z. int_cmp (pos (a * k)) z) (negative_multiple b k some)
 scaled_cmp (negsuc a) (pos b) k some = ap (λ z. int_cmp z (pos (b * k))) (negative_multiple a k some)
 scaled_cmp (negsuc a) (negsuc b) k some =
@@ -100,17 +104,26 @@ order_law a b few other =
 
 text_fits : (f : FormatData) (d : FixedPoint) → IsWithinCapacity f → d.scale ≤ 38 → HasUnits d → length (decimal_text f d) ≤ 199
 text_fits f d within few fits =
-    decimal_text-fits f d within.separator within.decimal (of_either (λ t. length t ≤ 8) (omega arith) (is_negative d.units) f.minus_sign within.minus_sign) (abs_le d.units fits) few
+    decimal_text-fits f d within.separator within.decimal (of_either (λ t. length t ≤ 8) (omega arith)
+    (is_negative d.units) f.minus_sign within.minus_sign) (abs_le d.units fits) few
 
 longest_body : length (digits (2 ^ 127 / 10)) ≡ 38
 unfolding digits
 longest_body = refl
 
-text_reached : (f : FormatData) → f.grouping ≡ Indian → length f.separator ≡ 8 → length f.minus_sign ≡ 8 → length f.decimal ≡ 8 → length (decimal_text f (fixed_point (negsuc (2 ^ 127 - 1)) 1)) ≡ 199
+text_reached : (f : FormatData) → f.grouping ≡ Indian → length f.separator ≡ 8 → length f.minus_sign ≡ 8 → length f.decimal ≡ 8
+    → length (decimal_text f (fixed_point (negsuc (2 ^ 127 - 1)) 1)) ≡ 199
 text_reached f indian separator minus_sign mark =
     let body : length (body_of f (2 ^ 127 / 10)) ≡ 182 =
     length-grouped f.grouping f.separator (digits (2 ^ 127 / 10)) ∙ rw (longest_body, indian, separator) in
-    omega (arith, decimal_text-length f (fixed_point (negsuc (2 ^ 127 - 1)) 1), body, length-grouped f.grouping f.separator (digits (2 ^ 127 / 10)), minus_sign, mark)
+    omega (
+      arith,
+      decimal_text-length f (fixed_point (negsuc (2 ^ 127 - 1)) 1),
+      body,
+      length-grouped f.grouping f.separator (digits (2 ^ 127 / 10)),
+      minus_sign,
+      mark,
+    )
 
 pub text_bound_law : TextBoundLaw
 text_bound_law = record { bound = text_fits; reached = text_reached }
@@ -125,7 +138,8 @@ nearest : (mode : Rounding) → ((q r n : ℕ) → rounds_up mode q r n ≡ fals
 nearest mode down = record { above = λ m n positive. (bounds m n positive).0; below = λ m n positive. (bounds m n positive).1 }
   where
     bounds : (m n : ℕ) → 0 < n → (2 * (quotient mode m n * n) ≤ 2 * m + n) × (2 * m ≤ 2 * (quotient mode m n * n) + n)
-    bounds m n positive = up_or_down (rounds_up mode (m / n) (m % n) n) m n (at_least_half mode (m / n) (m % n) n) (down (m / n) (m % n) n) positive
+    bounds m n positive = up_or_down (rounds_up mode (m / n) (m % n) n) m n (at_least_half mode (m / n) (m % n) n)
+        (down (m / n) (m % n) n) positive
 
 not_up_even : (q r n : ℕ) → rounds_up HalfEven q r n ≡ false → 2 * r ≤ n
 not_up_even q r n down = grind (arith, nat_tests)

@@ -1,5 +1,6 @@
 -- The length of a decimal's text, by its parts.
-use Rattle.std.proofs.Common.{◌≡◌, ℕ, zero, suc, inl, inr, ◌+◌, ◌-◌, ◌*◌, ◌/◌, ◌^◌, ◌<◌, ◌≤◌, [], ◌++◌, length, sym, ap, ◌∙◌, arith, length-append, unsigned_abs}
+use Rattle.std.proofs.Common.{◌≡◌, ℕ, zero, suc, inl, inr, ◌+◌, ◌-◌, ◌*◌, ◌/◌, ◌^◌, ◌<◌, ◌≤◌, [], ◌++◌, length, sym, ap, ◌∙◌, arith}
+use Rattle.std.proofs.Common.{length-append, unsigned_abs}
 use Rattle.std.specs.Prelude.{if◌then◌else◌}
 use Rattle.std.specs.Int.{is_negative}
 use Rattle.std.proofs.Math.Nat.{div-eq_of_lt}
@@ -18,7 +19,8 @@ use Rattle.num_format_decimal.proofs.TextLemmas.{length-plain}
 pub decimal_text-length : (f : FormatData) (d : FixedPoint) →
     let count = length (digits (unsigned_abs d.units / 10 ^ d.scale)) in
     length (decimal_text f d)
-    ≡ length (if is_negative d.units then f.minus_sign else []) + (count + separators f.grouping count * length f.separator) + (length (mark_at f d.scale) + d.scale)
+    ≡ length (if is_negative d.units then f.minus_sign else []) + (count + separators f.grouping count * length f.separator) +
+    (length (mark_at f d.scale) + d.scale)
 decimal_text-length f d =
     let n = unsigned_abs d.units in
     let body = body_of f (n / 10 ^ d.scale) in

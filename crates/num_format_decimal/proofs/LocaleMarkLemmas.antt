@@ -12,7 +12,8 @@ use Rattle.num_format_parsing.specs.Strict.{HasNoNumeral}
 use Rattle.num_format_decimal.specs.Marks.{IsMark}
 
 -- a mark has a first byte, and another byte than the separator at some place
-is_mark : (mark separator : List ℕ) (i first a b : ℕ) → get_or mark 0 0 ≡ suc first → get_or mark i 0 ≡ a → get_or separator i 0 ≡ b → ¬ (a ≡ b) → HasNoNumeral mark → IsMark mark separator
+is_mark : (mark separator : List ℕ) (i first a b : ℕ) → get_or mark 0 0 ≡ suc first → get_or mark i 0 ≡ a → get_or separator i 0 ≡ b
+    → ¬ (a ≡ b) → HasNoNumeral mark → IsMark mark separator
 is_mark mark separator i first a b begin here there other plain = record {
   given = λ none. absurd (omega (arith, begin, ap (λ text. get_or text 0 0) none));
   plain = plain;

@@ -1,5 +1,6 @@
 -- What a text tells of a decimal, under a format that marks decimals.
-use Rattle.std.proofs.Common.{◌≡◌, ℕ, zero, suc, ◌+◌, ◌/◌, ◌^◌, ◌<◌, ◌⊎◌, inl, inr, Bool, true, false, List, [], ◌∷◌, ◌++◌, length, refl, ap, ◌∙◌, sym, subst, arith, append_assoc, append-nil, ℤ, unsigned_abs, IsUtf8}
+use Rattle.std.proofs.Common.{◌≡◌, ℕ, zero, suc, ◌+◌, ◌/◌, ◌^◌, ◌<◌, ◌⊎◌, inl, inr, Bool, true, false, List, [], ◌∷◌, ◌++◌, length, refl}
+use Rattle.std.proofs.Common.{ap, ◌∙◌, sym, subst, arith, append_assoc, append-nil, ℤ, unsigned_abs, IsUtf8}
 use Rattle.std.specs.Prelude.{if◌then◌else◌, nat_lt}
 use Rattle.std.specs.Char.{is_ascii_digit}
 use Rattle.std.specs.Int.{is_negative}
@@ -74,7 +75,8 @@ plain-separated is_due s ds separator below = record {
 }
 
 plain-digits : (ds : List ℕ) → AreDigits ds → IsPlainText (plain ds) ds
-plain-digits ds below = subst (λ t. IsPlainText t ds) (grouped-Posix [] ds) (plain-separated (stands Posix (length ds)) [] ds plain-nil below)
+plain-digits ds below = subst (λ t. IsPlainText t ds) (grouped-Posix [] ds)
+    (plain-separated (stands Posix (length ds)) [] ds plain-nil below)
 
 -- the digits of an amount, grouped or not, are separated, and not after the last
 record IsSeparated (f : FormatData) (t ds : List ℕ) : Type 0 where
@@ -82,8 +84,13 @@ record IsSeparated (f : FormatData) (t ds : List ℕ) : Type 0 where
   last : is_due 0 ≡ false
   same : t ≡ separated is_due (printed_separator f.grouping f.separator) ds
 
-is-separated : (f : FormatData) (g : Grouping) (ds : List ℕ) → 0 < length ds → (g ≡ f.grouping) ⊎ (g ≡ Posix) → IsSeparated f (grouped g f.separator ds) ds
-is-separated f g ds some (inl same) = record { is_due = stands f.grouping (length ds); last = stands-last f.grouping (length ds) some; same = rw same (grouped-printed f.grouping f.separator ds) }
+is-separated : (f : FormatData) (g : Grouping) (ds : List ℕ) → 0 < length ds → (g ≡ f.grouping) ⊎ (g ≡ Posix)
+    → IsSeparated f (grouped g f.separator ds) ds
+is-separated f g ds some (inl same) = record {
+  is_due = stands f.grouping (length ds);
+  last = stands-last f.grouping (length ds) some;
+  same = rw same (grouped-printed f.grouping f.separator ds);
+}
 is-separated f g ds some (inr same) = record {
   is_due = stands Posix (length ds);
   last = stands-last Posix (length ds) some;
@@ -121,13 +128,15 @@ module _ (f : FormatData) (p : IsPlainFormat f) where
   sign-told t true n k signed =
       let body = grouped signed.amount.grouping f.separator (digits (n / 10 ^ k)) in
       let rest = decimals_of f n k in
-      (starts_is Decides-eqb t f.minus_sign (is_negative_text f t) refl).1 (body ++ rest) (signed.text ∙ ap (λ xs. xs ++ rest) signed.amount.text ∙ append_assoc f.minus_sign body rest)
+      (starts_is Decides-eqb t f.minus_sign (is_negative_text f t) refl).1 (body ++ rest) (signed.text
+      ∙ ap (λ xs. xs ++ rest) signed.amount.text ∙ append_assoc f.minus_sign body rest)
   sign-told t false n k signed =
       let ds = digits (n / 10 ^ k) in
       let rest = decimals_of f n k in
       let body = is-separated f signed.amount.grouping ds (digits_given (n / 10 ^ k)) signed.amount.either in
       let begins = separated-begins body.is_due printed ds (digits_given (n / 10 ^ k)) (digits-below_ten (n / 10 ^ k)) in
-      let first : t ≡ (48 + begins.0) ∷ (begins.2 ++ rest) = signed.text ∙ ap (λ xs. xs ++ rest) (signed.amount.text ∙ body.same ∙ begins.3) in
+      let first : t ≡ (48 + begins.0) ∷ (begins.2 ++ rest) = signed.text ∙ ap (λ xs. xs ++ rest) (signed.amount.text ∙ body.same ∙ begins.3)
+      in
       ap (is_negative_text f) first
       ∙ sym (begins-given f.minus_sign ((48 + begins.0) ∷ (begins.2 ++ rest)) (some_first f.minus_sign p.unambiguous.sign_given))
       ∙ begins-at_digit f.minus_sign (begins.2 ++ rest) (48 + begins.0) plain-sign.digits (is_ascii_digit-digit begins.0 begins.1)
@@ -139,7 +148,8 @@ module _ (f : FormatData) (p : IsPlainFormat f) where
       let body = is-separated f signed.amount.grouping ds (digits_given (n / 10 ^ k)) signed.amount.either in
       let front = of_either (λ s. IsPlainText s []) plain-nil b f.minus_sign plain-sign in
       let mark = of_either (λ s. IsPlainText s []) plain-nil (nat_lt 0 k) f.decimal plain-mark in
-      let grouped_digits = subst (λ s. IsPlainText s ds) (sym body.same) (plain-separated body.is_due printed ds plain-printed (digits-below_ten (n / 10 ^ k))) in
+      let grouped_digits = subst (λ s. IsPlainText s ds) (sym body.same)
+      (plain-separated body.is_due printed ds plain-printed (digits-below_ten (n / 10 ^ k))) in
       let whole = subst (λ s. IsPlainText s ds) (sym signed.amount.text) (plain-append _ _ [] ds front grouped_digits) in
       let rest = plain-append (mark_at f k) (plain es) [] es mark (plain-digits es (last_digits-below k n)) in
       let all = subst (λ s. IsPlainText s (ds ++ es)) (sym signed.text) (plain-append signed.whole (decimals_of f n k) ds es whole rest) in
@@ -149,12 +159,14 @@ module _ (f : FormatData) (p : IsPlainFormat f) where
         magnitude = ap (number_from_digits 10) (figures-bytes t all.utf8 ∙ all.digits) ∙ number-digits k n;
       }
 
-pub tells-spelled_decimal : (f : FormatData) (t : List ℕ) (z : ℤ) (k : ℕ) → IsPlainFormat f → SpellsDecimal f t (fixed_point z k) → Tells f t (is_negative z) (unsigned_abs z)
+pub tells-spelled_decimal : (f : FormatData) (t : List ℕ) (z : ℤ) (k : ℕ) → IsPlainFormat f → SpellsDecimal f t (fixed_point z k)
+    → Tells f t (is_negative z) (unsigned_abs z)
 tells-spelled_decimal f t z k p spells = tells-signed f p t (is_negative z) (unsigned_abs z) k (signed-spelled f t (fixed_point z k) spells)
 
 -- it denotes the units
 pub denoted-decimal : (f : FormatData) (t : List ℕ) (z : ℤ) (k : ℕ) → Tells f t (is_negative z) (unsigned_abs z) → denoted f t ≡ z
-denoted-decimal f t z k tells = ap (λ b. signed_number b (magnitude_of t)) tells.sign ∙ ap (signed_number (is_negative z)) tells.magnitude ∙ signed_number-unsigned_abs z
+denoted-decimal f t z k tells = ap (λ b. signed_number b (magnitude_of t)) tells.sign ∙ ap (signed_number (is_negative z)) tells.magnitude
+    ∙ signed_number-unsigned_abs z
 
 -- the first of bytes without digits, and the others
 first_other : (b : ℕ) (t : List ℕ) → byte_figures (b ∷ t) ≡ [] → (is_ascii_digit b ≡ false) × (byte_figures t ≡ [])
@@ -167,10 +179,12 @@ tail-all (d ∷ ds) all = rw all refl
 
 pub tail-skip : (xs rest : List ℕ) → list_all is_ascii_digit rest ≡ false → tail_digits (xs ++ rest) ≡ tail_digits rest
 tail-skip [] rest other = refl
-tail-skip (b ∷ xs) rest other = rw (list_all-append is_ascii_digit (b ∷ xs) rest ∙ and_right (list_all is_ascii_digit (b ∷ xs)) _ other) (tail-skip xs rest other)
+tail-skip (b ∷ xs) rest other = rw (list_all-append is_ascii_digit (b ∷ xs) rest ∙ and_right (list_all is_ascii_digit (b ∷ xs)) _ other)
+    (tail-skip xs rest other)
 
 -- after a mark, these are the digits that follow it
-tail-marked : (mark ds : List ℕ) → byte_figures mark ≡ [] → ¬ (mark ≡ []) → list_all is_ascii_digit ds ≡ true → (tail_digits (mark ++ ds) ≡ length ds) × (list_all is_ascii_digit (mark ++ ds) ≡ false)
+tail-marked : (mark ds : List ℕ) → byte_figures mark ≡ [] → ¬ (mark ≡ []) → list_all is_ascii_digit ds ≡ true
+    → (tail_digits (mark ++ ds) ≡ length ds) × (list_all is_ascii_digit (mark ++ ds) ≡ false)
 tail-marked [] ds none given all = absurd (given refl)
 tail-marked (c ∷ []) ds none given all = let other = (first_other c [] none).0 in (rw other (tail-all ds all), rw other refl)
 tail-marked (c ∷ e ∷ mark) ds none given all =
@@ -179,7 +193,8 @@ tail-marked (c ∷ e ∷ mark) ds none given all =
     let rest = tail-marked (e ∷ mark) ds first.1 (λ wrong. absurd (cc)) all in
     (rw other rest.0, rw other refl)
 
-pub tail-cut : (f : FormatData) (front ds : List ℕ) → IsPlainFormat f → list_all is_ascii_digit ds ≡ true → tail_digits (front ++ (f.decimal ++ ds)) ≡ length ds
+pub tail-cut : (f : FormatData) (front ds : List ℕ) → IsPlainFormat f → list_all is_ascii_digit ds ≡ true
+    → tail_digits (front ++ (f.decimal ++ ds)) ≡ length ds
 tail-cut f front ds p all =
     let found = tail-marked f.decimal ds (plain-mark f p).digits p.given all in
     tail-skip front (f.decimal ++ ds) found.1 ∙ found.0
@@ -207,7 +222,8 @@ runs-other (c ∷ xs) run t none =
 
 -- among separated digits these are separators, or nothing
 module _ (P : List ℕ → Type 0) (is_due : ℕ → Bool) (s : List ℕ) (none : byte_figures s ≡ []) where
-  runs-digit : (d : ℕ) (ds run rest : List ℕ) → d < 10 → runs run (separated is_due s (d ∷ ds) ++ rest) ≡ run ∷ runs (if is_due (length ds) then s else []) (separated is_due s ds ++ rest)
+  runs-digit : (d : ℕ) (ds run rest : List ℕ) → d < 10 → runs run (separated is_due s (d ∷ ds) ++ rest)
+      ≡ run ∷ runs (if is_due (length ds) then s else []) (separated is_due s ds ++ rest)
   unfolding runs
   runs-digit d ds run rest small =
       let first : List ℕ = if is_due (length ds) then s else [] in
@@ -220,11 +236,15 @@ module _ (P : List ℕ → Type 0) (is_due : ℕ → Bool) (s : List ℕ) (none 
   unfolding runs
   runs-separated [] run below here empty separator = (here, tt)
   runs-separated (d ∷ ds) run below here empty separator =
-      subst (AllByRecursion P) (sym (runs-digit d ds run [] (All-head (λ x. x < 10) d ds below)))
-      (here, runs-separated ds (if is_due (length ds) then s else []) (All-tail (λ x. x < 10) d ds below) (of_either P empty (is_due (length ds)) s separator) empty separator)
+      subst (AllByRecursion P) (sym (runs-digit d ds run [] (All-head (λ x. x < 10) d ds below))) (
+        here,
+        runs-separated ds (if is_due (length ds) then s else []) (All-tail (λ x. x < 10) d ds below)
+            (of_either P empty (is_due (length ds)) s separator) empty separator,
+      )
 
   -- and so is a mark that follows such digits
-  runs-mark : (mark ds es run : List ℕ) → is_due 0 ≡ false → byte_figures mark ≡ [] → AreDigits ds → AreDigits es → 0 < length ds → AllByRecursion P (runs run (separated is_due s ds ++ (mark ++ plain es))) → P mark
+  runs-mark : (mark ds es run : List ℕ) → is_due 0 ≡ false → byte_figures mark ≡ [] → AreDigits ds → AreDigits es → 0 < length ds
+      → AllByRecursion P (runs run (separated is_due s ds ++ (mark ++ plain es))) → P mark
   unfolding runs
   runs-mark mark [] es run last plain_mark below digit some all = absurd (omega arith)
   runs-mark mark (d ∷ []) es run last plain_mark below digit some all =
@@ -237,10 +257,12 @@ module _ (P : List ℕ → Type 0) (is_due : ℕ → Bool) (s : List ℕ) (none 
       first-run (e ∷ es) digit all = (let is = is_ascii_digit-digit e (All-head (λ x. x < 10) e es digit) in rw is at all).0
   runs-mark mark (d ∷ c ∷ ds) es run last plain_mark below digit some all =
       let tail = subst (AllByRecursion P) (runs-digit d (c ∷ ds) run (mark ++ plain es) (All-head (λ x. x < 10) d (c ∷ ds) below)) all in
-      runs-mark mark (c ∷ ds) es (if is_due (length (c ∷ ds)) then s else []) last plain_mark (All-tail (λ x. x < 10) d (c ∷ ds) below) digit (omega arith) tail.1
+      runs-mark mark (c ∷ ds) es (if is_due (length (c ∷ ds)) then s else []) last plain_mark
+      (All-tail (λ x. x < 10) d (c ∷ ds) below) digit (omega arith) tail.1
 
 -- the mark is not the separator that is printed
-pub apart-printed : (f : FormatData) → ¬ (f.decimal ≡ []) → (f.grouping ≡ Posix) ⊎ (¬ (f.decimal ≡ f.separator)) → ¬ (f.decimal ≡ printed_separator f.grouping f.separator)
+pub apart-printed : (f : FormatData) → ¬ (f.decimal ≡ []) → (f.grouping ≡ Posix) ⊎ (¬ (f.decimal ≡ f.separator))
+    → ¬ (f.decimal ≡ printed_separator f.grouping f.separator)
 apart-printed f given apart same =
     elim (grouped_or_not f.grouping) [
       | inl none ↦ given (same ∙ ap (λ g. printed_separator g f.separator) none)
@@ -251,7 +273,8 @@ apart-printed f given apart same =
     ]
 
 -- so a text with decimals is not one without
-none_at_zero : (f : FormatData) (t : List ℕ) (b : Bool) (n k : ℕ) → IsPlainFormat f → (f.grouping ≡ Posix) ⊎ (¬ (f.decimal ≡ f.separator)) → 0 < k → IsSigned f t b n 0 → ¬ (IsSigned f t b n k)
+none_at_zero : (f : FormatData) (t : List ℕ) (b : Bool) (n k : ℕ) → IsPlainFormat f → (f.grouping ≡ Posix) ⊎ (¬ (f.decimal ≡ f.separator))
+    → 0 < k → IsSigned f t b n 0 → ¬ (IsSigned f t b n k)
 none_at_zero f t b n k p apart some whole parts =
     let s = printed_separator f.grouping f.separator in
     let none = (plain-printed f p).digits in
@@ -261,18 +284,23 @@ none_at_zero f t b n k p apart some whole parts =
     let first = is-separated f whole.amount.grouping ds (digits_given (n / 10 ^ 0)) whole.amount.either in
     let second = is-separated f parts.amount.grouping es (digits_given (n / 10 ^ k)) parts.amount.either in
     let rest = f.decimal ++ plain (last_digits k n) in
-    let one : t ≡ sign ++ (separated first.is_due s ds ++ []) = whole.text ∙ ap (λ xs. xs ++ []) (whole.amount.text ∙ ap (λ xs. sign ++ xs) first.same) ∙ append_assoc sign (separated first.is_due s ds) [] in
+    let one : t ≡ sign ++ (separated first.is_due s ds ++ []) = whole.text
+    ∙ ap (λ xs. xs ++ []) (whole.amount.text ∙ ap (λ xs. sign ++ xs) first.same) ∙ append_assoc sign (separated first.is_due s ds) [] in
     let two : t ≡ sign ++ (separated second.is_due s es ++ rest) =
-    parts.text ∙ ap (λ xs. xs ++ decimals_of f n k) (parts.amount.text ∙ ap (λ xs. sign ++ xs) second.same) ∙ append_assoc sign (separated second.is_due s es) (decimals_of f n k)
+    parts.text ∙ ap (λ xs. xs ++ decimals_of f n k) (parts.amount.text ∙ ap (λ xs. sign ++ xs) second.same)
+    ∙ append_assoc sign (separated second.is_due s es) (decimals_of f n k)
     ∙ ap (λ m. sign ++ (separated second.is_due s es ++ (m ++ plain (last_digits k n)))) (mark-some f k some) in
     let P = λ (xs : List ℕ). ¬ (f.decimal ≡ xs) in
     let all = runs-separated P first.is_due s none ds [] (digits-below_ten (n / 10 ^ 0)) p.given p.given (apart-printed f p.given apart) in
-    runs-mark P second.is_due s none f.decimal es (last_digits k n) [] second.last (plain-mark f p).digits (digits-below_ten (n / 10 ^ k)) (last_digits-below k n) (digits_given (n / 10 ^ k))
+    runs-mark P second.is_due s none f.decimal es (last_digits k n) [] second.last (plain-mark f p).digits (digits-below_ten (n / 10 ^ k))
+    (last_digits-below k n) (digits_given (n / 10 ^ k))
     (subst (λ xs. AllByRecursion P (runs [] xs)) (append_cancel_left sign _ _ (sym one ∙ two)) all) refl
 
 -- and has one scale at most
-pub one_scale : (f : FormatData) (t : List ℕ) (z : ℤ) (j k : ℕ) → IsPlainFormat f → (f.grouping ≡ Posix) ⊎ (¬ (f.decimal ≡ f.separator)) → SpellsDecimal f t (fixed_point z j) → SpellsDecimal f t (fixed_point z k) → j ≡ k
-one_scale f t z j k p apart first second = pick j k (signed-spelled f t (fixed_point z j) first) (signed-spelled f t (fixed_point z k) second)
+pub one_scale : (f : FormatData) (t : List ℕ) (z : ℤ) (j k : ℕ) → IsPlainFormat f → (f.grouping ≡ Posix) ⊎ (¬ (f.decimal ≡ f.separator))
+    → SpellsDecimal f t (fixed_point z j) → SpellsDecimal f t (fixed_point z k) → j ≡ k
+one_scale f t z j k p apart first second = pick j k (signed-spelled f t (fixed_point z j) first)
+    (signed-spelled f t (fixed_point z k) second)
   where
     pick : (j k : ℕ) → IsSigned f t (is_negative z) (unsigned_abs z) j → IsSigned f t (is_negative z) (unsigned_abs z) k → j ≡ k
     pick zero zero a b = refl
@@ -281,7 +309,10 @@ one_scale f t z j k p apart first second = pick j k (signed-spelled f t (fixed_p
     pick (suc j) (suc k) a b = sym (tail-signed f t _ _ (suc j) p (omega arith) a) ∙ tail-signed f t _ _ (suc k) p (omega arith) b
 
 -- and spells one decimal at most
-pub spelled_once : (f : FormatData) (t : List ℕ) (a b : FixedPoint) → IsPlainFormat f → (f.grouping ≡ Posix) ⊎ (¬ (f.decimal ≡ f.separator)) → SpellsDecimal f t a → SpellsDecimal f t b → a ≡ b
+pub spelled_once : (f : FormatData) (t : List ℕ) (a b : FixedPoint) → IsPlainFormat f → (f.grouping ≡ Posix) ⊎ (¬ (f.decimal ≡ f.separator))
+    → SpellsDecimal f t a → SpellsDecimal f t b → a ≡ b
 spelled_once f t a b p apart first second =
-    let units : a.units ≡ b.units = sym (denoted-decimal f t a.units a.scale (tells-spelled_decimal f t a.units a.scale p first)) ∙ denoted-decimal f t b.units b.scale (tells-spelled_decimal f t b.units b.scale p second) in
-    ap (λ z. fixed_point z a.scale) units ∙ ap (fixed_point b.units) (one_scale f t b.units a.scale b.scale p apart (subst (λ z. SpellsDecimal f t (fixed_point z a.scale)) units first) second)
+    let units : a.units ≡ b.units = sym (denoted-decimal f t a.units a.scale (tells-spelled_decimal f t a.units a.scale p first))
+    ∙ denoted-decimal f t b.units b.scale (tells-spelled_decimal f t b.units b.scale p second) in
+    ap (λ z. fixed_point z a.scale) units ∙ ap (fixed_point b.units) (one_scale f t b.units a.scale b.scale p apart
+    (subst (λ z. SpellsDecimal f t (fixed_point z a.scale)) units first) second)

@@ -1,5 +1,7 @@
 -- What a parser of decimals reads of a text, and what it leaves out.
-use Rattle.std.proofs.Common.{◌≡◌, ℕ, zero, suc, ◌+◌, ◌-◌, ◌*◌, ◌/◌, ◌^◌, ◌<◌, ◌≤◌, inl, inr, Bool, true, false, List, [], ◌∷◌, ◌++◌, length, take, drop, take-append-drop, drop-drop, refl, ap, ◌∙◌, sym, subst, arith, length-append, length-drop, IsUtf8, ℤ, pos, negsuc, unsigned_abs, Err}
+use Rattle.std.proofs.Common.{◌≡◌, ℕ, zero, suc, ◌+◌, ◌-◌, ◌*◌, ◌/◌, ◌^◌, ◌<◌, ◌≤◌, inl, inr, Bool, true, false, List, [], ◌∷◌, ◌++◌}
+use Rattle.std.proofs.Common.{length, take, drop, take-append-drop, drop-drop, refl, ap, ◌∙◌, sym, subst, arith, length-append, length-drop}
+use Rattle.std.proofs.Common.{IsUtf8, ℤ, pos, negsuc, unsigned_abs, Err}
 use Rattle.std.specs.Prelude.{nat_eq, if◌then◌else◌, FitsSigned, Result, Ok}
 use Rattle.std.specs.Char.{is_ascii_digit}
 use Rattle.std.specs.Int.{is_negative, w128}
@@ -43,16 +45,20 @@ pub amount_of : (f : FormatData) (t : List ℕ) (z : ℤ) → SpellsNumber f t z
 amount_of f t z (with_separators same) = record { grouping = f.grouping; either = inl refl; text = same }
 amount_of f t z (without_separators same) = record { grouping = (ungrouped f).grouping; either = inr refl; text = same }
 
-pub signed_amount : (f : FormatData) (t : List ℕ) (b : Bool) (start n : ℕ) → HasSign f t b start → SpellsNumber f t (signed_number b n) → IsAmount f t b n
+pub signed_amount : (f : FormatData) (t : List ℕ) (b : Bool) (start n : ℕ) → HasSign f t b start → SpellsNumber f t (signed_number b n)
+    → IsAmount f t b n
 signed_amount f t b start n sign spells =
     let z = signed_number b n in
-    subst (λ c. IsAmount f t c n) (sym (body-told f t b start z sign spells).sign) (subst (λ j. IsAmount f t (is_negative z) j) (signed-abs b n) (amount_of f t z spells))
+    subst (λ c. IsAmount f t c n) (sym (body-told f t b start z sign spells).sign)
+    (subst (λ j. IsAmount f t (is_negative z) j) (signed-abs b n) (amount_of f t z spells))
 
-pub plain_amount : (f : FormatData) (t : List ℕ) (b : Bool) (start n : ℕ) → HasSign f t b start → drop start t ≡ plain (digits n) → IsAmount f t b n
+pub plain_amount : (f : FormatData) (t : List ℕ) (b : Bool) (start n : ℕ) → HasSign f t b start → drop start t ≡ plain (digits n)
+    → IsAmount f t b n
 plain_amount f t b start n sign same = record {
   grouping = (ungrouped f).grouping;
   either = inr refl;
-  text = sign-behind f t b start sign ∙ ap (λ xs. (if b then f.minus_sign else []) ++ xs) (same ∙ sym (grouped-Posix f.separator (digits n)));
+  text = sign-behind f t b start sign ∙ ap (λ xs. (if b then f.minus_sign else []) ++ xs) (same
+      ∙ sym (grouped-Posix f.separator (digits n)));
 }
 
 -- and an amount is a number, unless it is zero with a sign
@@ -70,28 +76,40 @@ number_of f t b n some amount =
         ∙ ap (λ j. (if is_negative (signed_number b n) then f.minus_sign else []) ++ body_of f j) (sym (signed-abs b n))
 
 -- a text that spells no number, and is no zero with a sign, is no amount
-pub no_amount : (f : FormatData) (t : List ℕ) (b : Bool) (start : ℕ) → HasSign f t b start → ¬ (drop start t ≡ 48 ∷ []) → ((z : ℤ) → ¬ (SpellsNumber f t z)) → (c : Bool) (n : ℕ) → ¬ (IsAmount f t c n)
+pub no_amount : (f : FormatData) (t : List ℕ) (b : Bool) (start : ℕ) → HasSign f t b start → ¬ (drop start t ≡ 48 ∷ [])
+    → ((z : ℤ) → ¬ (SpellsNumber f t z)) → (c : Bool) (n : ℕ) → ¬ (IsAmount f t c n)
 no_amount f t b start sign other none false n amount = none (signed_number false n) (number_of f t false n (λ wrong. absurd (cc)) amount)
-no_amount f t b start sign other none true (suc n) amount = none (signed_number true (suc n)) (number_of f t true (suc n) (λ same. omega arith) amount)
+no_amount f t b start sign other none true (suc n) amount = none (signed_number true (suc n))
+    (number_of f t true (suc n) (λ same. omega arith) amount)
 no_amount f t b start sign other none true zero amount =
     let minus = f.minus_sign in
-    let text : t ≡ minus ++ (48 ∷ []) = amount.text ∙ ap (λ xs. minus ++ xs) (ap (grouped amount.grouping f.separator) (digits-small 0 (omega arith)) ∙ grouped-short amount.grouping f.separator (0 ∷ []) (omega arith)) in
+    let text : t ≡ minus ++ (48 ∷ []) = amount.text ∙ ap (λ xs. minus ++ xs)
+    (ap (grouped amount.grouping f.separator) (digits-small 0 (omega arith))
+    ∙ grouped-short amount.grouping f.separator (0 ∷ []) (omega arith)) in
     let negative : b ≡ true = sign.tested ∙ (starts_is Decides-eqb t minus (is_negative_text f t) refl).1 (48 ∷ []) text in
-    other (append_cancel_left minus _ _ (sym (sign-behind f t b start sign ∙ ap (λ (c : Bool). (if c then minus else []) ++ drop start t) negative) ∙ text))
+    other (append_cancel_left minus _ _ (sym (sign-behind f t b start sign
+    ∙ ap (λ (c : Bool). (if c then minus else []) ++ drop start t) negative) ∙ text))
 
 pub value-of_i128 : (z : ℤ) → FitsSigned w128 z → IsValueOf (kind_of I128) z
 value-of_i128 (pos n) fits = record { above = omega (arith, ints, fits.sfits); below = omega (arith, ints, fits.sfits); zero = λ h. refl }
-value-of_i128 (negsuc n) fits = record { above = omega (arith, ints, fits.sfits); below = omega (arith, ints, fits.sfits); zero = λ h. refl }
+value-of_i128 (negsuc n) fits = record {
+  above = omega (arith, ints, fits.sfits);
+  below = omega (arith, ints, fits.sfits);
+  zero = λ h. refl;
+}
 
 begins_starts : (mark t : List ℕ) → begins mark t ≡ true → starts_with nat_eq t mark ≡ true
 begins_starts [] t wrong = cc
 begins_starts (b ∷ mark) t begin = begin
 
 -- what stands before a mark, the mark, and what follows
-pub mark_split : (mark t : List ℕ) (place end : ℕ) → begins mark (drop place t) ≡ true → place + length mark ≡ end → t ≡ take place t ++ (mark ++ drop end t)
+pub mark_split : (mark t : List ℕ) (place end : ℕ) → begins mark (drop place t) ≡ true → place + length mark ≡ end
+    → t ≡ take place t ++ (mark ++ drop end t)
 mark_split mark t place end begin after =
-    let found = (starts_is Decides-eqb (drop place t) mark (starts_with nat_eq (drop place t) mark) refl).0 (begins_starts mark (drop place t) begin) in
-    sym (take-append-drop place t) ∙ ap (λ xs. take place t ++ xs) (found ∙ ap (λ xs. mark ++ xs) (drop-drop (length mark) place t ∙ ap (λ i. drop i t) after))
+    let found = (starts_is Decides-eqb (drop place t) mark (starts_with nat_eq (drop place t) mark) refl).0
+    (begins_starts mark (drop place t) begin) in
+    sym (take-append-drop place t) ∙ ap (λ xs. take place t ++ xs) (found
+    ∙ ap (λ xs. mark ++ xs) (drop-drop (length mark) place t ∙ ap (λ i. drop i t) after))
 
 -- the mark stands before the decimals that a text has
 module _ (f : FormatData) (t : List ℕ) (d : FixedPoint) (p : IsPlainFormat f) (some : 0 < d.scale) (spells : SpellsDecimal f t d) where
@@ -101,20 +119,34 @@ module _ (f : FormatData) (t : List ℕ) (d : FixedPoint) (p : IsPlainFormat f) 
   parts : (front : List ℕ) × (ds : List ℕ) × (length ds ≡ d.scale) × (t ≡ front ++ (f.decimal ++ ds))
   parts =
       let signed = signed-spelled f t d spells in
-      let ds = plain (last_digits d.scale (unsigned_abs d.units)) in
-      (signed.whole, ds, length-plain d.scale (unsigned_abs d.units), signed.text ∙ ap (λ m. signed.whole ++ (m ++ ds)) (mark-some f d.scale some))
+      let ds = plain (last_digits d.scale (unsigned_abs d.units)) in (
+        signed.whole,
+        ds,
+        length-plain d.scale (unsigned_abs d.units),
+        signed.text
+            ∙ ap (λ m. signed.whole ++ (m ++ ds)) (mark-some f d.scale some),
+      )
 
   pub mark_fits : length f.decimal + d.scale ≤ length t
   mark_fits = omega (arith, ap length parts.3, length-append parts.0 (f.decimal ++ parts.1), length-append f.decimal parts.1, parts.2)
 
   pub mark_there : (place : ℕ) → place + length f.decimal + d.scale ≡ length t → begins f.decimal (drop place t) ≡ true
   mark_there place all =
-      let long : length parts.0 ≡ place = omega (arith, ap length parts.3, length-append parts.0 (f.decimal ++ parts.1), length-append f.decimal parts.1, parts.2, all) in
-      ap (begins f.decimal) (ap (drop place) parts.3 ∙ drop_at parts.0 (f.decimal ++ parts.1) place long) ∙ begins_itself f.decimal parts.1 p.given
+      let long : length parts.0 ≡ place = omega (
+        arith,
+        ap length parts.3,
+        length-append parts.0 (f.decimal ++ parts.1),
+        length-append f.decimal parts.1,
+        parts.2,
+        all,
+      ) in
+      ap (begins f.decimal) (ap (drop place) parts.3 ∙ drop_at parts.0 (f.decimal ++ parts.1) place long)
+      ∙ begins_itself f.decimal parts.1 p.given
     where
       begins_itself : (mark rest : List ℕ) → ¬ (mark ≡ []) → begins mark (mark ++ rest) ≡ true
       begins_itself [] rest given = absurd (given refl)
-      begins_itself (b ∷ mark) rest given = (starts_is Decides-eqb (b ∷ (mark ++ rest)) (b ∷ mark) (starts_with nat_eq (b ∷ (mark ++ rest)) (b ∷ mark)) refl).1 rest refl
+      begins_itself (b ∷ mark) rest given =
+          (starts_is Decides-eqb (b ∷ (mark ++ rest)) (b ∷ mark) (starts_with nat_eq (b ∷ (mark ++ rest)) (b ∷ mark)) refl).1 rest refl
 
 -- what was read before a mark, and after it
 pub record HasParts (f : FormatData) (whole decimals : List ℕ) (negative : Bool) (n : ℕ) : Type 0 where
@@ -133,7 +165,8 @@ grows true (suc m) (suc n) more wrong fits = wrong (record { sfits = omega (arit
 
 some_large : (b : Bool) (n : ℕ) → ¬ (FitsSigned w128 (signed_number b n)) → b ≡ true → 0 < n
 some_large b (suc n) wrong negative = omega arith
-some_large b zero wrong negative = absurd (wrong (subst (λ c. FitsSigned w128 (signed_number c 0)) (sym negative) (record { sfits = omega arith })))
+some_large b zero wrong negative =
+    absurd (wrong (subst (λ c. FitsSigned w128 (signed_number c 0)) (sym negative) (record { sfits = omega arith })))
 
 module _ (f : FormatData) (whole decimals : List ℕ) where
   abbrev text : List ℕ
@@ -142,9 +175,14 @@ module _ (f : FormatData) (whole decimals : List ℕ) where
   parts_signed : (b : Bool) (n : ℕ) → HasParts f whole decimals b n → IsSigned f text b n (length decimals)
   parts_signed b n has =
       let read = ends-read decimals has.units n has.digits has.sum in
-      record { whole = whole; amount = subst (IsAmount f whole b) (sym read.whole) has.amount; text = ap (λ ds. whole ++ (mark_at f (length decimals) ++ ds)) read.digits }
+      record {
+        whole = whole;
+        amount = subst (IsAmount f whole b) (sym read.whole) has.amount;
+        text = ap (λ ds. whole ++ (mark_at f (length decimals) ++ ds)) read.digits;
+      }
 
-  pub parts_read : MarksDecimals f → (b : Bool) (n : ℕ) → HasParts f whole decimals b n → (b ≡ true → 0 < n) → (d : FixedPoint) → d ≡ fixed_point (signed_number b n) (length decimals) → HasUnits d → ParsesDecimal f text d
+  pub parts_read : MarksDecimals f → (b : Bool) (n : ℕ) → HasParts f whole decimals b n → (b ≡ true → 0 < n) → (d : FixedPoint)
+      → d ≡ fixed_point (signed_number b n) (length decimals) → HasUnits d → ParsesDecimal f text d
   parts_read marks b n has some d same fits = record {
     unambiguous = marks;
     spelled = subst (SpellsDecimal f text) (sym same) (spelled-signed f text b n (length decimals) some (parts_signed b n has));
@@ -152,7 +190,8 @@ module _ (f : FormatData) (whole decimals : List ℕ) where
     fits = fits;
   }
 
-  pub parts_large : (b : Bool) (n : ℕ) → HasParts f whole decimals b n → ¬ (FitsSigned w128 (signed_number b n)) → IsDecimalOutOfRange f text
+  pub parts_large : (b : Bool) (n : ℕ) → HasParts f whole decimals b n → ¬ (FitsSigned w128 (signed_number b n))
+      → IsDecimalOutOfRange f text
   parts_large b n has wrong = record {
     decimal = fixed_point (signed_number b n) (length decimals);
     spelled = spelled-signed f text b n (length decimals) (some_large b n wrong) (parts_signed b n has);
@@ -172,7 +211,8 @@ module _ (f : FormatData) (whole decimals : List ℕ) where
       nothing_negative (negsuc m) negative same = cc
 
   -- what is before the mark is no amount that is an `i128`
-  pub parts_fault : (fault : Fault) → list_all is_ascii_digit decimals ≡ true → length decimals ≤ MAX_SCALE → HasAmount f whole (Err fault) → HasReading f text (λ scale. scale ≡ length decimals) (Err fault)
+  pub parts_fault : (fault : Fault) → list_all is_ascii_digit decimals ≡ true → length decimals ≤ MAX_SCALE → HasAmount f whole (Err fault)
+      → HasReading f text (λ scale. scale ≡ length decimals) (Err fault)
   parts_fault TooLarge digits few large =
       let b = large.0 in
       let m = large.1 in
@@ -182,14 +222,20 @@ module _ (f : FormatData) (whole decimals : List ℕ) where
   parts_fault Unspelled digits few none = λ d long spells.
       let n = unsigned_abs d.units in
       let signed = subst (IsSigned f text (is_negative d.units) n) long (signed-spelled f text d spells) in
-      none (is_negative d.units) (n / 10 ^ length decimals) (amount-before f whole decimals (is_negative d.units) n (length decimals) signed refl)
+      none (is_negative d.units) (n / 10 ^ length decimals) (amount-before f whole decimals (is_negative d.units) n
+      (length decimals) signed refl)
 
 -- where no text with decimals is spelled, what was read is what there is
-pub reads_either : (f : FormatData) (t : List ℕ) (r : Result FixedPoint Fault) → ((d : FixedPoint) → 0 < d.scale → d.scale ≤ MAX_SCALE → ¬ (SpellsDecimal f t d)) → HasReading f t (λ scale. scale ≡ 0) r →
+pub reads_either : (f : FormatData) (t : List ℕ) (r : Result FixedPoint Fault)
+    → ((d : FixedPoint) → 0 < d.scale → d.scale ≤ MAX_SCALE → ¬ (SpellsDecimal f t d)) → HasReading f t (λ scale. scale ≡ 0) r →
     HasReading f t (λ scale. scale ≤ MAX_SCALE) r
 reads_either f t (Ok d) none read = read
 reads_either f t (Err TooLarge) none read = read
-reads_either f t (Err Unspelled) none read = λ d few spells. elim (cases_lt 0 d.scale) [ inl some ↦ none d some few spells | inr zero_scale ↦ read d (omega (arith, zero_scale)) spells ]
+reads_either f t (Err Unspelled) none read = λ d few spells. elim (cases_lt 0 d.scale) [
+  | inl some ↦ none d some few spells
+  | inr zero_scale
+      ↦ read d (omega (arith, zero_scale)) spells
+]
 
 -- where the mark stands, the decimals are the digits after it
 module _ (f : FormatData) (t : List ℕ) (place end : ℕ) (cut : IsCut f.decimal t place end) where
@@ -208,20 +254,27 @@ module _ (f : FormatData) (t : List ℕ) (place end : ℕ) (cut : IsCut f.decima
       ∙ ap (λ xs. take place t ++ (f.decimal ++ xs)) (take_rest t end)
       ∙ sym cut.text
 
-  pub cut_reads : (r : Result FixedPoint Fault) → HasReading f (take place t ++ (mark_at f (length after) ++ after)) (λ scale. scale ≡ length after) r → HasReading f t (λ scale. scale ≡ length after) r
+  pub cut_reads : (r : Result FixedPoint Fault) → HasReading f (take place t ++ (mark_at f (length after) ++ after)) (λ scale. scale
+      ≡ length after) r → HasReading f t (λ scale. scale ≡ length after) r
   cut_reads r read = subst (λ x. HasReading f x (λ scale. scale ≡ length after) r) cut_text read
 
   pub cut_scale : (d : FixedPoint) → IsPlainFormat f → 0 < d.scale → SpellsDecimal f t d → d.scale ≡ length after
   cut_scale d p some spells =
-      scale_counted f t d p some spells ∙ ap tail_digits cut.text ∙ tail-cut f (take place t) (drop end t) p cut.digits ∙ sym (ap length (take_rest t end))
+      scale_counted f t d p some spells ∙ ap tail_digits cut.text ∙ tail-cut f (take place t) (drop end t) p cut.digits
+      ∙ sym (ap length (take_rest t end))
 
 -- which formats mark decimals, by their symbols
-pub marks_from : (f : FormatData) → IsUtf8 f.minus_sign → IsUtf8 f.separator → IsUnambiguous f → IsMark f.decimal (printed_separator f.grouping f.separator) → MarksDecimals f
+pub marks_from : (f : FormatData) → IsUtf8 f.minus_sign → IsUtf8 f.separator → IsUnambiguous f
+    → IsMark f.decimal (printed_separator f.grouping f.separator) → MarksDecimals f
 marks_from f sign separator plain mark = record {
   reads_back = round_trips-from_unambiguous f sign separator plain;
   given = mark.given;
   plain = mark.plain;
-  apart = elim (grouped_or_not f.grouping) [ inl none ↦ inl none | inr (sizes, by) ↦ inr (λ same. mark.apart (same ∙ sym (by.printed f.separator))) ];
+  apart = elim (grouped_or_not f.grouping) [
+    | inl none ↦ inl none
+    | inr (sizes, by)
+        ↦ inr (λ same. mark.apart (same ∙ sym (by.printed f.separator)))
+  ];
 }
 
 pub mark_from : (f : FormatData) → MarksDecimals f → IsMark f.decimal (printed_separator f.grouping f.separator)

@@ -6,7 +6,8 @@ use Rattle.std.specs.Int.{int_div_euclid, int_rem_euclid}
 use Rattle.std.specs.Ordering.{int_cmp, nat_cmp, ordering_then, MatchOrdering}
 use Rattle.std.specs.declared.cmp.Ordering.{Ordering}
 use Rattle.std.specs.declared.cmp.Ordering.TheVariants.{Less, Equal, Greater}
-use Rattle.std.proofs.Math.Nat.{mul-div-mul_right, mod_def, div-eq_of_lt-le, div-add-mod, div-mul-le_self, lt-div-mul-add, lt-mul-div-succ, mod-lt, mul-div-le, mul-le-mul_left, mul-le-mul_right}
+use Rattle.std.proofs.Math.Nat.{mul-div-mul_right, mod_def, div-eq_of_lt-le, div-add-mod, div-mul-le_self, lt-div-mul-add, lt-mul-div-succ}
+use Rattle.std.proofs.Math.Nat.{mod-lt, mul-div-le, mul-le-mul_left, mul-le-mul_right}
 use Rattle.std.proofs.lemmas.Cmp.{int_ranked, ranked}
 use Rattle.std.proofs.lemmas.Int.{ints}
 use Rattle.std.proofs.lemmas.Nat.{pow-add}
@@ -38,7 +39,8 @@ before_div a p k some positive =
     let high : suc a * k ≤ (a / p * p + p) * k = mul-le-mul_right k next in
     div-eq_of_lt-le (p * k) (omega (arith, low)) (omega (arith, high))
 
-before_rem_at : (a p k q r t : ℕ) → 0 < k → a ≡ p * q + r → p ≡ t + 1 + r → (suc a * k - 1) / (p * k) ≡ q → p * k - 1 - (suc a * k - 1) % (p * k) ≡ t * k
+before_rem_at : (a p k q r t : ℕ) → 0 < k → a ≡ p * q + r → p ≡ t + 1 + r → (suc a * k - 1) / (p * k) ≡ q
+    → p * k - 1 - (suc a * k - 1) % (p * k) ≡ t * k
 before_rem_at a p k q r t some whole below part =
     omega (
       arith,
@@ -70,7 +72,8 @@ whole_scaled (negsuc a) s few =
     ∙ ap (λ z. int_div_euclid z (pos (10 ^ 38))) (sym (negative_multiple a k some))
 
 -- and so is what is left
-rest_scaled : (z : ℤ) (s : ℕ) → s ≤ 38 → unsigned_abs (int_rem_euclid z (pos (10 ^ s))) * 10 ^ (38 - s) ≡ unsigned_abs (int_rem_euclid (z *ℤ pos (10 ^ (38 - s))) (pos (10 ^ 38)))
+rest_scaled : (z : ℤ) (s : ℕ) → s ≤ 38 → unsigned_abs (int_rem_euclid z (pos (10 ^ s))) * 10 ^ (38 - s)
+    ≡ unsigned_abs (int_rem_euclid (z *ℤ pos (10 ^ (38 - s))) (pos (10 ^ 38)))
 rest_scaled (pos a) s few =
     let k = 10 ^ (38 - s) in
     sym (scaled_rem a (10 ^ s) k (power_positive (38 - s))) ∙ ap (λ n. a * k % n) (scale_parts s few)
@@ -81,7 +84,8 @@ rest_scaled (negsuc a) s few =
     ∙ ap (λ z. unsigned_abs (int_rem_euclid z (pos (10 ^ 38)))) (sym (negative_multiple a k some))
 
 -- the parts of a decimal
-pub whole_found : (d : FixedPoint) (u one w : ℤ) (s : ℕ) → s ≡ d.scale → s ≤ 38 → u ≡ d.units → one ≡ pos (10 ^ s) → w ≡ int_div_euclid u one → w ≡ whole_part d
+pub whole_found : (d : FixedPoint) (u one w : ℤ) (s : ℕ) → s ≡ d.scale → s ≤ 38 → u ≡ d.units → one ≡ pos (10 ^ s)
+    → w ≡ int_div_euclid u one → w ≡ whole_part d
 whole_found d u one w s scale few units power whole =
     whole
     ∙ ap (λ z. int_div_euclid z one) units
@@ -89,7 +93,8 @@ whole_found d u one w s scale few units power whole =
     ∙ whole_scaled d.units s few
     ∙ ap (λ k. int_div_euclid (d.units *ℤ pos (10 ^ (38 - k))) (pos (10 ^ 38))) scale
 
-pub rest_found : (d : FixedPoint) (u one r : ℤ) (s x k : ℕ) → s ≡ d.scale → s ≤ 38 → u ≡ d.units → one ≡ pos (10 ^ s) → r ≡ int_rem_euclid u one → x ≡ unsigned_abs r → k ≡ 10 ^ (38 - s) →
+pub rest_found : (d : FixedPoint) (u one r : ℤ) (s x k : ℕ) → s ≡ d.scale → s ≤ 38 → u ≡ d.units → one ≡ pos (10 ^ s)
+    → r ≡ int_rem_euclid u one → x ≡ unsigned_abs r → k ≡ 10 ^ (38 - s) →
     x * k ≡ rest_of d
 rest_found d u one r s x k scale few units power rest size unit =
     let same : r ≡ int_rem_euclid d.units (pos (10 ^ s)) =
@@ -100,7 +105,8 @@ rest_found d u one r s x k scale few units power rest size unit =
     ∙ ap (λ j. unsigned_abs (int_rem_euclid (d.units *ℤ pos (10 ^ (38 - j))) (pos (10 ^ 38)))) scale
 
 -- what is left takes less than one
-pub rest_small : (r one : ℤ) (s x k : ℕ) → s ≤ 38 → one ≡ pos (10 ^ s) → unsigned_abs r < unsigned_abs one → x ≡ unsigned_abs r → k ≡ 10 ^ (38 - s) → x * k < 2 ^ 128
+pub rest_small : (r one : ℤ) (s x k : ℕ) → s ≤ 38 → one ≡ pos (10 ^ s) → unsigned_abs r < unsigned_abs one → x ≡ unsigned_abs r
+    → k ≡ 10 ^ (38 - s) → x * k < 2 ^ 128
 rest_small r one s x k few power below size unit =
     let p = 10 ^ s in
     let j = 10 ^ (38 - s) in
@@ -120,7 +126,8 @@ lower_remainder n a b same less = omega (arith, div-add-mod a n, div-add-mod b n
 same_remainder : (n a b : ℕ) → a / n ≡ b / n → a % n ≡ b % n → a ≡ b
 same_remainder n a b same rest = omega (arith, div-add-mod a n, div-add-mod b n, ap (λ q. n * q) same)
 
-ranks_of_parts : (n a b : ℕ) → 0 < n → (q r : Ordering) → MatchOrdering q (a / n < b / n) (a / n ≡ b / n) (b / n < a / n) → MatchOrdering r (a % n < b % n) (a % n ≡ b % n) (b % n < a % n) →
+ranks_of_parts : (n a b : ℕ) → 0 < n → (q r : Ordering) → MatchOrdering q (a / n < b / n) (a / n ≡ b / n) (b / n < a / n)
+    → MatchOrdering r (a % n < b % n) (a % n ≡ b % n) (b % n < a % n) →
     MatchOrdering (ordering_then q r) (a < b) (a ≡ b) (b < a)
 ranks_of_parts n a b some Less r first second = lower_quotient n a b some first
 ranks_of_parts n a b some Equal Less first second = lower_remainder n a b first second
@@ -129,7 +136,8 @@ ranks_of_parts n a b some Equal Greater first second = lower_remainder n b a (sy
 ranks_of_parts n a b some Greater r first second = lower_quotient n b a some first
 
 -- numbers that are not negative compare as natural numbers, and negative ones the other way round
-rank_of_positive : (a b : ℕ) (o : Ordering) → MatchOrdering o (pos a <ℤ pos b) (pos a ≡ pos b) (pos b <ℤ pos a) → MatchOrdering o (a < b) (a ≡ b) (b < a)
+rank_of_positive : (a b : ℕ) (o : Ordering) → MatchOrdering o (pos a <ℤ pos b) (pos a ≡ pos b) (pos b <ℤ pos a)
+    → MatchOrdering o (a < b) (a ≡ b) (b < a)
 rank_of_positive a b Less h = omega (arith, ints)
 rank_of_positive a b Equal h = omega (arith, ints)
 rank_of_positive a b Greater h = omega (arith, ints)
@@ -137,25 +145,30 @@ rank_of_positive a b Greater h = omega (arith, ints)
 pub pos_cmp : (a b : ℕ) → int_cmp (pos a) (pos b) ≡ nat_cmp a b
 pos_cmp a b = nat_cmp_is a b (int_cmp (pos a) (pos b)) (rank_of_positive a b (int_cmp (pos a) (pos b)) (int_ranked (pos a) (pos b) _ refl))
 
-rank_of_complements : (n a b : ℕ) (o : Ordering) → a < n → b < n → MatchOrdering o (n - 1 - a < n - 1 - b) (n - 1 - a ≡ n - 1 - b) (n - 1 - b < n - 1 - a) → MatchOrdering o (b < a) (b ≡ a) (a < b)
+rank_of_complements : (n a b : ℕ) (o : Ordering) → a < n → b < n → MatchOrdering o (n - 1 - a < n - 1 - b) (n - 1 - a ≡ n - 1 - b)
+    (n - 1 - b < n - 1 - a) → MatchOrdering o (b < a) (b ≡ a) (a < b)
 rank_of_complements n a b Less p q h = omega arith
 rank_of_complements n a b Equal p q h = omega arith
 rank_of_complements n a b Greater p q h = omega arith
 
 -- the parts are in order as the integers are
 parts_in_order : (n : ℕ) → 0 < n → (x y : ℤ) →
-    ordering_then (int_cmp (int_div_euclid x (pos n)) (int_div_euclid y (pos n))) (nat_cmp (unsigned_abs (int_rem_euclid x (pos n))) (unsigned_abs (int_rem_euclid y (pos n))))
+    ordering_then (int_cmp (int_div_euclid x (pos n)) (int_div_euclid y (pos n)))
+    (nat_cmp (unsigned_abs (int_rem_euclid x (pos n))) (unsigned_abs (int_rem_euclid y (pos n))))
     ≡ int_cmp x y
 parts_in_order n some (pos a) (pos b) =
     ap (λ o. ordering_then o (nat_cmp (a % n) (b % n))) (pos_cmp (a / n) (b / n))
-    ∙ nat_cmp_is a b (ordering_then (nat_cmp (a / n) (b / n)) (nat_cmp (a % n) (b % n))) (ranks_of_parts n a b some (nat_cmp (a / n) (b / n)) (nat_cmp (a % n) (b % n)) (ranked (a / n) (b / n) _ refl) (ranked (a % n) (b % n) _ refl))
+    ∙ nat_cmp_is a b (ordering_then (nat_cmp (a / n) (b / n)) (nat_cmp (a % n) (b % n)))
+    (ranks_of_parts n a b some (nat_cmp (a / n) (b / n)) (nat_cmp (a % n) (b % n)) (ranked (a / n) (b / n) _ refl)
+    (ranked (a % n) (b % n) _ refl))
     ∙ sym (pos_cmp a b)
 parts_in_order n some (pos a) (negsuc b) = refl
 parts_in_order n some (negsuc a) (pos b) = refl
 parts_in_order n some (negsuc a) (negsuc b) =
     let rest = nat_cmp (n - 1 - a % n) (n - 1 - b % n) in
     ap (λ o. ordering_then o rest) (pos_cmp (b / n) (a / n))
-    ∙ nat_cmp_is b a (ordering_then (nat_cmp (b / n) (a / n)) rest) (ranks_of_parts n b a some (nat_cmp (b / n) (a / n)) rest (ranked (b / n) (a / n) _ refl)
+    ∙ nat_cmp_is b a (ordering_then (nat_cmp (b / n) (a / n)) rest) (ranks_of_parts n b a some (nat_cmp (b / n) (a / n)) rest
+    (ranked (b / n) (a / n) _ refl)
     (rank_of_complements n (a % n) (b % n) rest (mod-lt a some) (mod-lt b some) (ranked (n - 1 - a % n) (n - 1 - b % n) _ refl)))
     ∙ sym (pos_cmp b a)
 

@@ -1,5 +1,6 @@
 -- What is prepended to the decimals.
-use Rattle.std.proofs.Common.{◌≡◌, ℕ, zero, suc, ◌+◌, ◌-◌, ◌≤◌, ◌/◌, ◌%◌, ◌^◌, List, [], ◌∷◌, ◌++◌, refl, ap, ◌∙◌, sym, arith, append-nil, append_assoc}
+use Rattle.std.proofs.Common.{◌≡◌, ℕ, zero, suc, ◌+◌, ◌-◌, ◌≤◌, ◌/◌, ◌%◌, ◌^◌, List, [], ◌∷◌, ◌++◌, refl, ap, ◌∙◌, sym, arith, append-nil}
+use Rattle.std.proofs.Common.{append_assoc}
 use Rattle.std.proofs.Math.Nat.{div-div-eq-div-mul, pow-succ'}
 use Rattle.std.proofs.lemmas.List.{map-append}
 use Rattle.std.proofs.lemmas.Nat.{pow-add}
@@ -28,7 +29,8 @@ pub undivided : (n k : ℕ) → k ≡ 0 → n ≡ n / 10 ^ k
 undivided n k none = let whole : n ≡ n / 10 ^ 0 = omega arith in whole ∙ ap (λ i. n / 10 ^ i) (sym none)
 
 -- digits before the last digits of a number, and before a text
-pub digits_before : (k j n left : ℕ) (part text new old : List ℕ) → left ≡ n / 10 ^ k → text ≡ plain (last_digits k n) ++ old → part ≡ plain (last_digits j left) → new ≡ part ++ text →
+pub digits_before : (k j n left : ℕ) (part text new old : List ℕ) → left ≡ n / 10 ^ k → text ≡ plain (last_digits k n) ++ old
+    → part ≡ plain (last_digits j left) → new ≡ part ++ text →
     new ≡ plain (last_digits (k + j) n) ++ old
 digits_before k j n left part text new old is_left before is_part after =
     after
@@ -37,22 +39,26 @@ digits_before k j n left part text new old is_left before is_part after =
     ∙ sym (append_assoc (plain (last_digits j (n / 10 ^ k))) (plain (last_digits k n)) old)
     ∙ ap (λ t. t ++ old) (sym (map-append (λ d. 48 + d) (last_digits j (n / 10 ^ k)) (last_digits k n)) ∙ ap plain (digits_joined k j n))
 
-pub two_digits_more : (k n left : ℕ) (pair text new old : List ℕ) → left ≡ n / 10 ^ k → text ≡ plain (last_digits k n) ++ old → pair ≡ (48 + left % 100 / 10) ∷ (48 + left % 100 % 10) ∷ [] →
+pub two_digits_more : (k n left : ℕ) (pair text new old : List ℕ) → left ≡ n / 10 ^ k → text ≡ plain (last_digits k n) ++ old
+    → pair ≡ (48 + left % 100 / 10) ∷ (48 + left % 100 % 10) ∷ [] →
     new ≡ pair ++ text → new ≡ plain (last_digits (k + 2) n) ++ old
 two_digits_more k n left pair text new old is_left before is_pair after =
     let high : left % 100 / 10 ≡ left / 10 % 10 = omega arith in
     let low : left % 100 % 10 ≡ left % 10 = omega arith in
-    digits_before k 2 n left pair text new old is_left before (is_pair ∙ ap (λ d. (48 + d) ∷ (48 + left % 100 % 10) ∷ []) high ∙ ap (λ d. (48 + left / 10 % 10) ∷ (48 + d) ∷ []) low) after
+    digits_before k 2 n left pair text new old is_left before (is_pair ∙ ap (λ d. (48 + d) ∷ (48 + left % 100 % 10) ∷ []) high
+    ∙ ap (λ d. (48 + left / 10 % 10) ∷ (48 + d) ∷ []) low) after
 
 -- digits before nothing
 pub before_none : (text old new : List ℕ) → old ≡ [] → new ≡ text ++ old → new ≡ text
 before_none text old new empty after = after ∙ ap (λ t. text ++ t) empty ∙ append-nil text
 
 -- digits of a number in two parts, of which the second has nineteen
-pub wide_digits : (count n high low : ℕ) (old one two : List ℕ) → 19 ≤ count → old ≡ [] → high ≡ n / 10 ^ 19 → low ≡ n % 10 ^ 19 → one ≡ plain (last_digits 19 low) ++ old → two ≡ plain (last_digits (count - 19) high) ++ one →
+pub wide_digits : (count n high low : ℕ) (old one two : List ℕ) → 19 ≤ count → old ≡ [] → high ≡ n / 10 ^ 19 → low ≡ n % 10 ^ 19
+    → one ≡ plain (last_digits 19 low) ++ old → two ≡ plain (last_digits (count - 19) high) ++ one →
     two ≡ plain (last_digits count n)
 wide_digits count n high low old one two many empty is_high is_low first second =
     let rest = count - 19 in
     let all : 19 + rest ≡ count = omega arith in
     let begin = first ∙ ap (λ ds. plain ds ++ old) (ap (last_digits 19) is_low ∙ last_digits-mod 19 n) in
-    before_none (plain (last_digits (19 + rest) n)) old two empty (digits_before 19 rest n high (plain (last_digits rest high)) one two old is_high begin refl second) ∙ ap (λ k. plain (last_digits k n)) all
+    before_none (plain (last_digits (19 + rest) n)) old two empty (digits_before 19 rest n high
+    (plain (last_digits rest high)) one two old is_high begin refl second) ∙ ap (λ k. plain (last_digits k n)) all

@@ -1,5 +1,6 @@
 -- Digits that are read one by one.
-use Rattle.std.proofs.Common.{◌≡◌, ℕ, suc, ◌+◌, ◌-◌, ◌*◌, ◌^◌, ◌<◌, ◌≤◌, ◌⊎◌, inl, inr, true, false, List, [], ◌∷◌, ◌++◌, length, get_or, take, drop, take-append-drop, refl, ap, ◌∙◌, sym, arith, length-append, length-drop}
+use Rattle.std.proofs.Common.{◌≡◌, ℕ, suc, ◌+◌, ◌-◌, ◌*◌, ◌^◌, ◌<◌, ◌≤◌, ◌⊎◌, inl, inr, true, false, List, [], ◌∷◌, ◌++◌, length, get_or}
+use Rattle.std.proofs.Common.{take, drop, take-append-drop, refl, ap, ◌∙◌, sym, arith, length-append, length-drop}
 use Rattle.std.specs.Prelude.{Option, Some, None, MatchOption}
 use Rattle.std.specs.Char.{is_ascii_digit}
 use Rattle.std.specs.Int.Digits.{number_from_digits}
@@ -32,7 +33,8 @@ pub record HasDigits (t : List ℕ) (i n : ℕ) : Type 0 where
   pub small : n < 10 ^ i
 
 -- and with the next digit
-pub one_more_digit : (t : List ℕ) (i n : ℕ) → i < length t → is_ascii_digit (get_or t i 0) ≡ true → HasDigits t i n → HasDigits t (i + 1) (10 * n + (get_or t i 0 - 48))
+pub one_more_digit : (t : List ℕ) (i n : ℕ) → i < length t → is_ascii_digit (get_or t i 0) ≡ true → HasDigits t i n
+    → HasDigits t (i + 1) (10 * n + (get_or t i 0 - 48))
 one_more_digit t i n inside digit before =
     let b = get_or t i 0 in
     let more : take (i + 1) t ≡ take i t ++ (b ∷ []) = take_more t i 0 inside in
@@ -43,7 +45,8 @@ one_more_digit t i n inside digit before =
     let power = ap (λ j. 10 ^ j) next ∙ pow-suc 10 i in
     let turned : 10 * n + (b - 48) ≡ n * 10 + (b - 48) = omega arith in
     record {
-      all = ap (list_all is_ascii_digit) more ∙ list_all-append is_ascii_digit (take i t) (b ∷ []) ∙ and_from _ _ before.all (and_from _ _ digit refl);
+      all = ap (list_all is_ascii_digit) more ∙ list_all-append is_ascii_digit (take i t) (b ∷ [])
+          ∙ and_from _ _ before.all (and_from _ _ digit refl);
       number =
           turned
           ∙ ap (λ m. m * 10 + (b - 48)) before.number
@@ -61,11 +64,13 @@ few_fit t i n d before digit inside few =
     omega (arith, power, most, before.small)
 
 -- digits that begin with no zero, and zero alone, are those of their number
-pub plain_read : (t : List ℕ) (n : ℕ) → 0 < length t → list_all is_ascii_digit t ≡ true → (¬ (get_or t 0 0 ≡ 48)) ⊎ (length t ≤ 1) → n ≡ number_from_digits 10 (byte_figures t) → t ≡ plain (digits n)
+pub plain_read : (t : List ℕ) (n : ℕ) → 0 < length t → list_all is_ascii_digit t ≡ true → (¬ (get_or t 0 0 ≡ 48)) ⊎ (length t ≤ 1)
+    → n ≡ number_from_digits 10 (byte_figures t) → t ≡ plain (digits n)
 plain_read t n some all either number =
     elim (cases_eq (get_or t 0 0) 48) [
       | inr other ↦
-          let first = true_from_ne_false (is_ascii_digit (get_or t 0 0)) (λ no. both_ways _ (list_all_at is_ascii_digit t 0 0 some no) all) in
+          let first = true_from_ne_false (is_ascii_digit (get_or t 0 0)) (λ no. both_ways _ (list_all_at is_ascii_digit t 0 0 some no) all)
+          in
           let write = writes t (begins-at t 0 some first other) in
           plain-all t all ∙ ap plain (sym write.same ∙ ap digits (sym number))
       | inl nought ↦ elim either [
@@ -86,16 +91,19 @@ plain_read t n some all either number =
 
 -- what reading such a text returns
 pub whole_read : (t : List ℕ) (r : Option ℕ) → 0 < length t → (¬ (get_or t 0 0 ≡ 48)) ⊎ (length t ≤ 1) →
-    MatchOption r (list_all is_ascii_digit t ≡ false) (λ n. (list_all is_ascii_digit t ≡ true) × (n ≡ number_from_digits 10 (byte_figures t))) → MatchOption r (¬ (t ≡ 48 ∷ [])) (λ n. t ≡ plain (digits n))
+    MatchOption r (list_all is_ascii_digit t ≡ false) (λ n. (list_all is_ascii_digit t ≡ true)
+    × (n ≡ number_from_digits 10 (byte_figures t))) → MatchOption r (¬ (t ≡ 48 ∷ [])) (λ n. t ≡ plain (digits n))
 whole_read t None some either other = λ same. both_ways _ (sym (ap (list_all is_ascii_digit) same) ∙ other) refl
 whole_read t (Some n) some either read = plain_read t n some read.0 either read.1
 
 -- a byte that is no digit before the digits at the end
-pub tail_found : (t : List ℕ) (start : ℕ) → 0 < start → start ≤ length t → list_all is_ascii_digit (drop start t) ≡ true → is_ascii_digit (get_or t (start - 1) 0) ≡ false → length t - start ≡ tail_digits t
+pub tail_found : (t : List ℕ) (start : ℕ) → 0 < start → start ≤ length t → list_all is_ascii_digit (drop start t) ≡ true
+    → is_ascii_digit (get_or t (start - 1) 0) ≡ false → length t - start ≡ tail_digits t
 tail_found t start some within all other =
     let i = start - 1 in
     let next : i + 1 ≡ start = omega arith in
-    let split : t ≡ take i t ++ (get_or t i 0 ∷ drop start t) = sym (take-append-drop i t) ∙ ap (λ xs. take i t ++ xs) (drop_more t i 0 (omega arith) ∙ ap (λ j. get_or t i 0 ∷ drop j t) next) in
+    let split : t ≡ take i t ++ (get_or t i 0 ∷ drop start t) = sym (take-append-drop i t)
+    ∙ ap (λ xs. take i t ++ xs) (drop_more t i 0 (omega arith) ∙ ap (λ j. get_or t i 0 ∷ drop j t) next) in
     sym (
     ap tail_digits split
     ∙ tail-skip (take i t) (get_or t i 0 ∷ drop start t) (rw other refl)
@@ -103,22 +111,28 @@ tail_found t start some within all other =
 
 -- two texts of digits after a number, one after the other
 joined_digits : (m : ℕ) (xs ys : List ℕ) → list_all is_ascii_digit ys ≡ true →
-    (m * 10 ^ length xs + number_from_digits 10 (byte_figures xs)) * 10 ^ length ys + number_from_digits 10 (byte_figures ys) ≡ m * 10 ^ length (xs ++ ys) + number_from_digits 10 (byte_figures (xs ++ ys))
+    (m * 10 ^ length xs + number_from_digits 10 (byte_figures xs)) * 10 ^ length ys + number_from_digits 10 (byte_figures ys)
+    ≡ m * 10 ^ length (xs ++ ys) + number_from_digits 10 (byte_figures (xs ++ ys))
 joined_digits m xs ys all =
     let p = 10 ^ length xs in
     let q = 10 ^ length ys in
     let long : length (byte_figures ys) ≡ length ys = sym (ap length (plain-all ys all) ∙ length-map (byte_figures ys) (λ d. 48 + d)) in
-    let number : number_from_digits 10 (byte_figures (xs ++ ys)) ≡ number_from_digits 10 (byte_figures xs) * q + number_from_digits 10 (byte_figures ys) =
+    let number : number_from_digits 10 (byte_figures (xs ++ ys)) ≡ number_from_digits 10 (byte_figures xs) * q + number_from_digits 10
+    (byte_figures ys) =
     ap (number_from_digits 10) (digits_among-append xs ys)
     ∙ number-joined (byte_figures xs) (byte_figures ys)
     ∙ ap (λ j. number_from_digits 10 (byte_figures xs) * 10 ^ j + number_from_digits 10 (byte_figures ys)) long in
     let power : 10 ^ length (xs ++ ys) ≡ p * q = ap (λ j. 10 ^ j) (length-append xs ys) ∙ pow-add 10 (length xs) (length ys) in
     rw (number, power) (omega arith)
 
-pub joined_at : (m n i : ℕ) (t : List ℕ) → list_all is_ascii_digit t ≡ true → n ≡ m * 10 ^ length (take i t) + number_from_digits 10 (byte_figures (take i t)) →
-    n * 10 ^ length (drop i t) + number_from_digits 10 (byte_figures (drop i t)) ≡ m * 10 ^ length t + number_from_digits 10 (byte_figures t)
+pub joined_at : (m n i : ℕ) (t : List ℕ) → list_all is_ascii_digit t ≡ true
+    → n ≡ m * 10 ^ length (take i t) + number_from_digits 10 (byte_figures (take i t)) →
+    n * 10 ^ length (drop i t) + number_from_digits 10 (byte_figures (drop i t))
+    ≡ m * 10 ^ length t + number_from_digits 10 (byte_figures t)
 joined_at m n i t all sum =
-    let ends = (and_parts _ _ (sym (list_all-append is_ascii_digit (take i t) (drop i t)) ∙ ap (list_all is_ascii_digit) (take-append-drop i t) ∙ all)).1 in
+    let ends =
+    (and_parts _ _ (sym (list_all-append is_ascii_digit (take i t) (drop i t)) ∙ ap (list_all is_ascii_digit) (take-append-drop i t)
+    ∙ all)).1 in
     ap (λ k. k * 10 ^ length (drop i t) + number_from_digits 10 (byte_figures (drop i t))) sum
     ∙ joined_digits m (take i t) (drop i t) ends
     ∙ ap (λ xs. m * 10 ^ length xs + number_from_digits 10 (byte_figures xs)) (take-append-drop i t)

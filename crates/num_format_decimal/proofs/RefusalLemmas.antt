@@ -1,5 +1,6 @@
 -- A text of which no decimal is read is refused for a cause, which nothing has to compute.
-use Rattle.std.proofs.Common.{◌≡◌, ℕ, ◌+◌, ◌<◌, ◌≤◌, inl, inr, List, [], ◌∷◌, length, drop, drop-drop, refl, ap, ◌∙◌, sym, arith, Err, IsUtf8}
+use Rattle.std.proofs.Common.{◌≡◌, ℕ, ◌+◌, ◌≤◌, inl, inr, List, [], ◌∷◌, length, drop, drop-drop, refl, ap, ◌∙◌, sym, arith, Err}
+use Rattle.std.proofs.Common.{IsUtf8}
 use Rattle.std.proofs.lemmas.Bool.{cases_Bool, cases_lt}
 use Rattle.num_format_text.specs.Format.{FormatData}
 use Rattle.num_format_int.specs.Grouped.{printed_separator}
@@ -10,7 +11,8 @@ use Rattle.num_format_decimal.specs.declared.decimal.TheConstants.{MAX_SCALE}
 use Rattle.num_format_decimal.specs.declared.parser.Fault.{Fault}
 use Rattle.num_format_decimal.specs.declared.parser.Fault.TheVariants.{TooLarge, Unspelled}
 use Rattle.num_format_decimal.specs.declared.parsing.ParseDecimalError.{ParseDecimalError}
-use Rattle.num_format_decimal.specs.declared.parsing.ParseDecimalError.TheVariants.{NotUtf8, Unexpected, NoDigit, TooManyDecimals, Misspelled, OutOfRange}
+use Rattle.num_format_decimal.specs.declared.parsing.ParseDecimalError.TheVariants.{NotUtf8, Unexpected, NoDigit, TooManyDecimals}
+use Rattle.num_format_decimal.specs.declared.parsing.ParseDecimalError.TheVariants.{Misspelled, OutOfRange}
 use Rattle.num_format_decimal.specs.FixedPoint.{FixedPoint}
 use Rattle.num_format_decimal.specs.Marks.{MarksDecimals}
 use Rattle.num_format_decimal.specs.Parsing.{IsDecimalCause, IsExpectedDecimal, SpellsDecimal, after_mark, unexpected_in_decimal}
@@ -26,12 +28,16 @@ unexpected-place f t =
     let long = length f.decimal in
     let rest = unread-place [] 0 (drop long (unexpected f t)) in
     elim (cases_Bool (begins f.decimal (unexpected f t))) [
-      | inl begin ↦
-          (at + long + rest.0, rw begin (rest.1 ∙ ap (λ xs. drop rest.0 (drop long xs)) whole ∙ ap (drop rest.0) (drop-drop long at t) ∙ drop-drop rest.0 (at + long) t))
+      | inl begin ↦ (
+        at + long + rest.0,
+        rw begin (rest.1 ∙ ap (λ xs. drop rest.0 (drop long xs)) whole ∙ ap (drop rest.0) (drop-drop long at t)
+            ∙ drop-drop rest.0 (at + long) t),
+      )
       | inr other ↦ (at, rw other whole)
     ]
 
-module _ (f : FormatData) (t : List ℕ) (marks : MarksDecimals f) (none : (d : FixedPoint) → d.scale ≤ MAX_SCALE → ¬ (SpellsDecimal f t d)) where
+module _ (f : FormatData) (t : List ℕ) (marks : MarksDecimals f) (none : (d : FixedPoint) → d.scale ≤ MAX_SCALE
+    → ¬ (SpellsDecimal f t d)) where
   by_digits : IsExpectedDecimal f t → (ds : List ℕ) → figures t ≡ ds → (e : ParseDecimalError) × IsDecimalCause f t e
   by_digits expected [] empty = (NoDigit, (marks, record { expected = expected; fault = empty }))
   by_digits expected (d ∷ ds) some =
@@ -55,6 +61,7 @@ module _ (f : FormatData) (t : List ℕ) (marks : MarksDecimals f) (none : (d : 
         | inr not ↦ (NotUtf8, (marks, not))
       ]
 
-pub cause-given : (f : FormatData) (t : List ℕ) → MarksDecimals f → (fault : Fault) → HasReading f t (λ scale. scale ≤ MAX_SCALE) (Err fault) → (e : ParseDecimalError) × IsDecimalCause f t e
+pub cause-given : (f : FormatData) (t : List ℕ) → MarksDecimals f → (fault : Fault)
+    → HasReading f t (λ scale. scale ≤ MAX_SCALE) (Err fault) → (e : ParseDecimalError) × IsDecimalCause f t e
 cause-given f t marks TooLarge large = (OutOfRange, (marks, large))
 cause-given f t marks Unspelled none = unspelled_cause f t marks none

@@ -1,8 +1,11 @@
 -- Powers of ten, signs, and units at other scales.
-use Rattle.std.proofs.Common.{◌≡◌, ℕ, zero, suc, ◌+◌, ◌-◌, ◌*◌, ◌/◌, ◌%◌, ◌^◌, ◌<◌, ◌≤◌, Bool, true, false, refl, ap, ◌∙◌, sym, subst, inl, inr, arith, ℤ, pos, negsuc, unsigned_abs}
+use Rattle.std.proofs.Common.{◌≡◌, ℕ, zero, suc, ◌+◌, ◌-◌, ◌*◌, ◌/◌, ◌%◌, ◌^◌, ◌<◌, ◌≤◌, Bool, true, false, refl, ap, ◌∙◌, sym, subst, inl}
+use Rattle.std.proofs.Common.{inr, arith, ℤ, pos, negsuc, unsigned_abs}
 use Rattle.std.specs.Prelude.{◌*ℤ◌, ◌≤ℤ◌, neg_ℤ, not, FitsSigned, ◌≢◌, if◌then◌else◌}
 use Rattle.std.specs.Int.{cast_signed, is_negative, w128, IsNonZero, NotMinOverMinusOne}
-use Rattle.std.proofs.Math.Nat.{div-add-mod, div-eq_of_lt-le, div-lt_self, div-mul-le_self, div-one, mod-eq-sub-div-mul, mod-eq_of_lt, mod-lt, mod-one, mul-le-mul_left, mul-add-mod_self_left, mul-mod_left, one-le-pow, pow-le-pow_right, pow-suc, zero-mod}
+use Rattle.std.proofs.Math.Nat.{div-add-mod, div-eq_of_lt-le, div-lt_self, div-mul-le_self, div-one, mod-eq-sub-div-mul, mod-eq_of_lt}
+use Rattle.std.proofs.Math.Nat.{mod-lt, mod-one, mul-le-mul_left, mul-add-mod_self_left, mul-mod_left, one-le-pow, pow-le-pow_right}
+use Rattle.std.proofs.Math.Nat.{pow-suc, zero-mod}
 use Rattle.std.proofs.lemmas.Bool.{cases_lt}
 use Rattle.std.proofs.lemmas.Bool.Decides.{nat_tests}
 use Rattle.std.proofs.lemmas.Int.{ints, to_z_pos}
@@ -62,7 +65,8 @@ units_at_signed scale d =
     ap (λ z. z *ℤ pos k) (sym (signed_number-unsigned_abs d.units)) ∙ sym (signed_mul (is_negative d.units) (unsigned_abs d.units) k)
 
 -- and those of the negated number the other sign
-pub units_at_negated : (scale : ℕ) (d : FixedPoint) → units_at scale (negated d) ≡ signed_number (not (is_negative d.units)) (dividend d scale)
+pub units_at_negated : (scale : ℕ) (d : FixedPoint) → units_at scale (negated d)
+    ≡ signed_number (not (is_negative d.units)) (dividend d scale)
 units_at_negated scale d = negated_signed d.units (10 ^ (scale - d.scale))
   where
     negated_signed : (z : ℤ) (k : ℕ) → neg_ℤ z *ℤ pos k ≡ signed_number (not (is_negative z)) (unsigned_abs z * k)
@@ -163,11 +167,13 @@ cannot_be_rescaled mode d scale within large =
     let more : 2 ^ 128 < dividend d scale = larger d scale within large in (
       lossless mode (dividend d scale) (divisor d scale) one,
       λ fits. too_large (is_negative d.units) (dividend d scale) (omega arith)
-          (subst (λ n. FitsSigned w128 (signed_number (is_negative d.units) n)) (undivided mode (dividend d scale) (divisor d scale) one) fits),
+          (subst (λ n. FitsSigned w128 (signed_number (is_negative d.units) n))
+          (undivided mode (dividend d scale) (divisor d scale) one) fits),
     )
 
 -- a decimal at another scale, from its parts
-rescaled_from : (mode : Rounding) (d : FixedPoint) (scale m n q : ℕ) (s : Bool) → s ≡ is_negative d.units → m ≡ dividend d scale → n ≡ divisor d scale → q ≡ quotient mode m n →
+rescaled_from : (mode : Rounding) (d : FixedPoint) (scale m n q : ℕ) (s : Bool) → s ≡ is_negative d.units → m ≡ dividend d scale
+    → n ≡ divisor d scale → q ≡ quotient mode m n →
     fixed_point (signed_number s q) scale ≡ rescaled mode d scale
 rescaled_from mode d scale m n q s sign first second rounded =
     ap (λ b. fixed_point (signed_number b q) scale) sign
@@ -175,18 +181,23 @@ rescaled_from mode d scale m n q s sign first second rounded =
     ∙ ap (λ k. fixed_point (signed_number (is_negative d.units) (quotient mode k n)) scale) first
     ∙ ap (λ k. fixed_point (signed_number (is_negative d.units) (quotient mode (dividend d scale) k)) scale) second
 
-pub is_rescaled : (mode : Rounding) (d : FixedPoint) (scale m n q : ℕ) (s : Bool) (x : FixedPoint) → s ≡ is_negative d.units → m ≡ dividend d scale → n ≡ divisor d scale → q ≡ quotient mode m n →
+pub is_rescaled : (mode : Rounding) (d : FixedPoint) (scale m n q : ℕ) (s : Bool) (x : FixedPoint) → s ≡ is_negative d.units
+    → m ≡ dividend d scale → n ≡ divisor d scale → q ≡ quotient mode m n →
     x ≡ fixed_point (signed_number s q) scale → x ≡ rescaled mode d scale
 is_rescaled mode d scale m n q s x sign first second rounded same = same ∙ rescaled_from mode d scale m n q s sign first second rounded
 
-pub loses_digits : (mode : Rounding) (d : FixedPoint) (scale m n : ℕ) → m ≡ dividend d scale → n ≡ divisor d scale → LosesRemainder mode (m % n) → LosesDigits mode d scale
-loses_digits mode d scale m n first second loses = (loses.0, λ none. loses.1 (ap (λ k. k % n) first ∙ ap (λ k. dividend d scale % k) second ∙ none))
+pub loses_digits : (mode : Rounding) (d : FixedPoint) (scale m n : ℕ) → m ≡ dividend d scale → n ≡ divisor d scale
+    → LosesRemainder mode (m % n) → LosesDigits mode d scale
+loses_digits mode d scale m n first second loses =
+    (loses.0, λ none. loses.1 (ap (λ k. k % n) first ∙ ap (λ k. dividend d scale % k) second ∙ none))
 
-pub keeps_digits : (mode : Rounding) (d : FixedPoint) (scale m n : ℕ) → m ≡ dividend d scale → n ≡ divisor d scale → ¬ (LosesRemainder mode (m % n)) → ¬ (LosesDigits mode d scale)
+pub keeps_digits : (mode : Rounding) (d : FixedPoint) (scale m n : ℕ) → m ≡ dividend d scale → n ≡ divisor d scale
+    → ¬ (LosesRemainder mode (m % n)) → ¬ (LosesDigits mode d scale)
 keeps_digits mode d scale m n first second keeps loses =
     keeps (loses.0, λ none. loses.1 (sym (ap (λ k. k % n) first ∙ ap (λ k. dividend d scale % k) second) ∙ none))
 
-pub can_be_rescaled : (mode : Rounding) (d : FixedPoint) (scale m n q : ℕ) (s : Bool) → scale ≤ 38 → s ≡ is_negative d.units → m ≡ dividend d scale → n ≡ divisor d scale → q ≡ quotient mode m n →
+pub can_be_rescaled : (mode : Rounding) (d : FixedPoint) (scale m n q : ℕ) (s : Bool) → scale ≤ 38 → s ≡ is_negative d.units
+    → m ≡ dividend d scale → n ≡ divisor d scale → q ≡ quotient mode m n →
     ¬ (LosesRemainder mode (m % n)) → HasUnits (fixed_point (signed_number s q) scale) → CanRescale mode d scale
 can_be_rescaled mode d scale m n q s bound sign first second rounded keeps fits = record {
   bound = bound;
@@ -194,7 +205,8 @@ can_be_rescaled mode d scale m n q s bound sign first second rounded keeps fits 
   fits = subst (λ x. HasUnits x) (rescaled_from mode d scale m n q s sign first second rounded) fits;
 }
 
-pub rescaled_too_large : (mode : Rounding) (d : FixedPoint) (scale m n q : ℕ) (s : Bool) → s ≡ is_negative d.units → m ≡ dividend d scale → n ≡ divisor d scale → q ≡ quotient mode m n →
+pub rescaled_too_large : (mode : Rounding) (d : FixedPoint) (scale m n q : ℕ) (s : Bool) → s ≡ is_negative d.units → m ≡ dividend d scale
+    → n ≡ divisor d scale → q ≡ quotient mode m n →
     ¬ (HasUnits (fixed_point (signed_number s q) scale)) → ¬ (HasUnits (rescaled mode d scale))
 rescaled_too_large mode d scale m n q s sign first second rounded large fits =
     large (subst (λ x. HasUnits x) (sym (rescaled_from mode d scale m n q s sign first second rounded)) fits)
@@ -207,20 +219,24 @@ pub less_quotient : (n m : ℕ) → n % m ≡ n - n / m * m
 less_quotient n m = mod-eq-sub-div-mul n m
 
 -- a division in steps, as on paper: each takes what the one before it left, and 32 bits more
-long_division : (n high low middle last b : ℕ) → high ≡ n / 2 ^ 64 → low ≡ n % 2 ^ 64 → middle ≡ high % b * 2 ^ 32 + low / 2 ^ 32 → last ≡ middle % b * 2 ^ 32 + low % 2 ^ 32 →
+long_division : (n high low middle last b : ℕ) → high ≡ n / 2 ^ 64 → low ≡ n % 2 ^ 64 → middle ≡ high % b * 2 ^ 32 + low / 2 ^ 32
+    → last ≡ middle % b * 2 ^ 32 + low % 2 ^ 32 →
     b * (high / b * 2 ^ 64 + (middle / b * 2 ^ 32 + last / b)) + last % b ≡ n
 long_division n high low middle last b is_high is_low is_middle is_last =
     omega (arith, is_high, is_low, is_middle, is_last, div-add-mod high b, div-add-mod middle b, div-add-mod last b)
 
-pub long_quotient : (n high low middle last b : ℕ) → 0 < b → high ≡ n / 2 ^ 64 → low ≡ n % 2 ^ 64 → middle ≡ high % b * 2 ^ 32 + low / 2 ^ 32 → last ≡ middle % b * 2 ^ 32 + low % 2 ^ 32 →
+pub long_quotient : (n high low middle last b : ℕ) → 0 < b → high ≡ n / 2 ^ 64 → low ≡ n % 2 ^ 64
+    → middle ≡ high % b * 2 ^ 32 + low / 2 ^ 32 → last ≡ middle % b * 2 ^ 32 + low % 2 ^ 32 →
     high / b * 2 ^ 64 + (middle / b * 2 ^ 32 + last / b) ≡ n / b
 long_quotient n high low middle last b some is_high is_low is_middle is_last =
     let all = long_division n high low middle last b is_high is_low is_middle is_last in
     let below = mod-lt last some in
     sym (div-eq_of_lt-le b (omega (arith, all)) (omega (arith, all, below)))
 
-pub long_remainder : (n high low middle last b : ℕ) → 0 < b → high ≡ n / 2 ^ 64 → low ≡ n % 2 ^ 64 → middle ≡ high % b * 2 ^ 32 + low / 2 ^ 32 → last ≡ middle % b * 2 ^ 32 + low % 2 ^ 32 →
+pub long_remainder : (n high low middle last b : ℕ) → 0 < b → high ≡ n / 2 ^ 64 → low ≡ n % 2 ^ 64
+    → middle ≡ high % b * 2 ^ 32 + low / 2 ^ 32 → last ≡ middle % b * 2 ^ 32 + low % 2 ^ 32 →
     last % b ≡ n % b
 long_remainder n high low middle last b some is_high is_low is_middle is_last =
     let all = long_division n high low middle last b is_high is_low is_middle is_last in
-    sym (mod-eq_of_lt (mod-lt last some)) ∙ sym (mul-add-mod_self_left b (high / b * 2 ^ 64 + (middle / b * 2 ^ 32 + last / b)) (last % b)) ∙ ap (λ m. m % b) all
+    sym (mod-eq_of_lt (mod-lt last some)) ∙ sym (mul-add-mod_self_left b (high / b * 2 ^ 64 + (middle / b * 2 ^ 32 + last / b)) (last % b))
+    ∙ ap (λ m. m % b) all

@@ -1,5 +1,6 @@
 -- The parts of a text that spells a decimal, and the digits in it.
-use Rattle.std.proofs.Common.{◌≡◌, ℕ, zero, suc, ◌+◌, ◌*◌, ◌/◌, ◌%◌, ◌^◌, ◌<◌, ◌⊎◌, inl, inr, Bool, true, List, [], ◌∷◌, ◌++◌, length, drop, take, refl, ap, ◌∙◌, sym, subst, arith, append_assoc, length-append, lit<, unsigned_abs}
+use Rattle.std.proofs.Common.{◌≡◌, ℕ, zero, suc, ◌+◌, ◌*◌, ◌/◌, ◌%◌, ◌^◌, ◌<◌, ◌⊎◌, inl, inr, Bool, true, List, [], ◌∷◌, ◌++◌, length, drop}
+use Rattle.std.proofs.Common.{take, refl, ap, ◌∙◌, sym, subst, arith, append_assoc, length-append, lit<, unsigned_abs}
 use Rattle.std.specs.Prelude.{if◌then◌else◌}
 use Rattle.std.specs.Char.{is_ascii_digit}
 use Rattle.std.specs.Int.{is_negative}
@@ -32,32 +33,48 @@ use Rattle.num_format_decimal.specs.Text.{decimal_text, decimals_of, mark_at, un
 use Rattle.num_format_decimal.proofs.TextLemmas.{length-plain}
 
 -- the text of a decimal is its sign and that of its absolute value
-signed-text : (f : FormatData) (b : Bool) (n k : ℕ) → (b ≡ true → 0 < n) → decimal_text f (fixed_point (signed_number b n) k) ≡ (if b then f.minus_sign else []) ++ unsigned_text f n k
+signed-text : (f : FormatData) (b : Bool) (n k : ℕ) → (b ≡ true → 0 < n)
+    → decimal_text f (fixed_point (signed_number b n) k) ≡ (if b then f.minus_sign else []) ++ unsigned_text f n k
 signed-text f b n k some =
     ap (λ (c : Bool). (if c then f.minus_sign else []) ++ unsigned_text f (unsigned_abs (signed_number b n)) k) (signed-sign b n some)
     ∙ ap (λ j. (if b then f.minus_sign else []) ++ unsigned_text f j k) (signed-abs b n)
 
-pub signed-spelled : (f : FormatData) (t : List ℕ) (d : FixedPoint) → SpellsDecimal f t d → IsSigned f t (is_negative d.units) (unsigned_abs d.units) d.scale
-signed-spelled f t d spells = elim spells [ with_separators same ↦ from f.grouping (inl refl) same | without_separators same ↦ from (ungrouped f).grouping (inr refl) same ]
+pub signed-spelled : (f : FormatData) (t : List ℕ) (d : FixedPoint) → SpellsDecimal f t d
+    → IsSigned f t (is_negative d.units) (unsigned_abs d.units) d.scale
+signed-spelled f t d spells = elim spells [
+  | with_separators same ↦ from f.grouping (inl refl) same
+  | without_separators same
+      ↦ from (ungrouped f).grouping (inr refl) same
+]
   where
     from : (g : Grouping) → (g ≡ f.grouping) ⊎ (g ≡ Posix) →
-        t ≡ (if is_negative d.units then f.minus_sign else []) ++ (grouped g f.separator (digits (unsigned_abs d.units / 10 ^ d.scale)) ++ decimals_of f (unsigned_abs d.units) d.scale) →
+        t ≡ (if is_negative d.units then f.minus_sign else []) ++ (grouped g f.separator (digits (unsigned_abs d.units / 10 ^ d.scale))
+        ++ decimals_of f (unsigned_abs d.units) d.scale) →
         IsSigned f t (is_negative d.units) (unsigned_abs d.units) d.scale
-    from g either same = record { whole = _; amount = record { grouping = g; either = either; text = refl }; text = same ∙ sym (append_assoc (if is_negative d.units then f.minus_sign else []) (grouped g f.separator (digits (unsigned_abs d.units / 10 ^ d.scale))) (decimals_of f (unsigned_abs d.units) d.scale)) }
+    from g either same = record {
+      whole = _;
+      amount = record { grouping = g; either = either; text = refl };
+      text = same ∙ sym (append_assoc (if is_negative d.units then f.minus_sign else [])
+          (grouped g f.separator (digits (unsigned_abs d.units / 10 ^ d.scale))) (decimals_of f (unsigned_abs d.units) d.scale));
+    }
 
-pub spelled-signed : (f : FormatData) (t : List ℕ) (b : Bool) (n k : ℕ) → (b ≡ true → 0 < n) → IsSigned f t b n k → SpellsDecimal f t (fixed_point (signed_number b n) k)
+pub spelled-signed : (f : FormatData) (t : List ℕ) (b : Bool) (n k : ℕ) → (b ≡ true → 0 < n) → IsSigned f t b n k
+    → SpellsDecimal f t (fixed_point (signed_number b n) k)
 spelled-signed f t b n k some signed =
     let sign : List ℕ = if b then f.minus_sign else [] in
     let ds = digits (n / 10 ^ k) in
     let rest = decimals_of f n k in
-    let text = signed.text ∙ ap (λ xs. xs ++ rest) signed.amount.text ∙ append_assoc sign (grouped signed.amount.grouping f.separator ds) rest in
+    let text = signed.text ∙ ap (λ xs. xs ++ rest) signed.amount.text ∙ append_assoc sign
+    (grouped signed.amount.grouping f.separator ds) rest in
     elim signed.amount.either [
       | inl same ↦ with_separators (text ∙ ap (λ g. sign ++ (grouped g f.separator ds ++ rest)) same ∙ sym (signed-text f b n k some))
-      | inr same ↦ without_separators (text ∙ ap (λ g. sign ++ (grouped g f.separator ds ++ rest)) same ∙ sym (signed-text (ungrouped f) b n k some))
+      | inr same ↦ without_separators (text ∙ ap (λ g. sign ++ (grouped g f.separator ds ++ rest)) same
+          ∙ sym (signed-text (ungrouped f) b n k some))
     ]
 
 -- what stands before the mark of such a text
-pub amount-before : (f : FormatData) (whole decimals : List ℕ) (b : Bool) (n k : ℕ) → IsSigned f (whole ++ (mark_at f k ++ decimals)) b n k → k ≡ length decimals → IsAmount f whole b (n / 10 ^ k)
+pub amount-before : (f : FormatData) (whole decimals : List ℕ) (b : Bool) (n k : ℕ) → IsSigned f (whole ++ (mark_at f k ++ decimals)) b n k
+    → k ≡ length decimals → IsAmount f whole b (n / 10 ^ k)
 amount-before f whole decimals b n k signed long =
     let mark = mark_at f k in
     let ds = plain (last_digits k n) in
@@ -65,7 +82,16 @@ amount-before f whole decimals b n k signed long =
     sym (take_at whole (mark ++ decimals) (length whole) refl)
     ∙ ap (take (length whole)) signed.text
     ∙ take_at signed.whole (mark ++ ds) (length whole)
-    (omega (arith, ap length signed.text, length-append whole (mark ++ decimals), length-append signed.whole (mark ++ ds), length-append mark decimals, length-append mark ds, length-plain k n, long)) in
+    (omega (
+      arith,
+      ap length signed.text,
+      length-append whole (mark ++ decimals),
+      length-append signed.whole (mark ++ ds),
+      length-append mark decimals,
+      length-append mark ds,
+      length-plain k n,
+      long,
+    )) in
     subst (λ xs. IsAmount f xs b (n / 10 ^ k)) (sym same) signed.amount
 
 -- the last digits of a number
@@ -78,18 +104,21 @@ last_digits-below (suc k) n =
 -- digits as text are digits
 pub all-plain : (ds : List ℕ) → AreDigits ds → list_all is_ascii_digit (plain ds) ≡ true
 all-plain [] below = refl
-all-plain (d ∷ ds) below = and_from _ _ (is_ascii_digit-digit d (All-head (λ x. x < 10) d ds below)) (all-plain ds (All-tail (λ x. x < 10) d ds below))
+all-plain (d ∷ ds) below = and_from _ _ (is_ascii_digit-digit d (All-head (λ x. x < 10) d ds below))
+    (all-plain ds (All-tail (λ x. x < 10) d ds below))
 
 -- a number to which digits are appended
 number_after : (m : ℕ) (ds : List ℕ) → number_from_digits_after 10 m ds ≡ m * 10 ^ length ds + number_from_digits 10 ds
 number_after m [] = omega arith
-number_after m (d ∷ ds) = joined m d (10 ^ length ds) _ _ _ _ (number_after (m * 10 + d) ds) (number_after (0 * 10 + d) ds) (pow-suc 10 (length ds))
+number_after m (d ∷ ds) = joined m d (10 ^ length ds) _ _ _ _ (number_after (m * 10 + d) ds) (number_after (0 * 10 + d) ds)
+    (pow-suc 10 (length ds))
   where
     joined : (m d p q n a b : ℕ) → a ≡ (m * 10 + d) * p + n → b ≡ (0 * 10 + d) * p + n → q ≡ p * 10 → a ≡ m * q + b
     joined m d p q n a b first second power = rw power (omega (arith, first, second))
 
 -- the number that digits write to the end of another's
-pub number-joined : (xs ys : List ℕ) → number_from_digits 10 (xs ++ ys) ≡ number_from_digits 10 xs * 10 ^ length ys + number_from_digits 10 ys
+pub number-joined : (xs ys : List ℕ) → number_from_digits 10 (xs ++ ys)
+    ≡ number_from_digits 10 xs * 10 ^ length ys + number_from_digits 10 ys
 number-joined xs ys = number_after_append 10 0 xs ys ∙ number_after (number_from_digits 10 xs) ys
 
 -- a number's last digits after those before them write it
@@ -98,7 +127,8 @@ number-last_digits zero n = omega arith
 number-last_digits (suc k) n =
     let m = n / 10 ^ suc k in
     let less : m ≡ n / 10 / 10 ^ k = sym (div-div-eq-div-mul n 10 (10 ^ k) ∙ ap (λ d. n / d) (sym (pow-succ' 10 k))) in
-    let before : number_from_digits_after 10 m (last_digits k (n / 10)) ≡ n / 10 = ap (λ j. number_from_digits_after 10 j (last_digits k (n / 10))) less ∙ number-last_digits k (n / 10) in
+    let before : number_from_digits_after 10 m (last_digits k (n / 10)) ≡ n / 10 =
+    ap (λ j. number_from_digits_after 10 j (last_digits k (n / 10))) less ∙ number-last_digits k (n / 10) in
     number_after_append 10 m (last_digits k (n / 10)) (n % 10 ∷ [])
     ∙ ap (λ j. number_from_digits_after 10 j (n % 10 ∷ [])) before
     ∙ omega arith
@@ -115,7 +145,8 @@ last_digits-number ds below =
     let k = length ds in
     let n = number_from_digits 10 ds in
     let one : number_from_digits_after 10 1 ds ≡ 10 ^ k + n = omega (arith, number_after 1 ds) in
-    let printed = sym (digits-leading_one k n (number_lt 10 ds (recursion_from_All (λ d. d < 10) ds below))) ∙ ap digits (sym one) ∙ digits-after 1 ds (lit< tt) below ∙ ap (λ xs. xs ++ ds) (digits-small 1 (lit< tt)) in
+    let printed = sym (digits-leading_one k n (number_lt 10 ds (recursion_from_All (λ d. d < 10) ds below))) ∙ ap digits (sym one)
+    ∙ digits-after 1 ds (lit< tt) below ∙ ap (λ xs. xs ++ ds) (digits-small 1 (lit< tt)) in
     ap (drop 1) printed
 
 -- a text of digits after a number: they are the last digits of both together, and the number is the others
@@ -123,7 +154,8 @@ pub record EndsIn (xs : List ℕ) (m n : ℕ) : Type 0 where
   pub digits : xs ≡ plain (last_digits (length xs) n)
   pub whole : n / 10 ^ length xs ≡ m
 
-pub ends-read : (xs : List ℕ) (m n : ℕ) → list_all is_ascii_digit xs ≡ true → n ≡ m * 10 ^ length xs + number_from_digits 10 (byte_figures xs) → EndsIn xs m n
+pub ends-read : (xs : List ℕ) (m n : ℕ) → list_all is_ascii_digit xs ≡ true
+    → n ≡ m * 10 ^ length xs + number_from_digits 10 (byte_figures xs) → EndsIn xs m n
 ends-read xs m n all sum =
     let k = length xs in
     let ls = byte_figures xs in

@@ -8,7 +8,8 @@ use Rattle.num_format_int.specs.Kind.{signed_number}
 use Rattle.num_format_decimal.specs.FixedPoint.{FixedPoint, fixed_point}
 use Rattle.num_format_decimal.specs.Rounded.{dividend, sum_with_sign}
 use Rattle.num_format_decimal.specs.Values.{HasUnits, minus, plus, units_at}
-use Rattle.num_format_decimal.proofs.ScaleLemmas.{fits_high, fits_low, larger, own_units, raised, too_large, units_at_negated, units_at_signed}
+use Rattle.num_format_decimal.proofs.ScaleLemmas.{fits_high, fits_low, larger, own_units, raised, too_large, units_at_negated}
+use Rattle.num_format_decimal.proofs.ScaleLemmas.{units_at_signed}
 
 -- of numbers of one sign the absolute values are added, of others one is subtracted from the other
 pub same_signs : (b c : Bool) (x y : ℕ) → b ≡ c → signed_number b x +ℤ signed_number c y ≡ signed_number b (x + y)
@@ -42,10 +43,12 @@ exceeds_left true false m n large small fits = omega (arith, ints, fits_low _ fi
 exceeds_left true true m n large small fits = omega (arith, ints, fits_low _ fits, fits_high _ fits)
 
 exceeds_right : (b c : Bool) (m n : ℕ) → m ≤ 2 ^ 127 → 2 ^ 128 < n → ¬ (FitsSigned w128 (signed_number b m +ℤ signed_number c n))
-exceeds_right b c m n small large fits = exceeds_left c b n m large small (subst (FitsSigned w128) (+ℤ_comm (signed_number b m) (signed_number c n)) fits)
+exceeds_right b c m n small large fits = exceeds_left c b n m large small
+    (subst (FitsSigned w128) (+ℤ_comm (signed_number b m) (signed_number c n)) fits)
 
 -- no sum of decimals fits, where one of them takes more than 128 bits at the larger scale
-pub first_large : (a b : FixedPoint) (e : Bool) (s : ℕ) → s ≡ max a.scale b.scale → unsigned_abs a.units ≤ 2 ^ 127 → unsigned_abs b.units ≤ 2 ^ 127 →
+pub first_large : (a b : FixedPoint) (e : Bool) (s : ℕ) → s ≡ max a.scale b.scale → unsigned_abs a.units ≤ 2 ^ 127
+    → unsigned_abs b.units ≤ 2 ^ 127 →
     ¬ (dividend a s < 2 ^ 128) → ¬ (HasUnits (sum_with_sign a b e))
 first_large a b e s same within other wide =
     let scale = max a.scale b.scale in
@@ -54,7 +57,8 @@ first_large a b e s same within other wide =
     let own = own_units b scale (omega arith) in
     exceeds_left (is_negative a.units) e (dividend a scale) (dividend b scale) (larger a scale within large) (omega (arith, own))
 
-pub second_large : (a b : FixedPoint) (e : Bool) (s : ℕ) → s ≡ max a.scale b.scale → unsigned_abs a.units ≤ 2 ^ 127 → unsigned_abs b.units ≤ 2 ^ 127 →
+pub second_large : (a b : FixedPoint) (e : Bool) (s : ℕ) → s ≡ max a.scale b.scale → unsigned_abs a.units ≤ 2 ^ 127
+    → unsigned_abs b.units ≤ 2 ^ 127 →
     ¬ (dividend b s < 2 ^ 128) → ¬ (HasUnits (sum_with_sign a b e))
 second_large a b e s same within other wide =
     let scale = max a.scale b.scale in
@@ -64,7 +68,8 @@ second_large a b e s same within other wide =
     exceeds_right (is_negative a.units) e (dividend a scale) (dividend b scale) (omega (arith, own)) (larger b scale other large)
 
 -- the sum by signs and absolute values is the sum of the decimals
-sum_from : (a b : FixedPoint) (e c : Bool) (s x y : ℕ) → s ≡ max a.scale b.scale → c ≡ is_negative a.units → x ≡ dividend a s → y ≡ dividend b s →
+sum_from : (a b : FixedPoint) (e c : Bool) (s x y : ℕ) → s ≡ max a.scale b.scale → c ≡ is_negative a.units → x ≡ dividend a s
+    → y ≡ dividend b s →
     fixed_point (signed_number c x +ℤ signed_number e y) s ≡ sum_with_sign a b e
 sum_from a b e c s x y same sign first second =
     ap (λ d. fixed_point (signed_number d x +ℤ signed_number e y) s) sign
@@ -72,14 +77,17 @@ sum_from a b e c s x y same sign first second =
     ∙ ap (λ n. fixed_point (signed_number (is_negative a.units) (dividend a s) +ℤ signed_number e n) s) second
     ∙ ap (λ k. fixed_point (signed_number (is_negative a.units) (dividend a k) +ℤ signed_number e (dividend b k)) k) same
 
-pub sum_too_large : (a b : FixedPoint) (e c : Bool) (s x y : ℕ) → s ≡ max a.scale b.scale → c ≡ is_negative a.units → x ≡ dividend a s → y ≡ dividend b s →
+pub sum_too_large : (a b : FixedPoint) (e c : Bool) (s x y : ℕ) → s ≡ max a.scale b.scale → c ≡ is_negative a.units → x ≡ dividend a s
+    → y ≡ dividend b s →
     ¬ (FitsSigned w128 (signed_number c x +ℤ signed_number e y)) → ¬ (HasUnits (sum_with_sign a b e))
 sum_too_large a b e c s x y same sign first second large fits =
     large (subst (λ d. HasUnits d) (sym (sum_from a b e c s x y same sign first second)) fits)
 
-pub sum_found : (a b : FixedPoint) (e c f : Bool) (s x y m : ℕ) (r : Option FixedPoint) → s ≡ max a.scale b.scale → c ≡ is_negative a.units → x ≡ dividend a s → y ≡ dividend b s →
+pub sum_found : (a b : FixedPoint) (e c f : Bool) (s x y m : ℕ) (r : Option FixedPoint) → s ≡ max a.scale b.scale → c ≡ is_negative a.units
+    → x ≡ dividend a s → y ≡ dividend b s →
     signed_number f m ≡ signed_number c x +ℤ signed_number e y →
-    SomeIff r (HasUnits (fixed_point (signed_number f m) s)) (fixed_point (signed_number f m) s) → SomeIff r (HasUnits (sum_with_sign a b e)) (sum_with_sign a b e)
+    SomeIff r (HasUnits (fixed_point (signed_number f m) s)) (fixed_point (signed_number f m) s)
+    → SomeIff r (HasUnits (sum_with_sign a b e)) (sum_with_sign a b e)
 sum_found a b e c f s x y m r same sign first second sum found =
     subst (λ d. SomeIff r (HasUnits d) d) (ap (λ z. fixed_point z s) sum ∙ sum_from a b e c s x y same sign first second) found
 

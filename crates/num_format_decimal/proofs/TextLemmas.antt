@@ -1,5 +1,6 @@
 -- The length of a decimal's text, and its decimals.
-use Rattle.std.proofs.Common.{◌≡◌, ℕ, ◌+◌, ◌/◌, ◌%◌, ◌^◌, ◌<◌, ◌≤◌, true, List, [], ◌++◌, length, ap, ◌∙◌, sym, arith, Bool, inl, inr, length-append, unsigned_abs}
+use Rattle.std.proofs.Common.{◌≡◌, ℕ, ◌+◌, ◌/◌, ◌%◌, ◌^◌, ◌<◌, ◌≤◌, true, List, [], ◌++◌, length, ap, ◌∙◌, sym, arith, Bool, inl, inr}
+use Rattle.std.proofs.Common.{length-append, unsigned_abs}
 use Rattle.std.specs.Prelude.{nat_lt, if◌then◌else◌}
 use Rattle.std.specs.Int.{is_negative}
 use Rattle.std.proofs.Math.Nat.{mul-le-mul, div-eq_of_lt}
@@ -39,18 +40,23 @@ whole_digits n k small few =
     ]
 
 -- the mark, and so many decimals after it
-pub decimals-after : (f : FormatData) (k n : ℕ) (digits text : List ℕ) → 0 < k → digits ≡ plain (last_digits k n) → text ≡ f.decimal ++ digits → text ≡ decimals_of f n k
-decimals-after f k n digits text some first second = second ∙ ap (λ t. f.decimal ++ t) first ∙ ap (λ m. m ++ plain (last_digits k n)) (sym (mark-some f k some))
+pub decimals-after : (f : FormatData) (k n : ℕ) (digits text : List ℕ) → 0 < k → digits ≡ plain (last_digits k n)
+    → text ≡ f.decimal ++ digits → text ≡ decimals_of f n k
+decimals-after f k n digits text some first second = second ∙ ap (λ t. f.decimal ++ t) first
+    ∙ ap (λ m. m ++ plain (last_digits k n)) (sym (mark-some f k some))
 
 -- the decimals, and the digits before them
-pub unsigned_text-from : (f : FormatData) (decimals text : List ℕ) (n k q r : ℕ) → q ≡ n / 10 ^ k → r ≡ n % 10 ^ k → decimals ≡ decimals_of f r k → text ≡ body_of f q ++ decimals → text ≡ unsigned_text f n k
+pub unsigned_text-from : (f : FormatData) (decimals text : List ℕ) (n k q r : ℕ) → q ≡ n / 10 ^ k → r ≡ n % 10 ^ k
+    → decimals ≡ decimals_of f r k → text ≡ body_of f q ++ decimals → text ≡ unsigned_text f n k
 unsigned_text-from f decimals text n k q r quotient remainder first second =
     second
     ∙ ap (λ m. body_of f m ++ decimals) quotient
-    ∙ ap (λ t. body_of f (n / 10 ^ k) ++ t) (first ∙ ap (λ ds. mark_at f k ++ plain ds) (ap (last_digits k) remainder ∙ last_digits-mod k n))
+    ∙ ap (λ t. body_of f (n / 10 ^ k) ++ t) (first ∙ ap (λ ds. mark_at f k ++ plain ds) (ap (last_digits k) remainder
+    ∙ last_digits-mod k n))
 
 -- at most so many bytes
-pub unsigned_text-length : (f : FormatData) (n k : ℕ) → length f.separator ≤ 8 → length f.decimal ≤ 8 → n ≤ 2 ^ 127 → k ≤ 38 → length (unsigned_text f n k) + 8 ≤ 199
+pub unsigned_text-length : (f : FormatData) (n k : ℕ) → length f.separator ≤ 8 → length f.decimal ≤ 8 → n ≤ 2 ^ 127 → k ≤ 38
+    → length (unsigned_text f n k) + 8 ≤ 199
 unsigned_text-length f n k separator mark small few =
     let count = length (digits (n / 10 ^ k)) in
     let most : count + k ≤ 39 = whole_digits n k (omega arith) few in
@@ -64,7 +70,12 @@ unsigned_text-length f n k separator mark small few =
       of_either (λ t. length t ≤ 8) (omega arith) (nat_lt 0 k) f.decimal mark,
     )
 
-pub decimal_text-fits : (f : FormatData) (d : FixedPoint) → length f.separator ≤ 8 → length f.decimal ≤ 8 → length (if is_negative d.units then f.minus_sign else []) ≤ 8 → unsigned_abs d.units ≤ 2 ^ 127 → d.scale ≤ 38 →
+pub decimal_text-fits : (f : FormatData) (d : FixedPoint) → length f.separator ≤ 8 → length f.decimal ≤ 8
+    → length (if is_negative d.units then f.minus_sign else []) ≤ 8 → unsigned_abs d.units ≤ 2 ^ 127 → d.scale ≤ 38 →
     length (decimal_text f d) ≤ 199
 decimal_text-fits f d separator mark sign small few =
-    omega (arith, length-append (if is_negative d.units then f.minus_sign else []) (unsigned_text f (unsigned_abs d.units) d.scale), unsigned_text-length f (unsigned_abs d.units) d.scale separator mark small few)
+    omega (
+      arith,
+      length-append (if is_negative d.units then f.minus_sign else []) (unsigned_text f (unsigned_abs d.units) d.scale),
+      unsigned_text-length f (unsigned_abs d.units) d.scale separator mark small few,
+    )

@@ -21,8 +21,10 @@ OrderLaw = (a b : FixedPoint) → a.scale ≤ MAX_SCALE → b.scale ≤ MAX_SCAL
 
 -- no text of a decimal has more than `MAX_DECIMAL_LEN` bytes, and that of -2 ^ 127 at scale 1 can have as many
 pub record TextBoundLaw : Type 0 where
-  pub bound : (f : FormatData) (d : FixedPoint) → IsWithinCapacity f → d.scale ≤ MAX_SCALE → HasUnits d → length (decimal_text f d) ≤ MAX_DECIMAL_LEN
-  pub reached : (f : FormatData) → f.grouping ≡ Indian → length f.separator ≡ MAX_SEP_LEN → length f.minus_sign ≡ MAX_MIN_LEN → length f.decimal ≡ MAX_DEC_LEN →
+  pub bound : (f : FormatData) (d : FixedPoint) → IsWithinCapacity f → d.scale ≤ MAX_SCALE → HasUnits d
+      → length (decimal_text f d) ≤ MAX_DECIMAL_LEN
+  pub reached : (f : FormatData) → f.grouping ≡ Indian → length f.separator ≡ MAX_SEP_LEN → length f.minus_sign ≡ MAX_MIN_LEN
+      → length f.decimal ≡ MAX_DEC_LEN →
       length (decimal_text f (fixed_point (negsuc (2 ^ 127 - 1)) 1)) ≡ MAX_DECIMAL_LEN
 
 -- the number of times that n goes into m, rounded, is at most half from the exact one
@@ -44,8 +46,10 @@ english_marked mark = record (english_with Standard (codes ",") (codes "-")) { d
 -- under a mark that is the separator, or a digit, or empty, two decimals have one text
 pub record MarkNeededLaw : Type 0 where
   -- 1,234
-  pub separator : decimal_text (english_marked (codes ",")) (fixed_point (pos 1234) 0) ≡ decimal_text (english_marked (codes ",")) (fixed_point (pos 1234) 3)
+  pub separator : decimal_text (english_marked (codes ",")) (fixed_point (pos 1234) 0)
+      ≡ decimal_text (english_marked (codes ",")) (fixed_point (pos 1234) 3)
   -- 151
-  pub digit : decimal_text (english_marked (codes "5")) (fixed_point (pos 151) 0) ≡ decimal_text (english_marked (codes "5")) (fixed_point (pos 11) 1)
+  pub digit : decimal_text (english_marked (codes "5")) (fixed_point (pos 151) 0)
+      ≡ decimal_text (english_marked (codes "5")) (fixed_point (pos 11) 1)
   -- 12
   pub empty : decimal_text (english_marked []) (fixed_point (pos 12) 0) ≡ decimal_text (english_marked []) (fixed_point (pos 12) 1)

@@ -1,5 +1,6 @@
 -- A decimal at another scale, and a sum at the larger of two.
-use Rattle.std.specs.Prelude.{◌≡◌, ℕ, ◌+◌, ◌-◌, ◌*◌, ◌/◌, ◌%◌, ◌^◌, ◌<◌, ◌≤◌, ◌≢◌, nat_lt, nat_le, ◌==◌, ◌&&◌, ◌||◌, Bool, false, unsigned_abs, max, ◌+ℤ◌, if◌then◌else◌}
+use Rattle.std.specs.Prelude.{◌≡◌, ℕ, ◌+◌, ◌-◌, ◌*◌, ◌/◌, ◌%◌, ◌^◌, ◌<◌, ◌≤◌, ◌≢◌, nat_lt, nat_le, ◌==◌, ◌&&◌, ◌||◌, Bool, false}
+use Rattle.std.specs.Prelude.{unsigned_abs, max, ◌+ℤ◌, if◌then◌else◌}
 use Rattle.std.specs.Int.{is_negative}
 use Rattle.num_format_int.specs.Kind.{signed_number}
 use Rattle.num_format_decimal.specs.declared.rounding.Rounding.{Rounding}

@@ -79,7 +79,8 @@ impl DecimalBuffer {
     /// Writes the number in place of the buffer's text, and returns the length of the new text in bytes.
     ///
     /// The text is the format's minus sign if the units are negative, then the digits before the decimals, with the
-    /// format's separator between groups, and where the scale is above zero the format's decimal mark and as many digits.
+    /// format's separator between groups, and where the scale is above zero the format's decimal mark and as many
+    /// digits.
     ///
     /// ```rust
     /// let mut buffer = DecimalBuffer::new();
@@ -208,7 +209,8 @@ impl DecimalBuffer {
         self.put_mark(format);
     }
 
-    /// Prepends the last `count` digits of `n`, leading zeros included, two at a time. Returns `n` without these digits.
+    /// Prepends the last `count` digits of `n`, leading zeros included, two at a time. Returns `n` without these
+    /// digits.
     #[inline(always)]
     fn put_last_digits(&mut self, n: u64, count: u8) -> u64
         requires { count + length self.old ≤ MAX_DECIMAL_LEN }

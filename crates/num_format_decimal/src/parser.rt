@@ -1,11 +1,13 @@
 //! A parser of decimals under one format.
-ghost use Rattle.std.specs.Prelude.{◌≡◌, ◌↔◌, ◌++◌, ◌<◌, ◌≤◌, true, Err, IsTrue, IsUtf8, MatchOption, MatchResult, Ok, drop, length};
+ghost use Rattle.std.specs.Prelude.{◌≡◌, ◌↔◌, ◌++◌, ◌<◌, ◌≤◌, true, Err, IsTrue, IsUtf8, MatchOption, MatchResult, Ok};
+ghost use Rattle.std.specs.Prelude.{drop, length};
 ghost use Rattle.std.specs.Char.{is_ascii_digit};
 ghost use Rattle.std.specs.List.{list_all};
 ghost use Rattle.num_format_parsing.specs.Strict.{unexpected};
 ghost use Rattle.num_format_decimal.specs.FixedPoint.{FixedPoint};
 ghost use Rattle.num_format_decimal.specs.Marks.{IsMark, IsPlainFormat, MarksDecimals};
-ghost use Rattle.num_format_decimal.specs.Parsing.{AtScaleResult, DecimalResult, IsDecimalCause, SpellsDecimal, after_mark, unexpected_in_decimal};
+ghost use Rattle.num_format_decimal.specs.Parsing.{AtScaleResult, DecimalResult, IsDecimalCause, SpellsDecimal};
+ghost use Rattle.num_format_decimal.specs.Parsing.{after_mark, unexpected_in_decimal};
 ghost use Rattle.num_format_decimal.specs.Shapes.{HasAmount, HasReading, IsCut};
 ghost use Rattle.num_format_decimal.specs.Text.{mark_at};
 ghost use Rattle.num_format_decimal.specs.declared.decimal.TheConstants.{MAX_SCALE};
@@ -210,8 +212,8 @@ impl<'a, F: Format> DecimalParser<'a, F> {
 
     /// Returns the decimal that a text spells.
     ///
-    /// The digits at the end are its decimals if the mark stands before them. Where that spells no decimal, the mark may
-    /// be a part of the separator.
+    /// The digits at the end are its decimals if the mark stands before them. Where that spells no decimal, the mark
+    /// may be a part of the separator.
     #[inline(always)]
     fn read(&self, text: &[u8]) -> Result<Decimal, Fault>
         ensures { HasReading self.now text.now (λ scale. scale ≤ MAX_SCALE) result }

@@ -1,6 +1,8 @@
 //! Decimals at another scale.
-ghost use Rattle.std.specs.Prelude.{◌≡◌, ◌%◌, ◌^◌, ◌<◌, ◌≤◌, ◌↔◌, pos, unsigned_abs, IsTrue, IfOk, IfErr, OnOk, MatchOption, SomeIff};
-ghost use Rattle.num_format_decimal.specs.Rounded.{CanRescale, CannotRescale, LosesRemainder, dividend, quotient, rescaled, rounds_up};
+ghost use Rattle.std.specs.Prelude.{◌≡◌, ◌%◌, ◌^◌, ◌<◌, ◌≤◌, ◌↔◌, pos, unsigned_abs, IsTrue, IfOk, IfErr, OnOk};
+ghost use Rattle.std.specs.Prelude.{MatchOption, SomeIff};
+ghost use Rattle.num_format_decimal.specs.Rounded.{CanRescale, CannotRescale, LosesRemainder, dividend, quotient};
+ghost use Rattle.num_format_decimal.specs.Rounded.{rescaled, rounds_up};
 
 use crate::decimal::{Decimal, MAX_SCALE};
 use crate::error::DecimalError;

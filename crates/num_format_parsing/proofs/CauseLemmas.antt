@@ -1,5 +1,6 @@
 -- At most one cause holds of a text, and none of a text that spells a value.
-use Rattle.std.proofs.Common.{◌≡◌, ℕ, zero, suc, ◌≤◌, List, length, refl, ap, ◌∙◌, sym, arith, length-drop, subst, ℤ, pos, negsuc, unsigned_abs, Bool, true, false, inl, inr, Ok, Err}
+use Rattle.std.proofs.Common.{◌≡◌, ℕ, zero, suc, ◌≤◌, List, length, refl, ap, ◌∙◌, sym, arith, length-drop, subst, ℤ, pos, negsuc}
+use Rattle.std.proofs.Common.{unsigned_abs, Bool, true, false, inl, inr, Ok, Err}
 use Rattle.std.specs.Prelude.{Result, IsTrue, ◌≤ℤ◌}
 use Rattle.std.specs.Int.{is_negative}
 use Rattle.std.proofs.lemmas.Bool.{both_ways, cases_Bool}
@@ -25,16 +26,21 @@ stops-once : (f : FormatData) (t : List ℕ) (a b : ℕ) → StopsAt f t a → S
 stops-once f t a b p q = omega (arith, ap length (sym p.rest ∙ q.rest), length-drop a t, length-drop b t, p.inside, q.inside)
 
 -- a text that spells a number is refused for no cause but that it is out of range
-spelled_cause : (k : Kind) (f : FormatData) (t : List ℕ) (z : ℤ) (e : StrictError) → HasPlainSymbols f → SpellsNumber f t z → IsCause k f t e → (e ≡ OutOfRange) × ¬ (IsValueOf k z)
+spelled_cause : (k : Kind) (f : FormatData) (t : List ℕ) (z : ℤ) (e : StrictError) → HasPlainSymbols f → SpellsNumber f t z
+    → IsCause k f t e → (e ≡ OutOfRange) × ¬ (IsValueOf k z)
 spelled_cause k f t z AmbiguousFormat s spells p = absurd (p s.unambiguous)
 spelled_cause k f t z NotUtf8 s spells p = absurd (p.1 ((no_other-spelled f t z s spells).utf8))
-spelled_cause k f t z (Unexpected a) s spells p = absurd (stops-not f t a p.1 (record { utf8 = (no_other-spelled f t z s spells).utf8; rest = unexpected-none f t z s spells }))
-spelled_cause k f t z NoDigit s spells p = absurd (omega (arith, digits_given (unsigned_abs z), ap length (sym (figures-spelled f t z s spells) ∙ p.1.none)))
+spelled_cause k f t z (Unexpected a) s spells p =
+    absurd (stops-not f t a p.1 (record { utf8 = (no_other-spelled f t z s spells).utf8; rest = unexpected-none f t z s spells }))
+spelled_cause k f t z NoDigit s spells p =
+    absurd (omega (arith, digits_given (unsigned_abs z), ap length (sym (figures-spelled f t z s spells) ∙ p.1.none)))
 spelled_cause k f t z Misspelled s spells p = absurd (p.1.wrong z spells)
-spelled_cause k f t z OutOfRange s spells p = (refl, λ value. p.1.wrong (subst (IsValueOf k) (spelled-once f t z p.1.number s spells p.1.spelled) value))
+spelled_cause k f t z OutOfRange s spells p =
+    (refl, λ value. p.1.wrong (subst (IsValueOf k) (spelled-once f t z p.1.number s spells p.1.spelled) value))
 
 -- two causes of one refusal are the same
-pub only_cause : (k : Kind) (f : FormatData) (t : List ℕ) (d e : StrictError) → HasPlainSymbols f → IsCause k f t d → IsCause k f t e → d ≡ e
+pub only_cause : (k : Kind) (f : FormatData) (t : List ℕ) (d e : StrictError) → HasPlainSymbols f → IsCause k f t d → IsCause k f t e
+    → d ≡ e
 only_cause k f t AmbiguousFormat e s p q = absurd (p s.unambiguous)
 only_cause k f t OutOfRange e s p q = sym (spelled_cause k f t p.1.number e s p.1.spelled q).0
 only_cause k f t d AmbiguousFormat s p q = absurd (q s.unambiguous)
@@ -53,7 +59,8 @@ only_cause k f t Misspelled NoDigit s p q = absurd (p.1.some q.1.none)
 only_cause k f t Misspelled Misspelled s p q = refl
 
 -- what is judged is what strict parsing returns
-pub parses-judged : {X : Type 0} (k : Kind) (value : X → ℤ) (f : FormatData) (t : List ℕ) (r : Result X StrictError) → HasPlainSymbols f → IsJudged k value f t r → ParsesStrictly k value f t r
+pub parses-judged : {X : Type 0} (k : Kind) (value : X → ℤ) (f : FormatData) (t : List ℕ) (r : Result X StrictError) → HasPlainSymbols f
+    → IsJudged k value f t r → ParsesStrictly k value f t r
 parses-judged k value f t (Ok n) s judged = record {
   number = λ z. (λ spells. spelled-once f t z (value n) s spells judged.0, λ same. subst (SpellsNumber f t) (sym same) judged.0);
   accepted = (λ ok. (s.unambiguous, (value n, judged.0, judged.1)), λ given. refl);
@@ -62,11 +69,15 @@ parses-judged k value f t (Ok n) s judged = record {
 parses-judged k value f t (Err d) s judged = record {
   number = tt;
   accepted = (λ wrong. cc, λ given. absurd ((spelled_cause k f t given.1.0 d s given.1.1 judged).1 given.1.2));
-  refused = λ e. (λ same. let error : d ≡ e = cc in subst (IsCause k f t) error judged, λ cause. ap Err (only_cause k f t d e s judged cause));
+  refused = λ e. (
+    λ same. let error : d ≡ e = cc in subst (IsCause k f t) error judged,
+    λ cause. ap Err (only_cause k f t d e s judged cause),
+  );
 }
 
 -- only a kind that has negative values has one
-pub sign-kind : (k : Kind) (z : ℤ) → (k.has_negative ≡ false → pos 0 ≤ℤ k.low) → IsValueOf k z → is_negative z ≡ true → IsTrue k.has_negative
+pub sign-kind : (k : Kind) (z : ℤ) → (k.has_negative ≡ false → pos 0 ≤ℤ k.low) → IsValueOf k z → is_negative z ≡ true
+    → IsTrue k.has_negative
 sign-kind k (pos n) given value negative = absurd (both_ways _ (is_negative-pos n) negative)
 sign-kind k (negsuc n) given value negative =
     elim (cases_Bool k.has_negative) [
@@ -83,13 +94,15 @@ above_low n (pos m) h = absurd (omega (arith, ints))
 above_low n (negsuc m) h = omega (arith, ints)
 
 -- a number past the bound of a kind is no value
-pub past-bound : (bound : ℕ) (k : Kind) (negative : Bool) (n : ℕ) → IsWithin bound k → bound ≤ n → ¬ (IsValueOf k (signed_number negative n))
+pub past-bound : (bound : ℕ) (k : Kind) (negative : Bool) (n : ℕ) → IsWithin bound k → bound ≤ n
+    → ¬ (IsValueOf k (signed_number negative n))
 past-bound bound k false n within past value = omega (arith, below_high n k.high value.below, within.high, past)
 past-bound bound k true zero within past value = omega (arith, within.high, past)
 past-bound bound k true (suc n) within past value = omega (arith, above_low n k.low value.above, within.low, past)
 
 -- what is past the bound is too large
-pub reading-past : (bound : ℕ) (k : Kind) → IsWithin bound k → (g : Grouping) (s t : List ℕ) (r : Reading) → HasBody (λ n. bound ≤ n) g s t r →
+pub reading-past : (bound : ℕ) (k : Kind) → IsWithin bound k → (g : Grouping) (s t : List ℕ) (r : Reading)
+    → HasBody (λ n. bound ≤ n) g s t r →
     HasBody (λ n. (b : Bool) → ¬ (IsValueOf k (signed_number b n))) g s t r
 reading-past bound k within g s t (Number n) read = read
 reading-past bound k within g s t TooLarge read = (read.0, λ b. past-bound bound k b (number_in t) within read.1)

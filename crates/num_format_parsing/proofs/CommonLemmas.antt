@@ -17,13 +17,16 @@ use Rattle.num_format_parsing.proofs.FigureLemmas.{figures-none}
 use Rattle.num_format_parsing.proofs.ReadingLemmas.{ucd_category}
 
 -- a test that none of the characters passes, none of a text with only these characters passes
-pub fails_in : (p : ℕ → Bool) (characters text : List ℕ) → list_any p characters ≡ false → HasOnly characters text → list_any p (chars text) ≡ false
+pub fails_in : (p : ℕ → Bool) (characters text : List ℕ) → list_any p characters ≡ false → HasOnly characters text
+    → list_any p (chars text) ≡ false
 fails_in p characters text none only =
     list_any_none p (chars text)
-    (All-weaker (Contains characters) (λ c. p c ≡ false) (λ c at. false_from_ne_true _ (λ yes. both_ways _ none (list_any_at p characters at.0 c at.1 (ap p at.2 ∙ yes)))) (chars text) only)
+    (All-weaker (Contains characters) (λ c. p c ≡ false) (λ c at. false_from_ne_true _
+    (λ yes. both_ways _ none (list_any_at p characters at.0 c at.1 (ap p at.2 ∙ yes)))) (chars text) only)
 
 -- a text has no numeral, if none of the characters that it may have is a digit or another numeral
-has_no_numeral : (characters text : List ℕ) → list_any is_ascii_digit characters ≡ false → list_any is_other_numeral characters ≡ false → HasOnly characters text → HasNoNumeral text
+has_no_numeral : (characters text : List ℕ) → list_any is_ascii_digit characters ≡ false → list_any is_other_numeral characters ≡ false
+    → HasOnly characters text → HasNoNumeral text
 has_no_numeral characters text no_digit no_other only = record {
   no_digit = figures-none (chars text) (fails_in is_ascii_digit characters text no_digit only);
   no_other = fails_in is_other_numeral characters text no_other only;
@@ -44,5 +47,6 @@ unfolding ucd_category
 unambiguous_from_common f common = record {
   sign_given = common.sign_given;
   sign = has_no_numeral minus_sign_characters f.minus_sign refl refl common.sign;
-  separator = of_printed HasNoNumeral empty_plain f.grouping f.separator (has_no_numeral separator_characters f.separator refl refl common.separator);
+  separator = of_printed HasNoNumeral empty_plain f.grouping f.separator
+      (has_no_numeral separator_characters f.separator refl refl common.separator);
 }

@@ -1,5 +1,6 @@
 -- Laws of the digits among bytes.
-use Rattle.std.proofs.Common.{◌≡◌, ℕ, suc, ◌+◌, ◌-◌, ◌*◌, ◌/◌, ◌%◌, ◌<◌, ◌≤◌, ◌⊎◌, inl, inr, true, false, List, [], ◌∷◌, ◌++◌, length, refl, ap, ◌∙◌, sym, arith, drop, get_or, append_assoc, append-nil, lit<, IsUtf8}
+use Rattle.std.proofs.Common.{◌≡◌, ℕ, suc, ◌+◌, ◌-◌, ◌*◌, ◌/◌, ◌%◌, ◌<◌, ◌≤◌, ◌⊎◌, inl, inr, true, false, List, [], ◌∷◌, ◌++◌, length, refl}
+use Rattle.std.proofs.Common.{ap, ◌∙◌, sym, arith, drop, get_or, append_assoc, append-nil, lit<, IsUtf8}
 use Rattle.std.specs.Prelude.{filter, map, All, encode_utf8}
 use Rattle.std.specs.Char.{is_ascii_digit}
 use Rattle.std.specs.Int.Digits.{number_from_digits, number_from_digits_after}
@@ -78,11 +79,13 @@ filter-encodes (c ∷ cs) =
 -- in UTF-8 the digits among the bytes are those among the characters
 pub figures-bytes : (t : List ℕ) → IsUtf8 t → figures t ≡ byte_figures t
 figures-bytes t (cs, (scalars, same)) =
-    ap (map (λ c. c - 48)) (ap (filter is_ascii_digit) (ap chars (sym same) ∙ chars-encodes cs scalars) ∙ sym (filter-encodes cs) ∙ ap (filter is_ascii_digit) same)
+    ap (map (λ c. c - 48)) (ap (filter is_ascii_digit) (ap chars (sym same) ∙ chars-encodes cs scalars) ∙ sym (filter-encodes cs)
+    ∙ ap (filter is_ascii_digit) same)
 
 -- and they are as many
 pub figures-counted : (t : List ℕ) → IsUtf8 t → length (figures t) ≡ count_by is_ascii_digit t
-figures-counted t utf8 = ap length (figures-bytes t utf8) ∙ length-map (filter is_ascii_digit t) (λ b. b - 48) ∙ length-filter is_ascii_digit t
+figures-counted t utf8 = ap length (figures-bytes t utf8) ∙ length-map (filter is_ascii_digit t) (λ b. b - 48)
+    ∙ length-filter is_ascii_digit t
 
 -- numbers below ten after a number that is not zero are its further digits
 pub digits-after : (m : ℕ) (ds : List ℕ) → 0 < m → All (λ d. d < 10) ds → digits (number_from_digits_after 10 m ds) ≡ digits m ++ ds
@@ -115,14 +118,17 @@ writes t begin =
     let d = begin.digit in
     let rest = byte_figures begin.rest in
     let split : byte_figures t ≡ d ∷ rest = ap byte_figures begin.same ∙ digits_among-first d begin.rest begin.small in
-    let first : number_from_digits 10 (d ∷ rest) ≡ number_from_digits_after 10 d rest = ap (λ n. number_from_digits_after 10 n rest) (let e : 0 * 10 + d ≡ d = omega arith in e) in
+    let first : number_from_digits 10 (d ∷ rest) ≡ number_from_digits_after 10 d rest =
+    ap (λ n. number_from_digits_after 10 n rest) (let e : 0 * 10 + d ≡ d = omega arith in e) in
     rw split (record {
       some = omega (arith, first, number_after_ge 10 d rest (lit< tt), begin.some);
-      same = ap digits first ∙ digits-after d rest begin.some (figures-below begin.rest) ∙ ap (λ xs. xs ++ rest) (digits-small d begin.small);
+      same = ap digits first ∙ digits-after d rest begin.some (figures-below begin.rest)
+          ∙ ap (λ xs. xs ++ rest) (digits-small d begin.small);
     })
 
 -- the first digit that is not zero
-pub begins-at : (t : List ℕ) (i : ℕ) → i < length t → is_ascii_digit (get_or t i 0) ≡ true → ¬ (get_or t i 0 ≡ 48) → BeginsWithDigit (drop i t)
+pub begins-at : (t : List ℕ) (i : ℕ) → i < length t → is_ascii_digit (get_or t i 0) ≡ true → ¬ (get_or t i 0 ≡ 48)
+    → BeginsWithDigit (drop i t)
 begins-at t i inside digit other =
     let b = get_or t i 0 in
     let same = digit_char b digit in

@@ -29,7 +29,8 @@ module _ (g : Grouping) (s t : List ℕ) (count : ℕ) (begins : BeginsWithDigit
       let ds = byte_figures t in
       let is_due = separates sizes (length ds) in
       let printed = same ∙ grouped-by g sizes by s ds in
-      elim (groups-separated is_due sizes.last sizes.size s ds (only-by sizes by.shape (length ds)) (shape-bounds sizes by.shape).0 (figures-below t)) [
+      elim (groups-separated is_due sizes.last sizes.size s ds (only-by sizes by.shape (length ds)) (shape-bounds sizes by.shape).0
+      (figures-below t)) [
         | inl none ↦ not-plain t count begins (printed ∙ none)
         | inr there ↦ lacks (subst (IsInGroups sizes.last sizes.size s) (sym printed) there)
       ]
@@ -39,9 +40,11 @@ module _ (g : Grouping) (s t : List ℕ) (count : ℕ) (begins : BeginsWithDigit
   lacks-digits sizes by few = lacks-separator (grouped-few g sizes by s (byte_figures t) few)
 
 -- else they are, in those groups
-pub body-groups : (g : Grouping) (sizes : Sizes) → GroupsBy g sizes → (s t : List ℕ) → byte_figures s ≡ [] → IsInGroups sizes.last sizes.size s t → sizes.least ≤ length (byte_figures t) → IsBody g s t
+pub body-groups : (g : Grouping) (sizes : Sizes) → GroupsBy g sizes → (s t : List ℕ) → byte_figures s ≡ []
+    → IsInGroups sizes.last sizes.size s t → sizes.least ≤ length (byte_figures t) → IsBody g s t
 body-groups g sizes by s t none whole many =
     let ds = byte_figures t in
     let is_due = separates sizes (length ds) in
-    inl (separated-groups is_due sizes.last sizes.size s t (last_group-by sizes (length ds) many) (only-by sizes by.shape (length ds)).groups (shape-bounds sizes by.shape).0 none whole
+    inl (separated-groups is_due sizes.last sizes.size s t (last_group-by sizes (length ds) many)
+    (only-by sizes by.shape (length ds)).groups (shape-bounds sizes by.shape).0 none whole
     ∙ sym (grouped-by g sizes by s ds))

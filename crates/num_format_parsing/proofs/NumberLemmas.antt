@@ -1,5 +1,6 @@
 -- The number that digits write, whole and modulo a bound, and bytes of ASCII.
-use Rattle.std.proofs.Common.{◌≡◌, ℕ, zero, suc, ◌+◌, ◌-◌, ◌*◌, ◌^◌, ◌<◌, ◌≤◌, true, false, List, [], ◌∷◌, length, refl, ap, ◌∙◌, sym, arith, get_or, lit<, take, drop, ◌++◌, take-append-drop, append-nil}
+use Rattle.std.proofs.Common.{◌≡◌, ℕ, zero, suc, ◌+◌, ◌-◌, ◌*◌, ◌^◌, ◌<◌, ◌≤◌, true, false, List, [], ◌∷◌, length, refl, ap, ◌∙◌, sym}
+use Rattle.std.proofs.Common.{arith, get_or, lit<, take, drop, ◌++◌, take-append-drop, append-nil}
 use Rattle.std.specs.Char.{is_ascii, is_ascii_digit}
 use Rattle.std.specs.Int.Digits.{number_from_digits, number_from_digits_after, AllBelowBase}
 use Rattle.std.specs.List.{list_all, list_any}
@@ -45,8 +46,10 @@ pub number-after : (n : ℕ) (ds : List ℕ) → number_from_digits_after 10 n d
 number-after n [] = omega arith
 number-after n (d ∷ ds) =
     let power = 10 ^ length ds in
-    let tenfold : n * 10 ^ length (d ∷ ds) ≡ n * 10 * power = ap (λ p. n * p) (pow-suc 10 (length ds) ∙ mul_comm power 10) ∙ sym (mul_assoc n 10 power) in
-    let first : number_from_digits 10 (d ∷ ds) ≡ d * power + number_from_digits 10 ds = ap (λ k. number_from_digits_after 10 k ds) (let e : 0 * 10 + d ≡ d = omega arith in e) ∙ number-after d ds in
+    let tenfold : n * 10 ^ length (d ∷ ds) ≡ n * 10 * power = ap (λ p. n * p) (pow-suc 10 (length ds) ∙ mul_comm power 10)
+    ∙ sym (mul_assoc n 10 power) in
+    let first : number_from_digits 10 (d ∷ ds) ≡ d * power + number_from_digits 10 ds =
+    ap (λ k. number_from_digits_after 10 k ds) (let e : 0 * 10 + d ≡ d = omega arith in e) ∙ number-after d ds in
     omega (arith, number-after (n * 10 + d) ds, first, tenfold, add-mul (n * 10) d power)
 
 -- a text of one byte
@@ -62,18 +65,25 @@ number-few bound safe t few fits =
     omega (arith, number_lt 10 (byte_figures t) (below_base (byte_figures t) (figures-below t)), most, fits)
 
 -- the digits of the bytes before a place, one byte on
-pub figures-on-digit : (t : List ℕ) (i : ℕ) → i < length t → is_ascii_digit (get_or t i 0) ≡ true → byte_figures (take (i + 1) t) ≡ byte_figures (take i t) ++ (get_or t i 0 - 48) ∷ []
-figures-on-digit t i inside digit = ap byte_figures (take_more t i 0 inside) ∙ digits_among-append (take i t) (get_or t i 0 ∷ []) ∙ ap (λ ds. byte_figures (take i t) ++ ds) (figures-digit (get_or t i 0) [] digit)
+pub figures-on-digit : (t : List ℕ) (i : ℕ) → i < length t → is_ascii_digit (get_or t i 0) ≡ true
+    → byte_figures (take (i + 1) t) ≡ byte_figures (take i t) ++ (get_or t i 0 - 48) ∷ []
+figures-on-digit t i inside digit = ap byte_figures (take_more t i 0 inside) ∙ digits_among-append (take i t) (get_or t i 0 ∷ [])
+    ∙ ap (λ ds. byte_figures (take i t) ++ ds) (figures-digit (get_or t i 0) [] digit)
 
-pub figures-on-other : (t : List ℕ) (i : ℕ) → i < length t → is_ascii_digit (get_or t i 0) ≡ false → byte_figures (take (i + 1) t) ≡ byte_figures (take i t)
-figures-on-other t i inside other = ap byte_figures (take_more t i 0 inside) ∙ digits_among-append (take i t) (get_or t i 0 ∷ []) ∙ ap (λ ds. byte_figures (take i t) ++ ds) (figures-other (get_or t i 0) [] other) ∙ append-nil (byte_figures (take i t))
+pub figures-on-other : (t : List ℕ) (i : ℕ) → i < length t → is_ascii_digit (get_or t i 0) ≡ false
+    → byte_figures (take (i + 1) t) ≡ byte_figures (take i t)
+figures-on-other t i inside other = ap byte_figures (take_more t i 0 inside) ∙ digits_among-append (take i t) (get_or t i 0 ∷ [])
+    ∙ ap (λ ds. byte_figures (take i t) ++ ds) (figures-other (get_or t i 0) [] other) ∙ append-nil (byte_figures (take i t))
 
 -- and their number
-pub number-digit : (t : List ℕ) (i : ℕ) → i < length t → is_ascii_digit (get_or t i 0) ≡ true → number_in (take (i + 1) t) ≡ number_in (take i t) * 10 + (get_or t i 0 - 48)
-number-digit t i inside digit = ap (number_from_digits 10) (figures-on-digit t i inside digit) ∙ number_push 10 (byte_figures (take i t)) (get_or t i 0 - 48)
+pub number-digit : (t : List ℕ) (i : ℕ) → i < length t → is_ascii_digit (get_or t i 0) ≡ true
+    → number_in (take (i + 1) t) ≡ number_in (take i t) * 10 + (get_or t i 0 - 48)
+number-digit t i inside digit = ap (number_from_digits 10) (figures-on-digit t i inside digit)
+    ∙ number_push 10 (byte_figures (take i t)) (get_or t i 0 - 48)
 
 -- and at most that of all
 pub number-before : (t : List ℕ) (i : ℕ) → number_in (take i t) ≤ number_in t
 number-before t i =
-    let whole = ap number_in (sym (take-append-drop i t)) ∙ ap (number_from_digits 10) (digits_among-append (take i t) (drop i t)) ∙ number_after_append 10 0 (byte_figures (take i t)) (byte_figures (drop i t)) in
+    let whole = ap number_in (sym (take-append-drop i t)) ∙ ap (number_from_digits 10) (digits_among-append (take i t) (drop i t))
+    ∙ number_after_append 10 0 (byte_figures (take i t)) (byte_figures (drop i t)) in
     omega (arith, number_after_ge 10 (number_in (take i t)) (byte_figures (drop i t)) (lit< tt), whole)

@@ -22,8 +22,10 @@ fits-from_value (pos n) value = (Decides-ltb n (2 ^ 127)).1 (let below = value.b
 fits-from_value (negsuc n) value = (Decides-ltb n (2 ^ 127)).1 (let above = value.above in omega (arith, ints))
 
 pub value-from_fits : (z : ℤ) → fits_i128 z ≡ true → IsValueOf (signed 127 40) z
-value-from_fits (pos n) fits = let within = (Decides-ltb n (2 ^ 127)).0 fits in record { above = omega (arith, ints); below = omega (arith, ints); zero = λ _. refl }
-value-from_fits (negsuc n) fits = let within = (Decides-ltb n (2 ^ 127)).0 fits in record { above = omega (arith, ints); below = omega (arith, ints); zero = λ _. refl }
+value-from_fits (pos n) fits = let within = (Decides-ltb n (2 ^ 127)).0 fits
+    in record { above = omega (arith, ints); below = omega (arith, ints); zero = λ _. refl }
+value-from_fits (negsuc n) fits = let within = (Decides-ltb n (2 ^ 127)).0 fits
+    in record { above = omega (arith, ints); below = omega (arith, ints); zero = λ _. refl }
 
 module _ (format : FormatData) (text : List ℕ) where
   -- the test is the four conditions
@@ -31,12 +33,14 @@ module _ (format : FormatData) (text : List ℕ) where
       ((0 < length (figures text)) × ((not (list_any is_other_numeral (chars text)) ≡ true)
       × ((length (figures text) + (if is_negative_text format text then 1 else 0) ≤ 40) × (fits_i128 (denoted format text) ≡ true))))
   readable-Decides =
-      Decides-and _ _ (Decides-ltb 0 _) (Decides-and _ _ (λ yes. yes, λ yes. yes) (Decides-and _ _ (λ yes. leb-true _ _ yes, λ few. le-leb _ _ few) (λ yes. yes, λ yes. yes)))
+      Decides-and _ _ (Decides-ltb 0 _) (Decides-and _ _ (λ yes. yes, λ yes. yes)
+      (Decides-and _ _ (λ yes. leb-true _ _ yes, λ few. le-leb _ _ few) (λ yes. yes, λ yes. yes)))
 
   -- a text that is not refused passes the test
   pub readable-from_accepted : ¬ (Refused (signed 127 40) format text) → is_readable format text ≡ true
   readable-from_accepted accepted =
-      let few : 40 < length (figures text) + (if is_negative_text format text then 1 else 0) → ⊥ = λ many. accepted (Refused.too_many_figures many) in
+      let few : 40 < length (figures text) + (if is_negative_text format text then 1 else 0) → ⊥ =
+      λ many. accepted (Refused.too_many_figures many) in
       readable-Decides.1 (
         some_first _ (λ none. accepted (Refused.no_digit none)),
         (
@@ -50,14 +54,16 @@ module _ (format : FormatData) (text : List ℕ) where
 
   -- a text that is refused does not
   pub unreadable-from_refused : Refused (signed 127 40) format text → is_readable format text ≡ true → ⊥
-  unreadable-from_refused (Refused.no_digit none) readable = let some = (readable-Decides.0 readable).0 in absurd (omega (arith, ap length none))
+  unreadable-from_refused (Refused.no_digit none) readable = let some = (readable-Decides.0 readable).0
+      in absurd (omega (arith, ap length none))
   unreadable-from_refused (Refused.other_numeral some) readable = both_ways _ (not-true _ (readable-Decides.0 readable).1.0) some
   unreadable-from_refused (Refused.too_many_figures many) readable = let few = (readable-Decides.0 readable).1.1.0 in omega arith
   unreadable-from_refused (Refused.no_value none) readable =
       none (record { sign = λ _. refl; value = value-from_fits _ (readable-Decides.0 readable).1.1.1 })
 
   -- the definition is what `parse_formatted` returns
-  pub number_read_from_parse : (r : Result ℤ Error) → IfOk r (λ n. n ≡ denoted format text) → IfOk r (λ _. ¬ (Refused (signed 127 40) format text)) →
+  pub number_read_from_parse : (r : Result ℤ Error) → IfOk r (λ n. n ≡ denoted format text)
+      → IfOk r (λ _. ¬ (Refused (signed 127 40) format text)) →
       IfErr r (λ _. Refused (signed 127 40) format text) → IfErr r (λ e. refusal_of e ≡ ParseNumber (cut_text text)) →
       result_map_both (λ n. n) refusal_of r ≡ number_read format text
   number_read_from_parse (Ok n) number accepted refused error = rw (readable-from_accepted accepted) (ap Ok number)

@@ -1,5 +1,6 @@
 -- The texts that spell a number.
-use Rattle.std.proofs.Common.{◌≡◌, ℕ, zero, suc, ◌+◌, ◌-◌, ◌%◌, ◌<◌, ◌⊎◌, inl, inr, Bool, true, false, List, [], ◌∷◌, ◌++◌, length, refl, ap, ◌∙◌, sym, arith, take, drop, length-append, lit<, subst, ℤ, pos, negsuc, unsigned_abs, IsUtf8}
+use Rattle.std.proofs.Common.{◌≡◌, ℕ, zero, suc, ◌+◌, ◌-◌, ◌%◌, ◌<◌, ◌⊎◌, inl, inr, Bool, true, false, List, [], ◌∷◌, ◌++◌, length, refl}
+use Rattle.std.proofs.Common.{ap, ◌∙◌, sym, arith, take, drop, length-append, lit<, subst, ℤ, pos, negsuc, unsigned_abs, IsUtf8}
 use Rattle.std.specs.Prelude.{if◌then◌else◌, nat_eq}
 use Rattle.std.specs.Int.{is_negative}
 use Rattle.std.specs.Int.Digits.{number_from_digits}
@@ -22,7 +23,8 @@ use Rattle.num_format_int.specs.Grouped.{separated, grouped, stands, printed_sep
 use Rattle.num_format_int.specs.Groups.{plain}
 use Rattle.num_format_int.specs.Kind.{Kind, IsValueOf}
 use Rattle.num_format_int.specs.Text.{text_of, body_of}
-use Rattle.num_format_int.proofs.DigitLemmas.{AreDigits, by_digits, digits-below_ten, digits-more, digits-small, digits_given, number_from_digits-digits}
+use Rattle.num_format_int.proofs.DigitLemmas.{AreDigits, by_digits, digits-below_ten, digits-more, digits-small, digits_given}
+use Rattle.num_format_int.proofs.DigitLemmas.{number_from_digits-digits}
 use Rattle.num_format_int.proofs.GroupedLemmas.{grouped-Posix, grouped-printed, grouped-short, of_either}
 use Rattle.num_format_parsing.specs.Parts.{number_in, IsBody, HasBody, HasReading}
 use Rattle.num_format_parsing.specs.Reading.{figures, is_negative_text, is_other_numeral, signed_number}
@@ -37,7 +39,8 @@ use Rattle.num_format_parsing.proofs.ReadingLemmas.{digits_among-append, digits_
 use Rattle.num_format_parsing.proofs.UnreadLemmas.{begins-given, begins-at_digit, unread-separated}
 
 -- a text is its minus sign and what follows it
-pub sign-behind : (f : FormatData) (t : List ℕ) (negative : Bool) (start : ℕ) → HasSign f t negative start → t ≡ (if negative then f.minus_sign else []) ++ drop start t
+pub sign-behind : (f : FormatData) (t : List ℕ) (negative : Bool) (start : ℕ) → HasSign f t negative start
+    → t ≡ (if negative then f.minus_sign else []) ++ drop start t
 sign-behind f t negative start sign =
     rw (sign.tested, sign.long) (elim (cases_Bool (is_negative_text f t)) [
       | inl negative ↦ rw (negative) ((starts_is Decides-eqb t f.minus_sign (is_negative_text f t) refl).0 negative)
@@ -59,7 +62,8 @@ signed-abs false n = refl
 pub text-signed : (f : FormatData) (negative : Bool) (n : ℕ) (ds : List ℕ) → 0 < n → digits n ≡ ds →
     text_of f (signed_number negative n) ≡ (if negative then f.minus_sign else []) ++ grouped f.grouping f.separator ds
 text-signed f negative n ds some same =
-    ap (λ (b : Bool). (if b then f.minus_sign else []) ++ body_of f (unsigned_abs (signed_number negative n))) (signed-sign negative n (λ _. some))
+    ap (λ (b : Bool). (if b then f.minus_sign else []) ++ body_of f (unsigned_abs (signed_number negative n)))
+    (signed-sign negative n (λ _. some))
     ∙ ap (λ ds. (if negative then f.minus_sign else []) ++ grouped f.grouping f.separator ds) (ap digits (signed-abs negative n) ∙ same)
 
 -- one zero spells zero
@@ -97,15 +101,22 @@ text-spelled f t z (without_separators same) = record {
     body = grouped Posix f.separator (digits (unsigned_abs z));
     either = inr (grouped-Posix f.separator (digits (unsigned_abs z)));
     is_due = stands Posix (length (digits (unsigned_abs z)));
-    separated_same = grouped-Posix f.separator (digits (unsigned_abs z)) ∙ sym (grouped-Posix (printed_separator f.grouping f.separator) (digits (unsigned_abs z)));
+    separated_same = grouped-Posix f.separator (digits (unsigned_abs z))
+        ∙ sym (grouped-Posix (printed_separator f.grouping f.separator) (digits (unsigned_abs z)));
   };
   text = same;
 }
 
 -- a number's digits begin with one
-first-digit : (is_due : ℕ → Bool) (s ds : List ℕ) → AreDigits ds → 0 < length ds → (d : ℕ) × (rest : List ℕ) × (d < 10) × (separated is_due s ds ≡ (48 + d) ∷ rest)
+first-digit : (is_due : ℕ → Bool) (s ds : List ℕ) → AreDigits ds → 0 < length ds
+    → (d : ℕ) × (rest : List ℕ) × (d < 10) × (separated is_due s ds ≡ (48 + d) ∷ rest)
 first-digit is_due s [] below some = absurd (omega arith)
-first-digit is_due s (d ∷ ds) below some = (d, (if is_due (length ds) then s else []) ++ separated is_due s ds, All-head (λ x. x < 10) d ds below, refl)
+first-digit is_due s (d ∷ ds) below some = (
+  d,
+  (if is_due (length ds) then s else []) ++ separated is_due s ds,
+  All-head (λ x. x < 10) d ds below,
+  refl,
+)
 
 -- a text that spells a number begins with the minus sign exactly if the number is negative
 pub sign-told : (f : FormatData) (t : List ℕ) (z : ℤ) → HasPlainSymbols f → IsTextOf f t z → is_negative_text f t ≡ is_negative z
@@ -114,10 +125,13 @@ sign-told f t z symbols told =
     let of = told.of in
     elim (cases_Bool (is_negative z)) [
       | inl negative ↦
-          (starts_is Decides-eqb t f.minus_sign (is_negative_text f t) refl).1 of.body (told.text ∙ ap (λ (b : Bool). (if b then f.minus_sign else []) ++ of.body) negative) ∙ sym negative
+          (starts_is Decides-eqb t f.minus_sign (is_negative_text f t) refl).1 of.body (told.text
+          ∙ ap (λ (b : Bool). (if b then f.minus_sign else []) ++ of.body) negative) ∙ sym negative
       | inr positive ↦
-          let first = first-digit of.is_due (printed_separator f.grouping f.separator) ds (digits-below_ten (unsigned_abs z)) (digits_given (unsigned_abs z)) in
-          let same : t ≡ (48 + first.0) ∷ first.1 = told.text ∙ ap (λ (b : Bool). (if b then f.minus_sign else []) ++ of.body) positive ∙ of.separated_same ∙ first.3 in
+          let first = first-digit of.is_due (printed_separator f.grouping f.separator) ds (digits-below_ten (unsigned_abs z))
+          (digits_given (unsigned_abs z)) in
+          let same : t ≡ (48 + first.0) ∷ first.1 = told.text ∙ ap (λ (b : Bool). (if b then f.minus_sign else []) ++ of.body) positive
+          ∙ of.separated_same ∙ first.3 in
           ap (λ x. starts_with nat_eq x f.minus_sign) same ∙ sym (begins-given f.minus_sign ((48 + first.0) ∷ first.1) symbols.sign_some)
           ∙ begins-at_digit f.minus_sign first.1 (48 + first.0) symbols.sign (is_ascii_digit-digit first.0 first.2) ∙ sym positive
     ]
@@ -129,23 +143,27 @@ pub record TellsBody (f : FormatData) (t : List ℕ) (negative : Bool) (start : 
   pub body : drop start t ≡ of.body
   pub figures : byte_figures (drop start t) ≡ digits (unsigned_abs z)
 
-pub body-told : (f : FormatData) (t : List ℕ) (negative : Bool) (start : ℕ) (z : ℤ) → HasSign f t negative start → SpellsNumber f t z → TellsBody f t negative start z
+pub body-told : (f : FormatData) (t : List ℕ) (negative : Bool) (start : ℕ) (z : ℤ) → HasSign f t negative start → SpellsNumber f t z
+    → TellsBody f t negative start z
 body-told f t negative start z sign spells =
     let told = text-spelled f t z spells in
     let same : negative ≡ is_negative z = sign.tested ∙ sign-told f t z sign.symbols told in
     let text : t ≡ (if negative then f.minus_sign else []) ++ told.of.body = rw same told.text in
-    let body : drop start t ≡ told.of.body = append_cancel_left (if negative then f.minus_sign else []) _ _ (sym (sign-behind f t negative start sign) ∙ text) in
+    let body : drop start t ≡ told.of.body = append_cancel_left (if negative then f.minus_sign else []) _ _
+    (sym (sign-behind f t negative start sign) ∙ text) in
     record {
       sign = same;
       of = told.of;
       body = body;
       figures =
           ap byte_figures (body ∙ told.of.separated_same)
-          ∙ digits_among-separated told.of.is_due (printed_separator f.grouping f.separator) (digits (unsigned_abs z)) sign.symbols.separator (digits-below_ten (unsigned_abs z));
+          ∙ digits_among-separated told.of.is_due (printed_separator f.grouping f.separator)
+          (digits (unsigned_abs z)) sign.symbols.separator (digits-below_ten (unsigned_abs z));
     }
 
 -- digits after a sign spell a number, with the separators of the format or without any
-pub spells-body : (f : FormatData) (t s body : List ℕ) (g : Grouping) (negative : Bool) (start : ℕ) → body ≡ drop start t → HasSign f t negative start → s ≡ printed_separator f.grouping f.separator → g ≡ f.grouping →
+pub spells-body : (f : FormatData) (t s body : List ℕ) (g : Grouping) (negative : Bool) (start : ℕ) → body ≡ drop start t
+    → HasSign f t negative start → s ≡ printed_separator f.grouping f.separator → g ≡ f.grouping →
     BeginsWithDigit body → IsBody g s body → SpellsNumber f t (signed_number negative (number_in body))
 spells-body f t s body g negative start behind sign separator grouping begin either =
     let ds = byte_figures body in
@@ -154,29 +172,35 @@ spells-body f t s body g negative start behind sign separator grouping begin eit
     let write = writes body begin in
     elim either [
       | inl same ↦
-          let here : body ≡ grouped f.grouping f.separator ds = same ∙ ap (λ k. grouped k s ds) grouping ∙ ap (λ x. grouped f.grouping x ds) separator ∙ sym (grouped-printed f.grouping f.separator ds) in
+          let here : body ≡ grouped f.grouping f.separator ds = same ∙ ap (λ k. grouped k s ds) grouping
+          ∙ ap (λ x. grouped f.grouping x ds) separator ∙ sym (grouped-printed f.grouping f.separator ds) in
           with_separators (split ∙ ap (λ b. front ++ b) here ∙ sym (text-signed f negative (number_in body) ds write.some write.same))
       | inr same ↦
-          without_separators (split ∙ ap (λ b. front ++ b) (same ∙ sym (grouped-Posix f.separator ds)) ∙ sym (text-signed (ungrouped f) negative (number_in body) ds write.some write.same))
+          without_separators (split ∙ ap (λ b. front ++ b) (same ∙ sym (grouped-Posix f.separator ds))
+          ∙ sym (text-signed (ungrouped f) negative (number_in body) ds write.some write.same))
     ]
 
 -- and so do digits alone
-pub spells-digits : (f : FormatData) (t : List ℕ) (negative : Bool) (start n : ℕ) → HasSign f t negative start → BeginsWithDigit (take (length t - start) (drop start t)) → list_all is_ascii_digit (take (length t - start) (drop start t)) ≡ true →
+pub spells-digits : (f : FormatData) (t : List ℕ) (negative : Bool) (start n : ℕ) → HasSign f t negative start
+    → BeginsWithDigit (take (length t - start) (drop start t)) → list_all is_ascii_digit (take (length t - start) (drop start t)) ≡ true →
     n ≡ number_in (take (length t - start) (drop start t)) → SpellsNumber f t (signed_number negative n)
 spells-digits f t negative start n sign begin digits same =
     let body = take (length t - start) (drop start t) in
     subst (λ n. SpellsNumber f t (signed_number negative n)) (sym same)
-    (spells-body f t (printed_separator f.grouping f.separator) body f.grouping negative start (take_rest t start) sign refl refl begin (inr (plain-all body digits)))
+    (spells-body f t (printed_separator f.grouping f.separator) body f.grouping negative start (take_rest t start) sign refl refl begin
+    (inr (plain-all body digits)))
 
 -- and no other bytes there do
-pub body-spelled : (f : FormatData) (t s : List ℕ) (g : Grouping) (negative : Bool) (start : ℕ) (z : ℤ) → HasSign f t negative start → s ≡ printed_separator f.grouping f.separator → g ≡ f.grouping →
+pub body-spelled : (f : FormatData) (t s : List ℕ) (g : Grouping) (negative : Bool) (start : ℕ) (z : ℤ) → HasSign f t negative start
+    → s ≡ printed_separator f.grouping f.separator → g ≡ f.grouping →
     SpellsNumber f t z → IsBody g s (drop start t)
 body-spelled f t s g negative start z sign separator grouping spells =
     let told = body-told f t negative start z sign spells in
     let ds = byte_figures (drop start t) in
     elim told.of.either [
       | inl same ↦
-          inl (told.body ∙ same ∙ ap (grouped f.grouping f.separator) (sym told.figures) ∙ grouped-printed f.grouping f.separator ds ∙ ap (λ x. grouped f.grouping x ds) (sym separator)
+          inl (told.body ∙ same ∙ ap (grouped f.grouping f.separator) (sym told.figures) ∙ grouped-printed f.grouping f.separator ds
+          ∙ ap (λ x. grouped f.grouping x ds) (sym separator)
           ∙ ap (λ k. grouped k s ds) (sym grouping))
       | inr same ↦ inr (told.body ∙ same ∙ ap plain (sym told.figures))
     ]
@@ -189,7 +213,12 @@ sign-has f t symbols = record {
   long = refl;
   within =
       elim (cases_Bool (is_negative_text f t)) [
-        | inl negative ↦ rw negative (omega (arith, ap length ((starts_is Decides-eqb t f.minus_sign (is_negative_text f t) refl).0 negative), length-append f.minus_sign (drop (length f.minus_sign) t)))
+        | inl negative
+            ↦ rw negative (omega (
+              arith,
+              ap length ((starts_is Decides-eqb t f.minus_sign (is_negative_text f t) refl).0 negative),
+              length-append f.minus_sign (drop (length f.minus_sign) t),
+            ))
         | inr positive ↦ rw positive (omega arith)
       ];
 }
@@ -213,7 +242,8 @@ spelled-once f t y z symbols first second = sym (number y first) ∙ number z se
         ∙ signed_number-unsigned_abs x
 
 -- a text that does not begin with a digit other than zero spells no number, unless it is one zero
-pub unspelled-zero : (f : FormatData) (t : List ℕ) (negative : Bool) (start : ℕ) (z : ℤ) → HasSign f t negative start → ¬ (BeginsWithDigit (drop start t)) → ¬ (t ≡ 48 ∷ []) → ¬ (SpellsNumber f t z)
+pub unspelled-zero : (f : FormatData) (t : List ℕ) (negative : Bool) (start : ℕ) (z : ℤ) → HasSign f t negative start
+    → ¬ (BeginsWithDigit (drop start t)) → ¬ (t ≡ 48 ∷ []) → ¬ (SpellsNumber f t z)
 unspelled-zero f t negative start z sign other more spells =
     let told = body-told f t negative start z sign spells in
     let either : (unsigned_abs z ≡ 0) ⊎ (0 < unsigned_abs z) = grind arith in
@@ -223,7 +253,8 @@ unspelled-zero f t negative start z sign other more spells =
           let ds = first-some (unsigned_abs z) some in
           other (record {
             digit = ds.0;
-            rest = (if told.of.is_due (length ds.1) then printed_separator f.grouping f.separator else []) ++ separated told.of.is_due (printed_separator f.grouping f.separator) ds.1;
+            rest = (if told.of.is_due (length ds.1) then printed_separator f.grouping f.separator else [])
+                ++ separated told.of.is_due (printed_separator f.grouping f.separator) ds.1;
             some = ds.2;
             small = ds.3;
             same = told.body ∙ told.of.separated_same ∙ ap (separated told.of.is_due (printed_separator f.grouping f.separator)) ds.4;
@@ -243,16 +274,21 @@ unspelled-zero f t negative start z sign other more spells =
     zero_text (negsuc n) none spells = absurd (omega (arith, none))
 
 -- what is read of the digits after a sign is read of the text
-pub reading-body : (k : Kind) (f : FormatData) (t s body : List ℕ) (g : Grouping) (negative : Bool) (start : ℕ) → body ≡ drop start t → HasSign f t negative start → s ≡ printed_separator f.grouping f.separator → g ≡ f.grouping →
-    BeginsWithDigit body → (r : Reading) → HasBody (λ n. (b : Bool) → ¬ (IsValueOf k (signed_number b n))) g s body r → HasReading k f t negative r
+pub reading-body : (k : Kind) (f : FormatData) (t s body : List ℕ) (g : Grouping) (negative : Bool) (start : ℕ) → body ≡ drop start t
+    → HasSign f t negative start → s ≡ printed_separator f.grouping f.separator → g ≡ f.grouping →
+    BeginsWithDigit body → (r : Reading) → HasBody (λ n. (b : Bool) → ¬ (IsValueOf k (signed_number b n))) g s body r
+    → HasReading k f t negative r
 reading-body k f t s body g negative start behind sign separator grouping begin (Number n) read =
-    subst (λ m. SpellsNumber f t (signed_number negative m)) (sym read.1) (spells-body f t s body g negative start behind sign separator grouping begin read.0)
-reading-body k f t s body g negative start behind sign separator grouping begin TooLarge read = (number_in body, read.1 negative, spells-body f t s body g negative start behind sign separator grouping begin read.0)
+    subst (λ m. SpellsNumber f t (signed_number negative m)) (sym read.1)
+    (spells-body f t s body g negative start behind sign separator grouping begin read.0)
+reading-body k f t s body g negative start behind sign separator grouping begin TooLarge read =
+    (number_in body, read.1 negative, spells-body f t s body g negative start behind sign separator grouping begin read.0)
 reading-body k f t s body g negative start behind sign separator grouping begin Unspelled other =
     λ z spells. other (subst (IsBody g s) (sym behind) (body-spelled f t s g negative start z sign separator grouping spells))
 
 -- what holds of digits, of a separator, and of two texts one after the other holds of separated digits
-separated-all : (P : List ℕ → Type 0) → P [] → ((d : ℕ) → d < 10 → P ((48 + d) ∷ [])) → ((xs ys : List ℕ) → P xs → P ys → P (xs ++ ys)) → (is_due : ℕ → Bool) (s ds : List ℕ) → P s → AreDigits ds → P (separated is_due s ds)
+separated-all : (P : List ℕ → Type 0) → P [] → ((d : ℕ) → d < 10 → P ((48 + d) ∷ [])) → ((xs ys : List ℕ) → P xs → P ys → P (xs ++ ys))
+    → (is_due : ℕ → Bool) (s ds : List ℕ) → P s → AreDigits ds → P (separated is_due s ds)
 separated-all P none digit both is_due s [] given below = none
 separated-all P none digit both is_due s (d ∷ ds) given below =
     both ((48 + d) ∷ []) ((if is_due (length ds) then s else []) ++ separated is_due s ds) (digit d (All-head (λ x. x < 10) d ds below))
@@ -277,7 +313,8 @@ no_other-nil = record { utf8 = IsUtf8-nil; plain = ap (list_any is_other_numeral
 no_other-append : (xs ys : List ℕ) → HasNoOtherNumeral xs → HasNoOtherNumeral ys → HasNoOtherNumeral (xs ++ ys)
 no_other-append xs ys p q = record {
   utf8 = IsUtf8-append xs ys p.utf8 q.utf8;
-  plain = ap (list_any is_other_numeral) (chars-append xs ys p.utf8) ∙ list_any-append is_other_numeral (chars xs) (chars ys) ∙ rw (p.plain, q.plain) refl;
+  plain = ap (list_any is_other_numeral) (chars-append xs ys p.utf8) ∙ list_any-append is_other_numeral (chars xs) (chars ys)
+      ∙ rw (p.plain, q.plain) refl;
 }
 
 no_other-digit : (d : ℕ) → d < 10 → HasNoOtherNumeral ((48 + d) ∷ [])
@@ -289,11 +326,16 @@ no_other-spelled f t z symbols spells =
     let told = text-spelled f t z spells in
     let of = told.of in
     let front : List ℕ = if is_negative z then f.minus_sign else [] in
-    let separator : HasNoOtherNumeral (printed_separator f.grouping f.separator) = record { utf8 = symbols.separator_utf8; plain = symbols.unambiguous.separator.no_other } in
+    let separator : HasNoOtherNumeral (printed_separator f.grouping f.separator) =
+    record { utf8 = symbols.separator_utf8; plain = symbols.unambiguous.separator.no_other } in
     subst HasNoOtherNumeral (sym (told.text ∙ ap (λ b. front ++ b) of.separated_same))
     (no_other-append front (separated of.is_due (printed_separator f.grouping f.separator) (digits (unsigned_abs z)))
-    (of_either HasNoOtherNumeral no_other-nil (is_negative z) f.minus_sign (record { utf8 = symbols.sign_utf8; plain = symbols.unambiguous.sign.no_other }))
-    (separated-all HasNoOtherNumeral no_other-nil no_other-digit no_other-append of.is_due (printed_separator f.grouping f.separator) (digits (unsigned_abs z)) separator (digits-below_ten (unsigned_abs z))))
+    (of_either HasNoOtherNumeral no_other-nil (is_negative z) f.minus_sign (record {
+      utf8 = symbols.sign_utf8;
+      plain = symbols.unambiguous.sign.no_other;
+    }))
+    (separated-all HasNoOtherNumeral no_other-nil no_other-digit no_other-append of.is_due (printed_separator f.grouping f.separator)
+    (digits (unsigned_abs z)) separator (digits-below_ten (unsigned_abs z))))
 
 -- and its digits are those of the number
 pub figures-spelled : (f : FormatData) (t : List ℕ) (z : ℤ) → HasPlainSymbols f → SpellsNumber f t z → figures t ≡ digits (unsigned_abs z)
@@ -304,7 +346,8 @@ figures-spelled f t z symbols spells =
     figures-bytes t (no_other-spelled f t z symbols spells).utf8
     ∙ ap byte_figures (sign-behind f t (is_negative_text f t) (sign_len f t) sign)
     ∙ digits_among-append front (drop (sign_len f t) t)
-    ∙ ap (λ ds. ds ++ byte_figures (drop (sign_len f t) t)) (of_either (λ x. byte_figures x ≡ []) refl (is_negative_text f t) f.minus_sign symbols.sign)
+    ∙ ap (λ ds. ds ++ byte_figures (drop (sign_len f t) t)) (of_either (λ x. byte_figures x ≡ []) refl
+    (is_negative_text f t) f.minus_sign symbols.sign)
     ∙ told.figures
 
 -- and no unexpected byte
@@ -312,4 +355,5 @@ pub unexpected-none : (f : FormatData) (t : List ℕ) (z : ℤ) → HasPlainSymb
 unexpected-none f t z symbols spells =
     let told = body-told f t (is_negative_text f t) (sign_len f t) z (sign-has f t symbols) spells in
     let s = printed_separator f.grouping f.separator in
-    ap (unread s 0) (told.body ∙ told.of.separated_same) ∙ unread-separated told.of.is_due s (digits (unsigned_abs z)) symbols.separator (digits-below_ten (unsigned_abs z))
+    ap (unread s 0) (told.body ∙ told.of.separated_same) ∙ unread-separated told.of.is_due s (digits (unsigned_abs z)) symbols.separator
+    (digits-below_ten (unsigned_abs z))

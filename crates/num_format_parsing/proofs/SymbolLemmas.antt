@@ -1,5 +1,6 @@
 -- The symbols of a format that is not ambiguous.
-use Rattle.std.proofs.Common.{◌≡◌, ℕ, ◌<◌, inl, inr, Bool, true, false, not, get_or, List, [], ◌∷◌, length, refl, ap, ◌∙◌, sym, arith, IsUtf8}
+use Rattle.std.proofs.Common.{◌≡◌, ℕ, ◌<◌, inl, inr, Bool, true, false, not, get_or, List, [], ◌∷◌, length, refl, ap, ◌∙◌, sym, arith}
+use Rattle.std.proofs.Common.{IsUtf8}
 use Rattle.std.specs.Prelude.{◌↔◌, IsTrue}
 use Rattle.std.specs.Char.{is_ascii, is_ascii_digit}
 use Rattle.std.specs.List.{list_all, list_any}
@@ -23,23 +24,39 @@ pub some_digit : (t : List ℕ) → IsUtf8 t → list_any is_ascii_digit t ≡ t
 some_digit t utf8 some plain = figures-some t some (sym (figures-bytes t utf8) ∙ plain.no_digit)
 
 -- so the tests tell whether a text has a numeral
-pub decided : (t : List ℕ) (b : Bool) → IsUtf8 t → list_any is_ascii_digit t ≡ false → b ≡ list_any is_other_numeral (chars t) → IsTrue (not b) ↔ HasNoNumeral t
+pub decided : (t : List ℕ) (b : Bool) → IsUtf8 t → list_any is_ascii_digit t ≡ false → b ≡ list_any is_other_numeral (chars t)
+    → IsTrue (not b) ↔ HasNoNumeral t
 decided t true utf8 none same = (λ wrong. absurd (both_ways false refl wrong), λ plain. absurd (both_ways _ plain.no_other (sym same)))
 decided t false utf8 none same = (λ yes. no_numeral t utf8 none (sym same), λ plain. refl)
 
 -- a text of one byte of ASCII has one exactly if the byte is a digit
-pub decided-byte : (t : List ℕ) (b : Bool) → IsUtf8 t → length t ≡ 1 → list_all is_ascii t ≡ true → b ≡ is_ascii_digit (get_or t 0 0) → IsTrue (not b) ↔ HasNoNumeral t
+pub decided-byte : (t : List ℕ) (b : Bool) → IsUtf8 t → length t ≡ 1 → list_all is_ascii t ≡ true → b ≡ is_ascii_digit (get_or t 0 0)
+    → IsTrue (not b) ↔ HasNoNumeral t
 decided-byte t b utf8 one ascii same =
     let digits = ap (list_any is_ascii_digit) (one-byte t one) in
     elim (cases_Bool b) [
-      | inl digit ↦ (λ yes. absurd (both_ways _ (ap not digit) yes), λ plain. absurd (some_digit t utf8 (digits ∙ or_left _ false (sym same ∙ digit)) plain))
-      | inr none ↦ (λ yes. no_numeral t utf8 (digits ∙ or_from _ false (sym same ∙ none) refl) (no_other-bytes t ascii), λ plain. ap not none)
+      | inl digit
+          ↦ (
+            λ yes. absurd (both_ways _ (ap not digit) yes),
+            λ plain. absurd
+                (some_digit t utf8 (digits ∙ or_left _ false (sym same ∙ digit)) plain),
+          )
+      | inr none ↦ (
+        λ yes. no_numeral t utf8 (digits ∙ or_from _ false (sym same ∙ none) refl) (no_other-bytes t ascii),
+        λ plain. ap not none,
+      )
     ]
 
 -- symbols that many locales have, in UTF-8: narrow no-break space, no-break space, right single quotation mark, and minus sign
-pub common-symbols : HasNoNumeral (226 ∷ 128 ∷ 175 ∷ []) × HasNoNumeral (194 ∷ 160 ∷ []) × HasNoNumeral (226 ∷ 128 ∷ 153 ∷ []) × HasNoNumeral (226 ∷ 136 ∷ 146 ∷ [])
+pub common-symbols : HasNoNumeral (226 ∷ 128 ∷ 175 ∷ []) × HasNoNumeral (194 ∷ 160 ∷ []) × HasNoNumeral (226 ∷ 128 ∷ 153 ∷ [])
+    × HasNoNumeral (226 ∷ 136 ∷ 146 ∷ [])
 unfolding chars ucd_category
-common-symbols = (record { no_digit = refl; no_other = refl }, record { no_digit = refl; no_other = refl }, record { no_digit = refl; no_other = refl }, record { no_digit = refl; no_other = refl })
+common-symbols = (
+  record { no_digit = refl; no_other = refl },
+  record { no_digit = refl; no_other = refl },
+  record { no_digit = refl; no_other = refl },
+  record { no_digit = refl; no_other = refl },
+)
 
 -- a list that is not empty has an element
 pub some_first : (t : List ℕ) → ¬ (t ≡ []) → 0 < length t
@@ -47,7 +64,8 @@ some_first [] other = absurd (other refl)
 some_first (b ∷ t) other = omega arith
 
 -- the symbols as bytes
-pub plain-symbols : (f : FormatData) → IsUnambiguous f → IsUtf8 f.minus_sign → IsUtf8 (printed_separator f.grouping f.separator) → HasPlainSymbols f
+pub plain-symbols : (f : FormatData) → IsUnambiguous f → IsUtf8 f.minus_sign → IsUtf8 (printed_separator f.grouping f.separator)
+    → HasPlainSymbols f
 plain-symbols f plain sign printed = record {
   unambiguous = plain;
   sign_utf8 = sign;

@@ -1,5 +1,6 @@
 -- A text that spells a number denotes it, and is accepted.
-use Rattle.std.proofs.Common.{◌≡◌, ℕ, suc, ◌+◌, ◌^◌, ◌<◌, ◌≤◌, ◌⊎◌, inl, inr, Bool, true, false, List, length, refl, ap, ◌∙◌, sym, arith, subst, ℤ, pos, negsuc, unsigned_abs, Option, Some, None, IsUtf8}
+use Rattle.std.proofs.Common.{◌≡◌, ℕ, suc, ◌+◌, ◌^◌, ◌<◌, ◌≤◌, ◌⊎◌, inl, inr, Bool, true, false, List, length, refl, ap, ◌∙◌, sym, arith}
+use Rattle.std.proofs.Common.{subst, ℤ, pos, negsuc, unsigned_abs, Option, Some, None, IsUtf8}
 use Rattle.std.specs.Prelude.{if◌then◌else◌, ◌≤ℤ◌, MatchOption}
 use Rattle.std.specs.Int.{is_negative}
 use Rattle.std.specs.Int.Digits.{number_from_digits}
@@ -11,12 +12,14 @@ use Rattle.num_format_int.specs.Digits.{digits}
 use Rattle.num_format_int.specs.Kind.{Kind, IsSignedValueOf, IsValueOf, longest}
 use Rattle.num_format_int.proofs.DigitLemmas.{digits_given, length-digits-gt, length-digits-le, number_from_digits-digits}
 use Rattle.num_format_parsing.specs.Parts.{IsSpelling}
-use Rattle.num_format_parsing.specs.Reading.{denoted, figures, is_negative_text, is_other_numeral, magnitude_of, signed_number, Refused, no_digit, other_numeral, too_many_figures, no_value, ParsesBytes}
+use Rattle.num_format_parsing.specs.Reading.{denoted, figures, is_negative_text, is_other_numeral, magnitude_of, signed_number, Refused}
+use Rattle.num_format_parsing.specs.Reading.{no_digit, other_numeral, too_many_figures, no_value, ParsesBytes}
 use Rattle.num_format_parsing.specs.Shapes.{HasPlainSymbols}
 use Rattle.num_format_parsing.specs.Strict.{SpellsNumber}
 use Rattle.num_format_parsing.specs.declared.reading.Reading.TheVariants.{Number, TooLarge}
 use Rattle.num_format_parsing.proofs.CauseLemmas.{above_low, below_high, sign-kind}
-use Rattle.num_format_parsing.proofs.SpellingLemmas.{figures-spelled, is_negative-pos, no_other-spelled, sign-told, signed_number-unsigned_abs, text-spelled}
+use Rattle.num_format_parsing.proofs.SpellingLemmas.{figures-spelled, is_negative-pos, no_other-spelled, sign-told}
+use Rattle.num_format_parsing.proofs.SpellingLemmas.{signed_number-unsigned_abs, text-spelled}
 
 -- a text that tells z: its figures are the digits of z, no other numeral is among them, and it is negative exactly if z is
 pub record Tells (f : FormatData) (z : ℤ) (text : List ℕ) : Type 0 where
@@ -55,19 +58,24 @@ pub record AllowsLongest (k : Kind) : Type 0 where
   pub low : k.has_negative ≡ true → unsigned_abs k.high ≤ unsigned_abs k.low
   pub unsigned : k.has_negative ≡ false → pos 0 ≤ℤ k.low
 
-few_figures : (k : Kind) (z : ℤ) → AllowsLongest k → IsValueOf k z → length (digits (unsigned_abs z)) + (if is_negative z then 1 else 0) ≤ k.limit
+few_figures : (k : Kind) (z : ℤ) → AllowsLongest k → IsValueOf k z → length (digits (unsigned_abs z)) + (if is_negative z then 1 else 0)
+    ≤ k.limit
 few_figures k (pos n) allows value =
     let most = below_high n k.high value.below in
     rw (is_negative-pos n) (elim (cases_Bool k.has_negative) [
-      | inl signed ↦ (let limit : k.limit ≡ suc (length (digits (unsigned_abs k.low))) = rw signed at allows.limit in omega (arith, limit, allows.low signed, length-digits-mono n (unsigned_abs k.low) (omega (arith, most, allows.low signed))))
-      | inr unsigned ↦ (let limit : k.limit ≡ length (digits (unsigned_abs k.high)) = rw unsigned at allows.limit in omega (arith, limit, length-digits-mono n (unsigned_abs k.high) most))
+      | inl signed ↦ (let limit : k.limit ≡ suc (length (digits (unsigned_abs k.low))) = rw signed at allows.limit
+          in omega (arith, limit, allows.low signed, length-digits-mono n (unsigned_abs k.low) (omega (arith, most, allows.low signed))))
+      | inr unsigned ↦ (let limit : k.limit ≡ length (digits (unsigned_abs k.high)) = rw unsigned at allows.limit
+          in omega (arith, limit, length-digits-mono n (unsigned_abs k.high) most))
     ])
 few_figures k (negsuc n) allows value =
-    let limit : k.limit ≡ suc (length (digits (unsigned_abs k.low))) = rw (sign-kind k (negsuc n) allows.unsigned value refl) at allows.limit in
+    let limit : k.limit ≡ suc (length (digits (unsigned_abs k.low))) =
+    rw (sign-kind k (negsuc n) allows.unsigned value refl) at allows.limit in
     omega (arith, limit, length-digits-mono (suc n) (unsigned_abs k.low) (above_low n k.low value.above))
 
 -- and it is accepted, if z is a value
-pub tells-accepted : (k : Kind) (f : FormatData) (z : ℤ) (text : List ℕ) → AllowsLongest k → IsValueOf k z → Tells f z text → ¬ (Refused k f text)
+pub tells-accepted : (k : Kind) (f : FormatData) (z : ℤ) (text : List ℕ) → AllowsLongest k → IsValueOf k z → Tells f z text
+    → ¬ (Refused k f text)
 tells-accepted k f z text allows value tells refused =
     let long = ap length tells.figures in
     elim refused [
@@ -83,12 +91,16 @@ tells-accepted k f z text allows value tells refused =
     ]
 
 -- so a value made of the sign and the absolute value that a text spells is the number that it denotes
-pub denotes : {X : Type 0} (k : Kind) (value : X → ℤ) (f : FormatData) (t : List ℕ) (negative : Bool) (n : ℕ) (r : Option X) → AllowsLongest k → IsSpelling k f t negative (Number n) →
+pub denotes : {X : Type 0} (k : Kind) (value : X → ℤ) (f : FormatData) (t : List ℕ) (negative : Bool) (n : ℕ) (r : Option X)
+    → AllowsLongest k → IsSpelling k f t negative (Number n) →
     MatchOption r (¬ (IsSignedValueOf k negative n)) (λ x. IsSignedValueOf k negative n × (value x ≡ signed_number negative n)) →
     ParsesBytes k value f t r
 denotes k value f t negative n None allows (symbols, tested, spells) made =
     let same = tells-same f (signed_number negative n) t (tells-spelled f (signed_number negative n) t symbols spells) in
-    inr (no_value (λ signed. made (record { sign = λ minus. signed.sign (sym tested ∙ minus); value = subst (IsValueOf k) same signed.value })))
+    inr (no_value (λ signed. made (record {
+      sign = λ minus. signed.sign (sym tested ∙ minus);
+      value = subst (IsValueOf k) same signed.value;
+    })))
 denotes k value f t negative n (Some x) allows (symbols, tested, spells) made =
     let tells = tells-spelled f (signed_number negative n) t symbols spells in (
       (no_other-spelled f t (signed_number negative n) symbols spells).utf8,
@@ -97,7 +109,8 @@ denotes k value f t negative n (Some x) allows (symbols, tested, spells) made =
     )
 
 -- and a text that spells a number that is no value is refused
-pub refuses-large : (k : Kind) (f : FormatData) (t : List ℕ) (negative : Bool) → IsSpelling k f t negative TooLarge → (¬ (IsUtf8 t)) ⊎ Refused k f t
+pub refuses-large : (k : Kind) (f : FormatData) (t : List ℕ) (negative : Bool) → IsSpelling k f t negative TooLarge
+    → (¬ (IsUtf8 t)) ⊎ Refused k f t
 refuses-large k f t negative (symbols, tested, (n, wrong, spells)) =
     let same = tells-same f (signed_number negative n) t (tells-spelled f (signed_number negative n) t symbols spells) in
     inr (no_value (λ signed. wrong (subst (IsValueOf k) same signed.value)))

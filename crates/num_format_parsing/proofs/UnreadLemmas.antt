@@ -1,5 +1,6 @@
 -- What is left of a text after digits and separators.
-use Rattle.std.proofs.Common.{◌≡◌, ℕ, zero, suc, ◌+◌, ◌-◌, ◌<◌, ◌≤◌, inl, inr, Bool, true, false, List, [], ◌∷◌, ◌++◌, length, refl, ap, ◌∙◌, sym, arith, drop, get_or, length-append}
+use Rattle.std.proofs.Common.{◌≡◌, ℕ, zero, suc, ◌+◌, ◌-◌, ◌<◌, ◌≤◌, inl, inr, Bool, true, false, List, [], ◌∷◌, ◌++◌, length, refl, ap}
+use Rattle.std.proofs.Common.{◌∙◌, sym, arith, drop, get_or, length-append}
 use Rattle.std.specs.Prelude.{if◌then◌else◌, nat_eq, All}
 use Rattle.std.specs.Char.{is_ascii_digit}
 use Rattle.std.specs.List.{starts_with}
@@ -54,7 +55,8 @@ begins-append s t rest some same = begins-given s t some ∙ (starts_is Decides-
 -- as one of one byte, which is the first
 pub begins-one : (s t : List ℕ) → length s ≡ 1 → 0 < length t → get_or t 0 0 ≡ get_or s 0 0 → begins s t ≡ true
 begins-one s t one some same =
-    begins-append s t (drop 1 t) (omega (arith, one)) (drop_more t 0 0 some ∙ ap (λ b. b ∷ drop 1 t) same ∙ ap (λ x. x ++ drop 1 t) (sym (one-byte s one)))
+    begins-append s t (drop 1 t) (omega (arith, one)) (drop_more t 0 0 some ∙ ap (λ b. b ∷ drop 1 t) same
+    ∙ ap (λ x. x ++ drop 1 t) (sym (one-byte s one)))
 
 -- a text begins with a byte if its first is the same
 pub starts-one : (s t : List ℕ) → length s ≡ 1 → 0 < length t → nat_eq (get_or t 0 0) (get_or s 0 0) ≡ starts_with nat_eq t s
@@ -86,15 +88,18 @@ plain-first c s none =
 -- no such separator begins at a digit
 pub begins-at_digit : (s t : List ℕ) (b : ℕ) → byte_figures s ≡ [] → is_ascii_digit b ≡ true → begins s (b ∷ t) ≡ false
 begins-at_digit [] t b none digit = refl
-begins-at_digit (c ∷ s) t b none digit = begins-off (c ∷ s) (b ∷ t) (λ same. both_ways _ (plain-first c s none) (ap is_ascii_digit (sym same) ∙ digit))
+begins-at_digit (c ∷ s) t b none digit =
+    begins-off (c ∷ s) (b ∷ t) (λ same. both_ways _ (plain-first c s none) (ap is_ascii_digit (sym same) ∙ digit))
 
 unread-whole : (s t : List ℕ) → unread s 0 (s ++ t) ≡ unread s 0 t
 unread-whole [] t = refl
 unread-whole (c ∷ s) t =
-    unread-begins (c ∷ s) (c ∷ s ++ t) (begins-append (c ∷ s) (c ∷ s ++ t) t (omega arith) refl) ∙ ap (unread (c ∷ s) 0) (drop_at (c ∷ s) t (length (c ∷ s)) refl)
+    unread-begins (c ∷ s) (c ∷ s ++ t) (begins-append (c ∷ s) (c ∷ s ++ t) t (omega arith) refl)
+    ∙ ap (unread (c ∷ s) 0) (drop_at (c ∷ s) t (length (c ∷ s)) refl)
 
 -- digits with such a separator are read to their end
-pub unread-separated : (is_due : ℕ → Bool) (s ds : List ℕ) → byte_figures s ≡ [] → All (λ d. d < 10) ds → unread s 0 (separated is_due s ds) ≡ []
+pub unread-separated : (is_due : ℕ → Bool) (s ds : List ℕ) → byte_figures s ≡ [] → All (λ d. d < 10) ds
+    → unread s 0 (separated is_due s ds) ≡ []
 unread-separated is_due s [] none below = refl
 unread-separated is_due s (d ∷ ds) none below =
     let digit = is_ascii_digit-digit d (All-head (λ x. x < 10) d ds below) in

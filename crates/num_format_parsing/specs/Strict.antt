@@ -1,5 +1,6 @@
 -- What strict parsing returns, and when it refuses a text for which cause.
-use Rattle.std.specs.Prelude.{◌≡◌, ◌↔◌, ℕ, zero, suc, ◌-◌, ◌<◌, ℤ, nat_eq, Bool, false, List, [], ◌∷◌, length, drop, if◌then◌else◌, Result, Err, IsOk, IfOk, IsUtf8, codes}
+use Rattle.std.specs.Prelude.{◌≡◌, ◌↔◌, ℕ, zero, suc, ◌-◌, ◌<◌, ℤ, nat_eq, Bool, false, List, [], ◌∷◌, length, drop, if◌then◌else◌, Result}
+use Rattle.std.specs.Prelude.{Err, IsOk, IfOk, IsUtf8, codes}
 use Rattle.std.specs.Char.{is_ascii_digit}
 use Rattle.std.specs.List.{list_any, starts_with}
 use Rattle.std.specs.Str.{chars}
@@ -92,9 +93,10 @@ IsCause k f t NoDigit = IsUnambiguous f × LacksDigit f t
 IsCause k f t Misspelled = IsUnambiguous f × IsMisspelled f t
 IsCause k f t OutOfRange = IsUnambiguous f × IsOutOfRange k f t
 
--- what strict parsing returns of a text as a number of a kind: the one number that the text spells, if the format is not ambiguous and the number is
--- a value of the kind, and else an error exactly if it is the cause
-pub record ParsesStrictly {X : Type 0} (k : Kind) (value : X → ℤ) (f : FormatData) (t : List ℕ) (result : Result X StrictError) : Type 0 where
+-- what strict parsing returns of a text as a number of a kind: the one number that the text spells, if the format is not ambiguous and the
+-- number is a value of the kind, and else an error exactly if it is the cause
+pub record ParsesStrictly {X : Type 0} (k : Kind) (value : X → ℤ) (f : FormatData) (t : List ℕ)
+    (result : Result X StrictError) : Type 0 where
   pub number : IfOk result (λ n. (z : ℤ) → SpellsNumber f t z ↔ (z ≡ value n))
   pub accepted : IsOk result ↔ (IsUnambiguous f × ((z : ℤ) × SpellsNumber f t z × IsValueOf k z))
   pub refused : (e : StrictError) → (result ≡ Err e) ↔ IsCause k f t e

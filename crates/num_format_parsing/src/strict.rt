@@ -50,6 +50,18 @@ impl<'a, F: Format> Model for StrictParser<'a, F> {
         × IsUnambiguous (F.answers p.format.now) };
 }
 
+/// Returns the separator of a format of that grouping, or nothing where the grouping prints none.
+#[inline(always)]
+fn printed_separator<F: Format>(format: &F, grouping: Grouping) -> &str
+    requires { grouping ≡ (F.answers format.now).grouping }
+    ensures { result.now ≡ printed_separator grouping (F.answers format.now).separator }
+{
+    match grouping {
+        Grouping::Posix => "",
+        _ => format.separator().into_str(),
+    }
+}
+
 /// Returns whether no text can be misread under a format with these symbols.
 #[inline(always)]
 fn is_unambiguous<F: Format>(format: &F, minus_sign: &str, separator: &str) -> bool
@@ -159,10 +171,7 @@ impl<'a, F: Format> StrictParser<'a, F> {
             (λ e. (e ≡ cause.AmbiguousFormat) × ¬ (IsUnambiguous (F.answers format.now))) }
     {
         let grouping = format.grouping();
-        let separator = match grouping {
-            Grouping::Posix => "",
-            _ => format.separator().into_str(),
-        };
+        let separator = printed_separator(format, grouping);
         if !is_unambiguous(format, minus_sign, separator) {
             return Err(StrictError::AmbiguousFormat);
         }
@@ -172,6 +181,21 @@ impl<'a, F: Format> StrictParser<'a, F> {
             separator,
             grouping,
         })
+    }
+
+    /// Returns a parser of texts under a format that is not ambiguous, as the caller knows.
+    #[inline(always)]
+    pub fn unambiguous(format: &'a F) -> StrictParser<'a, F>
+        requires { IsUnambiguous (F.answers format.now) }
+        ensures { result ≡ F.answers format.now }
+    {
+        let grouping = format.grouping();
+        StrictParser {
+            format,
+            minus_sign: format.minus_sign().into_str(),
+            separator: printed_separator(format, grouping),
+            grouping,
+        }
     }
 
     /// Returns the number that the text spells, or the first cause for which it is refused.
@@ -244,6 +268,14 @@ impl<'a, F: Format> StrictParser<'a, F> {
         ensures same { result.now ≡ printed_separator self.now.grouping self.now.separator }
     {
         self.separator
+    }
+
+    /// Returns the minus sign.
+    #[inline(always)]
+    pub fn minus_sign(&self) -> &'a str
+        ensures { result.now ≡ self.now.minus_sign }
+    {
+        self.minus_sign
     }
 
     /// Returns the grouping of the format.

@@ -8,7 +8,8 @@ use Rattle.num_format_decimal.proofs.reading.trailing_digits.Goals as goal
 pub returns-then-not-is_ascii_digit-clause-value : goal.returns-then-not-is_ascii_digit-clause-value
 returns-then-not-is_ascii_digit-clause-value c =
     let l = c.loop-start in
-    tail_found c.args.text.now l.start (omega (arith, c.loop-start-test.true)) l.invariant.within l.invariant.digits (sym c.is_ascii_digit.ensures.value ∙ c.if-not-is_ascii_digit.true)
+    tail_found c.args.text.now l.start (omega (arith, c.loop-start-test.true)) l.invariant.within l.invariant.digits
+    (sym c.is_ascii_digit.ensures.value ∙ c.if-not-is_ascii_digit.true)
 
 pub returns-clause-value : goal.returns-clause-value
 returns-clause-value c =

@@ -6,4 +6,8 @@ use Rattle.num_format_decimal.proofs.reading.whole_number.Goals as goal
 pub returns : goal.returns
 returns c =
     let some : 0 < length c.args.text.now = grind (arith, nat_tests, c.is_empty.ensures, c.if-is_empty.false) in
-    whole_read c.args.text.now c.read_digits.result some (elim c.else-text-eq48.either [ inl both ↦ inr both.1 | inr other ↦ inl other ]) c.read_digits.ensures
+    whole_read c.args.text.now c.read_digits.result some (elim c.else-text-eq48.either [
+      | inl both ↦ inr both.1
+      | inr other
+          ↦ inl other
+    ]) c.read_digits.ensures

@@ -27,7 +27,9 @@ loop-figures-preserved g c =
           })
       | else-is_ascii_digit w ↦
           rw w.number-is (record {
-            number = l.invariant.number ∙ ap (number_from_digits 10) (sym (figures-on-other t l.figures c.loop-figures-test.true (sym c.is_ascii_digit.ensures.value ∙ w.if-is_ascii_digit.false)));
+            number = l.invariant.number
+                ∙ ap (number_from_digits 10) (sym (figures-on-other t l.figures c.loop-figures-test.true (sym c.is_ascii_digit.ensures.value
+                ∙ w.if-is_ascii_digit.false)));
             below = omega (arith, l.invariant.below, tenfold l.figures);
           })
     ]

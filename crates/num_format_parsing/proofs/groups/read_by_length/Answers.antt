@@ -9,5 +9,7 @@ returns c =
     let a = c.args in
     let r = c.requires in
     let read = c.in_ok-whole.ensures in
-    let few = ((count-figures 3 a.size a.separator.now a.text.now r.separator r.plain r.size.0 (omega arith) read.0).1 (omega arith) r.size.1).0 r.long.1 in
+    let few =
+    ((count-figures 3 a.size a.separator.now a.text.now r.separator r.plain r.size.0 (omega arith) read.0).1 (omega arith) r.size.1).0
+    r.long.1 in
     (read.0, read.1.number ∙ mod-eq_of_lt (number-few (2 ^ 64) 19 a.text.now few (omega arith)))

@@ -10,7 +10,8 @@ returns-then-is_empty-clause-none g c = λ zero.
     let a = c.args in
     let empty = sym c.is_empty.ensures ∙ c.if-is_empty.true in
     let none : length a.separator.now ≡ 0 = grind (arith, nat_tests, empty) in
-    lacks-separator a.grouping a.separator.now a.text.now a.first.figures c.requires.begin (grouped-empty a.grouping a.separator.now (byte_figures a.text.now) none)
+    lacks-separator a.grouping a.separator.now a.text.now a.first.figures c.requires.begin
+    (grouped-empty a.grouping a.separator.now (byte_figures a.text.now) none)
 
 pub read_by_sizes-requires-clause-size : goal.read_by_sizes-requires-clause-size
 read_by_sizes-requires-clause-size g c = shape-bounds c.in-Some.sizes c.in-Some.ensures.shape
@@ -18,18 +19,21 @@ read_by_sizes-requires-clause-size g c = shape-bounds c.in-Some.sizes c.in-Some.
 pub returns-in_default-clause-none : goal.returns-in_default-clause-none
 returns-in_default-clause-none g c = λ zero.
     let a = c.args in
-    lacks-separator a.grouping a.separator.now a.text.now a.first.figures c.requires.begin (grouped-none a.grouping c.in_default.ensures a.separator.now (byte_figures a.text.now))
+    lacks-separator a.grouping a.separator.now a.text.now a.first.figures c.requires.begin
+    (grouped-none a.grouping c.in_default.ensures a.separator.now (byte_figures a.text.now))
 
 pub returns-in_default-read_by_sizes-clause-none :
     goal.returns-in_default-read_by_sizes-clause-none
 returns-in_default-read_by_sizes-clause-none g c = λ zero.
     let a = c.args in
-    lacks-groups a.grouping a.separator.now a.text.now a.first.figures c.requires.begin c.in-Some.sizes c.in-Some.ensures c.in_default-read_by_sizes.ensures
+    lacks-groups a.grouping a.separator.now a.text.now a.first.figures c.requires.begin c.in-Some.sizes c.in-Some.ensures
+    c.in_default-read_by_sizes.ensures
 
 pub returns-then-whole-sizes-clause-none : goal.returns-then-whole-sizes-clause-none
 returns-then-whole-sizes-clause-none g c = λ zero.
     let a = c.args in
-    let few : length (byte_figures a.text.now) < c.in-Some.sizes.least = omega (arith, c.in-Some-read_by_sizes.ensures.1.figures, c.if-whole-sizes.true) in
+    let few : length (byte_figures a.text.now) < c.in-Some.sizes.least =
+    omega (arith, c.in-Some-read_by_sizes.ensures.1.figures, c.if-whole-sizes.true) in
     lacks-digits a.grouping a.separator.now a.text.now a.first.figures c.requires.begin c.in-Some.sizes c.in-Some.ensures few
 
 pub returns-clause-some : goal.returns-clause-some

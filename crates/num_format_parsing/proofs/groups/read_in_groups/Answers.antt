@@ -20,10 +20,17 @@ returns c = IfSome_then c.read_by_byte.result c.read_by_byte.ensures (λ n read 
     let by = c.in_ok-sizes.ensures in
     let plain = ap byte_figures c.as_bytes-separator.ensures.value ∙ c.requires.plain in
     let bounds = shape-bounds sizes by.shape in
-    let many = (count-figures sizes.last sizes.size s body c.if-separator-ne1.false plain bounds.0 (let shape = by.shape in grind arith) read.0).0 sizes.least by.few (omega (arith, c.if-body-sizes.false, ap length (take_rest t start), length-drop start t)) in
+    let many = (count-figures sizes.last sizes.size s body c.if-separator-ne1.false plain bounds.0 (let shape = by.shape
+    in grind arith) read.0).0 sizes.least by.few (omega (
+      arith,
+      c.if-body-sizes.false,
+      ap length (take_rest t start),
+      length-drop start t,
+    )) in
     let grouped = body-groups a.grouping sizes by s body plain read.0 many in
     subst (λ n. SpellsNumber f t (signed_number a.sign.is_negative n)) (sym read.1)
-    (spells-body f t s body a.grouping a.sign.is_negative start (take_rest t start) sign (c.as_bytes-separator.ensures.value ∙ separator) grouping (c.begins_with_digit.ensures.0 c.if-not-begins_with_digit.false) grouped))
+    (spells-body f t s body a.grouping a.sign.is_negative start (take_rest t start) sign (c.as_bytes-separator.ensures.value
+    ∙ separator) grouping (c.begins_with_digit.ensures.0 c.if-not-begins_with_digit.false) grouped))
 
 pub returns-then-separator-ne1 : goal.returns-then-separator-ne1
 returns-then-separator-ne1 c = IfSome_then c.read_by_bytes.result c.read_by_bytes.ensures (λ n read f sign separator grouping.
@@ -35,4 +42,5 @@ returns-then-separator-ne1 c = IfSome_then c.read_by_bytes.result c.read_by_byte
     let plain = ap byte_figures c.as_bytes-separator.ensures.value ∙ c.requires.plain in
     let grouped = body-groups a.grouping c.in_ok-sizes.sizes c.in_ok-sizes.ensures s body plain read.1 read.3 in
     subst (λ n. SpellsNumber f t (signed_number a.sign.is_negative n)) (sym read.2)
-    (spells-body f t s body a.grouping a.sign.is_negative start (take_rest t start) sign (c.as_bytes-separator.ensures.value ∙ separator) grouping read.0 grouped))
+    (spells-body f t s body a.grouping a.sign.is_negative start (take_rest t start) sign (c.as_bytes-separator.ensures.value
+    ∙ separator) grouping read.0 grouped))

@@ -3,7 +3,8 @@ use Rattle.std.specs.Prelude.{if◌then◌else◌}
 use Rattle.std.specs.List.{starts_with}
 use Rattle.num_format_text.specs.Format.{FormatData}
 use Rattle.num_format_int.specs.Kind.{Kind}
-use Rattle.num_format_parsing.specs.Reading.{figures, is_negative_text, magnitude_of, signed_number, IsSignedValueOf, Refused, no_digit, other_numeral, too_many_figures, no_value}
+use Rattle.num_format_parsing.specs.Reading.{figures, is_negative_text, magnitude_of, signed_number, IsSignedValueOf, Refused, no_digit}
+use Rattle.num_format_parsing.specs.Reading.{other_numeral, too_many_figures, no_value}
 use Rattle.num_format_parsing.proofs.laws.minus_sign_decides.Goals as goal
 
 -- formats with one minus sign find the same texts negative

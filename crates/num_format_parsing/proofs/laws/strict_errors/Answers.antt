@@ -27,8 +27,10 @@ abbrev told_by : HashWrites → StrictError
 told_by writes = variant (first_byte writes) (second_write writes)
 
 -- what a hasher is given for an error tells it, if it tells the error at each place
-hashed : (input : StrictError → HashWrites) → told_by (input AmbiguousFormat) ≡ AmbiguousFormat → told_by (input NotUtf8) ≡ NotUtf8 → ((at : ℕ) → at < 2 ^ 64 → told_by (input (Unexpected at)) ≡ Unexpected at) →
-    told_by (input NoDigit) ≡ NoDigit → told_by (input Misspelled) ≡ Misspelled → told_by (input OutOfRange) ≡ OutOfRange → StrictErrorHashLaw input
+hashed : (input : StrictError → HashWrites) → told_by (input AmbiguousFormat) ≡ AmbiguousFormat → told_by (input NotUtf8) ≡ NotUtf8
+    → ((at : ℕ) → at < 2 ^ 64 → told_by (input (Unexpected at)) ≡ Unexpected at) →
+    told_by (input NoDigit) ≡ NoDigit → told_by (input Misspelled) ≡ Misspelled → told_by (input OutOfRange) ≡ OutOfRange
+    → StrictErrorHashLaw input
 hashed input ambiguous not_utf8 unexpected no_digit misspelled out_of_range =
     hashed_apart (λ error. error.0) input told_by (λ error. each error.0 error.1)
   where

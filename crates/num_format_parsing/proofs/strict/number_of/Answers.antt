@@ -19,6 +19,10 @@ returns-in-None g c = λ f t sign spells.
       record {
         number = z;
         spelled = spells;
-        wrong = λ value. c.in-None.ensures.value (record { sign = λ negative. sign-kind k z c.in-None.ensures.unsigned value (sym told.sign ∙ negative); value = value });
+        wrong = λ value. c.in-None.ensures.value (record {
+          sign = λ negative. sign-kind k z c.in-None.ensures.unsigned value (sym told.sign
+              ∙ negative);
+          value = value;
+        });
       },
     )

@@ -8,7 +8,8 @@ use Rattle.num_format_parsing.proofs.SymbolLemmas.{plain-symbols}
 use Rattle.num_format_parsing.proofs.strict.read_few.Goals as goal
 
 plain : (f : FormatData) → HasCommonSymbols f → IsUtf8 f.minus_sign → IsUtf8 f.separator → HasPlainSymbols f
-plain f common sign separator = plain-symbols f (unambiguous_from_common f common) sign (of_printed IsUtf8 IsUtf8-nil f.grouping f.separator separator)
+plain f common sign separator = plain-symbols f (unambiguous_from_common f common) sign
+    (of_printed IsUtf8 IsUtf8-nil f.grouping f.separator separator)
 
 pub read_short-requires : goal.read_short-requires
 read_short-requires g c =

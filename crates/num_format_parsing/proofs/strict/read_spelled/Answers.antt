@@ -7,11 +7,13 @@ use Rattle.num_format_parsing.specs.declared.reading.Reading.{Reading}
 use Rattle.num_format_parsing.specs.declared.reading.Reading.TheVariants.{Number, TooLarge, Unspelled}
 use Rattle.num_format_parsing.proofs.strict.read_spelled.Goals as goal
 
-spelling : (k : Kind) (f : FormatData) (t : List ℕ) (negative : Bool) (start : ℕ) → HasSign f t negative start → (read : Reading) → HasReading k f t negative read → IsSpelling k f t negative read
+spelling : (k : Kind) (f : FormatData) (t : List ℕ) (negative : Bool) (start : ℕ) → HasSign f t negative start → (read : Reading)
+    → HasReading k f t negative read → IsSpelling k f t negative read
 spelling k f t negative start sign (Number n) has = (sign.symbols, sign.tested, has)
 spelling k f t negative start sign TooLarge has = (sign.symbols, sign.tested, has)
 spelling k f t negative start sign Unspelled has = tt
 
 pub returns : goal.returns
 returns g c =
-    rw (← c.in-Ok.ensures.0) (spelling g.N.Sealed.kind c.in-Ok.parser c.args.bytes.now c.sign-sign.result.is_negative c.sign-sign.result.len c.sign-sign.ensures c.read.result c.read.ensures)
+    rw (← c.in-Ok.ensures.0) (spelling g.N.Sealed.kind c.in-Ok.parser c.args.bytes.now c.sign-sign.result.is_negative c.sign-sign.result.len
+    c.sign-sign.ensures c.read.result c.read.ensures)

@@ -9,12 +9,14 @@ pub returns-then-not-has_digit : goal.returns-then-not-has_digit
 returns-then-not-has_digit c =
     let t = c.args.symbol.now in
     let utf8 : IsUtf8 t = search rules in
-    let none : list_any is_ascii_digit t ≡ false = ap (list_any is_ascii_digit) (sym c.as_bytes.ensures.value) ∙ sym c.has_digit.ensures ∙ c.if-not-has_digit.true in
+    let none : list_any is_ascii_digit t ≡ false = ap (list_any is_ascii_digit) (sym c.as_bytes.ensures.value) ∙ sym c.has_digit.ensures
+    ∙ c.if-not-has_digit.true in
     decided t c.has_other_numeral.result utf8 none c.has_other_numeral.ensures
 
 pub returns-else-not-has_digit : goal.returns-else-not-has_digit
 returns-else-not-has_digit c =
     let t = c.args.symbol.now in
     let utf8 : IsUtf8 t = search rules in
-    let some : list_any is_ascii_digit t ≡ true = ap (list_any is_ascii_digit) (sym c.as_bytes.ensures.value) ∙ sym c.has_digit.ensures ∙ c.if-not-has_digit.false in
+    let some : list_any is_ascii_digit t ≡ true = ap (list_any is_ascii_digit) (sym c.as_bytes.ensures.value) ∙ sym c.has_digit.ensures
+    ∙ c.if-not-has_digit.false in
     (λ wrong. absurd (both_ways _ (ap not c.if-not-has_digit.false) wrong), λ plain. absurd (some_digit t utf8 some plain))

@@ -10,13 +10,16 @@ returns-then-is_ascii c =
     let t = c.args.symbol.now in
     let utf8 : IsUtf8 t = search rules in
     let same = c.as_bytes-bytes.ensures.value in
-    (decided-byte t c.is_ascii_digit.result utf8 (ap length (sym same) ∙ c.if-bytes-eq1.true) (ap (list_all is_ascii) (sym same) ∙ sym c.is_ascii.ensures ∙ c.if-is_ascii.true)
+    (decided-byte t c.is_ascii_digit.result utf8 (ap length (sym same) ∙ c.if-bytes-eq1.true) (ap (list_all is_ascii) (sym same)
+    ∙ sym c.is_ascii.ensures ∙ c.if-is_ascii.true)
     (c.is_ascii_digit.ensures.value ∙ ap (λ xs. is_ascii_digit (get_or xs 0 0)) same)).0
 
 pub returns-then-not-has_digit : goal.returns-then-not-has_digit
 returns-then-not-has_digit c = λ yes.
     let t = c.args.symbol.now in
     let utf8 : IsUtf8 t = search rules in
-    let none : list_any is_ascii_digit t ≡ false = ap (list_any is_ascii_digit) (sym c.as_bytes-bytes.ensures.value) ∙ sym c.has_digit.ensures ∙ c.if-not-has_digit.true in
-    let all : list_all is_ascii t ≡ true = ap (list_all is_ascii) (sym c.as_bytes-bytes.ensures.value) ∙ sym c.is_ascii-then-not-has_digit.ensures ∙ yes in
+    let none : list_any is_ascii_digit t ≡ false = ap (list_any is_ascii_digit) (sym c.as_bytes-bytes.ensures.value)
+    ∙ sym c.has_digit.ensures ∙ c.if-not-has_digit.true in
+    let all : list_all is_ascii t ≡ true = ap (list_all is_ascii) (sym c.as_bytes-bytes.ensures.value)
+    ∙ sym c.is_ascii-then-not-has_digit.ensures ∙ yes in
     no_numeral t utf8 none (no_other-bytes t all)

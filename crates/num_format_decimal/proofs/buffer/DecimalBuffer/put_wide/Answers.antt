@@ -19,5 +19,6 @@ put_body-requires-clause-fits g c =
 
 pub returns : goal.returns
 returns g c =
-    unsigned_text-from (g.F.Format.answers c.args.format.now) c.put_wide_decimals.new.self c.put_body.new.buffer c.args.n c.args.scale c.split-whole.result.0 c.split-whole.result.1
+    unsigned_text-from (g.F.Format.answers c.args.format.now) c.put_wide_decimals.new.self c.put_body.new.buffer c.args.n c.args.scale
+    c.split-whole.result.0 c.split-whole.result.1
     c.split-whole.ensures.whole c.split-whole.ensures.rest c.put_wide_decimals.ensures.text c.put_body.ensures.text

@@ -4,4 +4,8 @@ use Rattle.num_format_decimal.proofs.buffer.DecimalBufferPutFront.put_front.Goal
 
 pub invariant_of-self : goal.invariant_of-self
 invariant_of-self c =
-    let copied = c.copy_before-self-inside.ensures in (omega (arith, c.self.invariant.0, copied.start), copied.length ∙ c.self.told, copied.utf8 (IsCharBoundary-start c.args.text.now c.utf8.text) c.self.invariant.2)
+    let copied = c.copy_before-self-inside.ensures in (
+      omega (arith, c.self.invariant.0, copied.start),
+      copied.length ∙ c.self.told,
+      copied.utf8 (IsCharBoundary-start c.args.text.now c.utf8.text) c.self.invariant.2,
+    )

@@ -10,7 +10,9 @@ overflow_mul-result c =
     let one = c.signed_power_of_ten-one.result in
     let below : unsigned_abs r < unsigned_abs one = grind (arith, to_z-of_z, c.rem_euclid.ensures.upper_bound) in
     let size : c.unsigned_abs-rest.result ≡ unsigned_abs r = grind (arith, to_z-of_z, c.unsigned_abs-rest.ensures.value) in
-    let small = rest_small r one c.scale-scale.result c.unsigned_abs-rest.result c.power_of_ten-unit.result c.scale-scale.ensures.bound c.signed_power_of_ten-one.ensures.power below size c.power_of_ten-unit.ensures.power in
+    let small =
+    rest_small r one c.scale-scale.result c.unsigned_abs-rest.result c.power_of_ten-unit.result c.scale-scale.ensures.bound
+    c.signed_power_of_ten-one.ensures.power below size c.power_of_ten-unit.ensures.power in
     omega (arith, small)
 
 pub returns-clause-rest : goal.returns-clause-rest
@@ -20,4 +22,6 @@ returns-clause-rest c =
     let one = c.signed_power_of_ten-one.result in
     let rest : r ≡ int_rem_euclid u one = grind (arith, to_z-of_z, c.rem_euclid.ensures.value) in
     let size : c.unsigned_abs-rest.result ≡ unsigned_abs r = grind (arith, to_z-of_z, c.unsigned_abs-rest.ensures.value) in
-    rest_found c.args.self.now u one r c.scale-scale.result c.unsigned_abs-rest.result c.power_of_ten-unit.result c.scale-scale.ensures.scale c.scale-scale.ensures.bound c.units-units.ensures c.signed_power_of_ten-one.ensures.power rest size c.power_of_ten-unit.ensures.power
+    rest_found c.args.self.now u one r c.scale-scale.result c.unsigned_abs-rest.result c.power_of_ten-unit.result
+    c.scale-scale.ensures.scale c.scale-scale.ensures.bound c.units-units.ensures c.signed_power_of_ten-one.ensures.power rest size
+    c.power_of_ten-unit.ensures.power

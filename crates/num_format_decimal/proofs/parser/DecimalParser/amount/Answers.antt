@@ -11,7 +11,8 @@ pub returns-in-Some : goal.returns-in-Some
 returns-in-Some g c =
     let t = c.args.text.now in
     let start = c.sign-sign.result.len in
-    plain_amount c.args.self.now t c.sign-sign.result.is_negative start c.in-Some.magnitude (subst (λ d. HasSign d t c.sign-sign.result.is_negative start) c.self.view_is c.sign-sign.ensures)
+    plain_amount c.args.self.now t c.sign-sign.result.is_negative start c.in-Some.magnitude
+    (subst (λ d. HasSign d t c.sign-sign.result.is_negative start) c.self.view_is c.sign-sign.ensures)
     (sym (take_rest t start) ∙ c.in-Some.ensures)
 
 pub returns-in-Number : goal.returns-in-Number
@@ -21,7 +22,8 @@ returns-in-Number g c =
     let negative = c.sign-sign.result.is_negative in
     let sign = subst (λ d. HasSign d t negative c.sign-sign.result.len) c.self.view_is c.sign-sign.ensures in
     let read = subst (HasReading (kind_of I128) c.self.inside.numbers t negative) c.in-Number.is c.read.ensures in
-    signed_amount f t negative c.sign-sign.result.len c.in-Number.magnitude sign (subst (λ d. SpellsNumber d t (signed_number negative c.in-Number.magnitude)) c.self.view_is read)
+    signed_amount f t negative c.sign-sign.result.len c.in-Number.magnitude sign
+    (subst (λ d. SpellsNumber d t (signed_number negative c.in-Number.magnitude)) c.self.view_is read)
 
 pub returns-in-TooLarge : goal.returns-in-TooLarge
 returns-in-TooLarge g c =
@@ -29,8 +31,12 @@ returns-in-TooLarge g c =
     let negative = c.sign-sign.result.is_negative in
     let sign = subst (λ d. HasSign d t negative c.sign-sign.result.len) c.self.view_is c.sign-sign.ensures in
     let read = subst (HasReading (kind_of I128) c.self.inside.numbers t negative) c.in-TooLarge.is c.read.ensures in
-    let spells = subst (λ d. SpellsNumber d t (signed_number negative read.0)) c.self.view_is read.2 in
-    (negative, read.0, signed_amount c.args.self.now t negative c.sign-sign.result.len read.0 sign spells, λ fits. read.1 (value-of_i128 _ fits))
+    let spells = subst (λ d. SpellsNumber d t (signed_number negative read.0)) c.self.view_is read.2 in (
+      negative,
+      read.0,
+      signed_amount c.args.self.now t negative c.sign-sign.result.len read.0 sign spells,
+      λ fits. read.1 (value-of_i128 _ fits),
+    )
 
 pub returns-in-Unspelled : goal.returns-in-Unspelled
 returns-in-Unspelled g c =
@@ -40,4 +46,5 @@ returns-in-Unspelled g c =
     let sign = subst (λ d. HasSign d t negative start) c.self.view_is c.sign-sign.ensures in
     let read = subst (HasReading (kind_of I128) c.self.inside.numbers t negative) c.in-Unspelled.is c.read.ensures in
     let nonzero = λ (same : drop start t ≡ 48 ∷ []). c.in_default.ensures (take_rest t start ∙ same) in
-    no_amount c.args.self.now t negative start sign nonzero (λ z spells. read z (subst (λ d. SpellsNumber d t z) (sym c.self.view_is) spells))
+    no_amount c.args.self.now t negative start sign nonzero (λ z spells. read z
+    (subst (λ d. SpellsNumber d t z) (sym c.self.view_is) spells))

@@ -30,19 +30,47 @@ pub returns-then-not-has_digit : goal.returns-then-not-has_digit
 returns-then-not-has_digit g c =
     let t = c.args.text.now in
     let utf8 = c.is_utf8.ensures.0 c.if-not-is_utf8.false in
-    let expected = expected_of c.args.self.now t c.decimals_end-at.result.0 utf8 c.requires.unspelled c.decimals_end-at.ensures.rest c.if-at-text.false in
-    (c.mark.ensures.marks, record { expected = expected; fault = figures-bytes t utf8 ∙ figures-none t (sym c.has_digit.ensures ∙ c.if-not-has_digit.true) })
+    let expected =
+    expected_of c.args.self.now t c.decimals_end-at.result.0 utf8 c.requires.unspelled c.decimals_end-at.ensures.rest c.if-at-text.false
+    in (
+      c.mark.ensures.marks,
+      record {
+        expected = expected;
+        fault = figures-bytes t utf8
+            ∙ figures-none t (sym c.has_digit.ensures ∙ c.if-not-has_digit.true);
+      },
+    )
 
 pub returns-then-decimals : goal.returns-then-decimals
 returns-then-decimals g c =
     let t = c.args.text.now in
     let utf8 = c.is_utf8.ensures.0 c.if-not-is_utf8.false in
-    let expected = expected_of c.args.self.now t c.decimals_end-at.result.0 utf8 c.requires.unspelled c.decimals_end-at.ensures.rest c.if-at-text.false in
-    (c.mark.ensures.marks, record { expected = expected; fault = (λ none. figures-some t (sym c.has_digit.ensures ∙ c.if-not-has_digit.false) (sym (figures-bytes t utf8) ∙ none), omega (arith, c.if-decimals.true, c.decimals_end-at.ensures.decimals)) })
+    let expected =
+    expected_of c.args.self.now t c.decimals_end-at.result.0 utf8 c.requires.unspelled c.decimals_end-at.ensures.rest c.if-at-text.false
+    in (
+      c.mark.ensures.marks,
+      record {
+        expected = expected;
+        fault = (
+          λ none. figures-some t (sym c.has_digit.ensures ∙ c.if-not-has_digit.false) (sym (figures-bytes t utf8) ∙ none),
+          omega (arith, c.if-decimals.true, c.decimals_end-at.ensures.decimals),
+        );
+      },
+    )
 
 pub returns : goal.returns
 returns g c =
     let t = c.args.text.now in
     let utf8 = c.is_utf8.ensures.0 c.if-not-is_utf8.false in
-    let expected = expected_of c.args.self.now t c.decimals_end-at.result.0 utf8 c.requires.unspelled c.decimals_end-at.ensures.rest c.if-at-text.false in
-    (c.mark.ensures.marks, record { expected = expected; fault = (λ none. figures-some t (sym c.has_digit.ensures ∙ c.if-not-has_digit.false) (sym (figures-bytes t utf8) ∙ none), omega (arith, c.if-decimals.false, c.decimals_end-at.ensures.decimals)) })
+    let expected =
+    expected_of c.args.self.now t c.decimals_end-at.result.0 utf8 c.requires.unspelled c.decimals_end-at.ensures.rest c.if-at-text.false
+    in (
+      c.mark.ensures.marks,
+      record {
+        expected = expected;
+        fault = (
+          λ none. figures-some t (sym c.has_digit.ensures ∙ c.if-not-has_digit.false) (sym (figures-bytes t utf8) ∙ none),
+          omega (arith, c.if-decimals.false, c.decimals_end-at.ensures.decimals),
+        );
+      },
+    )

@@ -4,7 +4,8 @@ use Rattle.num_format_decimal.proofs.RefusalLemmas.{cause-given}
 use Rattle.num_format_decimal.proofs.parser.DecimalParser.decimal.Goals as goal
 
 pub returns-in-Ok : goal.returns-in-Ok
-returns-in-Ok g c = result-judged c.args.self.now c.args.bytes.now c.mark.ensures.plain c.mark.ensures.marks (Ok c.in-Ok.decimal) c.in-Ok.ensures
+returns-in-Ok g c = result-judged c.args.self.now c.args.bytes.now c.mark.ensures.plain c.mark.ensures.marks
+    (Ok c.in-Ok.decimal) c.in-Ok.ensures
 
 pub returns-in-Err : goal.returns-in-Err
 returns-in-Err g c =

@@ -18,8 +18,12 @@ pub returns-then-not-is_mark : goal.returns-then-not-is_mark
 returns-then-not-is_mark g c =
     let f = g.F.Format.answers c.args.format.now in
     let mark : c.into_str-mark.result.now ≡ f.decimal = c.into_str-mark.ensures.same ∙ c.decimal.ensures in
-    let printed : c.separator-2.result.now ≡ printed_separator f.grouping f.separator = c.separator-2.ensures.same ∙ ap (λ d. printed_separator d.grouping d.separator) c.in-Ok.ensures.0 in
-    (refl, λ marks. both_ways _ c.if-not-is_mark.true (c.is_mark.ensures.1 (subst (λ m. IsMark m c.separator-2.result.now) (sym mark) (subst (IsMark f.decimal) (sym printed) (mark_from f marks)))))
+    let printed : c.separator-2.result.now ≡ printed_separator f.grouping f.separator =
+    c.separator-2.ensures.same ∙ ap (λ d. printed_separator d.grouping d.separator) c.in-Ok.ensures.0 in (
+      refl,
+      λ marks. both_ways _ c.if-not-is_mark.true (c.is_mark.ensures.1
+          (subst (λ m. IsMark m c.separator-2.result.now) (sym mark) (subst (IsMark f.decimal) (sym printed) (mark_from f marks)))),
+    )
 
 pub invariant_of-result : goal.invariant_of-result
 invariant_of-result g c =
@@ -29,9 +33,17 @@ invariant_of-result g c =
     let utf8 : IsUtf8 f.decimal = search rules in
     let same = c.in-Ok.ensures.0 in
     let mark : c.into_str-mark.result.now ≡ f.decimal = c.into_str-mark.ensures.same ∙ c.decimal.ensures in
-    let printed : c.separator-2.result.now ≡ printed_separator f.grouping f.separator = c.separator-2.ensures.same ∙ ap (λ d. printed_separator d.grouping d.separator) same in
-    let marks = marks_from f sign separator c.in-Ok.ensures.1 (subst (IsMark f.decimal) printed (subst (λ m. IsMark m c.separator-2.result.now) mark (c.is_mark.ensures.0 c.if-not-is_mark.false))) in
-    (mark ∙ ap (λ d. d.decimal) (sym same), (subst MarksDecimals (sym same) marks, subst IsPlainFormat (sym same) (plain-from_marks f sign separator utf8 marks)))
+    let printed : c.separator-2.result.now ≡ printed_separator f.grouping f.separator =
+    c.separator-2.ensures.same ∙ ap (λ d. printed_separator d.grouping d.separator) same in
+    let marks =
+    marks_from f sign separator c.in-Ok.ensures.1 (subst (IsMark f.decimal) printed
+    (subst (λ m. IsMark m c.separator-2.result.now) mark (c.is_mark.ensures.0 c.if-not-is_mark.false))) in (
+      mark ∙ ap (λ d. d.decimal) (sym same),
+      (
+        subst MarksDecimals (sym same) marks,
+        subst IsPlainFormat (sym same) (plain-from_marks f sign separator utf8 marks),
+      ),
+    )
 
 pub returns : goal.returns
 returns g c =
@@ -40,5 +52,9 @@ returns g c =
     let separator : IsUtf8 f.separator = search rules in
     let same = c.in-Ok.ensures.0 in
     let mark : c.into_str-mark.result.now ≡ f.decimal = c.into_str-mark.ensures.same ∙ c.decimal.ensures in
-    let printed : c.separator-2.result.now ≡ printed_separator f.grouping f.separator = c.separator-2.ensures.same ∙ ap (λ d. printed_separator d.grouping d.separator) same in
-    (same, marks_from f sign separator c.in-Ok.ensures.1 (subst (IsMark f.decimal) printed (subst (λ m. IsMark m c.separator-2.result.now) mark (c.is_mark.ensures.0 c.if-not-is_mark.false))))
+    let printed : c.separator-2.result.now ≡ printed_separator f.grouping f.separator =
+    c.separator-2.ensures.same ∙ ap (λ d. printed_separator d.grouping d.separator) same in (
+      same,
+      marks_from f sign separator c.in-Ok.ensures.1 (subst (IsMark f.decimal) printed
+          (subst (λ m. IsMark m c.separator-2.result.now) mark (c.is_mark.ensures.0 c.if-not-is_mark.false))),
+    )

@@ -7,7 +7,8 @@ use Rattle.num_format_decimal.proofs.CauseLemmas.{result-judged}
 use Rattle.num_format_decimal.proofs.parser.DecimalParser.parse_any.Goals as goal
 
 pub returns-in-Ok : goal.returns-in-Ok
-returns-in-Ok g c = result-judged c.args.self.now c.args.text.now c.mark.ensures.plain c.mark.ensures.marks (Ok c.in-Ok.decimal) c.in-Ok.ensures
+returns-in-Ok g c = result-judged c.args.self.now c.args.text.now c.mark.ensures.plain c.mark.ensures.marks
+    (Ok c.in-Ok.decimal) c.in-Ok.ensures
 
 pub returns-in-TooLarge : goal.returns-in-TooLarge
 returns-in-TooLarge g c =
@@ -21,4 +22,5 @@ cause-requires-clause-unspelled g c =
     subst (λ x. HasReading c.args.self.now c.args.text.now (λ scale. scale ≤ MAX_SCALE) (Err x)) c.in-Unspelled.is c.in-Err.ensures
 
 pub returns-in-Unspelled : goal.returns-in-Unspelled
-returns-in-Unspelled g c = result-judged c.args.self.now c.args.text.now c.mark.ensures.plain c.mark.ensures.marks (Err c.cause.result) c.cause.ensures
+returns-in-Unspelled g c = result-judged c.args.self.now c.args.text.now c.mark.ensures.plain c.mark.ensures.marks
+    (Err c.cause.result) c.cause.ensures

@@ -8,10 +8,12 @@ pub read_parts-requires-clause-digits : goal.read_parts-requires-clause-digits
 read_parts-requires-clause-digits g c = cut_digits c.args.self.now c.args.text.now c.in-Some.cut.0 c.in-Some.cut.1 c.in-Some.ensures
 
 pub read_parts-requires-clause-few : goal.read_parts-requires-clause-few
-read_parts-requires-clause-few g c = omega (arith, cut_length c.args.self.now c.args.text.now c.in-Some.cut.0 c.in-Some.cut.1 c.in-Some.ensures, c.in-Some.ensures.few)
+read_parts-requires-clause-few g c =
+    omega (arith, cut_length c.args.self.now c.args.text.now c.in-Some.cut.0 c.in-Some.cut.1 c.in-Some.ensures, c.in-Some.ensures.few)
 
 pub returns-in-Ok : goal.returns-in-Ok
-returns-in-Ok g c = cut_reads c.args.self.now c.args.text.now c.in-Some.cut.0 c.in-Some.cut.1 c.in-Some.ensures (Ok c.in-Ok.decimal) c.in-Ok.ensures
+returns-in-Ok g c = cut_reads c.args.self.now c.args.text.now c.in-Some.cut.0 c.in-Some.cut.1 c.in-Some.ensures
+    (Ok c.in-Ok.decimal) c.in-Ok.ensures
 
 pub returns-in-TooLarge : goal.returns-in-TooLarge
 returns-in-TooLarge g c =
@@ -27,7 +29,9 @@ returns g c =
     elim c.match-mark_place.branch [
       | in-Some+in-Err+in-Unspelled w ↦
           let end = w.in-Some.cut.1 in
-          let none = subst (λ x. HasReading f t (λ scale. scale ≡ length (take (length t - end) (drop end t))) (Err x)) w.in-Unspelled.is (cut_reads f t w.in-Some.cut.0 end w.in-Some.ensures (Err w.in-Err.fault) w.in-Err.ensures) in
-          reads_either f t c.read_whole.result (λ d some few spells. none d (cut_scale f t w.in-Some.cut.0 end w.in-Some.ensures d c.mark.ensures.plain some spells) spells) c.read_whole.ensures
+          let none = subst (λ x. HasReading f t (λ scale. scale ≡ length (take (length t - end) (drop end t))) (Err x)) w.in-Unspelled.is
+          (cut_reads f t w.in-Some.cut.0 end w.in-Some.ensures (Err w.in-Err.fault) w.in-Err.ensures) in
+          reads_either f t c.read_whole.result (λ d some few spells. none d
+          (cut_scale f t w.in-Some.cut.0 end w.in-Some.ensures d c.mark.ensures.plain some spells) spells) c.read_whole.ensures
       | in_default w ↦ reads_either f t c.read_whole.result w.in_default.ensures c.read_whole.ensures
     ]

@@ -1,4 +1,4 @@
-use Rattle.std.proofs.Common.{◌∙◌, Ok, Err, subst}
+use Rattle.std.proofs.Common.{Ok, Err, subst}
 use Rattle.num_format_int.specs.Kind.{signed_number}
 use Rattle.num_format_parsing.specs.Parts.{HasReading}
 use Rattle.num_format_parsing.specs.Strict.{IsOutOfRange}

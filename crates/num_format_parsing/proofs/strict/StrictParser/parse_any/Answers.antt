@@ -9,7 +9,8 @@ returns-in-Number g c =
     let f = c.args.self.now in
     let sign = c.sign-sign.ensures in
     let read = subst (HasReading g.N.Sealed.kind f c.args.bytes.now c.sign-sign.result.is_negative) c.in-Number.is c.read.ensures in
-    parses-judged g.N.Sealed.kind g.N.Sealed.value f c.args.bytes.now c.number_of.result sign.symbols (c.number_of.ensures f c.args.bytes.now sign read)
+    parses-judged g.N.Sealed.kind g.N.Sealed.value f c.args.bytes.now c.number_of.result sign.symbols
+    (c.number_of.ensures f c.args.bytes.now sign read)
 
 pub returns-in-TooLarge : goal.returns-in-TooLarge
 returns-in-TooLarge g c =
@@ -17,11 +18,15 @@ returns-in-TooLarge g c =
     let sign = c.sign-sign.ensures in
     let negative = c.sign-sign.result.is_negative in
     let read = subst (HasReading g.N.Sealed.kind f c.args.bytes.now negative) c.in-TooLarge.is c.read.ensures in
-    parses-judged g.N.Sealed.kind g.N.Sealed.value f c.args.bytes.now _ sign.symbols (sign.symbols.unambiguous, record { number = signed_number negative read.0; spelled = read.2; wrong = read.1 })
+    parses-judged g.N.Sealed.kind g.N.Sealed.value f c.args.bytes.now _ sign.symbols (
+      sign.symbols.unambiguous,
+      record { number = signed_number negative read.0; spelled = read.2; wrong = read.1 },
+    )
 
 pub returns-in-Unspelled : goal.returns-in-Unspelled
 returns-in-Unspelled g c =
     let f = c.args.self.now in
     let sign = c.sign-sign.ensures in
     let read = subst (HasReading g.N.Sealed.kind f c.args.bytes.now c.sign-sign.result.is_negative) c.in-Unspelled.is c.read.ensures in
-    parses-judged g.N.Sealed.kind g.N.Sealed.value f c.args.bytes.now _ sign.symbols (c.cause.ensures f sign.symbols (c.as_bytes.ensures.value ∙ c.separator.ensures.same) sign.long read g.N.Sealed.kind)
+    parses-judged g.N.Sealed.kind g.N.Sealed.value f c.args.bytes.now _ sign.symbols
+    (c.cause.ensures f sign.symbols (c.as_bytes.ensures.value ∙ c.separator.ensures.same) sign.long read g.N.Sealed.kind)
