@@ -9,13 +9,13 @@ use Rattle.std.proofs.lemmas.Bool.Decides.{nat_tests}
 use Rattle.std.proofs.lemmas.List.Elements.{All-nil, All-cons, All-contains, Contains-append_left, Contains-append_right, Contains-get_or}
 use Rattle.std.proofs.lemmas.List.Elements.{Contains-push, at_from_Contains}
 use Rattle.std.proofs.lemmas.Option.{slice_get-get_or, slice_get_past}
-use Rattle.std.proofs.lemmas.List.{get_or-map, get_or-take, length-map, length-take-le, take-take}
+use Rattle.std.proofs.lemmas.List.{get_or-map, get_or-take, length-map, length-take-le, take_more, take-take}
 use Rattle.std.proofs.lemmas.Slice.Eq.{bytes_eq-Decides}
 use denote.Ref.{Bor}
 use lib.Utf8.{encode}
 unfoldable pub use Rattle.ucd_category.proofs.Computing.{ucd_category}
 use Rattle.num_format_parsing.specs.Reading.{is_numeric, is_other_numeral}
-use Rattle.num_format_digits.specs.Digits.{HasZero, is_digit_of, is_other, IsZero, plain_char, set_numbered, shown, zero_among, zeros}
+use Rattle.num_format_digits.specs.Digits.{HasZero, is_digit_of, is_other, IsZero, plain_char, set_numbered, shown, shown_byte, zero_among, zeros}
 use Rattle.num_format_digits.specs.Sets.{locales, sets}
 
 -- all ten digits are characters, of as many bytes each, and numeric
@@ -129,6 +129,23 @@ zero-raised z w d bytes is small has =
     ∙ take-take (w - 1) w bytes (omega arith) in
     sym (digit-bytes z d is small ∙ ap (λ xs. xs ++ (get_or (encode_utf8 z) (length (encode_utf8 z) - 1) 0 + d) ∷ []) front
     ∙ ap (λ b. take (w - 1) bytes ++ (b + d) ∷ []) (last z w bytes has))
+
+-- bytes that are those of the zero but for the last, which is higher by at most nine, are those of a digit
+pub digit-taken : (z w : ℕ) (bytes text : List ℕ) → IsZero z → HasZero z w bytes → take (w - 1) text ≡ take (w - 1) bytes
+    → w ≤ length text → get_or bytes (w - 1) 0 ≤ get_or text (w - 1) 0 → get_or text (w - 1) 0 ≤ get_or bytes (w - 1) 0 + 9
+    → take w text ≡ shown_byte z (48 + (get_or text (w - 1) 0 - get_or bytes (w - 1) 0))
+digit-taken z w bytes text is has front inside low high =
+    let k = w - 1 in
+    let some = has.some in
+    let d = get_or text k 0 - get_or bytes k 0 in
+    let small : d < 10 = omega arith in
+    let next : w ≡ k + 1 = omega arith in
+    let sum : get_or text k 0 ≡ get_or bytes k 0 + d = omega arith in
+    let digit : is_ascii_digit (48 + d) ≡ true = grind (arith, nat_tests, small) in
+    let back : d ≡ 48 + d - 48 = omega arith in
+    ap (λ n. take n text) next ∙ take_more text k 0 (omega arith) ∙ ap (λ t. t ++ get_or text k 0 ∷ []) front
+    ∙ ap (λ b. take k bytes ++ b ∷ []) sum ∙ zero-raised z w d bytes is small has
+    ∙ rw digit (ap (λ n. encode_utf8 (z + n)) back)
 
 -- they are numeric
 pub digit-numeric : (z c : ℕ) → IsZero z → is_digit_of z c ≡ true → is_numeric c ≡ true

@@ -1,15 +1,20 @@
 -- Texts in the digits of a set, by their characters.
 use Rattle.std.proofs.Common.{◌≡◌, ℕ, suc, ◌+◌, ◌-◌, ◌<◌, ◌≤◌, ◌⊎◌, inl, inr, true, false, List, [], ◌∷◌, ◌++◌, length, Some, None, refl}
-use Rattle.std.proofs.Common.{ap, ◌∙◌, sym, arith, get_or, append-nil, IsUtf8}
+use Rattle.std.proofs.Common.{ap, ◌∙◌, sym, arith, get_or, append_assoc, append-nil, IsUtf8, drop, set, subst, take, ℤ}
 use Rattle.std.specs.Prelude.{map, encode_utf8}
 use Rattle.std.specs.Char.{is_ascii_digit}
 use Rattle.std.specs.List.{list_any}
 use Rattle.std.specs.Str.{all_scalars, chars, encode_utf8_all}
 use Rattle.std.proofs.lemmas.Bool.{and_from, and_parts, cases_Bool, or_parts}
 use Rattle.std.proofs.lemmas.Bool.Decides.{nat_tests}
+use Rattle.std.proofs.lemmas.List.{drop-drop, take_more_set}
 use Rattle.std.proofs.lemmas.List.Concat.{flat_map-append}
 use Rattle.std.proofs.lemmas.Str.{chars-encodes, encode_ascii, encodes-chars, inside_one, scalars-chars}
+use Rattle.num_format_text.specs.Format.{FormatData}
 use Rattle.num_format_parsing.specs.Reading.{is_other_numeral}
+use Rattle.num_format_parsing.specs.Shapes.{HasPlainSymbols}
+use Rattle.num_format_parsing.specs.Strict.{SpellsNumber}
+use Rattle.num_format_parsing.proofs.SpellingLemmas.{no_other-spelled}
 use Rattle.num_format_digits.specs.Digits.{HasOneSet, IsZero, ascii_of, in_digits, is_other, other_from, plain_char, shown, shown_byte}
 use Rattle.num_format_digits.proofs.SetLemmas.{digit-scalar, plain-shown, shown-own, shown-plain}
 
@@ -126,3 +131,31 @@ in_latin (x ∷ xs) = elim (cases_Bool (is_ascii_digit x)) [
       rw (digit, same, encode_ascii x ascii) (ap (λ t. x ∷ t) (in_latin xs)))
   | inr other ↦ rw other (ap (λ t. x ∷ t) (in_latin xs))
 ]
+
+-- what is after a place is the same after a later one
+pub drop_later : (n m : ℕ) (xs ys : List ℕ) → n ≤ m → drop n xs ≡ drop n ys → drop m xs ≡ drop m ys
+drop_later n m xs ys later same =
+    let there : n + (m - n) ≡ m = omega arith in
+    ap (λ k. drop k xs) (sym there) ∙ sym (drop-drop (m - n) n xs) ∙ ap (drop (m - n)) same ∙ drop-drop (m - n) n ys
+    ∙ ap (λ k. drop k ys) there
+
+-- the next bytes of a text, for which one stands
+pub taken_next : (z len byte : ℕ) (text left rest array : List ℕ) → text ≡ in_digits z (take len array) ++ left
+    → left ≡ shown_byte z byte ++ rest → len < length array → text ≡ in_digits z (take (len + 1) (set array len byte)) ++ rest
+taken_next z len byte text left rest array before next inside =
+    let taken = in_digits z (take len array) in
+    before ∙ ap (λ t. taken ++ t) (next ∙ ap (λ t. t ++ rest) (sym (append-nil (shown_byte z byte))))
+    ∙ sym (append_assoc taken (in_digits z (byte ∷ [])) rest)
+    ∙ ap (λ t. t ++ rest) (sym (flat_map-append (shown_byte z) (take len array) (byte ∷ []))
+    ∙ ap (in_digits z) (sym (take_more_set array len byte inside)))
+
+-- a text that is shown, of which what spells a number was shown
+pub spelled_back : (z : ℕ) (f : FormatData) (t a : List ℕ) (n : ℤ) → IsZero z → HasPlainSymbols f → SpellsNumber f a n → t ≡ in_digits z a
+    → IsUtf8 t × HasOneSet z t × (ascii_of z t ≡ a)
+spelled_back z f t a n is symbols spells same =
+    let other = no_other-spelled f a n symbols spells in
+    let back = reads_back z a is other.utf8 other.plain in (
+      subst IsUtf8 (sym same) (shown-chars z a is other.utf8).0,
+      subst (HasOneSet z) (sym same) back.0,
+      ap (ascii_of z) same ∙ back.1,
+    )

@@ -8,12 +8,14 @@ use Rattle.num_format_parsing.specs.declared.error.StrictError.{StrictError}
 use Rattle.num_format_parsing.specs.declared.error.StrictError.TheVariants as strict
 use Rattle.num_format_decimal.specs.FixedPoint.{FixedPoint}
 use Rattle.num_format_decimal.specs.Marks.{MarksDecimals}
-use Rattle.num_format_decimal.specs.Parsing.{DecimalResult}
+use Rattle.num_format_decimal.specs.Parsing.{AtScaleResult, DecimalResult}
 use Rattle.num_format_decimal.specs.declared.buffer.TheConstants.{MAX_DECIMAL_LEN}
+use Rattle.num_format_decimal.specs.declared.parsing.ParseAtScaleError.{ParseAtScaleError}
+use Rattle.num_format_decimal.specs.declared.parsing.ParseAtScaleError.TheVariants.{Parse, Rescale}
 use Rattle.num_format_decimal.specs.declared.parsing.ParseDecimalError.{ParseDecimalError}
 use Rattle.num_format_decimal.specs.declared.parsing.ParseDecimalError.TheVariants as decimal
 use Rattle.num_format_typed.specs.Rewriting.{bytes_within}
-use Rattle.num_format_typed.specs.Typed.{IsTypable, ParsesTyped, TypedDecimalResult, placed, placed_decimal}
+use Rattle.num_format_typed.specs.Typed.{IsTypable, ParsesTyped, TypedAtScaleResult, TypedDecimalResult, placed, placed_decimal}
 use Rattle.num_format_typed.specs.declared.typed.TypedError.{TypedError}
 use Rattle.num_format_typed.specs.declared.typed.TypedError.TheVariants as typed
 use Rattle.num_format_digits.specs.Digits.{HasOneSet, ascii_of, other_from, plain_char}
@@ -66,3 +68,19 @@ TypedInDigits k value f = InDigits (IsTypable f) (typed.Number strict.AmbiguousF
 abbrev pub TypedDecimalInDigits : FormatData → ℕ → List ℕ → Result FixedPoint (DigitsError (TypedError ParseDecimalError)) → Type 0
 TypedDecimalInDigits f =
     InDigits (IsTypable f × MarksDecimals f) (typed.Number decimal.AmbiguousFormat) (placed_typed placed_decimal) (TypedDecimalResult f)
+
+-- an error of decimals of a scale with another place
+abbrev pub placed_at_scale : (ℕ → ℕ) → ParseAtScaleError → ParseAtScaleError
+placed_at_scale place (Parse e) = Parse (placed_decimal place e)
+placed_at_scale place (Rescale e) = Rescale e
+
+-- of a decimal at a scale, as it is printed
+abbrev pub AtScaleInDigits : (scale : ℕ) → FormatData → ℕ → List ℕ → Result FixedPoint (DigitsError ParseAtScaleError) → Type 0
+AtScaleInDigits scale f = InDigits (MarksDecimals f) (Parse decimal.AmbiguousFormat) placed_at_scale (λ t. AtScaleResult f t scale)
+
+-- of one as a person types it
+abbrev pub TypedAtScaleInDigits : (scale : ℕ) → FormatData → ℕ → List ℕ
+    → Result FixedPoint (DigitsError (TypedError ParseAtScaleError)) → Type 0
+TypedAtScaleInDigits scale f =
+    InDigits (IsTypable f × MarksDecimals f) (typed.Number (Parse decimal.AmbiguousFormat)) (placed_typed placed_at_scale)
+    (λ t. TypedAtScaleResult f t scale)

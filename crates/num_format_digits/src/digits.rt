@@ -3,7 +3,8 @@ ghost use Rattle.std.specs.Prelude.{◌≡◌, ◌==◌, ◌<◌, Some, get_or};
 ghost use Rattle.std.specs.Str.{chars};
 ghost use Rattle.num_format_locale.specs.Names.{name_of};
 ghost use Rattle.num_format_parsing.specs.Reading.{is_numeric};
-ghost use Rattle.num_format_digits.specs.Digits.{HasZero, IsZero, default_zero, digits_named, first_set, is_digit_of, is_other, plain_char, set_numbered, set_of, zeros};
+ghost use Rattle.num_format_digits.specs.Digits.{HasZero, IsZero, default_zero, digits_named, first_set, is_digit_of};
+ghost use Rattle.num_format_digits.specs.Digits.{is_other, plain_char, set_numbered, set_of, zeros};
 ghost use Rattle.num_format_digits.specs.Sets.{sets};
 ghost use Rattle.num_format_digits.specs.declared.sets.TheConstants.{LEN};
 
@@ -87,8 +88,8 @@ impl Digits {
         }
     }
 
-    /// Returns the set for which a number stands, or `None` if it stands for none: 0 is `latn`, and the others follow in
-    /// the order of their names.
+    /// Returns the set for which a number stands, or `None` if it stands for none: 0 is `latn`, and the others follow
+    /// in the order of their names.
     ///
     /// ```rust
     /// Digits::from_number(0)    // Some(Digits { zero: 48 })

@@ -1,15 +1,19 @@
 //! Parsing of a text in one digit set, strictly or as people type it.
-ghost use Rattle.std.specs.Prelude.{◌≡◌, ◌≤◌, None, Some, IfOk, MatchOption, MatchResult, length};
+ghost use Rattle.std.specs.Prelude.{◌≡◌, ◌<◌, ◌≤◌, ◌++◌, None, Some, Ok, IfOk, IfSome, IsUtf8, MatchOption};
+ghost use Rattle.std.specs.Prelude.{MatchResult, length, take};
 ghost use Rattle.std.specs.Str.{chars};
 ghost use Rattle.num_format_decimal.specs.declared.buffer.TheConstants.{MAX_DECIMAL_LEN};
 ghost use Rattle.num_format_decimal.specs.Marks.{MarksDecimals};
 ghost use Rattle.num_format_typed.specs.Typed.{IsTypable, placed, placed_decimal};
-ghost use Rattle.num_format_digits.specs.Digits.{HasOneSet, ascii_of, other_from};
-ghost use Rattle.num_format_digits.specs.Parsing.{DecimalInDigits, IsTextCause, ParsesInDigits, TypedDecimalInDigits, TypedInDigits, place_in};
+ghost use Rattle.num_format_digits.specs.Digits.{HasOneSet, HasZero, IsZero, ascii_of, in_digits, other_from};
+ghost use Rattle.num_format_digits.specs.Digits.{shown_byte};
+ghost use Rattle.num_format_digits.specs.Parsing.{AtScaleInDigits, DecimalInDigits, IsTextCause, ParsesInDigits};
+ghost use Rattle.num_format_digits.specs.Parsing.{TypedAtScaleInDigits, TypedDecimalInDigits, TypedInDigits};
+ghost use Rattle.num_format_digits.specs.Parsing.{place_in, placed_at_scale};
 
 use crate::digits::Digits;
 use num_format_decimal::{
-    Decimal, DecimalParser, MAX_DECIMAL_LEN, ParseDecimalError, marks_decimals,
+    Decimal, DecimalParser, MAX_DECIMAL_LEN, ParseAtScaleError, ParseDecimalError, marks_decimals,
 };
 use num_format_parsing::{FromFormattedStr, StrictError, StrictParser};
 use num_format_text::Format;
@@ -61,6 +65,91 @@ impl Digits {
         }
     }
 
+    /// Returns the number that bytes spell in the digits of the set, or `None` where only
+    /// [`parse_strict`](Digits::parse_strict) can tell, as for a text that is refused.
+    ///
+    /// It sees the digits of the set and copies all else: what is parsed then shows that the bytes are a text of one
+    /// set.
+    pub fn parse_shown<N: FromFormattedStr, F: Format>(self, text: &[u8], format: &F) -> Option<N>
+        ensures { IfSome result (λ n. IsUtf8 text.now
+            × ParsesInDigits N.kind N.value (F.answers format.now) self text.now (Ok n)) }
+    {
+        format.minus_sign().into_str();
+        format.separator().into_str();
+        let Ok(parser) = StrictParser::new(format) else {
+            return None;
+        };
+        let mut array = [0; MAX_DECIMAL_LEN];
+        let len = self.take_text(text, &mut array)?;
+        parser.number(&array[..len])
+    }
+
+    /// Writes bytes with `0` to `9` for the digits of the set to the start of an array, and returns their number, or
+    /// `None` if they have `0` to `9` themselves, or are too many.
+    #[inline(always)]
+    fn take_text(self, text: &[u8], array: &mut [u8]) -> Option<usize>
+        ensures shown { IfSome result (λ len. (len ≤ length array.new)
+            × (text.now ≡ in_digits self (take len array.new))) }
+        ensures set { IsZero self }
+    {
+        let (zero, width) = self.zero_bytes();
+        match width {
+            1 => self.take_digits(text, zero, 1, array),
+            2 => self.take_digits(text, zero, 2, array),
+            3 => self.take_digits(text, zero, 3, array),
+            _ => self.take_digits(text, zero, width, array),
+        }
+    }
+
+    /// Does the same for a zero of so many bytes. Where it is inlined they are known, so that a digit takes few tests.
+    #[inline(always)]
+    fn take_digits(
+        self,
+        text: &[u8],
+        zero: [u8; 4],
+        width: usize,
+        array: &mut [u8],
+    ) -> Option<usize>
+        requires set { IsZero self }
+        requires zero { HasZero self width zero }
+        ensures { IfSome result (λ len. (len ≤ length array.new)
+            × (text.now ≡ in_digits self (take len array.new))) }
+    {
+        let mut len = 0;
+        let mut left = text;
+        while !left.is_empty() {
+            if len >= array.len() {
+                return None;
+            }
+            let (byte, rest) = self.take_byte(left, zero, width)?;
+            array[len] = byte;
+            len += 1;
+            left = rest;
+        }
+        Some(len)
+    }
+
+    /// Returns the first byte of some, or that of `0` to `9` for a digit of the set, and what follows it.
+    #[inline(always)]
+    fn take_byte(self, text: &[u8], zero: [u8; 4], width: usize) -> Option<(u8, &[u8])>
+        requires set { IsZero self }
+        requires zero { HasZero self width zero }
+        requires some { 1 ≤ length text.now }
+        ensures shown { IfSome result (λ taken. text.now ≡ shown_byte self taken.0 ++ taken.1.now) }
+        ensures shorter { IfSome result (λ taken. length taken.1.now < length text.now) }
+    {
+        if width <= text.len() && text[..width - 1] == zero[..width - 1] {
+            let (last, lowest) = (text[width - 1], zero[width - 1]);
+            if lowest <= last && last <= lowest + 9 {
+                return Some((b'0' + (last - lowest), &text[width..]));
+            }
+        }
+        if text[0].is_ascii_digit() {
+            return None;
+        }
+        Some((text[0], &text[1..]))
+    }
+
     /// Returns the decimal that the text spells in the digits of the set.
     ///
     /// ```rust
@@ -86,8 +175,36 @@ impl Digits {
         }
     }
 
-    /// Returns the number that a person means by the text in the digits of the set: `parse_typed` of the text with `0` to
-    /// `9` for them. (No data type is meant.)
+    /// Returns the decimal that the text spells in the digits of the set at another scale: the same number, or an
+    /// error.
+    ///
+    /// ```rust
+    /// let arabext = Digits::of_locale(Locale::fa);
+    /// arabext.parse_at_scale("۱٬۲۳۴٫۵", 2, &Locale::fa)    // Ok(1234.50)
+    /// arabext.parse_at_scale("۱٫۲۵۵", 2, &Locale::fa)      // Err(Number(Rescale(DigitsLost)))
+    /// ```
+    pub fn parse_at_scale<F: Format>(
+        self,
+        text: &str,
+        scale: u8,
+        format: &F,
+    ) -> Result<Decimal, DigitsError<ParseAtScaleError>>
+        ensures { AtScaleInDigits scale (F.answers format.now) self text.now result }
+    {
+        let parser = match DecimalParser::new(format) {
+            Ok(parser) => parser,
+            Err(error) => return Err(DigitsError::Number(ParseAtScaleError::Parse(error))),
+        };
+        let mut array = [0; MAX_DECIMAL_LEN];
+        let ascii = self.to_ascii(text, &mut array)?;
+        match parser.parse_bytes_at_scale(ascii, scale) {
+            Ok(rescaled) => Ok(rescaled),
+            Err(error) => Err(DigitsError::Number(self.placed_at_scale(text, error))),
+        }
+    }
+
+    /// Returns the number that a person means by the text in the digits of the set: `parse_typed` of the text with `0`
+    /// to `9` for them. (No data type is meant.)
     ///
     /// ```rust
     /// let arab = Digits::of_locale(Locale::ar_EG);
@@ -158,6 +275,53 @@ impl Digits {
         }
     }
 
+    /// Returns the decimal that a person means by the text in the digits of the set at another scale: the same number,
+    /// or an error. (No data type is meant.)
+    ///
+    /// ```rust
+    /// let arabext = Digits::of_locale(Locale::fa);
+    /// arabext.parse_typed_at_scale("+۱۲٫۵", 2, &Locale::fa)    // Ok(12.50)
+    /// ```
+    pub fn parse_typed_at_scale<F: Format>(
+        self,
+        text: &str,
+        scale: u8,
+        format: &F,
+    ) -> Result<Decimal, DigitsError<TypedError<ParseAtScaleError>>>
+        ensures { TypedAtScaleInDigits scale (F.answers format.now) self text.now result }
+    {
+        let cause = ParseAtScaleError::Parse(ParseDecimalError::AmbiguousFormat);
+        let ambiguous = DigitsError::Number(TypedError::Number(cause));
+        let Ok(parser) = TypedParser::new(format) else {
+            return Err(ambiguous);
+        };
+        if !marks_decimals(format) {
+            return Err(ambiguous);
+        }
+        self.typed_at_scale(&parser, text, scale)
+    }
+
+    /// Returns the decimal that a person means by the text at another scale, under the format of a parser.
+    fn typed_at_scale<'a, F: Format>(
+        self,
+        parser: &TypedParser<'a, F>,
+        text: &str,
+        scale: u8,
+    ) -> Result<Decimal, DigitsError<TypedError<ParseAtScaleError>>>
+        requires { IsTypable parser.now × MarksDecimals parser.now }
+        ensures { TypedAtScaleInDigits scale parser.now self text.now result }
+    {
+        let mut array = [0; MAX_DECIMAL_LEN];
+        let ascii = self.to_ascii(text, &mut array)?;
+        match parser.parse_bytes_at_scale(ascii, scale) {
+            Ok(number) => Ok(number),
+            Err(TypedError::TooLong) => Err(DigitsError::Number(TypedError::TooLong)),
+            Err(TypedError::Number(error)) => Err(DigitsError::Number(TypedError::Number(
+                self.placed_at_scale(text, error),
+            ))),
+        }
+    }
+
     /// Writes the text with `0` to `9` for the digits of the set to the start of an array, and returns these bytes, or
     /// why it is refused.
     pub fn to_ascii<'s, E>(
@@ -219,6 +383,19 @@ impl Digits {
                 at: bytes_within(at, text, &self),
             },
             _ => error,
+        }
+    }
+
+    /// Does the same for a decimal at a scale.
+    #[cold]
+    fn placed_at_scale(self, text: &str, error: ParseAtScaleError) -> ParseAtScaleError
+        ensures { result ≡ placed_at_scale (place_in self text.now) error }
+    {
+        match error {
+            ParseAtScaleError::Parse(error) => {
+                ParseAtScaleError::Parse(self.placed_decimal(text, error))
+            }
+            ParseAtScaleError::Rescale(error) => ParseAtScaleError::Rescale(error),
         }
     }
 }

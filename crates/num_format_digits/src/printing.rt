@@ -1,5 +1,5 @@
 //! The text of a number in a digit set.
-ghost use Rattle.std.specs.Prelude.{◌≡◌, ◌+◌, ◌*◌, ◌≤◌, ◌++◌, [], length, take, Some};
+ghost use Rattle.std.specs.Prelude.{◌≡◌, ◌+◌, ◌*◌, ◌≤◌, ◌++◌, [], drop, length, take, Some};
 ghost use Rattle.num_format_int.specs.Text.{text_of};
 ghost use Rattle.num_format_decimal.specs.Text.{decimal_text};
 ghost use Rattle.num_format_decimal.specs.declared.buffer.TheConstants.{MAX_DECIMAL_LEN};
@@ -101,16 +101,36 @@ impl DigitText {
 
 /// Writes a text with the set's digits for `0` to `9` to the start of an array, and returns its length in bytes.
 ///
-/// For callers that have an array. Each byte of the text needs four.
+/// For callers that have an array. Each byte of the text needs four, and what is after the text stays.
 #[inline]
 pub fn put_text(text: &[u8], digits: Digits, array: &mut [u8]) -> usize
     requires { 4 * length text.now ≤ length array.old }
     ensures text { take result array.new ≡ in_digits digits text.now }
-    ensures within { result ≤ length array.new }
+    ensures rest { drop result array.new ≡ drop result array.old }
+    ensures bound { result ≤ 4 * length text.now }
     ensures length { length array.new ≡ length array.old }
     ensures set { IsZero digits }
 {
     let (zero, width) = digits.zero_bytes();
+    match width {
+        1 => put_digits(text, digits, zero, 1, array),
+        2 => put_digits(text, digits, zero, 2, array),
+        3 => put_digits(text, digits, zero, 3, array),
+        _ => put_digits(text, digits, zero, width, array),
+    }
+}
+
+/// Does the same for a zero of so many bytes. Where it is inlined they are known, so that a digit takes few moves.
+#[inline(always)]
+fn put_digits(text: &[u8], digits: Digits, zero: [u8; 4], width: usize, array: &mut [u8]) -> usize
+    requires set { IsZero digits }
+    requires zero { HasZero digits width zero }
+    requires fits { 4 * length text.now ≤ length array.old }
+    ensures text { take result array.new ≡ in_digits digits text.now }
+    ensures rest { drop result array.new ≡ drop result array.old }
+    ensures bound { result ≤ 4 * length text.now }
+    ensures length { length array.new ≡ length array.old }
+{
     let mut len = 0;
     for byte in text {
         len = put_byte(*byte, digits, zero, width, len, array);
@@ -133,6 +153,8 @@ fn put_byte(
     requires zero { HasZero digits width zero }
     requires fits { len + 4 ≤ length array.old }
     ensures text { take result array.new ≡ take len array.old ++ shown_byte digits byte }
+    ensures rest { drop result array.new ≡ drop result array.old }
+    ensures from { len ≤ result }
     ensures bound { result ≤ len + 4 }
     ensures length { length array.new ≡ length array.old }
 {
@@ -140,7 +162,7 @@ fn put_byte(
         array[len] = byte;
         return len + 1;
     }
-    array[len..len + 4].copy_from_slice(&zero);
+    array[len..len + width].copy_from_slice(&zero[..width]);
     array[len + width - 1] = zero[width - 1] + (byte - b'0');
     len + width
 }

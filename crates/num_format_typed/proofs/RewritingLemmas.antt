@@ -1,11 +1,12 @@
 -- Characters taken off a list, and put for others.
-use Rattle.std.proofs.Common.{◌≡◌, ℕ, inl, inr, Bool, true, false, List, [], ◌∷◌, ◌++◌, length, ap, ◌∙◌, sym, arith, append-nil}
-use Rattle.std.specs.Prelude.{IsUtf8, encode_utf8}
+use Rattle.std.proofs.Common.{◌≡◌, ℕ, inl, inr, Bool, true, false, List, [], ◌∷◌, ◌++◌, length, refl, ap, ◌∙◌, sym, arith, append-nil}
+use Rattle.std.specs.Prelude.{◌==◌, IsUtf8, encode_utf8, map}
+use Rattle.std.specs.Cmp.{first_so, second_so}
 use Rattle.std.specs.List.{list_all}
 use Rattle.std.specs.Str.{chars, encode_utf8_all}
-use Rattle.std.proofs.lemmas.Bool.{cases_Bool}
+use Rattle.std.proofs.lemmas.Bool.{cases_Bool, eqb-true}
 use Rattle.std.proofs.lemmas.Str.{chars-nil, encodes-append, encodes-chars, encodes_same}
-use Rattle.num_format_typed.specs.Rewriting.{trim_end}
+use Rattle.num_format_typed.specs.Rewriting.{images, trim_end}
 
 -- one more that passes at the end
 all-push : (p : ℕ → Bool) (cs : List ℕ) (c : ℕ) → p c ≡ true → list_all p (cs ++ c ∷ []) ≡ list_all p cs
@@ -27,6 +28,17 @@ trim_end-push p (d ∷ cs) c passes = rw (all-push p (d ∷ cs) c passes, trim_e
 pub trim_end-kept : (p : ℕ → Bool) (cs : List ℕ) (c : ℕ) → p c ≡ false → trim_end p (cs ++ c ∷ []) ≡ cs ++ c ∷ []
 trim_end-kept p [] c fails = rw fails
 trim_end-kept p (d ∷ cs) c fails = rw (all-fails p (d ∷ cs) c fails, trim_end-kept p cs c fails)
+
+-- a text of which each character is its own image
+map-own : (image : ℕ → ℕ) (cs : List ℕ) → list_all (λ c. image c == c) cs ≡ true → map image cs ≡ cs
+map-own image [] own = refl
+map-own image (c ∷ cs) own =
+    let first : image c ≡ c = eqb-true (image c) c (first_so _ _ own) in
+    let others = map-own image cs (second_so _ _ own) in
+    cc
+
+pub images-own : (image : ℕ → ℕ) (t : List ℕ) → IsUtf8 t → list_all (λ c. image c == c) (chars t) ≡ true → images image t ≡ t
+images-own image t utf8 own = ap encode_utf8_all (map-own image (chars t) own) ∙ encodes-chars t utf8
 
 -- a text without bytes, and one with a character more
 pub chars-none : (t : List ℕ) → length t ≡ 0 → chars t ≡ []

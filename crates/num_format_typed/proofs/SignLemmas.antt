@@ -1,5 +1,5 @@
 -- A text without its sign.
-use Rattle.std.proofs.Common.{◌≡◌, ℕ, true, false, List, [], ◌∷◌, ◌++◌, length, refl, ap, ◌∙◌, sym, drop, inl, inr}
+use Rattle.std.proofs.Common.{◌≡◌, ℕ, true, false, List, ◌∷◌, ◌++◌, length, refl, ap, ◌∙◌, sym, drop, inl, inr}
 use Rattle.std.specs.Prelude.{encode_utf8, nat_eq, ◌||◌}
 use Rattle.std.specs.List.{starts_with}
 use Rattle.std.specs.Str.{chars, encode_utf8_all}
@@ -32,7 +32,8 @@ first-dropped t rest c first split whole =
 
 -- a text that begins with another sign than the format's
 pub unsigned-first : (f : FormatData) (t rest : List ℕ) (c : ℕ) → starts_with nat_eq t (core_of f) ≡ false
-    → (is_of Minus c || is_of Plus c) ≡ true → chars t ≡ c ∷ chars rest → t ≡ encode_utf8 c ++ rest → encode_utf8_all (chars t) ≡ t → rest ≡ unsigned f t
+    → (is_of Minus c || is_of Plus c) ≡ true → chars t ≡ c ∷ chars rest → t ≡ encode_utf8 c ++ rest → encode_utf8_all (chars t) ≡ t
+    → rest ≡ unsigned f t
 unsigned-first f t rest c other sign first split whole =
     let signed : (begins_with Minus t || begins_with Plus t) ≡ true = ap (λ cs. first_is Minus cs || first_is Plus cs) first ∙ sign in
     rw (other, signed) (first-dropped t rest c first split whole)

@@ -1,21 +1,24 @@
 -- A format is typable where tests of its symbols pass, and they do for those that most formats have.
-use Rattle.std.proofs.Common.{◌≡◌, ℕ, zero, suc, ◌≤◌, List, [], Bool, true, ◌&&◌, not, length, refl, ap, ◌∙◌, sym, arith, nat_le}
-use Rattle.std.specs.Prelude.{nat_eq, Contains}
-use Rattle.std.specs.List.{list_all}
+use Rattle.std.proofs.Common.{◌≡◌, ℕ, ◌≤◌, List, Bool, true, ◌&&◌, not, length, refl, ap, arith, nat_le}
+use Rattle.std.specs.Prelude.{Contains}
+use Rattle.std.specs.Char.{is_ascii_digit}
+use Rattle.std.specs.List.{list_all, list_any}
 use Rattle.std.specs.Cmp.{first_so, second_so}
-use Rattle.std.specs.Cmp.Lexicographic.{pointwise}
 use Rattle.std.specs.Str.{chars}
 use Rattle.std.proofs.lemmas.Bool.{leb-true, not-true}
-use Rattle.std.proofs.lemmas.Bool.Decides.{Decides-eqb}
 use Rattle.std.proofs.lemmas.List.Elements.{All-contains}
 use Rattle.std.proofs.lemmas.List.Sums.{AllPass-from_list_all}
-use Rattle.std.proofs.lemmas.Slice.Eq.{slice_eq-Decides}
 use lib.Utf8.{encode}
 use Rattle.num_format_text.specs.Format.{FormatData}
-use Rattle.num_format_parsing.specs.Strict.{IsUnambiguous}
+use Rattle.num_format_parsing.specs.Reading.{is_other_numeral}
+use Rattle.num_format_parsing.specs.Strict.{HasNoNumeral, IsUnambiguous}
+use Rattle.num_format_parsing.proofs.CommonLemmas.{of_printed}
+use Rattle.num_format_parsing.proofs.FigureLemmas.{figures-none}
+use Rattle.num_format_parsing.proofs.ReadingLemmas.{ucd_category}
 use Rattle.num_format_typed.specs.Classes.{is_of}
 use Rattle.num_format_typed.specs.Rewriting.{without_ends}
-use Rattle.num_format_typed.specs.Typed.{IsTypable, begins_with, core_of, has_shared, is_own, separator_of, usual_marks, usual_separators}
+use Rattle.num_format_typed.specs.Typed.{HasUsualSymbols, IsTypable, begins_with, core_of, has_shared, is_own, separator_of, usual_marks}
+use Rattle.num_format_typed.specs.Typed.{usual_separators}
 use Rattle.num_format_typed.specs.Typed.{usual_signs}
 use Rattle.num_format_typed.specs.declared.classes.Class.TheVariants.{Direction, End, Plus}
 
@@ -39,9 +42,9 @@ typable f unambiguous passed =
       no_plus = not-true _ (second_so _ _ (second_so _ _ sign));
     }
 
--- each usual sign is its own core, and passes with each usual mark and each usual separator
+-- each usual sign passes with each usual mark and each usual separator
 abbrev passes_with : (sign mark separator : List ℕ) → Bool
-passes_with sign mark separator = pointwise nat_eq (without_ends (is_of Direction) sign) sign && passes separator mark sign
+passes_with sign mark separator = passes separator mark (without_ends (is_of Direction) sign)
 
 abbrev passes_under : (sign mark : List ℕ) → Bool
 passes_under sign mark = list_all (λ s. passes_with sign mark s) usual_separators
@@ -53,35 +56,45 @@ usual_pass : list_all (λ m. sign_passes m) usual_signs ≡ true
 unfolding chars encode
 usual_pass = refl
 
+-- no usual sign is empty or has a numeral, and no usual separator has one
+abbrev is_plain : List ℕ → Bool
+is_plain t = not (list_any is_ascii_digit (chars t)) && not (list_any is_other_numeral (chars t))
+
+signs_plain : list_all (λ m. nat_le 1 (length m) && is_plain m) usual_signs ≡ true
+unfolding chars encode ucd_category
+signs_plain = refl
+
+separators_plain : list_all (λ s. is_plain s) usual_separators ≡ true
+unfolding chars encode ucd_category
+separators_plain = refl
+
+plain : (t : List ℕ) → is_plain t ≡ true → HasNoNumeral t
+plain t passed = record {
+  no_digit = figures-none (chars t) (not-true _ (first_so _ _ passed));
+  no_other = not-true _ (second_so _ _ passed);
+}
+
 -- an element of a list, each of which passes a test
 of_all : (p : List ℕ → Bool) (xs : List (List ℕ)) (x : List ℕ) → list_all p xs ≡ true → Contains xs x → p x ≡ true
 of_all p xs x all among = All-contains (λ x. p x ≡ true) xs x (AllPass-from_list_all p xs all) among
 
-usual : (separator mark sign : List ℕ) → Contains usual_separators separator → Contains usual_marks mark → Contains usual_signs sign →
-    (without_ends (is_of Direction) sign ≡ sign) × (passes separator mark sign ≡ true)
-usual s d m in_s in_d in_m =
-    let of_sign = of_all (λ m. sign_passes m) usual_signs m usual_pass in_m in
-    let of_mark = of_all (λ d. passes_under m d) usual_marks d of_sign in_d in
-    let both : passes_with m d s ≡ true = of_all (λ s. passes_with m d s) usual_separators s of_mark in_s in (
-      (slice_eq-Decides Decides-eqb (without_ends (is_of Direction) m) m (pointwise nat_eq (without_ends (is_of Direction) m) m) refl).0
-          (first_so _ _ both),
-      second_so _ _ both,
-    )
+-- so a format with usual symbols is neither ambiguous for strict parsing nor else
+module _ (f : FormatData) (usual : HasUsualSymbols f) where
+  printed : Contains usual_separators (separator_of f)
+  printed = of_printed (Contains usual_separators) (9, omega arith, refl) f.grouping f.separator usual.separator
 
--- each usual mark is a usual separator
-pub mark-separates : (t : List ℕ) → Contains usual_marks t → Contains usual_separators t
-mark-separates t (zero, among, same) = (0, omega arith, same)
-mark-separates t (suc zero, among, same) = (1, omega arith, same)
-mark-separates t (suc (suc i), among, same) = absurd (omega (arith, among))
+  pub usual-unambiguous : IsUnambiguous f
+  usual-unambiguous =
+      let sign = of_all (λ m. nat_le 1 (length m) && is_plain m) usual_signs f.minus_sign signs_plain usual.sign in
+      record {
+        sign_given = λ none. let some : 1 ≤ length f.minus_sign = leb-true _ _ (first_so _ _ sign)
+            in absurd (omega (arith, ap length none));
+        sign = plain f.minus_sign (second_so _ _ sign);
+        separator = plain (separator_of f) (of_all (λ s. is_plain s) usual_separators (separator_of f) separators_plain printed);
+      }
 
--- so a format with usual symbols is typable, and its minus sign has no marks of direction at its ends
-pub usual-typable : (f : FormatData) (separator mark sign : List ℕ) → IsUnambiguous f → separator ≡ separator_of f → mark ≡ f.decimal
-    → sign ≡ f.minus_sign →
-    Contains usual_separators separator → Contains usual_marks mark → Contains usual_signs sign → (sign ≡ core_of f) × IsTypable f
-usual-typable f s d m unambiguous same_s same_d same_m in_s in_d in_m =
-    let both = usual s d m in_s in_d in_m in
-    let core : m ≡ core_of f = sym both.0 ∙ ap (without_ends (is_of Direction)) same_m in (
-      core,
-      typable f unambiguous (sym (ap (λ x. passes x f.decimal (core_of f)) same_s) ∙ sym (ap (λ x. passes s x (core_of f)) same_d)
-          ∙ sym (ap (λ x. passes s d x) core) ∙ both.1),
-    )
+  pub usual-typable : IsTypable f
+  usual-typable =
+      let of_sign = of_all (λ m. sign_passes m) usual_signs f.minus_sign usual_pass usual.sign in
+      let of_mark = of_all (λ d. passes_under f.minus_sign d) usual_marks f.decimal of_sign usual.mark in
+      typable f usual-unambiguous (of_all (λ s. passes_with f.minus_sign f.decimal s) usual_separators (separator_of f) of_mark printed)

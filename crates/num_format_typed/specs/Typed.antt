@@ -1,6 +1,7 @@
 -- What a typed text stands for, and what parsing it returns.
 use Rattle.std.specs.Prelude.{◌≡◌, ℕ, ℤ, ◌+◌, ◌-◌, ◌<◌, ◌≤◌, nat_eq, Bool, true, false, ◌&&◌, ◌||◌, ◌==◌, List, [], ◌∷◌, ◌++◌}
-use Rattle.std.specs.Prelude.{length, drop, if◌then◌else◌, Option, Some, None, unwrap_or, Result, Ok, Err, MatchResult, IsUtf8, codes}
+use Rattle.std.specs.Prelude.{Contains, length, drop, if◌then◌else◌, Option, Some, None, unwrap_or, Result, Ok, Err, MatchResult, IsUtf8}
+use Rattle.std.specs.Prelude.{codes}
 use Rattle.std.specs.Int.{is_in_range}
 use Rattle.std.specs.List.{find, list_all, list_any, starts_with}
 use Rattle.std.specs.Option.{option_or}
@@ -86,14 +87,24 @@ pub record IsTypable (f : FormatData) : Type 0 where
 
 -- minus signs, decimal marks and separators that most formats have
 abbrev pub usual_signs : List (List ℕ)
-usual_signs = codes "-" ∷ (0xE2 ∷ 0x88 ∷ 0x92 ∷ []) ∷ []
+usual_signs = codes "-" ∷ (0xE2 ∷ 0x88 ∷ 0x92 ∷ []) ∷ (0xD8 ∷ 0x9C ∷ 0x2D ∷ []) ∷ (0xE2 ∷ 0x80 ∷ 0x8E ∷ 0x2D ∷ []) ∷ []
 
 abbrev pub usual_marks : List (List ℕ)
-usual_marks = codes "." ∷ codes "," ∷ []
+usual_marks = codes "." ∷ codes "," ∷ (0xD9 ∷ 0xAB ∷ []) ∷ []
+
+abbrev pub usual_spaces : List (List ℕ)
+usual_spaces = (0xC2 ∷ 0xA0 ∷ []) ∷ (0xE2 ∷ 0x80 ∷ 0xAF ∷ []) ∷ (0xE2 ∷ 0x80 ∷ 0x99 ∷ []) ∷ (0xD9 ∷ 0xAC ∷ []) ∷ []
+
+abbrev pub ascii_separators : List (List ℕ)
+ascii_separators = codes "'" ∷ codes " " ∷ [] ∷ []
 
 abbrev pub usual_separators : List (List ℕ)
-usual_separators =
-    codes "." ∷ codes "," ∷ (0xC2 ∷ 0xA0 ∷ []) ∷ (0xE2 ∷ 0x80 ∷ 0xAF ∷ []) ∷ (0xE2 ∷ 0x80 ∷ 0x99 ∷ []) ∷ [] ∷ []
+usual_separators = usual_marks ++ (usual_spaces ++ ascii_separators)
+
+pub record HasUsualSymbols (f : FormatData) : Type 0 where
+  pub sign : Contains usual_signs f.minus_sign
+  pub mark : Contains usual_marks f.decimal
+  pub separator : Contains usual_separators f.separator
 
 -- a text without what counts for nothing at its ends
 abbrev pub trimmed : List ℕ → List ℕ

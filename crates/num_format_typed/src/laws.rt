@@ -3,7 +3,8 @@
 //! The contract of each function is a law. There is nothing to compute, so the bodies are empty, but for that of
 //! [`locale_typable`], which calls a getter for what its contract says.
 ghost use Rattle.num_format_locale.specs.Data.{locale_data};
-ghost use Rattle.num_format_typed.specs.Laws.{OnceDecimalLaw, OnceLaw, PrintedAtScaleLaw, PrintedDecimalLaw, PrintedLaw};
+ghost use Rattle.num_format_typed.specs.Laws.{OnceDecimalLaw, OnceLaw, PrintedAtScaleLaw, PrintedDecimalLaw};
+ghost use Rattle.num_format_typed.specs.Laws.{PrintedLaw};
 ghost use Rattle.num_format_typed.specs.Typed.{IsTypable};
 
 use num_format_locale::Locale;

@@ -1,7 +1,8 @@
 //! Parsing texts as people type them.
 //!
 //! Most are as the format prints them, so strict parsing comes first, and looks for no cause where it refuses a text.
-ghost use Rattle.std.specs.Prelude.{◌≡◌, ◌↔◌, ◌++◌, ◌<◌, ◌≤◌, ℕ, [], Contains, IfSome, IsTrue, MatchOption, MatchResult, IsUtf8, drop, length, Err, nat_eq, true, false};
+ghost use Rattle.std.specs.Prelude.{◌≡◌, ◌↔◌, ◌++◌, ◌<◌, ◌≤◌, ℕ, [], Contains, IfSome, IsTrue, MatchOption};
+ghost use Rattle.std.specs.Prelude.{MatchResult, IsUtf8, drop, length, Err, nat_eq, true, false};
 ghost use Rattle.std.specs.List.{find, list_any, starts_with};
 ghost use Rattle.std.specs.Str.{chars, encode_utf8_all};
 ghost use Rattle.num_format_decimal.specs.declared.buffer.TheConstants.{MAX_DECIMAL_LEN};
@@ -11,7 +12,13 @@ ghost use Rattle.num_format_parsing.specs.Strict.{IsUnambiguous, ParsesStrictly}
 ghost use Rattle.num_format_parsing.specs.declared.error.StrictError.TheVariants as strict;
 ghost use Rattle.num_format_typed.specs.Classes.{class_of, is_of};
 ghost use Rattle.num_format_typed.specs.Rewriting.{without_ends};
-ghost use Rattle.num_format_typed.specs.Typed.{IsTypable, ParsesTyped, RescaleResult, TypedAtScaleResult, TypedDecimalResult, at_any_scale, begins_with, body_of, core_of, has_class, has_minus, has_shared, is_nonzero_digit, is_own, is_shared_in, own_char, place_in, placed, placed_decimal, put, separator_of, sign_of, trimmed, typed_message_of, typed_text, unsigned, usual_marks, usual_separators, usual_signs};
+ghost use Rattle.num_format_typed.specs.Typed.{HasUsualSymbols, IsTypable, ParsesTyped, RescaleResult};
+ghost use Rattle.num_format_typed.specs.Typed.{TypedAtScaleResult, TypedDecimalResult, ascii_separators, at_any_scale};
+ghost use Rattle.num_format_typed.specs.Typed.{begins_with, body_of, core_of, has_class, has_minus, has_shared};
+ghost use Rattle.num_format_typed.specs.Typed.{is_nonzero_digit, is_own, is_shared_in, own_char, place_in, placed};
+ghost use Rattle.num_format_typed.specs.Typed.{placed_decimal, put, separator_of, sign_of, trimmed, typed_message_of};
+ghost use Rattle.num_format_typed.specs.Typed.{typed_text, unsigned, usual_marks, usual_separators, usual_signs};
+ghost use Rattle.num_format_typed.specs.Typed.{usual_spaces};
 
 use crate::classes::Class;
 use crate::rewriting::{Image, bytes_within, rewrite, split_first, without_end, without_front};
@@ -144,12 +151,25 @@ fn strip<'t>(text: &'t str, prefix: &str) -> Option<&'t str>
     }
 }
 
+/// Returns whether the symbols of a format are those that most have.
+#[inline(always)]
+fn has_usual_symbols<F: Format>(format: &F) -> bool
+    ensures { IsTrue result → HasUsualSymbols (F.answers format.now) }
+{
+    is_usual_sign(format.minus_sign().into_str())
+        && is_usual_mark(format.decimal().into_str())
+        && is_usual_separator(format.separator().into_str())
+}
+
 /// Returns whether a minus sign is one that most formats have.
 #[inline(always)]
 fn is_usual_sign(text: &str) -> bool
     ensures { IsTrue result → Contains usual_signs text.now }
 {
-    matches!(*text.as_bytes(), [b'-'] | [0xE2, 0x88, 0x92])
+    matches!(
+        *text.as_bytes(),
+        [b'-'] | [0xE2, 0x88, 0x92] | [0xD8, 0x9C, b'-'] | [0xE2, 0x80, 0x8E, b'-']
+    )
 }
 
 /// Returns whether a decimal mark is one that most formats have.
@@ -157,7 +177,7 @@ fn is_usual_sign(text: &str) -> bool
 fn is_usual_mark(text: &str) -> bool
     ensures { IsTrue result → Contains usual_marks text.now }
 {
-    matches!(*text.as_bytes(), [b'.'] | [b','])
+    matches!(*text.as_bytes(), [b'.'] | [b','] | [0xD9, 0xAB])
 }
 
 /// Returns whether a separator is one that most formats have.
@@ -168,34 +188,51 @@ fn is_usual_separator(text: &str) -> bool
     if is_usual_mark(text) {
         return true;
     }
-    matches!(text, "\u{a0}" | "\u{202f}" | "\u{2019}" | "")
+    if is_usual_space(text) {
+        return true;
+    }
+    is_ascii_separator(text)
 }
 
-/// Returns the minus sign of a format without marks of direction at its ends, or `None` if what people type under the
-/// format has more than one meaning.
+/// Returns whether a separator is a space or an apostrophe of locales, or U+066C.
+#[inline(always)]
+fn is_usual_space(text: &str) -> bool
+    ensures { IsTrue result → Contains usual_spaces text.now }
+{
+    matches!(
+        *text.as_bytes(),
+        [0xC2, 0xA0] | [0xE2, 0x80, 0xAF] | [0xE2, 0x80, 0x99] | [0xD9, 0xAC]
+    )
+}
+
+/// Returns whether a separator is one of a keyboard.
+#[inline(always)]
+fn is_ascii_separator(text: &str) -> bool
+    ensures { IsTrue result → Contains ascii_separators text.now }
+{
+    matches!(*text.as_bytes(), [b'\''] | [b' '])
+}
+
+/// Returns whether what people type under a format has one meaning, where strict parsing takes the format.
 #[cold]
 #[inline(never)]
-fn typable_core<'a, F: Format>(
-    format: &'a F,
-    symbols: Symbols<'a>,
-    minus_sign: &'a str,
-) -> Option<&'a str>
+fn is_typable<F: Format>(format: &F, symbols: Symbols<'_>, minus_sign: &str) -> bool
     requires unambiguous { IsUnambiguous (F.answers format.now) }
     requires separator { symbols.separator.now ≡ separator_of (F.answers format.now) }
     requires mark { symbols.mark.now ≡ (F.answers format.now).decimal }
     requires minus_sign { minus_sign.now ≡ (F.answers format.now).minus_sign }
-    ensures { MatchOption result (¬ (IsTypable (F.answers format.now)))
-        (λ core. (core.now ≡ core_of (F.answers format.now)) × IsTypable (F.answers format.now)) }
+    ensures typable { result ≡ true → IsTypable (F.answers format.now) }
+    ensures refused { result ≡ false → ¬ (IsTypable (F.answers format.now)) }
 {
     let Symbols { separator, mark } = symbols;
     let core = without_ends(minus_sign, Class::Direction);
     if core.is_empty() || begins_with(core, Class::End) || begins_with(core, Class::Plus) {
-        return None;
+        return false;
     }
     if !symbols.are_own(separator) || !symbols.are_own(mark) || symbols.share(core) {
-        return None;
+        return false;
     }
-    Some(core)
+    true
 }
 
 /// Strict parsing under one format, and the symbols by which a text that it refuses is rewritten.
@@ -204,25 +241,19 @@ fn typable_core<'a, F: Format>(
 #[derive(Drop)]
 struct Rewriter<'a, F: Format> {
     numbers: StrictParser<'a, F>,
-    minus_sign: &'a str,
-    core: &'a str,
-    symbols: Symbols<'a>,
+    mark: &'a str,
 }
 
 impl<'a, F: Format> Model for Rewriter<'a, F> {
     ghost use Rattle.std.specs.Prelude.{◌≡◌};
     ghost use Rattle.num_format_text.specs.Format.{FormatData};
-    ghost use Rattle.num_format_typed.specs.Typed.{IsTypable, core_of, separator_of};
+    ghost use Rattle.num_format_typed.specs.Typed.{IsTypable};
 
     ghost Value = { FormatData };
 
     ghost view = { λ r. r.numbers };
 
-    ghost invariant = { λ r. (r.minus_sign.now ≡ r.numbers.minus_sign)
-        × (r.core.now ≡ core_of r.numbers)
-        × (r.symbols.separator.now ≡ separator_of r.numbers)
-        × (r.symbols.mark.now ≡ r.numbers.decimal)
-        × IsTypable r.numbers };
+    ghost invariant = { λ r. (r.mark.now ≡ r.numbers.decimal) × IsTypable r.numbers };
 }
 
 impl<'a, F: Format> Rewriter<'a, F> {
@@ -233,30 +264,19 @@ impl<'a, F: Format> Rewriter<'a, F> {
             (λ rewriter. (rewriter ≡ F.answers format.now) × IsTypable (F.answers format.now))
             (λ e. (e ≡ strict.AmbiguousFormat) × ¬ (IsTypable (F.answers format.now))) }
     {
-        let minus_sign = format.minus_sign().into_str();
         let mark = format.decimal().into_str();
+        if has_usual_symbols(format) {
+            let numbers = StrictParser::unambiguous(format);
+            return Ok(Rewriter { numbers, mark });
+        }
         let Ok(numbers) = StrictParser::new(format) else {
             return Err(StrictError::AmbiguousFormat);
         };
         let separator = numbers.separator();
-        let symbols = Symbols { separator, mark };
-        if is_usual_mark(mark) && is_usual_sign(minus_sign) && is_usual_separator(separator) {
-            return Ok(Rewriter {
-                numbers,
-                minus_sign,
-                core: minus_sign,
-                symbols,
-            });
-        }
-        let Some(core) = typable_core(format, symbols, minus_sign) else {
+        if !is_typable(format, Symbols { separator, mark }, numbers.minus_sign()) {
             return Err(StrictError::AmbiguousFormat);
-        };
-        Ok(Rewriter {
-            numbers,
-            minus_sign,
-            core,
-            symbols,
-        })
+        }
+        Ok(Rewriter { numbers, mark })
     }
 
     /// Returns the number that a person means by the text of the bytes.
@@ -346,17 +366,33 @@ impl<'a, F: Format> Rewriter<'a, F> {
         &self.numbers
     }
 
-    /// Writes what a typed text stands for to the start of an array, and returns these bytes, or `None` if they are too
-    /// many.
+    /// Returns the symbols of the format that stand between digits.
     #[inline(always)]
-    fn rewrite<'s>(&self, text: &str, array: &'s mut [u8]) -> Option<&'s [u8]>
+    fn symbols(&self) -> Symbols<'a>
+        ensures separator { result.separator.now ≡ separator_of self.now }
+        ensures mark { result.mark.now ≡ self.now.decimal }
+    {
+        Symbols {
+            separator: self.numbers().separator(),
+            mark: self.mark,
+        }
+    }
+
+    /// Returns the bytes that a typed text stands for, or `None` if they are too many. Where no character changes, they
+    /// are those of the text, and are else written to the start of the array.
+    #[inline(always)]
+    fn rewrite<'s>(&self, text: &'s str, array: &'s mut [u8]) -> Option<&'s [u8]>
         requires { length array.old ≡ MAX_DECIMAL_LEN }
         ensures text { MatchOption result (MAX_DECIMAL_LEN < length (typed_text self.now text.now))
             (λ typed. typed.now ≡ typed_text self.now text.now) }
         ensures fits { IfSome result (λ typed. length typed.now ≤ MAX_DECIMAL_LEN) }
     {
         let (sign, body) = self.sign_and_body(without_ends(text, Class::End));
-        rewrite(sign, body, &self.symbols, array)
+        let symbols = self.symbols();
+        if sign.is_empty() && body.len() <= MAX_DECIMAL_LEN && symbols.are_own(body) {
+            return Some(body.as_bytes());
+        }
+        rewrite(sign, body, &symbols, array)
     }
 
     /// Returns the sign of what a trimmed text stands for, and what follows the sign of the text.
@@ -366,25 +402,29 @@ impl<'a, F: Format> Rewriter<'a, F> {
         ensures body { result.1.now ≡ body_of self.now text.now }
         ensures bound { length result.1.now ≤ length text.now }
     {
-        let (has_minus, unsigned) = self.split_sign(text);
+        let minus_sign = self.numbers().minus_sign();
+        let core = without_ends(minus_sign, Class::Direction);
+        let (has_minus, unsigned) = self.split_sign(text, core);
         let body = without_front(unsigned, Class::Direction);
         if has_minus && has_nonzero_digit(body) {
-            return (self.minus_sign, body);
+            return (minus_sign, body);
         }
-        if is_prefix(body.as_bytes(), self.core.as_bytes()) {
-            return (self.minus_sign, body);
+        if is_prefix(body.as_bytes(), core.as_bytes()) {
+            return (minus_sign, body);
         }
         ("", body)
     }
 
-    /// Returns whether a trimmed text begins with a minus sign, and the text without its sign.
+    /// Returns whether a trimmed text begins with a minus sign, and the text without its sign. `core` is the minus sign
+    /// of the format without marks of direction at its ends.
     #[inline(always)]
-    fn split_sign<'t>(&self, text: &'t str) -> (bool, &'t str)
+    fn split_sign<'t>(&self, text: &'t str, core: &str) -> (bool, &'t str)
+        requires { core.now ≡ core_of self.now }
         ensures minus { result.0 ≡ has_minus self.now text.now }
         ensures rest { result.1.now ≡ unsigned self.now text.now }
         ensures bound { length result.1.now ≤ length text.now }
     {
-        if let Some(rest) = strip(text, self.core) {
+        if let Some(rest) = strip(text, core) {
             return (true, rest);
         }
         let Some((first, rest)) = split_first(text) else {
@@ -434,7 +474,7 @@ impl<'a, F: Format> Rewriter<'a, F> {
         let (sign, body) = self.sign_and_body(inner);
         let start = text.len() - front.len() + (inner.len() - body.len());
         let room = at.saturating_sub(sign.len());
-        start + bytes_within(room, body, &self.symbols)
+        start + bytes_within(room, body, &self.symbols())
     }
 }
 

@@ -5,20 +5,18 @@ use Rattle.num_format_text.specs.Format.{FormatData}
 use Rattle.num_format_parsing.specs.Shapes.{HasPlainSymbols}
 use Rattle.num_format_parsing.specs.Strict.{SpellsNumber}
 use Rattle.num_format_parsing.proofs.CommonLemmas.{of_printed}
-use Rattle.num_format_parsing.proofs.SpellingLemmas.{no_other-spelled}
 use Rattle.num_format_parsing.proofs.SymbolLemmas.{plain-symbols}
 use Rattle.num_format_digits.specs.Digits.{HasOneSet, IsZero, ascii_of, in_digits}
 use Rattle.num_format_digits.specs.Laws.{SpellsIn}
-use Rattle.num_format_digits.proofs.TextLemmas.{one_set, reads_back}
+use Rattle.num_format_digits.proofs.TextLemmas.{one_set, spelled_back}
 use Rattle.num_format_digits.proofs.laws.spelled_texts.Goals as goal
 
 -- what spells n is shown, and is of one set
 shown : (z : ℕ) (f : FormatData) (t a : List ℕ) (n : ℤ) → IsZero z → HasPlainSymbols f → SpellsNumber f a n → t ≡ in_digits z a
     → HasOneSet z t × SpellsNumber f (ascii_of z t) n
 shown z f t a n is symbols spells same =
-    let other = no_other-spelled f a n symbols spells in
-    let back = reads_back z a is other.utf8 other.plain in
-    (subst (HasOneSet z) (sym same) back.0, subst (λ x. SpellsNumber f x n) (sym (ap (ascii_of z) same ∙ back.1)) spells)
+    let back = spelled_back z f t a n is symbols spells same in
+    (back.1, subst (λ x. SpellsNumber f x n) (sym back.2) spells)
 
 -- one way and the other
 there : (z : ℕ) (f : FormatData) (t : List ℕ) (n : ℤ) → IsZero z → HasPlainSymbols f → SpellsIn z f t n → HasOneSet z t

@@ -9,7 +9,7 @@ taken word p ps is = rw is refl
 
 pub returns-then-is_word : goal.returns-then-is_word
 returns-then-is_word c =
-    c.loop-part.invariant.1
+    c.loop-part.invariant
     ∙ ap (after c.args.word.now) c.in-Some.ensures.parts
     ∙ taken c.args.word.now c.in-Some.part.now _ (sym c.is_word.ensures ∙ c.if-is_word.true)
     ∙ ap Some (parts-some c.in-Some.rest.now)

@@ -1,33 +1,21 @@
-use Rattle.std.proofs.Common.{◌≡◌, rules, subst, sym}
-use Rattle.num_format_parsing.specs.Strict.{IsUnambiguous}
-use Rattle.num_format_typed.specs.Typed.{IsTypable, separator_of}
-use Rattle.num_format_typed.proofs.TypableLemmas.{usual-typable}
+use Rattle.std.proofs.Common.{◌≡◌, ◌∙◌, ap, rules, subst, sym}
+use Rattle.num_format_typed.specs.Typed.{IsTypable}
+use Rattle.num_format_typed.proofs.TypableLemmas.{usual-typable, usual-unambiguous}
 use Rattle.num_format_typed.proofs.typed.Rewriter.new.Goals as goal
+
+pub unambiguous-numbers-requires : goal.unambiguous-numbers-requires
+unambiguous-numbers-requires g c =
+    usual-unambiguous (g.F.Format.answers c.args.format.now) (c.has_usual_symbols.ensures c.if-has_usual_symbols.true)
 
 pub invariant_of-result : goal.invariant_of-result
 invariant_of-result g c =
-    let f = c.in-Ok.numbers in
-    let unambiguous : IsUnambiguous f = subst IsUnambiguous (sym c.in-Ok.ensures.0) c.in-Ok.ensures.1 in
-    let separator : c.separator-separator.result.now ≡ separator_of f = search rules in
+    let f = g.F.Format.answers c.args.format.now in
     let mark : c.into_str-mark.result.now ≡ f.decimal = search rules in
-    let minus_sign : c.into_str-minus_sign.result.now ≡ f.minus_sign = search rules in
-    let both =
-    usual-typable f c.separator-separator.result.now c.into_str-mark.result.now c.into_str-minus_sign.result.now
-    unambiguous separator mark minus_sign
-    (c.is_usual_separator.ensures c.if-is_usual_separator.true) (c.is_usual_mark.ensures c.if-is_usual_mark.true)
-    (c.is_usual_sign.ensures c.if-is_usual_sign.true) in
-    (minus_sign, both.0, separator, mark, both.1)
+    let same = sym c.unambiguous-numbers.ensures in
+    (mark ∙ ap (λ d. d.decimal) same, subst IsTypable same (usual-typable f (c.has_usual_symbols.ensures c.if-has_usual_symbols.true)))
 
-pub returns-then-is_usual_separator : goal.returns-then-is_usual_separator
-returns-then-is_usual_separator g c =
-    let f = c.in-Ok.numbers in
-    let unambiguous : IsUnambiguous f = subst IsUnambiguous (sym c.in-Ok.ensures.0) c.in-Ok.ensures.1 in
-    let separator : c.separator-separator.result.now ≡ separator_of f = search rules in
-    let mark : c.into_str-mark.result.now ≡ f.decimal = search rules in
-    let minus_sign : c.into_str-minus_sign.result.now ≡ f.minus_sign = search rules in
-    let both =
-    usual-typable f c.separator-separator.result.now c.into_str-mark.result.now c.into_str-minus_sign.result.now
-    unambiguous separator mark minus_sign
-    (c.is_usual_separator.ensures c.if-is_usual_separator.true) (c.is_usual_mark.ensures c.if-is_usual_mark.true)
-    (c.is_usual_sign.ensures c.if-is_usual_sign.true) in
-    (c.in-Ok.ensures.0, subst IsTypable c.in-Ok.ensures.0 both.1)
+pub returns-then-has_usual_symbols : goal.returns-then-has_usual_symbols
+returns-then-has_usual_symbols g c = (
+  c.unambiguous-numbers.ensures,
+  usual-typable (g.F.Format.answers c.args.format.now) (c.has_usual_symbols.ensures c.if-has_usual_symbols.true),
+)

@@ -1,4 +1,4 @@
-use Rattle.std.proofs.Common.{◌∙◌, ℕ, List, Ok, Err, ap, subst, refl, length, rules, arith}
+use Rattle.std.proofs.Common.{ℕ, List, Ok, Err, ap, subst, refl, length, rules, arith}
 use Rattle.num_format_decimal.specs.Parsing.{DecimalResult}
 use Rattle.num_format_typed.specs.Typed.{TypedResult}
 use Rattle.num_format_typed.specs.declared.typed.TypedError.TheVariants.{Number}

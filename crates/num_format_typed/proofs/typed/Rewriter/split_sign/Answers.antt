@@ -3,7 +3,7 @@ use Rattle.std.specs.Prelude.{◌||◌}
 use Rattle.std.specs.List.{starts_with}
 use Rattle.num_format_typed.specs.Classes.{is_of}
 use Rattle.num_format_typed.specs.Typed.{core_of}
-use Rattle.num_format_typed.specs.declared.classes.Class.TheVariants.{Minus, Plus}
+use Rattle.num_format_typed.specs.declared.classes.Class.TheVariants.{Plus}
 use Rattle.num_format_typed.proofs.SignLemmas.{unsigned-first}
 use Rattle.num_format_typed.proofs.typed.Rewriter.split_sign.Goals as goal
 
