@@ -16,8 +16,8 @@
  * pointer or has a state, so calls may be made from any thread.
  *
  * A call that fails returns a negative number, one of the errors below, and everything that it would
- * have written is as it was, but for `at` with NUM_FORMAT_UNEXPECTED, and the text of num_format_format_.., which is
- * then empty. Where several errors apply, each call says which one it returns.
+ * have written is as it was, but for `at` with NUM_FORMAT_UNEXPECTED and NUM_FORMAT_OTHER_NUMERAL, and the text of
+ * num_format_format_.., which is then empty. Where several errors apply, each call says which one it returns.
  *
  * The contracts of the library's functions are proved. They hold for any bytes of a struct `num_format` and of a
  * text. What is inline here is tested. What a caller must ensure, since no call can test it:
@@ -62,12 +62,12 @@ typedef enum num_format_grouping {
 /* A format. Fill it by num_format_locale, num_format_lookup, num_format_custom or num_format_custom_decimal,
  * and copy it as you like.
  *
- * Each call that is given a format tests it, and refuses with NUM_FORMAT_BAD_FORMAT one that cannot
- * be a format: a length above 8, a text that is not UTF-8, a number of no grouping. A struct of
- * zeros is refused.
+ * Each call that is given a format, but num_format_set_digits, tests it, and refuses with
+ * NUM_FORMAT_BAD_FORMAT one that cannot be a format: a length above 8, a text that is not UTF-8, a number
+ * of no grouping or of no digit set. A struct of zeros is refused.
  *
  * The calls that fill a struct set the bytes after each text, and those that are reserved, to zero. So the
- * formats of two filled structs have the same texts and grouping exactly if memcmp finds the structs equal. */
+ * formats of two filled structs have the same texts, grouping and digits exactly if memcmp finds the structs equal. */
 typedef struct num_format {
     uint8_t separator[8];
     uint8_t minus_sign[8];
@@ -76,7 +76,8 @@ typedef struct num_format {
     uint8_t minus_sign_length;
     uint8_t decimal_mark_length;
     uint8_t grouping;
-    uint8_t reserved[4];
+    uint8_t digits; /* 0 for 0 to 9, else the number of a digit set, as num_format_set_digits sets it */
+    uint8_t reserved[3];
 } num_format;
 
 /* Fills the struct with the format of a locale, and returns 0.
@@ -93,7 +94,12 @@ int32_t num_format_locale(num_format *format, const char *name, size_t length);
  * as a hyphen. From what is left, subtags are taken away at the end until it is a name: "de_DE.UTF-8" is "de",
  * "en-us" is "en", "zh-hant-TW" is "zh-Hant", "sr_RS@latin" is "sr". "C" and "POSIX" are "en-US-POSIX".
  *
- * Errors: NUM_FORMAT_NOT_UTF8, else NUM_FORMAT_UNKNOWN_LOCALE: no name is left, as of "english". */
+ * The digits are those that the tag names after "-u-" and "-nu-", as num_format_set_digits takes their name, and else
+ * 0 to 9: "fa-u-nu-arabext". "native" is the default set of the locale, as CLDR 42 has it: "fa-u-nu-native". For these
+ * the tag counts up to "-x-".
+ *
+ * Errors: NUM_FORMAT_NOT_UTF8, else NUM_FORMAT_UNKNOWN_LOCALE: no name is left, as of "english", else
+ * NUM_FORMAT_UNKNOWN_DIGITS, as of "zh-u-nu-traditio" and "zh-u-nu-finance". */
 int32_t num_format_lookup(num_format *format, const char *tag, size_t length);
 
 /* The same for a name and a tag that end at a zero byte. A null pointer, as getenv returns one, is
@@ -112,6 +118,18 @@ int32_t num_format_custom(num_format *format, const char *separator, size_t sepa
 int32_t num_format_custom_decimal(num_format *format, const char *separator, size_t separator_length,
                                   uint32_t grouping, const char *minus_sign, size_t minus_sign_length,
                                   const char *decimal_mark, size_t decimal_mark_length);
+
+/* Sets the digits of the struct to a set by its name in the CLDR, in lower case, changes nothing else, and returns 0:
+ * "arab", "arabext", "deva", "beng", "mymr", "fullwide" and 70 others, which are all the decimal digits of Unicode, and
+ * "latn" for 0 to 9. The calls that fill a struct, but num_format_lookup, set it to "latn".
+ *
+ * A text in another set than "latn" is the text in 0 to 9 with the digits of the set for them, which no symbol
+ * of a locale has: 1234 in "fullwide" under "en" is U+FF11, a comma, and U+FF12 to U+FF14. Texts are printed,
+ * measured, parsed strictly and as people type them in each set. What parses leniently, and num_format_reads_back,
+ * refuses a struct with another set than "latn" by NUM_FORMAT_BAD_FORMAT.
+ *
+ * Errors: NUM_FORMAT_NOT_UTF8, else NUM_FORMAT_UNKNOWN_DIGITS: no set has the name, as "roman" and "Arab". */
+int32_t num_format_set_digits(num_format *format, const char *name, size_t length);
 
 /* The number of locales. Their places are the numbers below it. */
 #define NUM_FORMAT_LOCALES 542
@@ -136,18 +154,21 @@ int32_t num_format_lookup_name(const char *tag, size_t tag_length, char *name, s
  * Error: NUM_FORMAT_BAD_FORMAT. */
 int32_t num_format_reads_back(const num_format *format);
 
-/* Returns 1 if each number has the same text under both formats, else 0.
+/* Returns 1 if both formats have the same digits and each number has the same text under both in 0 to 9, else 0.
  *
  * Error: NUM_FORMAT_BAD_FORMAT, if either struct has no format. */
 int32_t num_format_prints_alike(const num_format *first, const num_format *second);
 
 /* ---- One number ---- */
 
-/* The size of an array that the text of any number fits, under any format. */
+/* The size of an array that the text of any number fits, under any format, in the digits 0 to 9. */
 #define NUM_FORMAT_MAX 191
 
-/* Print a number at the start of the array, and return the length of its text, from 1 to
- * NUM_FORMAT_MAX. The other bytes of the array are as they were.
+/* The size of one that the text of any number or decimal fits in each digit set. */
+#define NUM_FORMAT_DIGITS_MAX 796
+
+/* Print a number at the start of the array, and return the length of its text, from 1 to NUM_FORMAT_MAX, or to
+ * NUM_FORMAT_DIGITS_MAX in other digits. The other bytes of the array are as they were.
  *
  * Numbers of narrower types have the same text, converted to 64 bits. One of 128 bits is passed by its low and its
  * high half: of an unsigned __int128 n, or of an __int128 in two's complement, (uint64_t)n and (uint64_t)(n >> 64).
@@ -161,8 +182,9 @@ int32_t num_format_print_u128(const num_format *format, uint64_t low, uint64_t h
                               size_t capacity);
 
 /* Write the text of a number and a zero byte, as snprintf does, and return the length of the text. NUM_FORMAT_MAX + 1
- * bytes suffice. Where the size is not above the length, and after an error, the text is empty: no part of a number is
- * written. With size 0 nothing is written, and text may be null. These are inline.
+ * bytes suffice, or NUM_FORMAT_DIGITS_MAX + 1 in other digits. Where the size is not above the length, and after an
+ * error, the text is empty: no part of a number is written. With size 0 nothing is written, and text may be null. These
+ * are inline.
  *
  * Error: NUM_FORMAT_BAD_FORMAT. */
 static inline int32_t num_format_format_i64(const num_format *format, int64_t number, char *text, size_t size);
@@ -186,15 +208,21 @@ int32_t num_format_print_u128_len(const num_format *format, uint64_t low, uint64
  * Under the locale "en" the texts "-1,234" and "-1234" are -1234, and all of "1,23", "01", "-0", "+1",
  * " 1" and "12.50" are refused.
  *
- * `at` is written with NUM_FORMAT_UNEXPECTED alone, and the number with 0 alone. Each is as it was with
- * any other result.
+ * In other digits than 0 to 9, each numeric character has to be a digit of the set, and the text with 0 to 9 for these
+ * is the one that is parsed. `at` counts the bytes of the text as given.
+ *
+ * `at` is written with NUM_FORMAT_UNEXPECTED and NUM_FORMAT_OTHER_NUMERAL alone, and the number with 0 alone. Each is
+ * as it was with any other result.
  *
  * Errors, in this order:
  * - NUM_FORMAT_BAD_BITS, where the number of bits is passed.
  * - NUM_FORMAT_BAD_FORMAT.
- * - NUM_FORMAT_AMBIGUOUS_FORMAT: num_format_reads_back returns 0, as it does for no locale. The minus sign is
- *   empty, or it or a separator that is printed has a numeric character, as "7".
+ * - NUM_FORMAT_AMBIGUOUS_FORMAT: in 0 to 9 num_format_reads_back returns 0, as it does for no locale. The minus
+ *   sign is empty, or it or a separator that is printed has a numeric character, as "7".
  * - NUM_FORMAT_NOT_UTF8.
+ * - NUM_FORMAT_OTHER_NUMERAL, in other digits than 0 to 9: a numeric character is none of the set, as "3" and U+00B2 in
+ *   "arab". `at` is then the number of bytes before the first such character.
+ * - NUM_FORMAT_TEXT_TOO_LONG, in these too: with 0 to 9 for them it has more than NUM_FORMAT_DECIMAL_MAX bytes.
  * - NUM_FORMAT_UNEXPECTED: a byte is none of the minus sign, if the text begins with it, of a digit 0
  *   to 9, or of a whole separator. `at` is then the number of bytes before the first such byte: under
  *   "en" 0 for " 1", 2 for "12.50" and 5 for "1,234 2". Under NUM_FORMAT_POSIX no byte is of a
@@ -229,8 +257,10 @@ int32_t num_format_parse_strict_u128(const num_format *format, const char *text,
  * - NUM_FORMAT_BAD_LENGTH: value_size is not the size of the type.
  * - NUM_FORMAT_AMBIGUOUS_FORMAT: as by num_format_parse_strict_i64; or the decimal mark and a separator that is printed
  *   have two unlike spaces, apostrophes, commas or points, as "'" and U+2019, or the minus sign has one of their kinds,
- *   begins with a space or a plus sign, or has only marks of the direction of writing. This holds for no locale.
+ *   or without marks of the direction of writing at its ends is empty or begins with a blank, a line end or a plus
+ *   sign. This holds for no locale.
  * - NUM_FORMAT_NOT_UTF8.
+ * - In other digits than 0 to 9 NUM_FORMAT_OTHER_NUMERAL or NUM_FORMAT_TEXT_TOO_LONG, as num_format_parse_strict_i64.
  * - NUM_FORMAT_TEXT_TOO_LONG: the text that it stands for has more than NUM_FORMAT_DECIMAL_MAX bytes.
  * - Those of num_format_parse_strict_i64 of the text that it stands for. `at` counts the bytes of the text as given. */
 int32_t num_format_parse_typed(const num_format *format, uint32_t type, const char *text, size_t length, void *value,
@@ -267,11 +297,11 @@ size_t num_format_text_width(const char *text, size_t length);
 
 /* ---- Decimals ---- */
 
-/* The size of an array that the text of any decimal fits, under any format. */
+/* The size of an array that the text of any decimal fits, under any format, in the digits 0 to 9. */
 #define NUM_FORMAT_DECIMAL_MAX 199
 
-/* Prints a decimal at the start of the array, and returns the length of its text, from 1 to
- * NUM_FORMAT_DECIMAL_MAX. The other bytes of the array are as they were.
+/* Prints a decimal at the start of the array, and returns the length of its text, from 1 to NUM_FORMAT_DECIMAL_MAX, or
+ * to NUM_FORMAT_DIGITS_MAX in other digits. The other bytes of the array are as they were.
  *
  * The decimal is its units divided by 10 to the power of the scale, which is at most 38. The units are
  * signed, of 128 bits, by their halves: 123450 at scale 2 is "1,234.50" under "en", and -5 at scale 2 is
@@ -282,8 +312,8 @@ size_t num_format_text_width(const char *text, size_t length);
 int32_t num_format_print_decimal(const num_format *format, uint64_t low, uint64_t high, uint32_t scale,
                                  char *text, size_t capacity);
 
-/* Writes that text and a zero byte, as num_format_format_i64 does a number's. NUM_FORMAT_DECIMAL_MAX + 1 bytes suffice.
- * This is inline.
+/* Writes that text and a zero byte, as num_format_format_i64 does a number's. NUM_FORMAT_DECIMAL_MAX + 1 bytes suffice,
+ * or NUM_FORMAT_DIGITS_MAX + 1 in other digits. This is inline.
  *
  * Errors: NUM_FORMAT_BAD_SCALE, else NUM_FORMAT_BAD_FORMAT. */
 static inline int32_t num_format_format_decimal(const num_format *format, uint64_t low, uint64_t high, uint32_t scale,
@@ -300,14 +330,16 @@ int32_t num_format_print_decimal_len(const num_format *format, uint64_t low, uin
  * Under the locale "en" the text "1,234.50" is 123450 at scale 2, "-1234.5" is -12345 at scale 1 and
  * "7" is 7 at scale 0. All of ".5", "1.", "1,23.4", "-0.00" and "1e3" are refused.
  *
- * `at` is written with NUM_FORMAT_UNEXPECTED alone, and the decimal with 0 alone. Each is as it was with
- * any other result.
+ * `at` is written with NUM_FORMAT_UNEXPECTED and NUM_FORMAT_OTHER_NUMERAL alone, and the decimal with 0 alone. Each is
+ * as it was with any other result.
  *
- * Errors, in this order. Only the first two and the last are of a text that is as a decimal is printed.
+ * Errors, in this order. Of a text that is as a decimal is printed are only the first two, the last
+ * and, in other digits than 0 to 9, NUM_FORMAT_TEXT_TOO_LONG.
  * - NUM_FORMAT_BAD_FORMAT.
- * - NUM_FORMAT_AMBIGUOUS_FORMAT: num_format_reads_back returns 0, or the decimal mark is empty, has a numeric
- *   character, or is a separator that is printed. This holds for no locale either.
+ * - NUM_FORMAT_AMBIGUOUS_FORMAT: in 0 to 9 num_format_reads_back returns 0, or the decimal mark is empty, has a
+ *   numeric character, or is a separator that is printed. This holds for no locale either.
  * - NUM_FORMAT_NOT_UTF8.
+ * - In other digits than 0 to 9 NUM_FORMAT_OTHER_NUMERAL or NUM_FORMAT_TEXT_TOO_LONG, as num_format_parse_strict_i64.
  * - NUM_FORMAT_UNEXPECTED: a byte is none of those of num_format_parse_strict_i64, of one decimal mark, or
  *   of a digit after it. `at` is then the number of bytes before the first such byte: under "en" 5 for
  *   "1.234.5", and 1 for "1e3".
@@ -323,7 +355,8 @@ int32_t num_format_parse_decimal(const num_format *format, const char *text, siz
  * ".5" and "5." are refused.
  *
  * Errors, in this order: NUM_FORMAT_BAD_FORMAT; NUM_FORMAT_AMBIGUOUS_FORMAT, as by these two; NUM_FORMAT_NOT_UTF8;
- * NUM_FORMAT_TEXT_TOO_LONG; and those of num_format_parse_decimal of what the text stands for. */
+ * NUM_FORMAT_OTHER_NUMERAL; NUM_FORMAT_TEXT_TOO_LONG; and those of num_format_parse_decimal of what the text stands
+ * for. */
 int32_t num_format_parse_typed_decimal(const num_format *format, const char *text, size_t length, uint64_t *low,
                                        uint64_t *high, uint32_t *scale, size_t *at);
 
@@ -426,7 +459,8 @@ typedef enum num_format_parsing {
  * and the last one below bytes_size.
  *
  * Statuses: 0, NUM_FORMAT_NOT_UTF8, and leniently NUM_FORMAT_NOT_A_NUMBER, or else NUM_FORMAT_UNEXPECTED,
- * NUM_FORMAT_NO_DIGIT, NUM_FORMAT_MISSPELLED, NUM_FORMAT_OUT_OF_RANGE and of typed texts NUM_FORMAT_TEXT_TOO_LONG.
+ * NUM_FORMAT_NO_DIGIT, NUM_FORMAT_MISSPELLED, NUM_FORMAT_OUT_OF_RANGE, of typed texts NUM_FORMAT_TEXT_TOO_LONG, and in
+ * other digits than 0 to 9 this and NUM_FORMAT_OTHER_NUMERAL.
  *
  * Errors, in this order: NUM_FORMAT_BAD_TYPE, NUM_FORMAT_BAD_FORMAT, unless it parses leniently
  * NUM_FORMAT_AMBIGUOUS_FORMAT, NUM_FORMAT_BAD_LENGTH, and
@@ -475,7 +509,7 @@ int32_t num_format_parse_typed_decimal_column(const num_format *format, uint32_t
 /* The statuses that calls return. */
 typedef enum num_format_status {
     NUM_FORMAT_OK = 0,
-    NUM_FORMAT_BAD_FORMAT = -1,       /* the struct has no format, as where no call filled it */
+    NUM_FORMAT_BAD_FORMAT = -1,       /* the struct has no format, or one in digits that the call does not take */
     NUM_FORMAT_TOO_SMALL = -2,        /* the array is shorter than the text */
     NUM_FORMAT_NOT_UTF8 = -3,         /* a text is not UTF-8 */
     NUM_FORMAT_NOT_A_NUMBER = -4,     /* lenient parsing refuses the text */
@@ -495,7 +529,9 @@ typedef enum num_format_status {
     NUM_FORMAT_DIGITS_LOST = -18,     /* a decimal has digits other than 0 that the scale has not */
     NUM_FORMAT_AMBIGUOUS_FORMAT = -19, /* a text can be misread under the format, which parses none strictly */
     NUM_FORMAT_BAD_TYPE = -20,        /* no type of values or offsets has this number */
-    NUM_FORMAT_TEXT_TOO_LONG = -21    /* a text as a person types it is longer than that of any number */
+    NUM_FORMAT_TEXT_TOO_LONG = -21,   /* a text as a person types it, or in a digit set, is longer than any number's */
+    NUM_FORMAT_UNKNOWN_DIGITS = -22,  /* no digit set has the name, or that in the tag, or the tag has two */
+    NUM_FORMAT_OTHER_NUMERAL = -23    /* a numeric character is no digit of the set, which is not 0 to 9 */
 } num_format_status;
 
 /* Returns what a status means, as a text that ends at a zero byte and is never freed: "ok" for 0 and above. This is
@@ -516,13 +552,21 @@ static inline const char *num_format_strerror(int32_t status);
 #define NUM_FORMAT_SOME(pointer) ((pointer) ? (pointer) : (__typeof__(pointer))8)
 #define NUM_FORMAT_AT ((at) ? (at) : &dropped)
 
+/* The name of a function of the library. Clang would take a function of this name for the inline one that calls it, and
+ * leave that one's body out, if the byte 1 did not say that it stands for a symbol as it is. */
+#ifdef __clang__
+#define NUM_FORMAT_SYMBOL(name) "\1num_format_" #name
+#else
+#define NUM_FORMAT_SYMBOL(name) "num_format_" #name
+#endif
+
 /* The function that is called num_format_X in C, inline in place of that of the library, which it calls. */
 #define NUM_FORMAT_INLINE(type, name, parameters, arguments) \
     NUM_FORMAT_INLINE_WITH(type, name, parameters, arguments, )
 #define NUM_FORMAT_INLINE_AT(name, parameters, arguments) \
     NUM_FORMAT_INLINE_WITH(int32_t, name, parameters, arguments, size_t dropped = 0;)
 #define NUM_FORMAT_INLINE_WITH(type, name, parameters, arguments, variable) \
-    type num_format_call_##name parameters __asm__("num_format_" #name); \
+    type num_format_call_##name parameters __asm__(NUM_FORMAT_SYMBOL(name)); \
     extern __inline__ __attribute__((__gnu_inline__, __always_inline__)) type num_format_##name parameters { \
         variable return num_format_call_##name arguments; \
     }
@@ -563,6 +607,8 @@ NUM_FORMAT_INLINE(int32_t, custom_decimal,
                    size_t decimal_mark_length),
                   (format, NUM_FORMAT_SOME(separator), separator_length, grouping, NUM_FORMAT_SOME(minus_sign),
                    minus_sign_length, NUM_FORMAT_SOME(decimal_mark), decimal_mark_length))
+NUM_FORMAT_INLINE(int32_t, set_digits, (num_format *format, const char *name, size_t length),
+                  (format, NUM_FORMAT_SOME(name), length))
 NUM_FORMAT_INLINE(int32_t, names, (size_t place, char *name, size_t capacity),
                   (place, NUM_FORMAT_SOME(name), capacity))
 NUM_FORMAT_INLINE(int32_t, lookup_name, (const char *tag, size_t tag_length, char *name, size_t capacity),
@@ -630,6 +676,7 @@ NUM_FORMAT_PARSE_DECIMALS(parse_typed_decimal_column)
 
 #undef NUM_FORMAT_SOME
 #undef NUM_FORMAT_AT
+#undef NUM_FORMAT_SYMBOL
 #undef NUM_FORMAT_INLINE
 #undef NUM_FORMAT_INLINE_AT
 #undef NUM_FORMAT_INLINE_WITH
@@ -646,7 +693,7 @@ NUM_FORMAT_PARSE_DECIMALS(parse_typed_decimal_column)
 
 static inline const char *num_format_strerror(int32_t status) {
     switch (status) {
-    case NUM_FORMAT_BAD_FORMAT: return "the struct has no format";
+    case NUM_FORMAT_BAD_FORMAT: return "the struct has no format, or one in digits that the call does not take";
     case NUM_FORMAT_TOO_SMALL: return "the array is shorter than the text";
     case NUM_FORMAT_NOT_UTF8: return "the text is not UTF-8";
     case NUM_FORMAT_NOT_A_NUMBER: return "the text is refused as a number";
@@ -660,13 +707,15 @@ static inline const char *num_format_strerror(int32_t status) {
     case NUM_FORMAT_OUT_OF_RANGE: return "the number is out of range";
     case NUM_FORMAT_BAD_SCALE: return "the scale is above 38";
     case NUM_FORMAT_TOO_MANY_DECIMALS: return "more than 38 digits follow the decimal mark";
-    case NUM_FORMAT_BAD_LENGTH: return "the sizes of a column's arrays do not fit one another";
+    case NUM_FORMAT_BAD_LENGTH: return "sizes of a column do not fit one another, or that of a value its type";
     case NUM_FORMAT_BAD_OFFSETS: return "an offset is below 0 or the one before it, or past the bytes";
     case NUM_FORMAT_TOO_MANY_BYTES: return "the texts have more bytes than an offset can say";
     case NUM_FORMAT_DIGITS_LOST: return "the decimal has digits other than 0 that the scale has not";
     case NUM_FORMAT_AMBIGUOUS_FORMAT: return "the format is ambiguous";
     case NUM_FORMAT_BAD_TYPE: return "no such type";
     case NUM_FORMAT_TEXT_TOO_LONG: return "the text is longer than that of any number";
+    case NUM_FORMAT_UNKNOWN_DIGITS: return "no such digit set, or two in a tag";
+    case NUM_FORMAT_OTHER_NUMERAL: return "a numeric character of no digit of the set";
     default: return status < 0 ? "unknown status" : "ok";
     }
 }
@@ -688,26 +737,26 @@ static inline int32_t num_format_end_text(int32_t length, const char *from, char
     return length;
 }
 static inline int32_t num_format_format_i64(const num_format *format, int64_t number, char *text, size_t size) {
-    char from[NUM_FORMAT_MAX];
+    char from[NUM_FORMAT_DIGITS_MAX];
     return num_format_end_text(num_format_print_i64(format, number, from, sizeof from), from, text, size);
 }
 static inline int32_t num_format_format_u64(const num_format *format, uint64_t number, char *text, size_t size) {
-    char from[NUM_FORMAT_MAX];
+    char from[NUM_FORMAT_DIGITS_MAX];
     return num_format_end_text(num_format_print_u64(format, number, from, sizeof from), from, text, size);
 }
 static inline int32_t num_format_format_i128(const num_format *format, uint64_t low, uint64_t high, char *text,
                                              size_t size) {
-    char from[NUM_FORMAT_MAX];
+    char from[NUM_FORMAT_DIGITS_MAX];
     return num_format_end_text(num_format_print_i128(format, low, high, from, sizeof from), from, text, size);
 }
 static inline int32_t num_format_format_u128(const num_format *format, uint64_t low, uint64_t high, char *text,
                                              size_t size) {
-    char from[NUM_FORMAT_MAX];
+    char from[NUM_FORMAT_DIGITS_MAX];
     return num_format_end_text(num_format_print_u128(format, low, high, from, sizeof from), from, text, size);
 }
 static inline int32_t num_format_format_decimal(const num_format *format, uint64_t low, uint64_t high, uint32_t scale,
                                                 char *text, size_t size) {
-    char from[NUM_FORMAT_DECIMAL_MAX];
+    char from[NUM_FORMAT_DIGITS_MAX];
     return num_format_end_text(num_format_print_decimal(format, low, high, scale, from, sizeof from), from, text, size);
 }
 

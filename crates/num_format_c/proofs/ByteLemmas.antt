@@ -14,9 +14,11 @@ module _ (size row k : ℕ) (old new : List ℕ) (fits : row * size + size ≤ l
         | inl under ↦
             (let before : j * size + size ≤ row * size = row_fits j size row size under (omega arith) in
             let all = put_mid (row * size) k old new in
-            between_is all (j * size) (j * size + size) ∙ ap (drop (j * size)) (take-put_mid_below (row * size) k old new (j * size + size) before (omega arith))
+            between_is all (j * size) (j * size + size) ∙ ap (drop (j * size))
+            (take-put_mid_below (row * size) k old new (j * size + size) before (omega arith))
             ∙ sym (between_is old (j * size) (j * size + size)))
         | inr above ↦
             (let after : row * size + size ≤ j * size = row_fits row size j size (omega arith) (omega arith) in
-            ap (take (j * size + size - j * size)) (drop-put_mid (row * size) k old new (j * size) (omega arith) (omega arith) (omega arith)))
+            ap (take (j * size + size - j * size)) (drop-put_mid (row * size) k old new (j * size) (omega arith) (omega arith)
+            (omega arith)))
       ]

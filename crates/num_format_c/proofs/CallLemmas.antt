@@ -14,9 +14,18 @@ error_code (Ok n) = pos 0
 error_code (Err status) = code status
 
 -- whether a property holds, as a number
-pub told : (given holds : Type 0) (b : Bool) (result : ℤ) → given → (IsTrue b ↔ holds) → result ≡ (if b then pos 1 else pos 0) → Tells given holds result
-told given holds true result g both same = record { bad_format = λ none. absurd (none g); yes = λ _ _. same; no = λ _ none. absurd (none (both.0 refl)) }
-told given holds false result g both same = record { bad_format = λ none. absurd (none g); yes = λ _ h. (let e = both.1 h in cc); no = λ _ _. same }
+pub told : (given holds : Type 0) (b : Bool) (result : ℤ) → given → (IsTrue b ↔ holds) → result ≡ (if b then pos 1 else pos 0)
+    → Tells given holds result
+told given holds true result g both same = record {
+  bad_format = λ none. absurd (none g);
+  yes = λ _ _. same;
+  no = λ _ none. absurd (none (both.0 refl));
+}
+told given holds false result g both same = record {
+  bad_format = λ none. absurd (none g);
+  yes = λ _ h. (let e = both.1 h in cc);
+  no = λ _ _. same;
+}
 
 module _ {A : Type 0} (value : A → ℤ) (s : NumFormat) (text : List ℕ) (old new result : ℤ) where
   -- what parsing returned is stored
@@ -43,6 +52,7 @@ module _ {A : Type 0} (value : A → ℤ) (s : NumFormat) (text : List ℕ) (old
 module _ {A : Type 0} (value : A → ℤ) (s : NumFormat) (text : List ℕ) (k : Kind) where
   -- what is stored for what parsing returns
   pub parsed_into : (r : Result A Status) → Parses k value s text r →
-      MatchResult r (λ n. (old : ℤ) → ParsesInto k s text old (value n) (pos 0)) (λ status. (old : ℤ) → ParsesInto k s text old old (code status))
+      MatchResult r (λ n. (old : ℤ) → ParsesInto k s text old (value n) (pos 0)) (λ status. (old : ℤ)
+      → ParsesInto k s text old old (code status))
   parsed_into (Ok n) p = λ old. into value s text old (value n) (pos 0) k (Ok n) p (refl, refl)
   parsed_into (Err status) p = λ old. into value s text old old (code status) k (Err status) p record { error = refl; unchanged = refl }

@@ -1,5 +1,6 @@
 -- The texts of the first rows of a column, and one row more.
-use Rattle.std.proofs.Common.{◌≡◌, ◌≢◌, inl, inr, ℕ, zero, suc, ◌+◌, ◌*◌, ◌<◌, ◌≤◌, List, ◌++◌, length, refl, ap, ◌∙◌, arith, add-one, length-append}
+use Rattle.std.proofs.Common.{◌≡◌, ◌≢◌, inl, inr, ℕ, zero, suc, ◌+◌, ◌*◌, ◌<◌, ◌≤◌, List, ◌++◌, length, refl, ap, ◌∙◌, arith, add-one}
+use Rattle.std.proofs.Common.{length-append}
 use Rattle.std.proofs.Math.Nat.{eq-or-lt_of_le}
 use Rattle.std.proofs.lemmas.Bool.{cases_eq, eqb-true}
 use Rattle.std.proofs.lemmas.Nat.{div-add-mod'}
@@ -32,7 +33,8 @@ module _ (text : ℕ → List ℕ) where
   length_texts_fit i n under = omega (arith, length_texts_more i, length_texts_le (i + 1) n (omega arith))
 
   -- one more offset, before others
-  pub ends_more : (old new : ℕ → ℕ) (n i : ℕ) → ((j : ℕ) → i < j → j ≤ n → old j ≡ length (texts_of text j)) → new i ≡ length (texts_of text i) →
+  pub ends_more : (old new : ℕ → ℕ) (n i : ℕ) → ((j : ℕ) → i < j → j ≤ n → old j ≡ length (texts_of text j))
+      → new i ≡ length (texts_of text i) →
       ((j : ℕ) → j ≢ i → new j ≡ old j) → (j : ℕ) → i ≤ j → j ≤ n → new j ≡ length (texts_of text j)
   ends_more old new n i after here others j from most =
       elim (cases_eq j i) as (λ _. new j ≡ length (texts_of text j)) [
@@ -41,7 +43,8 @@ module _ (text : ℕ → List ℕ) where
       ]
 
 -- one row more has a property that each before it has, where nothing else changed
-pub row_more : {A B : Type 0} (P : ℕ → A → B → Type 0) (a b : ℕ → A) (c d : ℕ → B) (n : ℕ) → ((k : ℕ) → k < n → P k (a k) (c k)) → P n (b n) (d n) →
+pub row_more : {A B : Type 0} (P : ℕ → A → B → Type 0) (a b : ℕ → A) (c d : ℕ → B) (n : ℕ) → ((k : ℕ) → k < n → P k (a k) (c k))
+    → P n (b n) (d n) →
     ((k : ℕ) → k ≢ n → b k ≡ a k) → ((k : ℕ) → k ≢ n → d k ≡ c k) → (k : ℕ) → k < n + 1 → P k (b k) (d k)
 row_more P a b c d n before here same alike k below =
     elim (cases_eq k n) as (λ _. P k (b k) (d k)) [
@@ -50,7 +53,8 @@ row_more P a b c d n before here same alike k below =
     ]
 
 -- values that are whole
-whole_if : (b c : Bool) (len size n : ℕ) → (b ≡ true → len % size ≡ 0) → (if b && c then Some (len / size) else None) ≡ Some n → len ≡ n * size
+whole_if : (b c : Bool) (len size n : ℕ) → (b ≡ true → len % size ≡ 0) → (if b && c then Some (len / size) else None) ≡ Some n
+    → len ≡ n * size
 whole_if true true len size n none is =
     let count : len / size ≡ n = cc in
     omega (arith, div-add-mod' len size, none refl, ap (λ m. m * size) count)

@@ -1,16 +1,25 @@
 -- What parsing returns, as it crosses to C.
-use Rattle.std.proofs.Common.{◌≡◌, ℕ, ℤ, pos, List, refl, ap, sym, ◌∙◌, subst, Option, Some, None, Result, Ok, Err, MatchOption}
+use Rattle.std.proofs.Common.{◌≡◌, ◌⊎◌, inl, inr, refl, IsUtf8, ℕ, ℤ, pos, List, ap, sym, ◌∙◌, subst, Option, Some, None, Result, Ok, Err}
+use Rattle.std.proofs.Common.{MatchOption}
 use Rattle.std.specs.Prelude.{MatchResult}
 use Rattle.num_format.specs.Format.{FormatData}
 use Rattle.num_format.specs.Kind.{Kind}
-use Rattle.num_format.specs.Strict.{ParsesStrictly}
+use Rattle.num_format.specs.Strict.{IsUnambiguous, ParsesStrictly}
 use Rattle.num_format.specs.StrictError.{StrictError}
 use Rattle.num_format.specs.StrictError.TheVariants as cause
-use Rattle.num_format_typed.specs.Typed.{ParsesTyped, TypedResult, map_error, placed}
+use Rattle.num_format_decimal.specs.FixedPoint.{FixedPoint}
+use Rattle.num_format_digits.specs.Digits.{ascii_of}
+use Rattle.num_format_digits.specs.Parsing.{InDigits, ParsesInDigits, TypedInDigits, placed_typed}
+use Rattle.num_format_digits.specs.declared.parsing.DigitsError.{DigitsError}
+use Rattle.num_format_digits.specs.declared.parsing.DigitsError.TheVariants as digits
+use Rattle.num_format_typed.specs.declared.typed.TypedError.TheVariants as typed
+use Rattle.num_format_typed.specs.Typed.{IsTypable, ParsesTyped, TypedResult, map_error, placed}
 use Rattle.num_format_typed.specs.declared.typed.TypedError.{TypedError}
-use Rattle.num_format_c.specs.Calls.{Crosses, Fails, Gets, Into, Parsing, Stores, code, crossed, mapped, place_after}
+use Rattle.num_format_c.specs.Calls.{Crosses, Fails, Gets, Into, Parsing, Stores, code, crossed, digits_place_of, digits_status_of, mapped}
+use Rattle.num_format_c.specs.Calls.{place_after}
 use Rattle.num_format_c.specs.Columns.{Row}
-use Rattle.num_format_c.specs.Held.{IsFormatOf}
+use Rattle.num_format_c.specs.Held.{HasFormat, IsFormatIn, IsFormatOf, digits_of, format_of}
+use Rattle.num_format_c.proofs.DigitLemmas.{has_format, latin_digits}
 use Rattle.num_format_c.specs.declared.format.NumFormat.{NumFormat}
 use Rattle.num_format_c.specs.declared.status.Status.{Status}
 use Rattle.num_format_c.specs.declared.status.Status.TheVariants.{BadBits}
@@ -45,6 +54,17 @@ module _ {A X E : Type 0} (value : A → X) where
   typed_mapped f t a n place P R up q (TypedResult.typed ok e p utf8 fits s r is) =
       TypedResult.typed ok e (up t (Err e) p) utf8 fits (mapped value s) (up _ s r) (ap (mapped value) is ∙ error_mapped (place _) s)
 
+  -- parsing in a digit set returns the images of values where that of the text with 0 to 9 does
+  pub digits_mapped : (Taken : Type 0) (ambiguous : E) (place : (ℕ → ℕ) → E → E) (P : List ℕ → Result A E → Type 0)
+      (R : List ℕ → Result X E → Type 0) → ((t : List ℕ) (q : Result A E) → P t q → R t (mapped value q)) → (z : ℕ) (t : List ℕ)
+      (q : Result A (DigitsError E)) → InDigits Taken ambiguous place P z t q → InDigits Taken ambiguous place R z t (mapped value q)
+  digits_mapped taken a place P R up z t (Ok x) p = (p.0, up (ascii_of z t) (Ok x) p.1)
+  digits_mapped taken a place P R up z t (Err (digits.OtherNumeral at)) p = p
+  digits_mapped taken a place P R up z t (Err digits.TooLong) p = p
+  digits_mapped taken a place P R up z t (Err (digits.Number e)) (inl wrong) = inl wrong
+  digits_mapped taken a place P R up z t (Err (digits.Number e)) (inr p) =
+      inr (p.0, p.1, (p.2.0, up (ascii_of z t) (Err p.2.0) p.2.1, p.2.2))
+
 -- a result as it is
 mapped_same : {X E : Type 0} (q : Result X E) → mapped (λ x. x) q ≡ q
 mapped_same (Ok x) = refl
@@ -75,28 +95,73 @@ typed_number_mapped k value f t q p =
     typed_mapped value f t cause.AmbiguousFormat cause.NotUtf8 placed (ParsesStrictly k value f) (ParsesStrictly k (λ z. z) f)
     (λ t q. strict_mapped k value f t q) q p
 
+-- in a digit set too
+pub strict_in_mapped : {A : Type 0} (k : Kind) (value : A → ℤ) (f : FormatData) (z : ℕ) (t : List ℕ)
+    (q : Result A (DigitsError StrictError))
+    → ParsesInDigits k value f z t q → ParsesInDigits k (λ z. z) f z t (mapped value q)
+strict_in_mapped k value f z t q p =
+    digits_mapped value (IsUnambiguous f) cause.AmbiguousFormat placed (ParsesStrictly k value f) (ParsesStrictly k (λ z. z) f)
+    (λ t q. strict_mapped k value f t q) z t q p
+
+pub typed_in_mapped : {A : Type 0} (k : Kind) (value : A → ℤ) (f : FormatData) (z : ℕ) (t : List ℕ)
+    (q : Result A (DigitsError (TypedError StrictError))) → TypedInDigits k value f z t q → TypedInDigits k (λ z. z) f z t (mapped value q)
+typed_in_mapped k value f z t q p =
+    digits_mapped value (IsTypable f) (typed.Number cause.AmbiguousFormat) (placed_typed placed) (ParsesTyped k value f)
+    (ParsesTyped k (λ z. z) f)
+    (λ t q. typed_number_mapped k value f t q) z t q p
+
 module _ {X E : Type 0} (p : Parsing X E) (s : NumFormat) (text : List ℕ) where
   module _ {A : Type 0} (value : A → X) (old new : ℕ) where
-    -- what parsing returns crosses
-    pub gets : (f : FormatData) → IsFormatOf f s → (q : Result A E) → p.Returns f text (mapped value q) → (y : Result A Status)
-        → y ≡ crossed p.status q →
-        new ≡ place_after p.place q old → Gets p value s text old new y
-    gets f given q read y same place = record {
+    -- what parsing returns crosses, where the digits are 0 to 9 or the text is none
+    pub gets_latin : (f : FormatData) (zero : ℕ) → IsFormatIn f zero s → (zero ≡ 48) ⊎ (¬ IsUtf8 text) → (q : Result A E)
+        → p.Returns f text (mapped value q) → (y : Result A Status) → y ≡ crossed p.status q → new ≡ place_after p.place q old
+        → Gets p value s text old new y
+    gets_latin f z given either q read y same place = record {
       bad_format = λ none. absurd (none given.0);
-      parsed = λ _. (
+      parsed = λ _ _. (
         mapped value q,
-        subst (λ g. p.Returns g text (mapped value q)) given.1 read,
-        crossed_mapped value p.status q
-            ∙ ap (mapped value) (sym same),
+        subst (λ g. p.Returns g text (mapped value q)) given.2 read,
+        crossed_mapped value p.status q ∙ ap (mapped value) (sym same),
         place ∙ place_mapped value p.place q old,
+      );
+      in_digits = λ _ other utf8. elim either [ inl latin ↦ absurd (other (sym given.1 ∙ latin)) | inr none ↦ absurd (none utf8) ];
+    }
+
+    -- and where they are others
+    pub gets_in : (f : FormatData) (zero : ℕ) → IsFormatIn f zero s → ¬ (zero ≡ 48) → IsUtf8 text → (q : Result A (DigitsError E))
+        → p.ReturnsIn f zero text (mapped value q) → (y : Result A Status) → y ≡ crossed (digits_status_of p.status) q
+        → new ≡ place_after (digits_place_of p.place) q old → Gets p value s text old new y
+    gets_in f z given other utf8 q read y same place = record {
+      bad_format = λ none. absurd (none given.0);
+      parsed = λ _ either. elim either [ inl latin ↦ absurd (other (given.1 ∙ latin)) | inr none ↦ absurd (none utf8) ];
+      in_digits = λ _ _ _. (
+        mapped value q,
+        subst (λ g. p.ReturnsIn g (digits_of s) text (mapped value q)) given.2
+            (subst (λ d. p.ReturnsIn f d text (mapped value q)) given.1 read),
+        crossed_mapped value (digits_status_of p.status) q ∙ ap (mapped value) (sym same),
+        place ∙ place_mapped value (digits_place_of p.place) q old,
       );
     }
 
+    -- the same under a struct whose digits are 0 to 9
+    pub gets : (f : FormatData) → IsFormatOf f s → (q : Result A E) → p.Returns f text (mapped value q) → (y : Result A Status)
+        → y ≡ crossed p.status q →
+        new ≡ place_after p.place q old → Gets p value s text old new y
+    gets f given q read y same place =
+        gets_latin f (digits_of s) (has_format s given.0, refl, given.1) (inl (latin_digits s given.0)) q read y same place
+
   -- the same of a result as it is
-  pub gets_same : (old new : ℕ) (f : FormatData) → IsFormatOf f s → (q : Result X E) → p.Returns f text q → (y : Result X Status)
-      → y ≡ crossed p.status q →
-      new ≡ place_after p.place q old → Gets p (λ x. x) s text old new y
-  gets_same old new f given q read = gets (λ x. x) old new f given q (subst (p.Returns f text) (sym (mapped_same q)) read)
+  pub gets_latin_same : (old new : ℕ) (f : FormatData) (zero : ℕ) → IsFormatIn f zero s → (zero ≡ 48) ⊎ (¬ IsUtf8 text) → (q : Result X E)
+      → p.Returns f text q → (y : Result X Status) → y ≡ crossed p.status q → new ≡ place_after p.place q old
+      → Gets p (λ x. x) s text old new y
+  gets_latin_same old new f z given either q read y same place =
+      gets_latin (λ x. x) old new f z given either q (subst (p.Returns f text) (sym (mapped_same q)) read) y same place
+
+  pub gets_in_same : (old new : ℕ) (f : FormatData) (zero : ℕ) → IsFormatIn f zero s → ¬ (zero ≡ 48) → IsUtf8 text
+      → (q : Result X (DigitsError E)) → p.ReturnsIn f zero text q → (y : Result X Status) → y ≡ crossed (digits_status_of p.status) q
+      → new ≡ place_after (digits_place_of p.place) q old → Gets p (λ x. x) s text old new y
+  gets_in_same old new f z given other utf8 q read y same place =
+      gets_in (λ x. x) old new f z given other utf8 q (subst (p.ReturnsIn f z text) (sym (mapped_same q)) read) y same place
 
   -- what holds of the result of a call that is returned holds of what parsing returned
   pub onward : {A Z : Type 0} (value : A → X) (H : Result X Status → Z → Type 0) (old new : ℕ) (z : Z) (y : Result A Status)
@@ -104,7 +169,8 @@ module _ {X E : Type 0} (p : Parsing X E) (s : NumFormat) (text : List ℕ) wher
       H (mapped value y) z → Crosses p H s text old new z
   onward value H old new z y g h = record {
     bad_format = λ none. (let q = g.bad_format none in (subst (λ r. H r z) (sym q.0) h, q.1));
-    parsed = λ given. (let q = g.parsed given in (q.0, q.1, subst (λ r. H r z) (sym q.2) h, q.3));
+    parsed = λ given either. (let q = g.parsed given either in (q.0, q.1, subst (λ r. H r z) (sym q.2) h, q.3));
+    in_digits = λ given other utf8. (let q = g.in_digits given other utf8 in (q.0, q.1, subst (λ r. H r z) (sym q.2) h, q.3));
   }
 
   -- what is returned is stored
@@ -126,6 +192,29 @@ module _ {X E : Type 0} (p : Parsing X E) (s : NumFormat) (text : List ℕ) wher
     into value out old old 0 at (code status)
         (Err status) g record { error = refl; unchanged = refl },
   )
+
+-- the units of a decimal are stored for a row of a column
+module _ {E : Type 0} (p : Parsing FixedPoint E) (s : NumFormat) (text : List ℕ) where
+  units_row : (at : ℕ) (y : Result FixedPoint Status) → Gets p (λ d. d) s text 0 at y →
+      MatchResult (mapped (λ d. d.units) y) (λ z. (old : ℤ) → Row p (λ d. d.units) s text old z (pos 0))
+      (λ status. (old : ℤ) → Row p (λ d. d.units) s text old old (code status))
+  units_row at (Ok d) g = row p s text (λ d. d) (λ d. d.units) at (Ok d) g
+  units_row at (Err status) g = row p s text (λ d. d) (λ d. d.units) at (Err status) g
+
+  pub units_latin : (f : FormatData) (zero : ℕ) → IsFormatIn f zero s → (zero ≡ 48) ⊎ (¬ IsUtf8 text) → (q : Result FixedPoint E)
+      → p.Returns f text q → MatchResult (mapped (λ d. d.units) (crossed p.status q))
+      (λ z. (old : ℤ) → Row p (λ d. d.units) s text old z (pos 0)) (λ status. (old : ℤ) → Row p (λ d. d.units) s text old old (code status))
+  units_latin f z given either q read =
+      let at = place_after p.place q 0 in
+      units_row at (crossed p.status q) (gets_latin_same p s text 0 at f z given either q read (crossed p.status q) refl refl)
+
+  pub units_in : (f : FormatData) (zero : ℕ) → IsFormatIn f zero s → ¬ (zero ≡ 48) → IsUtf8 text → (q : Result FixedPoint (DigitsError E))
+      → p.ReturnsIn f zero text q → MatchResult (mapped (λ d. d.units) (crossed (digits_status_of p.status) q))
+      (λ z. (old : ℤ) → Row p (λ d. d.units) s text old z (pos 0)) (λ status. (old : ℤ) → Row p (λ d. d.units) s text old old (code status))
+  units_in f z given other utf8 q read =
+      let at = place_after (digits_place_of p.place) q 0 in
+      let y = crossed (digits_status_of p.status) q in
+      units_row at y (gets_in_same p s text 0 at f z given other utf8 q read y refl refl)
 
 -- the same where there may be no such kind
 pub into_any : {A E : Type 0} (p : Kind → Parsing ℤ E) (s : NumFormat) (text : List ℕ) (value : A → ℤ) (old new : ℤ) (at_old at_new : ℕ)

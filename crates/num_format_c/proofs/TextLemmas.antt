@@ -1,5 +1,6 @@
 -- Bytes that are one character.
-use Rattle.std.proofs.Common.{◌≡◌, ◌<◌, ◌≤◌, ℕ, List, [], ◌∷◌, length, take, slice_index_or, append-nil, zero, suc, refl, Some, IsUtf8, arith, rules}
+use Rattle.std.proofs.Common.{◌≡◌, ◌<◌, ◌≤◌, ℕ, List, [], ◌∷◌, length, take, slice_index_or, append-nil, zero, suc, refl, Some, IsUtf8}
+use Rattle.std.proofs.Common.{arith, rules}
 use Rattle.std.proofs.lemmas.Str.{IsUtf8-encode}
 use Rattle.std.proofs.Math.ListN.{drop_of_length-le}
 use Rattle.bstr.specs.Utf8.{code_of_2, code_of_3, decoded}
@@ -29,7 +30,8 @@ two_bytes (a ∷ b ∷ rest) some first second =
 
 -- most lead bytes of three and two bytes that continue one are a text
 pub three_bytes : (bytes : List ℕ) → 3 ≤ length bytes → (0xE1 ≤ slice_index_or bytes 0 0) × (slice_index_or bytes 0 0 ≤ 0xEC) →
-    (0x80 ≤ slice_index_or bytes 1 0) × (slice_index_or bytes 1 0 ≤ 0xBF) → (0x80 ≤ slice_index_or bytes 2 0) × (slice_index_or bytes 2 0 ≤ 0xBF) → IsUtf8 (take 3 bytes)
+    (0x80 ≤ slice_index_or bytes 1 0) × (slice_index_or bytes 1 0 ≤ 0xBF)
+    → (0x80 ≤ slice_index_or bytes 2 0) × (slice_index_or bytes 2 0 ≤ 0xBF) → IsUtf8 (take 3 bytes)
 three_bytes [] some first second third = absurd (omega arith)
 three_bytes (a ∷ []) some first second third = absurd (omega arith)
 three_bytes (a ∷ b ∷ []) some first second third = absurd (omega arith)

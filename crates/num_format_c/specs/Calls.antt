@@ -1,6 +1,7 @@
 -- What the calls of C return and write.
-use Rattle.std.specs.Prelude.{◌≡◌, ℕ, ◌+◌, ◌*◌, ◌^◌, ◌<◌, ◌≤◌, ◌==◌, ℤ, pos, negsuc, nat_eq, Bool, not, ◌&&◌, ◌||◌}
+use Rattle.std.specs.Prelude.{◌≡◌, ◌⊎◌, ℕ, ◌+◌, ◌*◌, ◌^◌, ◌<◌, ◌≤◌, ◌==◌, ℤ, pos, negsuc, nat_eq, Bool, not, ◌&&◌, ◌||◌}
 use Rattle.std.specs.Prelude.{List, [], ◌∷◌, ◌++◌, length, drop, Option, Some, None, Result, Ok, Err, IfSome, MatchOption, MatchResult}
+use Rattle.std.specs.Prelude.{unwrap_or}
 use Rattle.std.specs.Prelude.{IsUtf8, if◌then◌else◌}
 use Rattle.std.specs.Fmt.{is_char_start}
 use Rattle.std.specs.Int.{cast_signed, w128}
@@ -26,16 +27,24 @@ use Rattle.num_format_decimal.specs.declared.parsing.ParseAtScaleError.{ParseAtS
 use Rattle.num_format_decimal.specs.declared.parsing.ParseAtScaleError.TheVariants.{Parse, Rescale}
 use Rattle.num_format_decimal.specs.declared.parsing.ParseDecimalError.{ParseDecimalError}
 use Rattle.num_format_decimal.specs.declared.parsing.ParseDecimalError.TheVariants as decimal
+use Rattle.num_format_digits.specs.Digits.{digits_named, in_digits, set_numbered}
+use Rattle.num_format_digits.specs.Parsing.{AtScaleInDigits, DecimalInDigits, ParsesInDigits, TypedAtScaleInDigits, TypedDecimalInDigits}
+use Rattle.num_format_digits.specs.Parsing.{TypedInDigits}
+use Rattle.num_format_digits.specs.declared.parsing.DigitsError.{DigitsError}
+use Rattle.num_format_digits.specs.declared.parsing.DigitsError.TheVariants as digits
+use Rattle.num_format_digits.specs.Tags.{TagResult, digits_in}
+use Rattle.num_format_digits.specs.declared.tags.UnknownDigits.{UnknownDigits}
 use Rattle.num_format_typed.specs.Typed.{ParsesTyped, TypedAtScaleResult, TypedDecimalResult}
 use Rattle.num_format_typed.specs.declared.typed.TypedError.{TypedError}
 use Rattle.num_format_typed.specs.declared.typed.TypedError.TheVariants as typed
-use Rattle.num_format_c.specs.Held.{Agrees, HasFormat, IsPadded, format_of, format_with, grouping_of}
+use Rattle.num_format_c.specs.Held.{Agrees, HasFormat, HasLatin, IsPadded, digits_of, format_of, format_with, grouping_of}
 use Rattle.num_format_c.specs.declared.format.NumFormat.{NumFormat}
 use Rattle.num_format_c.specs.declared.status.Status.{Status}
 use Rattle.num_format_c.specs.declared.status.Status.TheVariants.{BadFormat, TooSmall, NotUtf8, NotANumber, UnknownLocale, TooLong}
 use Rattle.num_format_c.specs.declared.status.Status.TheVariants.{BadGrouping, BadBits, Unexpected, NoDigit, Misspelled, OutOfRange}
 use Rattle.num_format_c.specs.declared.status.Status.TheVariants.{BadScale, TooManyDecimals, BadLength, BadOffsets, TooManyBytes}
 use Rattle.num_format_c.specs.declared.status.Status.TheVariants.{DigitsLost, AmbiguousFormat, BadType, TextTooLong}
+use Rattle.num_format_c.specs.declared.status.Status.TheVariants as cross
 
 -- the number by which an error crosses to C; `negsuc n` is the number one below -n
 abbrev pub code : Status → ℤ
@@ -60,6 +69,8 @@ code DigitsLost = negsuc 17
 code AmbiguousFormat = negsuc 18
 code BadType = negsuc 19
 code TextTooLong = negsuc 20
+code cross.UnknownDigits = negsuc 21
+code cross.OtherNumeral = negsuc 22
 
 -- the number that a call returns
 abbrev pub returned : Result ℤ Status → ℤ
@@ -81,21 +92,24 @@ pub record Writes (text old new : List ℕ) (result : ℤ) : Type 0 where
   pub whole : length text ≤ length old → Receives text old new result
   pub too_small : length old < length text → Fails TooSmall old new result
 
--- a number is printed under the format of a struct into an array
-pub record Prints (s : NumFormat) (z : ℤ) (old new : List ℕ) (result : ℤ) : Type 0 where
+-- a text under the format of a struct, in its digits, is written into an array
+pub record PrintsText (s : NumFormat) (text : FormatData → List ℕ) (old new : List ℕ) (result : ℤ) : Type 0 where
   pub bad_format : ¬ HasFormat s → Fails BadFormat old new result
-  pub text : HasFormat s → Writes (text_of (format_of s) z) old new result
+  pub printed : HasFormat s → Writes (in_digits (digits_of s) (text (format_of s))) old new result
 
--- a decimal is printed under the format of a struct into an array
+-- that of a number
+abbrev pub Prints : NumFormat → ℤ → (old new : List ℕ) → (result : ℤ) → Type 0
+Prints s z = PrintsText s (λ f. text_of f z)
+
+-- and that of a decimal
 pub record PrintsDecimal (s : NumFormat) (d : FixedPoint) (old new : List ℕ) (result : ℤ) : Type 0 where
   pub bad_scale : MAX_SCALE < d.scale → Fails BadScale old new result
-  pub bad_format : d.scale ≤ MAX_SCALE → ¬ HasFormat s → Fails BadFormat old new result
-  pub text : d.scale ≤ MAX_SCALE → HasFormat s → Writes (decimal_text (format_of s) d) old new result
+  pub printed : d.scale ≤ MAX_SCALE → PrintsText s (λ f. decimal_text f d) old new result
 
--- the length of a text under the format of a struct is returned
+-- the length of a text under the format of a struct, in its digits, is returned
 pub record ReturnsLength (s : NumFormat) (text : FormatData → List ℕ) (result : ℤ) : Type 0 where
   pub bad_format : ¬ HasFormat s → result ≡ code BadFormat
-  pub size : HasFormat s → result ≡ pos (length (text (format_of s)))
+  pub size : HasFormat s → result ≡ pos (length (in_digits (digits_of s) (text (format_of s))))
 
 -- the length of the text of a decimal under the format of a struct is returned
 pub record ReturnsDecimalLength (s : NumFormat) (d : FixedPoint) (result : ℤ) : Type 0 where
@@ -104,10 +118,11 @@ pub record ReturnsDecimalLength (s : NumFormat) (d : FixedPoint) (result : ℤ) 
 
 -- a text is parsed under the format of a struct as a number of the kind
 pub record Parses {A : Type 0} (k : Kind) (value : A → ℤ) (s : NumFormat) (text : List ℕ) (result : Result A Status) : Type 0 where
-  pub bad_format : ¬ HasFormat s → result ≡ Err BadFormat
-  pub not_utf8 : HasFormat s → ¬ IsUtf8 text → result ≡ Err NotUtf8
-  pub refused : HasFormat s → IsUtf8 text → Refused k (format_of s) text → result ≡ Err NotANumber
-  pub number : HasFormat s → IsUtf8 text → ¬ Refused k (format_of s) text → MatchResult result (λ n. value n ≡ denoted (format_of s) text) (λ _. ⊥)
+  pub bad_format : ¬ HasLatin s → result ≡ Err BadFormat
+  pub not_utf8 : HasLatin s → ¬ IsUtf8 text → result ≡ Err NotUtf8
+  pub refused : HasLatin s → IsUtf8 text → Refused k (format_of s) text → result ≡ Err NotANumber
+  pub number : HasLatin s → IsUtf8 text → ¬ Refused k (format_of s) text
+      → MatchResult result (λ n. value n ≡ denoted (format_of s) text) (λ _. ⊥)
 
 -- what parsing returned is written over something else, or its error is returned
 abbrev pub Stores : {A B : Type 0} → (A → B) → Result A Status → (old new : B) → (result : ℤ) → Type 0
@@ -115,15 +130,16 @@ Stores value r old new result = MatchResult r (λ x. (result ≡ pos 0) × (new 
 
 -- a text is parsed, and the number is written over another one
 pub record ParsesInto (k : Kind) (s : NumFormat) (text : List ℕ) (old new result : ℤ) : Type 0 where
-  pub bad_format : ¬ HasFormat s → Fails BadFormat old new result
-  pub not_utf8 : HasFormat s → ¬ IsUtf8 text → Fails NotUtf8 old new result
-  pub refused : HasFormat s → IsUtf8 text → Refused k (format_of s) text → Fails NotANumber old new result
-  pub number : HasFormat s → IsUtf8 text → ¬ Refused k (format_of s) text → (result ≡ pos 0) × (new ≡ denoted (format_of s) text)
+  pub bad_format : ¬ HasLatin s → Fails BadFormat old new result
+  pub not_utf8 : HasLatin s → ¬ IsUtf8 text → Fails NotUtf8 old new result
+  pub refused : HasLatin s → IsUtf8 text → Refused k (format_of s) text → Fails NotANumber old new result
+  pub number : HasLatin s → IsUtf8 text → ¬ Refused k (format_of s) text → (result ≡ pos 0) × (new ≡ denoted (format_of s) text)
 
--- a way of parsing: what it returns of a text, and how an error of it crosses to C, as a status, and the place of the unexpected byte
--- or else the old one
+-- a way of parsing: what it returns of a text, and of one in the digits of a zero, and how an error of it crosses to C, as a status, and
+-- the place of the unexpected byte or else the old one
 pub record Parsing (X E : Type 0) : Type 1 where
   pub Returns : FormatData → List ℕ → Result X E → Type 0
+  pub ReturnsIn : FormatData → (zero : ℕ) → List ℕ → Result X (DigitsError E) → Type 0
   pub status : E → Status
   pub place : E → ℕ → ℕ
 
@@ -177,26 +193,62 @@ abbrev pub typed_place_of : {E : Type 0} → (E → ℕ → ℕ) → TypedError 
 typed_place_of place typed.TooLong old = old
 typed_place_of place (typed.Number e) old = place e old
 
+-- those of texts in a digit set
+abbrev pub digits_status_of : {E : Type 0} → (E → Status) → DigitsError E → Status
+digits_status_of status (digits.OtherNumeral at) = cross.OtherNumeral
+digits_status_of status digits.TooLong = TextTooLong
+digits_status_of status (digits.Number e) = status e
+
+abbrev pub digits_place_of : {E : Type 0} → (E → ℕ → ℕ) → DigitsError E → ℕ → ℕ
+digits_place_of place (digits.OtherNumeral at) old = at
+digits_place_of place digits.TooLong old = old
+digits_place_of place (digits.Number e) old = place e old
+
 -- numbers of a kind, decimals, and decimals of a scale, as they are printed and as people type them
 abbrev pub numbers : Kind → Parsing ℤ StrictError
-numbers k = record { Returns = ParsesStrictly k (λ z. z); status = status_of; place = place_of }
+numbers k = record {
+  Returns = ParsesStrictly k (λ z. z);
+  ReturnsIn = ParsesInDigits k (λ z. z);
+  status = status_of;
+  place = place_of;
+}
 
 abbrev pub typed_numbers : Kind → Parsing ℤ (TypedError StrictError)
-typed_numbers k = record { Returns = ParsesTyped k (λ z. z); status = typed_status_of status_of; place = typed_place_of place_of }
+typed_numbers k = record {
+  Returns = ParsesTyped k (λ z. z);
+  ReturnsIn = TypedInDigits k (λ z. z);
+  status = typed_status_of status_of;
+  place = typed_place_of place_of;
+}
 
 abbrev pub decimals : Parsing FixedPoint ParseDecimalError
-decimals = record { Returns = DecimalResult; status = decimal_status_of; place = decimal_place_of }
+decimals = record {
+  Returns = DecimalResult;
+  ReturnsIn = DecimalInDigits;
+  status = decimal_status_of;
+  place = decimal_place_of;
+}
 
 abbrev pub typed_decimals : Parsing FixedPoint (TypedError ParseDecimalError)
-typed_decimals =
-    record { Returns = TypedDecimalResult; status = typed_status_of decimal_status_of; place = typed_place_of decimal_place_of }
+typed_decimals = record {
+  Returns = TypedDecimalResult;
+  ReturnsIn = TypedDecimalInDigits;
+  status = typed_status_of decimal_status_of;
+  place = typed_place_of decimal_place_of;
+}
 
 abbrev pub at_scale : (scale : ℕ) → Parsing FixedPoint ParseAtScaleError
-at_scale scale = record { Returns = λ f t. AtScaleResult f t scale; status = at_scale_status_of; place = at_scale_place_of }
+at_scale scale = record {
+  Returns = λ f t. AtScaleResult f t scale;
+  ReturnsIn = AtScaleInDigits scale;
+  status = at_scale_status_of;
+  place = at_scale_place_of;
+}
 
 abbrev pub typed_at_scale : (scale : ℕ) → Parsing FixedPoint (TypedError ParseAtScaleError)
 typed_at_scale scale = record {
   Returns = λ f t. TypedAtScaleResult f t scale;
+  ReturnsIn = TypedAtScaleInDigits scale;
   status = typed_status_of at_scale_status_of;
   place = typed_place_of at_scale_place_of;
 }
@@ -215,12 +267,16 @@ abbrev pub mapped : {A X E : Type 0} → (A → X) → Result A E → Result X E
 mapped value (Ok x) = Ok (value x)
 mapped value (Err e) = Err e
 
--- a text is parsed under the format of a struct, `Gives` holds of what is returned, and the place of an unexpected byte is written
+-- a text is parsed under the format of a struct, in its digits, `Gives` holds of what is returned, and the place of an unexpected byte is
+-- written; a text that is not UTF-8 is refused as where the digits are 0 to 9
 pub record Crosses {X E Y : Type 0} (p : Parsing X E) (Gives : Result X Status → Y → Type 0) (s : NumFormat) (text : List ℕ)
     (old new : ℕ) (result : Y) : Type 0 where
   pub bad_format : ¬ HasFormat s → Gives (Err BadFormat) result × (new ≡ old)
-  pub parsed : HasFormat s → (r : Result X E) × p.Returns (format_of s) text r × Gives (crossed p.status r) result
-      × (new ≡ place_after p.place r old)
+  pub parsed : HasFormat s → (digits_of s ≡ 48) ⊎ (¬ IsUtf8 text) → (r : Result X E) × p.Returns (format_of s) text r
+      × Gives (crossed p.status r) result × (new ≡ place_after p.place r old)
+  pub in_digits : HasFormat s → ¬ (digits_of s ≡ 48) → IsUtf8 text → (r : Result X (DigitsError E))
+      × p.ReturnsIn (format_of s) (digits_of s) text r × Gives (crossed (digits_status_of p.status) r) result
+      × (new ≡ place_after (digits_place_of p.place) r old)
 
 -- the result is returned
 abbrev pub Gets : {A X E : Type 0} → Parsing X E → (A → X) → NumFormat → (text : List ℕ) → (old new : ℕ)
@@ -265,12 +321,17 @@ abbrev pub unsigned_kind : ℕ → Option Kind
 unsigned_kind bits = if bits == 8 then Some (kind_of U8) else (if bits == 16 then Some (kind_of U16) else
     (if bits == 32 then Some (kind_of U32) else (if bits == 64 then Some (kind_of U64) else None)))
 
--- a struct is filled with the format, and has zeros after its texts, so that the format alone determines its bytes
-pub record Fills (f : FormatData) (new : NumFormat) (result : ℤ) : Type 0 where
+-- a struct is filled with the format and the digits of a zero, and has zeros after its texts, so that these alone determine its bytes
+pub record FillsIn (zero : ℕ) (f : FormatData) (new : NumFormat) (result : ℤ) : Type 0 where
   pub ok : result ≡ pos 0
   pub given : HasFormat new
   pub same : Agrees (format_of new) f
+  pub digits : set_numbered new.digits ≡ Some zero
   pub padded : IsPadded new
+
+-- the digits are 0 to 9
+abbrev pub Fills : FormatData → NumFormat → (result : ℤ) → Type 0
+Fills = FillsIn 48
 
 -- a struct is filled with the format of the locale that a name spells
 pub record FillsLocale (name : List ℕ) (old new : NumFormat) (result : ℤ) : Type 0 where
@@ -278,15 +339,22 @@ pub record FillsLocale (name : List ℕ) (old new : NumFormat) (result : ℤ) : 
   pub unknown : IsUtf8 name → ((place : ℕ) → place < LEN → ¬ Spells name (name_of place)) → Fails UnknownLocale old new result
   pub found : IsUtf8 name → (place : ℕ) → place < LEN → Spells name (name_of place) → Fills (locale_data place) new result
 
--- the locale for a language tag is found, or the tag is refused
-pub record FindsLocale (tag : List ℕ) (result : Result ℕ Status) : Type 0 where
-  pub not_utf8 : ¬ IsUtf8 tag → result ≡ Err NotUtf8
-  pub found : IsUtf8 tag → MatchResult result (λ place. LooksUpTag tag (Some place)) (λ status. (status ≡ UnknownLocale) × LooksUpTag tag None)
-
 -- a language tag is looked up, and `Found` holds of the place of the locale for it
 pub record ByTag {A : Type 0} (tag : List ℕ) (old new : A) (result : ℤ) (Found : ℕ → Type 0) : Type 0 where
   pub not_utf8 : ¬ IsUtf8 tag → Fails NotUtf8 old new result
   pub looked_up : IsUtf8 tag → (found : Option ℕ) × (LooksUpTag tag found × MatchOption found (Fails UnknownLocale old new result) Found)
+
+-- a struct is filled with the format of a locale and the digits that a tag names, which are 0 to 9 if it names none
+abbrev pub FillsByTag : (tag : List ℕ) → (old new : NumFormat) → (result : ℤ) → (place : ℕ) → Type 0
+FillsByTag tag old new result place = (named : Result (Option ℕ) UnknownDigits) × TagResult tag (digits_in tag) named
+    × MatchResult named (λ zero. FillsIn (unwrap_or zero 48) (locale_data place) new result) (λ _. Fails cross.UnknownDigits old new result)
+
+-- the digits of a struct are set to those of a name, and nothing else
+pub record SetsDigits (name : List ℕ) (old new : NumFormat) (result : ℤ) : Type 0 where
+  pub not_utf8 : ¬ IsUtf8 name → Fails NotUtf8 old new result
+  pub unknown : IsUtf8 name → digits_named name ≡ None → Fails cross.UnknownDigits old new result
+  pub set : IsUtf8 name → IfSome (digits_named name) (λ zero. (result ≡ pos 0) × (set_numbered new.digits ≡ Some zero)
+      × (new ≡ record old { digits = new.digits }))
 
 -- three texts are UTF-8
 abbrev pub AreUtf8 : List ℕ → List ℕ → List ℕ → Type 0
@@ -297,11 +365,14 @@ abbrev pub AreShort : List ℕ → List ℕ → List ℕ → Type 0
 AreShort a b c = (length a ≤ 8) × ((length b ≤ 8) × (length c ≤ 8))
 
 -- a struct is filled with a separator, a grouping's number, a minus sign and a decimal mark
-pub record FillsCustom (separator : List ℕ) (number : ℕ) (minus_sign decimal_mark : List ℕ) (old new : NumFormat) (result : ℤ) : Type 0 where
+pub record FillsCustom (separator : List ℕ) (number : ℕ) (minus_sign decimal_mark : List ℕ) (old new : NumFormat)
+    (result : ℤ) : Type 0 where
   pub not_utf8 : ¬ AreUtf8 separator minus_sign decimal_mark → Fails NotUtf8 old new result
   pub too_long : AreUtf8 separator minus_sign decimal_mark → ¬ AreShort separator minus_sign decimal_mark → Fails TooLong old new result
-  pub bad_grouping : AreUtf8 separator minus_sign decimal_mark → AreShort separator minus_sign decimal_mark → grouping_of number ≡ None → Fails BadGrouping old new result
-  pub filled : AreUtf8 separator minus_sign decimal_mark → AreShort separator minus_sign decimal_mark → IfSome (grouping_of number) (λ grouping. Fills (format_with separator grouping minus_sign decimal_mark) new result)
+  pub bad_grouping : AreUtf8 separator minus_sign decimal_mark → AreShort separator minus_sign decimal_mark → grouping_of number ≡ None
+      → Fails BadGrouping old new result
+  pub filled : AreUtf8 separator minus_sign decimal_mark → AreShort separator minus_sign decimal_mark
+      → IfSome (grouping_of number) (λ grouping. Fills (format_with separator grouping minus_sign decimal_mark) new result)
 
 -- the name of the locale at a place is written into an array
 pub record WritesName (place : ℕ) (old new : List ℕ) (result : ℤ) : Type 0 where

@@ -6,20 +6,24 @@ use Rattle.std.specs.Int.{w128}
 use Rattle.num_format.specs.Kind.{I128, Kind}
 use Rattle.num_format.specs.Strict.{IsUnambiguous}
 use Rattle.num_format.specs.Text.{text_of}
-use Rattle.num_format_c.specs.Layout.{AreAtStart, AreEnds, AreOffsets, IsEnough, MatchType, Representation, is_valid, largest_offset, number_at, offset_at, offset_type_of, row_count, row_text, signed, texts_of, value_type_of}
+use Rattle.num_format_c.specs.Layout.{AreAtStart, AreEnds, AreOffsets, IsEnough, MatchType, Representation, is_valid, largest_offset}
+use Rattle.num_format_c.specs.Layout.{number_at, offset_at, offset_type_of, row_count, row_text, signed, texts_of, value_type_of}
 use Rattle.num_format_decimal.specs.FixedPoint.{FixedPoint, fixed_point}
 use Rattle.num_format_decimal.specs.Marks.{MarksDecimals}
 use Rattle.num_format_decimal.specs.Text.{decimal_text}
 use Rattle.num_format_decimal.specs.declared.decimal.TheConstants.{MAX_SCALE}
+use Rattle.num_format_digits.specs.Digits.{in_digits}
 use Rattle.num_format_typed.specs.Typed.{IsTypable}
 use Rattle.num_format_c.specs.Calls.{Crosses, Fails, Into, Parsing, ParsesInto, numbers, typed_numbers}
-use Rattle.num_format_c.specs.Held.{HasFormat, format_of}
+use Rattle.num_format_c.specs.Held.{HasFormat, HasLatin, digits_of, format_of}
 use Rattle.num_format_c.specs.declared.format.NumFormat.{NumFormat}
 use Rattle.num_format_c.specs.declared.layout.offset.OffsetType.{OffsetType}
 use Rattle.num_format_c.specs.declared.layout.texts.Texts.{Texts}
+use Rattle.num_format_c.specs.declared.layout.value.ValueType.{ValueType}
 use Rattle.num_format_c.specs.declared.layout.values.Values.{Values}
 use Rattle.num_format_c.specs.declared.status.Status.{Status}
-use Rattle.num_format_c.specs.declared.status.Status.TheVariants.{AmbiguousFormat, BadFormat, TooSmall, BadLength, BadOffsets, BadScale, BadType, TooManyBytes}
+use Rattle.num_format_c.specs.declared.status.Status.TheVariants.{AmbiguousFormat, BadFormat, TooSmall, BadLength, BadOffsets, BadScale}
+use Rattle.num_format_c.specs.declared.status.Status.TheVariants.{BadType, TooManyBytes}
 
 -- how the units of decimals are represented
 abbrev pub decimal_units : Representation
@@ -48,33 +52,48 @@ pub record IsColumn (text : ℕ → List ℕ) (n : ℕ) (t : OffsetType) (old ne
 pub record PrintsRows (text : ℕ → List ℕ) (n : ℕ) (t : OffsetType) (old new : Printed) (result : ℤ) : Type 0 where
   pub bad_length : ¬ IsEnough t n (length old.offsets) → Fails BadLength old new result
   pub too_many_bytes : IsEnough t n (length old.offsets) → largest_offset t < length (texts_of text n) → Fails TooManyBytes old new result
-  pub too_small : IsEnough t n (length old.offsets) → length (texts_of text n) ≤ largest_offset t → length old.bytes < length (texts_of text n) → Fails TooSmall old new result
-  pub printed : IsEnough t n (length old.offsets) → length (texts_of text n) ≤ largest_offset t → length (texts_of text n) ≤ length old.bytes → (result ≡ pos 0) × IsColumn text n t old new
+  pub too_small : IsEnough t n (length old.offsets) → length (texts_of text n) ≤ largest_offset t
+      → length old.bytes < length (texts_of text n) → Fails TooSmall old new result
+  pub printed : IsEnough t n (length old.offsets) → length (texts_of text n) ≤ largest_offset t
+      → length (texts_of text n) ≤ length old.bytes → (result ≡ pos 0) × IsColumn text n t old new
 
 -- the same if there are so many rows
 abbrev pub PrintsCounted : (ℕ → List ℕ) → Option ℕ → OffsetType → (old new : Printed) → (result : ℤ) → Type 0
 PrintsCounted text count t old new result = MatchOption count (Fails BadLength old new result) (λ n. PrintsRows text n t old new result)
 
--- a call does something under the format of a struct
-pub record UnderFormat {A : Type 0} (s : NumFormat) (Does : FormatData → Type 0) (old new : A) (result : ℤ) : Type 0 where
+-- the texts of rows in the digits of a zero
+abbrev pub rows_in : (zero : ℕ) → (ℕ → List ℕ) → ℕ → List ℕ
+rows_in z text k = in_digits z (text k)
+
+-- a call does something under the format of a struct, in its digits
+pub record UnderFormat {A : Type 0} (s : NumFormat) (Does : FormatData → (zero : ℕ) → Type 0) (old new : A) (result : ℤ) : Type 0 where
   pub bad_format : ¬ HasFormat s → Fails BadFormat old new result
-  pub format : HasFormat s → Does (format_of s)
+  pub format : HasFormat s → Does (format_of s) (digits_of s)
+
+-- numbers of a type are printed under a format, in the digits of a zero
+abbrev pub PrintsType : ValueType → OffsetType → Values → (old new : Printed) → (result : ℤ) → FormatData → (zero : ℕ) → Type 0
+PrintsType type t values old new result f z = MatchType type (λ v.
+    PrintsCounted (rows_in z (row_text v (text_of f) values.bytes.now values.validity))
+    (row_count v values.bytes.now values.validity) t old new result)
+
+-- so are decimals of a scale
+abbrev pub PrintsUnits : (scale : ℕ) → OffsetType → Values → (old new : Printed) → (result : ℤ) → FormatData → (zero : ℕ) → Type 0
+PrintsUnits scale t units old new result f z =
+    PrintsCounted (rows_in z (row_text decimal_units (decimal_at scale f) units.bytes.now units.validity))
+    (row_count decimal_units units.bytes.now units.validity) t old new result
 
 -- numbers of the type for which a number stands are printed
 abbrev pub PrintsNumbers : (value_code offset_code : ℕ) → NumFormat → Values → (old new : Printed) → (result : ℤ) → Type 0
 PrintsNumbers value_code offset_code s values old new result =
     MatchOption (value_type_of value_code) (Fails BadType old new result) (λ type.
     MatchOption (offset_type_of offset_code) (Fails BadType old new result) (λ t.
-    UnderFormat s (λ f. MatchType type (λ v.
-    PrintsCounted (row_text v (text_of f) values.bytes.now values.validity)
-    (row_count v values.bytes.now values.validity) t old new result)) old new result))
+    UnderFormat s (PrintsType type t values old new result) old new result))
 
 -- decimals of one scale are printed
 pub record PrintsDecimals (scale offset_code : ℕ) (s : NumFormat) (units : Values) (old new : Printed) (result : ℤ) : Type 0 where
   pub bad_scale : MAX_SCALE < scale → Fails BadScale old new result
   pub column : scale ≤ MAX_SCALE → MatchOption (offset_type_of offset_code) (Fails BadType old new result) (λ t.
-      UnderFormat s (λ f. PrintsCounted (row_text decimal_units (decimal_at scale f) units.bytes.now units.validity)
-      (row_count decimal_units units.bytes.now units.validity) t old new result) old new result)
+      UnderFormat s (PrintsUnits scale t units old new result) old new result)
 
 -- the length of some texts is written
 pub record Measures (total old new : ℕ) (result : ℤ) : Type 0 where
@@ -83,21 +102,26 @@ pub record Measures (total old new : ℕ) (result : ℤ) : Type 0 where
 
 -- the length of the texts of the rows is written, if there are so many
 abbrev pub MeasuresCounted : (ℕ → List ℕ) → Option ℕ → (old new : ℕ) → (result : ℤ) → Type 0
-MeasuresCounted text count old new result = MatchOption count (Fails BadLength old new result) (λ n. Measures (length (texts_of text n)) old new result)
+MeasuresCounted text count old new result = MatchOption count (Fails BadLength old new result)
+    (λ n. Measures (length (texts_of text n)) old new result)
+
+-- that of the texts of numbers of a type under a format, in the digits of a zero
+abbrev pub MeasuresType : ValueType → Values → (old new : ℕ) → (result : ℤ) → FormatData → (zero : ℕ) → Type 0
+MeasuresType type values old new result f z = MatchType type (λ v.
+    MeasuresCounted (rows_in z (row_text v (text_of f) values.bytes.now values.validity))
+    (row_count v values.bytes.now values.validity) old new result)
 
 -- that of the texts of numbers of the type for which a number stands is written
 abbrev pub MeasuresNumbers : (value_code : ℕ) → NumFormat → Values → (old new : ℕ) → (result : ℤ) → Type 0
 MeasuresNumbers value_code s values old new result =
     MatchOption (value_type_of value_code) (Fails BadType old new result) (λ type.
-    UnderFormat s (λ f. MatchType type (λ v.
-    MeasuresCounted (row_text v (text_of f) values.bytes.now values.validity)
-    (row_count v values.bytes.now values.validity) old new result)) old new result)
+    UnderFormat s (MeasuresType type values old new result) old new result)
 
 -- that of the texts of decimals of one scale is written
 pub record MeasuresDecimals (scale : ℕ) (s : NumFormat) (units : Values) (old new : ℕ) (result : ℤ) : Type 0 where
   pub bad_scale : MAX_SCALE < scale → Fails BadScale old new result
   pub column : scale ≤ MAX_SCALE →
-      UnderFormat s (λ f. MeasuresCounted (row_text decimal_units (decimal_at scale f) units.bytes.now units.validity)
+      UnderFormat s (λ f zero. MeasuresCounted (rows_in zero (row_text decimal_units (decimal_at scale f) units.bytes.now units.validity))
       (row_count decimal_units units.bytes.now units.validity) old new result) old new result
 
 -- what a call that parses one text does: the struct, the text, the number before and after, and what is returned
@@ -138,7 +162,8 @@ abbrev pub HasOffsets : OffsetType → Texts → (n : ℕ) → Type 0
 HasOffsets t c n = AreOffsets n (min (largest_offset t) (length c.bytes.now)) (offset_at t c.offsets.now)
 
 -- n rows are parsed, each as by the call for one text
-pub record ParsesRows (Parses : RowParser) (v : Representation) (t : OffsetType) (s : NumFormat) (c : Texts) (old new : Parsed) (result : ℤ) (n : ℕ) : Type 0 where
+pub record ParsesRows (Parses : RowParser) (v : Representation) (t : OffsetType) (s : NumFormat) (c : Texts) (old new : Parsed) (result : ℤ)
+    (n : ℕ) : Type 0 where
   pub bad_length : ¬ HasLengths t c old n → Fails BadLength old new result
   pub bad_offsets : HasLengths t c old n → ¬ HasOffsets t c n → Fails BadOffsets old new result
   pub parsed : HasLengths t c old n → HasOffsets t c n → (result ≡ pos 0) × AreParsed Parses v t s c old new n
@@ -154,9 +179,10 @@ pub record ParsesUnder (IsClear : FormatData → Type 0) (s : NumFormat) (Parsin
   pub ambiguous : HasFormat s → ¬ IsClear (format_of s) → Fails AmbiguousFormat old new result
   pub parsed : HasFormat s → IsClear (format_of s) → Parsing
 
--- lenient parsing takes any format
-abbrev pub IsAny : FormatData → Type 0
-IsAny _ = Unit {0}
+-- a call parses leniently, which takes any format whose digits are 0 to 9
+pub record ParsesLatin (s : NumFormat) (Parsing : Type 0) (old new : Parsed) (result : ℤ) : Type 0 where
+  pub bad_format : ¬ HasLatin s → Fails BadFormat old new result
+  pub parsed : HasLatin s → Parsing
 
 -- numbers of the type for which a number stands are parsed: strictly, as people type them, or leniently
 abbrev pub ParsesNumbers : (value_code offset_code mode : ℕ) → NumFormat → Texts → (old new : Parsed) → (result : ℤ) → Type 0
@@ -167,7 +193,7 @@ ParsesNumbers value_code offset_code mode s c old new result =
     (MatchType type (λ v. ParsesValues (Row (numbers v.kind) (λ z. z)) v t s c old new result)) old new result)
     × (mode ≡ 2 → ParsesUnder IsTypable s
     (MatchType type (λ v. ParsesValues (Row (typed_numbers v.kind) (λ z. z)) v t s c old new result)) old new result)
-    × (mode ≢ 0 → mode ≢ 2 → ParsesUnder IsAny s
+    × (mode ≢ 0 → mode ≢ 2 → ParsesLatin s
     (MatchType type (λ v. ParsesValues (ParsesInto v.kind) v t s c old new result)) old new result)))
 
 -- decimals of one scale are parsed

@@ -1,16 +1,17 @@
 -- The format that a struct of a C program has.
-use Rattle.std.specs.Prelude.{ℕ, ◌≡◌, ◌≤◌, ◌-◌, ◌==◌, List, ◌++◌, length, replicate, take, Option, Some, None, unwrap_or, IsSome, IsUtf8, if◌then◌else◌}
+use Rattle.std.specs.Prelude.{ℕ, ◌≡◌, ◌≤◌, ◌-◌, ◌==◌, List, ◌++◌, length, replicate, take, Option, Some, None, unwrap_or, IsSome, IsUtf8, slice_get}
+use Rattle.std.specs.Prelude.{if◌then◌else◌}
 use Rattle.num_format.specs.English.{english}
 use Rattle.num_format.specs.Format.{FormatData}
 use Rattle.num_format.specs.Grouping.{Grouping}
-use Rattle.num_format.specs.Grouping.TheVariants.{Standard, Indian, Posix, Myriad, Sparse}
+use Rattle.num_format.specs.Grouping.TheVariants.{Posix}
+use Rattle.num_format.specs.GroupingNames.{groupings}
+use Rattle.num_format_digits.specs.Digits.{set_numbered}
 use Rattle.num_format_c.specs.declared.format.NumFormat.{NumFormat}
 
 -- the grouping for which a number stands
 abbrev pub grouping_of : ℕ → Option Grouping
-grouping_of number =
-    if number == 1 then Some Standard else (if number == 2 then Some Indian else (if number == 3 then Some Posix else
-    (if number == 4 then Some Myriad else (if number == 5 then Some Sparse else None))))
+grouping_of number = if number == 0 then None else slice_get groupings (number - 1)
 
 -- the data of `en`, but for the four that the text of a number depends on
 abbrev pub format_with : List ℕ → Grouping → List ℕ → List ℕ → FormatData
@@ -38,7 +39,7 @@ pub record IsPadded (s : NumFormat) : Type 0 where
   pub separator : s.separator ≡ padded (separator_of s)
   pub minus_sign : s.minus_sign ≡ padded (minus_sign_of s)
   pub decimal_mark : s.decimal_mark ≡ padded (decimal_mark_of s)
-  pub reserved : s.reserved ≡ replicate 4 0
+  pub reserved : s.reserved ≡ replicate 3 0
 
 -- the texts of the struct are UTF-8 within their arrays
 pub record HasTexts (s : NumFormat) : Type 0 where
@@ -49,18 +50,38 @@ pub record HasTexts (s : NumFormat) : Type 0 where
   pub decimal_mark_fits : s.decimal_mark_len ≤ 8
   pub decimal_mark : IsUtf8 (decimal_mark_of s)
 
--- the struct has a format: it has texts, and its number stands for a grouping
-pub record HasFormat (s : NumFormat) : Type 0 where
+-- the struct has the data of a format: it has texts, and its number stands for a grouping
+pub record HasData (s : NumFormat) : Type 0 where
   pub texts : HasTexts s
   pub grouping : IsSome (grouping_of s.grouping)
+
+-- it has a format: the number of its digits is that of a set too
+abbrev pub HasFormat : NumFormat → Type 0
+HasFormat s = HasData s × IsSome (set_numbered s.digits)
+
+-- the zero of the set
+abbrev pub digits_of : NumFormat → ℕ
+digits_of s = unwrap_or (set_numbered s.digits) 48
+
+-- it has a format whose digits are 0 to 9
+abbrev pub HasLatin : NumFormat → Type 0
+HasLatin s = HasData s × (s.digits ≡ 0)
 
 -- the format that a struct has
 abbrev pub format_of : NumFormat → FormatData
 format_of s = format_with (separator_of s) (unwrap_or (grouping_of s.grouping) Posix) (minus_sign_of s) (decimal_mark_of s)
 
--- a format is the one that a struct has
+-- a format and a zero are those that a struct has
+abbrev pub IsFormatIn : FormatData → (zero : ℕ) → NumFormat → Type 0
+IsFormatIn f z s = HasFormat s × (z ≡ digits_of s) × (f ≡ format_of s)
+
+-- the format of a parser, a format and a zero are those that a struct has
+abbrev pub IsParserIn : (parser f : FormatData) → (zero : ℕ) → NumFormat → Type 0
+IsParserIn parser f z s = IsFormatIn parser z s × IsFormatIn f z s
+
+-- a format is the one that a struct has, whose digits are 0 to 9
 abbrev pub IsFormatOf : FormatData → NumFormat → Type 0
-IsFormatOf f s = HasFormat s × (f ≡ format_of s)
+IsFormatOf f s = HasLatin s × (f ≡ format_of s)
 
 -- two formats agree in the four data that the text of a number depends on
 pub record Agrees (f g : FormatData) : Type 0 where

@@ -1,5 +1,6 @@
 -- A column: the bytes of its values, which rows have one, the texts, and where each ends.
-use Rattle.std.specs.Prelude.{◌≡◌, ◌==◌, ℕ, zero, suc, ◌+◌, ◌-◌, ◌*◌, ◌/◌, ◌%◌, ◌^◌, ◌<◌, ◌≤◌, ℤ, pos, nat_le, Bool, ◌&&◌, ◌||◌, List, [], ◌++◌, length, drop, slice_index_or, slice_range, Option, Some, None, if◌then◌else◌}
+use Rattle.std.specs.Prelude.{◌≡◌, ◌==◌, ℕ, zero, suc, ◌+◌, ◌-◌, ◌*◌, ◌/◌, ◌%◌, ◌^◌, ◌<◌, ◌≤◌, ℤ, pos, nat_le, Bool, ◌&&◌, ◌||◌, List, []}
+use Rattle.std.specs.Prelude.{◌++◌, length, drop, slice_index_or, slice_range, Option, Some, None, if◌then◌else◌}
 use Rattle.std.specs.Borrow.{Bor}
 use Rattle.std.specs.Int.{Width, byte_len, cast_signed, from_le_bytes, w8, w16, w32, w64, w128}
 use Rattle.num_format.specs.Kind.{IntegerType, Kind, kind_of}

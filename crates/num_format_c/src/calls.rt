@@ -1,25 +1,32 @@
 //! What the calls do, with Rust's types.
-ghost use Rattle.std.specs.Prelude.{◌≡◌, ◌<◌, ◌≤◌, length, pos, Err, MatchOption, if◌then◌else◌};
-ghost use Rattle.std.specs.Fmt.{is_char_start};
+ghost use Rattle.std.specs.Prelude.{◌≡◌, ◌⊎◌, ◌<◌, ◌≤◌, length, pos, Err, IsUtf8, MatchOption, if◌then◌else◌};
 ghost use Rattle.num_format.specs.Alike.{Alike};
 ghost use Rattle.num_format.specs.Data.{locale_data};
 ghost use Rattle.num_format.specs.Names.{name_of};
 ghost use Rattle.num_format.specs.RoundTrips.{RoundTrips};
+ghost use Rattle.num_format.specs.Strict.{ParsesStrictly};
 ghost use Rattle.num_format.specs.Text.{text_of};
-ghost use Rattle.num_format_decimal.specs.declared.buffer.TheConstants.{MAX_DECIMAL_LEN};
-ghost use Rattle.num_format_c.specs.Calls.{ByTag, Fills, FillsCustom, FillsLocale, FindsLocale, ReturnsLength, ReturnsDecimalLength, Gets, Parses, Prints, PrintsDecimal, Tells, Writes, WritesName, decimals, decimal_of, numbers, begins_with_mark, columns_of, returned, signed_kind, typed_decimals, unsigned_kind};
+ghost use Rattle.num_format_digits.specs.declared.printing.TheConstants.{MAX_DIGIT_TEXT_LEN};
+ghost use Rattle.num_format_c.specs.Calls.{ByTag, FillsByTag, FillsCustom, FillsLocale, ReturnsLength};
+ghost use Rattle.num_format_c.specs.Calls.{ReturnsDecimalLength, Gets, Parses, Prints, PrintsDecimal, SetsDigits};
+ghost use Rattle.num_format_c.specs.Calls.{Tells, Writes, WritesName, decimals, decimal_of, numbers, begins_with_mark};
+ghost use Rattle.num_format_c.specs.Calls.{columns_of, returned, signed_kind, typed_decimals, typed_numbers};
+ghost use Rattle.num_format_c.specs.Calls.{unsigned_kind};
 ghost use Rattle.num_format_c.specs.declared.status.Status.TheVariants.{BadBits};
-ghost use Rattle.num_format_c.specs.Held.{HasFormat, IsFormatOf, format_of};
+ghost use Rattle.num_format_c.specs.Held.{HasFormat, HasLatin, IsFormatIn, IsFormatOf, digits_of, format_of};
 
 use crate::format::{Held, NumFormat, grouping_of};
+use crate::shown;
 use crate::status::{Status, crossed};
 use crate::wide::decimal_of;
-use num_format::parsing::{FromFormattedStr, ParseBytesError};
+use num_format::parsing::{FromFormattedStr, ParseBytesError, StrictError, StrictParser};
 use num_format::utils::{DecimalStr, MinusSignStr, SeparatorStr};
 use num_format::{Buffer, Format, Locale, ToFormattedStr};
 use num_format_decimal::{Decimal, DecimalBuffer};
+use num_format_digits::Digits;
 use num_format_int::buffer::copy_bytes;
-use num_format_typed::parse_typed_decimal_bytes;
+use num_format_typed::{parse_typed_bytes, parse_typed_decimal_bytes};
+use num_format_writers::formatted::is_char_start;
 
 /// Calls a function for the integer type of 8, 16, 32 or 64 bits.
 macro_rules! by_bits {
@@ -48,27 +55,35 @@ pub fn fill_locale(format: &mut NumFormat, name: &[u8]) -> Result<i32, Status>
     Ok(0)
 }
 
-/// Fills the struct with the format of the locale for a language tag, and returns 0.
+/// Fills the struct with the format of the locale for a language tag and the digits that the tag names, and returns 0.
 pub fn fill_by_tag(format: &mut NumFormat, tag: &[u8]) -> Result<i32, Status>
     ensures { ByTag tag.now format.old format.new (returned result)
-        (λ place. Fills (locale_data place) format.new (returned result)) }
-{
-    let locale = locale_for(tag)?;
-    *format = NumFormat::new(&locale);
-    Ok(0)
-}
-
-/// Returns the locale for a language tag.
-fn locale_for(tag: &[u8]) -> Result<Locale, Status>
-    ensures { FindsLocale tag.now result }
+        (FillsByTag tag.now format.old format.new (returned result)) }
 {
     let Ok(tag) = str::from_utf8(tag) else {
         return Err(Status::NotUtf8);
     };
-    let Some(locale) = Locale::lookup(tag) else {
-        return Err(Status::UnknownLocale);
+    let locale = Locale::lookup(tag).ok_or(Status::UnknownLocale)?;
+    let Ok(digits) = Digits::of_tag(tag) else {
+        return Err(Status::UnknownDigits);
     };
-    Ok(locale)
+    *format = NumFormat::new(&locale);
+    if let Some(digits) = digits {
+        format.digits = digits.number();
+    }
+    Ok(0)
+}
+
+/// Sets the digits of the struct to those of a name, and returns 0.
+pub fn set_digits(format: &mut NumFormat, name: &[u8]) -> Result<i32, Status>
+    ensures { SetsDigits name.now format.old format.new (returned result) }
+{
+    let Ok(name) = str::from_utf8(name) else {
+        return Err(Status::NotUtf8);
+    };
+    let digits = Digits::from_name(name).ok_or(Status::UnknownDigits)?;
+    format.digits = digits.number();
+    Ok(0)
 }
 
 /// Prints the number at the start of the array, and returns the length of the text.
@@ -80,8 +95,10 @@ pub fn print<N: ToFormattedStr>(
 ) -> Result<i32, Status>
     ensures { Prints format.now (N.value number.now) text.old text.new (returned result) }
 {
-    let format = Held::new(format)?;
-    print_under(&format, number, text)
+    match Held::latin(format) {
+        Ok(format) => print_under(&format, number, text),
+        Err(_) => shown::print(format, number, text),
+    }
 }
 
 /// Prints the number under a format, and returns the length of the text.
@@ -103,8 +120,10 @@ fn print_under<F: Format, N: ToFormattedStr>(
 pub fn text_len<N: ToFormattedStr>(format: &NumFormat, number: &N) -> Result<i32, Status>
     ensures { ReturnsLength format.now (λ f. text_of f (N.value number.now)) (returned result) }
 {
-    let format = Held::new(format)?;
-    Ok(num_format::text_len(number, &format) as i32)
+    match Held::latin(format) {
+        Ok(format) => Ok(num_format::text_len(number, &format) as i32),
+        Err(_) => shown::text_len(format, number),
+    }
 }
 
 /// Prints the decimal at the start of the array, and returns the length of the text.
@@ -118,8 +137,10 @@ pub fn print_decimal(
     ensures { PrintsDecimal format.now (decimal_of low high scale) text.old text.new (returned result) }
 {
     let number = decimal_of(low, high, scale)?;
-    let format = Held::new(format)?;
-    write(DecimalBuffer::of(&number, &format).as_str(), text)
+    match Held::latin(format) {
+        Ok(format) => write(DecimalBuffer::of(&number, &format).as_str(), text),
+        Err(_) => shown::print_decimal(format, &number, text),
+    }
 }
 
 /// Returns the length of the text of the decimal.
@@ -127,8 +148,10 @@ pub fn decimal_len(format: &NumFormat, low: u64, high: u64, scale: u32) -> Resul
     ensures { ReturnsDecimalLength format.now (decimal_of low high scale) (returned result) }
 {
     let number = decimal_of(low, high, scale)?;
-    let format = Held::new(format)?;
-    Ok(num_format_decimal::text_len(&number, &format) as i32)
+    match Held::latin(format) {
+        Ok(format) => Ok(num_format_decimal::text_len(&number, &format) as i32),
+        Err(_) => shown::decimal_len(format, &number),
+    }
 }
 
 /// Returns the columns that a text takes.
@@ -155,19 +178,12 @@ fn begins_with_mark(text: &[u8]) -> bool
         || text.starts_with(&[0xE2, 0x80, 0x8F])
 }
 
-/// Returns whether a byte begins a character.
-fn is_char_start(byte: u8) -> bool
-    ensures { result ≡ is_char_start byte }
-{
-    byte < 0x80 || byte >= 0xC0
-}
-
 /// Parses the text as a number of the type.
 #[inline(always)]
 pub fn parse<N: FromFormattedStr>(format: &NumFormat, text: &[u8]) -> Result<N, Status>
     ensures { Parses N.kind N.value format.now text.now result }
 {
-    let format = Held::new(format)?;
+    let format = Held::latin(format)?;
     parse_under(&format, text)
 }
 
@@ -200,6 +216,22 @@ pub fn parse_unsigned(format: &NumFormat, bits: u32, text: &[u8]) -> Result<u64,
     by_bits!(bits, parse(format, text), u8, u16, u32, u64)
 }
 
+/// Returns the text if it is to be parsed in other digits than `0` to `9`. One that is not UTF-8 is refused in each set
+/// alike.
+#[inline(always)]
+pub fn in_others(text: &[u8], digits: Digits) -> Option<&str>
+    ensures { MatchOption result ((digits ≡ 48) ⊎ (¬ IsUtf8 text.now))
+        (λ t. (¬ (digits ≡ 48)) × IsUtf8 text.now × (t.now ≡ text.now)) }
+{
+    if digits.is_latin() {
+        return None;
+    }
+    match str::from_utf8(text) {
+        Ok(text) => Some(text),
+        Err(_) => None,
+    }
+}
+
 /// Parses the text strictly as a number of the type. Writes the place of an unexpected byte, and nothing
 /// for another error.
 pub fn parse_strict<N: FromFormattedStr>(
@@ -209,8 +241,57 @@ pub fn parse_strict<N: FromFormattedStr>(
 ) -> Result<N, Status>
     ensures { Gets (numbers N.kind) N.value format.now text.now at.old at.new result }
 {
-    let format = Held::new(format)?;
-    crossed(N::from_strict_bytes(text, &format), at)
+    match Held::latin(format) {
+        Ok(format) => crossed(N::from_strict_bytes(text, &format), at),
+        Err(_) => parse_strict_in(format, text, at),
+    }
+}
+
+/// Does the same in any digits. It is a call, so that parsing in `0` to `9` has the registers for itself.
+#[cold]
+#[inline(never)]
+fn parse_strict_in<N: FromFormattedStr>(
+    format: &NumFormat,
+    text: &[u8],
+    at: &mut usize,
+) -> Result<N, Status>
+    ensures { Gets (numbers N.kind) N.value format.now text.now at.old at.new result }
+{
+    let (held, digits) = Held::new(format)?;
+    if !digits.is_latin() {
+        if let Some(number) = digits.parse_shown::<N, _>(text, &held) {
+            return Ok(number);
+        }
+    }
+    parse_strict_any(format, text, at)
+}
+
+/// Does the same for a text that is no number as it is printed, or in `0` to `9`.
+#[cold]
+#[inline(never)]
+fn parse_strict_any<N: FromFormattedStr>(
+    format: &NumFormat,
+    text: &[u8],
+    at: &mut usize,
+) -> Result<N, Status>
+    ensures { Gets (numbers N.kind) N.value format.now text.now at.old at.new result }
+{
+    let (format, digits) = Held::new(format)?;
+    match in_others(text, digits) {
+        None => crossed(parse_by_parser::<N, _>(text, &format), at),
+        Some(text) => crossed(digits.parse_strict::<N, _>(text, &format), at),
+    }
+}
+
+/// Does the same as [`from_strict_bytes`](FromFormattedStr::from_strict_bytes), which is inlined into [`parse_strict`]
+/// as long as this is its one call.
+fn parse_by_parser<N: FromFormattedStr, F: Format>(
+    text: &[u8],
+    format: &F,
+) -> Result<N, StrictError>
+    ensures { ParsesStrictly N.kind N.value (F.answers format.now) text.now result }
+{
+    StrictParser::new(format)?.parse_bytes(text)
 }
 
 /// Parses the text strictly as a signed number of that many bits, as [`parse_strict`] does.
@@ -243,8 +324,28 @@ pub fn parse_strict_unsigned(
 pub fn parse_decimal(format: &NumFormat, text: &[u8], at: &mut usize) -> Result<Decimal, Status>
     ensures { Gets decimals (λ d. d) format.now text.now at.old at.new result }
 {
-    let format = Held::new(format)?;
-    crossed(Decimal::from_strict_bytes(text, &format), at)
+    let (format, digits) = Held::new(format)?;
+    match in_others(text, digits) {
+        None => crossed(Decimal::from_strict_bytes(text, &format), at),
+        Some(text) => crossed(digits.parse_decimal(text, &format), at),
+    }
+}
+
+/// Parses the text as people type it as a number of the type under the format and the digit set that a struct has, as
+/// [`parse_strict`] does.
+pub fn parse_typed<N: FromFormattedStr, F: Format>(
+    format: &F,
+    digits: Digits,
+    text: &[u8],
+    at: &mut usize,
+) -> Result<N, Status>
+    ensures { (s : NumFormat) → IsFormatIn (F.answers format.now) digits s
+        → Gets (typed_numbers N.kind) N.value s text.now at.old at.new result }
+{
+    match in_others(text, digits) {
+        None => crossed(parse_typed_bytes::<N, F>(text, format), at),
+        Some(text) => crossed(digits.parse_typed::<N, F>(text, format), at),
+    }
 }
 
 /// Parses the text as people type it as a decimal, as [`parse_strict`] does as a number.
@@ -255,8 +356,11 @@ pub fn parse_typed_decimal(
 ) -> Result<Decimal, Status>
     ensures { Gets typed_decimals (λ d. d) format.now text.now at.old at.new result }
 {
-    let format = Held::new(format)?;
-    crossed(parse_typed_decimal_bytes(text, &format), at)
+    let (format, digits) = Held::new(format)?;
+    match in_others(text, digits) {
+        None => crossed(parse_typed_decimal_bytes(text, &format), at),
+        Some(text) => crossed(digits.parse_typed_decimal(text, &format), at),
+    }
 }
 
 /// Fills the struct with the format of a separator, a grouping's number, a minus sign and a decimal mark,
@@ -268,7 +372,8 @@ pub fn fill_custom(
     minus_sign: &[u8],
     decimal_mark: &[u8],
 ) -> Result<i32, Status>
-    ensures { FillsCustom separator.now grouping minus_sign.now decimal_mark.now format.old format.new (returned result) }
+    ensures { FillsCustom separator.now grouping minus_sign.now decimal_mark.now format.old format.new
+        (returned result) }
 {
     let (Ok(separator), Ok(minus_sign), Ok(decimal_mark)) = (
         str::from_utf8(separator),
@@ -296,8 +401,8 @@ pub fn fill_custom(
 
 /// Writes the text at the start of the array, and returns its length.
 #[inline(always)]
-fn write(text: &str, array: &mut [u8]) -> Result<i32, Status>
-    requires { length text.now ≤ MAX_DECIMAL_LEN }
+pub fn write(text: &str, array: &mut [u8]) -> Result<i32, Status>
+    requires { length text.now ≤ MAX_DIGIT_TEXT_LEN }
     ensures { Writes text.now array.old array.new (returned result) }
 {
     let len = text.len();
@@ -324,25 +429,34 @@ pub fn name_by_tag(tag: &[u8], array: &mut [u8]) -> Result<i32, Status>
     ensures { ByTag tag.now array.old array.new (returned result)
         (λ place. Writes (name_of place) array.old array.new (returned result)) }
 {
-    let locale = locale_for(tag)?;
-    write(locale.name(), array)
+    let Ok(tag) = str::from_utf8(tag) else {
+        return Err(Status::NotUtf8);
+    };
+    write(
+        Locale::lookup(tag).ok_or(Status::UnknownLocale)?.name(),
+        array,
+    )
 }
 
 /// Returns whether each number parses again from its text under the format.
 pub fn reads_back(format: &NumFormat) -> Result<i32, Status>
-    ensures { Tells (HasFormat format.now) (RoundTrips (format_of format.now)) (returned result) }
+    ensures { Tells (HasLatin format.now) (RoundTrips (format_of format.now)) (returned result) }
 {
-    let format = Held::new(format)?;
+    let format = Held::latin(format)?;
     Ok(truth(num_format::reads_back(&format)))
 }
 
-/// Returns whether the formats print all numbers alike.
+/// Returns whether the formats print all numbers alike, in the same digits.
 pub fn prints_alike(first: &NumFormat, second: &NumFormat) -> Result<i32, Status>
     ensures { Tells (HasFormat first.now × HasFormat second.now)
-        (Alike (format_of first.now) (format_of second.now)) (returned result) }
+        ((digits_of first.now ≡ digits_of second.now) × Alike (format_of first.now) (format_of second.now))
+        (returned result) }
 {
-    let first = Held::new(first)?;
-    let second = Held::new(second)?;
+    let (first, digits) = Held::new(first)?;
+    let (second, others) = Held::new(second)?;
+    if digits != others {
+        return Ok(0);
+    }
     Ok(truth(num_format::prints_alike(&first, &second)))
 }
 

@@ -1,30 +1,41 @@
 //! What the calls for columns do, with Rust's types.
-ghost use Rattle.std.specs.Prelude.{◌≡◌, ◌≢◌, ℕ, ℤ, ◌+◌, ◌*◌, ◌<◌, ◌≤◌, min, length, pos, IsTrue, MatchOption, MatchResult};
-ghost use Rattle.num_format.specs.Format.{FormatData};
+ghost use Rattle.std.specs.Prelude.{◌≡◌, ◌≢◌, ℕ, ℤ, ◌+◌, ◌*◌, ◌<◌, ◌≤◌, min, length, pos, IsTrue, MatchOption};
+ghost use Rattle.std.specs.Prelude.{MatchResult};
 ghost use Rattle.num_format.specs.Text.{text_of};
 ghost use Rattle.num_format_decimal.specs.FixedPoint.{fixed_point};
+ghost use Rattle.num_format_decimal.specs.declared.buffer.TheConstants.{MAX_DECIMAL_LEN};
 ghost use Rattle.num_format_decimal.specs.declared.decimal.TheConstants.{MAX_SCALE};
-ghost use Rattle.num_format_c.specs.Calls.{Fails, ParsesInto, at_scale, code, numbers, returned, typed_at_scale, typed_numbers};
-ghost use Rattle.num_format_c.specs.Columns.{AreParsed, HasLengths, HasOffsets, MeasuresCounted, MeasuresDecimals, MeasuresNumbers, Measures, ParsesDecimals, ParsesNumbers, ParsesRow, ParsesTypedInto, ParsesValues, PrintsCounted, PrintsDecimals, PrintsNumbers, PrintsRows, Row, RowParser, TypesDecimals, decimal_at, decimal_units, to_parsed, to_printed};
-ghost use Rattle.num_format_c.specs.Held.{IsFormatOf};
-ghost use Rattle.num_format_c.specs.Layout.{IsEnough, MatchType, number_at, row_bytes, row_count, row_text, texts_of, value_type_of};
+ghost use Rattle.num_format_digits.specs.Digits.{in_digits};
+ghost use Rattle.num_format_digits.specs.declared.printing.TheConstants.{MAX_DIGIT_TEXT_LEN};
+ghost use Rattle.num_format_c.specs.Calls.{Fails, ParsesInto, at_scale, code, crossed, mapped, numbers, returned};
+ghost use Rattle.num_format_c.specs.Calls.{typed_at_scale, typed_numbers};
+ghost use Rattle.num_format_c.specs.Columns.{AreParsed, HasLengths, HasOffsets, MeasuresCounted, MeasuresDecimals};
+ghost use Rattle.num_format_c.specs.Columns.{MeasuresNumbers, MeasuresType, Measures, ParsesDecimals, ParsesNumbers};
+ghost use Rattle.num_format_c.specs.Columns.{ParsesRow, ParsesTypedInto, ParsesValues, PrintsCounted, PrintsDecimals};
+ghost use Rattle.num_format_c.specs.Columns.{PrintsNumbers, PrintsRows, PrintsType, Row, RowParser, TypesDecimals};
+ghost use Rattle.num_format_c.specs.Columns.{decimal_at, decimal_units, rows_in, to_parsed, to_printed};
+ghost use Rattle.num_format_c.specs.Held.{IsFormatIn, IsFormatOf, IsParserIn};
+ghost use Rattle.num_format_c.specs.Layout.{IsEnough, MatchType, number_at, row_bytes, row_count, row_text, texts_of};
+ghost use Rattle.num_format_c.specs.Layout.{value_type_of};
 ghost use Rattle.num_format_c.specs.declared.status.Status.TheVariants.{BadType};
 ghost use Rattle.num_format_decimal.specs.Marks.{MarksDecimals};
 
-use crate::calls;
+use crate::calls::{self, in_others};
 use crate::format::{Held, NumFormat};
 use crate::layout::{
-    Block, OffsetType, Printer, Rows, Texts, Value, ValueType, Values, print_texts, row_count,
-    set_value, texts_len,
+    OffsetType, Printer, Rows, Texts, Value, ValueType, Values, print_texts, row_count, set_value,
+    texts_len,
 };
-use crate::status::{Status, crossed};
+use crate::status::{Cause, Status, crossed};
 use crate::wide::scale_of;
 use num_format::Format;
 use num_format::parsing::StrictParser;
-use num_format_decimal::{Decimal, DecimalBuffer, DecimalParser, marks_decimals};
+use num_format_decimal::{Decimal, DecimalBuffer, DecimalParser, MAX_DECIMAL_LEN, marks_decimals};
+use num_format_digits::printing::MAX_DIGIT_TEXT_LEN;
+use num_format_digits::{DigitText, Digits};
 use num_format_int::buffer::PutFront;
 use num_format_int::to_formatted_str::put_text;
-use num_format_typed::{TypedParser, parse_typed_bytes};
+use num_format_typed::TypedParser;
 
 /// The numbers of the ways to parse a column; any other is lenient.
 const STRICT: u32 = 0;
@@ -62,6 +73,12 @@ impl<'a, N: Value, F: Format> Printer for NumberPrinter<'a, N, F> {
     ghost text = { λ p. row_text N.repr (text_of (F.answers p.format.now))
         p.rows.values.bytes.now p.rows.values.validity };
 
+    ghost MOST = { MAX_DECIMAL_LEN };
+
+    fn most() -> usize {
+        MAX_DECIMAL_LEN
+    }
+
     fn len(&self) -> usize {
         self.rows.len
     }
@@ -73,9 +90,9 @@ impl<'a, N: Value, F: Format> Printer for NumberPrinter<'a, N, F> {
         }
     }
 
-    fn print(&self, row: usize, block: &mut Block) {
+    fn print<B: PutFront>(&self, row: usize, texts: &mut B) {
         if let Some(number) = self.rows.get(row) {
-            put_text(&number, block, self.format);
+            put_text(&number, texts, self.format);
         }
     }
 }
@@ -107,6 +124,12 @@ impl<'a, F: Format> Printer for DecimalPrinter<'a, F> {
     ghost text = { λ p. row_text decimal_units (decimal_at p.scale (F.answers p.format.now))
         p.rows.values.bytes.now p.rows.values.validity };
 
+    ghost MOST = { MAX_DECIMAL_LEN };
+
+    fn most() -> usize {
+        MAX_DECIMAL_LEN
+    }
+
     fn len(&self) -> usize {
         self.rows.len
     }
@@ -118,10 +141,56 @@ impl<'a, F: Format> Printer for DecimalPrinter<'a, F> {
         }
     }
 
-    fn print(&self, row: usize, block: &mut Block) {
+    fn print<B: PutFront>(&self, row: usize, texts: &mut B) {
         if let Some(units) = self.rows.get(row) {
-            block.put_front(DecimalBuffer::of(&self.number(units), self.format).as_str());
+            texts.put_front(DecimalBuffer::of(&self.number(units), self.format).as_str());
         }
+    }
+}
+
+/// Prints in a digit set what another printer prints in `0` to `9`.
+#[derive(Drop)]
+struct DigitPrinter<'a, P: Printer> {
+    printer: &'a P,
+    digits: Digits,
+    ghost bound: { P.MOST ≤ MAX_DECIMAL_LEN },
+}
+
+impl<'a, P: Printer> DigitPrinter<'a, P> {
+    /// Returns the text of a row.
+    fn text(&self, row: usize) -> DigitText
+        requires { row < P.rows self.now.printer.now }
+        ensures { result ≡ in_digits self.now.digits (P.text self.now.printer.now row) }
+    {
+        let mut ascii = DecimalBuffer::new();
+        self.printer.print(row, &mut ascii);
+        let mut text = DigitText::new();
+        text.write_text(ascii.as_str(), self.digits);
+        text
+    }
+}
+
+impl<'a, P: Printer> Printer for DigitPrinter<'a, P> {
+    ghost rows = { λ p. P.rows p.printer.now };
+
+    ghost text = { λ p. rows_in p.digits (P.text p.printer.now) };
+
+    ghost MOST = { MAX_DIGIT_TEXT_LEN };
+
+    fn most() -> usize {
+        MAX_DIGIT_TEXT_LEN
+    }
+
+    fn len(&self) -> usize {
+        self.printer.len()
+    }
+
+    fn text_len(&self, row: usize) -> usize {
+        self.text(row).as_str().len()
+    }
+
+    fn print<B: PutFront>(&self, row: usize, texts: &mut B) {
+        texts.put_front(self.text(row).as_str());
     }
 }
 
@@ -140,10 +209,11 @@ pub fn print(
 {
     let value_type = ValueType::from_code(value_code).ok_or(Status::BadType)?;
     let offset_type = OffsetType::from_code(offset_code).ok_or(Status::BadType)?;
-    let format = Held::new(format)?;
+    let (format, digits) = Held::new(format)?;
     print_type(
         value_type,
         &format,
+        digits,
         values,
         offset_type,
         offsets,
@@ -156,39 +226,40 @@ pub fn print(
 fn print_type<F: Format>(
     value_type: ValueType,
     format: &F,
+    digits: Digits,
     values: &Values,
     offset_type: OffsetType,
     offsets: &mut [u8],
     bytes: &mut [u8],
     len: &mut usize,
 ) -> Result<i32, Status>
-    ensures { MatchType value_type (λ v. PrintsCounted
-        (row_text v (text_of (F.answers format.now)) values.now.bytes.now values.now.validity)
-        (row_count v values.now.bytes.now values.now.validity) offset_type
-        (to_printed offsets.old bytes.old len.old) (to_printed offsets.new bytes.new len.new) (returned result)) }
+    ensures { PrintsType value_type offset_type values.now (to_printed offsets.old bytes.old len.old)
+        (to_printed offsets.new bytes.new len.new) (returned result) (F.answers format.now) digits }
 {
     for_type!(
         value_type,
-        print_numbers(format, values, offset_type, offsets, bytes, len)
+        print_numbers(format, digits, values, offset_type, offsets, bytes, len)
     )
 }
 
 /// Prints the numbers of an integer type.
 fn print_numbers<N: Value, F: Format>(
     format: &F,
+    digits: Digits,
     values: &Values,
     offset_type: OffsetType,
     offsets: &mut [u8],
     bytes: &mut [u8],
     len: &mut usize,
 ) -> Result<i32, Status>
-    ensures { PrintsCounted (row_text N.repr (text_of (F.answers format.now)) values.now.bytes.now values.now.validity)
+    ensures { PrintsCounted
+        (rows_in digits (row_text N.repr (text_of (F.answers format.now)) values.now.bytes.now values.now.validity))
         (row_count N.repr values.now.bytes.now values.now.validity) offset_type
         (to_printed offsets.old bytes.old len.old) (to_printed offsets.new bytes.new len.new) (returned result) }
 {
     let rows = Rows::<N>::new(values)?;
     let printer = NumberPrinter { rows, format };
-    print_rows(&printer, offset_type, offsets, bytes, len)
+    print_in(&printer, digits, offset_type, offsets, bytes, len)
 }
 
 /// Prints the decimals with these units and this scale into a column, and returns 0.
@@ -206,14 +277,39 @@ pub fn print_decimals(
 {
     let scale = scale_of(scale)?;
     let offset_type = OffsetType::from_code(offset_code).ok_or(Status::BadType)?;
-    let format = &Held::new(format)?;
+    let (format, digits) = Held::new(format)?;
     let rows = Rows::new(units)?;
     let printer = DecimalPrinter {
         rows,
-        format,
+        format: &format,
         scale,
     };
-    print_rows(&printer, offset_type, offsets, bytes, len)
+    print_in(&printer, digits, offset_type, offsets, bytes, len)
+}
+
+/// Prints the rows in a digit set into a column, and returns 0.
+fn print_in<P: Printer>(
+    printer: &P,
+    digits: Digits,
+    offset_type: OffsetType,
+    offsets: &mut [u8],
+    bytes: &mut [u8],
+    len: &mut usize,
+) -> Result<i32, Status>
+    requires { P.MOST ≤ MAX_DECIMAL_LEN }
+    ensures { PrintsRows (rows_in digits (P.text printer.now)) (P.rows printer.now) offset_type
+        (to_printed offsets.old bytes.old len.old) (to_printed offsets.new bytes.new len.new) (returned result) }
+{
+    if digits.is_latin() {
+        return print_rows(printer, offset_type, offsets, bytes, len);
+    }
+    print_rows(
+        &DigitPrinter { printer, digits },
+        offset_type,
+        offsets,
+        bytes,
+        len,
+    )
 }
 
 /// Prints the rows into a column, and returns 0.
@@ -252,36 +348,36 @@ pub fn measure(
     ensures { MeasuresNumbers value_code format.now values.now len.old len.new (returned result) }
 {
     let value_type = ValueType::from_code(value_code).ok_or(Status::BadType)?;
-    let format = Held::new(format)?;
-    measure_type(value_type, &format, values, len)
+    let (format, digits) = Held::new(format)?;
+    measure_type(value_type, &format, digits, values, len)
 }
 
 /// Writes how many bytes the texts of the numbers of a type have.
 fn measure_type<F: Format>(
     value_type: ValueType,
     format: &F,
+    digits: Digits,
     values: &Values,
     len: &mut usize,
 ) -> Result<i32, Status>
-    ensures { MatchType value_type (λ v. MeasuresCounted
-        (row_text v (text_of (F.answers format.now)) values.now.bytes.now values.now.validity)
-        (row_count v values.now.bytes.now values.now.validity) len.old len.new (returned result)) }
+    ensures { MeasuresType value_type values.now len.old len.new (returned result) (F.answers format.now) digits }
 {
-    for_type!(value_type, measure_numbers(format, values, len))
+    for_type!(value_type, measure_numbers(format, digits, values, len))
 }
 
 /// Writes how many bytes the texts of the numbers of an integer type have.
 fn measure_numbers<N: Value, F: Format>(
     format: &F,
+    digits: Digits,
     values: &Values,
     len: &mut usize,
 ) -> Result<i32, Status>
     ensures { MeasuresCounted
-        (row_text N.repr (text_of (F.answers format.now)) values.now.bytes.now values.now.validity)
+        (rows_in digits (row_text N.repr (text_of (F.answers format.now)) values.now.bytes.now values.now.validity))
         (row_count N.repr values.now.bytes.now values.now.validity) len.old len.new (returned result) }
 {
     let rows = Rows::<N>::new(values)?;
-    measure_rows(&NumberPrinter { rows, format }, len)
+    measure_in(&NumberPrinter { rows, format }, digits, len)
 }
 
 /// Writes how many bytes the texts of the decimals have, and returns 0.
@@ -294,14 +390,26 @@ pub fn measure_decimals(
     ensures { MeasuresDecimals scale format.now units.now len.old len.new (returned result) }
 {
     let scale = scale_of(scale)?;
-    let format = &Held::new(format)?;
+    let (format, digits) = Held::new(format)?;
     let rows = Rows::new(units)?;
     let printer = DecimalPrinter {
         rows,
-        format,
+        format: &format,
         scale,
     };
-    measure_rows(&printer, len)
+    measure_in(&printer, digits, len)
+}
+
+/// Writes how many bytes the texts of the rows have in a digit set, and returns 0.
+fn measure_in<P: Printer>(printer: &P, digits: Digits, len: &mut usize) -> Result<i32, Status>
+    requires { P.MOST ≤ MAX_DECIMAL_LEN }
+    ensures { Measures (length (texts_of (rows_in digits (P.text printer.now)) (P.rows printer.now)))
+        len.old len.new (returned result) }
+{
+    if digits.is_latin() {
+        return measure_rows(printer, len);
+    }
+    measure_rows(&DigitPrinter { printer, digits }, len)
 }
 
 /// Writes how many bytes the texts of the rows have, and returns 0.
@@ -315,13 +423,15 @@ fn measure_rows<P: Printer>(printer: &P, len: &mut usize) -> Result<i32, Status>
 
 /// How a row of a column is parsed.
 trait Parser<N: Value> {
-    ghost format: { Self → FormatData };
+    ghost use Rattle.num_format_c.specs.declared.format.NumFormat.{NumFormat};
+
+    ghost IsFor: { Self → NumFormat → Type 0 };
 
     ghost Parses: { Self → RowParser };
 
     /// Returns the number of a text, or why there is none.
     fn parse(&self, text: &[u8]) -> Result<N, Status>
-        ensures { (s : NumFormat) → IsFormatOf (format self.now) s → MatchResult result
+        ensures { (s : NumFormat) → IsFor self.now s → MatchResult result
             (λ number. (old : ℤ) → Parses self.now s text.now old (N.value number) (pos 0))
             (λ status. (old : ℤ) → Parses self.now s text.now old old (code status)) };
 }
@@ -333,7 +443,7 @@ struct Lenient<'a, F: Format> {
 }
 
 impl<'a, N: Value, F: Format> Parser<N> for Lenient<'a, F> {
-    ghost format = { λ p. F.answers p.format.now };
+    ghost IsFor = { λ p. IsFormatOf (F.answers p.format.now) };
 
     ghost Parses = { λ _. ParsesInto N.kind };
 
@@ -343,7 +453,7 @@ impl<'a, N: Value, F: Format> Parser<N> for Lenient<'a, F> {
 }
 
 impl<'a, N: Value, F: Format> Parser<N> for StrictParser<'a, F> {
-    ghost format = { λ f. f };
+    ghost IsFor = { λ p s. IsFormatIn p 48 s };
 
     ghost Parses = { λ _. Row (numbers N.kind) (λ z. z) };
 
@@ -353,12 +463,46 @@ impl<'a, N: Value, F: Format> Parser<N> for StrictParser<'a, F> {
 }
 
 impl<'a, N: Value, F: Format> Parser<N> for TypedParser<'a, F> {
-    ghost format = { λ f. f };
+    ghost IsFor = { λ p s. IsFormatIn p 48 s };
 
     ghost Parses = { λ _. Row (typed_numbers N.kind) (λ z. z) };
 
     fn parse(&self, text: &[u8]) -> Result<N, Status> {
         crossed(self.parse_bytes(text), &mut 0)
+    }
+}
+
+/// A parser of texts in `0` to `9`, and its format and a digit set, by which texts in other digits are parsed.
+#[derive(Drop)]
+struct DigitParser<'a, P, F: Format> {
+    parser: P,
+    format: &'a F,
+    digits: Digits,
+}
+
+impl<'a, N: Value, F: Format> Parser<N> for DigitParser<'a, StrictParser<'a, F>, F> {
+    ghost IsFor = { λ p s. IsParserIn p.parser (F.answers p.format.now) p.digits s };
+
+    ghost Parses = { λ _. Row (numbers N.kind) (λ z. z) };
+
+    fn parse(&self, text: &[u8]) -> Result<N, Status> {
+        match in_others(text, self.digits) {
+            None => crossed(self.parser.parse_bytes(text), &mut 0),
+            Some(text) => crossed(self.digits.parse_strict(text, self.format), &mut 0),
+        }
+    }
+}
+
+impl<'a, N: Value, F: Format> Parser<N> for DigitParser<'a, TypedParser<'a, F>, F> {
+    ghost IsFor = { λ p s. IsParserIn p.parser (F.answers p.format.now) p.digits s };
+
+    ghost Parses = { λ _. Row (typed_numbers N.kind) (λ z. z) };
+
+    fn parse(&self, text: &[u8]) -> Result<N, Status> {
+        match in_others(text, self.digits) {
+            None => crossed(self.parser.parse_bytes(text), &mut 0),
+            Some(text) => crossed(self.digits.parse_typed(text, self.format), &mut 0),
+        }
     }
 }
 
@@ -369,31 +513,42 @@ struct AtScale<P> {
     scale: u8,
 }
 
-impl<'a, F: Format> Parser<i128> for AtScale<DecimalParser<'a, F>> {
-    ghost format = { λ p. p.parser };
+impl<'a, F: Format> Parser<i128> for AtScale<DigitParser<'a, DecimalParser<'a, F>, F>> {
+    ghost IsFor = { λ p s. IsParserIn p.parser.parser (F.answers p.parser.format.now) p.parser.digits s };
 
     ghost Parses = { λ p. Row (at_scale p.scale) (λ d. d.units) };
 
     fn parse(&self, text: &[u8]) -> Result<i128, Status> {
-        let parsed = self.parser.parse_bytes_at_scale(text, self.scale);
-        match crossed(parsed, &mut 0) {
-            Ok(number) => Ok(number.units()),
-            Err(status) => Err(status),
+        let by = &self.parser;
+        match in_others(text, by.digits) {
+            None => units(by.parser.parse_bytes_at_scale(text, self.scale)),
+            Some(text) => units(by.digits.parse_at_scale(text, self.scale, by.format)),
         }
     }
 }
 
-impl<'a, F: Format> Parser<i128> for AtScale<TypedParser<'a, F>> {
-    ghost format = { λ p. p.parser };
+impl<'a, F: Format> Parser<i128> for AtScale<DigitParser<'a, TypedParser<'a, F>, F>> {
+    ghost IsFor = { λ p s. IsParserIn p.parser.parser (F.answers p.parser.format.now) p.parser.digits s };
 
     ghost Parses = { λ p. Row (typed_at_scale p.scale) (λ d. d.units) };
 
     fn parse(&self, text: &[u8]) -> Result<i128, Status> {
-        let parsed = self.parser.parse_bytes_at_scale(text, self.scale);
-        match crossed(parsed, &mut 0) {
-            Ok(number) => Ok(number.units()),
-            Err(status) => Err(status),
+        let by = &self.parser;
+        match in_others(text, by.digits) {
+            None => units(by.parser.parse_bytes_at_scale(text, self.scale)),
+            Some(text) => units(by.digits.parse_typed_at_scale(text, self.scale, by.format)),
         }
+    }
+}
+
+/// Returns the units of a decimal that was parsed, or a status for an error.
+#[inline(always)]
+fn units<E: Cause>(parsed: Result<Decimal, E>) -> Result<i128, Status>
+    ensures { result ≡ mapped (λ d. d.units) (crossed E.status_of parsed) }
+{
+    match crossed(parsed, &mut 0) {
+        Ok(number) => Ok(number.units()),
+        Err(status) => Err(status),
     }
 }
 
@@ -412,21 +567,40 @@ pub fn parse(
 {
     let value_type = ValueType::from_code(value_code).ok_or(Status::BadType)?;
     let offset_type = OffsetType::from_code(offset_code).ok_or(Status::BadType)?;
-    let format = Held::new(format)?;
     match mode {
         STRICT => {
+            let (format, digits) = Held::new(format)?;
             let Ok(parser) = StrictParser::new(&format) else {
                 return Err(Status::AmbiguousFormat);
             };
-            parse_strictly(value_type, &parser, offset_type, texts, values, statuses)
+            if digits.is_latin() {
+                return parse_strictly(value_type, &parser, offset_type, texts, values, statuses);
+            }
+            let parser = DigitParser {
+                parser,
+                format: &format,
+                digits,
+            };
+            parse_strictly_in(value_type, &parser, offset_type, texts, values, statuses)
         }
         TYPED => {
+            let (format, digits) = Held::new(format)?;
             let Ok(parser) = TypedParser::new(&format) else {
                 return Err(Status::AmbiguousFormat);
             };
-            parse_typed(value_type, &parser, offset_type, texts, values, statuses)
+            let in_latin = digits.is_latin();
+            if in_latin {
+                return parse_typed(value_type, &parser, offset_type, texts, values, statuses);
+            }
+            let parser = DigitParser {
+                parser,
+                format: &format,
+                digits,
+            };
+            parse_typed_in(value_type, &parser, offset_type, texts, values, statuses)
         }
         _ => {
+            let format = Held::latin(format)?;
             let parser = Lenient { format: &format };
             parse_leniently(value_type, &parser, offset_type, texts, values, statuses)
         }
@@ -452,7 +626,8 @@ fn parse_leniently<'a, F: Format>(
     )
 }
 
-/// Parses the rows of a column of numbers of a type strictly. It is a call, so that its loop has the registers for itself.
+/// Parses the rows of a column of numbers of a type strictly. It is a call, so that its loop has the registers for
+/// itself.
 #[inline(never)]
 fn parse_strictly<'a, F: Format>(
     value_type: ValueType,
@@ -462,7 +637,7 @@ fn parse_strictly<'a, F: Format>(
     values: &mut [u8],
     statuses: &mut [i32],
 ) -> Result<i32, Status>
-    ensures { (s : NumFormat) → IsFormatOf parser.now s
+    ensures { (s : NumFormat) → IsFormatIn parser.now 48 s
         → MatchType value_type (λ v. ParsesValues (Row (numbers v.kind) (λ z. z)) v offset_type s texts.now
         (to_parsed values.old statuses.old) (to_parsed values.new statuses.new) (returned result)) }
 {
@@ -482,7 +657,51 @@ fn parse_typed<'a, F: Format>(
     values: &mut [u8],
     statuses: &mut [i32],
 ) -> Result<i32, Status>
-    ensures { (s : NumFormat) → IsFormatOf parser.now s
+    ensures { (s : NumFormat) → IsFormatIn parser.now 48 s
+        → MatchType value_type (λ v. ParsesValues (Row (typed_numbers v.kind) (λ z. z)) v offset_type s texts.now
+        (to_parsed values.old statuses.old) (to_parsed values.new statuses.new) (returned result)) }
+{
+    for_type!(
+        value_type,
+        parse_column(parser, offset_type, texts, values, statuses)
+    )
+}
+
+/// Parses the rows of a column of numbers of a type strictly, in other digits than `0` to `9`.
+#[cold]
+#[inline(never)]
+fn parse_strictly_in<'a, F: Format>(
+    value_type: ValueType,
+    parser: &DigitParser<'a, StrictParser<'a, F>, F>,
+    offset_type: OffsetType,
+    texts: &Texts,
+    values: &mut [u8],
+    statuses: &mut [i32],
+) -> Result<i32, Status>
+    ensures { (s : NumFormat)
+        → IsParserIn parser.now.parser (F.answers parser.now.format.now) parser.now.digits s
+        → MatchType value_type (λ v. ParsesValues (Row (numbers v.kind) (λ z. z)) v offset_type s texts.now
+        (to_parsed values.old statuses.old) (to_parsed values.new statuses.new) (returned result)) }
+{
+    for_type!(
+        value_type,
+        parse_column(parser, offset_type, texts, values, statuses)
+    )
+}
+
+/// Parses the rows of a column of numbers of a type as people type them, in other digits than `0` to `9`.
+#[cold]
+#[inline(never)]
+fn parse_typed_in<'a, F: Format>(
+    value_type: ValueType,
+    parser: &DigitParser<'a, TypedParser<'a, F>, F>,
+    offset_type: OffsetType,
+    texts: &Texts,
+    values: &mut [u8],
+    statuses: &mut [i32],
+) -> Result<i32, Status>
+    ensures { (s : NumFormat)
+        → IsParserIn parser.now.parser (F.answers parser.now.format.now) parser.now.digits s
         → MatchType value_type (λ v. ParsesValues (Row (typed_numbers v.kind) (λ z. z)) v offset_type s texts.now
         (to_parsed values.old statuses.old) (to_parsed values.new statuses.new) (returned result)) }
 {
@@ -506,8 +725,8 @@ pub fn parse_one(
         (λ v. ParsesTypedInto v v.kind format.now text.now value.old value.new at.old at.new (returned result))) }
 {
     let value_type = ValueType::from_code(value_code).ok_or(Status::BadType)?;
-    let format = Held::new(format)?;
-    parse_one_of(value_type, &format, text, value, at)
+    let (format, digits) = Held::new(format)?;
+    parse_one_of(value_type, &format, digits, text, value, at)
 }
 
 /// Parses a text as people type it as a number of the type that a type of values is. It is inlined, so that the format
@@ -516,31 +735,33 @@ pub fn parse_one(
 fn parse_one_of<F: Format>(
     value_type: ValueType,
     format: &F,
+    digits: Digits,
     text: &[u8],
     value: &mut [u8],
     at: &mut usize,
 ) -> Result<i32, Status>
-    ensures { (s : NumFormat) → IsFormatOf (F.answers format.now) s
+    ensures { (s : NumFormat) → IsFormatIn (F.answers format.now) digits s
         → MatchType value_type
         (λ v. ParsesTypedInto v v.kind s text.now value.old value.new at.old at.new (returned result)) }
 {
-    for_type!(value_type, parse_number(format, text, value, at))
+    for_type!(value_type, parse_number(format, digits, text, value, at))
 }
 
 /// Parses a text as people type it as a number of an integer type.
 fn parse_number<N: Value, F: Format>(
     format: &F,
+    digits: Digits,
     text: &[u8],
     value: &mut [u8],
     at: &mut usize,
 ) -> Result<i32, Status>
-    ensures { (s : NumFormat) → IsFormatOf (F.answers format.now) s
+    ensures { (s : NumFormat) → IsFormatIn (F.answers format.now) digits s
         → ParsesTypedInto N.repr N.kind s text.now value.old value.new at.old at.new (returned result) }
 {
     if value.len() != N::size() {
         return Err(Status::BadLength);
     }
-    match crossed(parse_typed_bytes::<N, F>(text, format), at) {
+    match calls::parse_typed::<N, F>(format, digits, text, at) {
         Ok(number) => {
             number.write(value);
             Ok(0)
@@ -563,9 +784,14 @@ pub fn parse_decimals(
 {
     let scale = scale_of(scale)?;
     let offset_type = OffsetType::from_code(offset_code).ok_or(Status::BadType)?;
-    let format = Held::new(format)?;
+    let (format, digits) = Held::new(format)?;
     let Ok(parser) = DecimalParser::new(&format) else {
         return Err(Status::AmbiguousFormat);
+    };
+    let parser = DigitParser {
+        parser,
+        format: &format,
+        digits,
     };
     let parser = AtScale { parser, scale };
     parse_column::<i128, _>(&parser, offset_type, texts, units, statuses)
@@ -585,13 +811,18 @@ pub fn parse_typed_decimals(
 {
     let scale = scale_of(scale)?;
     let offset_type = OffsetType::from_code(offset_code).ok_or(Status::BadType)?;
-    let format = Held::new(format)?;
+    let (format, digits) = Held::new(format)?;
     let Ok(parser) = TypedParser::new(&format) else {
         return Err(Status::AmbiguousFormat);
     };
     if !marks_decimals(&format) {
         return Err(Status::AmbiguousFormat);
     }
+    let parser = DigitParser {
+        parser,
+        format: &format,
+        digits,
+    };
     let parser = AtScale { parser, scale };
     parse_column::<i128, _>(&parser, offset_type, texts, units, statuses)
 }
@@ -604,7 +835,7 @@ fn parse_column<N: Value, P: Parser<N>>(
     values: &mut [u8],
     statuses: &mut [i32],
 ) -> Result<i32, Status>
-    ensures { (s : NumFormat) → IsFormatOf (P.format parser.now) s
+    ensures { (s : NumFormat) → P.IsFor parser.now s
         → ParsesValues (P.Parses parser.now) N.repr offset_type s texts.now
         (to_parsed values.old statuses.old) (to_parsed values.new statuses.new) (returned result) }
 {
@@ -633,7 +864,7 @@ fn parse_rows<N: Value, P: Parser<N>>(
     requires values { length values.old ≡ length statuses.old * N.repr.size }
     requires offsets { IsEnough offset_type (length statuses.old) (length texts.now.offsets.now) }
     requires within { HasOffsets offset_type texts.now (length statuses.old) }
-    ensures { (s : NumFormat) → IsFormatOf (P.format parser.now) s
+    ensures { (s : NumFormat) → P.IsFor parser.now s
         → AreParsed (P.Parses parser.now) N.repr offset_type s texts.now
         (to_parsed values.old statuses.old) (to_parsed values.new statuses.new) (length statuses.old) }
 {
@@ -655,8 +886,9 @@ fn parse_row<N: Value, P: Parser<N>>(
     row: usize,
 ) -> i32
     requires { row * N.repr.size + N.repr.size ≤ length values.old }
-    ensures parsed { (s : NumFormat) → IsFormatOf (P.format parser.now) s
-        → ParsesRow (P.Parses parser.now) (IsTrue is_valid) s text.now (number_at N.repr values.old row) (number_at N.repr values.new row) result }
+    ensures parsed { (s : NumFormat) → P.IsFor parser.now s
+        → ParsesRow (P.Parses parser.now) (IsTrue is_valid) s text.now (number_at N.repr values.old row)
+        (number_at N.repr values.new row) result }
     ensures others { (k : ℕ) → k ≢ row → row_bytes N.repr.size values.new k ≡ row_bytes N.repr.size values.old k }
 {
     if !is_valid {

@@ -2,11 +2,14 @@
 ghost use Rattle.std.specs.Prelude.{◌≡◌, ◌≤◌, take, drop, length, ◌++◌, IsTrue, IsUtf8, MatchResult, Some, ◌↔◌};
 ghost use Rattle.bstr.specs.Utf8.{continues};
 ghost use Rattle.num_format_c.specs.declared.status.Status.TheVariants.{BadFormat};
-ghost use Rattle.num_format_c.specs.Held.{Agrees, HasFormat, HasTexts, IsFormatOf, IsPadded, format_of, format_with, grouping_of, padded};
+ghost use Rattle.num_format_c.specs.Held.{Agrees, HasData, HasFormat, HasLatin, HasTexts, IsFormatIn, IsFormatOf};
+ghost use Rattle.num_format_c.specs.Held.{IsPadded, format_of, format_with, grouping_of, padded};
+ghost use Rattle.num_format_digits.specs.Digits.{set_numbered};
 
 use crate::status::Status;
 use num_format::utils::{DecimalStr, InfinityStr, MinusSignStr, NanStr, PlusSignStr, SeparatorStr};
 use num_format::{Format, Grouping};
+use num_format_digits::Digits;
 
 /// The most bytes of a separator, a minus sign or a decimal mark.
 const CAPACITY: usize = 8;
@@ -25,14 +28,18 @@ pub struct NumFormat {
     pub minus_sign_len: u8,
     pub decimal_mark_len: u8,
     pub grouping: u8,
+    /// The number of the digit set, as [`Digits::number`] returns it: that of `latn` is 0.
+    pub digits: u8,
     /// For later versions. The calls that fill the struct write zeros.
-    pub reserved: [u8; 4],
+    pub reserved: [u8; 3],
 }
 
 impl NumFormat {
-    /// Returns a struct with the format.
+    /// Returns a struct with the format, whose digits are `0` to `9`.
+    #[tactic(auto, using(num_format_digits::proofs::SetLemmas::latin_first))]
     pub fn new<F: Format>(format: &F) -> NumFormat
         ensures given { HasFormat result }
+        ensures digits { set_numbered result.digits ≡ Some 48 }
         ensures same { Agrees (format_of result) (F.answers format.now) }
         ensures padded { IsPadded result }
     {
@@ -47,8 +54,21 @@ impl NumFormat {
             minus_sign_len: minus_sign.len() as u8,
             decimal_mark_len: decimal_mark.len() as u8,
             grouping: number_of(format.grouping()),
-            reserved: [0; 4],
+            digits: 0,
+            reserved: [0; 3],
         }
+    }
+
+    /// Returns the digit set of the struct. That of most is `latn`, which takes no table.
+    #[inline(always)]
+    #[tactic(auto, using(num_format_digits::proofs::SetLemmas::latin_first))]
+    fn digit_set(&self) -> Option<Digits>
+        ensures { result ≡ set_numbered self.now.digits }
+    {
+        if self.digits == 0 {
+            return Some(Digits::latin());
+        }
+        Digits::from_number(self.digits)
     }
 
     /// Returns whether all texts are short. Those of most formats are.
@@ -98,12 +118,37 @@ pub struct Held<'a> {
 }
 
 impl<'a> Held<'a> {
-    /// Returns the format that the struct has, if it has one.
+    /// Returns the format that the struct has, and its digit set, if it has one.
     #[inline(always)]
-    pub fn new(format: &'a NumFormat) -> Result<Held<'a>, Status>
+    pub fn new(format: &'a NumFormat) -> Result<(Held<'a>, Digits), Status>
+        ensures { MatchResult result
+            (λ h. IsFormatIn (format_with h.0.separator h.0.grouping h.0.minus_sign h.0.decimal_mark) h.1 format.now)
+            (λ status. (status ≡ BadFormat) × (¬ (HasFormat format.now))) }
+    {
+        let digits = format.digit_set().ok_or(Status::BadFormat)?;
+        Ok((Held::data(format)?, digits))
+    }
+
+    /// Returns the format that the struct has, if it has one whose digits are `0` to `9`.
+    #[inline(always)]
+    pub fn latin(format: &'a NumFormat) -> Result<Held<'a>, Status>
         ensures { MatchResult result
             (λ h. IsFormatOf (format_with h.separator h.grouping h.minus_sign h.decimal_mark) format.now)
-            (λ status. (status ≡ BadFormat) × (¬ (HasFormat format.now))) }
+            (λ status. (status ≡ BadFormat) × (¬ (HasLatin format.now))) }
+    {
+        if format.digits != 0 {
+            return Err(Status::BadFormat);
+        }
+        Held::data(format)
+    }
+
+    /// Returns the format without its digits.
+    #[inline(always)]
+    fn data(format: &'a NumFormat) -> Result<Held<'a>, Status>
+        ensures { MatchResult result
+            (λ h. HasData format.now
+            × (format_with h.separator h.grouping h.minus_sign h.decimal_mark ≡ format_of format.now))
+            (λ status. (status ≡ BadFormat) × (¬ (HasData format.now))) }
     {
         let grouping = grouping_of(format.grouping as u32).ok_or(Status::BadFormat)?;
         if !format.has_short_texts() && !format.has_texts() {
@@ -172,27 +217,16 @@ fn continues(byte: u8) -> bool
 pub fn grouping_of(number: u32) -> Option<Grouping>
     ensures { result ≡ grouping_of number }
 {
-    match number {
-        1 => Some(Grouping::Standard),
-        2 => Some(Grouping::Indian),
-        3 => Some(Grouping::Posix),
-        4 => Some(Grouping::Myriad),
-        5 => Some(Grouping::Sparse),
-        _ => None,
-    }
+    Grouping::ALL
+        .get((number as usize).checked_sub(1)?)
+        .copied()
 }
 
 /// Returns the number that stands for the grouping.
 fn number_of(grouping: Grouping) -> u8
     ensures { grouping_of result ≡ Some grouping }
 {
-    match grouping {
-        Grouping::Standard => 1,
-        Grouping::Indian => 2,
-        Grouping::Posix => 3,
-        Grouping::Myriad => 4,
-        Grouping::Sparse => 5,
-    }
+    grouping as u8 + 1
 }
 
 impl<'a> Format for Held<'a> {

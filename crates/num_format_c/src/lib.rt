@@ -1,8 +1,9 @@
 //! num-format for C: a static library over `num_format`, whose header is `num_format.h`.
 //!
 //! This file has the exports. They do no work of their own: [`calls`], [`arithmetic`] and [`columns`] do it with
-//! Rust's types. [`format`] reads and fills the struct of a C program, [`layout`] has the values, texts and offsets of a
-//! column as bytes, and [`status`] and [`wide`] have what crosses to C: errors, and numbers of 128 bits by their halves.
+//! Rust's types, and [`shown`] what takes other digits than `0` to `9`. [`format`] reads and fills the struct of a C
+//! program, [`layout`] has the values, texts and offsets of a column as bytes, and [`status`] and [`wide`] have what
+//! crosses to C: errors, and numbers of 128 bits by their halves.
 //!
 //! What programs are compiled with stays: the exports and their parameters, the fields of `NumFormat`, and the numbers
 //! of [`Status`](status::Status), `ValueType`, `OffsetType`, groupings and roundings. A change there is one of
@@ -19,7 +20,6 @@
 
 ghost use Rattle.std.specs.Prelude.{◌≡◌, ◌+◌, ◌*◌, ◌^◌, codes, pos, MatchOption};
 ghost use Rattle.num_format.specs.Alike.{Alike};
-ghost use Rattle.num_format.specs.Data.{locale_data};
 ghost use Rattle.num_format.specs.Kind.{kind_of, I128, U128};
 ghost use Rattle.num_format.specs.Names.{name_of};
 ghost use Rattle.num_format.specs.RoundTrips.{RoundTrips};
@@ -27,17 +27,24 @@ ghost use Rattle.num_format.specs.Text.{text_of};
 ghost use Rattle.num_format_decimal.specs.Marks.{MarksDecimals};
 ghost use Rattle.num_format_decimal.specs.Values.{minus, plus};
 ghost use Rattle.num_format_c.specs.Arithmetic.{Compares, Computes, Rescales, rounding_of};
-ghost use Rattle.num_format_c.specs.Calls.{ByTag, Fails, Fills, FillsCustom, FillsLocale, ReturnsLength, ReturnsDecimalLength, Into, ParsesInto, Prints, PrintsDecimal, Tells, Writes, WritesName, at_scale, decimal_of, decimals, numbers, signed_kind, signed_wide, columns_of, typed_at_scale, typed_decimals, unsigned_kind, unsigned_wide};
-ghost use Rattle.num_format_c.specs.Columns.{MeasuresDecimals, MeasuresNumbers, ParsesDecimals, ParsesNumbers, ParsesTypedInto, PrintsDecimals, PrintsNumbers, TypesDecimals, to_parsed, to_printed};
+ghost use Rattle.num_format_c.specs.Calls.{ByTag, Fails, FillsByTag, FillsCustom, FillsLocale, ReturnsLength};
+ghost use Rattle.num_format_c.specs.Calls.{ReturnsDecimalLength, Into, ParsesInto, Prints, PrintsDecimal, SetsDigits};
+ghost use Rattle.num_format_c.specs.Calls.{Tells, Writes, WritesName, at_scale, decimal_of, decimals, numbers};
+ghost use Rattle.num_format_c.specs.Calls.{signed_kind, signed_wide, columns_of, typed_at_scale, typed_decimals};
+ghost use Rattle.num_format_c.specs.Calls.{unsigned_kind, unsigned_wide};
+ghost use Rattle.num_format_c.specs.Columns.{MeasuresDecimals, MeasuresNumbers, ParsesDecimals, ParsesNumbers};
+ghost use Rattle.num_format_c.specs.Columns.{ParsesTypedInto, PrintsDecimals, PrintsNumbers, TypesDecimals, to_parsed};
+ghost use Rattle.num_format_c.specs.Columns.{to_printed};
 ghost use Rattle.num_format_c.specs.Layout.{MatchType, to_texts, to_values, value_type_of};
 ghost use Rattle.num_format_c.specs.declared.status.Status.TheVariants.{BadBits, BadType};
-ghost use Rattle.num_format_c.specs.Held.{HasFormat, format_of};
+ghost use Rattle.num_format_c.specs.Held.{HasFormat, HasLatin, digits_of, format_of};
 
 mod arithmetic;
 mod calls;
 mod columns;
 pub mod format;
 pub mod layout;
+mod shown;
 pub mod status;
 pub mod wide;
 
@@ -67,15 +74,27 @@ pub extern "C" fn num_format_locale(format: &mut NumFormat, name: &[u8]) -> i32
     returned(calls::fill_locale(format, name))
 }
 
-/// Fills the struct with the format of the locale for a language tag, which [`Locale::lookup`](num_format::Locale::lookup)
-/// finds, and returns 0.
+/// Fills the struct with the format of the locale for a language tag, which
+/// [`Locale::lookup`](num_format::Locale::lookup) finds, and with the digits that
+/// [`Digits::of_tag`](num_format_digits::Digits::of_tag) returns, or else `0` to `9`, and returns 0.
 ///
-/// Errors: a tag that is not UTF-8, or for which there is no locale.
+/// Errors, in this order: a tag that is not UTF-8, for which there is no locale, or whose digits are unknown.
 #[unsafe(no_mangle)]
 pub extern "C" fn num_format_lookup(format: &mut NumFormat, tag: &[u8]) -> i32
-    ensures { ByTag tag.now format.old format.new result (λ place. Fills (locale_data place) format.new result) }
+    ensures { ByTag tag.now format.old format.new result (FillsByTag tag.now format.old format.new result) }
 {
     returned(calls::fill_by_tag(format, tag))
+}
+
+/// Sets the digits of the struct to those of a name, as [`Digits::from_name`](num_format_digits::Digits::from_name)
+/// returns them, changes nothing else, and returns 0.
+///
+/// Errors: a name that is not UTF-8, or that no digit set has.
+#[unsafe(no_mangle)]
+pub extern "C" fn num_format_set_digits(format: &mut NumFormat, name: &[u8]) -> i32
+    ensures { SetsDigits name.now format.old format.new result }
+{
+    returned(calls::set_digits(format, name))
 }
 
 /// Fills the struct with a separator and a minus sign of at most 8 bytes each, the grouping for which the
@@ -108,7 +127,8 @@ pub extern "C" fn num_format_custom_decimal(
     returned(calls::fill_custom(format, separator, grouping, minus_sign, decimal_mark))
 }
 
-/// Prints the number at the start of the array, and returns the length of its text, at most 191.
+/// Prints the number at the start of the array, and returns the length of its text, at most 191, or 796 in other digits
+/// than `0` to `9`.
 ///
 /// Errors, in this order: a struct that has no format, an array that is shorter than the text.
 #[unsafe(no_mangle)]
@@ -154,7 +174,7 @@ pub extern "C" fn num_format_print_i128(
 }
 
 /// Prints the decimal whose units have these halves in two's complement at the start of the array, and
-/// returns the length of its text, at most 199.
+/// returns the length of its text, at most 199, or 796 in other digits than `0` to `9`.
 ///
 /// Errors, in this order: a scale above 38, a struct that has no format, an array that is shorter than the
 /// text.
@@ -550,9 +570,10 @@ pub extern "C" fn num_format_print_column_len(
 /// returns 0. Writes the number and the status of each row: those that the call for one text writes and returns. The
 /// number of a null row stays, and its status is 0.
 ///
-/// Errors, in this order: a number of no type, a struct that has no format, a format under which a text can be
-/// misread unless it parses leniently, values that are not those of whole rows, another number of offsets or statuses
-/// or fewer bits than the rows need, an offset that is below the one before it, or past the bytes.
+/// Errors, in this order: a number of no type, a struct that has no format, or leniently one with other digits than
+/// `0` to `9`, a format under which a text can be misread unless it parses leniently, values that are not those of
+/// whole rows, another number of offsets or statuses or fewer bits than the rows need, an offset that is below the one
+/// before it, or past the bytes.
 #[unsafe(no_mangle)]
 pub extern "C" fn num_format_parse_column(
     format: &NumFormat,
@@ -673,21 +694,21 @@ pub extern "C" fn num_format_parse_typed_decimal_column(
 /// Returns 1 if every number of every integer type parses again from its text under the format,
 /// else 0.
 ///
-/// Error: a struct that has no format.
+/// Error: a struct that has no format, or one with other digits than `0` to `9`.
 #[unsafe(no_mangle)]
 pub extern "C" fn num_format_reads_back(format: &NumFormat) -> i32
-    ensures { Tells (HasFormat format.now) (RoundTrips (format_of format.now)) result }
+    ensures { Tells (HasLatin format.now) (RoundTrips (format_of format.now)) result }
 {
     returned(calls::reads_back(format))
 }
 
-/// Returns 1 if each number has the same text under both formats, else 0.
+/// Returns 1 if each number has the same text under both formats, and both have the same digits, else 0.
 ///
 /// Error: a struct that has no format.
 #[unsafe(no_mangle)]
 pub extern "C" fn num_format_prints_alike(first: &NumFormat, second: &NumFormat) -> i32
     ensures { Tells (HasFormat first.now × HasFormat second.now)
-        (Alike (format_of first.now) (format_of second.now)) result }
+        ((digits_of first.now ≡ digits_of second.now) × Alike (format_of first.now) (format_of second.now)) result }
 {
     returned(calls::prints_alike(first, second))
 }

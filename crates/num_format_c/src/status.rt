@@ -1,9 +1,13 @@
 //! The errors of the calls, and the numbers by which they cross to C.
 ghost use Rattle.std.specs.Prelude.{◌≡◌};
-ghost use Rattle.num_format_c.specs.Calls.{Stores, at_scale_place_of, at_scale_status_of, code, crossed, decimal_place_of, decimal_status_of, place_after, place_of, rescale_status_of, returned, status_of, typed_place_of, typed_status_of};
+ghost use Rattle.num_format_c.specs.Calls.{Stores, at_scale_place_of, at_scale_status_of, code, crossed};
+ghost use Rattle.num_format_c.specs.Calls.{decimal_place_of, decimal_status_of, digits_place_of, digits_status_of};
+ghost use Rattle.num_format_c.specs.Calls.{place_after, place_of, rescale_status_of, returned, status_of};
+ghost use Rattle.num_format_c.specs.Calls.{typed_place_of, typed_status_of};
 
 use num_format::parsing::StrictError;
 use num_format_decimal::{DecimalError, ParseAtScaleError, ParseDecimalError};
+use num_format_digits::DigitsError;
 use num_format_int::sealed::Sealed;
 use num_format_typed::TypedError;
 
@@ -52,6 +56,10 @@ pub enum Status {
     BadType = -20,
     /// The text, with the characters of the format in it, is longer than that of any number.
     TextTooLong = -21,
+    /// No digit set has the name, or that in the tag, or the tag has two.
+    UnknownDigits = -22,
+    /// A numeric character is no digit of the set.
+    OtherNumeral = -23,
 }
 
 impl Status {
@@ -164,6 +172,23 @@ impl<E: Cause> Cause for TypedError<E> {
         match self {
             TypedError::TooLong => Status::TextTooLong,
             TypedError::Number(error) => error.status(at),
+        }
+    }
+}
+
+impl<E: Cause> Cause for DigitsError<E> {
+    ghost status_of = { digits_status_of E.status_of };
+
+    ghost place_of = { digits_place_of E.place_of };
+
+    fn status(self, at: &mut usize) -> Status {
+        match self {
+            DigitsError::OtherNumeral { at: start } => {
+                *at = start;
+                Status::OtherNumeral
+            }
+            DigitsError::TooLong => Status::TextTooLong,
+            DigitsError::Number(error) => error.status(at),
         }
     }
 }

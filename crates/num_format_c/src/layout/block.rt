@@ -1,9 +1,7 @@
 //! The texts of some rows of a column, before they are copied into it together.
 ghost use Rattle.std.specs.Prelude.{◌≡◌, ℕ, ◌+◌, ◌≤◌, [], ◌++◌, length, drop};
-ghost use Rattle.num_format_decimal.specs.declared.buffer.TheConstants.{MAX_DECIMAL_LEN};
 ghost use Rattle.num_format_c.specs.declared.layout.block.TheConstants.{BLOCK_LEN};
 
-use num_format_decimal::MAX_DECIMAL_LEN;
 use num_format_int::buffer::{PutFront, copy_before};
 use std::marker::Model;
 
@@ -49,16 +47,17 @@ impl Block {
         BLOCK_LEN - self.start
     }
 
-    /// Moves the texts before a place of the bytes if there may be no room for one more, and returns where what is
-    /// there begins then.
+    /// Moves the texts before a place of the bytes if there is no room for one more of at most so many bytes, and
+    /// returns where what is there begins then.
     #[inline(always)]
-    pub fn make_room(&mut self, end: usize, bytes: &mut [u8]) -> usize
+    pub fn make_room(&mut self, most: usize, end: usize, bytes: &mut [u8]) -> usize
+        requires most { most ≤ BLOCK_LEN }
         requires fits { (length self.old ≤ end) × (end ≤ length bytes.old) }
-        ensures room { length self.new + MAX_DECIMAL_LEN ≤ BLOCK_LEN }
+        ensures room { length self.new + most ≤ BLOCK_LEN }
         ensures start { result + length self.old ≡ end + length self.new }
         ensures texts { self.new ++ drop result bytes.new ≡ self.old ++ drop end bytes.old }
     {
-        if self.len() <= BLOCK_LEN - MAX_DECIMAL_LEN {
+        if self.len() <= BLOCK_LEN - most {
             return end;
         }
         self.move_into(end, bytes)

@@ -1,17 +1,24 @@
 //! Printing a column.
 ghost use Rattle.std.specs.Prelude.{◌≡◌, ℕ, List, ◌+◌, ◌^◌, ◌<◌, ◌≤◌, length, ◌++◌, MatchOption};
-ghost use Rattle.num_format_decimal.specs.declared.buffer.TheConstants.{MAX_DECIMAL_LEN};
 ghost use Rattle.num_format_c.specs.declared.layout.block.TheConstants.{BLOCK_LEN};
 ghost use Rattle.num_format_c.specs.Layout.{AreAtStart, AreEnds, IsEnough, largest_offset, offset_at, texts_of};
 
 use super::block::Block;
 use super::offset::OffsetType;
+use num_format_int::buffer::PutFront;
 
 /// What prints the rows of a column.
 pub trait Printer {
     ghost rows: { Self → ℕ };
 
     ghost text: { Self → ℕ → List ℕ };
+
+    ghost MOST: { ℕ };
+
+    /// Returns the most bytes of a text.
+    fn most() -> usize
+        ensures same { result ≡ MOST }
+        ensures fits { MOST ≤ BLOCK_LEN };
 
     /// Returns the number of rows.
     fn len(&self) -> usize
@@ -22,11 +29,11 @@ pub trait Printer {
         requires { row < rows self.now }
         ensures { result ≡ length (text self.now row) };
 
-    /// Prepends the text of a row to the block.
-    fn print(&self, row: usize, block: &mut Block)
+    /// Prepends the text of a row to others.
+    fn print<B: PutFront>(&self, row: usize, texts: &mut B)
         requires row { row < rows self.now }
-        requires fits { length block.old + MAX_DECIMAL_LEN ≤ BLOCK_LEN }
-        ensures { block.new ≡ text self.now row ++ block.old };
+        requires fits { length (B.held texts.old) + MOST ≤ B.CAPACITY }
+        ensures { B.held texts.new ≡ text self.now row ++ B.held texts.old };
 }
 
 /// Returns how many bytes the texts of the rows have together, or `None` if a `usize` does not hold it.
@@ -64,7 +71,7 @@ pub fn print_texts<P: Printer>(
     let mut end = total;
     let mut row = printer.len();
     while row > 0 {
-        end = block.make_room(end, bytes);
+        end = block.make_room(P::most(), end, bytes);
         offset_type.set(offsets, row, end - block.len());
         row -= 1;
         printer.print(row, &mut block);

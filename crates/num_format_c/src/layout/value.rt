@@ -1,7 +1,8 @@
 //! The values of a column, as the bytes of an array.
 ghost use Rattle.std.specs.Prelude.{◌≡◌, ◌≢◌, ℕ, ◌+◌, ◌*◌, ◌<◌, ◌≤◌, length};
 ghost use Rattle.std.specs.Int.{w8, w16, w32, w64, w128};
-ghost use Rattle.num_format_c.specs.Layout.{Representation, number_at, row_bytes, row_count, signed, unsigned, value_type_of};
+ghost use Rattle.num_format_c.specs.Layout.{Representation, number_at, row_bytes, row_count, signed, unsigned};
+ghost use Rattle.num_format_c.specs.Layout.{value_type_of};
 ghost use Rattle.num_format.specs.Kind.{I8, U8, I16, U16, I32, U32, I64, U64, I128, U128};
 
 use super::validity::Validity;

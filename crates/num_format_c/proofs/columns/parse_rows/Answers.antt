@@ -12,7 +12,8 @@ loop-row-preserved g c =
     let status = c.parse_row.result in
     let offset = offset_at c.args.offset_type c.args.texts.now.offsets.now in
     let is_status : to_z w32 (of_z w32 status) ≡ status = search rules in
-    let prior : number_at v c.loop-row.values row ≡ number_at v c.args.values.now row = ap v.number (c.loop-row.invariant.left row (omega arith)) in
+    let prior : number_at v c.loop-row.values row ≡ number_at v c.args.values.now row =
+    ap v.number (c.loop-row.invariant.left row (omega arith)) in
     record {
       length = omega arith;
       parsed = λ s given.
@@ -20,7 +21,8 @@ loop-row-preserved g c =
           (row_more
           (λ k new status. ParsesRow (g.P.Parser.Parses c.args.parser.now) (IsTrue (is_valid c.args.texts.now.validity k)) s
           (slice_range c.args.texts.now.bytes.now (offset k) (offset (k + 1))) (number_at v c.args.values.now k) new status)
-          (number_at v c.loop-row.values) (number_at v c.parse_row.new.values) (λ k. slice_index_or c.loop-row.statuses k (pos 0)) (λ k. slice_index_or (slice_set c.loop-row.statuses row status) k (pos 0)) row
+          (number_at v c.loop-row.values) (number_at v c.parse_row.new.values) (λ k. slice_index_or c.loop-row.statuses k (pos 0))
+          (λ k. slice_index_or (slice_set c.loop-row.statuses row status) k (pos 0)) row
           (c.loop-row.invariant.parsed s given)
           (rw (
             get_or-set_same c.loop-row.statuses row status (pos 0) (omega arith),
@@ -31,7 +33,8 @@ loop-row-preserved g c =
           ) (c.parse_row.ensures.parsed s given))
           (λ k other. ap v.number (c.parse_row.ensures.others k other))
           (λ k other. get_or-set_other c.loop-row.statuses row k status (pos 0) other));
-      left = λ k le. c.parse_row.ensures.others k (λ same. absurd (omega (arith, same, le))) ∙ c.loop-row.invariant.left k (omega (arith, le));
+      left = λ k le. c.parse_row.ensures.others k (λ same. absurd (omega (arith, same, le)))
+          ∙ c.loop-row.invariant.left k (omega (arith, le));
     }
 
 pub returns : goal.returns

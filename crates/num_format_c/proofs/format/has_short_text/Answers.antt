@@ -15,7 +15,8 @@ returns-then-len-eq3 c = λ test.
     let bs = c.args.bytes.now in
     let first : (0xE1 ≤ slice_index_or bs 0 0) × (slice_index_or bs 0 0 ≤ 0xEC) = grind (arith, nat_tests, test) in
     let second : (0x80 ≤ slice_index_or bs 1 0) × (slice_index_or bs 1 0 ≤ 0xBF) = grind (arith, nat_tests, c.continues.ensures, test) in
-    let third : (0x80 ≤ slice_index_or bs 2 0) × (slice_index_or bs 2 0 ≤ 0xBF) = grind (arith, nat_tests, c.continues-then-len-eq3.ensures, test) in
+    let third : (0x80 ≤ slice_index_or bs 2 0) × (slice_index_or bs 2 0 ≤ 0xBF) =
+    grind (arith, nat_tests, c.continues-then-len-eq3.ensures, test) in
     let text = three_bytes bs (search rules) first second third in
     search (rules, text)
 
@@ -24,6 +25,7 @@ returns-else-len-eq3 c = λ test.
     let bs = c.args.bytes.now in
     let two : c.args.len ≡ 2 = grind (arith, nat_tests, test) in
     let first : (0xC2 ≤ slice_index_or bs 0 0) × (slice_index_or bs 0 0 ≤ 0xDF) = grind (arith, nat_tests, test) in
-    let second : (0x80 ≤ slice_index_or bs 1 0) × (slice_index_or bs 1 0 ≤ 0xBF) = grind (arith, nat_tests, c.continues-else-len-eq3.ensures, test) in
+    let second : (0x80 ≤ slice_index_or bs 1 0) × (slice_index_or bs 1 0 ≤ 0xBF) =
+    grind (arith, nat_tests, c.continues-else-len-eq3.ensures, test) in
     let text = two_bytes bs (search rules) first second in
     search (rules, text, two)

@@ -34,11 +34,13 @@ loop-row-preserved g c =
             room.texts,
           ) inv.texts;
       ends =
-          λ k above. ends_more text (offset_at c.args.offset_type c.loop-row.offsets) (offset_at c.args.offset_type c.set.new.offsets) (g.P.Printer.rows c.args.printer.now) row
+          λ k above. ends_more text (offset_at c.args.offset_type c.loop-row.offsets) (offset_at c.args.offset_type c.set.new.offsets)
+          (g.P.Printer.rows c.args.printer.now) row
           inv.ends (omega (arith, c.set.ensures.written, inv.place, room.start)) c.set.ensures.others k (omega (arith, above));
     }
 
 pub returns-clause-ends : goal.returns-clause-ends
 returns-clause-ends g c =
-    λ k. ends_more (g.P.Printer.text c.args.printer.now) (offset_at c.args.offset_type c.loop-row.offsets) (offset_at c.args.offset_type c.set-2.new.offsets) (g.P.Printer.rows c.args.printer.now) 0
+    λ k. ends_more (g.P.Printer.text c.args.printer.now) (offset_at c.args.offset_type c.loop-row.offsets)
+    (offset_at c.args.offset_type c.set-2.new.offsets) (g.P.Printer.rows c.args.printer.now) 0
     (λ j some. c.loop-row.invariant.ends j (omega (arith, some))) c.set-2.ensures.written c.set-2.ensures.others k (omega arith)

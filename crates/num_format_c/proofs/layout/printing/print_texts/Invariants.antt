@@ -9,7 +9,8 @@ invariant-loop-row g l = record {
   within : l.end ≤ length l.bytes;
   texts : texts_of (g.P.Printer.text l.printer) l.row ++ (l.block ++ drop l.end l.bytes)
       ≡ texts_of (g.P.Printer.text l.printer) (g.P.Printer.rows l.printer) ++ drop l.total l.initial.bytes;
-  ends : (k : ℕ) → l.row < k → k ≤ g.P.Printer.rows l.printer → offset_at l.offset_type l.offsets k ≡ length (texts_of (g.P.Printer.text l.printer) k);
+  ends : (k : ℕ) → l.row < k → k ≤ g.P.Printer.rows l.printer → offset_at l.offset_type l.offsets k
+      ≡ length (texts_of (g.P.Printer.text l.printer) k);
 }
 
 abbrev pub decreases-loop-row : goal.decreases-loop-row

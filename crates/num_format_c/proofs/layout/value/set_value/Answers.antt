@@ -8,4 +8,5 @@ returns-clause-others g c =
     let row = c.args.row in
     let long : length c.write.new.bytes ≡ size = omega arith in
     let whole : row * size + size - row * size ≡ size = omega arith in
-    rw (c.size.ensures.size, c.size-2.ensures.size) (row_left size row (row * size + size - row * size) c.args.values.now c.write.new.bytes c.requires long whole)
+    rw (c.size.ensures.size, c.size-2.ensures.size) (row_left size row
+    (row * size + size - row * size) c.args.values.now c.write.new.bytes c.requires long whole)
