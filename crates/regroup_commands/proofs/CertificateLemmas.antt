@@ -16,7 +16,8 @@ use Rattle.num_format.proofs.ReadableLemmas.{readable-from_accepted, unreadable-
 use Rattle.regroup_commands.specs.Output.{is_alike, is_read_back}
 
 -- the test of a number decides whether it reads back
-reads_back-Decides : (f : FormatData) (z : ℤ) → Decides (is_readable f (text_of f z) && int_eq (denoted f (text_of f z)) z) (ReadsBack (kind_of I128) f z)
+reads_back-Decides : (f : FormatData) (z : ℤ) → Decides (is_readable f (text_of f z) && int_eq (denoted f (text_of f z)) z)
+    (ReadsBack (kind_of I128) f z)
 reads_back-Decides f z =
     Decides-like _ (λ passed. record { accepted = λ cause. unreadable-from_refused f (text_of f z) cause passed.0; same = passed.1 })
     (λ back. (readable-from_accepted f (text_of f z) back.accepted, back.same))
@@ -27,14 +28,19 @@ pub read_back-Decides : (f : FormatData) → RoundTripLaw → IsUtf8 f.minus_sig
 read_back-Decides f law sign separator =
     Decides-like _ (λ both. (law.two_values f sign separator).1 (both.0, both.1.0))
     (λ all. let two = (law.two_values f sign separator).0 all in (two.0, (two.1, refl)))
-    (Decides-and _ _ (reads_back-Decides f (pos 1)) (Decides-and _ _ (reads_back-Decides f (negsuc (2 ^ 127 - 1))) (λ yes. yes, λ yes. yes)))
+    (Decides-and _ _ (reads_back-Decides f (pos 1)) (Decides-and _ _ (reads_back-Decides f (negsuc (2 ^ 127 - 1))) (
+      λ yes. yes,
+      λ yes. yes,
+    )))
 
 -- the definition is what `reads_back` returns, under a format by which every number reads back
 pub is_read_back_from_reads_back : (f : FormatData) (r : Bool) → RoundTrips f → IsTrue r ↔ RoundTrips f → r ≡ is_read_back f
 is_read_back_from_reads_back f r all returned =
     let one = (reads_back-Decides f (pos 1)).1 (all I128 (pos 1) (value-from_fits (pos 1) refl)) in
-    let lowest = (reads_back-Decides f (negsuc (2 ^ 127 - 1))).1 (all I128 (negsuc (2 ^ 127 - 1)) (value-from_fits (negsuc (2 ^ 127 - 1)) refl)) in
-    returned.1 all ∙ sym ((Decides-and _ _ (λ yes. yes, λ yes. yes) (Decides-and _ _ (λ yes. yes, λ yes. yes) (λ yes. yes, λ yes. yes))).1 (one, (lowest, refl)))
+    let lowest =
+    (reads_back-Decides f (negsuc (2 ^ 127 - 1))).1 (all I128 (negsuc (2 ^ 127 - 1)) (value-from_fits (negsuc (2 ^ 127 - 1)) refl)) in
+    returned.1 all ∙ sym ((Decides-and _ _ (λ yes. yes, λ yes. yes) (Decides-and _ _ (λ yes. yes, λ yes. yes) (λ yes. yes, λ yes. yes))).1
+    (one, (lowest, refl)))
 
 -- the four tests decide whether two formats print all numbers alike, by the law on the four numbers
 pub alike-Decides : (f g : FormatData) → AlikeLaw → Decides (is_alike f g) (Alike f g)

@@ -36,11 +36,13 @@ pub locale_named_from_LooksUp : (text : List ℕ) (r : Result ℕ Error) → Loo
 locale_named_from_LooksUp text (Ok place) looked_up =
     let within : place < LEN = looked_up.within in
     let others : (k : ℕ) → k < place → is_spelling text (name_of k) ≡ false = λ k below. false_from_ne_true _
-    (λ passes. let same = same_place place k (Ok place) refl (looked_up.found k (omega arith) ((is_spelling-Decides text (name_of k)).0 passes)) in omega arith) in
+    (λ passes. let same = same_place place k (Ok place) refl (looked_up.found k (omega arith)
+    ((is_spelling-Decides text (name_of k)).0 passes)) in omega arith) in
     let first : position_or_len (is_spelling text) table_names ≡ place =
     position_or_len_is _ table_names place [] (omega (arith, length-table_names)) others
     (λ _. (is_spelling-Decides text (name_of place)).1 looked_up.spelled) in
-    rw (first, length-table_names) (ap (λ o. ok_or (option_map locale_data o) (ParseLocale (cut_text text))) (cond_below place LEN (Some place) None looked_up.within))
+    rw (first, length-table_names) (ap (λ o. ok_or (option_map locale_data o) (ParseLocale (cut_text text)))
+    (cond_below place LEN (Some place) None looked_up.within))
 locale_named_from_LooksUp text (Err error) looked_up =
     let first : position_or_len (is_spelling text) table_names ≡ LEN =
     position_or_len_is _ table_names LEN [] (omega (arith, length-table_names))

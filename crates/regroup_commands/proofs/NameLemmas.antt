@@ -17,7 +17,8 @@ unfolding encode families members table_names
 short_names = refl
 
 -- so each text of a list of the names is
-pub names_fit : (names : List (Bor (List ℕ))) → map (λ name. name.now) names ≡ table_names → All (λ name. length name.now < MAX_SENT_LINE_LEN) names
+pub names_fit : (names : List (Bor (List ℕ))) → map (λ name. name.now) names ≡ table_names
+    → All (λ name. length name.now < MAX_SENT_LINE_LEN) names
 names_fit names listed k d within =
     let is_short : List ℕ → Bool = λ name. nat_lt (length name) MAX_SENT_LINE_LEN in
     let all_short : list_all (λ name. is_short name.now) names ≡ true =

@@ -31,10 +31,14 @@ unless_passes false number fails = refl
 -- the definition is what `parse` returns
 pub number_in_from_parse : {E : Type 0} (text : List ℕ) (r : Result ℤ E) → ParsesSigned w128 10 text r → result_ok r ≡ number_in text
 number_in_from_parse text (Ok z) parsed =
-    let passes = Decides-and _ _ (Decides-and _ _ (Decides-ltb 0 (length (without_leading_sign text))) (all_digits-Decides (without_leading_sign text)))
+    let passes =
+    Decides-and _ _ (Decides-and _ _ (Decides-ltb 0 (length (without_leading_sign text)))
+    (all_digits-Decides (without_leading_sign text)))
     (fits_i128-Decides (signed_digits_value 10 text)) in
     if_passes _ z _ (passes.1 parsed.0) parsed.1
 number_in_from_parse text (Err e) parsed =
-    let passes = Decides-and _ _ (Decides-and _ _ (Decides-ltb 0 (length (without_leading_sign text))) (all_digits-Decides (without_leading_sign text)))
+    let passes =
+    Decides-and _ _ (Decides-and _ _ (Decides-ltb 0 (length (without_leading_sign text)))
+    (all_digits-Decides (without_leading_sign text)))
     (fits_i128-Decides (signed_digits_value 10 text)) in
     unless_passes _ _ (λ true. parsed (passes.0 true))

@@ -1,5 +1,6 @@
 -- What writers received, text after text.
-use Rattle.std.proofs.Common.{◌≡◌, ℕ, ◌+◌, ◌<◌, List, [], ◌++◌, length, map, drop, get_or, refl, ◌∙◌, add-one, append_assoc, drop-cons, length-append, arith}
+use Rattle.std.proofs.Common.{◌≡◌, ℕ, ◌+◌, ◌<◌, List, [], ◌++◌, length, map, drop, get_or, refl, ◌∙◌, add-one, append_assoc, drop-cons}
+use Rattle.std.proofs.Common.{length-append, arith}
 use Rattle.std.specs.Borrow.{Bor}
 use Rattle.std.specs.Prelude.{Option, None, Result, Ok, Err}
 use Rattle.std.specs.Result.{result_and}
@@ -13,7 +14,8 @@ use Rattle.regroup_commands.specs.Request.{Request}
 use Rattle.regroup_commands.specs.Sending.{SendsLines, SendsOutput}
 
 -- a call that sends the lines of a result, and then returns 0, sends the result's output
-pub SendsOutput_lines : {E : Type 0} (r : Result ℕ E) (result : Result (List ℕ) Refusal) (a b c : Option (List ℕ)) (sent : Result (Unit {0}) E) →
+pub SendsOutput_lines : {E : Type 0} (r : Result ℕ E) (result : Result (List ℕ) Refusal) (a b c : Option (List ℕ))
+    (sent : Result (Unit {0}) E) →
     SendsLines sent a b result → r ≡ result_and sent (Ok 0) → SendsOutput r (output_of_result result) a b c c
 SendsOutput_lines r result a b c (Ok done) lines returned =
     rw (lines.is, returned) (record {
@@ -59,16 +61,19 @@ SendsOutput_stderr r a c d (Err e) status text sends returned =
     })
 
 -- so a call that sends the message of an error, and then returns 1, sends the error's output
-pub SendsOutput_message : {E : Type 0} (r : Result ℕ E) (result : Result (List ℕ) Refusal) (a b c d : Option (List ℕ)) (sent : Result (Unit {0}) E) (error : Refusal) →
+pub SendsOutput_message : {E : Type 0} (r : Result ℕ E) (result : Result (List ℕ) Refusal) (a b c d : Option (List ℕ))
+    (sent : Result (Unit {0}) E) (error : Refusal) →
     result ≡ Err error → b ≡ a → Sends sent c d (line (message_of error)) → r ≡ result_and sent (Ok 1) →
     SendsOutput r (output_of_result result) a b c d
-SendsOutput_message r result a b c d sent error is unsent sends returned = rw (is, unsent) (SendsOutput_stderr r a c d sent 1 (line (message_of error)) sends returned)
+SendsOutput_message r result a b c d sent error is unsent sends returned =
+    rw (is, unsent) (SendsOutput_stderr r a c d sent 1 (line (message_of error)) sends returned)
 
 -- and one that sends the usage, and then returns 2, sends the output for words that are no request
 pub SendsOutput_usage : {E : Type 0} (r : Result ℕ E) (request : Option Request) (a b c d : Option (List ℕ)) (sent : Result (Unit {0}) E) →
     None ≡ request → b ≡ a → Sends sent c d usage_output.stderr → r ≡ result_and sent (Ok 2) →
     SendsOutput r (output_or_usage request) a b c d
-SendsOutput_usage r request a b c d sent none unsent sends returned = rw (← none, unsent) (SendsOutput_stderr r a c d sent 2 usage_output.stderr sends returned)
+SendsOutput_usage r request a b c d sent none unsent sends returned =
+    rw (← none, unsent) (SendsOutput_stderr r a c d sent 2 usage_output.stderr sends returned)
 
 -- the lines from a place on: the line there, and those after it
 lines-drop : (texts : List (Bor (List ℕ))) (k : ℕ) (d : Bor (List ℕ)) → k < length texts →
@@ -76,7 +81,8 @@ lines-drop : (texts : List (Bor (List ℕ))) (k : ℕ) (d : Bor (List ℕ)) → 
 lines-drop texts k d within = rw (add-one, drop-cons texts k d)
 
 -- a writer that receives the next line
-pub HasReceivedUpTo_line : (a b c : Option (List ℕ)) (whole : List ℕ) (texts : List (Bor (List ℕ))) (k : ℕ) (d : Bor (List ℕ)) → k < length texts →
+pub HasReceivedUpTo_line : (a b c : Option (List ℕ)) (whole : List ℕ) (texts : List (Bor (List ℕ))) (k : ℕ) (d : Bor (List ℕ))
+    → k < length texts →
     HasReceivedUpTo a b whole (lines (map (λ text. text.now) (drop k texts))) → Appends b c (line (get_or texts k d).now) →
     HasReceivedUpTo a c whole (lines (map (λ text. text.now) (drop (k + 1) texts)))
 HasReceivedUpTo_line a b c whole texts k d within so_far more =
@@ -88,9 +94,11 @@ HasReceivedUpTo_line a b c whole texts k d within so_far more =
     }
 
 -- a writer that stops within the next line
-pub StopsWithin_line : (a b c : Option (List ℕ)) (whole : List ℕ) (texts : List (Bor (List ℕ))) (k : ℕ) (d : Bor (List ℕ)) → k < length texts →
+pub StopsWithin_line : (a b c : Option (List ℕ)) (whole : List ℕ) (texts : List (Bor (List ℕ))) (k : ℕ) (d : Bor (List ℕ))
+    → k < length texts →
     HasReceivedUpTo a b whole (lines (map (λ text. text.now) (drop k texts))) → StopsWithin b c (line (get_or texts k d).now) →
     StopsWithin a c whole
 StopsWithin_line a b c whole texts k d within so_far stops =
     let next = rw (lines-drop texts k d within) at so_far in
-    rw (← next.split) (StopsWithin_suffix a b c next.received _ next.appended (StopsWithin_prefix b c (line (get_or texts k d).now) _ stops))
+    rw (← next.split) (StopsWithin_suffix a b c next.received _ next.appended
+    (StopsWithin_prefix b c (line (get_or texts k d).now) _ stops))

@@ -1,5 +1,6 @@
 -- The output of the program: its exit status, and the bytes for standard output and standard error.
-use Rattle.std.specs.Prelude.{ℕ, ◌-◌, ◌^◌, ℤ, pos, negsuc, Bool, ◌&&◌, if◌then◌else◌, List, [], ◌∷◌, ◌++◌, codes, Option, Some, None, Result, Ok, Err}
+use Rattle.std.specs.Prelude.{ℕ, ◌-◌, ◌^◌, ℤ, pos, negsuc, Bool, ◌&&◌, if◌then◌else◌, List, [], ◌∷◌, ◌++◌, codes, Option, Some, None}
+use Rattle.std.specs.Prelude.{Result, Ok, Err}
 use Rattle.std.specs.Fmt.{signed_decimal}
 use Rattle.std.specs.List.{flat_map, list_all}
 use Rattle.std.specs.Ordering.{int_eq}
@@ -20,7 +21,8 @@ use Rattle.regroup_commands.specs.Request.Request.{Alike, Check, Custom, Names, 
 -- num_format, these two decide it for every number of every integer type
 abbrev pub is_read_back : FormatData → Bool
 is_read_back format =
-    list_all (λ z. is_readable format (text_of format z) && int_eq (denoted format (text_of format z)) z) (pos 1 ∷ negsuc (2 ^ 127 - 1) ∷ [])
+    list_all (λ z. is_readable format (text_of format z) && int_eq (denoted format (text_of format z)) z)
+    (pos 1 ∷ negsuc (2 ^ 127 - 1) ∷ [])
 
 -- whether the texts of 1000, 100000, 1000000 and -1 are the same under both formats; by the law `alike` of num_format, these four
 -- decide it for every number from -2 ^ 127 to 2 ^ 128 - 1
@@ -67,7 +69,8 @@ alike_line (Err error) _ = Err error
 
 -- the lines that a request prints, or its error
 abbrev pub result_of : Request → Result (List ℕ) Refusal
-result_of (Custom separator grouping minus_sign number) = number_line (result_map_both (λ format. format) refusal_of (custom_format separator grouping minus_sign)) number
+result_of (Custom separator grouping minus_sign number) = number_line
+    (result_map_both (λ format. format) refusal_of (custom_format separator grouping minus_sign)) number
 result_of (Print locale number) = number_line (locale_named locale) number
 result_of Names = Ok (lines table_names)
 result_of (Read locale text) = decimal_line (number_read_under (locale_named locale) text)

@@ -25,7 +25,8 @@ pub record StopsShort (output : Output) (out_old out_new err_old err_new : Optio
   pub unfinished : 0 < length (stdout_rest ++ stderr_rest)
 
 -- what a call that sends an output does: on `Ok` it returns the status and each writer received its bytes; on `Err` it stopped short
-pub record SendsOutput {E : Type 0} (result : Result ℕ E) (output : Output) (out_old out_new err_old err_new : Option (List ℕ)) : Type 0 where
+pub record SendsOutput {E : Type 0} (result : Result ℕ E) (output : Output)
+    (out_old out_new err_old err_new : Option (List ℕ)) : Type 0 where
   pub status : IfOk result (λ status. status ≡ output.status)
   pub sent : OnOk result (IsSent output out_old out_new err_old err_new)
   pub failed : OnErr result (StopsShort output out_old out_new err_old err_new)

@@ -7,7 +7,8 @@ ghost use Rattle.num_format.specs.Refusal.{refusal_of};
 ghost use Rattle.num_format.specs.Readable.{number_read};
 ghost use Rattle.regroup_commands.specs.Locales.{locale_named};
 ghost use Rattle.regroup_commands.specs.Output.{is_alike, is_read_back, output_of_request, result_of};
-ghost use Rattle.regroup_commands.specs.Request.{alike_with, check_with, custom_with, names_with, number_in, print_with, read_with, request_in};
+ghost use Rattle.regroup_commands.specs.Request.{alike_with, check_with, custom_with, names_with, number_in};
+ghost use Rattle.regroup_commands.specs.Request.{print_with, read_with, request_in};
 ghost use Rattle.regroup_commands.specs.Sending.{SendsLines, SendsOutput};
 
 use crate::sending::{send_bool, send_decimal, send_error, send_lines, send_number};

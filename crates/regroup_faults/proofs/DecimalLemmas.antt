@@ -1,6 +1,7 @@
 -- The definition of the decimal that a text spells is what strict parsing returns.
 use Rattle.std.proofs.lemmas.List.{drop_more, length-drop}
-use Rattle.std.proofs.Common.{Decides, IsUtf8, List, None, Option, Some, [], ap, arith, drop, false, inl, inr, length, refl, subst, sym, ℕ, ◌+◌, ◌-◌, ◌<◌, ◌^◌, ◌∙◌, ◌≡◌, ◌≢◌, ◌≤◌}
+use Rattle.std.proofs.Common.{Decides, IsUtf8, List, None, Option, Some, [], ap, arith, drop, false, inl, inr, length, refl, subst, sym, ℕ}
+use Rattle.std.proofs.Common.{◌+◌, ◌-◌, ◌<◌, ◌^◌, ◌∙◌, ◌≡◌, ◌≢◌, ◌≤◌}
 use Rattle.std.proofs.lemmas.Bool.Decides.{Decides-and, Decides-like, Decides-ltb, Decides-not, Decides-or}
 use Rattle.std.specs.Prelude.{FitsSigned, MatchOption, negsuc, pos, suc, zero, ℤ, ◌&&◌, ◌||◌}
 use Rattle.num_format_decimal.specs.FixedPoint.{FixedPoint, fixed_point}
@@ -28,7 +29,8 @@ use Rattle.num_format.specs.Strict.{ungrouped}
 use Rattle.num_format.specs.Grouped.{printed_separator}
 use Rattle.num_format.specs.Strict.{HasNoNumeral}
 use Rattle.num_format_decimal.specs.declared.decimal.TheConstants.{MAX_SCALE}
-use Rattle.num_format_decimal.specs.declared.parsing.ParseDecimalError.TheVariants.{AmbiguousFormat, Misspelled, NoDigit, NotUtf8, OutOfRange, TooManyDecimals, Unexpected}
+use Rattle.num_format_decimal.specs.declared.parsing.ParseDecimalError.TheVariants.{AmbiguousFormat, Misspelled, NoDigit, NotUtf8}
+use Rattle.num_format_decimal.specs.declared.parsing.ParseDecimalError.TheVariants.{OutOfRange, TooManyDecimals, Unexpected}
 use Rattle.num_format_decimal.proofs.MarkLemmas.{denoted-decimal, plain-from_marks, spelled_once, tells-spelled_decimal}
 use Rattle.num_format_decimal.proofs.ParserLemmas.{mark_from, marks_from}
 
@@ -55,18 +57,21 @@ module _ (f : FormatData) (utf8 : HasUtf8Texts f) where
   marks-Decides =
       let separator = printed_separator f.grouping f.separator in
       Decides-like _
-      (λ h. marks_from f utf8.minus_sign utf8.separator (record { sign_given = h.0.0; sign = h.0.1; separator = h.1.0 }) (record { given = h.1.1.0.0; plain = h.1.1.0.1; apart = h.1.1.1 }))
+      (λ h. marks_from f utf8.minus_sign utf8.separator (record { sign_given = h.0.0; sign = h.0.1; separator = h.1.0 })
+      (record { given = h.1.1.0.0; plain = h.1.1.0.1; apart = h.1.1.1 }))
       (λ marks.
       let plain = (plain-marks marks).unambiguous in
       let mark = mark_from f marks in
       ((plain.sign_given, plain.sign), (plain.separator, ((mark.given, mark.plain), mark.apart))))
-      (Decides-and _ _ (sign-Decides f.minus_sign) (Decides-and _ _ (no_numeral-Decides separator) (Decides-and _ _ (sign-Decides f.decimal) (Decides-not _ (bytes_eq-Decides f.decimal separator)))))
+      (Decides-and _ _ (sign-Decides f.minus_sign) (Decides-and _ _ (no_numeral-Decides separator)
+      (Decides-and _ _ (sign-Decides f.decimal) (Decides-not _ (bytes_eq-Decides f.decimal separator)))))
 
   unmarked : ¬ (MarksDecimals f) → marks_decimals f ≡ false
   unmarked ambiguous = false_from_ne_true _ (λ yes. ambiguous (marks-Decides.0 yes))
 
   module _ (t : List ℕ) where
-    spelled-Decides : (d : FixedPoint) → Decides (bytes_eq t (decimal_text f d) || bytes_eq t (decimal_text (ungrouped f) d)) (SpellsDecimal f t d)
+    spelled-Decides : (d : FixedPoint) → Decides (bytes_eq t (decimal_text f d) || bytes_eq t (decimal_text (ungrouped f) d))
+        (SpellsDecimal f t d)
     spelled-Decides d =
         Decides-like _ (λ either. elim either [ inl same ↦ with_separators same | inr same ↦ without_separators same ])
         (λ spells. elim spells [ with_separators same ↦ inl same | without_separators same ↦ inr same ])
@@ -83,7 +88,9 @@ module _ (f : FormatData) (utf8 : HasUtf8Texts f) where
 
       found-next : (n : ℕ) → ¬ (SpellsDecimal f t (fixed_point (denoted f t) n)) → (o : Option FixedPoint) → Found n o → Found (suc n) o
       found-next n not None none = λ d low spells.
-          let other : d.scale ≢ n = λ here. not (subst (SpellsDecimal f t) (ap (fixed_point d.units) here ∙ ap (λ z. fixed_point z n) (sym (units d spells))) spells) in
+          let other : d.scale ≢ n =
+          λ here. not (subst (SpellsDecimal f t) (ap (fixed_point d.units) here
+          ∙ ap (λ z. fixed_point z n) (sym (units d spells))) spells) in
           none d (omega (arith, other)) spells
       found-next n not (Some d) hit = (let low = hit.0 in omega arith, hit.1)
 
@@ -92,7 +99,8 @@ module _ (f : FormatData) (utf8 : HasUtf8Texts f) where
       found zero = λ d low spells. absurd (omega arith)
       found (suc n) =
           let decides = spelled-Decides (fixed_point (denoted f t) n) in
-          elim (cases_Bool (bytes_eq t (decimal_text f (fixed_point (denoted f t) n)) || bytes_eq t (decimal_text (ungrouped f) (fixed_point (denoted f t) n)))) [
+          elim (cases_Bool (bytes_eq t (decimal_text f (fixed_point (denoted f t) n)) || bytes_eq t
+          (decimal_text (ungrouped f) (fixed_point (denoted f t) n)))) [
             | inl is ↦ rw is (omega arith, decides.0 is)
             | inr other ↦ rw other (found-next n (λ spells. both_ways _ other (decides.1 spells)) _ (found n))
           ]
@@ -119,7 +127,8 @@ module _ (f : FormatData) (utf8 : HasUtf8Texts f) where
     unfolding decimal_read
     decimal_read-parsed d parsed =
         let marks = parsed.unambiguous in
-        rw (marks-Decides.1 marks, ap fits_i128 (units marks d parsed.spelled) ∙ (fits-Decides d.units).1 parsed.fits) (spelled-some marks d parsed.spelled parsed.bound)
+        rw (marks-Decides.1 marks, ap fits_i128 (units marks d parsed.spelled) ∙ (fits-Decides d.units).1 parsed.fits)
+        (spelled-some marks d parsed.spelled parsed.bound)
 
     -- and where it returns none, there is none
     pub decimal_read-none : ((d : FixedPoint) → ¬ (ParsesDecimal f t d)) → decimal_read f t ≡ None
@@ -130,7 +139,12 @@ module _ (f : FormatData) (utf8 : HasUtf8Texts f) where
               let parts = and_parts (marks_decimals f) (fits_i128 (denoted f t)) both in
               let marks = marks-Decides.0 parts.0 in
               let fits = (fits-Decides (denoted f t)).0 parts.1 in
-              rw both (spelled-none marks (λ d bound spells. refused d (record { unambiguous = marks; spelled = spells; bound = bound; fits = subst (FitsSigned w128) (units marks d spells) fits })))
+              rw both (spelled-none marks (λ d bound spells. refused d (record {
+                unambiguous = marks;
+                spelled = spells;
+                bound = bound;
+                fits = subst (FitsSigned w128) (units marks d spells) fits;
+              })))
           | inr not ↦ rw not refl
         ]
 

@@ -1,3 +1,4 @@
 -- The proofs of this crate.
 pub mod DecimalLemmas
+pub mod NotationLemmas
 pub mod TypedLemmas

@@ -1,5 +1,5 @@
 -- The definitions of what a person means by a text are what typed parsing returns.
-use Rattle.std.proofs.Common.{Decides, Err, IsUtf8, List, None, Ok, Result, [], ap, arith, false, length, refl, true, ℕ, ◌<◌, ◌∙◌, ◌≡◌, ◌≤◌}
+use Rattle.std.proofs.Common.{Decides, Err, IsUtf8, List, None, Ok, Result, [], arith, false, length, refl, ℕ, ◌≡◌}
 use Rattle.std.proofs.lemmas.Bool.{false_from_ne_true, le-leb, leb-true, lt-ltb, ltb-true, not-true, not_from_false}
 use Rattle.std.proofs.lemmas.Bool.Decides.{Decides-and, Decides-like, Decides-not}
 use Rattle.std.proofs.lemmas.Slice.Eq.{bytes_eq-Decides}
@@ -8,7 +8,7 @@ use Rattle.std.specs.Result.{result_ok}
 use Rattle.num_format.specs.Format.{FormatData, HasUtf8Texts}
 use Rattle.num_format_decimal.specs.FixedPoint.{FixedPoint}
 use Rattle.num_format_decimal.specs.Marks.{MarksDecimals}
-use Rattle.num_format_decimal.specs.Parsing.{DecimalResult, ParsesDecimal}
+use Rattle.num_format_decimal.specs.Parsing.{DecimalResult}
 use Rattle.num_format_decimal.specs.declared.buffer.TheConstants.{MAX_DECIMAL_LEN}
 use Rattle.num_format_decimal.specs.declared.parsing.ParseDecimalError.{ParseDecimalError}
 use Rattle.num_format_decimal.specs.declared.parsing.ParseDecimalError.TheVariants as decimal

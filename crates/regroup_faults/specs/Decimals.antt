@@ -35,7 +35,8 @@ unfoldable pub spelled_below : FormatData → List ℕ → (bound : ℕ) → Opt
 spelled_below format text zero = None
 spelled_below format text (suc scale) =
     let decimal = fixed_point (denoted format text) scale in
-    if bytes_eq text (decimal_text format decimal) || bytes_eq text (decimal_text (ungrouped format) decimal) then Some decimal else spelled_below format text scale
+    if bytes_eq text (decimal_text format decimal) || bytes_eq text (decimal_text (ungrouped format) decimal) then Some decimal else
+    spelled_below format text scale
 
 -- the same of any scale that there is
 abbrev pub spelled : FormatData → List ℕ → Option FixedPoint

@@ -5,9 +5,8 @@ use Rattle.regroup_faults.specs.declared.fault.FieldCount.{FieldCount}
 use Rattle.regroup_faults.specs.declared.fault.RegroupFault.{RegroupFault}
 use Rattle.regroup_faults.specs.declared.fault.RegroupFault.TheVariants as fault
 
--- a fault, with the number of its line, and of its field where a text in a chosen field is at fault; of a line that is too long, with how many bytes it may have, and of
--- one with too few fields with how many it has;
--- an error is what clauses see of it
+-- a fault, with the number of its line, and of its field where a text in a chosen field is at fault; of a line that is too long, with how
+-- many bytes it may have, and of one with too few fields with how many it has; an error is what clauses see of it
 pub data Fault : Type 0 where
   TooMany : Fault
   TooLong : ℕ → ℕ → Fault

@@ -2,4 +2,5 @@
 pub mod Decimals
 pub mod Fault
 pub mod Messages
+pub mod Notation
 pub mod Quoting

@@ -1,9 +1,11 @@
 -- The messages that name faults.
 use Rattle.std.specs.Prelude.{ℕ, ◌+◌, ◌-◌, ◌/◌, ◌%◌, nat_le, nat_lt, ◌==◌, Bool, ◌&&◌, not, is_some, if◌then◌else◌}
 use Rattle.std.specs.Prelude.{List, [], ◌∷◌, ◌++◌, length, codes, encode_utf8, Option, None, Some}
+use Rattle.num_format_digits.specs.Digits.{ascii_of, first_set, other_from}
+use Rattle.num_format_digits.specs.Parsing as digits
 use Rattle.std.specs.Fmt.{decimal}
 use Rattle.std.specs.Char.{is_ascii_digit}
-use Rattle.std.specs.List.{flat_map, list_any}
+use Rattle.std.specs.List.{flat_map}
 use Rattle.std.specs.Str.{bytes_eq, chars, is_utf8}
 use Rattle.num_format.specs.Format.{FormatData}
 use Rattle.num_format.specs.Reading.{figures}
@@ -16,10 +18,12 @@ use Rattle.num_format_decimal.specs.declared.decimal.TheConstants.{MAX_SCALE}
 use Rattle.num_format_decimal.specs.declared.parsing.ParseDecimalError.{ParseDecimalError}
 use Rattle.num_format_decimal.specs.declared.parsing.ParseDecimalError.TheVariants as decimal
 use Rattle.num_format_typed.specs.Typed.{place_in, typed_text}
+use Rattle.regroup_faults.specs.Notation.{NotationData}
 use Rattle.regroup_faults.specs.Quoting.{hex_digit, quoted, shown}
 use Rattle.regroup_faults.specs.Decimals.{decimal_read, marks_decimals, spelled, typed_read, types_decimals}
 use Rattle.regroup_faults.specs.Fault.{Fault, line_of}
-use Rattle.regroup_faults.specs.Fault.Fault.{TooMany, TooLong, FewFields, Read, NotText, FieldNotText, Line, Field, Unclosed, Write, Report, Reject, Flush}
+use Rattle.regroup_faults.specs.Fault.Fault.{TooMany, TooLong, FewFields, Read, NotText, FieldNotText, Line, Field, Unclosed, Write, Report}
+use Rattle.regroup_faults.specs.Fault.Fault.{Reject, Flush}
 use Rattle.regroup_faults.specs.declared.fault.FieldCount.{FieldCount}
 use Rattle.regroup_faults.specs.declared.Reading.{Reading}
 use Rattle.regroup_faults.specs.declared.Reading.TheVariants.{Lenient, Strict, Typed}
@@ -58,7 +62,11 @@ why_refused from text =
 
 -- the first characters in which two texts differ, after how many bytes, of which so many were before these texts
 abbrev pub change_after : (before : ℕ) → (text other : List ℕ) → Option (ℕ × ℕ × ℕ)
-change_after before (c ∷ text) (d ∷ other) = if c == d then change_after (before + length (encode_utf8 c)) text other else Some (before, c, d)
+change_after before (c ∷ text) (d ∷ other) = if c == d then change_after (before + length (encode_utf8 c)) text other else Some (
+  before,
+  c,
+  d,
+)
 change_after before text other = None
 
 abbrev pub first_change : List ℕ → List ℕ → Option (ℕ × ℕ × ℕ)
@@ -81,6 +89,7 @@ why_strict from text known = known
 -- the same with another place
 abbrev pub why_placed : (ℕ → ℕ) → Why → Why
 why_placed place (why.Unexpected before) = why.Unexpected (place before)
+why_placed place (why.Typed before met wanted) = why.Typed (place before) met wanted
 why_placed place known = known
 
 -- why typed parsing refuses a text, if it does, and decimals can be told so under the format
@@ -91,15 +100,32 @@ why_untyped from text =
     if nat_lt MAX_DECIMAL_LEN (length (typed_text from text)) then why.TooLong else
     why_placed (place_in from text) (why_refused from (typed_text from text))
 
--- why a text is refused, by how it is read
+-- why a text with 0 to 9 is refused, by how it is read
 abbrev pub why_read : Reading → FormatData → List ℕ → Why
 why_read Strict from text = why_strict from text (why_refused from text)
 why_read Typed from text = why_untyped from text
 why_read Lenient from text = why.Unknown
 
+-- the character after so many bytes
+abbrev pub char_after : (before : ℕ) → (characters : List ℕ) → ℕ
+char_after before [] = 0
+char_after before (c ∷ cs) = if before == 0 then c else char_after (before - length (encode_utf8 c)) cs
+
+-- the same in a set: by its first other numeral, if it has one, or else by the text with 0 to 9, with the place in the text itself
+abbrev pub why_other : Reading → NotationData → List ℕ → Option ℕ → Why
+why_other reading from text (Some before) = why.OtherNumeral before (char_after before (chars text))
+why_other reading from text None =
+    if nat_lt MAX_DECIMAL_LEN (length (ascii_of from.digits text)) then why.TooLong else
+    why_placed (digits.place_in from.digits text) (why_read reading from.format (ascii_of from.digits text))
+
+abbrev pub why_in_digits : Reading → NotationData → List ℕ → Why
+why_in_digits reading from text = why_other reading from text (other_from from.digits 0 (chars text))
+
 -- nothing is known of a text of 253 bytes or more, which may have been cut, since an error keeps 256 bytes at most, and whole characters
-abbrev pub why_not : Reading → FormatData → List ℕ → Why
-why_not reading from text = if nat_lt (length text) 253 then why_read reading from text else why.Unknown
+abbrev pub why_not : Reading → NotationData → List ℕ → Why
+why_not reading from text =
+    if not (nat_lt (length text) 253) then why.Unknown else
+    if from.digits == 48 then why_read reading from.format text else why_in_digits reading from text
 
 -- the last four digits of a number of base 16, and the two before them if it has more
 abbrev pub low_digits : ℕ → List ℕ
@@ -114,7 +140,13 @@ code_point n = codes "U+" ++ (high_digits n ++ low_digits n)
 
 -- what is said where a character was typed for one of the format
 abbrev pub met_text : (at met wanted : List ℕ) → List ℕ
-met_text at met wanted = codes ": not a number at byte " ++ (at ++ (codes ": " ++ (met ++ (codes ", where FROM has " ++ (wanted ++ codes ": see --typed")))))
+met_text at met wanted =
+    codes ": not a number at byte " ++ (at ++ (codes ": " ++ (met ++ (codes ", where FROM has " ++ (wanted ++ codes ": see --typed")))))
+
+-- what is said of a numeral that is no digit of the set
+abbrev pub other_text : (before met : ℕ) → List ℕ
+other_text before met =
+    codes ": not a number at byte " ++ (decimal (before + 1) ++ (codes ": " ++ (code_point met ++ codes " is no digit of FROM")))
 
 -- what is said of a text that is not a number: a place counts from 1
 abbrev pub why_text : Why → List ℕ
@@ -122,6 +154,7 @@ why_text why.Unknown = codes ": not a number"
 why_text (why.Unexpected before) = codes ": not a number at byte " ++ decimal (before + 1)
 why_text why.Misspelled = codes ": not as it is printed"
 why_text why.TooLong = codes ": longer than any number"
+why_text (why.OtherNumeral before met) = other_text before met
 why_text (why.Typed before met wanted) = met_text (decimal (before + 1)) (code_point met) (code_point wanted)
 
 -- what is shown of a name: the first 256 bytes
@@ -131,7 +164,8 @@ shown_name name = shown 256 name
 -- what is said of a line with too few fields
 abbrev pub few_text : FieldCount → List ℕ
 few_text count =
-    codes "too few fields: " ++ (decimal count.found ++ (codes " of " ++ (decimal count.wanted ++ (codes ", separated by " ++ quoted (count.delimiter ∷ [])))))
+    codes "too few fields: "
+    ++ (decimal count.found ++ (codes " of " ++ (decimal count.wanted ++ (codes ", separated by " ++ quoted (count.delimiter ∷ [])))))
 
 -- what is said of a text that is not a number
 abbrev pub refused_text : Why → List ℕ → List ℕ
@@ -171,9 +205,9 @@ displayed (Some number) cause = codes "line " ++ (decimal number ++ (codes ": " 
 abbrev pub message_of_fault : Fault → List ℕ
 message_of_fault fault = displayed (line_of fault) (cause why.Unknown fault)
 
--- whether a text has bytes, and no digit
+-- whether a text has bytes, and no decimal digit
 abbrev pub is_word : List ℕ → Bool
-is_word text = not (length text == 0) && not (list_any is_ascii_digit text)
+is_word text = not (length text == 0) && not (is_some (first_set (chars text)))
 
 -- the question whether a text in the line of this number is of a header, if it is a word in the first line
 abbrev pub header_hint : (number : ℕ) → List ℕ → List ℕ
@@ -193,11 +227,11 @@ line_message name None cause hint = []
 line_message name (Some number) cause hint =
     codes "regroup-lines: " ++ (shown_name name ++ (codes ":" ++ (decimal number ++ (codes ": " ++ (cause ++ (hint ++ codes "\n"))))))
 
--- the message that names the fault of a line, in an input of this name that is read under the format; other faults have none
-abbrev pub fault_message : (name : List ℕ) → Reading → FormatData → Fault → List ℕ
+-- the message that names the fault of a line, in an input of this name that is read in the notation; other faults have none
+abbrev pub fault_message : (name : List ℕ) → Reading → NotationData → Fault → List ℕ
 fault_message name reading from fault =
     line_message name (line_of fault) (cause (why_not reading from (refused_in fault)) fault) (hint fault)
 
 -- the messages that name faults, one after the other
-abbrev pub messages : (name : List ℕ) → Reading → FormatData → List Fault → List ℕ
+abbrev pub messages : (name : List ℕ) → Reading → NotationData → List Fault → List ℕ
 messages name reading from faults = flat_map (fault_message name reading from) faults

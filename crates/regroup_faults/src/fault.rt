@@ -8,7 +8,8 @@ use arrayvec::ArrayString;
 use num_format::Error;
 use std::fmt;
 
-/// Why the lines of an input were not regrouped to the end. Lines are numbered from 1, and so are the fields of a line, or of a record of RFC 4180.
+/// Why the lines of an input were not regrouped to the end. Lines are numbered from 1, and so are the fields of a line,
+/// or of a record of RFC 4180.
 ///
 /// ```rust
 /// println!(rt; "{}", RegroupFault::TooLong(2, 4096))    // line 2: more than 4096 bytes

@@ -1,23 +1,31 @@
 //! The messages that name faults.
 ghost use Rattle.std.specs.Prelude.{◌≡◌, ◌≤◌, ◌<◌, ◌+◌, ◌%◌, ◌++◌, ◌∷◌, [], length};
-ghost use Rattle.std.specs.Char.{is_ascii_digit};
-ghost use Rattle.std.specs.List.{list_any};
+ghost use Rattle.std.specs.Str.{chars};
 ghost use Rattle.num_format.specs.Refusal.{refusal_of};
 ghost use Rattle.arrayvec.specs.ArrayString.{array_string_len};
 ghost use Rattle.regroup_faults.specs.Fault.{fault_of};
 ghost use Rattle.regroup_faults.specs.Decimals.{typed_read};
 ghost use Rattle.regroup_faults.specs.Quoting.{hex_digit};
-ghost use Rattle.regroup_faults.specs.Messages.{cause, code_point, displayed, fault_message, few_text, field_cause, first_change, header_hint, high_digits, hint, is_word, kept_in, line_message, low_digits, met_text, refused_in, refused_text, why_changed, why_in, why_meant, why_not, why_refused, why_strict, why_text, why_untyped};
+ghost use Rattle.regroup_faults.specs.Messages.{cause, char_after, code_point, displayed, fault_message, few_text};
+ghost use Rattle.regroup_faults.specs.Messages.{field_cause, other_text, why_in_digits, why_placed, why_read};
+ghost use Rattle.regroup_faults.specs.Messages.{first_change, header_hint, high_digits, hint, is_word, kept_in};
+ghost use Rattle.regroup_faults.specs.Messages.{line_message, low_digits, met_text, refused_in, refused_text};
+ghost use Rattle.regroup_faults.specs.Messages.{why_changed, why_in, why_meant, why_not, why_refused, why_strict};
+ghost use Rattle.regroup_faults.specs.Messages.{why_text, why_untyped};
+ghost use Rattle.num_format_digits.specs.Parsing.{place_in};
 
 use crate::Reading;
 use crate::fault::{FieldCount, RegroupFault};
+use crate::notation::Notation;
 use crate::quoting::{MAX_QUOTED_LEN, hex_digit, quoted, shown};
 use arrayvec::ArrayString;
 use num_format::laws::format_data;
 use num_format::{Error, ErrorKind, Format};
-use num_format_decimal::{Decimal, DecimalBuffer, ParseDecimalError};
-use num_format_typed::rewriting::split_first;
+use num_format_decimal::{Decimal, DecimalBuffer, MAX_DECIMAL_LEN, ParseDecimalError};
+use num_format_digits::{Digits, DigitsError};
+use num_format_typed::rewriting::{bytes_within, split_first};
 use num_format_typed::{TypedError, parse_typed_decimal};
+use std::str;
 
 /// The most bytes of what is shown of a name: four for each of its bytes.
 pub const MAX_NAME_LEN: usize = 1024;
@@ -63,6 +71,8 @@ pub(crate) enum Why {
     Misspelled,
     /// With the format's own characters it has more bytes than the text of any number.
     TooLong,
+    /// So many bytes are before this numeral, which is no digit of the set.
+    OtherNumeral(usize, char),
     /// So many bytes are before an unexpected one, where a person typed the first character for the second, which the
     /// format has.
     Typed(usize, char, char),
@@ -77,21 +87,22 @@ macro_rules! joined {
     }};
 }
 
-/// Returns the message that names the fault of a line, with a newline, in an input of this name that is read under the
-/// format. It is empty for a fault that no line has. It ends with a hint for bytes that are not UTF-8, and for a text
+/// Returns the message that names the fault of a line, with a newline, in an input of this name that is read in the
+/// notation. It is empty for a fault that no line has. It ends with a hint for bytes that are not UTF-8, and for a text
 /// without a digit in the first line, which may be a header.
 ///
 /// ```rust
 /// let fault = RegroupFault::TooLong(7, 4096);
-/// fault_message("x.tsv", Reading::Strict, &fault, &Locale::en)    // "regroup-lines: x.tsv:7: more than 4096 bytes\n"
+/// let from = Notation::latin(&Locale::en);
+/// fault_message("x.tsv", Reading::Strict, &fault, &from)    // "regroup-lines: x.tsv:7: more than 4096 bytes\n"
 /// ```
 pub fn fault_message<F: Format>(
     name: &str,
     reading: Reading,
     fault: &RegroupFault,
-    from: &F,
+    from: &Notation<'_, F>,
 ) -> ArrayString<MAX_FAULT_MESSAGE_LEN>
-    ensures { result.bytes ≡ fault_message name.now reading (F.answers from.now) (fault_of fault.now) }
+    ensures { result.bytes ≡ fault_message name.now reading from.now (fault_of fault.now) }
 {
     let why = why_not(reading, refused_in(fault), from);
     line_message(name, fault.line(), cause(fault, why).as_str(), hint(fault))
@@ -127,14 +138,7 @@ fn header_hint(number: u64, text: &str) -> &'static str
 fn is_word(text: &str) -> bool
     ensures { result ≡ is_word text.now }
 {
-    !text.is_empty() && !has_digit(text.as_bytes())
-}
-
-/// Returns whether a text has a digit.
-fn has_digit(text: &[u8]) -> bool
-    ensures { result ≡ list_any is_ascii_digit text.now }
-{
-    text.iter().any(|byte| byte.is_ascii_digit())
+    !text.is_empty() && Digits::of_text(text).is_none()
 }
 
 /// Returns what is said of a fault: of a text that is not a number also why.
@@ -253,12 +257,26 @@ fn why_text(why: Why) -> ArrayString<MAX_WHY_LEN>
         ),
         Why::Misspelled => joined!(": not as it is printed"),
         Why::TooLong => joined!(": longer than any number"),
+        Why::OtherNumeral(before, met) => other_text(before, met),
         Why::Typed(before, met, wanted) => met_text(
             itoa::Buffer::new().format(before as u128 + 1),
             code_point(met).as_str(),
             code_point(wanted).as_str(),
         ),
     }
+}
+
+/// Returns what is said of a numeral that is no digit of the set.
+fn other_text(before: usize, met: char) -> ArrayString<MAX_WHY_LEN>
+    ensures { result.bytes ≡ other_text before met }
+{
+    joined!(
+        ": not a number at byte ",
+        itoa::Buffer::new().format(before as u128 + 1),
+        ": ",
+        code_point(met).as_str(),
+        " is no digit of FROM"
+    )
 }
 
 /// Returns what is said where a character was typed for one of the format.
@@ -334,13 +352,69 @@ fn kept_in(error: &Error) -> &str
     }
 }
 
-/// Returns why a text is not a number. Nothing is known of one that is read leniently, or that may have been cut.
-fn why_not<F: Format>(reading: Reading, text: &str, from: &F) -> Why
-    ensures { result ≡ why_not reading (F.answers from.now) text.now }
+/// Returns why a text is not a number. Nothing is known of one that may have been cut.
+fn why_not<F: Format>(reading: Reading, text: &str, from: &Notation<'_, F>) -> Why
+    ensures { result ≡ why_not reading from.now text.now }
 {
     if text.len() >= MIN_CUT_LEN {
         return Why::Unknown;
     }
+    if from.digits.is_latin() {
+        return why_read(reading, text, from.format);
+    }
+    why_in_digits(reading, text, from)
+}
+
+/// Returns why a text is not a number in the digits of a set.
+fn why_in_digits<F: Format>(reading: Reading, text: &str, from: &Notation<'_, F>) -> Why
+    ensures { result ≡ why_in_digits reading from.now text.now }
+{
+    let digits = from.digits;
+    let mut array = [0; MAX_DECIMAL_LEN];
+    match digits.to_ascii::<ParseDecimalError>(text, &mut array) {
+        Ok(ascii) => match str::from_utf8(ascii) {
+            Ok(ascii) => why_placed(digits, text, why_read(reading, ascii, from.format)),
+            Err(_) => Why::Unknown,
+        },
+        Err(DigitsError::OtherNumeral { at }) => Why::OtherNumeral(at, char_after(at, text)),
+        Err(_) => Why::TooLong,
+    }
+}
+
+/// Returns the character after so many bytes of a text.
+fn char_after(before: usize, text: &str) -> char
+    ensures { result ≡ char_after before (chars text.now) }
+{
+    let (mut space, mut left) = (before, text);
+    while let Some((c, rest)) = split_first(left) {
+        if space == 0 {
+            return c;
+        }
+        space = space.saturating_sub(c.len_utf8());
+        left = rest;
+    }
+    '\0'
+}
+
+/// Returns why a text is not a number, with the place in it for which a place in the text with `0` to `9` stands.
+fn why_placed(digits: Digits, text: &str, why: Why) -> Why
+    ensures { result ≡ why_placed (place_in digits text.now) why }
+{
+    match why {
+        Why::Unexpected(before) => Why::Unexpected(bytes_within(before, text, &digits)),
+        Why::Typed(before, met, wanted) => Why::Typed(
+            bytes_within(before, text, &digits),
+            met,
+            wanted,
+        ),
+        _ => why,
+    }
+}
+
+/// Returns why a text is not a number in the digits `0` to `9`. Nothing is known of one that is read leniently.
+fn why_read<F: Format>(reading: Reading, text: &str, from: &F) -> Why
+    ensures { result ≡ why_read reading (F.answers from.now) text.now }
+{
     match reading {
         Reading::Lenient => Why::Unknown,
         Reading::Strict => why_strict(text, from),

@@ -1,5 +1,8 @@
 -- Fields that may be in quotes.
-use Rattle.regroup_lines.proofs.Common.{Appends, doubled, list_any, nat_eq, List, Option, StopsWithin, StopsWithin_prefix, StopsWithin_suffix, [], ap, arith, drop, drop-drop, drop_more, false, flat_map, flat_map-append, get_or, is_opened, is_quote, length, length-drop, ne_eqb, quoted_len, refl, slice_range, subst, sym, take, take-append-drop, take_rest, true, ℕ, ◌++◌, ◌+◌, ◌<◌, ◌∙◌, ◌∷◌, ◌≡◌, ◌≢◌, ◌≤◌}
+use Rattle.regroup_lines.proofs.Common.{Appends, doubled, list_any, nat_eq, List, Option, StopsWithin, StopsWithin_prefix}
+use Rattle.regroup_lines.proofs.Common.{StopsWithin_suffix, [], ap, arith, drop, drop-drop, drop_more, false, flat_map, flat_map-append}
+use Rattle.regroup_lines.proofs.Common.{get_or, is_opened, is_quote, length, length-drop, ne_eqb, quoted_len, refl, slice_range, subst, sym}
+use Rattle.regroup_lines.proofs.Common.{take, take-append-drop, take_rest, true, ℕ, ◌++◌, ◌+◌, ◌<◌, ◌∙◌, ◌∷◌, ◌≡◌, ◌≢◌, ◌≤◌}
 
 -- how many bytes from a place on are before the quote that closes the field, by the next byte
 module _ (text : List ℕ) (at : ℕ) (low : at < length text) (so_far : quoted_len text ≡ at + quoted_len (drop at text)) where
@@ -22,7 +25,8 @@ module _ (text : List ℕ) (at : ℕ) (low : at < length text) (so_far : quoted_
       by [] other = rw closes refl
       by (c ∷ rest) other = rw (closes, other) refl
 
-  pub quoted-pair : get_or text at 0 ≡ 34 → is_opened (slice_range text (at + 1) (length text)) ≡ true → (at + 2 ≤ length text) × (quoted_len text ≡ at + 2 + quoted_len (drop (at + 2) text))
+  pub quoted-pair : get_or text at 0 ≡ 34 → is_opened (slice_range text (at + 1) (length text)) ≡ true
+      → (at + 2 ≤ length text) × (quoted_len text ≡ at + 2 + quoted_len (drop (at + 2) text))
   quoted-pair first second =
       let sum : at + 1 + 1 ≡ at + 2 = omega arith in
       let len = length-drop (at + 1) text in
@@ -31,19 +35,22 @@ module _ (text : List ℕ) (at : ℕ) (low : at < length text) (so_far : quoted_
       let some = pair.0 in
       (omega (arith, some, len), omega (arith, so_far, next))
     where
-      by : (rest : List ℕ) → is_opened rest ≡ true → (1 ≤ length rest) × (quoted_len (get_or text at 0 ∷ rest) ≡ 2 + quoted_len (drop 1 rest))
+      by : (rest : List ℕ) → is_opened rest ≡ true → (1 ≤ length rest) × (quoted_len (get_or text at 0 ∷ rest)
+          ≡ 2 + quoted_len (drop 1 rest))
       by [] opened = absurd (cc)
       by (c ∷ rest) opened = (omega arith, rw (first, opened) refl)
 
 -- parts of a text, of which one is not all sent
-pub parts-unsent : {X : Type 0} (f : X → List ℕ) (parts : List X) (i : ℕ) (x : X) (a b c : Option (List ℕ)) → i < length parts → Appends a b (flat_map f (take i parts)) →
+pub parts-unsent : {X : Type 0} (f : X → List ℕ) (parts : List X) (i : ℕ) (x : X) (a b c : Option (List ℕ)) → i < length parts
+    → Appends a b (flat_map f (take i parts)) →
     StopsWithin b c (f (get_or parts i x)) → StopsWithin a c (flat_map f parts)
 parts-unsent f parts i x a b c low sent stops =
     let cut : flat_map f (take i parts) ++ (f (get_or parts i x) ++ flat_map f (drop (i + 1) parts)) ≡ flat_map f parts =
     sym (flat_map-append f (take i parts) (get_or parts i x ∷ drop (i + 1) parts))
     ∙ ap (λ l. flat_map f (take i parts ++ l)) (sym (drop_more parts i x low)) ∙ ap (flat_map f) (take-append-drop i parts) in
     subst (StopsWithin a c) cut
-    (StopsWithin_suffix a b c (flat_map f (take i parts)) _ sent (StopsWithin_prefix b c (f (get_or parts i x)) (flat_map f (drop (i + 1) parts)) stops))
+    (StopsWithin_suffix a b c (flat_map f (take i parts)) _ sent (StopsWithin_prefix b c (f (get_or parts i x))
+    (flat_map f (drop (i + 1) parts)) stops))
 
 -- a text without quotes
 doubled-none : (text : List ℕ) → list_any is_quote text ≡ false → doubled text ≡ text

@@ -1,5 +1,10 @@
 -- The bytes that an input holds, read after read.
-use Rattle.regroup_lines.proofs.Common.{◌≢◌, eq-eqb, both_ways, Bool, get_or, is_inside, Consumes, Consumes-kept, Consumes-nil, Consumes-trans, EndsOrGoesOn, FindsPiece, HasNoEnd, Input, IsAtEnd, IsRecord, Keeps, List, Option, Piece, Range, Reads, Searched, Within, [], ap, append-nil, append_assoc, arith, array_len, bytes_at, drop, drop-append-le, drop-drop, drop-take, drop_at, ended_by, eqb-true, false, held, length, length-drop, length-take-le, refl, slice_range, subst, sym, take, take-add, take-append-le, take_all, take_at, take_rest, true, ℕ, ◌++◌, ◌+◌, ◌-◌, ◌<◌, ◌==◌, ◌∙◌, ◌∷◌, ◌≡◌, ◌≤◌}
+use Rattle.regroup_lines.proofs.Common.{◌≢◌, eq-eqb, both_ways, Bool, get_or, is_inside, Consumes, Consumes-kept, Consumes-nil}
+use Rattle.regroup_lines.proofs.Common.{Consumes-trans, EndsOrGoesOn, FindsPiece, HasNoEnd, Input, IsAtEnd, IsRecord, Keeps, List, Option}
+use Rattle.regroup_lines.proofs.Common.{Piece, Range, Reads, Searched, Within, [], ap, append-nil, append_assoc, arith, array_len, bytes_at}
+use Rattle.regroup_lines.proofs.Common.{drop, drop-append-le, drop-drop, drop-take, drop_at, ended_by, eqb-true, false, held, length}
+use Rattle.regroup_lines.proofs.Common.{length-drop, length-take-le, refl, slice_range, subst, sym, take, take-add, take-append-le}
+use Rattle.regroup_lines.proofs.Common.{take_all, take_at, take_rest, true, ℕ, ◌++◌, ◌+◌, ◌-◌, ◌<◌, ◌==◌, ◌∙◌, ◌∷◌, ◌≡◌, ◌≤◌}
 use Rattle.regroup_lines.proofs.RecordLemmas.{Ends, Ends-on, Ends-parts, Ends-record, Ends-same, Searched-all, Searched-longer}
 use Rattle.std.proofs.lemmas.List.{take_more}
 use Rattle.regroup_lines.specs.Input.{IsEndedAt}
@@ -10,7 +15,8 @@ use Rattle.regroup_lines.specs.declared.input.Piece.TheVariants as piece
 pub range-later : (xs : List ℕ) (start end n : ℕ) → start + n ≤ end → slice_range xs (start + n) end ≡ drop n (slice_range xs start end)
 range-later xs start end n inside =
     let parts : end - start ≡ n + (end - (start + n)) = omega arith in
-    sym (ap (λ j. drop n (take j (drop start xs))) parts ∙ drop-take n _ (drop start xs) ∙ ap (take (end - (start + n))) (drop-drop n start xs))
+    sym (ap (λ j. drop n (take j (drop start xs))) parts ∙ drop-take n _ (drop start xs)
+    ∙ ap (take (end - (start + n))) (drop-drop n start xs))
 
 -- a range of an array, and n bytes that were written after its end
 pub range-more : (xs ys : List ℕ) (start end k n : ℕ) → start ≤ end → end ≤ length xs → n ≤ length ys →
@@ -28,7 +34,8 @@ range-more xs ys start end k n ordered within fits =
     ∙ (rw (take_at range after _ len, drop_at range after _ len, take-append-le n ys (post_of end k xs) fits, same) refl)
 
 -- and where nothing was written
-pub range-same : (xs ys : List ℕ) (start end k : ℕ) → start ≤ end → end ≤ length xs → slice_range (put_mid end k xs ys) start end ≡ slice_range xs start end
+pub range-same : (xs ys : List ℕ) (start end k : ℕ) → start ≤ end → end ≤ length xs
+    → slice_range (put_mid end k xs ys) start end ≡ slice_range xs start end
 range-same xs ys start end k ordered within =
     let none : end ≡ end + 0 = omega arith in
     ap (slice_range (put_mid end k xs ys) start) none ∙ range-more xs ys start end k 0 ordered within (omega arith) ∙ append-nil _
@@ -47,18 +54,28 @@ Reads-trans xs ys zs a b c first second = record {
 
 -- a read that gives these bytes
 pub Reads-more : (xs ys more : List ℕ) (a b c : Option (List ℕ)) → Reads xs ys a b → Consumes b c more → Reads xs (ys ++ more) a c
-Reads-more xs ys more a b c first second = Reads-trans xs ys (ys ++ more) a b c first (record { given = more; joined = refl; consumed = second })
+Reads-more xs ys more a b c first second = Reads-trans xs ys (ys ++ more) a b c first (record {
+  given = more;
+  joined = refl;
+  consumed = second;
+})
 
 -- a read that fails
 pub Reads-kept : (xs ys : List ℕ) (a b : Option (List ℕ)) → ys ≡ xs → Keeps a b → Reads xs ys a b
-Reads-kept xs ys a b same kept = record { given = []; joined = append-nil xs ∙ sym same; consumed = Consumes-kept a a b [] (Consumes-nil a) kept }
+Reads-kept xs ys a b same kept = record {
+  given = [];
+  joined = append-nil xs ∙ sym same;
+  consumed = Consumes-kept a a b [] (Consumes-nil a) kept;
+}
 
 -- a read that gives nothing
 read-nothing : (xs ys : List ℕ) (a b : Option (List ℕ)) → Reads xs ys a b → length ys ≤ length xs → ys ≡ xs
-read-nothing xs ys a b read same = sym (take_all (length xs) ys same) ∙ ap (take (length xs)) (sym read.joined) ∙ take_at xs read.given (length xs) refl
+read-nothing xs ys a b read same = sym (take_all (length xs) ys same) ∙ ap (take (length xs)) (sym read.joined)
+    ∙ take_at xs read.given (length xs) refl
 
 -- whether a byte follows, by how many were read
-pub ends_or_goes_on : (bytes read : List ℕ) (a b : Option (List ℕ)) (n : ℕ) (end : Bool) → (n == 0) ≡ end → bytes ≡ [] → Reads bytes read a b → length read ≡ length bytes + n → (n ≡ 0 → IsAtEnd b) →
+pub ends_or_goes_on : (bytes read : List ℕ) (a b : Option (List ℕ)) (n : ℕ) (end : Bool) → (n == 0) ≡ end → bytes ≡ []
+    → Reads bytes read a b → length read ≡ length bytes + n → (n ≡ 0 → IsAtEnd b) →
     EndsOrGoesOn bytes a b end
 ends_or_goes_on bytes read a b n true is empty reads len at_end =
     let none = eqb-true n 0 is in
@@ -68,16 +85,21 @@ ends_or_goes_on bytes read a b n false is empty reads len at_end =
     (read, reads, omega (arith, some, len))
 
 -- a text at a place, and the byte that ends it
-pub ended-at : (e : ℕ) (input : Input) (place : Range ℕ) (text ended : List ℕ) → text ≡ bytes_at input place → ended ≡ slice_range input.array.now place.start (place.end + 1) → IsEndedAt e input place → ended ≡ ended_by e text
+pub ended-at : (e : ℕ) (input : Input) (place : Range ℕ) (text ended : List ℕ) → text ≡ bytes_at input place
+    → ended ≡ slice_range input.array.now place.start (place.end + 1) → IsEndedAt e input place → ended ≡ ended_by e text
 ended-at e input place text ended same is at_place = is ∙ at_place.2 ∙ ap (ended_by e) (sym same)
 
 -- a piece that was found, in other words
-module _ (q : Option ℕ) (e : ℕ) (w : Within) (before : List ℕ) (input : Input) (a b : Option (List ℕ)) (found : Piece) (finds : FindsPiece q e w before input a b found) (place : Range ℕ) (text : List ℕ) (same : text ≡ bytes_at input place) where
-  pub found-line : found ≡ piece.Line place → Reads before (text ++ e ∷ held input) a b × IsRecord q e w text × (length text < array_len input)
-  found-line is = subst (λ l. Reads before (l ++ e ∷ held input) a b × IsRecord q e w l × (length l < array_len input)) (sym same) (subst (FindsPiece q e w before input a b) is finds)
+module _ (q : Option ℕ) (e : ℕ) (w : Within) (before : List ℕ) (input : Input) (a b : Option (List ℕ)) (found : Piece)
+    (finds : FindsPiece q e w before input a b found) (place : Range ℕ) (text : List ℕ) (same : text ≡ bytes_at input place) where
+  pub found-line : found ≡ piece.Line place → Reads before (text ++ e ∷ held input) a b × IsRecord q e w text
+      × (length text < array_len input)
+  found-line is = subst (λ l. Reads before (l ++ e ∷ held input) a b × IsRecord q e w l
+      × (length l < array_len input)) (sym same) (subst (FindsPiece q e w before input a b) is finds)
 
   pub found-rest : found ≡ piece.Rest place → Reads before text a b × HasNoEnd q e w text × (length text < array_len input) × IsAtEnd b
-  found-rest is = subst (λ l. Reads before l a b × HasNoEnd q e w l × (length l < array_len input) × IsAtEnd b) (sym same) (subst (FindsPiece q e w before input a b) is finds)
+  found-rest is = subst (λ l. Reads before l a b × HasNoEnd q e w l × (length l < array_len input)
+      × IsAtEnd b) (sym same) (subst (FindsPiece q e w before input a b) is finds)
 
 -- the bytes that are held, and the array
 pub held_len : (input : Input) → length (held input) ≡ input.end - input.start
@@ -85,8 +107,10 @@ held_len input =
     length-take-le (input.end - input.start) (drop input.start input.array.now) (omega (arith, length-drop input.start input.array.now))
 
 -- a search of the bytes that are held, of which the first n are searched
-module _ (input : Input) {p q : Option ℕ} {e : ℕ} {w here after : Within} {rest : List ℕ} {n len : ℕ} (same : p ≡ q) (so_far : Searched q e w (held input) n here)
-    (is : rest ≡ slice_range (held input) n (length (held input))) (more : Searched p e here rest len after) (found : len < length rest → (get_or rest len 0 ≡ e) × (is_inside after ≡ false)) where
+module _ (input : Input) {p q : Option ℕ} {e : ℕ} {w here after : Within} {rest : List ℕ} {n len : ℕ} (same : p ≡ q)
+    (so_far : Searched q e w (held input) n here)
+    (is : rest ≡ slice_range (held input) n (length (held input))) (more : Searched p e here rest len after) (found : len < length rest
+    → (get_or rest len 0 ≡ e) × (is_inside after ≡ false)) where
   rest_is : rest ≡ drop n (held input)
   rest_is = is ∙ take_rest (held input) n
 
@@ -97,9 +121,14 @@ module _ (input : Input) {p q : Option ℕ} {e : ℕ} {w here after : Within} {r
   held_more low = omega (arith, low, ap length rest_is, length-drop n (held input))
 
   -- up to the byte that ends a record
-  pub record_found : {before : List ℕ} {a b : Option (List ℕ)} → Reads before (held input) a b → n + len < length (held input) → (text left : List ℕ) →
-      text ≡ take (n + len) (held input) → left ≡ drop (n + len + 1) (held input) → Reads before (text ++ e ∷ left) a b × IsRecord q e w text
-  record_found {before} {a} {b} read low text left is_text is_left = rw (is_text, is_left) (subst (λ l. Reads before l a b) (Ends-parts ends low) read, Ends-record ends low)
+  pub record_found : {before : List ℕ} {a b : Option (List ℕ)} → Reads before (held input) a b → n + len < length (held input)
+      → (text left : List ℕ) →
+      text ≡ take (n + len) (held input) → left ≡ drop (n + len + 1) (held input)
+      → Reads before (text ++ e ∷ left) a b × IsRecord q e w text
+  record_found {before} {a} {b} read low text left is_text is_left = rw (
+    is_text,
+    is_left,
+  ) (subst (λ l. Reads before l a b) (Ends-parts ends low) read, Ends-record ends low)
 
   pub record_ended : len < length rest → take (n + len + 1) (held input) ≡ take (n + len) (held input) ++ e ∷ []
   record_ended low =
@@ -121,9 +150,13 @@ module _ (input : Input) {p q : Option ℕ} {e : ℕ} {w here after : Within} {r
       pub Searched-read : Searched q e w read (n + len) after
       Searched-read = subst (λ l. Searched q e w l (n + len) after) reads.joined (Searched-longer ends.0 reads.given)
 
-      pub rest_found : {before : List ℕ} {a : Option (List ℕ)} → Reads before (held input) a b → length read ≤ length (held input) → (text : List ℕ) → text ≡ read →
+      pub rest_found : {before : List ℕ} {a : Option (List ℕ)} → Reads before (held input) a b → length read ≤ length (held input)
+          → (text : List ℕ) → text ≡ read →
           Reads before text a c × HasNoEnd q e w text × (text ≡ held input)
       rest_found {before} {a} first nothing text is_text =
           let none = read-nothing (held input) read b c reads nothing in
-          let same_text : text ≡ held input = is_text ∙ none in
-          (subst (λ l. Reads before l a c) (none ∙ sym same_text) (Reads-trans before (held input) read a b c first reads), subst (HasNoEnd q e w) (sym same_text) held_none, same_text)
+          let same_text : text ≡ held input = is_text ∙ none in (
+            subst (λ l. Reads before l a c) (none ∙ sym same_text) (Reads-trans before (held input) read a b c first reads),
+            subst (HasNoEnd q e w) (sym same_text) held_none,
+            same_text,
+          )

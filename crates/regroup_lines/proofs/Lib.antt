@@ -4,6 +4,7 @@ mod Common
 pub mod CsvLemmas
 mod Examples
 mod FieldLemmas
+mod HeaderLemmas
 mod InputLemmas
 pub mod LineFaultLemmas
 mod LineLemmas

@@ -1,5 +1,6 @@
 -- The fault of a text that is not a number.
-use Rattle.regroup_lines.proofs.Common.{◌≡◌, ℕ, false, List, refl, IsUtf8, is_utf8, false_from_ne_true, IsUtf8-from_is_utf8, is_utf8-from_IsUtf8, cut_text, ParseNumber, Fault, in_field, NotText, Line, text_fault}
+use Rattle.regroup_lines.proofs.Common.{◌≡◌, ℕ, false, List, refl, IsUtf8, is_utf8, false_from_ne_true, IsUtf8-from_is_utf8}
+use Rattle.regroup_lines.proofs.Common.{is_utf8-from_IsUtf8, cut_text, ParseNumber, Fault, in_field, NotText, Line, text_fault}
 
 pub text_fault_utf8 : (number : ℕ) (text : List ℕ) → IsUtf8 text → text_fault number text ≡ Line number (ParseNumber (cut_text text))
 text_fault_utf8 number text utf8 = rw (is_utf8-from_IsUtf8 text utf8) refl

@@ -1,5 +1,11 @@
 -- A record that is too long, piece by piece.
-use Rattle.regroup_lines.proofs.Common.{◌≡◌, ℕ, ◌+◌, ◌<◌, ◌≤◌, true, false, List, [], ◌∷◌, ◌++◌, length, Bool, Option, Some, None, Result, Ok, Err, refl, sym, ap, subst, ◌∙◌, arith, append_assoc, ◌-◌, ◌^◌, is_some, IsAtEnd, Keeps, result_map_both, length-append, ended_by, Fault, Flush, Read, TooMany, HasNoEnd, IsLong, IsRecord, IsStop, Reads, stop_result, stop_text, IsHalt, Stop, quotes_in, Ended, Endless, Failed, Unflushed, Unread, after_byte, after_text, fold-append, is_inside, line_reached, next_line, PassesLong, ReceivesBytes, SendsBytes, Writer, by_writer, failed_by, failed_writer, Within, record_start, Rules, ended_once, ends_with, append-nil, ◌==◌, get_or, if◌then◌else◌}
+use Rattle.regroup_lines.proofs.Common.{◌≡◌, ℕ, ◌+◌, ◌<◌, ◌≤◌, true, false, List, [], ◌∷◌, ◌++◌, length, Bool, Option, Some, None, Result}
+use Rattle.regroup_lines.proofs.Common.{Ok, Err, refl, sym, ap, subst, ◌∙◌, arith, append_assoc, ◌-◌, ◌^◌, is_some, IsAtEnd, Keeps}
+use Rattle.regroup_lines.proofs.Common.{result_map_both, length-append, ended_by, Fault, Flush, Read, TooMany, HasNoEnd, IsLong, IsRecord}
+use Rattle.regroup_lines.proofs.Common.{IsStop, Reads, stop_result, stop_text, IsHalt, Stop, quotes_in, Ended, Endless, Failed, Unflushed}
+use Rattle.regroup_lines.proofs.Common.{Unread, after_byte, after_text, fold-append, is_inside, line_reached, next_line, PassesLong}
+use Rattle.regroup_lines.proofs.Common.{ReceivesBytes, SendsBytes, Writer, by_writer, failed_by, failed_writer, Within, record_start, Rules}
+use Rattle.regroup_lines.proofs.Common.{ended_once, ends_with, append-nil, ◌==◌, get_or, if◌then◌else◌}
 use Rattle.std.proofs.lemmas.Bool.{lt-ltb}
 use Rattle.std.proofs.lemmas.List.{get_or-append-add}
 use Rattle.regroup_lines.proofs.InputLemmas.{Reads-more, Reads-none}
@@ -7,7 +13,8 @@ use Rattle.regroup_lines.proofs.RecordLemmas.{end-append, reached-append}
 use Rattle.regroup_lines.proofs.WriterLemmas.{ReceivesBytes-after, received-kept}
 
 -- so many pieces of a record were sent: no byte is held that was not
-pub record SentLong (rules : Rules) (n0 n1 : ℕ) (within : Within) (is_ended : Bool) (begun : List ℕ) (r0 r1 : Option (List ℕ)) (c0 c1 : Option (List ℕ) → Writer → Option (List ℕ)) (count : ℕ) (held : List ℕ) : Type 0 where
+pub record SentLong (rules : Rules) (n0 n1 : ℕ) (within : Within) (is_ended : Bool) (begun : List ℕ) (r0 r1 : Option (List ℕ))
+    (c0 c1 : Option (List ℕ) → Writer → Option (List ℕ)) (count : ℕ) (held : List ℕ) : Type 0 where
   pub text : List ℕ
   pub read : Reads begun text r0 r1
   pub is : IsLong rules n0 text
@@ -31,7 +38,8 @@ ends-append e before xs (y ∷ ys) =
     ∙ sym (ends-some e before (xs ++ y ∷ ys) (omega (arith, length-append xs (y ∷ ys))))
 
 once-append : (e : ℕ) (xs ys : List ℕ) → xs ++ ended_once e (ends_with e false xs) ys ≡ ended_once e false (xs ++ ys)
-once-append e xs ys = by (ends_with e (ends_with e false xs) ys) ∙ ap (λ (b : Bool). if b then xs ++ ys else ended_by e (xs ++ ys)) (ends-append e false xs ys)
+once-append e xs ys = by (ends_with e (ends_with e false xs) ys) ∙ ap (λ (b : Bool). if b then xs ++ ys else ended_by e (xs ++ ys))
+    (ends-append e false xs ys)
   where
     by : (ends : Bool) → xs ++ (if ends then ys else ended_by e ys) ≡ (if ends then xs ++ ys else ended_by e (xs ++ ys))
     by true = refl
@@ -43,11 +51,13 @@ unsent fault some none = let not : is_some (failed_writer fault) ≡ false = ap 
 
 module _ (rules : Rules) (n0 n2 : ℕ) (begun : List ℕ) (r0 : Option (List ℕ)) (c0 c2 : Option (List ℕ) → Writer → Option (List ℕ)) where
   -- the first write fails
-  pub PassesLong-first : (left : List ℕ) (fault : Fault) → IsLong rules n0 begun → SendsBytes {T = Unit {0}} rules.rejects c0 c2 begun (Err fault) → PassesLong rules n0 n2 begun left r0 r0 c0 c2 (Err fault)
+  pub PassesLong-first : (left : List ℕ) (fault : Fault) → IsLong rules n0 begun
+      → SendsBytes {T = Unit {0}} rules.rejects c0 c2 begun (Err fault) → PassesLong rules n0 n2 begun left r0 r0 c0 c2 (Err fault)
   PassesLong-first left fault long sends = PassesLong.to_stop Unread begun (Reads-none begun r0) long tt sends.1 (unsent fault sends.0)
 
   -- the next piece, where the writer was flushed
-  module _ (n1 : ℕ) (within : Within) (is_ended : Bool) (holds : List ℕ) (r1 r2 s s1 x : Option (List ℕ)) (count : ℕ) (so_far : SentLong rules n0 n1 within is_ended begun r0 r1 c0 (λ told. by_writer s told x) count holds) (kept : Keeps s s1) where
+  module _ (n1 : ℕ) (within : Within) (is_ended : Bool) (holds : List ℕ) (r1 r2 s s1 x : Option (List ℕ)) (count : ℕ)
+      (so_far : SentLong rules n0 n1 within is_ended begun r0 r1 c0 (λ told. by_writer s told x) count holds) (kept : Keeps s s1) where
     abbrev q : Option ℕ
     q = quotes_in rules.span
 
@@ -57,9 +67,11 @@ module _ (rules : Rules) (n0 n2 : ℕ) (begun : List ℕ) (r0 : Option (List ℕ
     abbrev c1 : Option (List ℕ) → Writer → Option (List ℕ)
     c1 told = by_writer s1 told x
 
-    sent_more : (failed : Option Writer) (text : List ℕ) → ReceivesBytes rules.rejects failed c1 c2 text → ReceivesBytes rules.rejects failed c0 c2 (so_far.text ++ text)
+    sent_more : (failed : Option Writer) (text : List ℕ) → ReceivesBytes rules.rejects failed c1 c2 text
+        → ReceivesBytes rules.rejects failed c0 c2 (so_far.text ++ text)
     sent_more failed text sent =
-        ReceivesBytes-after rules.rejects failed c0 c1 c2 so_far.text text (λ told. received-kept _ (c0 told) s s1 told x (so_far.sent told) kept) sent
+        ReceivesBytes-after rules.rejects failed c0 c1 c2 so_far.text text
+        (λ told. received-kept _ (c0 told) s s1 told x (so_far.sent told) kept) sent
 
     more : (text : List ℕ) → Reads holds text r1 r2 → Reads begun (so_far.text ++ text) r0 r2
     more text read =
@@ -82,8 +94,10 @@ module _ (rules : Rules) (n0 n2 : ℕ) (begun : List ℕ) (r0 : Option (List ℕ
         long = let long = so_far.is.long in omega (arith, long, length-append so_far.text text);
       }
 
-      pub SentLong-next : Reads holds text r1 r2 → HasNoEnd q e within text → (left : List ℕ) (within2 : Within) (is_ended2 : Bool) → 0 < length text → ReceivesBytes rules.rejects None c1 c2 text → left ≡ [] → within2 ≡ after_text q within text →
-          n2 ≡ line_reached q e n1 text → is_ended2 ≡ ends_with e is_ended text → SentLong rules n0 n2 within2 is_ended2 begun r0 r2 c0 c2 (count + 1) left
+      pub SentLong-next : Reads holds text r1 r2 → HasNoEnd q e within text → (left : List ℕ) (within2 : Within) (is_ended2 : Bool)
+          → 0 < length text → ReceivesBytes rules.rejects None c1 c2 text → left ≡ [] → within2 ≡ after_text q within text →
+          n2 ≡ line_reached q e n1 text → is_ended2 ≡ ends_with e is_ended text
+          → SentLong rules n0 n2 within2 is_ended2 begun r0 r2 c0 c2 (count + 1) left
       SentLong-next read none left within2 is_ended2 some sent empty is reached ends = record {
         text = whole;
         read = more text read;
@@ -101,40 +115,52 @@ module _ (rules : Rules) (n0 n2 : ℕ) (begun : List ℕ) (r0 : Option (List ℕ
 
       -- where the reader stopped in it
       module _ (read : Reads holds text r1 r2) (none : HasNoEnd q e within text) (left : List ℕ) where
-        to-stop : (stop : Stop) (sent_last : List ℕ) → so_far.text ++ sent_last ≡ stop_text e stop whole → IsStop rules.flushes stop whole r2 → (result : Result Bool Fault) → ReceivesBytes rules.rejects (failed_by result) c1 c2 sent_last → (failed_by result ≡ None → stop_result stop ≡ Some result) →
+        to-stop : (stop : Stop) (sent_last : List ℕ) → so_far.text ++ sent_last ≡ stop_text e stop whole
+            → IsStop rules.flushes stop whole r2 → (result : Result Bool Fault)
+            → ReceivesBytes rules.rejects (failed_by result) c1 c2 sent_last → (failed_by result ≡ None → stop_result stop ≡ Some result) →
             PassesLong rules n0 n2 begun left r0 r2 c0 c2 result
         to-stop stop sent_last same known result sent returned =
             PassesLong.to_stop stop whole (more text read) (longer none) known
             (subst (ReceivesBytes rules.rejects (failed_by result) c0 c2) same (sent_more (failed_by result) sent_last sent)) returned
 
-        pub PassesLong-unsent : (fault : Fault) → SendsBytes {T = Unit {0}} rules.rejects c1 c2 text (Err fault) → PassesLong rules n0 n2 begun left r0 r2 c0 c2 (Err fault)
+        pub PassesLong-unsent : (fault : Fault) → SendsBytes {T = Unit {0}} rules.rejects c1 c2 text (Err fault)
+            → PassesLong rules n0 n2 begun left r0 r2 c0 c2 (Err fault)
         PassesLong-unsent fault sends = to-stop Unread text refl tt (Err fault) sends.1 (unsent fault sends.0)
 
-        pub PassesLong-halted : (fault : Fault) → IsHalt rules.flushes fault → ReceivesBytes rules.rejects None c1 c2 text → PassesLong rules n0 n2 begun left r0 r2 c0 c2 (Err fault)
+        pub PassesLong-halted : (fault : Fault) → IsHalt rules.flushes fault → ReceivesBytes rules.rejects None c1 c2 text
+            → PassesLong rules n0 n2 begun left r0 r2 c0 c2 (Err fault)
         PassesLong-halted Read is sent = to-stop Failed text refl tt (Err Read) sent (λ none. refl)
         PassesLong-halted Flush is sent = to-stop Unflushed text refl is (Err Flush) sent (λ none. refl)
         PassesLong-halted fault is sent = absurd is
 
-        pub PassesLong-rest : IsAtEnd r2 → (sent : Result (Unit {0}) Fault) → SendsBytes rules.rejects c1 c2 (ended_once e is_ended text) sent → PassesLong rules n0 n2 begun left r0 r2 c0 c2 (result_map_both (λ done. true) (λ fault. fault) sent)
+        pub PassesLong-rest : IsAtEnd r2 → (sent : Result (Unit {0}) Fault)
+            → SendsBytes rules.rejects c1 c2 (ended_once e is_ended text) sent
+            → PassesLong rules n0 n2 begun left r0 r2 c0 c2 (result_map_both (λ done. true) (λ fault. fault) sent)
         PassesLong-rest end (Ok done) sends = to-stop Ended _ once end (Ok true) sends (λ none. refl)
         PassesLong-rest end (Err fault) sends = to-stop Ended _ once end (Err fault) sends.1 (unsent fault sends.0)
 
       -- the byte that ends it
       module _ (left : List ℕ) (read : Reads holds (text ++ e ∷ left) r1 r2) (is : IsRecord q e within text) where
-        to-end : (result : Result Bool Fault) → ReceivesBytes rules.rejects (failed_by result) c1 c2 (ended_by e text) → (failed_by result ≡ None → (result ≡ Ok false) × (n2 ≡ next_line (line_reached q e n1 text))) →
+        to-end : (result : Result Bool Fault) → ReceivesBytes rules.rejects (failed_by result) c1 c2 (ended_by e text)
+            → (failed_by result ≡ None → (result ≡ Ok false) × (n2 ≡ next_line (line_reached q e n1 text))) →
             PassesLong rules n0 n2 begun left r0 r2 c0 c2 result
         to-end result sent returned =
-            PassesLong.to_end whole (subst (λ l. Reads begun l r0 r2) (sym (append_assoc so_far.text text (e ∷ left))) (more (text ++ e ∷ left) read)) (longer is.0) (ap is_inside (sym after_more) ∙ is.1)
-            (subst (ReceivesBytes rules.rejects (failed_by result) c0 c2) (sym (append_assoc so_far.text text (e ∷ []))) (sent_more (failed_by result) (ended_by e text) sent))
+            PassesLong.to_end whole (subst (λ l. Reads begun l r0 r2) (sym (append_assoc so_far.text text (e ∷ left)))
+            (more (text ++ e ∷ left) read)) (longer is.0) (ap is_inside (sym after_more) ∙ is.1)
+            (subst (ReceivesBytes rules.rejects (failed_by result) c0 c2) (sym (append_assoc so_far.text text (e ∷ [])))
+            (sent_more (failed_by result) (ended_by e text) sent))
             (λ none. let so = returned none in (so.0, so.1 ∙ ap next_line reached_more))
 
-        pub PassesLong-line : (sent : Result (Unit {0}) Fault) → SendsBytes rules.rejects c1 c2 (ended_by e text) sent → ((done : Unit {0}) → sent ≡ Ok done → n2 ≡ next_line (line_reached q e n1 text)) →
+        pub PassesLong-line : (sent : Result (Unit {0}) Fault) → SendsBytes rules.rejects c1 c2 (ended_by e text) sent
+            → ((done : Unit {0}) → sent ≡ Ok done → n2 ≡ next_line (line_reached q e n1 text)) →
             PassesLong rules n0 n2 begun left r0 r2 c0 c2 (result_map_both (λ done. false) (λ fault. fault) sent)
         PassesLong-line (Ok done) sends number = to-end (Ok false) sends (λ none. (refl, number done refl))
         PassesLong-line (Err fault) sends number = to-end (Err fault) sends.1 (unsent fault sends.0)
 
   -- where enough was read
-  pub PassesLong-endless : (n1 : ℕ) (within : Within) (is_ended : Bool) (holds : List ℕ) (r1 : Option (List ℕ)) (count : ℕ) (left : List ℕ) → SentLong rules n0 n1 within is_ended begun r0 r1 c0 c2 count holds → 2 ^ 64 - 1 ≤ count →
+  pub PassesLong-endless : (n1 : ℕ) (within : Within) (is_ended : Bool) (holds : List ℕ) (r1 : Option (List ℕ)) (count : ℕ) (left : List ℕ)
+      → SentLong rules n0 n1 within is_ended begun r0 r1 c0 c2 count holds → 2 ^ 64 - 1 ≤ count →
       PassesLong rules n0 n2 begun left r0 r1 c0 c2 (Err TooMany)
   PassesLong-endless n1 within is_ended holds r1 count left so_far enough =
-      PassesLong.to_stop Endless so_far.text so_far.read so_far.is (let some = so_far.some in omega (arith, some, enough)) so_far.sent (λ none. refl)
+      PassesLong.to_stop Endless so_far.text so_far.read so_far.is (let some = so_far.some
+      in omega (arith, some, enough)) so_far.sent (λ none. refl)

@@ -1,15 +1,15 @@
 -- What is written in place of a line depends on the line's number in the fault alone.
-use Rattle.regroup_lines.proofs.Common.{failed_writer, Bool, Err, Fault, FewFields, Field, FieldNotText, Fields, FixedPoint, FormatData}
-use Rattle.regroup_lines.proofs.Common.{Lenient, Line, List, MARK, None, NotText, Ok, Option, ParseNumber, Reading, Refusal, Result, Rules}
-use Rattle.regroup_lines.proofs.Common.{Some, Span, Strict, TooMany, Typed, [], after, ap, are_enough, between, body_written, cases_Bool}
-use Rattle.regroup_lines.proofs.Common.{cut_text, inl, inr, decimal_read, decimal_text, decimal_written, drop, typed_read, false}
+use Rattle.regroup_lines.proofs.Common.{failed_writer, Bool, Err, Fault, FewFields, Field, FieldNotText, Fields, FixedPoint, NotationData}
+use Rattle.regroup_lines.proofs.Common.{Line, List, MARK, None, NotText, Ok, Option, ParseNumber, Reading, Refusal, Result, Rules}
+use Rattle.regroup_lines.proofs.Common.{Some, Span, TooMany, [], after, ap, are_enough, between, body_written, cases_Bool}
+use Rattle.regroup_lines.proofs.Common.{cut_text, inl, inr, decimal_written, drop, false}
 use Rattle.regroup_lines.proofs.Common.{field_count, field_read, field_with, field_written, fields_of, fields_written, if◌then◌else◌}
 use Rattle.regroup_lines.proofs.Common.{header_written, in_field, is_barred, is_chosen, is_utf8, join_with_byte, length, list_any, nat_le}
-use Rattle.regroup_lines.proofs.Common.{number_place}
-use Rattle.regroup_lines.proofs.Common.{number_read, number_written, numbers_replaced, ok_or, option_map, output_delimiter, passes_mark}
-use Rattle.regroup_lines.proofs.Common.{place_written, refl, result_map_both, slice_range, take, text_fault, text_of, trimmed, true}
+use Rattle.regroup_lines.proofs.Common.{decimal_in, number_place, number_text, read_by}
+use Rattle.regroup_lines.proofs.Common.{number_written, numbers_replaced, ok_or, option_map, output_delimiter, passes_mark}
+use Rattle.regroup_lines.proofs.Common.{place_written, refl, result_map_both, slice_range, take, text_fault, trimmed, true}
 use Rattle.regroup_lines.proofs.Common.{unmarked_written}
-use Rattle.regroup_lines.proofs.Common.{with_first, ℕ, ℤ, ◌&&◌, ◌++◌, ◌+◌, ◌==◌, ◌∙◌, ◌∷◌, ◌≡◌}
+use Rattle.regroup_lines.proofs.Common.{with_first, ℕ, ◌&&◌, ◌++◌, ◌+◌, ◌==◌, ◌∙◌, ◌∷◌, ◌≡◌}
 use Rattle.regroup_lines.specs.declared.rules.Span.TheVariants as span
 
 -- the same fault of a text, in the line of this number
@@ -33,26 +33,25 @@ in_field-numbered : (n k : ℕ) (fault : Fault) → in_field k (with_number n fa
 in_field-numbered n k (NotText m) = refl
 in_field-numbered n k fault = refl
 
-mapped : {T U : Type 0} (n : ℕ) (f : T → U) (g : Fault → Fault) → ((fault : Fault) → g (with_number n fault) ≡ with_number n (g fault)) → (written : Result T Fault) →
+mapped : {T U : Type 0} (n : ℕ) (f : T → U) (g : Fault → Fault) → ((fault : Fault) → g (with_number n fault) ≡ with_number n (g fault))
+    → (written : Result T Fault) →
     result_map_both f g (numbered n written) ≡ numbered n (result_map_both f g written)
 mapped n f g same (Ok text) = refl
 mapped n f g same (Err fault) = ap Err (same fault)
 
-first : (n : ℕ) (x : Result (List ℕ) Fault) (xs : Result (List (List ℕ)) Fault) → with_first (numbered n x) (numbered n xs) ≡ numbered n (with_first x xs)
+first : (n : ℕ) (x : Result (List ℕ) Fault) (xs : Result (List (List ℕ)) Fault)
+    → with_first (numbered n x) (numbered n xs) ≡ numbered n (with_first x xs)
 first n (Ok text) (Ok texts) = refl
 first n (Ok text) (Err fault) = refl
 first n (Err fault) xs = refl
 
 -- either of two
-either : {T : Type 0} (n : ℕ) (is : Bool) (a b c d : Result T Fault) → a ≡ numbered n b → c ≡ numbered n d → (if is then a else c) ≡ numbered n (if is then b else d)
+either : {T : Type 0} (n : ℕ) (is : Bool) (a b c d : Result T Fault) → a ≡ numbered n b → c ≡ numbered n d
+    → (if is then a else c) ≡ numbered n (if is then b else d)
 either n true a b c d one other = one
 either n false a b c d one other = other
 
-module _ (rules : Rules) (from to : FormatData) (n m : ℕ) where
-  of_value : (r : Result ℤ Refusal) → result_map_both (text_of to) (Line n) r ≡ numbered n (result_map_both (text_of to) (Line m) r)
-  of_value (Ok value) = refl
-  of_value (Err refusal) = refl
-
+module _ (rules : Rules) (from to : NotationData) (n m : ℕ) where
   of_text : (o : Option (List ℕ)) (refusal : Refusal) → ok_or o (Line n refusal) ≡ numbered n (ok_or o (Line m refusal))
   of_text (Some text) refusal = refl
   of_text None refusal = refl
@@ -60,12 +59,10 @@ module _ (rules : Rules) (from to : FormatData) (n m : ℕ) where
   by_decimal : (decimal : Option FixedPoint) (text : List ℕ)
       → decimal_written decimal to n text ≡ numbered n (decimal_written decimal to m text)
   by_decimal decimal text = either n (is_utf8 text) _ _ (Err (NotText n)) (Err (NotText m))
-      (of_text (option_map (decimal_text to) decimal) (ParseNumber (cut_text text))) refl
+      (of_text (option_map (number_text to) decimal) (ParseNumber (cut_text text))) refl
 
   number : (reading : Reading) (text : List ℕ) → number_written reading from to n text ≡ numbered n (number_written reading from to m text)
-  number Lenient text = either n (is_utf8 text) _ _ (Err (NotText n)) (Err (NotText m)) (of_value (number_read from text)) refl
-  number Strict text = by_decimal (decimal_read from text) text
-  number Typed text = by_decimal (typed_read from text) text
+  number reading text = by_decimal (decimal_in (read_by reading) from text) text
 
   fault : (text : List ℕ) → text_fault n text ≡ with_number n (text_fault m text)
   fault text = elim (cases_Bool (is_utf8 text)) [ inl is ↦ rw is refl | inr other ↦ rw other refl ]
@@ -74,37 +71,51 @@ module _ (rules : Rules) (from to : FormatData) (n m : ℕ) where
   place text at =
       let bytes = slice_range text at.0 at.1 in
       either n (rules.passes_empty && (at.0 == at.1)) (Ok text) (Ok text) _ _ refl
-      (ap (between (take at.0 text) (drop at.1 text)) (number rules.reading bytes) ∙ mapped n (λ number. take at.0 text ++ (number ++ drop at.1 text)) (λ fault. fault) (λ fault. refl) (number_written rules.reading from to m bytes))
+      (ap (between (take at.0 text) (drop at.1 text)) (number rules.reading bytes)
+      ∙ mapped n (λ number. take at.0 text ++ (number ++ drop at.1 text)) (λ fault. fault) (λ fault. refl)
+      (number_written rules.reading from to m bytes))
 
   read : (quotes : Bool) (field : List ℕ) → field_read rules quotes from to n field ≡ numbered n (field_read rules quotes from to m field)
   read quotes field =
       let at = number_place quotes field in
       let text = slice_range field at.0 at.1 in
       either n (rules.passes_empty && (at.0 == at.1)) (Ok None) (Ok None) _ _ refl
-      (either n (quotes && list_any (is_barred rules.line_end) text) (Err (text_fault n text)) (Err (text_fault m text)) _ _ (ap Err (fault text))
-      (ap (result_map_both Some (λ fault. fault)) (number rules.reading text) ∙ mapped n Some (λ fault. fault) (λ fault. refl) (number_written rules.reading from to m text)))
+      (either n (quotes && list_any (is_barred rules.line_end) text) (Err (text_fault n text)) (Err (text_fault m text)) _ _
+      (ap Err (fault text))
+      (ap (result_map_both Some (λ fault. fault)) (number rules.reading text)
+      ∙ mapped n Some (λ fault. fault) (λ fault. refl) (number_written rules.reading from to m text)))
 
-  one_field : (fields : Fields) (k : ℕ) (chosen : Bool) (field : List ℕ) → field_written rules fields from to n k chosen field ≡ numbered n (field_written rules fields from to m k chosen field)
+  one_field : (fields : Fields) (k : ℕ) (chosen : Bool) (field : List ℕ)
+      → field_written rules fields from to n k chosen field ≡ numbered n (field_written rules fields from to m k chosen field)
   one_field fields k true field =
-      ap (result_map_both (field_with fields rules.line_end field) (in_field k)) (read fields.quotes field) ∙ mapped n (field_with fields rules.line_end field) (in_field k) (in_field-numbered n k) (field_read rules fields.quotes from to m field)
+      ap (result_map_both (field_with fields rules.line_end field) (in_field k)) (read fields.quotes field)
+      ∙ mapped n (field_with fields rules.line_end field) (in_field k) (in_field-numbered n k)
+      (field_read rules fields.quotes from to m field)
   one_field fields k false field = refl
 
-  all_fields : (fields : Fields) (before : ℕ) (texts : List (List ℕ)) → fields_written rules fields from to n before texts ≡ numbered n (fields_written rules fields from to m before texts)
-  all_fields fields before [] = either n (are_enough fields.list.now before) (Ok []) (Ok []) (Err (FewFields n (field_count fields.delimiter fields.list.now before))) (Err (FewFields m (field_count fields.delimiter fields.list.now before))) refl refl
+  all_fields : (fields : Fields) (before : ℕ) (texts : List (List ℕ))
+      → fields_written rules fields from to n before texts ≡ numbered n (fields_written rules fields from to m before texts)
+  all_fields fields before [] = either n (are_enough fields.list.now before) (Ok []) (Ok [])
+      (Err (FewFields n (field_count fields.delimiter fields.list.now before)))
+      (Err (FewFields m (field_count fields.delimiter fields.list.now before))) refl refl
   all_fields fields before (text ∷ texts) =
       let chosen = is_chosen fields.list.now (before + 1) in
       ap (λ x. with_first x (fields_written rules fields from to n (before + 1) texts)) (one_field fields (before + 1) chosen text)
       ∙ ap (with_first (numbered n (field_written rules fields from to m (before + 1) chosen text))) (all_fields fields (before + 1) texts)
       ∙ first n (field_written rules fields from to m (before + 1) chosen text) (fields_written rules fields from to m (before + 1) texts)
 
-  numbers : (where_is : Span) (text : List ℕ) → numbers_replaced where_is rules from to n text ≡ numbered n (numbers_replaced where_is rules from to m text)
+  numbers : (where_is : Span) (text : List ℕ) → numbers_replaced where_is rules from to n text
+      ≡ numbered n (numbers_replaced where_is rules from to m text)
   numbers span.Line text = place text (0, length text)
   numbers span.Trimmed text = place text (trimmed text (0, length text))
   numbers (span.Fields fields) text =
-      ap (result_map_both (join_with_byte (output_delimiter fields)) (λ fault. fault)) (all_fields fields 0 (fields_of fields text)) ∙ mapped n (join_with_byte (output_delimiter fields)) (λ fault. fault) (λ fault. refl) (fields_written rules fields from to m 0 (fields_of fields text))
+      ap (result_map_both (join_with_byte (output_delimiter fields)) (λ fault. fault)) (all_fields fields 0 (fields_of fields text))
+      ∙ mapped n (join_with_byte (output_delimiter fields)) (λ fault. fault) (λ fault. refl)
+      (fields_written rules fields from to m 0 (fields_of fields text))
 
   -- but a byte order mark
-  pub body-numbered : (text : List ℕ) → nat_le n rules.header_lines ≡ nat_le m rules.header_lines → passes_mark rules.span n text ≡ passes_mark rules.span m text →
+  pub body-numbered : (text : List ℕ) → nat_le n rules.header_lines ≡ nat_le m rules.header_lines
+      → passes_mark rules.span n text ≡ passes_mark rules.span m text →
       body_written rules from to n text ≡ numbered n (body_written rules from to m text)
   body-numbered text headers marks =
       let rest = drop (length MARK) text in

@@ -1,5 +1,12 @@
 -- Where records and their fields end, byte after byte.
-use Rattle.regroup_lines.proofs.Common.{take_rest, ◌≡◌, ℕ, ◌+◌, ◌-◌, ◌<◌, ◌≤◌, ◌==◌, Bool, true, false, List, [], ◌∷◌, ◌++◌, length, take, drop, get_or, slice_range, Option, Some, None, ⊤, if◌then◌else◌, refl, sym, ap, subst, ◌∙◌, arith, eq-eqb, take-append-drop, All, cases_Bool, inl, inr, cond, ◌&&◌, not, suc, fold, join_with_byte, onto_first, eqb-true, or_from, or_parts, drop-drop, drop_more, length-drop, take_all, take_more, take-append-le, false_from_ne_true, get_or-drop, length-append, zero, fold-append, sum_by-append, take-add, unwrap_or, HasNoEnd, IsRecord, after_byte, after_record_byte, Searched, after_text, has_end, is_inside, is_open, line_reached, lines_ended, split_at, Within, after_bare, begins_with_mark, is_quote, nat_eq, next_line, record_start, Start}
+use Rattle.regroup_lines.proofs.Common.{take_rest, ◌≡◌, ℕ, ◌+◌, ◌-◌, ◌<◌, ◌≤◌, ◌==◌, Bool, true, false, List, [], ◌∷◌, ◌++◌, length, take}
+use Rattle.regroup_lines.proofs.Common.{drop, get_or, slice_range, Option, Some, None, ⊤, if◌then◌else◌, refl, sym, ap, subst, ◌∙◌, arith}
+use Rattle.regroup_lines.proofs.Common.{eq-eqb, take-append-drop, All, cases_Bool, inl, inr, cond, ◌&&◌, not, suc, fold, join_with_byte}
+use Rattle.regroup_lines.proofs.Common.{onto_first, eqb-true, or_from, or_parts, drop-drop, drop_more, length-drop, take_all, take_more}
+use Rattle.regroup_lines.proofs.Common.{take-append-le, false_from_ne_true, get_or-drop, length-append, zero, fold-append, sum_by-append}
+use Rattle.regroup_lines.proofs.Common.{take-add, unwrap_or, HasNoEnd, IsRecord, after_byte, after_record_byte, Searched, after_text}
+use Rattle.regroup_lines.proofs.Common.{has_end, is_inside, is_open, line_reached, lines_ended, split_at, Within, after_bare}
+use Rattle.regroup_lines.proofs.Common.{begins_with_mark, is_quote, nat_eq, next_line, record_start, Start}
 use Rattle.std.specs.List.{starts_with}
 use Rattle.memchr.specs.Find.{IsFirstByte, Nowhere, Passes, is_byte, is_byte2}
 use Rattle.regroup_lines.proofs.ChoiceLemmas.{either}
@@ -24,7 +31,8 @@ after-unquoted d b Start in_field plain = rw plain refl
 after-unquoted d b Bare in_field plain = refl
 after-unquoted d b w in_field plain = absurd in_field
 
-pub after-last : (q : Option ℕ) (w : Within) (text : List ℕ) → InField w → 1 ≤ length text → Unquoted text → after_byte q w (get_or text (length text - 1) 0) ≡ after_text q w text
+pub after-last : (q : Option ℕ) (w : Within) (text : List ℕ) → InField w → 1 ≤ length text → Unquoted text
+    → after_byte q w (get_or text (length text - 1) 0) ≡ after_text q w text
 after-last None w text in_field some plain = after-none w text
 after-last (Some d) w [] in_field some plain = absurd (omega arith)
 after-last (Some d) w (b ∷ []) in_field some plain = refl
@@ -32,7 +40,8 @@ after-last (Some d) w (b ∷ c ∷ text) in_field some plain =
     let last : length (b ∷ c ∷ text) - 1 ≡ suc (length (c ∷ text) - 1) = omega arith in
     let here = plain (suc (length (c ∷ text) - 1)) 0 (omega arith) in
     let next = subst InField (sym (after-unquoted d b w in_field (plain 0 b (omega arith)))) (either InField (b == d) Start Bare tt tt) in
-    ap (λ n. after_byte (Some d) w (get_or (b ∷ c ∷ text) n 0)) last ∙ after-unquoted d _ w in_field here ∙ sym (after-unquoted d _ (after_byte (Some d) w b) next here)
+    ap (λ n. after_byte (Some d) w (get_or (b ∷ c ∷ text) n 0)) last ∙ after-unquoted d _ w in_field here
+    ∙ sym (after-unquoted d _ (after_byte (Some d) w b) next here)
     ∙ after-last (Some d) (after_byte (Some d) w b) (c ∷ text) next (omega arith) (λ k x low. plain (suc k) x (omega (arith, low)))
 
 pub after-quoted : (q : Option ℕ) (w : Within) (text : List ℕ) → is_inside w ≡ true → Unquoted text → w ≡ after_text q w text
@@ -63,15 +72,21 @@ like-none : (v w : Within) (text : List ℕ) → is_inside v ≡ is_inside w →
 like-none v w [] same = same
 like-none v w (b ∷ text) same = (same, like-none v w text same)
 
-like-but : (q : Option ℕ) (text : List ℕ) (is : Bool) (u v w : Within) → Like q v w text → Like q (if is then u else v) (if is then u else w) text
+like-but : (q : Option ℕ) (text : List ℕ) (is : Bool) (u v w : Within) → Like q v w text
+    → Like q (if is then u else v) (if is then u else w) text
 like-but q text true u v w like = like-same q u text
 like-but q text false u v w like = like
 
 -- the start of an input and that of a record, where no mark is
 module _ (d : ℕ) where
-  like-marked : (n : ℕ) (next : Within) (b : ℕ) (text : List ℕ) → (b ≡ n → Like (Some d) next Bare text) → Like (Some d) (after_bare d (if b == n then next else Bare) b) (after_bare d Bare b) text
+  like-marked : (n : ℕ) (next : Within) (b : ℕ) (text : List ℕ) → (b ≡ n → Like (Some d) next Bare text)
+      → Like (Some d) (after_bare d (if b == n then next else Bare) b) (after_bare d Bare b) text
   like-marked n next b text marked =
-      like-but (Some d) text (b == d) Start _ Bare (elim (cases_Bool (b == n)) [ inl is ↦ rw is (marked (eqb-true b n is)) | inr is ↦ rw is (like-same (Some d) Bare text) ])
+      like-but (Some d) text (b == d) Start _ Bare (elim (cases_Bool (b == n)) [
+        | inl is ↦ rw is (marked (eqb-true b n is))
+        | inr is
+            ↦ rw is (like-same (Some d) Bare text)
+      ])
 
   like-third : (text : List ℕ) → starts_with nat_eq text (191 ∷ []) ≡ false → Like (Some d) Mark2 Bare text
   like-third [] plain = refl
@@ -84,13 +99,15 @@ module _ (d : ℕ) where
 like-start : (q : Option ℕ) (text : List ℕ) → begins_with_mark text ≡ false → Like q Mark Start text
 like-start None text plain = like-none Mark Start text refl
 like-start (Some d) [] plain = refl
-like-start (Some d) (b ∷ text) plain = (refl, like-but (Some d) text (is_quote b) Quoted _ _ (like-marked d 239 Mark1 b text (λ is. like-second d text (rw is at plain))))
+like-start (Some d) (b ∷ text) plain =
+    (refl, like-but (Some d) text (is_quote b) Quoted _ _ (like-marked d 239 Mark1 b text (λ is. like-second d text (rw is at plain))))
 
 like-split : (q : Option ℕ) (e : ℕ) (v w : Within) (text : List ℕ) → Like q v w text → split_at q e v text ≡ split_at q e w text
 like-split q e v w [] like = refl
 like-split q e v w (b ∷ text) like = rw (like.0, like-split q e (after_byte q v b) (after_byte q w b) text like.1) refl
 
-like-inside : (q : Option ℕ) (v w : Within) (text : List ℕ) → Like q v w text → is_inside (after_text q v text) ≡ is_inside (after_text q w text)
+like-inside : (q : Option ℕ) (v w : Within) (text : List ℕ) → Like q v w text
+    → is_inside (after_text q v text) ≡ is_inside (after_text q w text)
 like-inside q v w [] like = like
 like-inside q v w (b ∷ text) like = like-inside q (after_byte q v b) (after_byte q w b) text like.1
 
@@ -98,13 +115,18 @@ like-inside q v w (b ∷ text) like = like-inside q (after_byte q v b) (after_by
 pub split-plain : (q : Option ℕ) (e : ℕ) (text : List ℕ) → begins_with_mark text ≡ false → split_at q e Mark text ≡ split_at q e Start text
 split-plain q e text plain = like-split q e Mark Start text (like-start q text plain)
 
-pub open-plain : (q : Option ℕ) (n : ℕ) (text : List ℕ) → (n ≡ 1 → begins_with_mark text ≡ false) → is_open q n text ≡ is_inside (after_text q Start text)
+pub open-plain : (q : Option ℕ) (n : ℕ) (text : List ℕ) → (n ≡ 1 → begins_with_mark text ≡ false)
+    → is_open q n text ≡ is_inside (after_text q Start text)
 open-plain q n text plain =
-    like-inside q (record_start n) Start text (elim (cases_Bool (n == 1)) [ inl is ↦ rw is (like-start q text (plain (eqb-true n 1 is))) | inr is ↦ rw is (like-same q Start text) ])
+    like-inside q (record_start n) Start text (elim (cases_Bool (n == 1)) [
+      | inl is ↦ rw is (like-start q text (plain (eqb-true n 1 is)))
+      | inr is ↦ rw is (like-same q Start text)
+    ])
 
 -- a record after another
 pub start-next : (n : ℕ) → 0 < n → record_start (next_line n) ≡ Start
-start-next n some = rw (false_from_ne_true (next_line n == 1) (λ yes. let one = eqb-true (next_line n) 1 yes in omega (arith, some, one))) refl
+start-next n some = rw (false_from_ne_true (next_line n == 1) (λ yes. let one = eqb-true (next_line n) 1 yes
+    in omega (arith, some, one))) refl
 
 -- a byte that ends a part
 outside-parts : (same inside : Bool) → (same && not inside) ≡ true → (same ≡ true) × (inside ≡ false)
@@ -138,7 +160,8 @@ module _ (q : Option ℕ) (e : ℕ) where
   -- there is a part
   pub split-some : (w : Within) (text : List ℕ) → 0 < length (split_at q e w text)
   split-some w [] = omega arith
-  split-some w (b ∷ text) = either (λ (parts : List (List ℕ)). 0 < length parts) (ends w b) _ _ (omega arith) (first-some b (split_at q e (after_byte q w b) text))
+  split-some w (b ∷ text) = either (λ (parts : List (List ℕ)). 0 < length parts) (ends w b) _ _ (omega arith)
+      (first-some b (split_at q e (after_byte q w b) text))
 
   -- the parts, joined again, are the text
   pub split-joined : (w : Within) (text : List ℕ) → join_with_byte e (split_at q e w text) ≡ text
@@ -147,8 +170,10 @@ module _ (q : Option ℕ) (e : ℕ) where
       elim (cases_Bool (ends w b)) [
         | inl is ↦
             let same : b ≡ e = eqb-true b e (outside-parts (b == e) (is_inside w) is).0 in
-            rw is (joined-next (split_at q e Start text) (split-some Start text) ∙ ap (λ l. e ∷ l) (split-joined Start text) ∙ ap (λ c. c ∷ text) (sym same))
-        | inr is ↦ rw is (joined-onto b (split_at q e (after_byte q w b) text) (split-some (after_byte q w b) text) ∙ ap (λ l. b ∷ l) (split-joined (after_byte q w b) text))
+            rw is (joined-next (split_at q e Start text) (split-some Start text) ∙ ap (λ l. e ∷ l) (split-joined Start text)
+            ∙ ap (λ c. c ∷ text) (sym same))
+        | inr is ↦ rw is (joined-onto b (split_at q e (after_byte q w b) text) (split-some (after_byte q w b) text)
+            ∙ ap (λ l. b ∷ l) (split-joined (after_byte q w b) text))
       ]
 
   -- a text that no part ends in
@@ -191,25 +216,35 @@ module _ (q : Option ℕ) (e : ℕ) where
     end-plain w [] (suc n) none = refl
     end-plain w (b ∷ text) (suc n) none =
         let plain = other b (false_from_ne_true _ (none 0 (omega arith) (omega arith))) in
-        or_from _ _ (ap (λ same. same && not (is_inside w)) plain) (end-plain (after_byte q w b) text n (λ k above low. none (suc k) (omega arith) (omega (arith, low))))
+        or_from _ _ (ap (λ same. same && not (is_inside w)) plain) (end-plain (after_byte q w b) text n
+        (λ k above low. none (suc k) (omega arith) (omega (arith, low))))
 
-    Searched-to : {w after : Within} {text : List ℕ} {n : ℕ} (found : Option ℕ) → IsFirstByte stops text found → n ≡ unwrap_or found (length text) → after ≡ after_text q w (take n text) →
+    Searched-to : {w after : Within} {text : List ℕ} {n : ℕ} (found : Option ℕ) → IsFirstByte stops text found
+        → n ≡ unwrap_or found (length text) → after ≡ after_text q w (take n text) →
         Searched q e w text n after
-    Searched-to {w} {after} {text} {n} None is same there = record { inside = omega (arith, same); none = rw same (end-plain w text (length text) is); there = there }
+    Searched-to {w} {after} {text} {n} None is same there = record {
+      inside = omega (arith, same);
+      none = rw same (end-plain w text (length text) is);
+      there = there;
+    }
     Searched-to {w} {after} {text} {n} (Some k) is same there =
         let low = is.0.high in
         record { inside = omega (arith, same, low); none = rw same (end-plain w text k is.0.before); there = there }
 
 -- a text where there are no quotes
-pub Searched-unquoted : (q : Option ℕ) (e : ℕ) (w : Within) (text : List ℕ) (n : ℕ) (found : Option ℕ) → q ≡ None → IsFirstByte (is_byte e) text found → n ≡ unwrap_or found (length text) → Searched q e w text n w
-Searched-unquoted q e w text n found none is same = Searched-to q e (is_byte e) (λ b other. other) found is same (rw none (after-none w (take n text)))
+pub Searched-unquoted : (q : Option ℕ) (e : ℕ) (w : Within) (text : List ℕ) (n : ℕ) (found : Option ℕ) → q ≡ None
+    → IsFirstByte (is_byte e) text found → n ≡ unwrap_or found (length text) → Searched q e w text n w
+Searched-unquoted q e w text n found none is same = Searched-to q e (is_byte e) (λ b other. other) found is same
+    (rw none (after-none w (take n text)))
 
 -- where the first bytes of a text end: at its end, or before a byte that ends a part
 abbrev pub Ends : Option ℕ → ℕ → Within → List ℕ → ℕ → Within → Type 0
 Ends q e w text n here = Searched q e w text n here × (n < length text → (get_or text n 0 ≡ e) × (is_inside here ≡ false))
 
-pub Ends-same : {p q : Option ℕ} {e : ℕ} {w here : Within} {rest text : List ℕ} {n : ℕ} → p ≡ q → rest ≡ text → Ends p e w rest n here → Ends q e w text n here
-Ends-same {p} {q} {e} {w} {here} {rest} {text} {n} same is ends = subst (λ o. Ends o e w text n here) same (subst (λ l. Ends p e w l n here) is ends)
+pub Ends-same : {p q : Option ℕ} {e : ℕ} {w here : Within} {rest text : List ℕ} {n : ℕ} → p ≡ q → rest ≡ text → Ends p e w rest n here
+    → Ends q e w text n here
+Ends-same {p} {q} {e} {w} {here} {rest} {text} {n} same is ends = subst (λ o. Ends o e w text n here) same
+    (subst (λ l. Ends p e w l n here) is ends)
 
 module _ {q : Option ℕ} {e : ℕ} {w here : Within} {text : List ℕ} {n : ℕ} (so_far : Searched q e w text n here) where
   pub Searched-all : length text ≤ n → HasNoEnd q e w text
@@ -221,39 +256,55 @@ module _ {q : Option ℕ} {e : ℕ} {w here : Within} {text : List ℕ} {n : ℕ
       let sum = take-add n m text in
       record {
         inside = omega (arith, length-drop n text);
-        none = rw sum (end-append q e w (take n text) (take m (drop n text)) so_far.none (subst (λ v. HasNoEnd q e v (take m (drop n text))) so_far.there more.none));
-        there = more.there ∙ ap (λ v. after_text q v (take m (drop n text))) so_far.there ∙ sym (fold-append (after_byte q) w (take n text) (take m (drop n text))) ∙ ap (after_text q w) (sym sum);
+        none = rw sum (end-append q e w (take n text) (take m (drop n text)) so_far.none
+            (subst (λ v. HasNoEnd q e v (take m (drop n text))) so_far.there more.none));
+        there = more.there ∙ ap (λ v. after_text q v (take m (drop n text))) so_far.there
+            ∙ sym (fold-append (after_byte q) w (take n text) (take m (drop n text))) ∙ ap (after_text q w) (sym sum);
       }
 
-  pub Searched-search : {m : ℕ} {after : Within} (found : Option ℕ) → IsFirstByte (is_byte2 34 e) (slice_range text n (length text)) found → m ≡ unwrap_or found (length (slice_range text n (length text))) →
+  pub Searched-search : {m : ℕ} {after : Within} (found : Option ℕ) → IsFirstByte (is_byte2 34 e) (slice_range text n (length text)) found
+      → m ≡ unwrap_or found (length (slice_range text n (length text))) →
       after ≡ after_text q here (take m (slice_range text n (length text))) → Searched q e w text (n + m) after
-  Searched-search {m} {after} found is same there = Searched-on (subst (λ l. Searched q e here l m after) (take_rest text n) (Searched-to q e (is_byte2 34 e) (λ b plain. (or_parts (b == 34) (b == e) plain).1) found is same there))
+  Searched-search {m} {after} found is same there =
+      Searched-on (subst (λ l. Searched q e here l m after) (take_rest text n)
+      (Searched-to q e (is_byte2 34 e) (λ b plain. (or_parts (b == 34) (b == e) plain).1) found is same there))
 
   pub Ends-on : {m : ℕ} {after : Within} → Ends q e here (drop n text) m after → Ends q e w text (n + m) after
-  Ends-on {m} {after} ends =
-      (Searched-on ends.0, λ low. let found = ends.1 (omega (arith, low, length-drop n text)) in (sym (get_or-drop n text m 0) ∙ found.0, found.1))
+  Ends-on {m} {after} ends = (
+    Searched-on ends.0,
+    λ low. let found = ends.1 (omega (arith, low, length-drop n text))
+        in (sym (get_or-drop n text m 0) ∙ found.0, found.1),
+  )
 
   -- and so is the next byte
-  pub Searched-byte : n < length text → ((get_or text n 0 == e) && not (is_inside here)) ≡ false → Searched q e w text (n + 1) (after_byte q here (get_or text n 0))
+  pub Searched-byte : n < length text → ((get_or text n 0 == e) && not (is_inside here)) ≡ false
+      → Searched q e w text (n + 1) (after_byte q here (get_or text n 0))
   Searched-byte low plain =
       let more = take_more text n 0 low in
       let b = get_or text n 0 in
       record {
         inside = omega (arith, low);
-        none = rw more (end-append q e w (take n text) (b ∷ []) so_far.none (or_from _ _ (ap (λ v. (b == e) && not (is_inside v)) (sym so_far.there) ∙ plain) refl));
-        there = ap (λ v. after_byte q v b) so_far.there ∙ sym (fold-append (after_byte q) w (take n text) (b ∷ [])) ∙ ap (after_text q w) (sym more);
+        none = rw more (end-append q e w (take n text) (b ∷ []) so_far.none
+            (or_from _ _ (ap (λ v. (b == e) && not (is_inside v)) (sym so_far.there) ∙ plain) refl));
+        there = ap (λ v. after_byte q v b) so_far.there ∙ sym (fold-append (after_byte q) w (take n text) (b ∷ []))
+            ∙ ap (after_text q w) (sym more);
       }
 
   -- and more bytes follow
   pub Searched-longer : (more : List ℕ) → Searched q e w (text ++ more) n here
   Searched-longer more =
       let same = take-append-le n text more so_far.inside in
-      record { inside = omega (arith, length-append text more); none = ap (has_end q e w) same ∙ so_far.none; there = so_far.there ∙ ap (after_text q w) (sym same) }
+      record {
+        inside = omega (arith, length-append text more);
+        none = ap (has_end q e w) same ∙ so_far.none;
+        there = so_far.there ∙ ap (after_text q w) (sym same);
+      }
 
 -- a text, by the part before its first end
 module _ {q : Option ℕ} {e : ℕ} {w here : Within} {text : List ℕ} {n : ℕ} (ends : Ends q e w text n here) (low : n < length text) where
   pub Ends-parts : text ≡ take n text ++ e ∷ drop (n + 1) text
-  Ends-parts = sym (take-append-drop n text) ∙ ap (λ l. take n text ++ l) (drop_more text n 0 low ∙ ap (λ b. b ∷ drop (n + 1) text) (ends.1 low).0)
+  Ends-parts = sym (take-append-drop n text) ∙ ap (λ l. take n text ++ l) (drop_more text n 0 low
+      ∙ ap (λ b. b ∷ drop (n + 1) text) (ends.1 low).0)
 
   pub Ends-record : IsRecord q e w (take n text)
   Ends-record = (ends.0.none, ap is_inside (sym ends.0.there) ∙ (ends.1 low).1)
@@ -266,7 +317,8 @@ module _ {q : Option ℕ} {e : ℕ} {here : Within} (text : List ℕ) (start at 
   len : start + at - start ≡ at
   len = omega arith
 
-  pub split-next : start + at < length text → split_at q e Start rest ≡ slice_range text start (start + at) ∷ split_at q e Start (drop (start + at + 1) text)
+  pub split-next : start + at < length text → split_at q e Start rest
+      ≡ slice_range text start (start + at) ∷ split_at q e Start (drop (start + at + 1) text)
   split-next low =
       let inside : at < length rest = omega (arith, low, length-drop start text) in
       let sum : start + (at + 1) ≡ start + at + 1 = omega arith in

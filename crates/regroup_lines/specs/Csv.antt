@@ -1,5 +1,6 @@
 -- The number in a field, which may be in quotes.
-use Rattle.std.specs.Prelude.{ℕ, ◌+◌, ◌-◌, ◌==◌, nat_le, Bool, true, false, ◌&&◌, ◌||◌, cond, not, is_some, if◌then◌else◌, List, [], ◌∷◌, ◌++◌, length, slice_range, take, drop, Option, None, Some}
+use Rattle.std.specs.Prelude.{ℕ, ◌+◌, ◌-◌, ◌==◌, nat_le, Bool, true, false, ◌&&◌, ◌||◌, cond, not, is_some, if◌then◌else◌, List, [], ◌∷◌}
+use Rattle.std.specs.Prelude.{◌++◌, length, slice_range, take, drop, Option, None, Some}
 use Rattle.std.specs.List.{flat_map, list_any, slice_index}
 use Rattle.std.specs.Option.{option_map, unwrap_or}
 use Rattle.regroup_lines.specs.Ended.{len_without, without_end}
@@ -14,7 +15,8 @@ use Rattle.regroup_lines.specs.declared.sending.Part.TheVariants.{Doubled, Plain
 
 -- whether a field begins with a quote, and has one at the end of this place
 abbrev pub is_quoted : List ℕ → ℕ × ℕ → Bool
-is_quoted field place = (place.0 == 0) && (nat_le 2 place.1 && (is_quote (slice_index field 0) && is_quote (slice_index field (place.1 - 1))))
+is_quoted field place =
+    (place.0 == 0) && (nat_le 2 place.1 && (is_quote (slice_index field 0) && is_quote (slice_index field (place.1 - 1))))
 
 -- where the number is in a field: between the quotes, if there may be quotes, and without the ASCII whitespace around it
 abbrev pub number_place : (quotes : Bool) → List ℕ → ℕ × ℕ
@@ -55,18 +57,20 @@ abbrev pub part_text : Part → List ℕ
 part_text (Plain bytes) = bytes.now
 part_text (Doubled bytes) = doubled bytes.now
 
--- a text of a field as an output has it, with what is around it but for the quote that opens it, if one does: in quotes if it has to be, or if
--- it was and these are kept, and each quote is doubled, as those are that were in quotes; a last carriage return may end the line
+-- a text of a field as an output has it, with what is around it but for the quote that opens it, if one does: in quotes if it has to be, or
+-- if it was and these are kept, and each quote is doubled, as those are that were in quotes; a last carriage return may end the line
 abbrev pub output_as : Output → (line_end : ℕ) → (is_quoted : Bool) → (before after : List ℕ) → List ℕ → List ℕ
 output_as output line_end is_quoted before after text =
     let inner = without_end 13 after in
     let quoted = if is_quoted then take (quoted_len inner) inner else [] in
     let bare = if is_quoted then drop (quoted_len inner + 1) inner else inner in
-    let is_enclosed = (is_quoted && keeps output.quoting) || list_any (list_any (needs_quotes output.delimiter line_end)) (before ∷ text ∷ quoted ∷ bare ∷ []) in
+    let is_enclosed = (is_quoted && keeps output.quoting) || list_any (list_any (needs_quotes output.delimiter line_end))
+    (before ∷ text ∷ quoted ∷ bare ∷ []) in
     let quote = if is_enclosed then 34 ∷ [] else [] in
     quote ++ (doubled before ++ (doubled text ++ (quoted ++ (doubled bare ++ (quote ++ drop (len_without 13 after) after)))))
 
--- how a field with this text is written, if it is written anew: as the output says, or in the quotes that the text needs and the field has not
+-- how a field with this text is written, if it is written anew: as the output says, or in the quotes that the text needs and the field has
+-- not
 abbrev pub output_of : Fields → (line_end : ℕ) → (is_quoted : Bool) → List ℕ → Option Output
 output_of fields line_end is_quoted text =
     if not (is_some fields.output) && (fields.quotes && (not is_quoted && list_any (needs_quotes fields.delimiter line_end) text))
@@ -74,8 +78,10 @@ output_of fields line_end is_quoted text =
 
 -- a field with a text at a place in it, by how it is written: else the bytes around that place are passed on
 abbrev pub placed_as : Option Output → (line_end : ℕ) → (is_quoted : Bool) → (field : List ℕ) → ℕ × ℕ → List ℕ → List ℕ
-placed_as (Some output) line_end is_quoted field place text = output_as output line_end is_quoted (slice_range field (cond is_quoted 1 0) place.0) (drop place.1 field) text
-placed_as None line_end is_quoted field place text = take place.0 field ++ ((if is_quoted then doubled text else text) ++ drop place.1 field)
+placed_as (Some output) line_end is_quoted field place text = output_as output line_end is_quoted
+    (slice_range field (cond is_quoted 1 0) place.0) (drop place.1 field) text
+placed_as None line_end is_quoted field place text = take place.0 field
+    ++ ((if is_quoted then doubled text else text) ++ drop place.1 field)
 
 abbrev pub placed : Fields → (line_end : ℕ) → (is_quoted : Bool) → (field : List ℕ) → ℕ × ℕ → List ℕ → List ℕ
 placed fields line_end is_quoted field place text = placed_as (output_of fields line_end is_quoted text) line_end is_quoted field place text
@@ -91,7 +97,8 @@ passed_as (Some output) quotes line_end field =
 abbrev pub field_with : Fields → (line_end : ℕ) → (field : List ℕ) → Option (List ℕ) → List ℕ
 field_with fields line_end field None = passed_as fields.output fields.quotes line_end field
 field_with fields line_end field (Some text) =
-    placed fields line_end (fields.quotes && is_quoted field (trimmed field (0, length field))) field (number_place fields.quotes field) text
+    placed fields line_end (fields.quotes && is_quoted field (trimmed field (0, length field))) field
+    (number_place fields.quotes field) text
 
 -- the byte between two fields that are written
 abbrev pub output_delimiter : Fields → ℕ

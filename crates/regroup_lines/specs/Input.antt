@@ -1,5 +1,6 @@
 -- What is read from the input, piece by piece.
-use Rattle.std.specs.Prelude.{◌≡◌, ℕ, ◌+◌, ◌<◌, ◌≤◌, Bool, true, false, List, [], ◌∷◌, ◌++◌, length, slice_range, Option, None, Some, Result, Ok, Err, ⊤, ◌^◌, ◌-◌}
+use Rattle.std.specs.Prelude.{◌≡◌, ℕ, ◌+◌, ◌<◌, ◌≤◌, Bool, true, false, List, [], ◌∷◌, ◌++◌, length, slice_range, Option, None, Some}
+use Rattle.std.specs.Prelude.{Result, Ok, Err, ⊤, ◌^◌, ◌-◌}
 use Rattle.std.specs.Io.KnownBytes.{Consumes, IsAtEnd}
 use Rattle.std.specs.declared.ops.Range.{Range}
 use Rattle.regroup_lines.specs.Ended.{ended_by, ended_once}
@@ -44,16 +45,19 @@ pub record Reads (held read : List ℕ) (old new : Option (List ℕ)) : Type 0 w
 -- the piece is the first of the bytes that were held and those that the reader gave
 abbrev pub FindsPiece : (quotes : Option ℕ) → (line_end : ℕ) → Within → List ℕ → Input → Option (List ℕ) → Option (List ℕ) → Piece → Type 0
 FindsPiece quotes line_end within before input old new (Line place) =
-    Reads before (bytes_at input place ++ line_end ∷ held input) old new × IsRecord quotes line_end within (bytes_at input place) × (length (bytes_at input place) < array_len input)
+    Reads before (bytes_at input place ++ line_end ∷ held input) old new × IsRecord quotes line_end within (bytes_at input place)
+    × (length (bytes_at input place) < array_len input)
 FindsPiece quotes line_end within before input old new (Rest place) =
-    Reads before (bytes_at input place) old new × HasNoEnd quotes line_end within (bytes_at input place) × (length (bytes_at input place) < array_len input) × IsAtEnd new
+    Reads before (bytes_at input place) old new × HasNoEnd quotes line_end within (bytes_at input place)
+    × (length (bytes_at input place) < array_len input) × IsAtEnd new
 FindsPiece quotes line_end within before input old new TooLong =
     Reads before (held input) old new × HasNoEnd quotes line_end within (held input) × (array_len input ≤ length (held input))
 
 -- a place is in the array, and after it the byte that ends a line
 abbrev pub IsEndedAt : (line_end : ℕ) → Input → Range ℕ → Type 0
 IsEndedAt line_end input place =
-    (place.start ≤ place.end) × (place.end < array_len input) × (slice_range input.array.now place.start (place.end + 1) ≡ ended_by line_end (bytes_at input place))
+    (place.start ≤ place.end) × (place.end < array_len input) × (slice_range input.array.now place.start (place.end + 1)
+    ≡ ended_by line_end (bytes_at input place))
 
 -- so is that of the piece
 abbrev pub IsInArray : (line_end : ℕ) → Input → Piece → Type 0
@@ -82,7 +86,8 @@ IsStop flushes Unflushed given left = flushes ≡ true
 IsStop flushes Endless given left = 2 ^ 64 - 1 ≤ length given
 IsStop flushes stop given left = ⊤
 
--- what is sent of such a record where the reader stopped so in it: at the end of the input the byte that ends it too, if it is not the last one
+-- what is sent of such a record where the reader stopped so in it: at the end of the input the byte that ends it too, if it is not the last
+-- one
 abbrev pub stop_text : (line_end : ℕ) → Stop → List ℕ → List ℕ
 stop_text line_end Ended text = ended_once line_end false text
 stop_text line_end stop text = text

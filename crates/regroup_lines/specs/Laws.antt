@@ -1,6 +1,6 @@
 -- A law of inputs that are split.
 use Rattle.std.specs.Prelude.{◌≡◌, ℕ, ◌+◌, false, ◌||◌, List, ◌++◌, Some, Ok}
-use Rattle.num_format.specs.Format.{FormatData}
+use Rattle.regroup_faults.specs.Notation.{NotationData}
 use Rattle.regroup_lines.specs.Ended.{ended_by}
 use Rattle.regroup_faults.specs.Fault.{are_any}
 use Rattle.regroup_lines.specs.Lines.{Regrouped, begins_with_mark, quotes_in, regrouped}
@@ -8,7 +8,8 @@ use Rattle.regroup_lines.specs.Lines.Stop.{Ended}
 use Rattle.regroup_lines.specs.Records.{is_left_open}
 use Rattle.regroup_lines.specs.declared.rules.Rules.{Rules}
 
--- the whole has this many lines: each part returns its lines, and sends its part of the bytes to each writer, and the whole names a fault exactly if a part does
+-- the whole has this many lines: each part returns its lines, and sends its part of the bytes to each writer, and the whole names a fault
+-- exactly if a part does
 pub record SplitsInto (all first second : Regrouped) (lines : ℕ) : Type 0 where
   pub first_lines : ℕ
   pub second_lines : ℕ
@@ -22,7 +23,9 @@ pub record SplitsInto (all first second : Regrouped) (lines : ℕ) : Type 0 wher
 -- where no line is at fault, or none ends the run, and there is no header, an input may be split after a byte that ends a line, and not
 -- before a byte order mark, if the first part does not end inside quotes
 abbrev pub SplitLaw : Type 0
-SplitLaw = (rules : Rules) (most : ℕ) (from to : FormatData) (a b : List ℕ) (lines : ℕ) → rules.header_lines ≡ 0 → begins_with_mark b ≡ false →
+SplitLaw = (rules : Rules) (most : ℕ) (from to : NotationData) (a b : List ℕ) (lines : ℕ) → rules.header_lines ≡ 0
+    → begins_with_mark b ≡ false →
     is_left_open (quotes_in rules.span) rules.line_end a ≡ false →
     (regrouped rules most from to Ended (ended_by rules.line_end a ++ b)).returned ≡ Some (Ok lines) →
-    SplitsInto (regrouped rules most from to Ended (ended_by rules.line_end a ++ b)) (regrouped rules most from to Ended (ended_by rules.line_end a)) (regrouped rules most from to Ended b) lines
+    SplitsInto (regrouped rules most from to Ended (ended_by rules.line_end a ++ b))
+    (regrouped rules most from to Ended (ended_by rules.line_end a)) (regrouped rules most from to Ended b) lines

@@ -2,6 +2,7 @@
 pub mod Csv
 pub mod Ended
 pub mod Fields
+pub mod Header
 pub mod Input
 pub mod Laws
 pub mod LineFaults

@@ -3,14 +3,13 @@ use Rattle.std.specs.Prelude.{ℕ, ◌+◌, ◌==◌, nat_eq, nat_le, nat_lt, Bo
 use Rattle.std.specs.Prelude.{List, [], ◌∷◌, ◌++◌, length, map, take, drop, slice_range, Option, None, Some, Result, Ok, Err}
 use Rattle.std.specs.List.{join_with_byte, list_any, starts_with}
 use Rattle.std.specs.Option.{ok_or, option_map}
-use Rattle.std.specs.Result.{result_map_both}
+use Rattle.std.specs.Result.{result_map_both, result_ok}
 use Rattle.std.specs.Str.{is_utf8}
 use Rattle.num_format.specs.Cut.{cut_text}
-use Rattle.num_format.specs.Format.{FormatData}
+use Rattle.regroup_faults.specs.Notation.{NotationData, decimal_in, number_text}
 use Rattle.num_format.specs.Refusal.{ParseNumber}
-use Rattle.num_format.specs.Text.{text_of}
-use Rattle.num_format_decimal.specs.FixedPoint.{FixedPoint}
-use Rattle.num_format_decimal.specs.Text.{decimal_text}
+use Rattle.num_format.specs.Format.{FormatData}
+use Rattle.num_format_decimal.specs.FixedPoint.{FixedPoint, fixed_point}
 use Rattle.num_format.specs.Readable.{number_read}
 use Rattle.regroup_lines.specs.Ended.{ended_by, ended_once}
 use Rattle.regroup_lines.specs.Csv.{field_with, is_barred, number_place, output_delimiter}
@@ -51,7 +50,11 @@ only_written bytes = record { written = bytes; named = []; rejected = [] }
 
 -- what is sent of some lines, and of those after them
 abbrev pub joined : Sent → Sent → Sent
-joined first rest = record { written = first.written ++ rest.written; named = first.named ++ rest.named; rejected = first.rejected ++ rest.rejected }
+joined first rest = record {
+  written = first.written ++ rest.written;
+  named = first.named ++ rest.named;
+  rejected = first.rejected ++ rest.rejected;
+}
 
 -- what is sent, and what is returned, or nothing where that depends on bytes that were not read
 pub record Regrouped : Type 0 where
@@ -71,30 +74,38 @@ abbrev pub sending_line : Result Sent Fault → Regrouped → Regrouped
 sending_line (Ok sent) rest = sending sent rest
 sending_line (Err fault) rest = returning (Some (Err fault))
 
+-- the whole number that is read leniently of a text
+abbrev pub whole_read : FormatData → List ℕ → Option FixedPoint
+whole_read format text = option_map (λ n. fixed_point n 0) (result_ok (number_read format text))
+
+-- the decimal that is read of a text with 0 to 9
+abbrev pub read_by : Reading → FormatData → List ℕ → Option FixedPoint
+read_by Lenient = whole_read
+read_by Strict = decimal_read
+read_by Typed = typed_read
+
 -- the text of a decimal, or the fault of the text that has none
-abbrev pub decimal_written : Option FixedPoint → FormatData → ℕ → List ℕ → Result (List ℕ) Fault
+abbrev pub decimal_written : Option FixedPoint → NotationData → ℕ → List ℕ → Result (List ℕ) Fault
 decimal_written decimal to number text =
-    if is_utf8 text then ok_or (option_map (decimal_text to) decimal) (Line number (ParseNumber (cut_text text))) else Err (NotText number)
+    if is_utf8 text then ok_or (option_map (number_text to) decimal) (Line number (ParseNumber (cut_text text))) else Err (NotText number)
 
 -- the text that is written in place of that of a number, or the fault of that text
-abbrev pub number_written : Reading → FormatData → FormatData → ℕ → List ℕ → Result (List ℕ) Fault
-number_written Lenient from to number text = if is_utf8 text then result_map_both (text_of to) (Line number) (number_read from text) else Err (NotText number)
-number_written Strict from to number text = decimal_written (decimal_read from text) to number text
-number_written Typed from to number text = decimal_written (typed_read from text) to number text
+abbrev pub number_written : Reading → NotationData → NotationData → ℕ → List ℕ → Result (List ℕ) Fault
+number_written reading from to number text = decimal_written (decimal_in (read_by reading) from text) to number text
 
 -- a text with these bytes before and after it
 abbrev pub between : (before after : List ℕ) → Result (List ℕ) Fault → Result (List ℕ) Fault
 between before after written = result_map_both (λ text. before ++ (text ++ after)) (λ fault. fault) written
 
 -- a text with the number at this place: the other bytes are passed on, and so are all where the number has no byte and that is no fault
-abbrev pub place_written : Rules → FormatData → FormatData → ℕ → List ℕ → ℕ × ℕ → Result (List ℕ) Fault
+abbrev pub place_written : Rules → NotationData → NotationData → ℕ → List ℕ → ℕ × ℕ → Result (List ℕ) Fault
 place_written rules from to number text place =
     if rules.passes_empty && (place.0 == place.1) then Ok text else
     between (take place.0 text) (drop place.1 text) (number_written rules.reading from to number (slice_range text place.0 place.1))
 
--- the text that is written in place of that of the number in a field, or its fault, or nothing where it has no byte and that is no fault: where
--- there may be quotes, no number has one
-abbrev pub field_read : Rules → (quotes : Bool) → FormatData → FormatData → ℕ → (field : List ℕ) → Result (Option (List ℕ)) Fault
+-- the text that is written in place of that of the number in a field, or its fault, or nothing where it has no byte and that is no fault:
+-- where there may be quotes, no number has one
+abbrev pub field_read : Rules → (quotes : Bool) → NotationData → NotationData → ℕ → (field : List ℕ) → Result (Option (List ℕ)) Fault
 field_read rules quotes from to number field =
     let place = number_place quotes field in
     let text = slice_range field place.0 place.1 in
@@ -103,9 +114,10 @@ field_read rules quotes from to number field =
     result_map_both Some (λ fault. fault) (number_written rules.reading from to number text)
 
 -- the field of the last number, which may be chosen: its fault names it
-abbrev pub field_written : Rules → Fields → FormatData → FormatData → ℕ → ℕ → (chosen : Bool) → List ℕ → Result (List ℕ) Fault
+abbrev pub field_written : Rules → Fields → NotationData → NotationData → ℕ → ℕ → (chosen : Bool) → List ℕ → Result (List ℕ) Fault
 field_written rules fields from to number n chosen field =
-    if chosen then result_map_both (field_with fields rules.line_end field) (in_field n) (field_read rules fields.quotes from to number field) else Ok (field_with fields rules.line_end field None)
+    if chosen then result_map_both (field_with fields rules.line_end field) (in_field n)
+    (field_read rules fields.quotes from to number field) else Ok (field_with fields rules.line_end field None)
 
 -- a text before others, or the first fault
 abbrev pub with_first : Result (List ℕ) Fault → Result (List (List ℕ)) Fault → Result (List (List ℕ)) Fault
@@ -114,11 +126,12 @@ with_first (Ok text) (Err fault) = Err fault
 with_first (Err fault) texts = Err fault
 
 -- the fields of a line that so many others are before, or the first fault; where they end, the line may have too few
-abbrev pub fields_written : Rules → Fields → FormatData → FormatData → ℕ → (before : ℕ) → List (List ℕ) → Result (List (List ℕ)) Fault
+abbrev pub fields_written : Rules → Fields → NotationData → NotationData → ℕ → (before : ℕ) → List (List ℕ) → Result (List (List ℕ)) Fault
 fields_written rules fields from to number before [] =
     if are_enough fields.list.now before then Ok [] else Err (FewFields number (field_count fields.delimiter fields.list.now before))
 fields_written rules fields from to number before (text ∷ texts) =
-    with_first (field_written rules fields from to number (before + 1) (is_chosen fields.list.now (before + 1)) text) (fields_written rules fields from to number (before + 1) texts)
+    with_first (field_written rules fields from to number (before + 1) (is_chosen fields.list.now (before + 1)) text)
+    (fields_written rules fields from to number (before + 1) texts)
 
 -- the delimiter of the fields that may be in quotes, if they may, and if it is no quote
 abbrev pub quotes_of : Fields → Option ℕ
@@ -129,9 +142,10 @@ abbrev pub fields_of : Fields → List ℕ → List (List ℕ)
 fields_of fields text = split_at (quotes_of fields) fields.delimiter Start text
 
 -- a line with the number in each chosen field replaced
-abbrev pub fields_replaced : Fields → Rules → FormatData → FormatData → ℕ → List ℕ → Result (List ℕ) Fault
+abbrev pub fields_replaced : Fields → Rules → NotationData → NotationData → ℕ → List ℕ → Result (List ℕ) Fault
 fields_replaced fields rules from to number text =
-    result_map_both (join_with_byte (output_delimiter fields)) (λ fault. fault) (fields_written rules fields from to number 0 (fields_of fields text))
+    result_map_both (join_with_byte (output_delimiter fields)) (λ fault. fault)
+    (fields_written rules fields from to number 0 (fields_of fields text))
 
 -- a text after these bytes
 abbrev pub after : List ℕ → Result (List ℕ) Fault → Result (List ℕ) Fault
@@ -139,10 +153,11 @@ after bytes written = result_map_both (λ text. bytes ++ text) (λ fault. fault)
 
 -- what is left of a line of so many fields, with the byte that ends it, or the fault of one with too few
 abbrev pub line_ended : Fields → (number count : ℕ) → (rest : List ℕ) → Result (List ℕ) Fault
-line_ended fields number count rest = if are_enough fields.list.now count then Ok rest else Err (FewFields number (field_count fields.delimiter fields.list.now count))
+line_ended fields number count rest = if are_enough fields.list.now count then Ok rest else Err
+    (FewFields number (field_count fields.delimiter fields.list.now count))
 
 -- a line with the numbers where the rules say replaced
-abbrev pub numbers_replaced : Span → Rules → FormatData → FormatData → ℕ → List ℕ → Result (List ℕ) Fault
+abbrev pub numbers_replaced : Span → Rules → NotationData → NotationData → ℕ → List ℕ → Result (List ℕ) Fault
 numbers_replaced span.Line rules from to number text = place_written rules from to number text (0, length text)
 numbers_replaced span.Trimmed rules from to number text = place_written rules from to number text (trimmed text (0, length text))
 numbers_replaced (span.Fields fields) rules from to number text = fields_replaced fields rules from to number text
@@ -175,13 +190,13 @@ header_written (span.Fields fields) line_end text =
     join_with_byte (output_delimiter fields) (map (λ field. field_with fields line_end field None) (fields_of fields text))
 
 -- what is written in place of a line without a byte order mark
-abbrev pub unmarked_written : Rules → FormatData → FormatData → ℕ → List ℕ → Result (List ℕ) Fault
+abbrev pub unmarked_written : Rules → NotationData → NotationData → ℕ → List ℕ → Result (List ℕ) Fault
 unmarked_written rules from to number text =
     if nat_le number rules.header_lines then Ok (header_written rules.span rules.line_end text) else
     numbers_replaced rules.span rules from to number text
 
 -- what is written in place of a line
-abbrev pub body_written : Rules → FormatData → FormatData → ℕ → List ℕ → Result (List ℕ) Fault
+abbrev pub body_written : Rules → NotationData → NotationData → ℕ → List ℕ → Result (List ℕ) Fault
 body_written rules from to number text =
     if passes_mark rules.span number text then after MARK (unmarked_written rules from to number (drop (length MARK) text)) else
     unmarked_written rules from to number text
@@ -214,29 +229,42 @@ body_sent rules text (Ok body) = Ok (only_written (ended_by rules.line_end body)
 body_sent rules text (Err fault) = fault_sent rules fault (ended_by rules.line_end text)
 
 -- what is sent of the text of a line, or its fault
-abbrev pub text_sent : Rules → FormatData → FormatData → ℕ → List ℕ → Result Sent Fault
+abbrev pub text_sent : Rules → NotationData → NotationData → ℕ → List ℕ → Result Sent Fault
 text_sent rules from to number text = body_sent rules text (body_written rules from to number text)
 
 -- the rules that read the whole of each line leniently
 abbrev pub lenient : Rules
-lenient = record { span = span.Line; reading = Lenient; header_lines = 0; passes_empty = false; invalid = Abort; rejects = false; line_end = 10; max_line_len = 4096; flushes = false }
+lenient = record {
+  span = span.Line;
+  reading = Lenient;
+  header_lines = 0;
+  passes_empty = false;
+  invalid = Abort;
+  rejects = false;
+  line_end = 10;
+  max_line_len = 4096;
+  flushes = false;
+}
 
 -- what is sent of a record that has no byte too many, or its fault: at the end of an input it may end inside quotes, and with the byte that
 -- ends lines
-abbrev pub record_sent : Rules → FormatData → FormatData → ℕ → List ℕ → Result Sent Fault
+abbrev pub record_sent : Rules → NotationData → NotationData → ℕ → List ℕ → Result Sent Fault
 record_sent rules from to number text =
-    if is_open (quotes_in rules.span) number text then fault_sent rules (Unclosed number) (ended_once rules.line_end false text) else text_sent rules from to number text
+    if is_open (quotes_in rules.span) number text then fault_sent rules (Unclosed number)
+    (ended_once rules.line_end false text) else text_sent rules from to number text
 
 -- the fault of a line or a record that is too long: quotes that its first bytes do not close
 abbrev pub long_fault : Rules → ℕ → List ℕ → Fault
-long_fault rules number text = if is_open (quotes_in rules.span) number (take (rules.max_line_len + 1) text) then Unclosed number else TooLong number rules.max_line_len
+long_fault rules number text = if is_open (quotes_in rules.span) number
+    (take (rules.max_line_len + 1) text) then Unclosed number else TooLong number rules.max_line_len
 
--- what is sent of the record that so many are before, and that begins in the line of this number, or its first fault: it may be one too many,
--- or too long, of which these bytes are sent
-abbrev pub line_sent : Rules → (most : ℕ) → FormatData → FormatData → (count number : ℕ) → (ended : List ℕ) → List ℕ → Result Sent Fault
+-- what is sent of the record that so many are before, and that begins in the line of this number, or its first fault: it may be one too
+-- many, or too long, of which these bytes are sent
+abbrev pub line_sent : Rules → (most : ℕ) → NotationData → NotationData → (count number : ℕ) → (ended : List ℕ) → List ℕ → Result Sent Fault
 line_sent rules most from to count number ended text =
     if nat_lt most (count + 1) then Err TooMany else
-    if nat_lt rules.max_line_len (length text) then fault_sent rules (long_fault rules number text) ended else record_sent rules from to number text
+    if nat_lt rules.max_line_len (length text) then fault_sent rules (long_fault rules number text) ended else record_sent rules from to
+    number text
 
 -- what a stop returns in a record that is not too long: the fault of a failed read or flush
 abbrev pub stop_returned : Stop → Option (Result ℕ Fault)
@@ -259,12 +287,13 @@ abbrev pub line_begun : Rules → (most : ℕ) → Stop → (count number : ℕ)
 line_begun rules most stop count number text =
     if length text == 0 then returning (stop_returned stop) else
     if nat_lt most (count + 1) then returning (Some (Err TooMany)) else
-    if nat_lt rules.max_line_len (length text) then sending_line (fault_sent rules (long_fault rules number text) text) (returning (long_returned stop)) else
+    if nat_lt rules.max_line_len (length text) then sending_line (fault_sent rules (long_fault rules number text) text)
+    (returning (long_returned stop)) else
     returning (stop_returned stop)
 
--- what stands after the last byte that ends a record, with so many records before it: at the end it is one unless it is empty, and in quotes
--- that are not closed it may end with that byte
-abbrev pub regrouped_rest : Rules → (most : ℕ) → FormatData → FormatData → Stop → (count number : ℕ) → List ℕ → Regrouped
+-- what stands after the last byte that ends a record, with so many records before it: at the end it is one unless it is empty, and in
+-- quotes that are not closed it may end with that byte
+abbrev pub regrouped_rest : Rules → (most : ℕ) → NotationData → NotationData → Stop → (count number : ℕ) → List ℕ → Regrouped
 regrouped_rest rules most from to Ended count number rest =
     if length rest == 0 then returning (Some (Ok count)) else
     sending_line (line_sent rules most from to count number (ended_once rules.line_end false rest) rest) (returning (Some (Ok (count + 1))))
@@ -275,20 +304,22 @@ abbrev pub line_after : Rules → ℕ → List ℕ → ℕ
 line_after rules number text = next_line (line_reached (quotes_in rules.span) rules.line_end number text)
 
 -- the parts between the bytes that end records, with so many records before them: each but the last is a record
-abbrev pub regrouped_parts : Rules → (most : ℕ) → FormatData → FormatData → Stop → (count number : ℕ) → List (List ℕ) → Regrouped
+abbrev pub regrouped_parts : Rules → (most : ℕ) → NotationData → NotationData → Stop → (count number : ℕ) → List (List ℕ) → Regrouped
 regrouped_parts rules most from to stop count number [] = returning None
 regrouped_parts rules most from to stop count number (rest ∷ []) = regrouped_rest rules most from to stop count number rest
 regrouped_parts rules most from to stop count number (text ∷ next ∷ parts) =
-    sending_line (line_sent rules most from to count number (ended_by rules.line_end text) text) (regrouped_parts rules most from to stop (count + 1) (line_after rules number text) (next ∷ parts))
+    sending_line (line_sent rules most from to count number (ended_by rules.line_end text) text)
+    (regrouped_parts rules most from to stop (count + 1) (line_after rules number text) (next ∷ parts))
 
 -- the lines or records of a text, of which the first begins in the line of this number
 abbrev pub records_of : Rules → ℕ → List ℕ → List (List ℕ)
 records_of rules number bytes = split_at (quotes_in rules.span) rules.line_end (record_start number) bytes
 
 -- the bytes of an input, with so many records before them, from the line of this number on
-abbrev pub regrouped_after : Rules → (most : ℕ) → FormatData → FormatData → Stop → (count number : ℕ) → List ℕ → Regrouped
-regrouped_after rules most from to stop count number bytes = regrouped_parts rules most from to stop count number (records_of rules number bytes)
+abbrev pub regrouped_after : Rules → (most : ℕ) → NotationData → NotationData → Stop → (count number : ℕ) → List ℕ → Regrouped
+regrouped_after rules most from to stop count number bytes = regrouped_parts rules most from to stop count number
+    (records_of rules number bytes)
 
 -- an input that may have this many lines, or records: the bytes that a reader gave, and how it stopped
-abbrev pub regrouped : Rules → (most : ℕ) → FormatData → FormatData → Stop → List ℕ → Regrouped
+abbrev pub regrouped : Rules → (most : ℕ) → NotationData → NotationData → Stop → List ℕ → Regrouped
 regrouped rules most from to stop bytes = regrouped_after rules most from to stop 0 1 bytes

@@ -1,5 +1,6 @@
 -- Where the number is in a text, and which fields of a line have one. A place is from the first of two numbers on and before the second.
-use Rattle.std.specs.Prelude.{ℕ, ◌+◌, ◌-◌, max, min, if◌then◌else◌, nat_le, Bool, true, ◌&&◌, List, is_some, slice_range, Option, None, Some}
+use Rattle.std.specs.Prelude.{ℕ, ◌+◌, ◌-◌, max, min, if◌then◌else◌, nat_le, Bool, true, ◌&&◌, List, is_some, slice_range, Option, None}
+use Rattle.std.specs.Prelude.{Some}
 use Rattle.std.specs.Char.{is_ascii_whitespace}
 use Rattle.std.specs.List.{fold, list_all, list_any, prefix_len, suffix_len}
 use Rattle.std.specs.Option.{unwrap_or}

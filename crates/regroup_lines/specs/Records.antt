@@ -1,5 +1,6 @@
 -- Where lines, records of RFC 4180 and their fields end. A byte inside quotes ends none.
-use Rattle.std.specs.Prelude.{◌≡◌, ℕ, ◌+◌, ◌-◌, ◌^◌, ◌≤◌, ◌==◌, length, min, take, Bool, false, true, ◌&&◌, ◌||◌, not, if◌then◌else◌, List, [], ◌∷◌, Option, None, Some}
+use Rattle.std.specs.Prelude.{◌≡◌, ℕ, ◌+◌, ◌-◌, ◌^◌, ◌≤◌, ◌==◌, length, min, take, Bool, false, true, ◌&&◌, ◌||◌, not, if◌then◌else◌, List}
+use Rattle.std.specs.Prelude.{[], ◌∷◌, Option, None, Some}
 use Rattle.std.specs.List.{count_by, fold, onto_first}
 use Rattle.regroup_lines.specs.declared.records.Within.{Within}
 use Rattle.regroup_lines.specs.declared.records.Within.TheVariants.{Mark, Mark1, Mark2, Start, Bare, Quoted}
@@ -17,8 +18,8 @@ is_inside within = false
 abbrev pub after_bare : (delimiter : ℕ) → (other : Within) → ℕ → Within
 after_bare delimiter other b = if b == delimiter then Start else other
 
--- what follows a byte, by the delimiter of the fields that may be in quotes, if they may: a quote opens quotes as the first byte of a field and,
--- as the second of two, again after one that closes them; a field begins after a byte order mark too
+-- what follows a byte, by the delimiter of the fields that may be in quotes, if they may: a quote opens quotes as the first byte of a field
+-- and, as the second of two, again after one that closes them; a field begins after a byte order mark too
 abbrev pub after_byte : (quotes : Option ℕ) → Within → ℕ → Within
 after_byte None within b = within
 after_byte (Some delimiter) Mark b = if is_quote b then Quoted else after_bare delimiter (if b == 239 then Mark1 else Bare) b
@@ -40,7 +41,8 @@ after_text quotes within text = fold (after_byte quotes) within text
 abbrev pub split_at : (quotes : Option ℕ) → (end : ℕ) → Within → List ℕ → List (List ℕ)
 split_at quotes end within [] = [] ∷ []
 split_at quotes end within (b ∷ text) =
-    if (b == end) && not (is_inside within) then [] ∷ split_at quotes end Start text else onto_first b (split_at quotes end (after_byte quotes within b) text)
+    if (b == end) && not (is_inside within) then [] ∷ split_at quotes end Start text else onto_first b
+    (split_at quotes end (after_byte quotes within b) text)
 
 -- whether there is such a byte
 abbrev pub has_end : (quotes : Option ℕ) → (end : ℕ) → Within → List ℕ → Bool
@@ -70,7 +72,8 @@ abbrev pub lines_ended : (quotes : Option ℕ) → (line_end : ℕ) → List ℕ
 lines_ended None line_end text = 0
 lines_ended (Some delimiter) line_end text = count_by (λ b. b == line_end) text
 
--- the number of the line in which a part of a record ends, by that of the line in which it begins: the numbers stop at the highest of a `u64`
+-- the number of the line in which a part of a record ends, by that of the line in which it begins: the numbers stop at the highest of a
+-- `u64`
 abbrev pub line_reached : (quotes : Option ℕ) → (line_end : ℕ) → ℕ → List ℕ → ℕ
 line_reached quotes line_end number text = min (number + lines_ended quotes line_end text) (2 ^ 64 - 1)
 

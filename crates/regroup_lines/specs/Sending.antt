@@ -1,7 +1,8 @@
 -- What writers received of the lines and of the messages that name their faults.
-use Rattle.std.specs.Prelude.{◌≡◌, ◌≢◌, ℕ, ◌-◌, ◌^◌, ◌≤◌, Bool, true, false, if◌then◌else◌, List, [], ◌∷◌, ◌++◌, length, Option, None, Some, Result, Ok, Err, is_some}
+use Rattle.std.specs.Prelude.{◌≡◌, ◌≢◌, ℕ, ◌-◌, ◌^◌, ◌≤◌, Bool, true, false, if◌then◌else◌, List, [], ◌∷◌, ◌++◌, length, Option, None, Some}
+use Rattle.std.specs.Prelude.{Result, Ok, Err, is_some}
 use Rattle.std.specs.Io.KnownBytes.{Appends, Consumes, IsAtEnd}
-use Rattle.num_format.specs.Format.{FormatData}
+use Rattle.regroup_faults.specs.Notation.{NotationData}
 use Rattle.num_format.specs.Writing.{HasReceivedUpTo, StopsWithin}
 use Rattle.regroup_lines.specs.Ended.{ended_by}
 use Rattle.regroup_faults.specs.Fault.{Fault, are_any}
@@ -28,7 +29,7 @@ by_writer output messages rejects Messages = messages
 by_writer output messages rejects Rejects = rejects
 
 -- the text that is sent to each
-abbrev pub text_to : (name : List ℕ) → Reading → FormatData → Sent → Writer → List ℕ
+abbrev pub text_to : (name : List ℕ) → Reading → NotationData → Sent → Writer → List ℕ
 text_to name reading from sent Output = sent.written
 text_to name reading from sent Messages = messages name reading from sent.named
 text_to name reading from sent Rejects = sent.rejected
@@ -67,22 +68,31 @@ abbrev pub bytes_to : (rejects : Bool) → List ℕ → Writer → List ℕ
 bytes_to rejects bytes = by_writer (if rejects then [] else bytes) [] (if rejects then bytes else [])
 
 -- what each writer received of them, whatever that of messages has
-abbrev pub ReceivesBytes : (rejects : Bool) → (failed : Option Writer) → (old new : Option (List ℕ) → Writer → Option (List ℕ)) → List ℕ → Type 0
+abbrev pub ReceivesBytes : (rejects : Bool) → (failed : Option Writer) → (old new : Option (List ℕ) → Writer → Option (List ℕ)) → List ℕ
+    → Type 0
 ReceivesBytes rejects failed old new bytes = (told : Option (List ℕ)) → ReceivesEach failed (old told) (new told) (bytes_to rejects bytes)
 
 -- what a call that sends them does
-abbrev pub SendsBytes : {T : Type 0} → (rejects : Bool) → (old new : Option (List ℕ) → Writer → Option (List ℕ)) → List ℕ → Result T Fault → Type 0
+abbrev pub SendsBytes : {T : Type 0} → (rejects : Bool) → (old new : Option (List ℕ) → Writer → Option (List ℕ)) → List ℕ → Result T Fault
+    → Type 0
 SendsBytes rejects old new bytes (Ok sent) = ReceivesBytes rejects None old new bytes
-SendsBytes rejects old new bytes (Err fault) = (is_some (failed_writer fault) ≡ true) × ReceivesBytes rejects (failed_writer fault) old new bytes
+SendsBytes rejects old new bytes (Err fault) = (is_some (failed_writer fault) ≡ true)
+    × ReceivesBytes rejects (failed_writer fault) old new bytes
 
--- what a call that passes on a record that is too long does, of which these bytes were held at first: it sends the record up to the byte that ends it,
--- and these are left, or up to where the reader stopped; it returns whether the input ended, and the number of its line goes on to that of the next record
-pub data PassesLong (rules : Rules) (number_old number_new : ℕ) (begun left : List ℕ) (read_old read_new : Option (List ℕ)) (old new : Option (List ℕ) → Writer → Option (List ℕ)) (result : Result Bool Fault) : Type 0 where
-  to_end : (text : List ℕ) → Reads begun (text ++ rules.line_end ∷ left) read_old read_new → IsLong rules number_old text → is_open (quotes_in rules.span) number_old text ≡ false →
-      ReceivesBytes rules.rejects (failed_by result) old new (ended_by rules.line_end text) → (failed_by result ≡ None → (result ≡ Ok false) × (number_new ≡ line_after rules number_old text)) →
+-- what a call that passes on a record that is too long does, of which these bytes were held at first: it sends the record up to the byte
+-- that ends it, and these are left, or up to where the reader stopped; it returns whether the input ended, and the number of its line goes
+-- on to that of the next record
+pub data PassesLong (rules : Rules) (number_old number_new : ℕ) (begun left : List ℕ) (read_old read_new : Option (List ℕ))
+    (old new : Option (List ℕ) → Writer → Option (List ℕ)) (result : Result Bool Fault) : Type 0 where
+  to_end : (text : List ℕ) → Reads begun (text ++ rules.line_end ∷ left) read_old read_new → IsLong rules number_old text
+      → is_open (quotes_in rules.span) number_old text ≡ false →
+      ReceivesBytes rules.rejects (failed_by result) old new (ended_by rules.line_end text)
+      → (failed_by result ≡ None → (result ≡ Ok false) × (number_new ≡ line_after rules number_old text)) →
       PassesLong rules number_old number_new begun left read_old read_new old new result
-  to_stop : (stop : Stop) (text : List ℕ) → Reads begun text read_old read_new → IsLong rules number_old text → IsStop rules.flushes stop text read_new →
-      ReceivesBytes rules.rejects (failed_by result) old new (stop_text rules.line_end stop text) → (failed_by result ≡ None → stop_result stop ≡ Some result) →
+  to_stop : (stop : Stop) (text : List ℕ) → Reads begun text read_old read_new → IsLong rules number_old text
+      → IsStop rules.flushes stop text read_new →
+      ReceivesBytes rules.rejects (failed_by result) old new (stop_text rules.line_end stop text)
+      → (failed_by result ≡ None → stop_result stop ≡ Some result) →
       PassesLong rules number_old number_new begun left read_old read_new old new result
 
 -- what a call that sends a line does: a fault in place of the line is returned, and nothing is sent
@@ -92,10 +102,12 @@ SendsLine line_end (Ok text) old new (Err fault) = (fault ≡ Write) × StopsWit
 SendsLine line_end (Err fault) old new (Ok sent) = ⊥
 SendsLine line_end (Err fault) old new (Err returned) = (returned ≡ fault) × (new ≡ old)
 
--- what a call that sends a line to the writers does, with the messages that have this name, and whether it names a fault: a fault in place of
--- the line is returned, and nothing is sent
-abbrev pub SendsEach : (name : List ℕ) → Reading → FormatData → Result Sent Fault → (old new : Writer → Option (List ℕ)) → Result Bool Fault → Type 0
-SendsEach name reading from (Ok sent) old new (Ok any) = (any ≡ are_any sent.named) × ReceivesEach None old new (text_to name reading from sent)
+-- what a call that sends a line to the writers does, with the messages that have this name, and whether it names a fault: a fault in place
+-- of the line is returned, and nothing is sent
+abbrev pub SendsEach : (name : List ℕ) → Reading → NotationData → Result Sent Fault → (old new : Writer → Option (List ℕ)) → Result Bool Fault
+    → Type 0
+SendsEach name reading from (Ok sent) old new (Ok any) = (any ≡ are_any sent.named)
+    × ReceivesEach None old new (text_to name reading from sent)
 SendsEach name reading from (Ok sent) old new (Err fault) =
     (is_some (failed_writer fault) ≡ true) × ReceivesEach (failed_writer fault) old new (text_to name reading from sent)
 SendsEach name reading from (Err fault) old new (Ok any) = ⊥
@@ -113,7 +125,8 @@ Returns all (Err fault) = failed_writer fault ≡ None → all.returned ≡ Some
 
 -- what a call that regroups this many lines at most of an input of this name does: the result, and what the writers received, are those
 -- of the bytes that the reader gave, by how it stopped
-pub record RegroupsNaming (rules : Rules) (name : List ℕ) (most : ℕ) (from to : FormatData) (read_old read_new : Option (List ℕ)) (old new : Writer → Option (List ℕ)) (result : Result Summary Fault) : Type 0 where
+pub record RegroupsNaming (rules : Rules) (name : List ℕ) (most : ℕ) (from to : NotationData) (read_old read_new : Option (List ℕ))
+    (old new : Writer → Option (List ℕ)) (result : Result Summary Fault) : Type 0 where
   pub given : List ℕ
   pub stop : Stop
   pub consumed : Consumes read_old read_new given
@@ -123,9 +136,10 @@ pub record RegroupsNaming (rules : Rules) (name : List ℕ) (most : ℕ) (from t
   pub returned : Returns (regrouped rules most from to stop given) result
   pub received : ReceivesEach (failed_by result) old new (text_to name rules.reading from (regrouped rules most from to stop given).sent)
 
--- what a call that regroups this many lines at most and names no fault does: the result, and what the writer received, are those of the bytes that
--- the reader gave, by how it stopped; where the result is `Write`, the writer received a prefix, and not all
-pub record Regroups (rules : Rules) (most : ℕ) (from to : FormatData) (read_old read_new sent_old sent_new : Option (List ℕ)) (result : Result ℕ Fault) : Type 0 where
+-- what a call that regroups this many lines at most and names no fault does: the result, and what the writer received, are those of the
+-- bytes that the reader gave, by how it stopped; where the result is `Write`, the writer received a prefix, and not all
+pub record Regroups (rules : Rules) (most : ℕ) (from to : NotationData) (read_old read_new sent_old sent_new : Option (List ℕ))
+    (result : Result ℕ Fault) : Type 0 where
   pub given : List ℕ
   pub stop : Stop
   pub consumed : Consumes read_old read_new given

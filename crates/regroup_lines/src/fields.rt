@@ -1,11 +1,13 @@
 //! The fields of a line, or of a record of RFC 4180: those that are chosen have a number each, which may be in quotes.
-ghost use Rattle.std.specs.Prelude.{◌≡◌, ◌⊎◌, ◌≤◌, ◌+◌, ◌-◌, ◌&&◌, ◌++◌, IfOk, IfSome, None, Ok, Some, drop, length, slice_range, take, true, ⊤};
+ghost use Rattle.std.specs.Prelude.{◌≡◌, ◌⊎◌, ◌≤◌, ◌+◌, ◌-◌, ◌&&◌, ◌++◌, IfOk, IfSome, None, Ok, Some, drop, length};
+ghost use Rattle.std.specs.Prelude.{slice_range, take, true, ⊤};
 ghost use Rattle.std.specs.List.{list_any};
 ghost use Rattle.std.specs.Result.{result_map_both};
-ghost use Rattle.num_format.specs.Format.{FormatData};
+ghost use Rattle.regroup_faults.specs.Notation.{NotationData, number_text};
 ghost use Rattle.num_format.specs.Writing.{Sends};
 ghost use Rattle.regroup_faults.specs.Fault.Fault.{Write};
-ghost use Rattle.regroup_lines.specs.Csv.{before_field, is_barred, is_opened, is_quoted, needs_quotes, number_place, output_as, output_of, passed_as, quoted_len};
+ghost use Rattle.regroup_lines.specs.Csv.{before_field, is_barred, is_opened, is_quoted, needs_quotes, number_place};
+ghost use Rattle.regroup_lines.specs.Csv.{output_as, output_of, passed_as, quoted_len};
 ghost use Rattle.regroup_lines.specs.Ended.{ended_by};
 ghost use Rattle.regroup_lines.specs.Input.{IsEnded};
 ghost use Rattle.regroup_lines.specs.LineFaults.{line_fault_of};
@@ -22,6 +24,7 @@ use crate::sending::Part::{Doubled, Plain};
 use crate::sending::{Unsent, send_all, send_whole};
 use num_format::Format;
 use num_format_decimal::{Decimal, DecimalBuffer};
+use num_format_digits::DigitText;
 use std::io::Write;
 use std::ops::Range;
 use std::slice;
@@ -88,7 +91,8 @@ pub(crate) fn regroup_fields<'a, W: Write, F: Format, G: Format>(
     w: &mut W,
 ) -> Result<(), LineFault<'a>>
     requires { IsEnded job.now.rules.now.line_end line.now }
-    ensures { SendsLine job.now.rules.now.line_end (fields_replaced fields.now job.now.rules.now job.now.parser (G.answers job.now.to.now) line.now.number line.now.text.now)
+    ensures { SendsLine job.now.rules.now.line_end (fields_replaced fields.now job.now.rules.now job.now.parser
+        job.now.to.now line.now.number line.now.text.now)
         (W.contents w.old) (W.contents w.new) (result_map_both (λ sent. sent) line_fault_of result) }
 {
     let mut walk = Line {
@@ -108,7 +112,8 @@ pub(crate) fn regroup_fields<'a, W: Write, F: Format, G: Format>(
 impl<F: Format, G: Format> Line<'_, F, G> {
     ghost use Rattle.regroup_lines.specs.Fields.{IsFoundIn, IsOnly, SendsBut, SendsIf, field_as};
 
-    /// Reads the number in each chosen field of a line, and sends the line with these numbers regrouped, and the byte that ends it.
+    /// Reads the number in each chosen field of a line, and sends the line with these numbers regrouped, and the byte
+    /// that ends it.
     ///
     /// Bytes that are passed on are sent with those after them, once the next number is read.
     fn regroup<'t, W: Write>(
@@ -119,7 +124,9 @@ impl<F: Format, G: Format> Line<'_, F, G> {
     ) -> Result<(), LineFault<'t>>
         requires { ended.now ≡ ended_by self.now.job.now.rules.now.line_end text.now }
         ensures { SendsIf self.now.sends (self.now.sends ≡ true → IsOnly self.now.fields.now)
-            (result_map_both (ended_by self.now.job.now.rules.now.line_end) (λ fault. fault) (fields_replaced self.now.fields.now self.now.job.now.rules.now self.now.job.now.parser (G.answers self.now.job.now.to.now) self.now.number text.now))
+            (result_map_both (ended_by self.now.job.now.rules.now.line_end) (λ fault. fault)
+            (fields_replaced self.now.fields.now self.now.job.now.rules.now self.now.job.now.parser
+            self.now.job.now.to.now self.now.number text.now))
             (W.contents w.old) (W.contents w.new) (result_map_both (λ sent. sent) line_fault_of result) }
     {
         let fields = self.fields;
@@ -151,7 +158,8 @@ impl<F: Format, G: Format> Line<'_, F, G> {
         }
     }
 
-    /// Sends the rest of a line of so many fields, with the byte that ends it. Returns a fault if the fields are too few.
+    /// Sends the rest of a line of so many fields, with the byte that ends it. Returns a fault if the fields are too
+    /// few.
     #[inline(always)]
     fn end<W: Write>(&self, count: u64, rest: &[u8], w: &mut W) -> Result<(), LineFault<'static>>
         ensures { SendsIf self.now.sends ⊤ (line_ended self.now.fields.now self.now.number count rest.now)
@@ -166,8 +174,8 @@ impl<F: Format, G: Format> Line<'_, F, G> {
         send_whole(rest, w).or(Err(LineFault::Write))
     }
 
-    /// Reads the number in a field, if it is chosen, and sends what is passed on before the field, and the field with that number regrouped,
-    /// but for bytes at its end that are passed on. Returns where they begin.
+    /// Reads the number in a field, if it is chosen, and sends what is passed on before the field, and the field with
+    /// that number regrouped, but for bytes at its end that are passed on. Returns where they begin.
     fn regroup_field<'t, W: Write>(
         &self,
         field: &Field<'t>,
@@ -175,7 +183,10 @@ impl<F: Format, G: Format> Line<'_, F, G> {
     ) -> Result<usize, LineFault<'t>>
         ensures sent { SendsBut self.now.sends (λ from. slice_range field.now.line.now from field.now.end)
             (after (before_field self.now.fields.now (slice_range field.now.line.now field.now.sent field.now.start))
-            (field_written self.now.job.now.rules.now self.now.fields.now self.now.job.now.parser (G.answers self.now.job.now.to.now) self.now.number field.now.count (is_chosen self.now.fields.now.list.now field.now.count) (slice_range field.now.line.now field.now.start field.now.end)))
+            (field_written self.now.job.now.rules.now self.now.fields.now self.now.job.now.parser
+            self.now.job.now.to.now self.now.number field.now.count
+            (is_chosen self.now.fields.now.list.now field.now.count)
+            (slice_range field.now.line.now field.now.start field.now.end)))
             (W.contents w.old) (W.contents w.new) (result_map_both (λ from. from) line_fault_of result) }
         ensures within { IfOk result (λ from. from ≤ field.now.end) }
         ensures anew { IfOk result (λ from. (self.now.fields.now.output ≡ None) ⊎ (from ≡ field.now.end)) }
@@ -188,12 +199,16 @@ impl<F: Format, G: Format> Line<'_, F, G> {
         }
     }
 
-    /// Reads the number in a field, and returns it with its place, if the field is chosen and may not be empty. Where fields may be in quotes, no
-    /// number has a quote or a line end.
+    /// Reads the number in a field, and returns it with its place, if the field is chosen and may not be empty. Where
+    /// fields may be in quotes, no number has a quote or a line end.
     #[inline(always)]
     fn read<'t>(&self, field: &Field<'t>) -> Result<Option<Found>, LineFault<'t>>
-        ensures number { (to : FormatData) → result_map_both (field_as self.now.fields.now self.now.job.now.rules.now.line_end to (slice_range field.now.line.now field.now.start field.now.end)) line_fault_of result
-            ≡ field_written self.now.job.now.rules.now self.now.fields.now self.now.job.now.parser to self.now.number field.now.count (is_chosen self.now.fields.now.list.now field.now.count) (slice_range field.now.line.now field.now.start field.now.end) }
+        ensures number { (to : NotationData)
+            → result_map_both (field_as self.now.fields.now self.now.job.now.rules.now.line_end to
+            (slice_range field.now.line.now field.now.start field.now.end)) line_fault_of result
+            ≡ field_written self.now.job.now.rules.now self.now.fields.now self.now.job.now.parser to self.now.number
+            field.now.count (is_chosen self.now.fields.now.list.now field.now.count)
+            (slice_range field.now.line.now field.now.start field.now.end) }
         ensures place { IfOk result (λ found. IfSome found (IsFoundIn (field.now.end - field.now.start))) }
     {
         if !self.fields.contain(field.count) {
@@ -221,22 +236,72 @@ impl<F: Format, G: Format> Line<'_, F, G> {
         }
     }
 
-    /// Sends what is passed on before a field, and the field with the number that was found in it regrouped, but for the bytes after the number, if
-    /// they are passed on. Returns where they begin.
+    /// Sends what is passed on before a field, and the field with the number that was found in it regrouped, but for
+    /// the bytes after the number, if they are passed on. Returns where they begin.
     fn send<W: Write>(&self, field: &Field<'_>, found: &Found, w: &mut W) -> Result<usize, Unsent>
         requires { IsFoundIn (field.now.end - field.now.start) found.now }
         ensures sent { SendsBut true (λ from. slice_range field.now.line.now from field.now.end)
             (Ok (before_field self.now.fields.now (slice_range field.now.line.now field.now.sent field.now.start)
-            ++ field_as self.now.fields.now self.now.job.now.rules.now.line_end (G.answers self.now.job.now.to.now) (slice_range field.now.line.now field.now.start field.now.end) (Some found.now)))
+            ++ field_as self.now.fields.now self.now.job.now.rules.now.line_end self.now.job.now.to.now
+            (slice_range field.now.line.now field.now.start field.now.end) (Some found.now)))
+            (W.contents w.old) (W.contents w.new) (result_map_both (λ from. from) (λ unsent. Write) result) }
+        ensures within { IfOk result (λ from. from ≤ field.now.end) }
+        ensures anew { IfOk result (λ from. (self.now.fields.now.output ≡ None) ⊎ (from ≡ field.now.end)) }
+    {
+        let to = self.job.to;
+        if to.digits.is_latin() {
+            let mut number = DecimalBuffer::new();
+            number.write_formatted(&found.value, to.format);
+            return self.send_text(field, found, number.as_str(), w);
+        }
+        self.send_in_digits(field, found, w)
+    }
+
+    /// Does the same in other digits than `0` to `9`. It is a call, so that numbers in these are sent without its text.
+    #[cold]
+    #[inline(never)]
+    fn send_in_digits<W: Write>(
+        &self,
+        field: &Field<'_>,
+        found: &Found,
+        w: &mut W,
+    ) -> Result<usize, Unsent>
+        requires { IsFoundIn (field.now.end - field.now.start) found.now }
+        ensures sent { SendsBut true (λ from. slice_range field.now.line.now from field.now.end)
+            (Ok (before_field self.now.fields.now (slice_range field.now.line.now field.now.sent field.now.start)
+            ++ field_as self.now.fields.now self.now.job.now.rules.now.line_end self.now.job.now.to.now
+            (slice_range field.now.line.now field.now.start field.now.end) (Some found.now)))
+            (W.contents w.old) (W.contents w.new) (result_map_both (λ from. from) (λ unsent. Write) result) }
+        ensures within { IfOk result (λ from. from ≤ field.now.end) }
+        ensures anew { IfOk result (λ from. (self.now.fields.now.output ≡ None) ⊎ (from ≡ field.now.end)) }
+    {
+        let to = self.job.to;
+        let number = DigitText::of_decimal(&found.value, to.format, to.digits);
+        self.send_text(field, found, number.as_str(), w)
+    }
+
+    /// Does the same by the text of the number.
+    #[inline(always)]
+    fn send_text<W: Write>(
+        &self,
+        field: &Field<'_>,
+        found: &Found,
+        number: &str,
+        w: &mut W,
+    ) -> Result<usize, Unsent>
+        requires found { IsFoundIn (field.now.end - field.now.start) found.now }
+        requires text { number.now ≡ number_text self.now.job.now.to.now found.now.value }
+        ensures sent { SendsBut true (λ from. slice_range field.now.line.now from field.now.end)
+            (Ok (before_field self.now.fields.now (slice_range field.now.line.now field.now.sent field.now.start)
+            ++ field_as self.now.fields.now self.now.job.now.rules.now.line_end self.now.job.now.to.now
+            (slice_range field.now.line.now field.now.start field.now.end) (Some found.now)))
             (W.contents w.old) (W.contents w.new) (result_map_both (λ from. from) (λ unsent. Write) result) }
         ensures within { IfOk result (λ from. from ≤ field.now.end) }
         ensures anew { IfOk result (λ from. (self.now.fields.now.output ≡ None) ⊎ (from ≡ field.now.end)) }
     {
         let (line, line_end) = (field.line, self.job.rules.line_end);
         let is_quoted = found.is_quoted;
-        let mut number = DecimalBuffer::new();
-        number.write_formatted(&found.value, self.job.to);
-        let text = number.as_str().as_bytes();
+        let text = number.as_bytes();
         match self.output_of(is_quoted, text) {
             Some(output) => {
                 let passed = before_field(self.fields, &line[field.sent..field.start]);
@@ -260,7 +325,8 @@ impl<F: Format, G: Format> Line<'_, F, G> {
         }
     }
 
-    /// Sends what is passed on before a field, and the field, where all fields are written anew. Returns where the bytes begin that were not sent.
+    /// Sends what is passed on before a field, and the field, where all fields are written anew. Returns where the
+    /// bytes begin that were not sent.
     fn pass<W: Write>(&self, field: &Field<'_>, w: &mut W) -> Result<usize, Unsent>
         ensures sent { SendsBut self.now.sends (λ from. slice_range field.now.line.now from field.now.end)
             (Ok (before_field self.now.fields.now (slice_range field.now.line.now field.now.sent field.now.start)
@@ -288,8 +354,8 @@ impl<F: Format, G: Format> Line<'_, F, G> {
         send_output(output, line_end, passed, around, b"", w).and(Ok(field.end))
     }
 
-    /// Returns how a field with this text is written, if it is written anew: as the output says, or with the quotes that the text needs and the
-    /// field has not.
+    /// Returns how a field with this text is written, if it is written anew: as the output says, or with the quotes
+    /// that the text needs and the field has not.
     fn output_of(&self, is_quoted: bool, text: &[u8]) -> Option<Output>
         ensures { result ≡ output_of self.now.fields.now self.now.job.now.rules.now.line_end is_quoted text.now }
     {
@@ -308,7 +374,8 @@ impl<F: Format, G: Format> Line<'_, F, G> {
     }
 }
 
-/// Returns what is sent before a field that is written anew, in place of the bytes that are passed on: an output has its own delimiter.
+/// Returns what is sent before a field that is written anew, in place of the bytes that are passed on: an output has
+/// its own delimiter.
 fn before_field<'a>(fields: &'a Fields, passed: &'a [u8]) -> &'a [u8]
     ensures { result.now ≡ before_field fields.now passed.now }
 {
@@ -319,7 +386,7 @@ fn before_field<'a>(fields: &'a Fields, passed: &'a [u8]) -> &'a [u8]
 }
 
 /// Returns where the number is in a field, and whether quotes are around it.
-fn place_in(quotes: bool, field: &[u8]) -> (Range<usize>, bool)
+pub(crate) fn place_in(quotes: bool, field: &[u8]) -> (Range<usize>, bool)
     ensures place { place_of result.0 ≡ number_place quotes field.now }
     ensures quoted { result.1 ≡ (quotes && is_quoted field.now (trimmed field.now (0, length field.now))) }
     ensures inside { result.1 ≡ true → 1 ≤ result.0.start }
@@ -386,7 +453,8 @@ fn send_output<'a, W: Write>(
     send_all(&parts, w)
 }
 
-/// Returns the bytes before the quote that closes a field, of those after the one that opens it, and the bytes after it.
+/// Returns the bytes before the quote that closes a field, of those after the one that opens it, and the bytes after
+/// it.
 fn split_quoted(text: &[u8]) -> (&[u8], &[u8])
     ensures quoted { result.0.now ≡ take (quoted_len text.now) text.now }
     ensures bare { result.1.now ≡ drop (quoted_len text.now + 1) text.now }

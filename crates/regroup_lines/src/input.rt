@@ -1,5 +1,6 @@
 //! The input, piece by piece.
-ghost use Rattle.std.specs.Prelude.{◌≡◌, ◌+◌, ◌≤◌, ◌<◌, [], length, slice_range, take, drop, IfErr, IfOk, OnErr, IsNone};
+ghost use Rattle.std.specs.Prelude.{◌≡◌, ◌+◌, ◌≤◌, ◌<◌, [], length, slice_range, take, drop, IfErr, IfOk, OnErr};
+ghost use Rattle.std.specs.Prelude.{IsNone};
 ghost use Rattle.std.specs.Io.KnownBytes.{IsAtEnd, Keeps};
 ghost use Rattle.regroup_lines.specs.LineFaults.{IsHalt, line_fault_of};
 ghost use Rattle.regroup_lines.specs.Lines.{quotes_in};
@@ -38,7 +39,8 @@ impl<'a> Record<'a> {
     ghost use Rattle.regroup_lines.specs.Ended.{ended_once};
     ghost use Rattle.regroup_lines.specs.Input.{IsEnded};
 
-    /// Returns the text and the byte that ends it, unless it ends with that byte, or is empty and what is before it does.
+    /// Returns the text and the byte that ends it, unless it ends with that byte, or is empty and what is before it
+    /// does.
     pub(crate) fn ended_once(&self, line_end: u8, before: bool) -> &'a [u8]
         requires { IsEnded line_end self.now }
         ensures { result.now ≡ ended_once line_end before self.now.text.now }
@@ -65,7 +67,8 @@ pub(crate) struct Input<'a> {
 }
 
 impl<'a> Input<'a> {
-    ghost use Rattle.regroup_lines.specs.Input.{EndsOrGoesOn, FindsPiece, HasNoEnd, IsEndedAt, IsInArray, Reads, array_len, bytes_at, held};
+    ghost use Rattle.regroup_lines.specs.Input.{EndsOrGoesOn, FindsPiece, HasNoEnd, IsEndedAt, IsInArray, Reads};
+    ghost use Rattle.regroup_lines.specs.Input.{array_len, bytes_at, held};
     ghost use Rattle.regroup_lines.specs.Lines.{quotes_in};
 
     /// Returns an input of which nothing was read.
@@ -97,8 +100,8 @@ impl<'a> Input<'a> {
         }
     }
 
-    /// Returns the next piece, reading as much as it takes. Its first byte is `within` a record. The writer is flushed before
-    /// each read, if the rules say so.
+    /// Returns the next piece, reading as much as it takes. Its first byte is `within` a record. The writer is flushed
+    /// before each read, if the rules say so.
     ///
     /// # Errors
     ///
@@ -110,12 +113,14 @@ impl<'a> Input<'a> {
         reader: &mut R,
         writer: &mut W,
     ) -> Result<Piece, LineFault<'static>>
-        ensures piece { IfOk result (FindsPiece (quotes_in rules.now.span) rules.now.line_end within (held self.old) self.new
+        ensures piece { IfOk result (FindsPiece (quotes_in rules.now.span) rules.now.line_end within
+            (held self.old) self.new
             (R.remaining reader.old) (R.remaining reader.new)) }
         ensures place { IfOk result (IsInArray rules.now.line_end self.new) }
         ensures len { array_len self.new ≡ array_len self.old }
         ensures failed { OnErr result (Reads (held self.old) (held self.new)
-            (R.remaining reader.old) (R.remaining reader.new) × HasNoEnd (quotes_in rules.now.span) rules.now.line_end within (held self.new)
+            (R.remaining reader.old) (R.remaining reader.new) × HasNoEnd
+            (quotes_in rules.now.span) rules.now.line_end within (held self.new)
             × (length (held self.new) < array_len self.new)) }
         ensures halt { IfErr result (λ fault. IsHalt rules.now.flushes (line_fault_of fault)) }
         ensures flushed { Keeps (W.contents writer.old) (W.contents writer.new) }
@@ -138,6 +143,16 @@ impl<'a> Input<'a> {
                 return Ok(Piece::Rest(self.take_rest(rules.line_end)));
             }
         }
+    }
+
+    /// Returns the array, and the bytes that are held.
+    pub(crate) fn into_parts(self) -> (&'a [u8], &'a [u8])
+        ensures array { result.0.now ≡ self.entry.array.now }
+        ensures held { result.1.now ≡ held self.entry }
+    {
+        let (start, end) = (self.start, self.end);
+        let array = self.array;
+        (&array[..], &array[start..end])
     }
 
     /// Returns whether nothing is held and the reader ends. The writer is flushed before a read, if `flushes` says so.
@@ -219,7 +234,8 @@ impl<'a> Input<'a> {
             (R.remaining reader.old) (R.remaining reader.new) }
         ensures count { IfOk result (λ count. length (held self.new) ≡ length (held self.old) + count) }
         ensures end { IfOk result (λ count. count ≡ 0 → IsAtEnd (R.remaining reader.new)) }
-        ensures failed { OnErr result ((held self.new ≡ held self.old) × Keeps (R.remaining reader.old) (R.remaining reader.new)) }
+        ensures failed { OnErr result ((held self.new ≡ held self.old)
+            × Keeps (R.remaining reader.old) (R.remaining reader.new)) }
         ensures len { array_len self.new ≡ array_len self.old }
         ensures halt { IfErr result (λ fault. IsHalt flushes (line_fault_of fault)) }
         ensures flushed { Keeps (W.contents writer.old) (W.contents writer.new) }

@@ -2,6 +2,7 @@
 use crate::number::Parser;
 use crate::rules::Rules;
 use num_format::Format;
+use regroup_faults::Notation;
 
 /// What each line of an input is regrouped by.
 #[derive(Drop)]
@@ -12,6 +13,6 @@ pub(crate) struct Job<'a, F: Format, G: Format> {
     pub(crate) name: &'a str,
     /// What parses the numbers.
     pub(crate) parser: Parser<'a, F>,
-    /// The format that the numbers are printed under.
-    pub(crate) to: &'a G,
+    /// How the numbers are printed.
+    pub(crate) to: &'a Notation<'a, G>,
 }

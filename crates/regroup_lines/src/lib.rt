@@ -2,8 +2,8 @@
 //!
 //! Any file may be changed. `specs/Lines.antt` says what is written, and `regroup_stream` stands on it.
 //!
-//! [`regroup_lines`] parses each line of its input under one format, and prints the number under another. A line ends before a newline,
-//! the byte 10. Bytes after the last newline are a line, unless there are none.
+//! [`regroup_lines`] parses each line of its input under one format, and prints the number under another. A line ends
+//! before a newline, the byte 10. Bytes after the last newline are a line, unless there are none.
 //!
 //! ```rust
 //! let mut reader = "1,000000\n-5".as_bytes();
@@ -16,6 +16,7 @@
 #![tactic(auto)]
 
 mod fields;
+mod header;
 mod input;
 mod job;
 pub mod laws;
@@ -31,13 +32,18 @@ ghost use Rattle.regroup_lines.specs.Ended.{ended_by, ends_with};
 ghost use Rattle.regroup_faults.specs.Fault.{are_any, fault_of};
 ghost use Rattle.regroup_lines.specs.Input.{IsEnded, IsLong, array_len, held};
 ghost use Rattle.regroup_lines.specs.LineFaults.{line_fault_of};
-ghost use Rattle.regroup_lines.specs.Lines.{MARK, after, body_written, fault_named, fault_sent, header_written, lenient, line_after, long_fault, passes_mark, place_written, quotes_in, record_sent, text_sent, unmarked_written};
+ghost use Rattle.regroup_lines.specs.Lines.{MARK, after, body_written, fault_named, fault_sent, header_written};
+ghost use Rattle.regroup_lines.specs.Lines.{lenient, line_after, long_fault, passes_mark, place_written, quotes_in};
+ghost use Rattle.regroup_lines.specs.Lines.{record_sent, text_sent, unmarked_written};
 ghost use Rattle.regroup_lines.specs.Records.{after_text, line_reached};
 ghost use Rattle.regroup_faults.specs.Messages.{messages};
+ghost use Rattle.regroup_faults.specs.Notation.{latin};
 ghost use Rattle.regroup_lines.specs.Places.{place_of};
-ghost use Rattle.regroup_lines.specs.Sending.{Names, PassesLong, Regroups, RegroupsNaming, SendsBytes, SendsEach, SendsLine, by_writer};
+ghost use Rattle.regroup_lines.specs.Sending.{Names, PassesLong, Regroups, RegroupsNaming, SendsBytes, SendsEach};
+ghost use Rattle.regroup_lines.specs.Sending.{SendsLine, by_writer};
 
 use crate::fields::regroup_fields;
+pub use crate::header::{Header, NameFault, field_named, read_header};
 use crate::input::{Input, Piece, Record};
 use crate::job::Job;
 use crate::line_fault::LineFault;
@@ -45,14 +51,14 @@ use crate::number::Parser;
 use crate::records::{Within, ends_with, is_open, line_reached};
 use crate::rules::{MARK, trim};
 pub use crate::rules::{FieldRange, Fields, Invalid, Output, Quoting, Rules, Span};
-use crate::sending::{send_between, send_whole};
+use crate::sending::{send_number, send_whole};
 use num_format::Format;
 use num_format::to_formatted_string::write_whole;
-use num_format_decimal::DecimalBuffer;
 use regroup_faults::fault_message;
-pub use regroup_faults::{FieldCount, Reading, RegroupFault};
+pub use regroup_faults::{FieldCount, Notation, Reading, RegroupFault};
 use std::io;
 use std::io::{Read, Write};
+use std::ops::Range;
 
 /// The most bytes of a line of [`regroup_lines`], without its newline.
 pub const MAX_LINE_LEN: usize = 4096;
@@ -92,8 +98,9 @@ pub struct Summary {
 /// ```
 ///
 /// Of each line, all digits and a minus sign at its start are parsed. Each character that is not numeric is ignored, as
-/// [`parse_formatted`](num_format::parsing::ParseFormatted::parse_formatted) does. So a carriage return before the newline is ignored too,
-/// but counts as a byte of the line. A line and its newline are written together, by one write if that writes all of them.
+/// [`parse_formatted`](num_format::parsing::ParseFormatted::parse_formatted) does. So a carriage return before the
+/// newline is ignored too, but counts as a byte of the line. A line and its newline are written together, by one write
+/// if that writes all of them.
 ///
 /// # Errors
 ///
@@ -101,20 +108,21 @@ pub struct Summary {
 ///
 /// - [`TooMany`](RegroupFault::TooMany): a byte follows the 1,000,000th line.
 /// - [`TooLong`](RegroupFault::TooLong): the line has more than 4,096 bytes, without its newline.
-/// - [`Read`](RegroupFault::Read): a read failed before the end of the line, also one that was interrupted. What was read of it is no line.
+/// - [`Read`](RegroupFault::Read): a read failed before the end of the line, also one that was interrupted. What was
+///   read of it is no line.
 /// - [`NotText`](RegroupFault::NotText): the line is not UTF-8.
 /// - [`Line`](RegroupFault::Line): the line does not parse.
 /// - [`Write`](RegroupFault::Write): a write failed, also one that was interrupted, or wrote no bytes.
 ///
-/// On `Write` the writer received a prefix of the lines up to the one that was written, and not all of it; on any other fault, exactly the lines
-/// before. How far `r` was read beyond the fault is not stated.
+/// On `Write` the writer received a prefix of the lines up to the one that was written, and not all of it; on any other
+/// fault, exactly the lines before. How far `r` was read beyond the fault is not stated.
 pub fn regroup_lines<R: Read, W: Write, F: Format, G: Format>(
     r: &mut R,
     w: &mut W,
     from: &F,
     to: &G,
 ) -> Result<u64, RegroupFault>
-    ensures { Regroups lenient 1000000 (F.answers from.now) (G.answers to.now)
+    ensures { Regroups lenient 1000000 (latin (F.answers from.now)) (latin (G.answers to.now))
         (R.remaining r.old) (R.remaining r.new) (W.contents w.old) (W.contents w.new)
         (result_map_both (λ count. count) fault_of result) }
 {
@@ -128,14 +136,15 @@ pub fn regroup_lines<R: Read, W: Write, F: Format, G: Format>(
         w,
         &mut io::sink(),
         &mut io::sink(),
-        from,
-        to,
+        &Notation::latin(from),
+        &Notation::latin(to),
     )?;
     Ok(summary.lines)
 }
 
-/// Regroups the lines of `r`, at most this many, as the rules say. The messages that name faults are sent to `e`, and have the name of the input.
-/// Lines at fault are sent to `x` in place of `w` if the rules say so. The input is read into `buffer`, which has one byte more than a line.
+/// Regroups the lines of `r`, at most this many, as the rules say. The messages that name faults are sent to `e`, and
+/// have the name of the input. Lines at fault are sent to `x` in place of `w` if the rules say so. The input is read
+/// into `buffer`, which has one byte more than a line.
 ///
 /// ```rust
 /// let rules = Rules {
@@ -161,8 +170,8 @@ pub fn regroup_lines<R: Read, W: Write, F: Format, G: Format>(
 ///     &mut out,
 ///     &mut err,
 ///     &mut rejects,
-///     &Locale::en,
-///     &Locale::de,
+///     &Notation::latin(&Locale::en),
+///     &Notation::latin(&Locale::de),
 /// );
 /// summary                     // Ok(Summary { lines: 3, has_faults: true })
 /// str::from_utf8(&out)        // Ok("amount\n1.000\n")
@@ -171,13 +180,15 @@ pub fn regroup_lines<R: Read, W: Write, F: Format, G: Format>(
 ///
 /// # Errors
 ///
-/// Returns the first fault, of those of [`regroup_lines`], that is not passed on. [`TooMany`](RegroupFault::TooMany) is that a byte follows the last
-/// of these lines, [`Reject`](RegroupFault::Reject) that a write to `x` failed, and [`Report`](RegroupFault::Report) that a write to `e` failed. The
-/// line of that message is not sent. [`Unclosed`](RegroupFault::Unclosed) is that a record has quotes that are not closed where the input ends, or in
-/// as many bytes as a record may have. [`Flush`](RegroupFault::Flush) is that a flush of `w` before a read failed, if the rules ask for flushes: as
-/// on `Read`, the writers received exactly the lines before, and what was read of a long line that is passed on. `x` is not flushed. Where fields are
-/// chosen, [`FewFields`](RegroupFault::FewFields) is that a line has too few, and [`FieldNotText`](RegroupFault::FieldNotText) and
-/// [`Field`](RegroupFault::Field) are in place of `NotText` and `Line`.
+/// Returns the first fault, of those of [`regroup_lines`], that is not passed on. [`TooMany`](RegroupFault::TooMany) is
+/// that a byte follows the last of these lines, [`Reject`](RegroupFault::Reject) that a write to `x` failed, and
+/// [`Report`](RegroupFault::Report) that a write to `e` failed. The line of that message is not sent.
+/// [`Unclosed`](RegroupFault::Unclosed) is that a record has quotes that are not closed where the input ends, or in as
+/// many bytes as a record may have. [`Flush`](RegroupFault::Flush) is that a flush of `w` before a read failed, if the
+/// rules ask for flushes: as on `Read`, the writers received exactly the lines before, and what was read of a long line
+/// that is passed on. `x` is not flushed. Where fields are chosen, [`FewFields`](RegroupFault::FewFields) is that a
+/// line has too few, and [`FieldNotText`](RegroupFault::FieldNotText) and [`Field`](RegroupFault::Field) are in place
+/// of `NotText` and `Line`.
 pub fn regroup_at_most<R: Read, W: Write, E: Write, X: Write, F: Format, G: Format>(
     most: u64,
     rules: &Rules,
@@ -187,13 +198,14 @@ pub fn regroup_at_most<R: Read, W: Write, E: Write, X: Write, F: Format, G: Form
     w: &mut W,
     e: &mut E,
     x: &mut X,
-    from: &F,
-    to: &G,
+    from: &Notation<'_, F>,
+    to: &Notation<'_, G>,
 ) -> Result<Summary, RegroupFault>
     requires { length buffer.old ≡ rules.now.max_line_len + 1 }
-    ensures { RegroupsNaming rules.now name.now most (F.answers from.now) (G.answers to.now)
+    ensures { RegroupsNaming rules.now name.now most from.now to.now
         (R.remaining r.old) (R.remaining r.new)
-        (by_writer (W.contents w.old) (E.contents e.old) (X.contents x.old)) (by_writer (W.contents w.new) (E.contents e.new) (X.contents x.new))
+        (by_writer (W.contents w.old) (E.contents e.old) (X.contents x.old))
+        (by_writer (W.contents w.new) (E.contents e.new) (X.contents x.new))
         (result_map_both (λ summary. summary) fault_of result) }
 {
     let job = Job {
@@ -261,8 +273,8 @@ fn long_fault(rules: &Rules, number: u64, input: &Input<'_>) -> RegroupFault
     }
 }
 
-/// Sends what is written in place of the last bytes of an input, as [`regroup_line`] does. It is a fault that they end inside quotes: then
-/// the last of them may be the byte that ends a line.
+/// Sends what is written in place of the last bytes of an input, as [`regroup_line`] does. It is a fault that they end
+/// inside quotes: then the last of them may be the byte that ends a line.
 #[cold]
 #[inline(never)]
 fn regroup_last<'a, W: Write, E: Write, X: Write, F: Format, G: Format>(
@@ -273,8 +285,10 @@ fn regroup_last<'a, W: Write, E: Write, X: Write, F: Format, G: Format>(
     x: &mut X,
 ) -> Result<bool, LineFault<'a>>
     requires { IsEnded job.now.rules.now.line_end line.now }
-    ensures { SendsEach job.now.name.now job.now.rules.now.reading job.now.parser (record_sent job.now.rules.now job.now.parser (G.answers job.now.to.now) line.now.number line.now.text.now)
-        (by_writer (W.contents w.old) (E.contents e.old) (X.contents x.old)) (by_writer (W.contents w.new) (E.contents e.new) (X.contents x.new))
+    ensures { SendsEach job.now.name.now job.now.rules.now.reading job.now.parser
+        (record_sent job.now.rules.now job.now.parser job.now.to.now line.now.number line.now.text.now)
+        (by_writer (W.contents w.old) (E.contents e.old) (X.contents x.old))
+        (by_writer (W.contents w.new) (E.contents e.new) (X.contents x.new))
         (result_map_both (λ told. told) line_fault_of result) }
 {
     if is_open(job.rules, line.number, line.text) {
@@ -284,8 +298,8 @@ fn regroup_last<'a, W: Write, E: Write, X: Write, F: Format, G: Format>(
     regroup_line(job, line, w, e, x)
 }
 
-/// Sends what is written in place of the text of a line, and the byte that ends it, and before them the message that names
-/// its fault, if there is one. Returns whether there is.
+/// Sends what is written in place of the text of a line, and the byte that ends it, and before them the message that
+/// names its fault, if there is one. Returns whether there is.
 fn regroup_line<'a, W: Write, E: Write, X: Write, F: Format, G: Format>(
     job: &Job<F, G>,
     line: &Record<'a>,
@@ -294,8 +308,10 @@ fn regroup_line<'a, W: Write, E: Write, X: Write, F: Format, G: Format>(
     x: &mut X,
 ) -> Result<bool, LineFault<'a>>
     requires { IsEnded job.now.rules.now.line_end line.now }
-    ensures { SendsEach job.now.name.now job.now.rules.now.reading job.now.parser (text_sent job.now.rules.now job.now.parser (G.answers job.now.to.now) line.now.number line.now.text.now)
-        (by_writer (W.contents w.old) (E.contents e.old) (X.contents x.old)) (by_writer (W.contents w.new) (E.contents e.new) (X.contents x.new))
+    ensures { SendsEach job.now.name.now job.now.rules.now.reading job.now.parser
+        (text_sent job.now.rules.now job.now.parser job.now.to.now line.now.number line.now.text.now)
+        (by_writer (W.contents w.old) (E.contents e.old) (X.contents x.old))
+        (by_writer (W.contents w.new) (E.contents e.new) (X.contents x.new))
         (result_map_both (λ told. told) line_fault_of result) }
 {
     match regroup_body(job, line, w) {
@@ -307,8 +323,8 @@ fn regroup_line<'a, W: Write, E: Write, X: Write, F: Format, G: Format>(
     }
 }
 
-/// Sends a line at fault, with the byte that ends it, to the output or, if the rules say so, to the writer of rejected lines, and before it the
-/// message that names the fault. Returns whether there is a message.
+/// Sends a line at fault, with the byte that ends it, to the output or, if the rules say so, to the writer of rejected
+/// lines, and before it the message that names the fault. Returns whether there is a message.
 #[cold]
 #[inline(never)]
 fn pass_fault<'a, W: Write, E: Write, X: Write, F: Format, G: Format>(
@@ -319,8 +335,10 @@ fn pass_fault<'a, W: Write, E: Write, X: Write, F: Format, G: Format>(
     e: &mut E,
     x: &mut X,
 ) -> Result<bool, LineFault<'a>>
-    ensures { SendsEach job.now.name.now job.now.rules.now.reading job.now.parser (fault_sent job.now.rules.now (line_fault_of fault.entry) ended.now)
-        (by_writer (W.contents w.old) (E.contents e.old) (X.contents x.old)) (by_writer (W.contents w.new) (E.contents e.new) (X.contents x.new))
+    ensures { SendsEach job.now.name.now job.now.rules.now.reading job.now.parser
+        (fault_sent job.now.rules.now (line_fault_of fault.entry) ended.now)
+        (by_writer (W.contents w.old) (E.contents e.old) (X.contents x.old))
+        (by_writer (W.contents w.new) (E.contents e.new) (X.contents x.new))
         (result_map_both (λ told. told) line_fault_of result) }
 {
     if !job.rules.invalid.passes() {
@@ -337,23 +355,25 @@ fn name_fault<E: Write, F: Format, G: Format>(
     fault: &RegroupFault,
     e: &mut E,
 ) -> Result<bool, LineFault<'static>>
-    ensures { Names (messages job.now.name.now job.now.rules.now.reading job.now.parser (fault_named job.now.rules.now.invalid (fault_of fault.now)))
+    ensures { Names (messages job.now.name.now job.now.rules.now.reading job.now.parser
+        (fault_named job.now.rules.now.invalid (fault_of fault.now)))
         (are_any (fault_named job.now.rules.now.invalid (fault_of fault.now)))
         (E.contents e.old) (E.contents e.new) (result_map_both (λ told. told) line_fault_of result) }
 {
     match job.rules.invalid {
         Invalid::Abort | Invalid::Ignore => Ok(false),
         Invalid::Fail | Invalid::Warn => {
-            let parser = &job.parser;
-            let message = fault_message(job.name, job.rules.reading, fault, parser.format);
+            let from = job.parser.notation();
+            let message = fault_message(job.name, job.rules.reading, fault, &from);
             write_whole(message.as_str().as_bytes(), e).or(Err(LineFault::Report))?;
             Ok(true)
         }
     }
 }
 
-/// Sends a record that is too long, piece by piece: the bytes that are held, which it begins with, and those up to the byte that ends it or the end
-/// of the input, and that byte once. Returns whether the input ended. The number of its line goes on to that of the next record.
+/// Sends a record that is too long, piece by piece: the bytes that are held, which it begins with, and those up to the
+/// byte that ends it or the end of the input, and that byte once. Returns whether the input ended. The number of its
+/// line goes on to that of the next record.
 #[cold]
 fn send_long<R: Read, W: Write, X: Write>(
     rules: &Rules,
@@ -365,8 +385,10 @@ fn send_long<R: Read, W: Write, X: Write>(
 ) -> Result<bool, RegroupFault>
     requires long { IsLong rules.now number.old (held input.old) }
     requires len { array_len input.old ≡ rules.now.max_line_len + 1 }
-    ensures passes { PassesLong rules.now number.old number.new (held input.old) (held input.new) (R.remaining r.old) (R.remaining r.new)
-        (λ told. by_writer (W.contents w.old) told (X.contents x.old)) (λ told. by_writer (W.contents w.new) told (X.contents x.new))
+    ensures passes { PassesLong rules.now number.old number.new (held input.old) (held input.new) (R.remaining r.old)
+        (R.remaining r.new)
+        (λ told. by_writer (W.contents w.old) told (X.contents x.old))
+        (λ told. by_writer (W.contents w.new) told (X.contents x.new))
         (result_map_both (λ ended. ended) fault_of result) }
     ensures len { array_len input.new ≡ array_len input.old }
 {
@@ -397,8 +419,9 @@ fn send_long<R: Read, W: Write, X: Write>(
     Err(RegroupFault::TooMany)
 }
 
-/// Sends the bytes that are held, which are at fault. Where the next byte is `within` a record goes on to the byte after them, the number
-/// of the line to that in which they end, and whether the last byte is the one that ends lines to theirs.
+/// Sends the bytes that are held, which are at fault. Where the next byte is `within` a record goes on to the byte
+/// after them, the number of the line to that in which they end, and whether the last byte is the one that ends lines
+/// to theirs.
 fn send_held<W: Write, X: Write>(
     rules: &Rules,
     within: &mut Within,
@@ -408,12 +431,14 @@ fn send_held<W: Write, X: Write>(
     w: &mut W,
     x: &mut X,
 ) -> Result<(), LineFault<'static>>
-    ensures sent { SendsBytes rules.now.rejects (λ told. by_writer (W.contents w.old) told (X.contents x.old)) (λ told. by_writer (W.contents w.new) told (X.contents x.new))
+    ensures sent { SendsBytes rules.now.rejects (λ told. by_writer (W.contents w.old) told (X.contents x.old))
+        (λ told. by_writer (W.contents w.new) told (X.contents x.new))
         (held input.old) (result_map_both (λ sent. sent) line_fault_of result) }
     ensures none_left { held input.new ≡ [] }
     ensures len { array_len input.new ≡ array_len input.old }
     ensures within { within.new ≡ after_text (quotes_in rules.now.span) within.old (held input.old) }
-    ensures number { number.new ≡ line_reached (quotes_in rules.now.span) rules.now.line_end number.old (held input.old) }
+    ensures number { number.new ≡ line_reached (quotes_in rules.now.span) rules.now.line_end number.old
+        (held input.old) }
     ensures ended { is_ended.new ≡ ends_with rules.now.line_end is_ended.old (held input.old) }
 {
     let bytes = input.held();
@@ -432,7 +457,8 @@ fn pass_bytes<W: Write, X: Write>(
     w: &mut W,
     x: &mut X,
 ) -> Result<(), LineFault<'static>>
-    ensures { SendsBytes rules.now.rejects (λ told. by_writer (W.contents w.old) told (X.contents x.old)) (λ told. by_writer (W.contents w.new) told (X.contents x.new))
+    ensures { SendsBytes rules.now.rejects (λ told. by_writer (W.contents w.old) told (X.contents x.old))
+        (λ told. by_writer (W.contents w.new) told (X.contents x.new))
         bytes.now (result_map_both (λ sent. sent) line_fault_of result) }
 {
     if rules.rejects {
@@ -450,7 +476,8 @@ fn regroup_body<'a, W: Write, F: Format, G: Format>(
     w: &mut W,
 ) -> Result<(), LineFault<'a>>
     requires { IsEnded job.now.rules.now.line_end line.now }
-    ensures { SendsLine job.now.rules.now.line_end (body_written job.now.rules.now job.now.parser (G.answers job.now.to.now) line.now.number line.now.text.now)
+    ensures { SendsLine job.now.rules.now.line_end (body_written job.now.rules.now job.now.parser
+        job.now.to.now line.now.number line.now.text.now)
         (W.contents w.old) (W.contents w.new) (result_map_both (λ sent. sent) line_fault_of result) }
 {
     if !job.rules.span.passes_mark(line.number, line.text) {
@@ -464,7 +491,8 @@ fn regroup_body<'a, W: Write, F: Format, G: Format>(
     regroup_marked(job, &rest, w)
 }
 
-/// Sends a byte order mark, and then the same of the rest of its line. It is a cold call, so that other lines are regrouped without its space.
+/// Sends a byte order mark, and then the same of the rest of its line. It is a cold call, so that other lines are
+/// regrouped without its space.
 #[cold]
 #[inline(never)]
 fn regroup_marked<'a, W: Write, F: Format, G: Format>(
@@ -474,7 +502,7 @@ fn regroup_marked<'a, W: Write, F: Format, G: Format>(
 ) -> Result<(), LineFault<'a>>
     requires { IsEnded job.now.rules.now.line_end rest.now }
     ensures { SendsLine job.now.rules.now.line_end
-        (after MARK (unmarked_written job.now.rules.now job.now.parser (G.answers job.now.to.now)
+        (after MARK (unmarked_written job.now.rules.now job.now.parser job.now.to.now
         rest.now.number rest.now.text.now))
         (W.contents w.old) (W.contents w.new) (result_map_both (λ sent. sent) line_fault_of result) }
 {
@@ -520,7 +548,7 @@ fn regroup_numbers<'a, W: Write, F: Format, G: Format>(
 ) -> Result<(), LineFault<'a>>
     requires { IsEnded job.now.rules.now.line_end line.now }
     ensures { SendsLine job.now.rules.now.line_end
-        (unmarked_written job.now.rules.now job.now.parser (G.answers job.now.to.now)
+        (unmarked_written job.now.rules.now job.now.parser job.now.to.now
         line.now.number line.now.text.now)
         (W.contents w.old) (W.contents w.new) (result_map_both (λ sent. sent) line_fault_of result) }
 {
@@ -533,15 +561,33 @@ fn regroup_numbers<'a, W: Write, F: Format, G: Format>(
         Span::Line => 0..text.len(),
         Span::Fields(fields) => return regroup_fields(job, fields, line, w),
     };
+    regroup_place(job, line, place, w)
+}
+
+/// Sends a line with the number at this place regrouped, and the byte that ends it.
+#[inline(always)]
+fn regroup_place<'a, W: Write, F: Format, G: Format>(
+    job: &Job<F, G>,
+    line: &Record<'a>,
+    place: Range<usize>,
+    w: &mut W,
+) -> Result<(), LineFault<'a>>
+    requires ended { IsEnded job.now.rules.now.line_end line.now }
+    requires ordered { place.start ≤ place.end }
+    requires within { place.end ≤ length line.now.text.now }
+    ensures { SendsLine job.now.rules.now.line_end
+        (place_written job.now.rules.now job.now.parser job.now.to.now line.now.number line.now.text.now
+        (place_of place))
+        (W.contents w.old) (W.contents w.new) (result_map_both (λ sent. sent) line_fault_of result) }
+{
+    let (rules, text) = (job.rules, line.text);
     let (start, end) = (place.start, place.end);
     if rules.passes_empty && start == end {
         return send_whole(line.ended, w).or(Err(LineFault::Write));
     }
     let (parser, digits) = (&job.parser, &text[start..end]);
     let value = parser.read(rules.reading, digits, line.number)?;
-    let mut number = DecimalBuffer::new();
-    number.write_formatted(&value, job.to);
     let (before, after) = (&text[..start], &text[end..]);
-    let sent = send_between(before, number.as_str(), after, rules.line_end, w);
+    let sent = send_number(before, &value, job.to, after, rules.line_end, w);
     sent.or(Err(LineFault::Write))
 }

@@ -10,7 +10,8 @@ use num_format::{Error, ErrorKind};
 use regroup_faults::{FieldCount, RegroupFault};
 use std::str;
 
-/// Why a line was not read or not sent. It borrows the text, and so has a few bytes, where a [`RegroupFault`] keeps a copy.
+/// Why a line was not read or not sent. It borrows the text, and so has a few bytes, where a [`RegroupFault`] keeps a
+/// copy.
 #[derive(Clone, Copy)]
 pub(crate) enum LineFault<'a> {
     /// This text in the line of this number is not a number.
@@ -50,7 +51,8 @@ impl<'a> LineFault<'a> {
 impl<'a> From<LineFault<'a>> for RegroupFault {
     ghost from_gives = { λ line fault. fault_of fault ≡ line_fault_of line };
 
-    /// Returns the fault with a copy of the text. It is a cold call, so that lines without a fault are regrouped without the space of the copy.
+    /// Returns the fault with a copy of the text. It is a cold call, so that lines without a fault are regrouped
+    /// without the space of the copy.
     #[cold]
     #[inline(never)]
     #[tactic(auto, using(crate::proofs::LineFaultLemmas::text_fault_utf8, crate::proofs::LineFaultLemmas::text_fault_bytes))]

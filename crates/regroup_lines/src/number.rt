@@ -1,27 +1,31 @@
 //! Numbers as decimals.
-ghost use Rattle.std.specs.Prelude.{◌≡◌};
+ghost use Rattle.std.specs.Prelude.{◌≡◌, None, if◌then◌else◌};
 ghost use Rattle.std.specs.Result.{result_map_both};
-ghost use Rattle.num_format.specs.Format.{FormatData};
-ghost use Rattle.num_format_decimal.specs.Text.{decimal_text};
+ghost use Rattle.std.specs.Str.{is_utf8};
 ghost use Rattle.num_format_typed.specs.Typed.{TypedDecimalResult};
+ghost use Rattle.regroup_faults.specs.Notation.{NotationData, decimal_in, number_text};
 ghost use Rattle.regroup_lines.specs.LineFaults.{line_fault_of};
-ghost use Rattle.regroup_lines.specs.Lines.{number_written};
+ghost use Rattle.regroup_lines.specs.Lines.{number_written, read_by};
 
 use crate::line_fault::LineFault;
 use num_format::Format;
 use num_format::laws::format_data;
 use num_format::parsing::FromFormattedStr;
-use num_format_decimal::{Decimal, DecimalParser, ParseDecimalError};
+use num_format_decimal::{Decimal, DecimalParser, MAX_DECIMAL_LEN, ParseDecimalError};
+use num_format_digits::Digits;
 use num_format_typed::{TypedError, TypedParser};
-use regroup_faults::Reading;
+use regroup_faults::{Notation, Reading};
 use std::marker::Model;
+use std::str;
 
 /// A parser of the numbers of an input. It asks their format for its symbols once, but for lenient reading. A contract
-/// sees it as the data of the format.
+/// sees it as their notation.
 #[derive(Drop)]
 pub(crate) struct Parser<'a, F: Format> {
     /// The format.
-    pub(crate) format: &'a F,
+    format: &'a F,
+    /// The digit set.
+    digits: Digits,
     /// What parses decimals, unless the format is ambiguous.
     decimals: Option<DecimalParser<'a, F>>,
     /// What parses decimals as people type them, unless the format is ambiguous then.
@@ -30,13 +34,14 @@ pub(crate) struct Parser<'a, F: Format> {
 
 impl<'a, F: Format> Model for Parser<'a, F> {
     ghost use Rattle.std.specs.Prelude.{◌≡◌, MatchOption};
-    ghost use Rattle.num_format.specs.Format.{FormatData, HasUtf8Texts};
+    ghost use Rattle.num_format.specs.Format.{HasUtf8Texts};
     ghost use Rattle.num_format_decimal.specs.Marks.{MarksDecimals};
     ghost use Rattle.num_format_typed.specs.Typed.{IsTypable};
+    ghost use Rattle.regroup_faults.specs.Notation.{NotationData};
 
-    ghost Value = { FormatData };
+    ghost Value = { NotationData };
 
-    ghost view = { λ p. F.answers p.format.now };
+    ghost view = { λ p. record { format = F.answers p.format.now; digits = p.digits } };
 
     ghost invariant = { λ p. HasUtf8Texts (F.answers p.format.now)
         × MatchOption p.decimals (¬ (MarksDecimals (F.answers p.format.now)))
@@ -45,17 +50,29 @@ impl<'a, F: Format> Model for Parser<'a, F> {
 }
 
 impl<'a, F: Format> Parser<'a, F> {
-    /// Returns a parser of texts under the format.
-    pub(crate) fn new(format: &'a F) -> Parser<'a, F>
-        ensures { result ≡ F.answers format.now }
+    /// Returns a parser of texts in the notation.
+    pub(crate) fn new(from: &Notation<'a, F>) -> Parser<'a, F>
+        ensures { result ≡ from.now }
     {
+        let (format, digits) = (from.format, from.digits);
         format_data(format);
         let decimals = DecimalParser::new(format).ok();
         let typed = TypedParser::new(format).ok();
         Parser {
             format,
+            digits,
             decimals,
             typed,
+        }
+    }
+
+    /// Returns the notation of the numbers.
+    pub(crate) fn notation(&self) -> Notation<'a, F>
+        ensures { result ≡ self.now }
+    {
+        Notation {
+            format: self.format,
+            digits: self.digits,
         }
     }
 
@@ -67,24 +84,71 @@ impl<'a, F: Format> Parser<'a, F> {
         text: &'t [u8],
         number: u64,
     ) -> Result<Decimal, LineFault<'t>>
-        ensures { (to : FormatData) → number_written reading self.now to number text.now
-            ≡ result_map_both (decimal_text to) line_fault_of result }
+        ensures { (to : NotationData) → number_written reading self.now to number text.now
+            ≡ result_map_both (number_text to) line_fault_of result }
     {
-        let fault = LineFault::NotANumber(number, text);
+        match self.read_decimal(reading, text) {
+            Some(decimal) => Ok(decimal),
+            None => Err(LineFault::NotANumber(number, text)),
+        }
+    }
+
+    /// Returns the decimal that is read of a text.
+    #[inline(always)]
+    fn read_decimal(&self, reading: Reading, text: &[u8]) -> Option<Decimal>
+        ensures { result ≡ (if is_utf8 text.now then decimal_in (read_by reading) self.now text.now else None) }
+    {
+        if self.digits.is_latin() {
+            return self.read_ascii(reading, text);
+        }
+        self.read_in_digits(reading, text)
+    }
+
+    /// Does the same in other digits than `0` to `9`. It is a call, so that texts in these are read without its array.
+    #[cold]
+    #[inline(never)]
+    fn read_in_digits(&self, reading: Reading, text: &[u8]) -> Option<Decimal>
+        requires { ¬ (self.now.digits ≡ 48) }
+        ensures { result ≡ (if is_utf8 text.now then decimal_in (read_by reading) self.now text.now else None) }
+    {
+        match str::from_utf8(text) {
+            Ok(text) => self.read_text(reading, text),
+            Err(_) => None,
+        }
+    }
+
+    /// Does the same of a text that is UTF-8.
+    fn read_text(&self, reading: Reading, text: &str) -> Option<Decimal>
+        requires { ¬ (self.now.digits ≡ 48) }
+        ensures { result ≡ decimal_in (read_by reading) self.now text.now }
+    {
+        let mut array = [0; MAX_DECIMAL_LEN];
+        let digits = self.digits;
+        match digits.to_ascii::<ParseDecimalError>(text, &mut array) {
+            Ok(ascii) => self.read_ascii(reading, ascii),
+            Err(_) => None,
+        }
+    }
+
+    /// Returns the decimal that is read of a text with the digits `0` to `9`.
+    #[inline(always)]
+    fn read_ascii(&self, reading: Reading, text: &[u8]) -> Option<Decimal>
+        ensures { result ≡ (if is_utf8 text.now then read_by reading self.now.format text.now else None) }
+    {
         match (reading, &self.decimals) {
-            (Reading::Strict, Some(parser)) => parser.parse_bytes(text).or(Err(fault)),
-            (Reading::Strict, None) => Err(fault),
-            (Reading::Typed, _) => self.read_typed(text).or(Err(fault)),
+            (Reading::Strict, Some(parser)) => parser.parse_bytes(text).ok(),
+            (Reading::Strict, None) => None,
+            (Reading::Typed, _) => self.read_typed(text).ok(),
             (Reading::Lenient, _) => match i128::from_formatted_bytes(text, self.format) {
-                Ok(value) => Ok(Decimal::from(value)),
-                Err(_) => Err(fault),
+                Ok(value) => Some(Decimal::from(value)),
+                Err(_) => None,
             },
         }
     }
 
     /// Returns the decimal that a person means by a text.
     fn read_typed(&self, text: &[u8]) -> Result<Decimal, TypedError<ParseDecimalError>>
-        ensures { TypedDecimalResult self.now text.now result }
+        ensures { TypedDecimalResult self.now.format text.now result }
     {
         match &self.typed {
             Some(parser) => parser.parse_decimal_bytes(text),

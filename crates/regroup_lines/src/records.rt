@@ -2,7 +2,8 @@
 ghost use Rattle.std.specs.Prelude.{◌≡◌, ◌≤◌, ◌<◌, All, false, get_or, length};
 ghost use Rattle.regroup_lines.specs.Ended.{ends_with, len_without};
 ghost use Rattle.regroup_lines.specs.Lines.{quotes_in};
-ghost use Rattle.regroup_lines.specs.Records.{Searched, after_byte, after_text, is_inside, is_open, is_quote, line_reached, record_start};
+ghost use Rattle.regroup_lines.specs.Records.{Searched, after_byte, after_text, is_inside, is_open, is_quote};
+ghost use Rattle.regroup_lines.specs.Records.{line_reached, record_start};
 
 use crate::rules::{MARK, QUOTE, Rules};
 use memchr::{memchr, memchr2};
@@ -16,7 +17,8 @@ pub(crate) enum Within {
     Mark1,
     /// After the first two.
     Mark2,
-    /// Where a quote opens quotes: at the start of a field, or after a quote in quotes, which closes them unless it is one of two.
+    /// Where a quote opens quotes: at the start of a field, or after a quote in quotes, which closes them unless it is
+    /// one of two.
     Start,
     /// In a field, where a quote opens none.
     Bare,
@@ -46,7 +48,8 @@ impl Within {
             .fold(self, |within, byte| within.after_byte(quotes, *byte))
     }
 
-    /// Returns where the byte after a text without quotes is: in quotes no other byte matters, and outside them, behind a mark, the last one tells.
+    /// Returns where the byte after a text without quotes is: in quotes no other byte matters, and outside them, behind
+    /// a mark, the last one tells.
     #[inline]
     fn after_plain(self, quotes: Option<u8>, text: &[u8]) -> Within
         requires { All (λ b. is_quote b ≡ false) text.now }
@@ -91,8 +94,8 @@ impl Within {
     }
 }
 
-/// Searches a text, of which the first byte is `within` a record, for the first byte of this value that is not in quotes. Returns where it is,
-/// or how many bytes there are, and where that is in the record.
+/// Searches a text, of which the first byte is `within` a record, for the first byte of this value that is not in
+/// quotes. Returns where it is, or how many bytes there are, and where that is in the record.
 ///
 /// It goes from one quote or byte of this value to the next.
 #[inline(always)]

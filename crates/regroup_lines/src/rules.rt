@@ -2,7 +2,8 @@
 ghost use Rattle.std.specs.Prelude.{◌≡◌, ◌≤◌, length, true, None, IfSome};
 ghost use Rattle.regroup_lines.specs.Fields.{IsOnly};
 ghost use Rattle.regroup_lines.specs.Lines.{passes, passes_mark, quotes_in, quotes_of};
-ghost use Rattle.regroup_lines.specs.Places.{are_enough, field_count, is_at_most, is_chosen, least_of, next_of, place_of, trimmed, wanted_of};
+ghost use Rattle.regroup_lines.specs.Places.{are_enough, field_count, is_at_most, is_chosen, least_of, next_of};
+ghost use Rattle.regroup_lines.specs.Places.{place_of, trimmed, wanted_of};
 
 use regroup_faults::{FieldCount, Reading};
 use std::ops::Range;
@@ -13,7 +14,8 @@ pub(crate) const MARK: [u8; 3] = [0xEF, 0xBB, 0xBF];
 /// The byte around a field that has a delimiter, a newline or this byte.
 pub(crate) const QUOTE: u8 = b'"';
 
-/// What is done with a line at fault. It is sent as it is, but for [`Invalid::Abort`]: to the output, or to the writer of rejected lines.
+/// What is done with a line at fault. It is sent as it is, but for [`Invalid::Abort`]: to the output, or to the writer
+/// of rejected lines.
 #[derive(Clone, Copy, Debug, PartialEq, Eq)]
 pub enum Invalid {
     /// Its fault is returned, and no line after it is read.
@@ -28,8 +30,8 @@ pub enum Invalid {
 
 /// Fields that follow one another, by their numbers, which are counted from 1.
 ///
-/// The fields 3, 4 and 5 are `FieldRange { first: 3, last: Some(5) }`: a line has to have all of them. All fields from 2
-/// on are `FieldRange { first: 2, last: None }`: a line has to have field 2.
+/// The fields 3, 4 and 5 are `FieldRange { first: 3, last: Some(5) }`: a line has to have all of them. All fields from
+/// 2 on are `FieldRange { first: 2, last: None }`: a line has to have field 2.
 #[derive(Clone, Copy, Debug, PartialEq, Eq)]
 pub struct FieldRange {
     /// The number of the first field.
@@ -49,10 +51,11 @@ pub enum Quoting {
 
 /// How fields are written.
 ///
-/// A field needs quotes if it has the delimiter, a quote, a carriage return, a newline, or the byte that ends a line. In
-/// quotes, each of its quotes is doubled. The text of a field that begins with a quote is what is in quotes, with each doubled quote
-/// as one, and what follows the quote that closes it: that of `"12"3` is `123`. A carriage return at the end of a field that is not in
-/// quotes stays where it is, since it may end the line. Lines at fault that are passed on are as they were read.
+/// A field needs quotes if it has the delimiter, a quote, a carriage return, a newline, or the byte that ends a line.
+/// In quotes, each of its quotes is doubled. The text of a field that begins with a quote is what is in quotes, with
+/// each doubled quote as one, and what follows the quote that closes it: that of `"12"3` is `123`. A carriage return at
+/// the end of a field that is not in quotes stays where it is, since it may end the line. Lines at fault that are
+/// passed on are as they were read.
 ///
 /// ```rust
 /// let output = Output {
@@ -62,7 +65,8 @@ pub enum Quoting {
 /// output.quoting    // Necessary
 /// ```
 ///
-/// So `a,"1,000","b;c"` is written as `a;1.000;"b;c"`, where field 2 is from `en` to `de`, and `5" disk` as `"5"" disk"`.
+/// So `a,"1,000","b;c"` is written as `a;1.000;"b;c"`, where field 2 is from `en` to `de`, and `5" disk` as `"5""
+/// disk"`.
 #[derive(Clone, Copy, Debug, PartialEq, Eq)]
 pub struct Output {
     /// The byte between two fields.
@@ -71,15 +75,16 @@ pub struct Output {
     pub quoting: Quoting,
 }
 
-/// The fields of a line, or of a record of RFC 4180, that have a number: those that are in any of the ranges, in any order.
+/// The fields of a line, or of a record of RFC 4180, that have a number: those that are in any of the ranges, in any
+/// order.
 #[derive(Clone, Copy, Debug, PartialEq, Eq)]
 pub struct Fields<'a> {
     /// The ranges.
     pub list: &'a [FieldRange],
     /// The byte between two fields.
     pub delimiter: u8,
-    /// Whether fields may be in quotes, as RFC 4180 has them, and have delimiters, line ends and doubled quotes there. A quote that is
-    /// not the first byte of a field opens none.
+    /// Whether fields may be in quotes, as RFC 4180 has them, and have delimiters, line ends and doubled quotes there.
+    /// A quote that is not the first byte of a field opens none.
     pub quotes: bool,
     /// How all fields are written, or `None` if the bytes that are not those of a number are passed on as they are.
     pub output: Option<Output>,
@@ -159,7 +164,8 @@ impl FieldRange {
         self.last.is_none_or(|last| number <= last)
     }
 
-    /// Returns the number of the first field or this one, whichever is less, if the fields reach the one that is asked for: else this one.
+    /// Returns the number of the first field or this one, whichever is less, if the fields reach the one that is asked
+    /// for: else this one.
     fn least(&self, from: u64, next: Option<u64>) -> Option<u64>
         ensures { result ≡ least_of from next self.now }
     {
@@ -179,8 +185,8 @@ impl FieldRange {
 }
 
 impl Fields<'_> {
-    /// Returns a number such that no field from this one on and before that one is written in another way than it was read, or `None` if none
-    /// from this one on is.
+    /// Returns a number such that no field from this one on and before that one is written in another way than it was
+    /// read, or `None` if none from this one on is.
     pub(crate) fn next(&self, from: u64) -> Option<u64>
         ensures { result ≡ next_of self.now.output self.now.list.now from }
     {

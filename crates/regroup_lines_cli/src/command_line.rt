@@ -8,12 +8,13 @@ const VERSION: &str = "0.1.0";
 
 /// What `--help` says after the options.
 const AFTER_HELP: &str = "\
-FROM and TO are each plain, as in -1234.5, a locale, as en-US, de_DE.UTF-8 or C, custom:SEP:GROUPING:MINUS or
-custom:SEP:GROUPING:MINUS:MARK: the format of en with these fields, or @FILE: that of a JSON object with the texts dec,
-grp, inf, min, nan, plus and sep. GROUPING, or grp, is Standard, Indian, Posix, Myriad or Sparse.
+FROM and TO are each plain, as in -1234.5, a locale, as en-US, de_DE.UTF-8 or C, or with its digits ar-EG-u-nu-arab,
+custom:SEP:GROUPING:MINUS or custom:SEP:GROUPING:MINUS:MARK: the format of en with these fields, or @FILE: that of a
+JSON object with the texts dec, grp, inf, min, nan, plus and sep. GROUPING, or grp, is Standard, Indian, Posix, Myriad
+or Sparse.
 
-LIST has parts N, N-M, N- or -M, with commas between them, as 1,3-5: fields are counted from 1. A line needs each
-field that LIST names, and of N- the field N.
+LIST has parts N, N-M, N- or -M, with commas between them, as 1,3-5: fields are counted from 1. With --header other
+parts are names of it, as in 1,amount. A line needs each field that LIST names, and of N- the field N.
 
 The manual page regroup-lines(1) says which lines are at fault, what is passed on, and what each status means.";
 

@@ -21,9 +21,7 @@ use crate::output::Output;
 use crate::words::Word;
 use clap::ArgMatches;
 use clap::error::ErrorKind;
-use regroup_stream::{
-    FAILED, FieldRange, REGROUPED, Rules, formats_for, refuse_arguments, run_all,
-};
+use regroup_stream::{FAILED, FieldList, REGROUPED, Rules, formats_for, refuse_arguments, run_all};
 use std::io::BufWriter;
 use std::process::ExitCode;
 use std::{env, io};
@@ -76,10 +74,10 @@ fn try_main(rt: &HostRuntime) -> io::Result<u8> {
 fn regroup_fields(
     rt: &HostRuntime,
     matches: &ArgMatches<'_>,
-    list: &[FieldRange],
+    list: &FieldList<'_>,
 ) -> io::Result<u8> {
     match options_of(matches, list).rules() {
-        Ok(rules) => regroup_files(rt, matches, &rules),
+        Ok(rules) => regroup_files(rt, matches, &rules, &list.names),
         Err(fault) => Ok(refuse(rt, fault.cause())),
     }
 }
@@ -89,12 +87,18 @@ fn refuse(rt: &HostRuntime, cause: &str) -> u8 {
     refuse_arguments(rt.alloc(), cause, &mut rt.stderr())
 }
 
-/// Regroups the lines of the files, and returns the status. The buffer of the input has one byte more than a line may have.
+/// Regroups the lines of the files, and returns the status. The buffer of the input has one byte more than a line may
+/// have.
 ///
 /// # Errors
 ///
 /// Returns an error if there is no memory for the buffers.
-fn regroup_files(rt: &HostRuntime, matches: &ArgMatches<'_>, rules: &Rules) -> io::Result<u8> {
+fn regroup_files(
+    rt: &HostRuntime,
+    matches: &ArgMatches<'_>,
+    rules: &Rules,
+    field_names: &[&str],
+) -> io::Result<u8> {
     let words = words_of(matches);
     let (from, to) = (Word::read(rt, words[0]), Word::read(rt, words[1]));
     let (reading, span) = (rules.reading, &rules.span);
@@ -112,7 +116,9 @@ fn regroup_files(rt: &HostRuntime, matches: &ArgMatches<'_>, rules: &Rules) -> i
     let mut rejects = BufWriter::with_capacity(rt.alloc(), capacity, Output::new(rejects))?;
     let mut out = BufWriter::with_capacity(rt.alloc(), capacity, Output::new(rt.stdout()))?;
     Ok(run_all(
+        rt.alloc(),
         rules,
+        field_names,
         &formats,
         names,
         &mut buffer,

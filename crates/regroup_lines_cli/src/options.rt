@@ -1,7 +1,7 @@
 //! What the options and words of the command line ask for.
 
 use clap::ArgMatches;
-use regroup_stream::{FieldRange, Invalid, Options, Quoting, Reading, field_list};
+use regroup_stream::{FieldList, Invalid, Options, Quoting, Reading, field_list};
 use std::alloc::{AllocError, Global};
 
 /// Returns the fields that are chosen: none without `--field`. Returns `None` if its value is no list.
@@ -9,20 +9,23 @@ use std::alloc::{AllocError, Global};
 /// # Errors
 ///
 /// Returns an error if there is no memory for them.
-pub(crate) fn list_of(
+pub(crate) fn list_of<'a>(
     alloc: Global,
-    matches: &ArgMatches<'_>,
-) -> Result<Option<Vec<FieldRange>>, AllocError> {
+    matches: &ArgMatches<'a>,
+) -> Result<Option<FieldList<'a>>, AllocError> {
     match matches.get_str("field") {
         Some(text) => field_list(alloc, text),
-        None => Ok(Some(Vec::new(alloc))),
+        None => Ok(Some(FieldList {
+            ranges: Vec::new(alloc),
+            names: Vec::new(alloc),
+        })),
     }
 }
 
 /// Returns what the options say of lines, where these fields are chosen.
 pub(crate) fn options_of<'a, 'w>(
     matches: &ArgMatches<'w>,
-    list: &'a [FieldRange],
+    list: &'a FieldList<'_>,
 ) -> Options<'a, 'w> {
     let reading = match (matches.get_flag("lenient"), matches.get_flag("typed")) {
         (true, _) => Reading::Lenient,
@@ -39,7 +42,8 @@ pub(crate) fn options_of<'a, 'w>(
         _ => Quoting::Keep,
     };
     Options {
-        list,
+        list: &list.ranges,
+        has_names: !list.names.is_empty(),
         delimiter: matches.get_str("delimiter"),
         csv: matches.get_flag("csv"),
         output_delimiter: matches.get_str("output-delimiter"),

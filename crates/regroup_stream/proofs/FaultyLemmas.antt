@@ -2,7 +2,7 @@
 use Rattle.std.proofs.Common.{◌≡◌, Bool, true, false, List, ℕ, Err, refl}
 use Rattle.std.specs.Prelude.{Option}
 use Rattle.std.specs.declared.io.ErrorKind.{ErrorKind}
-use Rattle.num_format.specs.Format.{FormatData}
+use Rattle.regroup_faults.specs.Notation.{NotationData}
 use Rattle.regroup_faults.specs.Fault.{fault_of}
 use Rattle.regroup_faults.specs.Messages.{fault_message}
 use Rattle.regroup_faults.specs.declared.fault.RegroupFault.{RegroupFault}
@@ -22,7 +22,7 @@ is_of_line (fault.Field number field error) = true
 is_of_line (fault.Unclosed number) = true
 is_of_line fault = false
 
-module _ (rules : Rules) (name : List ℕ) (from : FormatData) (failure : Option ErrorKind) where
+module _ (rules : Rules) (name : List ℕ) (from : NotationData) (failure : Option ErrorKind) where
   pub faulty : (fault : RegroupFault) → is_of_line fault ≡ true →
       Faulty (fault_message name rules.reading from (fault_of fault)) ≡ end_of_result rules name from (Err (fault_of fault)) failure
   faulty (fault.TooLong number max_line_len) is = refl

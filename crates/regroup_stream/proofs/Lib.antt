@@ -1,5 +1,6 @@
 pub mod FaultyLemmas
 pub mod InputLemmas
 pub mod ListLemmas
+pub mod NameLemmas
 pub mod SplitLemmas
 pub mod StreamLemmas

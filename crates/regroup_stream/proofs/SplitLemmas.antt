@@ -1,5 +1,6 @@
 -- Where a text is split at its last colon.
-use Rattle.std.proofs.Common.{◌≡◌, ℕ, ◌<◌, Bool, true, false, List, [], ◌∷◌, ◌++◌, None, Some, arith, length, take, drop, get_or, refl, sym, ap, ◌∙◌}
+use Rattle.std.proofs.Common.{◌≡◌, ℕ, ◌<◌, Bool, true, false, List, [], ◌∷◌, ◌++◌, None, Some, arith, length, take, drop, get_or, refl, sym}
+use Rattle.std.proofs.Common.{ap, ◌∙◌}
 use Rattle.std.specs.Prelude.{◌≢◌, Option, suc, ◌==◌}
 use Rattle.std.specs.Borrow.{Bor}
 use Rattle.std.specs.Option.{option_map, MatchOption}
@@ -24,7 +25,8 @@ split_last-none (b ∷ bytes) without =
     ∙ split_before-none (b == 58) b bytes refl (false_from_ne_true _ (λ is. without 0 (omega arith) ((Decides-eqb b 58).0 is)))
 
 -- a text with no colon after this one is split here
-split_last-at : (front back : List ℕ) → ((i : ℕ) → i < length back → get_or back i 0 ≢ 58) → split_last (front ++ 58 ∷ back) ≡ Some (front, back)
+split_last-at : (front back : List ℕ) → ((i : ℕ) → i < length back → get_or back i 0 ≢ 58)
+    → split_last (front ++ 58 ∷ back) ≡ Some (front, back)
 unfolding split_last
 split_last-at [] back without = ap (split_before 58 back) (split_last-none back without)
 split_last-at (b ∷ front) back without = ap (split_before b (front ++ 58 ∷ back)) (split_last-at front back without)
@@ -37,7 +39,8 @@ colon_ascii = omega arith
 pub split_last_from_rsplit_once : (text : List ℕ) (r : Option (Bor (List ℕ) × Bor (List ℕ))) →
     MatchOption r (RFindsChar 58 text None) (λ x. SplitsAroundMatch (RFindsChar 58) text x.0.now x.1.now) →
     option_map (λ parts. (parts.0.now, parts.1.now)) r ≡ split_last text
-split_last_from_rsplit_once text None none = sym (split_last-none text (λ i within is. NoCharPasses-char 58 text i none colon_ascii within is))
+split_last_from_rsplit_once text None none =
+    sym (split_last-none text (λ i within is. NoCharPasses-char 58 text i none colon_ascii within is))
 split_last_from_rsplit_once text (Some x) splits =
     let at : drop splits.0 text ≡ 58 ∷ drop splits.1 text = drop_at_char 58 text splits.0 splits.1 splits.2.1 colon_ascii in
     let without : (i : ℕ) → i < length (drop splits.1 text) → get_or (drop splits.1 text) i 0 ≢ 58 =

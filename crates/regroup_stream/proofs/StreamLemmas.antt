@@ -4,7 +4,7 @@ use Rattle.std.specs.Prelude.{Option}
 use Rattle.std.specs.Io.KnownBytes.{Keeps}
 use Rattle.std.specs.declared.io.ErrorKind.{ErrorKind}
 use Rattle.std.proofs.KnownBytes.{Appends-kept}
-use Rattle.num_format.specs.Format.{FormatData}
+use Rattle.regroup_faults.specs.Notation.{NotationData}
 use Rattle.num_format.specs.Writing.{HasReceivedUpTo}
 use Rattle.regroup_faults.specs.Fault.{Fault}
 use Rattle.regroup_lines.specs.Lines.{regrouped}
@@ -22,9 +22,21 @@ module _ (a b c : Option (List ℕ)) (text : List ℕ) (kept : Keeps b c) where
 
   Receives-kept : (failed : Option Writer) (writer : Writer) → Receives failed writer a b text → Receives failed writer a c text
   Receives-kept None writer all = Appends-kept a b c _ all kept
-  Receives-kept (Some Output) Output part = record { rest = part.rest; unfinished = part.unfinished; received = HasReceivedUpTo-kept part.rest part.received }
-  Receives-kept (Some Messages) Messages part = record { rest = part.rest; unfinished = part.unfinished; received = HasReceivedUpTo-kept part.rest part.received }
-  Receives-kept (Some Rejects) Rejects part = record { rest = part.rest; unfinished = part.unfinished; received = HasReceivedUpTo-kept part.rest part.received }
+  Receives-kept (Some Output) Output part = record {
+    rest = part.rest;
+    unfinished = part.unfinished;
+    received = HasReceivedUpTo-kept part.rest part.received;
+  }
+  Receives-kept (Some Messages) Messages part = record {
+    rest = part.rest;
+    unfinished = part.unfinished;
+    received = HasReceivedUpTo-kept part.rest part.received;
+  }
+  Receives-kept (Some Rejects) Rejects part = record {
+    rest = part.rest;
+    unfinished = part.unfinished;
+    received = HasReceivedUpTo-kept part.rest part.received;
+  }
   Receives-kept (Some Output) Messages part = record { rest = part.rest; received = HasReceivedUpTo-kept part.rest part.received }
   Receives-kept (Some Output) Rejects part = record { rest = part.rest; received = HasReceivedUpTo-kept part.rest part.received }
   Receives-kept (Some Messages) Output part = record { rest = part.rest; received = HasReceivedUpTo-kept part.rest part.received }
@@ -32,8 +44,10 @@ module _ (a b c : Option (List ℕ)) (text : List ℕ) (kept : Keeps b c) where
   Receives-kept (Some Rejects) Output part = record { rest = part.rest; received = HasReceivedUpTo-kept part.rest part.received }
   Receives-kept (Some Rejects) Messages part = record { rest = part.rest; received = HasReceivedUpTo-kept part.rest part.received }
 
-module _ (rules : Rules) (name : List ℕ) (from to : FormatData) (q r s out out_new err rejects rejects_new : Option (List ℕ)) (old : Writer → Option (List ℕ)) (result : Result Summary Fault) (same : q ≡ r)
-    (lines : RegroupsNaming rules name most_lines from to q s old (by_writer out err rejects) result) (kept : Keeps out out_new) (rejects_kept : Keeps rejects rejects_new) where
+module _ (rules : Rules) (name : List ℕ) (from to : NotationData) (q r s out out_new err rejects rejects_new : Option (List ℕ)) (old : Writer
+    → Option (List ℕ)) (result : Result Summary Fault) (same : q ≡ r)
+    (lines : RegroupsNaming rules name most_lines from to q s old (by_writer out err rejects) result) (kept : Keeps out out_new)
+    (rejects_kept : Keeps rejects rejects_new) where
   received : (writer : Writer) → Receives (failed_by result) writer (old writer) (by_writer out_new err rejects_new writer)
       (text_to name rules.reading from (regrouped rules most_lines from to lines.stop lines.given).sent writer)
   received Output = Receives-kept (old Output) out out_new _ kept (failed_by result) Output (lines.received Output)

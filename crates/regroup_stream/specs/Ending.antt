@@ -2,7 +2,10 @@
 use Rattle.std.specs.Prelude.{◌≡◌, ◌⊎◌, ℕ, Bool, true, false, List, [], ◌++◌, codes, Option, None, Some}
 use Rattle.std.specs.Io.KnownBytes.{Appends}
 use Rattle.std.specs.declared.io.ErrorKind.{ErrorKind}
-use Rattle.std.specs.declared.io.ErrorKind.TheVariants.{BrokenPipe, ConnectionReset, FileTooLarge, FilesystemLoop, Interrupted, InvalidFilename, InvalidInput, IsADirectory, NotADirectory, NotFound, OutOfMemory, PermissionDenied, QuotaExceeded, ReadOnlyFilesystem, StorageFull, TimedOut, WouldBlock, WriteZero}
+use Rattle.std.specs.declared.io.ErrorKind.TheVariants.{BrokenPipe, ConnectionReset, FileTooLarge, FilesystemLoop, Interrupted}
+use Rattle.std.specs.declared.io.ErrorKind.TheVariants.{InvalidFilename, InvalidInput, IsADirectory, NotADirectory, NotFound, OutOfMemory}
+use Rattle.std.specs.declared.io.ErrorKind.TheVariants.{PermissionDenied, QuotaExceeded, ReadOnlyFilesystem, StorageFull, TimedOut}
+use Rattle.std.specs.declared.io.ErrorKind.TheVariants.{WouldBlock, WriteZero}
 use Rattle.num_format.specs.Writing.{StopsWithin}
 use Rattle.regroup_lines.specs.Ended.{line}
 use Rattle.regroup_faults.specs.Messages.{shown_name}

@@ -14,8 +14,8 @@ use Rattle.regroup_stream.specs.Ending.{failure_message}
 use Rattle.regroup_stream.specs.declared.files.FileFault.{FileFault}
 use Rattle.regroup_stream.specs.declared.files.FileFault.TheVariants as fault
 
--- why a file holds no format: it cannot be read, is no JSON text, or holds another value; or why it is not that of rejected lines: it cannot be
--- created, or is an input or the output
+-- why a file holds no format: it cannot be read, is no JSON text, or holds another value; or why it is not that of rejected lines: it
+-- cannot be created, or is an input or the output
 pub data Unfit : Type 0 where
   Unread : ErrorKind → Unfit
   NotJson : Unfit
@@ -48,7 +48,8 @@ with_text_at key text value = if is_some (get key value) then value else with_te
 -- a value with the texts of en's format that no decimal needs, where it lacks them
 abbrev pub completed : Data → Data
 completed value =
-    with_text_at (codes "plus") english.plus_sign (with_text_at (codes "nan") english.nan (with_text_at (codes "inf") english.infinity value))
+    with_text_at (codes "plus") english.plus_sign (with_text_at (codes "nan") english.nan
+    (with_text_at (codes "inf") english.infinity value))
 
 -- the format that the bytes hold, or why they hold none: there may be no memory to read them
 abbrev pub HoldsFormat : List ℕ → Result FormatData Unfit → Type 0

@@ -1,14 +1,13 @@
 -- What the program does with several inputs, one after the other.
 use Rattle.std.specs.Prelude.{◌≡◌, ℕ, ◌==◌, ◌||◌, max, Bool, true, List, [], ◌∷◌, ◌++◌, Option, Result, Ok, Err}
-use Rattle.std.specs.declared.io.ErrorKind.{ErrorKind}
-use Rattle.num_format.specs.Format.{FormatData}
+use Rattle.regroup_faults.specs.Notation.{NotationData}
 use Rattle.regroup_lines.specs.declared.rules.Invalid.{Invalid}
 use Rattle.regroup_lines.specs.declared.rules.Invalid.TheVariants.{Abort, Fail, Warn, Ignore}
 use Rattle.regroup_lines.specs.declared.rules.Rules.{Rules}
 use Rattle.regroup_lines.specs.Sending.{Writer, by_writer}
 use Rattle.regroup_stream.specs.Ending.{End, Finishes}
 use Rattle.regroup_stream.specs.Ending.End.{IsOutput, Unopened}
-use Rattle.regroup_stream.specs.Stream.{Runs}
+use Rattle.regroup_stream.specs.Names.{RunsNamed}
 use Rattle.regroup_stream.specs.declared.inputs.Unread.{Unread}
 use Rattle.regroup_stream.specs.declared.inputs.Unread.TheVariants as opening
 use Rattle.regroup_stream.specs.declared.inputs.Unread.TheVariants.{CannotOpen}
@@ -29,32 +28,32 @@ end_of_unread opening.IsOutput = IsOutput
 abbrev pub Opens : Type 1
 Opens = (name : List ℕ) → Result (Option (List ℕ)) Unread → Type 0
 
--- what the program does with the input of this name, with which status, and whether the next one is read: where opening it gave these bytes,
--- it regroups their lines, and else it says why the input is not read
-pub data RunsOne (opens : Opens) (rules : Rules) (from to : FormatData) (name : List ℕ) : (status : ℕ) → (goes_on : Bool)
-    → (old new : Writer → Option (List ℕ)) → (held_old held_new : Writer → List ℕ) → Type 0 where
+-- what the program does with the input of this name, with which status, and whether the next one is read: where opening it gave these
+-- bytes, it regroups their lines, with the fields that have these names chosen too, and else it says why the input is not read
+pub data RunsOne (opens : Opens) (rules : Rules) (fields : List (List ℕ)) (from to : NotationData) (name : List ℕ) : (status : ℕ)
+    → (goes_on : Bool) → (old new : Writer → Option (List ℕ)) → (held_old held_new : Writer → List ℕ) → Type 0 where
   read : (status : ℕ) (bytes : Option (List ℕ)) (old new : Writer → Option (List ℕ)) (held_old held_new : Writer → List ℕ) →
-      opens name (Ok bytes) → Runs rules from to name status bytes old new held_new →
-      RunsOne opens rules from to name status (reads_on rules.invalid status) old new held_old held_new
+      opens name (Ok bytes) → RunsNamed rules fields from to name status bytes old new held_old held_new →
+      RunsOne opens rules fields from to name status (reads_on rules.invalid status) old new held_old held_new
   unread : (why : Unread) (status : ℕ) (out err_old err_new rejects : Option (List ℕ)) (held : Writer → List ℕ) →
       opens name (Err why) → Finishes name (end_of_unread why) status err_old err_new →
-      RunsOne opens rules from to name status true (by_writer out err_old rejects) (by_writer out err_new rejects) held held
+      RunsOne opens rules fields from to name status true (by_writer out err_old rejects) (by_writer out err_new rejects) held held
 
 -- the same of inputs in turn: the status is the highest of theirs, and only the last one may be such that the next one is not read
-pub data RunsEach (opens : Opens) (rules : Rules) (from to : FormatData) : (names : List (List ℕ)) → (status : ℕ) → (goes_on : Bool)
-    → (old new : Writer → Option (List ℕ)) → (held_old held_new : Writer → List ℕ) → Type 0 where
-  none : (all : Writer → Option (List ℕ)) (held : Writer → List ℕ) → RunsEach opens rules from to [] 0 true all all held held
+pub data RunsEach (opens : Opens) (rules : Rules) (fields : List (List ℕ)) (from to : NotationData) : (names : List (List ℕ)) → (status : ℕ)
+    → (goes_on : Bool) → (old new : Writer → Option (List ℕ)) → (held_old held_new : Writer → List ℕ) → Type 0 where
+  none : (all : Writer → Option (List ℕ)) (held : Writer → List ℕ) → RunsEach opens rules fields from to [] 0 true all all held held
   more : (names : List (List ℕ)) (name : List ℕ) (status last : ℕ) (goes_on : Bool) (old mid new : Writer → Option (List ℕ))
-      (held_old held held_new : Writer → List ℕ) → RunsEach opens rules from to names status true old mid held_old held →
-      RunsOne opens rules from to name last goes_on mid new held held_new →
-      RunsEach opens rules from to (names ++ name ∷ []) (max status last) goes_on old new held_old held_new
+      (held_old held held_new : Writer → List ℕ) → RunsEach opens rules fields from to names status true old mid held_old held →
+      RunsOne opens rules fields from to name last goes_on mid new held held_new →
+      RunsEach opens rules fields from to (names ++ name ∷ []) (max status last) goes_on old new held_old held_new
 
 -- the same of all inputs, or of those up to one after which none is read
-pub record RunsAll (opens : Opens) (rules : Rules) (from to : FormatData) (names : List (List ℕ)) (status : ℕ)
+pub record RunsAll (opens : Opens) (rules : Rules) (fields : List (List ℕ)) (from to : NotationData) (names : List (List ℕ)) (status : ℕ)
     (old new : Writer → Option (List ℕ)) (held_old held_new : Writer → List ℕ) : Type 0 where
   pub tried : List (List ℕ)
   pub left : List (List ℕ)
   pub goes_on : Bool
   pub split : names ≡ tried ++ left
-  pub runs : RunsEach opens rules from to tried status goes_on old new held_old held_new
+  pub runs : RunsEach opens rules fields from to tried status goes_on old new held_old held_new
   pub all : goes_on ≡ true → left ≡ []

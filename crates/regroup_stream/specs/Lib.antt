@@ -3,6 +3,7 @@ pub mod Ending
 pub mod Files
 pub mod Inputs
 pub mod Lists
+pub mod Names
 pub mod Options
 pub mod Stream
 pub mod Words

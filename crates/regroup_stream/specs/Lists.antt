@@ -1,7 +1,7 @@
 -- The ranges of fields that a list names.
-use Rattle.std.specs.Prelude.{ℕ, ◌^◌, ◌==◌, nat_le, nat_lt, Bool, ◌&&◌, if◌then◌else◌, List, [], ◌∷◌, length, Option, None, Some}
+use Rattle.std.specs.Prelude.{ℕ, ◌^◌, ◌==◌, nat_le, nat_lt, Bool, not, ◌&&◌, if◌then◌else◌, List, [], ◌∷◌, length, Option, None, Some}
 use Rattle.std.specs.Char.{is_ascii_digit}
-use Rattle.std.specs.List.{after_first, before_first, list_all, position_or_len, slice_split}
+use Rattle.std.specs.List.{after_first, before_first, filter, list_all, list_any, position_or_len, slice_split}
 use Rattle.std.specs.Option.{option_map}
 use Rattle.std.specs.Str.Parse.{digits_value}
 use Rattle.regroup_lines.specs.declared.rules.FieldRange.{FieldRange}
@@ -19,8 +19,8 @@ abbrev pub range_from_to : Option ℕ → Option ℕ → Option FieldRange
 range_from_to (Some first) (Some last) = if nat_le first last then Some (record { first = first; last = Some last }) else None
 range_from_to _ _ = None
 
--- the fields that the texts before and after a `-` name: from the first field on where there is no text before it, and to the last one where
--- there is none after it
+-- the fields that the texts before and after a `-` name: from the first field on where there is no text before it, and to the last one
+-- where there is none after it
 abbrev pub range_between : (before after : List ℕ) → Option FieldRange
 range_between [] [] = None
 range_between [] (b ∷ after) = range_from_to (Some 1) (field_number (b ∷ after))
@@ -34,7 +34,12 @@ is_dash b = b == 45
 -- the fields that a part of a list names: `N`, which is `N-N`, `N-M`, `N-` or `-M`
 unfoldable pub range_in : List ℕ → Option FieldRange
 range_in text =
-    if nat_lt (position_or_len is_dash text) (length text) then range_between (before_first is_dash text) (after_first is_dash text) else range_between text text
+    if nat_lt (position_or_len is_dash text) (length text) then range_between (before_first is_dash text)
+    (after_first is_dash text) else range_between text text
+
+-- whether a part of a list is a name: it has a byte that is no digit and no `-`
+abbrev pub is_name : List ℕ → Bool
+is_name text = list_any (λ b. not (is_ascii_digit b) && not (is_dash b)) text
 
 -- a range before others, if each is one
 abbrev pub with_range : Option FieldRange → Option (List FieldRange) → Option (List FieldRange)
@@ -42,11 +47,15 @@ with_range None ranges = None
 with_range (Some range) None = None
 with_range (Some range) (Some ranges) = Some (range ∷ ranges)
 
--- the ranges that parts name, if each names one
+-- the ranges that parts name which are no names, if each of these names one
 abbrev pub ranges_in : List (List ℕ) → Option (List FieldRange)
 ranges_in [] = Some []
-ranges_in (part ∷ parts) = with_range (range_in part) (ranges_in parts)
+ranges_in (part ∷ parts) = if is_name part then ranges_in parts else with_range (range_in part) (ranges_in parts)
 
--- the ranges that a list names, if each of its parts does, which commas are between
-abbrev pub list_read : List ℕ → Option (List FieldRange)
-list_read text = ranges_in (slice_split (λ b. b == 44) text)
+-- the parts of a list, which commas are between
+abbrev pub parts_of : List ℕ → List (List ℕ)
+parts_of text = slice_split (λ b. b == 44) text
+
+-- the ranges and the names that a list has, if each of its parts is one
+abbrev pub list_read : List ℕ → Option (List FieldRange × List (List ℕ))
+list_read text = option_map (λ ranges. (ranges, filter is_name (parts_of text))) (ranges_in (parts_of text))

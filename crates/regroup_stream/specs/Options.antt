@@ -1,9 +1,9 @@
 -- The rules that options of the command line ask for.
-use Rattle.std.specs.Prelude.{ℕ, ◌==◌, ◌&&◌, ◌||◌, nat_lt, Bool, true, false, if◌then◌else◌, List, [], ◌∷◌, bytes_eq, codes, Option, None, Some, Result, Ok, Err}
+use Rattle.std.specs.Prelude.{ℕ, ◌==◌, ◌&&◌, ◌||◌, nat_lt, not, Bool, true, false, if◌then◌else◌, List, [], ◌∷◌, length, bytes_eq, codes}
+use Rattle.std.specs.Prelude.{Option, None, Some, Result, Ok, Err}
 use Rattle.std.specs.Borrow.{Bor}
 use Rattle.std.specs.Option.{ok_or}
 use Rattle.std.specs.Result.{result_map_both}
-use Rattle.regroup_lines.specs.declared.rules.FieldRange.{FieldRange}
 use Rattle.regroup_lines.specs.declared.rules.Invalid.{Invalid}
 use Rattle.regroup_lines.specs.declared.rules.Invalid.TheVariants.{Abort, Fail}
 use Rattle.regroup_lines.specs.declared.rules.Output.{Output}
@@ -14,7 +14,9 @@ use Rattle.regroup_lines.specs.declared.rules.Span.{Span}
 use Rattle.regroup_lines.specs.declared.rules.Span.TheVariants as span
 use Rattle.regroup_stream.specs.declared.options.Options.{Options}
 use Rattle.regroup_stream.specs.declared.options.OptionFault.{OptionFault}
-use Rattle.regroup_stream.specs.declared.options.OptionFault.TheVariants.{LongDelimiter, QuoteDelimiter, LongOutputDelimiter, BarredOutputDelimiter, AbortingRejects}
+use Rattle.regroup_stream.specs.declared.options.OptionFault.TheVariants.{NamesWithoutHeader}
+use Rattle.regroup_stream.specs.declared.options.OptionFault.TheVariants.{LongDelimiter, QuoteDelimiter, LongOutputDelimiter}
+use Rattle.regroup_stream.specs.declared.options.OptionFault.TheVariants.{BarredOutputDelimiter, AbortingRejects}
 
 -- the one ASCII character of a text, if it has no more
 abbrev pub ascii_alone : List ℕ → Option ℕ
@@ -47,13 +49,14 @@ output_delimiter_in line_end (Some byte) = if byte == 34 || byte == line_end the
 abbrev pub output_delimiter_named : Options → List ℕ → Result ℕ OptionFault
 output_delimiter_named options text = output_delimiter_in (line_end_of options) (delimiter_named text)
 
--- how fields are written between which this delimiter is, by the other one that is given and by which of them are in quotes: they are passed
--- on if neither is asked for
+-- how fields are written between which this delimiter is, by the other one that is given and by which of them are in quotes: they are
+-- passed on if neither is asked for
 abbrev pub output_of : Options → (delimiter : ℕ) → Option (Bor (List ℕ)) → Quoting → Result (Option Output) OptionFault
 output_of options delimiter None Keep = Ok None
 output_of options delimiter None Necessary = Ok (Some (record { delimiter = delimiter; quoting = Necessary }))
 output_of options delimiter (Some text) quoting =
-    result_map_both (λ given. Some (record { delimiter = given; quoting = quoting })) (λ fault. fault) (output_delimiter_named options text.now)
+    result_map_both (λ given. Some (record { delimiter = given; quoting = quoting })) (λ fault. fault)
+    (output_delimiter_named options text.now)
 
 -- what is done with a line at fault: if that is not given, it ends the run, or is written to the file of such lines
 abbrev pub invalid_of : Option Invalid → (rejects : Bool) → Result Invalid OptionFault
@@ -67,10 +70,11 @@ abbrev pub and_then : {A B : Type 0} → Result A OptionFault → (A → Result 
 and_then (Ok value) next = next value
 and_then (Err fault) next = Err fault
 
--- where the numbers are in a line, by the list of the chosen fields
-abbrev pub span_of : Options → List FieldRange → Result Span OptionFault
-span_of options [] = Ok span.Trimmed
-span_of options (range ∷ ranges) =
+-- where the numbers are in a line: fields that have names need a header
+abbrev pub span_of : Options → Result Span OptionFault
+span_of options =
+    if length options.list.now == 0 && not options.has_names then Ok span.Trimmed else
+    if options.has_names && options.header_lines == 0 then Err NamesWithoutHeader else
     and_then (delimiter_of options.csv options.delimiter) (λ delimiter.
     and_then (output_of options delimiter options.output_delimiter options.quoting) (λ output.
     Ok (span.Fields (record { list = options.list; delimiter = delimiter; quotes = options.csv; output = output }))))
@@ -78,7 +82,7 @@ span_of options (range ∷ ranges) =
 -- the rules, or the first fault: a line has at most 1 MiB
 abbrev pub rules_of : Options → Result Rules OptionFault
 rules_of options =
-    and_then (span_of options options.list.now) (λ span.
+    and_then (span_of options) (λ span.
     and_then (invalid_of options.invalid options.rejects) (λ invalid. Ok (record {
       span = span;
       reading = options.reading;
@@ -93,6 +97,7 @@ rules_of options =
 
 -- what is said of a fault
 abbrev pub cause_of_option : OptionFault → List ℕ
+cause_of_option NamesWithoutHeader = codes "a name in '--field' requires '--header'"
 cause_of_option LongDelimiter = codes "the delimiter is not one ASCII character"
 cause_of_option QuoteDelimiter = codes "the delimiter is a quote"
 cause_of_option LongOutputDelimiter = codes "the output delimiter is not one ASCII character"

@@ -1,7 +1,7 @@
 -- What the program writes of the lines of an input.
 use Rattle.std.specs.Prelude.{◌≡◌, ℕ, ◌-◌, ◌^◌, List, [], Option, None, Result, Ok, Err}
 use Rattle.std.specs.declared.io.ErrorKind.{ErrorKind}
-use Rattle.num_format.specs.Format.{FormatData}
+use Rattle.regroup_faults.specs.Notation.{NotationData}
 use Rattle.regroup_faults.specs.Fault.{Fault}
 use Rattle.regroup_faults.specs.Fault.Fault.{TooMany, Read, Write, Report, Reject, Flush}
 use Rattle.regroup_faults.specs.Messages.{fault_message}
@@ -17,7 +17,7 @@ abbrev pub most_lines : ℕ
 most_lines = 2 ^ 64 - 1
 
 -- how a run with this result ends, in an input of this name, if its last flush succeeds and a read that failed did so for this reason
-abbrev pub end_of_result : Rules → (name : List ℕ) → FormatData → Result Summary Fault → (failure : Option ErrorKind) → End
+abbrev pub end_of_result : Rules → (name : List ℕ) → NotationData → Result Summary Fault → (failure : Option ErrorKind) → End
 end_of_result rules name from (Ok summary) failure = end_of_lines rules.invalid summary.has_faults
 end_of_result rules name from (Err Read) failure = ReadFailed failure
 end_of_result rules name from (Err Write) failure = WriteFailed None
@@ -30,7 +30,8 @@ end_of_result rules name from (Err fault) failure = Faulty (fault_message name r
 -- what the program does with two formats and an input of this name: standard output received the lines of the bytes that the reader gave,
 -- up to the fault that ends it if there is one, and the writer of rejected lines those that are rejected, and nothing of them is left in a
 -- buffer unless its last flush failed; standard error received the messages that name the faults that do not
-pub record RegroupsAll (rules : Rules) (name : List ℕ) (from to : FormatData) (end : End) (read_old : Option (List ℕ)) (old new : Writer → Option (List ℕ)) (held : Writer → List ℕ) : Type 0 where
+pub record RegroupsAll (rules : Rules) (name : List ℕ) (from to : NotationData) (end : End) (read_old : Option (List ℕ)) (old new : Writer
+    → Option (List ℕ)) (held : Writer → List ℕ) : Type 0 where
   pub result : Result Summary Fault
   pub read_new : Option (List ℕ)
   pub failure : Option ErrorKind
@@ -42,7 +43,8 @@ pub record RegroupsAll (rules : Rules) (name : List ℕ) (from to : FormatData) 
   pub rejects_flushed : rejects_unflushed ≡ None → held Rejects ≡ []
 
 -- the same, and then the message of how it ends, if there is one, and with which status
-pub record Runs (rules : Rules) (from to : FormatData) (name : List ℕ) (status : ℕ) (read_old : Option (List ℕ)) (old new : Writer → Option (List ℕ)) (held : Writer → List ℕ) : Type 0 where
+pub record Runs (rules : Rules) (from to : NotationData) (name : List ℕ) (status : ℕ) (read_old : Option (List ℕ)) (old new : Writer
+    → Option (List ℕ)) (held : Writer → List ℕ) : Type 0 where
   pub end : End
   pub err_named : Option (List ℕ)
   pub regrouped : RegroupsAll rules name from to end read_old old (by_writer (new Output) err_named (new Rejects)) held

@@ -1,9 +1,9 @@
 -- The formats that words and files name, and what is wrong with those that name none.
 use Rattle.std.specs.Prelude.{◌≡◌, ℕ, ◌==◌, Bool, true, false, not, ◌&&◌, ◌||◌, if◌then◌else◌, nat_eq, List, []}
 use Rattle.std.specs.Prelude.{◌∷◌, ◌++◌, length, drop, codes, Option, None, Some, is_some, option_and_then, Result, Ok, Err, ⊤, ◌⊎◌}
-use Rattle.std.specs.Char.{is_ascii_digit, is_ascii_whitespace}
+use Rattle.std.specs.Char.{is_ascii_whitespace}
 use Rattle.std.specs.List.{list_any, starts_with}
-use Rattle.std.specs.Option.{option_map}
+use Rattle.std.specs.Option.{ok_or, option_map, unwrap_or}
 use Rattle.std.specs.Result.{result_map_both, result_ok}
 use Rattle.std.specs.Str.{bytes_eq}
 use Rattle.std.specs.declared.io.ErrorKind.{ErrorKind}
@@ -15,6 +15,10 @@ use Rattle.num_format.specs.Grouping.TheVariants.{Posix}
 use Rattle.num_format.specs.GroupingNames.{grouping_named}
 use Rattle.num_format.specs.Lookup.{LooksUpTag}
 use Rattle.num_format_decimal.specs.Marks.{MarksDecimals}
+use Rattle.num_format_digits.specs.Digits.{in_digits}
+use Rattle.num_format_digits.specs.Tags.{TagResult, digits_in}
+use Rattle.num_format_digits.specs.declared.tags.UnknownDigits.{UnknownDigits}
+use Rattle.regroup_faults.specs.Notation.{NotationData, latin}
 use Rattle.regroup_faults.specs.declared.Reading.{Reading}
 use Rattle.num_format_typed.specs.Typed.{IsTypable}
 use Rattle.regroup_faults.specs.declared.Reading.TheVariants.{Lenient, Strict, Typed}
@@ -77,25 +81,66 @@ custom_format_named fields = option_and_then (λ parts. format_before parts.0 pa
 abbrev pub plain : Option FormatData
 plain = result_ok (custom_format [] Posix (codes "-"))
 
--- the format of the locale as which a tag is looked up, if there is one
-pub record LooksUpFormat (tag : List ℕ) (found : Option FormatData) : Type 0 where
+-- what names a format: a word, or the name of a file and its bytes, or why it cannot be read
+pub data Named : Type 0 where
+  Word : List ℕ → Named
+  File : List ℕ → Result (List ℕ) ErrorKind → Named
+
+-- the `Named` of a `Source`
+abbrev pub named_of : Source → Named
+named_of (source.Word word) = Word word.now
+named_of (source.File name bytes) = File name.now (result_map_both (λ bytes. bytes.now) (λ kind. kind) bytes)
+
+-- the word, or the name of the file
+abbrev pub text_of_named : Named → List ℕ
+text_of_named (Word word) = word
+text_of_named (File name bytes) = name
+
+-- what is wrong with words or files, with the one that is wrong
+pub data Wrong : Type 0 where
+  NoFormat : List ℕ → Wrong
+  NoDigits : List ℕ → Wrong
+  Ambiguous : List ℕ → Ambiguity → Wrong
+  BadFile : List ℕ → Unfit → Wrong
+
+-- the `Wrong` of a `Misuse`
+abbrev pub wrong_of : Misuse → Wrong
+wrong_of (misuse.NoFormat word) = NoFormat word.now
+wrong_of (misuse.NoDigits word) = NoDigits word.now
+wrong_of (misuse.Ambiguous word ambiguity) = Ambiguous word.now ambiguity
+wrong_of (misuse.BadFile name fault) = BadFile name.now (unfit_of fault)
+
+-- the format of a tag's locale and the digit set that the tag names, latn where it names none, or what is wrong with the tag
+abbrev pub notation_of : {E : Type 0} → (tag : List ℕ) → Option ℕ → Result (Option ℕ) E → Result NotationData Wrong
+notation_of tag None digits = Err (NoFormat tag)
+notation_of tag (Some locale) (Err unknown) = Err (NoDigits tag)
+notation_of tag (Some locale) (Ok digits) = Ok (record { format = locale_data locale; digits = unwrap_or digits 48 })
+
+-- what a tag names: it is looked up as a locale, and names its digits
+pub record LooksUpNotation (tag : List ℕ) (named : Result NotationData Wrong) : Type 0 where
   pub locale : Option ℕ
   pub looked_up : LooksUpTag tag locale
-  pub format : found ≡ option_map locale_data locale
+  pub digits : Result (Option ℕ) UnknownDigits
+  pub names : TagResult tag (digits_in tag) digits
+  pub is : named ≡ notation_of tag locale digits
 
--- the format that a word names, by whether the word begins with `custom:`: that of the fields after it, or of a locale
-abbrev pub NamesCustomOrLocale : Bool → List ℕ → Option FormatData → Type 0
-NamesCustomOrLocale true word found = found ≡ custom_format_named (drop 7 word)
-NamesCustomOrLocale false word found = LooksUpFormat word found
+-- a format with the digits 0 to 9, or that a word names none
+abbrev pub latin_or_none : (word : List ℕ) → Option FormatData → Result NotationData Wrong
+latin_or_none word found = ok_or (option_map latin found) (NoFormat word)
+
+-- what a word names, by whether the word begins with `custom:`: the format of the fields after it, or that of a locale
+abbrev pub NamesCustomOrLocale : Bool → List ℕ → Result NotationData Wrong → Type 0
+NamesCustomOrLocale true word named = named ≡ latin_or_none word (custom_format_named (drop 7 word))
+NamesCustomOrLocale false word named = LooksUpNotation word named
 
 -- the same, by whether the word is `plain`
-abbrev pub NamesPlainOrOther : Bool → List ℕ → Option FormatData → Type 0
-NamesPlainOrOther true word found = found ≡ plain
-NamesPlainOrOther false word found = NamesCustomOrLocale (starts_with nat_eq word (codes "custom:")) word found
+abbrev pub NamesPlainOrOther : Bool → List ℕ → Result NotationData Wrong → Type 0
+NamesPlainOrOther true word named = named ≡ latin_or_none word plain
+NamesPlainOrOther false word named = NamesCustomOrLocale (starts_with nat_eq word (codes "custom:")) word named
 
--- the format that a word names, if it names one
-abbrev pub NamesFormat : List ℕ → Option FormatData → Type 0
-NamesFormat word found = NamesPlainOrOther (bytes_eq word (codes "plain")) word found
+-- how numbers are written by a word, or what is wrong with it
+abbrev pub IsNamed : List ℕ → Result NotationData Wrong → Type 0
+IsNamed word named = NamesPlainOrOther (bytes_eq word (codes "plain")) word named
 
 -- numbers are read under the format: strictly only where each decimal parses back from its text, and typed where that has one meaning
 abbrev pub IsReadUnder : Reading → FormatData → Type 0
@@ -131,66 +176,37 @@ cause_of TypedAlike = codes ": ambiguous as people type it"
 cause_of BlankMinusSign = codes ": the minus sign begins with whitespace"
 cause_of PrintsDelimiter = codes ": numbers have the delimiter: see --csv"
 
--- what names a format: a word, or the name of a file and its bytes, or why it cannot be read
-pub data Named : Type 0 where
-  Word : List ℕ → Named
-  File : List ℕ → Result (List ℕ) ErrorKind → Named
-
--- the `Named` of a `Source`
-abbrev pub named_of : Source → Named
-named_of (source.Word word) = Word word.now
-named_of (source.File name bytes) = File name.now (result_map_both (λ bytes. bytes.now) (λ kind. kind) bytes)
-
--- the word, or the name of the file
-abbrev pub text_of_named : Named → List ℕ
-text_of_named (Word word) = word
-text_of_named (File name bytes) = name
-
--- what is wrong with words or files, with the one that is wrong
-pub data Wrong : Type 0 where
-  NoFormat : List ℕ → Wrong
-  Ambiguous : List ℕ → Ambiguity → Wrong
-  BadFile : List ℕ → Unfit → Wrong
-
--- the `Wrong` of a `Misuse`
-abbrev pub wrong_of : Misuse → Wrong
-wrong_of (misuse.NoFormat word) = NoFormat word.now
-wrong_of (misuse.Ambiguous word ambiguity) = Ambiguous word.now ambiguity
-wrong_of (misuse.BadFile name fault) = BadFile name.now (unfit_of fault)
-
--- the format that a word names, or that it names none
-abbrev pub IsNamed : List ℕ → Result FormatData Wrong → Type 0
-IsNamed word (Ok format) = NamesFormat word (Some format)
-IsNamed word (Err wrong) = (wrong ≡ NoFormat word) × NamesFormat word None
-
--- the format that the file of this name holds, or why it holds none
-abbrev pub IsHeld : (name : List ℕ) → Result (List ℕ) ErrorKind → Result FormatData Wrong → Type 0
+-- the format that the file of this name holds, with the digits 0 to 9, or why it holds none
+abbrev pub IsHeld : (name : List ℕ) → Result (List ℕ) ErrorKind → Result NotationData Wrong → Type 0
 IsHeld name (Err kind) result = result ≡ Err (BadFile name (Unread kind))
-IsHeld name (Ok bytes) result = (held : Result FormatData Unfit) × HoldsFormat bytes held × (result ≡ result_map_both (λ format. format) (BadFile name) held)
+IsHeld name (Ok bytes) result = (held : Result FormatData Unfit) × HoldsFormat bytes held
+    × (result ≡ result_map_both latin (BadFile name) held)
 
--- the format of a word or of a file, or what is wrong with it
-abbrev pub IsFormatOf : Named → Result FormatData Wrong → Type 0
+-- how numbers are written by a word or a file, or what is wrong with it
+abbrev pub IsFormatOf : Named → Result NotationData Wrong → Type 0
 IsFormatOf (Word word) result = IsNamed word result
 IsFormatOf (File name bytes) result = IsHeld name bytes result
 
 -- what is wrong with two of them: the first has no format, or one that is not read; or else the second has none, or one that is ambiguous
 pub data IsWrong (reading : Reading) (from to : Named) : Wrong → Type 0 where
   first : (wrong : Wrong) → IsFormatOf from (Err wrong) → IsWrong reading from to wrong
-  unread : (format : FormatData) (why : Ambiguity) → IsFormatOf from (Ok format) → IsUnread reading format why
+  unread : (source : NotationData) (why : Ambiguity) → IsFormatOf from (Ok source) → IsUnread reading source.format why
       → IsWrong reading from to (Ambiguous (text_of_named from) why)
-  second : (format : FormatData) (wrong : Wrong) → IsFormatOf from (Ok format) → IsReadUnder reading format → IsFormatOf to (Err wrong) → IsWrong reading from to wrong
-  unwritten : (source target : FormatData) → IsFormatOf from (Ok source) → IsReadUnder reading source → IsFormatOf to (Ok target) → ¬ MarksDecimals target →
-      IsWrong reading from to (Ambiguous (text_of_named to) (ambiguity_of target))
+  second : (source : NotationData) (wrong : Wrong) → IsFormatOf from (Ok source) → IsReadUnder reading source.format
+      → IsFormatOf to (Err wrong) → IsWrong reading from to wrong
+  unwritten : (source target : NotationData) → IsFormatOf from (Ok source) → IsReadUnder reading source.format
+      → IsFormatOf to (Ok target) → ¬ MarksDecimals target.format →
+      IsWrong reading from to (Ambiguous (text_of_named to) (ambiguity_of target.format))
 
 -- the two have these formats, the first is read, and the second is not ambiguous
-pub record NamesBoth (reading : Reading) (from to : Named) (formats : FormatData × FormatData) : Type 0 where
+pub record NamesBoth (reading : Reading) (from to : Named) (formats : NotationData × NotationData) : Type 0 where
   pub first : IsFormatOf from (Ok formats.0)
-  pub read : IsReadUnder reading formats.0
+  pub read : IsReadUnder reading formats.0.format
   pub second : IsFormatOf to (Ok formats.1)
-  pub written : MarksDecimals formats.1
+  pub written : MarksDecimals formats.1.format
 
 -- the formats of two of them, or what is wrong
-abbrev pub NamesFormats : Reading → (from to : Named) → Result (FormatData × FormatData) Wrong → Type 0
+abbrev pub NamesFormats : Reading → (from to : Named) → Result (NotationData × NotationData) Wrong → Type 0
 NamesFormats reading from to (Ok formats) = NamesBoth reading from to formats
 NamesFormats reading from to (Err wrong) = IsWrong reading from to wrong
 
@@ -209,38 +225,38 @@ bare_delimiter (span.Fields fields) = if not fields.quotes && not (is_some field
 abbrev pub has_byte : List ℕ → ℕ → Bool
 has_byte text byte = list_any (λ b. b == byte) text
 
--- whether a number that is printed under the format may have this byte
-abbrev pub prints_byte : FormatData → ℕ → Bool
-prints_byte format b =
-    is_ascii_digit b || (has_byte (printed_separator format.grouping format.separator) b
-    || (has_byte format.minus_sign b || has_byte format.decimal b))
+-- whether a number that is printed may have this byte
+abbrev pub prints_byte : NotationData → ℕ → Bool
+prints_byte to b =
+    has_byte (in_digits to.digits (codes "0123456789")) b || (has_byte (printed_separator to.format.grouping to.format.separator) b
+    || (has_byte to.format.minus_sign b || has_byte to.format.decimal b))
 
 -- whether a number that is printed may have the delimiter
-abbrev pub prints_delimiter : FormatData → Option ℕ → Bool
-prints_delimiter format None = false
-prints_delimiter format (Some delimiter) = prints_byte format delimiter
+abbrev pub prints_delimiter : NotationData → Option ℕ → Bool
+prints_delimiter to None = false
+prints_delimiter to (Some delimiter) = prints_byte to delimiter
 
 -- why numbers are not told by two formats where the rules say, if they are not, and by which of these words or files
-abbrev pub misfit : Span → (from to : Named) → FormatData × FormatData → Option Wrong
+abbrev pub misfit : Span → (from to : Named) → NotationData × NotationData → Option Wrong
 misfit span from to formats =
-    if begins_blank formats.0.minus_sign then Some (Ambiguous (text_of_named from) BlankMinusSign) else
-    if begins_blank formats.1.minus_sign then Some (Ambiguous (text_of_named to) BlankMinusSign) else
+    if begins_blank formats.0.format.minus_sign then Some (Ambiguous (text_of_named from) BlankMinusSign) else
+    if begins_blank formats.1.format.minus_sign then Some (Ambiguous (text_of_named to) BlankMinusSign) else
     if prints_delimiter formats.1 (bare_delimiter span) then Some (Ambiguous (text_of_named to) PrintsDelimiter) else None
 
 -- the formats, unless something is wrong with them
-abbrev pub ok_unless : FormatData × FormatData → Option Wrong → Result (FormatData × FormatData) Wrong
+abbrev pub ok_unless : NotationData × NotationData → Option Wrong → Result (NotationData × NotationData) Wrong
 ok_unless formats None = Ok formats
 ok_unless formats (Some wrong) = Err wrong
 
 -- the formats of two of them by which numbers are told, or what is wrong
-abbrev pub fitting : Span → (from to : Named) → Result (FormatData × FormatData) Wrong → Result (FormatData × FormatData) Wrong
+abbrev pub fitting : Span → (from to : Named) → Result (NotationData × NotationData) Wrong → Result (NotationData × NotationData) Wrong
 fitting span from to (Err wrong) = Err wrong
 fitting span from to (Ok formats) = ok_unless formats (misfit span from to formats)
 
 -- what is named is told, or else what is wrong
 pub record NamesFormatsFor (reading : Reading) (span : Span) (from to : Named)
-    (result : Result (FormatData × FormatData) Wrong) : Type 0 where
-  pub named : Result (FormatData × FormatData) Wrong
+    (result : Result (NotationData × NotationData) Wrong) : Type 0 where
+  pub named : Result (NotationData × NotationData) Wrong
   pub names : NamesFormats reading from to named
   pub told : result ≡ fitting span from to named
 
@@ -255,5 +271,6 @@ misuse_message word cause = arguments_message (quoted word ++ cause)
 -- the message of what is wrong
 abbrev pub message_of_wrong : Wrong → List ℕ
 message_of_wrong (NoFormat word) = misuse_message word (codes " names no format")
+message_of_wrong (NoDigits word) = misuse_message word (codes " names no digit set")
 message_of_wrong (Ambiguous word ambiguity) = misuse_message word (cause_of ambiguity)
 message_of_wrong (BadFile name unfit) = unfit_message name unfit

@@ -1,6 +1,7 @@
 //! How a run ends: the status, and the message on standard error.
 ghost use Rattle.std.specs.Prelude.{◌≡◌, ◌≤◌, length};
-ghost use Rattle.regroup_stream.specs.Ending.{Finishes, SendsMessage, end_after, end_of, failure_message, known_reason, message_of_end, reason_of, status_of};
+ghost use Rattle.regroup_stream.specs.Ending.{Finishes, SendsMessage, end_after, end_of, failure_message, known_reason};
+ghost use Rattle.regroup_stream.specs.Ending.{message_of_end, reason_of, status_of};
 
 use arrayvec::ArrayString;
 use num_format::to_formatted_string::write_whole;
@@ -52,8 +53,8 @@ pub(crate) enum Ending {
 }
 
 impl Ending {
-    /// Returns how a run ends that ended so, and then flushed the output and rejected lines: as before, or by the first flush that failed
-    /// for its reason.
+    /// Returns how a run ends that ended so, and then flushed the output and rejected lines: as before, or by the first
+    /// flush that failed for its reason.
     pub(crate) fn after(
         self,
         unflushed: Option<io::ErrorKind>,

@@ -7,8 +7,10 @@ ghost use Rattle.regroup_lines.specs.Sending.{by_writer};
 ghost use Rattle.regroup_stream.specs.Inputs.{Opens, RunsAll, RunsOne, reads_on};
 ghost use Rattle.regroup_stream.specs.declared.inputs.Unread.TheVariants.{CannotOpen};
 
-use crate::{FAULTY, Formats, REGROUPED, refuse, refuse_output, run};
+use crate::names::run_named;
+use crate::{FAULTY, Formats, REGROUPED, refuse, refuse_output};
 use regroup_lines::{Invalid, Rules};
+use std::alloc::Global;
 use std::io;
 use std::io::{BufWriter, ErrorKind, Read, Write};
 
@@ -46,13 +48,18 @@ impl From<io::Error> for Unread {
     }
 }
 
-/// Regroups the lines of the inputs of these names in turn, up to the first whose lines are not all written, and returns
-/// the highest status. Of an input that is not read it sends the message alone. The inputs are read into `buffer`, which
-/// has one byte more than a line may have.
+/// Regroups the lines of the inputs of these names in turn, up to the first whose lines are not all written, and
+/// returns the highest status. Of an input that is not read it sends the message alone. The inputs are read into
+/// `buffer`, which has one byte more than a line may have.
 ///
-/// Of each input the writers receive what [`run`], [`refuse`] or [`refuse_output`] sends.
+/// The fields of these names are chosen too, if there are names, and each has to be that of one field of each header.
+///
+/// Of each input the writers receive what [`run`](crate::run), [`refuse`] or [`refuse_output`] sends, or of one where a
+/// name is not, a message that shows it and the header: then the status is [`MISUSED`](crate::MISUSED).
 pub fn run_all<I: Open, O: Write + Drop, E: Write, X: Write + Drop>(
+    alloc: Global,
     rules: &Rules,
+    field_names: &[&str],
     formats: &Formats,
     names: &[&str],
     buffer: &mut [u8],
@@ -62,14 +69,27 @@ pub fn run_all<I: Open, O: Write + Drop, E: Write, X: Write + Drop>(
     rejects: &mut BufWriter<X>,
 ) -> u8
     requires { length buffer.old ≡ rules.now.max_line_len + 1 }
-    ensures { RunsAll (I.opens inputs.now) rules.now formats.now.from formats.now.to (map (λ name. name.now) names.now) result
+    ensures { RunsAll (I.opens inputs.now) rules.now (map (λ name. name.now) field_names.now)
+        formats.now.from formats.now.to (map (λ name. name.now) names.now) result
         (by_writer (writer_contents O.contents out.old) (E.contents err.old) (writer_contents X.contents rejects.old))
         (by_writer (writer_contents O.contents out.new) (E.contents err.new) (writer_contents X.contents rejects.new))
-        (by_writer (writer_buffer out.old) [] (writer_buffer rejects.old)) (by_writer (writer_buffer out.new) [] (writer_buffer rejects.new)) }
+        (by_writer (writer_buffer out.old) [] (writer_buffer rejects.old))
+        (by_writer (writer_buffer out.new) [] (writer_buffer rejects.new)) }
 {
     let mut status = REGROUPED;
     for name in names {
-        let (ended, goes_on) = run_one(rules, formats, name, buffer, inputs, out, err, rejects);
+        let (ended, goes_on) = run_one(
+            alloc,
+            rules,
+            field_names,
+            formats,
+            name,
+            buffer,
+            inputs,
+            out,
+            err,
+            rejects,
+        );
         status = status.max(ended);
         if !goes_on {
             return status;
@@ -81,7 +101,9 @@ pub fn run_all<I: Open, O: Write + Drop, E: Write, X: Write + Drop>(
 /// Regroups the lines of the input of that name, or sends the message of why it is not read. Returns its status, and
 /// whether the next input is read.
 fn run_one<I: Open, O: Write + Drop, E: Write, X: Write + Drop>(
+    alloc: Global,
     rules: &Rules,
+    field_names: &[&str],
     formats: &Formats,
     name: &str,
     buffer: &mut [u8],
@@ -91,14 +113,27 @@ fn run_one<I: Open, O: Write + Drop, E: Write, X: Write + Drop>(
     rejects: &mut BufWriter<X>,
 ) -> (u8, bool)
     requires { length buffer.old ≡ rules.now.max_line_len + 1 }
-    ensures { RunsOne (I.opens inputs.now) rules.now formats.now.from formats.now.to name.now result.0 result.1
+    ensures { RunsOne (I.opens inputs.now) rules.now (map (λ name. name.now) field_names.now)
+        formats.now.from formats.now.to name.now result.0 result.1
         (by_writer (writer_contents O.contents out.old) (E.contents err.old) (writer_contents X.contents rejects.old))
         (by_writer (writer_contents O.contents out.new) (E.contents err.new) (writer_contents X.contents rejects.new))
-        (by_writer (writer_buffer out.old) [] (writer_buffer rejects.old)) (by_writer (writer_buffer out.new) [] (writer_buffer rejects.new)) }
+        (by_writer (writer_buffer out.old) [] (writer_buffer rejects.old))
+        (by_writer (writer_buffer out.new) [] (writer_buffer rejects.new)) }
 {
     match inputs.open(name) {
         Ok(input) => {
-            let status = run(rules, formats, name, buffer, input, out, err, rejects);
+            let status = run_named(
+                alloc,
+                rules,
+                field_names,
+                formats,
+                name,
+                buffer,
+                input,
+                out,
+                err,
+                rejects,
+            );
             (status, reads_on(rules.invalid, status))
         }
         Err(Unread::CannotOpen(kind)) => (refuse(name, kind, err), true),

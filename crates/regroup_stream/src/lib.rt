@@ -8,18 +8,20 @@
 //! | 0 | each line, or one at fault as it is | nothing, or with [`Invalid::Warn`] the message of each line at fault |
 //! | 1 | the lines before the one at fault; or nothing of an input that cannot be opened, or is the output | its message |
 //! | 1 | with [`Invalid::Fail`] each line, or one at fault as it is | the message of each line at fault |
-//! | 2 | nothing | what is wrong with the words |
+//! | 2 | nothing | what is wrong with the words, or the name that is not that of one field of a header |
 //! | 3 | the lines before a read or a write failed | which, and why if it is known, after the messages of those lines |
 //! | 141 | the lines before it was closed | the messages of those lines |
 //!
-//! The status is 3 also where a message or a rejected line could not be written. That of several inputs is the highest. If the
-//! rules ask for that, lines at fault are sent to a writer of their own, and not to standard output.
+//! The status is 3 also where a message or a rejected line could not be written. That of several inputs is the highest.
+//! If the rules ask for that, lines at fault are sent to a writer of their own, and not to standard output.
 #![tactic(auto)]
 
 mod ending;
 mod files;
 mod inputs;
 mod list;
+mod named_format;
+mod names;
 mod options;
 mod watched;
 mod words;
@@ -38,7 +40,8 @@ use crate::ending::Ending;
 pub use crate::ending::{CLOSED, FAILED, FAULTY, MISUSED, REGROUPED};
 pub use crate::files::FileFault;
 pub use crate::inputs::{Open, Unread, run_all};
-pub use crate::list::field_list;
+pub use crate::list::{FieldList, field_list};
+pub use crate::named_format::NamedFormat;
 pub use crate::options::{OptionFault, Options};
 use crate::watched::Watched;
 pub use crate::words::{
@@ -47,24 +50,24 @@ pub use crate::words::{
 use num_format::CustomFormat;
 use regroup_faults::fault_message;
 pub use regroup_lines::{FieldRange, Fields, Invalid, Output, Quoting, Reading, Rules, Span};
-use regroup_lines::{RegroupFault, Summary, regroup_at_most};
+use regroup_lines::{Notation, RegroupFault, Summary, regroup_at_most};
 use std::io::{BufWriter, ErrorKind, Read, Write};
 
 /// Regroups the lines of `input` from one format to another, flushes `out` and `rejects`, and returns the exit status.
-/// Messages have the name of the input, which is `-` for standard input. It is read into `buffer`, which has one byte more
-/// than a line may have. Where the rules say so, `rejects` receives the lines at fault, and `out` does not.
+/// Messages have the name of the input, which is `-` for standard input. It is read into `buffer`, which has one byte
+/// more than a line may have. Where the rules say so, `rejects` receives the lines at fault, and `out` does not.
 ///
-/// - [`REGROUPED`] (0): `out` received each line, and `err` nothing, or with [`Invalid::Warn`] the message of each line at fault, which
-///   is passed on as it is.
+/// - [`REGROUPED`] (0): `out` received each line, and `err` nothing, or with [`Invalid::Warn`] the message of each line
+///   at fault, which is passed on as it is.
 /// - [`FAULTY`] (1): `out` received the lines before the first one at fault, and `err` its message and
 ///   a newline. Lines are numbered from 1. Or else, with [`Invalid::Fail`], as with `Warn` where a line is at fault.
-/// - [`FAILED`] (3): a read failed, also one that was interrupted, a write to `out` or a flush of it, and `err` received
-///   a message with the kind of the error if it is known, after those of lines that were passed on. `out` received the
-///   lines before that, and what was read of a long line that is passed on, or a prefix of these where a write failed. So
-///   too where there are more lines than a `u64` counts, and where a write to `rejects` or a flush of it failed. Or else `err`
-///   did not receive all of its messages.
-/// - [`CLOSED`] (141): a write or a flush failed since nothing reads `out`, and `err` received the messages of lines that
-///   were passed on, and no more.
+/// - [`FAILED`] (3): a read failed, also one that was interrupted, a write to `out` or a flush of it, and `err`
+///   received a message with the kind of the error if it is known, after those of lines that were passed on. `out`
+///   received the lines before that, and what was read of a long line that is passed on, or a prefix of these where a
+///   write failed. So too where there are more lines than a `u64` counts, and where a write to `rejects` or a flush of
+///   it failed. Or else `err` did not receive all of its messages.
+/// - [`CLOSED`] (141): a write or a flush failed since nothing reads `out`, and `err` received the messages of lines
+///   that were passed on, and no more.
 ///
 /// ```rust
 /// let rules = Rules {
@@ -151,7 +154,8 @@ fn regroup<R: Read + Drop, O: Write + Drop, E: Write, X: Write + Drop>(
         (by_writer (writer_buffer out.new) [] (writer_buffer rejects.new)) }
 {
     let mut input = Watched::new(input);
-    let (from, to) = (&formats.from, &formats.to);
+    let from = formats.from.notation();
+    let to = formats.to.notation();
     let regrouped = regroup_at_most(
         u64::MAX,
         rules,
@@ -161,12 +165,12 @@ fn regroup<R: Read + Drop, O: Write + Drop, E: Write, X: Write + Drop>(
         out,
         err,
         rejects,
-        from,
-        to,
+        &from,
+        &to,
     );
     let unflushed = flush(out);
     let rejects_unflushed = flush(rejects);
-    let ending = ending_of(rules, name, from, regrouped, input.failure());
+    let ending = ending_of(rules, name, &from, regrouped, input.failure());
     ending.after(unflushed, rejects_unflushed)
 }
 
@@ -185,7 +189,7 @@ fn flush<W: Write + Drop>(writer: &mut BufWriter<W>) -> Option<ErrorKind>
 fn ending_of(
     rules: &Rules,
     name: &str,
-    from: &CustomFormat,
+    from: &Notation<'_, CustomFormat>,
     regrouped: Result<Summary, RegroupFault>,
     failure: Option<ErrorKind>,
 ) -> Ending

@@ -1,39 +1,64 @@
 //! The list that chooses fields.
-ghost use Rattle.std.specs.Prelude.{◌≡◌, IfOk};
+ghost use Rattle.std.specs.Prelude.{◌≡◌, IfOk, map};
 ghost use Rattle.std.specs.Char.{is_ascii_digit};
 ghost use Rattle.std.specs.List.{list_all};
 ghost use Rattle.std.specs.Option.{option_map};
-ghost use Rattle.regroup_stream.specs.Lists.{counted, field_number, list_read, range_between, range_from_to, range_in};
+ghost use Rattle.regroup_stream.specs.Lists.{counted, field_number, is_name, list_read, range_between, range_from_to};
+ghost use Rattle.regroup_stream.specs.Lists.{range_in};
 
 use regroup_lines::FieldRange;
 use std::alloc::{AllocError, Global};
 
-/// Returns the ranges that a list names, as that of `cut`: its parts, between commas, are each `N`, `N-M`, `N-` or
-/// `-M`. The fields are counted from 1.
+/// The fields that a list chooses.
+#[derive(Drop)]
+pub struct FieldList<'a> {
+    /// The ranges that it has.
+    pub ranges: Vec<FieldRange>,
+    /// The names of the header that it has.
+    pub names: Vec<&'a str>,
+}
+
+/// Returns the fields that a list chooses: its parts, between commas, are each `N`, `N-M`, `N-` or `-M`, as in that of
+/// `cut`, or a name, which has a character other than digits and `-`. The fields are counted from 1.
 ///
-/// Returns `None` if a part is none of these: it is empty, has another character or a number that a `u64` does not
-/// hold, or decreases, or if a number is 0. Parts may be in any order, and name a field twice.
+/// Returns `None` if a part is none of these: it is empty, has a number that a `u64` does not hold, or decreases, or if
+/// a number is 0. Parts may be in any order, and choose a field twice.
 ///
 /// ```rust
-/// field_list(alloc, "3-5")?    // Some([FieldRange { first: 3, last: Some(5) }])
-/// field_list(alloc, "2-")?     // Some([FieldRange { first: 2, last: None }])
-/// field_list(alloc, "5-3")?    // None
+/// let list = field_list(alloc, "2-,net")?.unwrap();
+/// list.ranges                              // [FieldRange { first: 2, last: None }]
+/// list.names                               // ["net"]
+/// field_list(alloc, "5-3")?.is_none()      // true
 /// ```
 ///
 /// # Errors
 ///
-/// Returns an error if there is no memory for the ranges.
-pub fn field_list(alloc: Global, text: &str) -> Result<Option<Vec<FieldRange>>, AllocError>
-    ensures { IfOk result (λ list. option_map (λ ranges. ranges.items) list ≡ list_read text.now) }
+/// Returns an error if there is no memory for them.
+pub fn field_list<'a>(alloc: Global, text: &'a str) -> Result<Option<FieldList<'a>>, AllocError>
+    ensures { IfOk result (λ list. option_map (λ l. (l.ranges.items, map (λ name. name.now) l.names.items)) list
+        ≡ list_read text.now) }
 {
-    let mut list = Vec::new(alloc);
+    let (mut ranges, mut names) = (Vec::new(alloc), Vec::new(alloc));
     for part in text.split(',') {
-        let Some(range) = range_in(part) else {
-            return Ok(None);
-        };
-        list.push(range)?;
+        if is_name(part) {
+            names.push(part)?;
+        } else {
+            let Some(range) = range_in(part) else {
+                return Ok(None);
+            };
+            ranges.push(range)?;
+        }
     }
-    Ok(Some(list))
+    Ok(Some(FieldList { ranges, names }))
+}
+
+/// Returns whether a part of a list is a name.
+fn is_name(part: &str) -> bool
+    ensures { result ≡ is_name part.now }
+{
+    part.as_bytes()
+        .iter()
+        .any(|byte| !byte.is_ascii_digit() && *byte != b'-')
 }
 
 /// Returns the range that a part of a list names.

@@ -1,6 +1,7 @@
 //! The rules that options of the command line ask for.
 ghost use Rattle.std.specs.Prelude.{◌≡◌};
-ghost use Rattle.regroup_stream.specs.Options.{cause_of_option, delimiter_named, delimiter_of, invalid_of, line_end_of, output_delimiter_named, output_of, rules_of, span_of};
+ghost use Rattle.regroup_stream.specs.Options.{cause_of_option, delimiter_named, delimiter_of, invalid_of, line_end_of};
+ghost use Rattle.regroup_stream.specs.Options.{output_delimiter_named, output_of, rules_of, span_of};
 
 use regroup_lines::{FieldRange, Fields, Invalid, Output, Quoting, Reading, Rules, Span};
 
@@ -13,6 +14,7 @@ const MAX_LINE_LEN: u32 = 1_048_576;
 /// let list = [FieldRange { first: 3, last: Some(3) }];
 /// let options = Options {
 ///     list: &list,
+///     has_names: false,
 ///     delimiter: Some(";"),
 ///     csv: false,
 ///     output_delimiter: None,
@@ -30,8 +32,10 @@ const MAX_LINE_LEN: u32 = 1_048_576;
 /// ```
 #[derive(Clone, Copy, Debug)]
 pub struct Options<'a, 'w> {
-    /// The fields that are chosen, or none where each line has one number.
+    /// The fields that are chosen by their numbers.
     pub list: &'a [FieldRange],
+    /// Whether fields are chosen by names too. Where none is chosen, each line has one number.
+    pub has_names: bool,
     /// The delimiter, if one is given.
     pub delimiter: Option<&'w str>,
     /// Whether fields may be in quotes.
@@ -57,6 +61,8 @@ pub struct Options<'a, 'w> {
 /// What is wrong with options.
 #[derive(Clone, Copy, Debug, PartialEq, Eq)]
 pub enum OptionFault {
+    /// Fields are chosen by names, and no line is a header.
+    NamesWithoutHeader,
     /// The delimiter is not one ASCII character.
     LongDelimiter,
     /// The delimiter is a quote, and fields may be in quotes.
@@ -93,10 +99,13 @@ impl<'a> Options<'a, '_> {
 
     /// Returns where the numbers of a line are.
     fn span(&self) -> Result<Span<'a>, OptionFault>
-        ensures { result ≡ span_of self.now self.now.list.now }
+        ensures { result ≡ span_of self.now }
     {
-        if self.list.is_empty() {
+        if self.list.is_empty() && !self.has_names {
             return Ok(Span::Trimmed);
+        }
+        if self.has_names && self.header_lines == 0 {
+            return Err(OptionFault::NamesWithoutHeader);
         }
         let delimiter = self.delimiter()?;
         Ok(Span::Fields(Fields {
@@ -185,6 +194,7 @@ impl OptionFault {
         ensures { result.now ≡ cause_of_option self }
     {
         match self {
+            OptionFault::NamesWithoutHeader => "a name in '--field' requires '--header'",
             OptionFault::LongDelimiter => "the delimiter is not one ASCII character",
             OptionFault::QuoteDelimiter => "the delimiter is a quote",
             OptionFault::LongOutputDelimiter => "the output delimiter is not one ASCII character",

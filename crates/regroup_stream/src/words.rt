@@ -6,13 +6,21 @@ ghost use Rattle.std.specs.Result.{result_map_both};
 ghost use Rattle.num_format.specs.Grouped.{printed_separator};
 ghost use Rattle.num_format_decimal.specs.Marks.{MarksDecimals};
 ghost use Rattle.regroup_stream.specs.Ending.{SendsMessage};
-ghost use Rattle.regroup_stream.specs.Words.{IsFormatOf, IsHeld, IsNamed, IsReadUnder, IsUnmarked, IsUnread, LooksUpFormat, NamesCustomOrLocale, NamesFormat, NamesFormats, NamesFormatsFor, ambiguity_of, arguments_message, bare_delimiter, begins_blank, cause_of, custom_format_named, marked_format_named, message_of_wrong, misuse_message, has_byte, misfit, named_of, prints_byte, prints_delimiter, split_last, text_of_named, wrong_of};
+ghost use Rattle.regroup_stream.specs.Words.{IsFormatOf, IsNamed, IsReadUnder, IsUnmarked, IsUnread};
+ghost use Rattle.regroup_stream.specs.Words.{LooksUpNotation, NamesCustomOrLocale, NamesFormats, latin_or_none};
+ghost use Rattle.regroup_stream.specs.Words.{NamesFormatsFor, ambiguity_of, arguments_message, bare_delimiter};
+ghost use Rattle.regroup_stream.specs.Words.{begins_blank, cause_of, custom_format_named, marked_format_named};
+ghost use Rattle.regroup_stream.specs.Words.{message_of_wrong, misuse_message, has_byte, misfit, named_of, prints_byte};
+ghost use Rattle.regroup_stream.specs.Words.{prints_delimiter, split_last, text_of_named, wrong_of};
 
 use crate::ending::{FAILED, MISUSED, send};
 use crate::files::{FileFault, format_held};
+use crate::named_format::NamedFormat;
 use arrayvec::ArrayString;
 use num_format::{CustomFormat, Grouping, Locale};
 use num_format_decimal::marks_decimals;
+use num_format_digits::Digits;
+use num_format_digits::printing::put_text;
 use num_format_typed::TypedParser;
 use regroup_faults::{MAX_FAULT_MESSAGE_LEN, Reading, quoted};
 use regroup_lines::Span;
@@ -26,32 +34,33 @@ const TRY_HELP: &str = "Try 'regroup-lines --help' for more information.\n";
 #[derive(Drop)]
 pub struct Formats {
     /// The format of the numbers that are read.
-    pub from: CustomFormat,
+    pub from: NamedFormat,
     /// The format of the numbers that are written.
-    pub to: CustomFormat,
+    pub to: NamedFormat,
 }
 
 /// What names a format.
 #[derive(Clone, Copy, Debug)]
 pub enum Source<'a> {
-    /// A word: `plain`, `custom:SEP:GROUPING:MINUS[:MARK]` or a locale.
+    /// A word: `plain`, `custom:SEP:GROUPING:MINUS[:MARK]` or a locale, which may name a digit set.
     Word(&'a str),
-    /// A file of this name, with its bytes or why it cannot be read. It has the format as a JSON object with its
-    /// seven fields, as [`format_to_value`](num_format::json::format_to_value) returns it. Of these `inf`, `nan` and `plus`
+    /// A file of this name, with its bytes or why it cannot be read. It has the format as a JSON object with its seven
+    /// fields, as [`format_to_value`](num_format::json::format_to_value) returns it. Of these `inf`, `nan` and `plus`
     /// may be missing, and are those of `en` then.
     File(&'a str, Result<&'a [u8], ErrorKind>),
 }
 
 impl<'a> Source<'a> {
     /// Returns the format, or what is wrong.
-    fn format(self, alloc: Global) -> Result<CustomFormat, Misuse<'a>>
+    fn format(self, alloc: Global) -> Result<NamedFormat, Misuse<'a>>
         ensures { IsFormatOf (named_of self.entry) (result_map_both (λ format. format) wrong_of result) }
     {
         match self {
-            Source::Word(word) => format_named(word).ok_or(Misuse::NoFormat(word)),
-            Source::File(name, Ok(bytes)) => {
-                format_held(alloc, bytes).map_err(|fault| Misuse::BadFile(name, fault))
-            }
+            Source::Word(word) => format_named(word),
+            Source::File(name, Ok(bytes)) => match format_held(alloc, bytes) {
+                Ok(format) => Ok(NamedFormat::latin(format)),
+                Err(fault) => Err(Misuse::BadFile(name, fault)),
+            },
             Source::File(name, Err(kind)) => Err(Misuse::BadFile(name, FileFault::Unread(kind))),
         }
     }
@@ -71,6 +80,8 @@ impl<'a> Source<'a> {
 pub enum Misuse<'a> {
     /// This word names no format.
     NoFormat(&'a str),
+    /// This word names no digit set after `-u-nu-`, or two.
+    NoDigits(&'a str),
     /// The format that this word names, or this file holds, is ambiguous.
     Ambiguous(&'a str, Ambiguity),
     /// The file of this name holds no format, or is not that of rejected lines.
@@ -87,7 +98,8 @@ impl Misuse<'_> {
     /// err.starts_with(b"regroup-lines: 'xx' names no format\nTry 'regroup-")    // true
     /// ```
     pub fn send<E: Write>(&self, err: &mut E) -> u8
-        ensures { SendsMessage (message_of_wrong (wrong_of self.now)) 2 result (E.contents err.old) (E.contents err.new) }
+        ensures { SendsMessage (message_of_wrong (wrong_of self.now)) 2 result (E.contents err.old)
+            (E.contents err.new) }
     {
         send(self.message().as_str(), MISUSED, err)
     }
@@ -98,6 +110,7 @@ impl Misuse<'_> {
     {
         match self {
             Misuse::NoFormat(word) => misuse_message(word, " names no format"),
+            Misuse::NoDigits(word) => misuse_message(word, " names no digit set"),
             Misuse::Ambiguous(word, ambiguity) => misuse_message(word, ambiguity.cause()),
             Misuse::BadFile(name, fault) => fault.message(name),
         }
@@ -116,8 +129,8 @@ pub enum Ambiguity {
     /// A symbol has a digit or another numeric character.
     NumeralInSymbol,
     /// Numbers are read as people type them, and the decimal mark and a separator that is printed have two unlike
-    /// spaces, apostrophes, commas or points, or the minus sign has one of their kinds, begins with a blank or a plus
-    /// sign, or has marks of direction alone.
+    /// spaces, apostrophes, commas or points, or the minus sign has one of their kinds, or without marks of direction at
+    /// its ends is empty or begins with a blank, a line end or a plus sign.
     TypedAlike,
     /// The minus sign begins with ASCII whitespace, which is not part of a number.
     BlankMinusSign,
@@ -182,8 +195,8 @@ fn misuse_message(word: &str, cause: &str) -> ArrayString<MAX_FAULT_MESSAGE_LEN>
     message
 }
 
-/// Sends the message of arguments that are refused for this cause, and returns the status: [`MISUSED`], or [`FAILED`] if there
-/// is no memory for the message, or not all of it could be sent.
+/// Sends the message of arguments that are refused for this cause, and returns the status: [`MISUSED`], or [`FAILED`]
+/// if there is no memory for the message, or not all of it could be sent.
 ///
 /// ```rust
 /// let mut err = Vec::new(alloc);
@@ -217,12 +230,13 @@ fn arguments_message(alloc: Global, cause: &str) -> Result<String, AllocError>
 /// Returns the formats that two words or files name.
 ///
 /// A word is `plain`, as in `-1234.5`, `custom:SEP:GROUPING:MINUS` or `custom:SEP:GROUPING:MINUS:MARK`, which is the
-/// format of `en` with these fields, or a locale as [`Locale::lookup`] finds it, such as `de_DE.UTF-8`. GROUPING is the
+/// format of `en` with these fields, or a locale as [`Locale::lookup`] finds it, such as `de_DE.UTF-8`, with the digits
+/// that [`Digits::of_tag`] finds, as in `ar-EG-u-nu-arab`. GROUPING is the
 /// last field but one if that names one, and else the last but two, so `custom:::Standard:-` has the separator `:`.
 ///
 /// ```rust
 /// formats_named(alloc, Reading::Strict, Source::Word("C"), Source::Word("de_DE.UTF-8")).is_ok()    // true
-/// formats_named(alloc, Reading::Strict, Source::Word("C"), Source::Word("xx")).err()               // Some(NoFormat("xx"))
+/// formats_named(alloc, Reading::Strict, Source::Word("C"), Source::Word("xx")).err()    // Some(NoFormat("xx"))
 /// ```
 ///
 /// # Errors
@@ -239,12 +253,12 @@ pub fn formats_named<'a>(
         (result_map_both (λ formats. (formats.from, formats.to)) wrong_of result) }
 {
     let source = from.format(alloc)?;
-    if let Some(ambiguity) = unread(reading, &source) {
+    if let Some(ambiguity) = unread(reading, &source.format) {
         return Err(Misuse::Ambiguous(from.text(), ambiguity));
     }
     let target = to.format(alloc)?;
-    if !marks_decimals(&target) {
-        return Err(Misuse::Ambiguous(to.text(), Ambiguity::of(&target)));
+    if !marks_decimals(&target.format) {
+        return Err(Misuse::Ambiguous(to.text(), Ambiguity::of(&target.format)));
     }
     Ok(Formats {
         from: source,
@@ -295,10 +309,10 @@ fn misfit<'a>(
     ensures { option_map wrong_of result
         ≡ misfit span.now (named_of from.entry) (named_of to.entry) (formats.now.from, formats.now.to) }
 {
-    if begins_blank(formats.from.minus_sign()) {
+    if begins_blank(formats.from.format.minus_sign()) {
         return Some(Misuse::Ambiguous(from.text(), Ambiguity::BlankMinusSign));
     }
-    if begins_blank(formats.to.minus_sign()) {
+    if begins_blank(formats.to.format.minus_sign()) {
         return Some(Misuse::Ambiguous(to.text(), Ambiguity::BlankMinusSign));
     }
     if prints_delimiter(&formats.to, bare_delimiter(span)) {
@@ -307,12 +321,12 @@ fn misfit<'a>(
     None
 }
 
-/// Returns whether a number that is printed under the format may have the delimiter, if there is one.
-fn prints_delimiter(format: &CustomFormat, delimiter: Option<u8>) -> bool
-    ensures { result ≡ prints_delimiter format.now delimiter }
+/// Returns whether a number that is printed may have the delimiter, if there is one.
+fn prints_delimiter(to: &NamedFormat, delimiter: Option<u8>) -> bool
+    ensures { result ≡ prints_delimiter to.now delimiter }
 {
     match delimiter {
-        Some(delimiter) => prints_byte(format, delimiter),
+        Some(delimiter) => prints_byte(to, delimiter),
         None => false,
     }
 }
@@ -337,21 +351,24 @@ fn bare_delimiter(span: &Span<'_>) -> Option<u8>
     }
 }
 
-/// Returns whether a number that is printed under the format may have this byte.
-fn prints_byte(format: &CustomFormat, byte: u8) -> bool
-    ensures { result ≡ prints_byte format.now byte }
+/// Returns whether a number that is printed may have this byte.
+fn prints_byte(to: &NamedFormat, byte: u8) -> bool
+    ensures { result ≡ prints_byte to.now byte }
 {
-    byte.is_ascii_digit()
-        || has_byte(printed_separator(format), byte)
-        || has_byte(format.minus_sign(), byte)
-        || has_byte(format.decimal(), byte)
+    let format = &to.format;
+    let mut digits = [0; 40];
+    let len = put_text(b"0123456789", to.digits, &mut digits);
+    has_byte(&digits[..len], byte)
+        || has_byte(printed_separator(format).as_bytes(), byte)
+        || has_byte(format.minus_sign().as_bytes(), byte)
+        || has_byte(format.decimal().as_bytes(), byte)
 }
 
 /// Returns whether a text has this byte.
-fn has_byte(text: &str, byte: u8) -> bool
+fn has_byte(text: &[u8], byte: u8) -> bool
     ensures { result ≡ has_byte text.now byte }
 {
-    text.as_bytes().iter().any(|each| *each == byte)
+    text.iter().any(|each| *each == byte)
 }
 
 /// Returns why numbers are not read so under the format, if they are not.
@@ -382,32 +399,51 @@ fn unmarked(format: &CustomFormat) -> Option<Ambiguity>
     }
 }
 
-/// Returns the format that the word names: `plain`, which has no groups, that of `en` with the fields after `custom:`, or
-/// that of the locale as which the word is looked up. Returns `None` where there is none.
-fn format_named(word: &str) -> Option<CustomFormat>
-    ensures { NamesFormat word.now result }
+/// Returns the format that the word names: `plain`, which has no groups, that of `en` with the fields after `custom:`,
+/// or that of the locale as which the word is looked up, with the digits that it names.
+fn format_named(word: &str) -> Result<NamedFormat, Misuse<'_>>
+    ensures { IsNamed word.now (result_map_both (λ format. format) wrong_of result) }
 {
     match word {
-        "plain" => CustomFormat::new("", Grouping::Posix, "-").ok(),
+        "plain" => latin_or_none(word, CustomFormat::new("", Grouping::Posix, "-").ok()),
         _ => custom_or_locale_named(word),
     }
 }
 
 /// Returns the same of a word that is not `plain`.
-fn custom_or_locale_named(word: &str) -> Option<CustomFormat>
-    ensures { NamesCustomOrLocale (starts_with nat_eq word.now (codes "custom:")) word.now result }
+fn custom_or_locale_named(word: &str) -> Result<NamedFormat, Misuse<'_>>
+    ensures { NamesCustomOrLocale (starts_with nat_eq word.now (codes "custom:")) word.now
+        (result_map_both (λ format. format) wrong_of result) }
 {
     match word.strip_prefix("custom:") {
-        Some(fields) => custom_format_named(fields),
+        Some(fields) => latin_or_none(word, custom_format_named(fields)),
         None => locale_named(word),
     }
 }
 
-/// Returns the format of the locale as which a tag is looked up.
-fn locale_named(tag: &str) -> Option<CustomFormat>
-    ensures { LooksUpFormat tag.now result }
+/// Returns a format with the digits `0` to `9`, or that the word names none.
+fn latin_or_none(word: &str, format: Option<CustomFormat>) -> Result<NamedFormat, Misuse<'_>>
+    ensures { result_map_both (λ format. format) wrong_of result ≡ latin_or_none word.now format }
 {
-    Some(CustomFormat::from(Locale::lookup(tag)?))
+    match format {
+        Some(format) => Ok(NamedFormat::latin(format)),
+        None => Err(Misuse::NoFormat(word)),
+    }
+}
+
+/// Returns the format of the locale as which a tag is looked up, with the digits that the tag names, `0` to `9` where
+/// it names none.
+fn locale_named(tag: &str) -> Result<NamedFormat, Misuse<'_>>
+    ensures { LooksUpNotation tag.now (result_map_both (λ format. format) wrong_of result) }
+{
+    match (Locale::lookup(tag), Digits::of_tag(tag)) {
+        (None, _) => Err(Misuse::NoFormat(tag)),
+        (Some(_), Err(_)) => Err(Misuse::NoDigits(tag)),
+        (Some(locale), Ok(digits)) => Ok(NamedFormat {
+            format: CustomFormat::from(locale),
+            digits: digits.unwrap_or(Digits::latin()),
+        }),
+    }
 }
 
 /// Returns the format of the fields `SEP:GROUPING:MINUS`, or `SEP:GROUPING:MINUS:MARK`. SEP may have colons.

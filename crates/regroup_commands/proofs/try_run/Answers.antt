@@ -5,4 +5,5 @@ use Rattle.regroup_commands.proofs.try_run.Goals as goal
 
 pub returns-in-None : goal.returns-in-None
 returns-in-None g c =
-    SendsOutput_usage _ (request_in (texts c.args.args.now)) _ _ _ _ c.send_line.result (search rules) (search rules) (search rules) (search rules)
+    SendsOutput_usage _ (request_in (texts c.args.args.now)) _ _ _ _ c.send_line.result (search rules) (search rules) (search rules)
+    (search rules)

@@ -1,11 +1,11 @@
-use Rattle.regroup_lines.proofs.Common.{Fault, Fields, FormatData, List, None, Ok, Option, Result, Rules, SendsLine, [], ap, field_with}
+use Rattle.regroup_lines.proofs.Common.{Fault, Fields, NotationData, List, None, Ok, Option, Result, Rules, SendsLine, [], ap, field_with}
 use Rattle.regroup_lines.proofs.Common.{fields_of, fields_replaced, fields_written, header_written, join_with_byte, line_fault_of, map}
 use Rattle.regroup_lines.proofs.Common.{output_delimiter, refl, result_map_both, subst, ℕ, ◌+◌, ◌∷◌, ◌≡◌}
 use Rattle.regroup_lines.specs.declared.rules.Span.TheVariants as span
 use Rattle.regroup_lines.proofs.send_header.Goals as goal
 
 -- a line of which no field is chosen
-module _ (fields : Fields) (none : fields.list.now ≡ []) (rules : Rules) (from to : FormatData) (number : ℕ) where
+module _ (fields : Fields) (none : fields.list.now ≡ []) (rules : Rules) (from to : NotationData) (number : ℕ) where
   unchosen : (before : ℕ) (texts : List (List ℕ)) → fields_written rules fields from to number before texts ≡ Ok
       (map (λ field. field_with fields rules.line_end field None) texts)
   unchosen before [] = rw none refl
@@ -31,6 +31,6 @@ returns-in-Fields g c =
       quotes = fields.quotes;
       output =
           fields.output;
-    }) refl job.rules.now job.parser (g.G.Format.answers job.to.now) c.args.line.now.number
+    }) refl job.rules.now job.parser job.to.now c.args.line.now.number
     (g.W.Write.contents c.args.w.now) (g.W.Write.contents c.regroup_fields.new.w)
     (result_map_both (λ sent. sent) line_fault_of c.regroup_fields.result) c.args.line.now.text.now c.regroup_fields.ensures)

@@ -5,7 +5,7 @@ use Rattle.regroup_stream.proofs.regroup.Goals as goal
 
 pub returns : goal.returns
 returns g c =
-    RegroupsAll-flushed _ _ _ _ _ _ _ _ _ _ _ _ _ _ c.new-input.ensures c.regroup_at_most-regrouped.ensures c.flush-unflushed.ensures.bytes
+    rw (← c.notation-from.ensures, ← c.notation-to.ensures) (RegroupsAll-flushed _ _ _ _ _ _ _ _ _ _ _ _ _ _ c.new-input.ensures c.regroup_at_most-regrouped.ensures c.flush-unflushed.ensures.bytes
     c.flush-rejects_unflushed.ensures.bytes (end_of c.after.result) _ _ c.flush-unflushed.result c.flush-rejects_unflushed.result
     (c.after.ensures ∙ ap (end_after c.flush-unflushed.result c.flush-rejects_unflushed.result) c.ending_of-ending.ensures)
-    c.flush-unflushed.ensures.empty c.flush-rejects_unflushed.ensures.empty
+    c.flush-unflushed.ensures.empty c.flush-rejects_unflushed.ensures.empty)

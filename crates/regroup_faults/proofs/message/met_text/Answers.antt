@@ -1,4 +1,4 @@
-use Rattle.std.proofs.Common.{List, [], append_assoc, ap, ◌++◌, ◌∙◌, ◌≡◌, ℕ}
+use Rattle.std.proofs.Common.{List, append_assoc, ◌++◌, ◌∙◌, ◌≡◌, ℕ}
 use Rattle.std.specs.Prelude.{codes}
 use Rattle.regroup_faults.proofs.message.met_text.Goals as goal
 
@@ -21,4 +21,5 @@ returns c = rw (
   c.push_str-2.ensures.bytes,
   c.push_str.ensures.bytes,
   c.new-text.ensures,
-) (seven (codes ": not a number at byte ") c.args.at.now (codes ": ") c.args.met.now (codes ", where FROM has ") c.args.wanted.now (codes ": see --typed"))
+) (seven (codes ": not a number at byte ") c.args.at.now (codes ": ") c.args.met.now (codes ", where FROM has ") c.args.wanted.now
+    (codes ": see --typed"))

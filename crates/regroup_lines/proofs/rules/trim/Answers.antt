@@ -7,5 +7,6 @@ returns-clause-place c =
     let text = c.args.text.now in
     let rest = c.trim_ascii_start-rest in
     let number = c.trim_ascii_end-number in
-    trim_found text (slice_range text c.args.place.start c.args.place.end) rest.result.now number.result.now c.args.place.start c.args.place.end
+    trim_found text (slice_range text c.args.place.start c.args.place.end) rest.result.now number.result.now c.args.place.start
+    c.args.place.end
     refl c.requires.ordered c.requires.within rest.ensures.value number.ensures.value

@@ -1,4 +1,5 @@
-use Rattle.regroup_lines.proofs.Common.{List, StopsWithin, [], arith, eq-eqb, err_from_is_err_and, get_or, if◌then◌else◌, is_quote, length, ne_eqb, refl, subst, sym, take, ℕ, ◌<◌, ◌∷◌, ◌≡◌}
+use Rattle.regroup_lines.proofs.Common.{List, StopsWithin, [], arith, eq-eqb, err_from_is_err_and, get_or, if◌then◌else◌, is_quote, length}
+use Rattle.regroup_lines.proofs.Common.{ne_eqb, refl, subst, sym, take, ℕ, ◌<◌, ◌∷◌, ◌≡◌}
 use Rattle.regroup_lines.proofs.CsvLemmas.{parts-unsent}
 use Rattle.regroup_lines.proofs.sending.send_doubled.Goals as goal
 use Rattle.regroup_lines.proofs.sending.send_doubled.Goals.{else-byte-eq-QUOTE, then-byte-eq-QUOTE}
@@ -18,5 +19,6 @@ returns-in_err-send_whole g c =
     rw (p.1, p.2) (record {
       whole = tt;
       prefix = parts-unsent once_or_twice c.args.text.now c.loop-byte.byte-index 0 _ _ _ low c.loop-byte.invariant
-          (subst (StopsWithin (g.W.Write.contents c.loop-byte.w) (g.W.Write.contents c.send_whole-in-loop-byte.new.w)) (sym same) c.in_err-send_whole.ensures.prefix);
+          (subst (StopsWithin (g.W.Write.contents c.loop-byte.w) (g.W.Write.contents c.send_whole-in-loop-byte.new.w))
+          (sym same) c.in_err-send_whole.ensures.prefix);
     })

@@ -10,7 +10,8 @@ use Rattle.regroup_stream.specs.Files.{with_text_at}
 use Rattle.regroup_stream.proofs.files.insert_missing.Goals as goal
 
 -- what is not found has no value
-absent : {A : Type 0} (f : A → Data) (found : Option A) (value : Option Data) → option_map f found ≡ value → is_some found ≡ false → is_some value ≡ false
+absent : {A : Type 0} (f : A → Data) (found : Option A) (value : Option Data) → option_map f found ≡ value → is_some found ≡ false
+    → is_some value ≡ false
 absent f None value same none = rw (← same) refl
 absent f (Some x) value same none = absurd (cc)
 
@@ -25,7 +26,8 @@ lacking key text (array items) ms is lacks = absurd (cc)
 lacking key text (object others) ms is lacks = rw lacks (cc)
 
 -- an object with a member more
-inserted : (m : BTreeMap (String Global) Value) (es : List Entry) (k : String Global) (v : Value) (key text : List ℕ) → m.entries ≡ insert_entry string_cmp es k v →
+inserted : (m : BTreeMap (String Global) Value) (es : List Entry) (k : String Global) (v : Value) (key text : List ℕ)
+    → m.entries ≡ insert_entry string_cmp es k v →
     string_bytes k ≡ key → view v ≡ string text → view (Object m) ≡ object (put key (string text) (members_view es))
 inserted m es k v key text entries is_key is_text =
     view-Object m ∙ ap (λ l. object (members_view l)) entries ∙ ap object (members_view-insert_entry es k v) ∙ rw (is_key, is_text) refl
@@ -34,6 +36,8 @@ pub returns-in_ok-insert : goal.returns-in_ok-insert
 returns-in_ok-insert c =
     let none : is_some c.get.result ≡ false = cc in
     let lacks : is_some (get c.args.key.now (view c.args.value.now)) ≡ false = absent _ _ _ c.get.ensures none in
-    inserted c.insert.new.self c.in-Some.members.now.entries c.in_ok-from_str.field-0 c.in_ok-try_from_str.field-0 c.args.key.now c.args.text.now
+    inserted c.insert.new.self c.in-Some.members.now.entries c.in_ok-from_str.field-0 c.in_ok-try_from_str.field-0 c.args.key.now
+    c.args.text.now
     c.in_ok-insert.ensures.entries c.in_ok-from_str.ensures.ok c.in_ok-try_from_str.ensures
-    ∙ lacking c.args.key.now c.args.text.now (view c.args.value.now) (members_view c.in-Some.members.now.entries) c.in-Some.ensures.value lacks
+    ∙ lacking c.args.key.now c.args.text.now (view c.args.value.now) (members_view c.in-Some.members.now.entries) c.in-Some.ensures.value
+    lacks

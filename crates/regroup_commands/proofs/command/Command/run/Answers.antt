@@ -7,4 +7,5 @@ returns-in-Ok g c = SendsOutput_lines _ _ _ _ _ c.in-Ok.sent c.in-Ok.ensures.sen
 
 pub returns-in-Err : goal.returns-in-Err
 returns-in-Err g c =
-    SendsOutput_message _ _ _ _ _ _ c.send_error.result (refusal_of c.in-Err.error) c.in-Err.ensures.refused c.in-Err.ensures.unsent c.send_error.ensures c.and-in-Err.ensures
+    SendsOutput_message _ _ _ _ _ _ c.send_error.result (refusal_of c.in-Err.error) c.in-Err.ensures.refused c.in-Err.ensures.unsent
+    c.send_error.ensures c.and-in-Err.ensures

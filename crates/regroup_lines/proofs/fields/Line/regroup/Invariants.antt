@@ -1,4 +1,5 @@
-use Rattle.regroup_lines.proofs.Common.{Fault, IsOnly, List, Option, Result, SendsIf, before_field, drop, ended_by, fields_of, fields_replaced, length, result_map_both, slice_range, true, ℕ, ◌+◌, ◌-◌, ◌≡◌, ◌≤◌}
+use Rattle.regroup_lines.proofs.Common.{Fault, IsOnly, List, Option, Result, SendsIf, before_field, drop, ended_by, fields_of}
+use Rattle.regroup_lines.proofs.Common.{fields_replaced, length, result_map_both, slice_range, true, ℕ, ◌+◌, ◌-◌, ◌≡◌, ◌≤◌}
 use Rattle.regroup_lines.proofs.FieldLemmas.{IsNext, line_from}
 use Rattle.regroup_lines.proofs.fields.Line.regroup.Given as goal
 
@@ -9,11 +10,14 @@ invariant-fields g l =
     let fields = l.self.fields.now in
     let known = l.self.sends ≡ true → IsOnly fields in
     let start = length l.text - length l.rest in
-    (l.sent ≤ start) × (length l.rest ≤ length l.text) × (l.count ≤ start) × (l.rest ≡ drop start l.text) × IsNext fields (l.count + 1) l.changed
+    (l.sent ≤ start) × (length l.rest ≤ length l.text) × (l.count ≤ start) × (l.rest ≡ drop start l.text)
+    × IsNext fields (l.count + 1) l.changed
     × ((c : Option (List ℕ)) (r : Result (Unit {0}) Fault) →
-    SendsIf l.self.sends known (line_from job.rules.now fields job.parser (g.G.Format.answers job.to.now) l.self.number (before_field fields (slice_range l.text l.sent start)) l.count (fields_of fields (drop start l.text)))
+    SendsIf l.self.sends known (line_from job.rules.now fields job.parser job.to.now l.self.number
+    (before_field fields (slice_range l.text l.sent start)) l.count (fields_of fields (drop start l.text)))
     (g.W.Write.contents l.w) c r →
-    SendsIf l.self.sends known (result_map_both (ended_by job.rules.now.line_end) (λ fault. fault) (fields_replaced fields job.rules.now job.parser (g.G.Format.answers job.to.now) l.self.number l.text))
+    SendsIf l.self.sends known (result_map_both (ended_by job.rules.now.line_end) (λ fault. fault)
+    (fields_replaced fields job.rules.now job.parser job.to.now l.self.number l.text))
     (g.W.Write.contents l.fn.w) c r)
 
 abbrev pub decreases-fields : goal.decreases-fields

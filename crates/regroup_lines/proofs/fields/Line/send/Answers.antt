@@ -1,31 +1,8 @@
-use Rattle.regroup_lines.proofs.Common.{append-nil, ap, arith, decimal_text, doubled, if◌then◌else◌, part_text, slice_range, sym, ◌++◌, ◌+◌, ◌∙◌, ◌≡◌}
-use Rattle.regroup_lines.proofs.FieldLemmas.{none_between, placed-anew, placed-plain, sent-but, whole-but}
-use Rattle.regroup_lines.specs.Csv.{output_of}
+use Rattle.regroup_lines.proofs.Common.{sym, ◌∙◌}
+use Rattle.regroup_faults.proofs.NotationLemmas.{latin_text}
 use Rattle.regroup_lines.proofs.fields.Line.send.Goals as goal
-use Rattle.regroup_lines.proofs.fields.Line.send.Goals.{else-is_quoted, then-is_quoted}
 
-pub returns-in-Some-clause-sent : goal.returns-in-Some-clause-sent
-returns-in-Some-clause-sent g c =
-    let field = c.args.field.now in
-    let found = c.args.found.now in
-    let is = c.as_bytes-text.ensures.value ∙ c.as_str.ensures.same ∙ c.write_formatted.ensures.text in
-    let anew = placed-anew c.args.self.now.fields.now c.args.self.now.job.now.rules.now.line_end found.is_quoted (slice_range field.line.now field.start field.end) found.start found.end c.as_bytes-text.result.now c.in-Some.output
-    (sym c.output_of.ensures ∙ c.in-Some.is) in
-    rw c.and.ensures (whole-but (λ from. slice_range field.line.now from field.end) _ field.end _ _ _ (cc (anew, is, c.before_field-passed.ensures)) (none_between field.line.now field.end) c.send_output.result c.send_output.ensures)
-
-pub returns-after-is_quoted-clause-sent : goal.returns-after-is_quoted-clause-sent
-returns-after-is_quoted-clause-sent g c =
-    let field = c.args.field.now in
-    let found = c.args.found.now in
-    let text = decimal_text (g.G.Format.answers c.args.self.now.job.now.to.now) found.value in
-    let is : c.as_bytes-text.result.now ≡ text = c.as_bytes-text.ensures.value ∙ c.as_str.ensures.same ∙ c.write_formatted.ensures.text in
-    let fields = c.args.self.now.fields.now in
-    let line_end = c.args.self.now.job.now.rules.now.line_end in
-    let part : part_text c.if-is_quoted.text ≡ (if found.is_quoted then doubled text else text) = elim c.if-is_quoted.branch [
-      | then-is_quoted w ↦ rw (w.text-is, w.if-is_quoted.true) (ap doubled is)
-      | else-is_quoted w ↦ rw (w.text-is, w.if-is_quoted.false) is
-    ] in
-    rw c.and-in-None.ensures (sent-but (λ from. slice_range field.line.now from field.end) _ (field.start + found.end) _ _ _
-    (placed-plain fields line_end found.is_quoted field.line.now field.sent field.start field.end found.start found.end text (omega arith) (omega arith) c.requires.ordered
-    (ap (output_of fields line_end found.is_quoted) (sym is) ∙ sym c.output_of.ensures ∙ c.in-None.is) ∙ ap (λ l. (slice_range field.line.now field.sent (field.start + found.start) ++ l) ++ slice_range field.line.now (field.start + found.end) field.end) (sym part ∙ sym (append-nil _)))
-    c.send_all.result c.send_all.ensures)
+pub send_text-requires-clause-text : goal.send_text-requires-clause-text
+send_text-requires-clause-text g c =
+    rw (← c.to.view_is) (c.as_str.ensures.same ∙ c.write_formatted.ensures.text
+    ∙ sym (latin_text c.to.inside.digits _ (sym c.is_latin.ensures ∙ c.if-is_latin.true)))

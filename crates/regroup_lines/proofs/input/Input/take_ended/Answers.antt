@@ -7,4 +7,5 @@ returns-clause-left c =
     let input = c.args.self.now in
     let onward : input.start + c.args.len + 1 ≡ input.start + (c.args.len + 1) = omega arith in
     ap (λ start. slice_range input.array.now start input.end) onward
-    ∙ range-later input.array.now input.start input.end (c.args.len + 1) (omega (arith, c.requires, length-take {A = ℕ}, length-drop {A = ℕ}))
+    ∙ range-later input.array.now input.start input.end (c.args.len + 1)
+    (omega (arith, c.requires, length-take {A = ℕ}, length-drop {A = ℕ}))

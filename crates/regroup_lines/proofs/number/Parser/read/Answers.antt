@@ -1,38 +1,10 @@
-use Rattle.regroup_lines.proofs.Common.{DecimalResult, HasUtf8Texts, MarksDecimals, MatchOption, Ok, SFits, ap, fixed_point, refl, rules}
-use Rattle.regroup_lines.proofs.Common.{subst, sym, w128, ◌∙◌, ◌≡◌}
-use Rattle.std.proofs.lemmas.Int.{to_z-of_z}
-use Rattle.regroup_lines.proofs.TextLemmas.{lenient-accepted, lenient-refused, strict-read, strict-refused, typed-read, whole_text}
+use Rattle.regroup_lines.proofs.Common.{sym, ◌∙◌}
+use Rattle.regroup_lines.proofs.TextLemmas.{written-none, written-some}
 use Rattle.regroup_lines.proofs.number.Parser.read.Goals as goal
 
-pub returns-in-Strict-Some : goal.returns-in-Strict-Some
-returns-in-Strict-Some g c to =
-    let from = g.F.Format.answers c.self.inside.format.now in
-    let same : c.in-Strict-Some.parser ≡ from = subst (λ decimals. MatchOption decimals (¬ (MarksDecimals from)) (λ p. p ≡ from)) c.in-Strict-Some.is-1 c.self.invariant.1 in
-    rw (← c.self.view_is, c.in-Strict-Some.is-0, c.or.ensures)
-    (strict-read from to c.args.number c.args.text.now c.self.invariant.0 c.parse_bytes.result (subst (λ f. DecimalResult f c.args.text.now c.parse_bytes.result) same c.parse_bytes.ensures) _ refl)
+pub returns-in-Some : goal.returns-in-Some
+returns-in-Some g c to =
+    written-some to c.args.number c.args.text.now _ c.in-Some.decimal (sym c.in-Some.is ∙ c.read_decimal.ensures)
 
-pub returns-in-Strict-None : goal.returns-in-Strict-None
-returns-in-Strict-None g c to =
-    let from = g.F.Format.answers c.self.inside.format.now in
-    let ambiguous = subst (λ decimals. MatchOption decimals (¬ (MarksDecimals from)) (λ p. p ≡ from)) c.in-Strict-None.is-1 c.self.invariant.1 in
-    rw (← c.self.view_is, c.in-Strict-None.is-0) (strict-refused from to c.args.number c.args.text.now c.self.invariant.0 (λ d parsed. ambiguous parsed.unambiguous))
-
-pub returns-in-Typed-default : goal.returns-in-Typed-default
-returns-in-Typed-default g c to =
-    let utf8 = subst HasUtf8Texts c.self.view_is c.self.invariant.0 in
-    rw (c.in-Typed-default.is-0, c.or-in-Typed-default.ensures)
-    (typed-read c.args.self.now to c.args.number c.args.text.now utf8 c.read_typed.result c.read_typed.ensures _ refl)
-
-pub returns-in-Ok : goal.returns-in-Ok
-returns-in-Ok g c to =
-    let from = g.F.Format.answers c.self.inside.format.now in
-    let value = c.in-Ok.value in
-    let fits : SFits w128 value = search rules in
-    let whole = c.from.ensures ∙ ap (λ n. fixed_point n 0) (to_z-of_z w128 value fits) in
-    rw (← c.self.view_is, c.in-Lenient-default.is-0)
-    (lenient-accepted from to c.args.number c.args.text.now value c.in-Ok.ensures.number c.in-Ok.ensures.accepted ∙ ap Ok (sym (whole_text to c.from.result value whole)))
-
-pub returns-in-Err : goal.returns-in-Err
-returns-in-Err g c to =
-    rw (← c.self.view_is, c.in-Lenient-default.is-0)
-    (lenient-refused (g.F.Format.answers c.self.inside.format.now) to c.args.number c.args.text.now _ c.in-Err.ensures.not_utf8 c.in-Err.ensures.refused)
+pub returns-in-None : goal.returns-in-None
+returns-in-None g c to = written-none to c.args.number c.args.text.now _ (sym c.in-None.is ∙ c.read_decimal.ensures)

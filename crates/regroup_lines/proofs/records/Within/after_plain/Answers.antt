@@ -8,4 +8,8 @@ returns-in-Quoted c = after-quoted c.args.quotes c.args.self c.args.text.now (ap
 pub returns-in-len1-up : goal.returns-in-len1-up
 returns-in-len1-up c =
     c.after_byte.ensures
-    ∙ after-last c.args.quotes c.args.self c.args.text.now (elim c.in-Start.is [ inl is ↦ rw is tt | inr is ↦ rw is tt ]) c.in-len1-up.len_at_least c.requires
+    ∙ after-last c.args.quotes c.args.self c.args.text.now (elim c.in-Start.is [
+      | inl is ↦ rw is tt
+      | inr is
+          ↦ rw is tt
+    ]) c.in-len1-up.len_at_least c.requires

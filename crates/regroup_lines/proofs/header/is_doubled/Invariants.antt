@@ -1,0 +1,7 @@
+use Rattle.regroup_lines.proofs.Common.{doubled, drop, ◌≡◌}
+use Rattle.std.specs.Str.{bytes_eq}
+use Rattle.regroup_lines.proofs.header.is_doubled.Given as goal
+
+-- what is left of the text is compared with what is left of the name
+abbrev pub invariant-loop-byte : goal.invariant-loop-byte
+invariant-loop-byte l = bytes_eq l.text (doubled l.name) ≡ bytes_eq l.rest (doubled (drop l.byte-index l.name))
