@@ -3,14 +3,16 @@
 //! Each function makes one such call, and its contract says what the call returns. An `impl` chooses
 //! itself what its `==` is to return. One that finds all values equal is proved where it stands, and
 //! refused here.
-ghost use Rattle.std.specs.Prelude.{◌≡◌, ◌↔◌, IsTrue, IfOk, fold, string_bytes};
+ghost use Rattle.std.specs.Prelude.{◌≡◌, ◌<◌, ◌↔◌, IsTrue, IfOk, fold, string_bytes};
 ghost use Rattle.std.specs.Cmp.Lexicographic.{slice_cmp};
 ghost use Rattle.std.specs.Hash as fed;
 ghost use Rattle.std.specs.Hash.DefaultHasher as sip;
 ghost use Rattle.std.specs.Ordering.{is_lt, nat_cmp};
 ghost use Rattle.num_format.specs.Refusal.{message_of, refusal_of};
 
-use num_format::{Buffer, CustomFormat, CustomFormatBuilder, Error, ErrorKind, Grouping, laws};
+use num_format::{
+    Buffer, CustomFormat, CustomFormatBuilder, Error, ErrorKind, Grouping, Locale, laws,
+};
 use num_format_text::strings::BoundedStr;
 use num_format_text::symbol::Symbol;
 use std::alloc::{AllocError, Global};
@@ -164,30 +166,33 @@ pub fn copy_of_builder(builder: &CustomFormatBuilder) -> CustomFormatBuilder
     builder.clone().unwrap()
 }
 
+/// Returns whether two locales are the same.
+pub fn same_locale(a: Locale, b: Locale) -> bool
+    ensures { IsTrue result ↔ (a ≡ b) }
+{
+    a == b
+}
+
+/// Returns whether a locale is before another.
+pub fn is_before_locale(a: Locale, b: Locale) -> bool
+    ensures { IsTrue result ↔ (a < b) }
+{
+    a < b
+}
+
+/// Returns a clone of a locale.
+pub fn cloned_locale(locale: &Locale) -> Locale
+    ensures { result ≡ locale.now }
+{
+    locale.clone().unwrap()
+}
+
 #[cfg(test)]
 mod tests {
     use super::*;
     use crate::asserting::assert_equal;
     use num_format::utils::SeparatorStr;
-    use std::process::Abort;
     use std::test::Fail;
-
-    /// Asserts the message of an error.
-    fn assert_message(rt: &impl Abort, alloc: Global, text: &str, kept: &str) -> Result<(), Fail> {
-        let shown = message(alloc, &Error::new(text))?;
-        assert_equal(rt, shown.as_str(), kept);
-        Ok(())
-    }
-
-    /// A message is truncated after 256 bytes, at a whole character.
-    #[test]
-    fn messages(rt: HostRuntime) -> Result<(), Fail> {
-        let text = "a".repeat(rt.alloc(), 256)?;
-        assert_message(&rt, rt.alloc(), &text, &text)?;
-        let kept = &text[..255];
-        let long = format!(in rt.alloc(); "{kept}é")?;
-        assert_message(&rt, rt.alloc(), &long, kept)
-    }
 
     /// Errors that keep the same prefix are equal.
     #[test]

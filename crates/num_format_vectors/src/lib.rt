@@ -12,18 +12,15 @@
 //! | Module | What is tested |
 //! |---|---|
 //! | `shown` | what `{}` and `{:?}` write of the shortest and longest values |
-//! | `parsing` | texts parsed by generic code |
-//! | `errors` | the capacities of the six texts, and what an error prints |
-//! | `builder` | what a builder keeps of a format, and builders compared |
-//! | `comparisons` | errors, texts, formats and builders compared, cloned, hashed and displayed |
-//! | `json` | buffers, formats and locales to JSON |
-//! | `locales` | the list of names, and a locale found by its name |
+//! | `builder` | builders compared and cloned |
+//! | `comparisons` | errors, texts, formats, builders and locales compared, cloned, hashed and displayed |
+//! | `json` | the longest buffer, format and name of a locale to JSON, and each grouping by serde |
 //! | `alike` | a caller that prints under either of two formats that print alike |
 //! | `constants` | the name of each constant of `Locale` |
 //! | `users` | the crates `uses_money` and `uses_settings` |
 //! | `widths` | whole numbers, decimals and amounts of money filled up to each width, and the longest texts |
 //!
-//! `asserting` and `texts` serve these tests.
+//! `asserting` serves these tests.
 #![tactic(auto)]
 
 #[cfg(test)]
@@ -36,18 +33,9 @@ pub mod comparisons;
 #[cfg(test)]
 mod constants;
 #[cfg(test)]
-mod errors;
-#[cfg(test)]
 mod json;
 #[cfg(test)]
-mod locales;
-#[cfg(test)]
-mod parsing;
-pub mod settings;
-#[cfg(test)]
 mod shown;
-#[cfg(test)]
-mod texts;
 #[cfg(test)]
 mod users;
 #[cfg(test)]

@@ -1,9 +1,7 @@
 //! The crates `uses_money` and `uses_settings`: amounts displayed and parsed, and formats of settings.
 
 use crate::asserting::assert_equal;
-use crate::errors::message;
-use crate::texts::printed;
-use num_format::Locale;
+use num_format::{Buffer, Locale};
 use num_format_decimal::{DecimalError, ParseAtScaleError, ParseDecimalError};
 use std::alloc::Global;
 use std::process::Abort;
@@ -84,7 +82,8 @@ fn the_longest_prices(rt: HostRuntime) -> Result<(), Fail> {
 /// Asserts the text of a number under the format of these settings.
 fn assert_printed(rt: &impl Abort, settings: &str, expected: &str) -> Result<(), Fail> {
     let format = parse_format(settings)?;
-    assert_equal(rt, printed(&-1_234_567, &format).as_str(), expected);
+    let buffer = Buffer::of(&-1_234_567, &format);
+    assert_equal(rt, buffer.as_str(), expected);
     Ok(())
 }
 
@@ -102,8 +101,11 @@ fn assert_refused(
     settings: &str,
     expected: &str,
 ) -> Result<(), Fail> {
-    let error = message(alloc, parse_format(settings).err())?;
-    assert_equal(rt, error.as_str(), expected);
+    let Err(error) = parse_format(settings) else {
+        return Err(Fail::from("a format"));
+    };
+    let message = format!(in alloc; "{error}")?;
+    assert_equal(rt, message.as_str(), expected);
     Ok(())
 }
 

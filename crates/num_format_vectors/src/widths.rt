@@ -1,7 +1,7 @@
 //! Whole numbers, decimals and amounts of money filled up to each width, and the longest texts.
 //!
-//! The contracts say what is written where a call succeeds. These tests show that it does at each width up to one that is
-//! larger than any text. `tests/cases/padded.tsv` has other texts, at some widths.
+//! The contracts say what is written where a call succeeds. These tests show that it does at each width up to one that
+//! is larger than any text. `tests/cases/padded.tsv` has other texts, at some widths.
 
 use crate::asserting::assert_equal;
 use num_format::{CustomFormat, Error, Grouping, Locale, ToFormattedString};
@@ -48,7 +48,7 @@ fn assert_filled_to<T: Display>(
     Ok(())
 }
 
-/// Returns the format under which texts are longest: a separator and a minus sign have eight bytes, and so has the mark.
+/// Returns the format under which texts are longest: the separator, the minus sign and the mark have eight bytes.
 fn longest_format() -> Result<CustomFormat, Error> {
     CustomFormat::builder()
         .grouping(Grouping::Indian)
@@ -106,23 +106,6 @@ fn decimals_to_debug(rt: HostRuntime) -> Result<(), Fail> {
     let shown = price.formatted(&Locale::en);
     let text = format!(in rt.alloc(); "{shown:>12?}|{buffer:>12?}")?;
     assert_equal(&rt, text.as_str(), "   -1,234.50|-1,234.50");
-    Ok(())
-}
-
-/// A side counts for decimals and amounts of money. Other options are ignored, and nothing is cut.
-#[test]
-fn other_options(rt: HostRuntime) -> Result<(), Fail> {
-    let price = Money {
-        minor_units: -123_450,
-        currency: Currency::Eur,
-    };
-    let amount = price.amount();
-    let (n, m) = (amount.formatted(&Locale::de), price.formatted(&Locale::de));
-    let decimal = format!(in rt.alloc(); "[{n:^12}] [{n:.1}] [{n:+#012.1}]")?;
-    let money = format!(in rt.alloc(); "[{m:^12}] [{m:.1}] [{m:+#012.1}]")?;
-    let expected = "[ -1.234,50  ] [-1.234,50] [   -1.234,50]";
-    assert_equal(&rt, decimal.as_str(), expected);
-    assert_equal(&rt, money.as_str(), expected);
     Ok(())
 }
 

@@ -9,13 +9,13 @@
 use num_format_decimal::Decimal;
 use num_format_digits::{DigitText, Digits};
 use num_format_locale::Locale;
-use std::alloc::{AllocError, Global};
+use std::alloc::Global;
 use std::{fmt, io, str};
 
 fn main(rt: HostRuntime) -> io::Result<()> {
     let data = io::read_to_string(rt.alloc(), rt.reader())?;
     for line in data.lines() {
-        match answer(rt.alloc(), line)? {
+        match answer(rt.alloc(), line) {
             Some(text) => println!(rt; "{text}")?,
             None => println!(rt; "unreadable: {line}")?,
         }
@@ -23,114 +23,79 @@ fn main(rt: HostRuntime) -> io::Result<()> {
     Ok(())
 }
 
-/// Returns what is printed for a line, or `None` if it is no call.
-fn answer(alloc: Global, line: &str) -> Result<Option<String>, AllocError> {
-    let Some((call, arguments)) = line.split_once('\t') else {
-        return Ok(None);
-    };
+/// Returns what is printed for a line. None where it is no call, or out of memory.
+fn answer(alloc: Global, line: &str) -> Option<String> {
+    let (call, arguments) = line.split_once('\t')?;
     match call {
-        "locale" => of_locale(alloc, arguments),
-        "tag" => of_tag(alloc, arguments),
-        "text" => of_text(alloc, arguments),
+        "locale" => {
+            let locale = Locale::from_name(arguments).ok()?;
+            shown(alloc, Some(Digits::of_locale(locale)))
+        }
+        "tag" => match Digits::of_tag(arguments) {
+            Ok(digits) => shown(alloc, digits),
+            Err(error) => format!(in alloc; "{error:?}").ok(),
+        },
+        "text" => shown(alloc, Digits::of_text(arguments)),
         "print" => printed(alloc, arguments),
-        "whole" | "decimal" | "typed" | "typed decimal" => parsed(alloc, call, arguments),
-        _ => Ok(None),
+        _ => parsed(alloc, call, arguments),
     }
 }
 
-/// Returns the default set of a locale.
-fn of_locale(alloc: Global, name: &str) -> Result<Option<String>, AllocError> {
-    let Ok(locale) = Locale::from_name(name) else {
-        return Ok(None);
-    };
-    let text = format!(in alloc; "{}", Digits::of_locale(locale).zero())?;
-    Ok(Some(text))
-}
-
-/// Returns the set that a language tag names.
-fn of_tag(alloc: Global, tag: &str) -> Result<Option<String>, AllocError> {
-    let text = match Digits::of_tag(tag) {
-        Ok(Some(digits)) => format!(in alloc; "{}", digits.zero())?,
-        Ok(None) => format!(in alloc; "none")?,
-        Err(error) => format!(in alloc; "{error:?}")?,
-    };
-    Ok(Some(text))
-}
-
-/// Returns the set of the first digit of a text.
-fn of_text(alloc: Global, text: &str) -> Result<Option<String>, AllocError> {
-    let text = match Digits::of_text(text) {
-        Some(digits) => format!(in alloc; "{}", digits.zero())?,
-        None => format!(in alloc; "none")?,
-    };
-    Ok(Some(text))
+/// Returns the zero of a set.
+fn shown(alloc: Global, digits: Option<Digits>) -> Option<String> {
+    match digits {
+        Some(digits) => format!(in alloc; "{}", digits.zero()).ok(),
+        None => String::from_str(alloc, "none").ok(),
+    }
 }
 
 /// Returns the text of a number, or of a decimal by its units and its scale, in a set, under a locale.
-fn printed(alloc: Global, arguments: &str) -> Result<Option<String>, AllocError> {
+fn printed(alloc: Global, arguments: &str) -> Option<String> {
     let Some((digits, locale, number)) = read(arguments) else {
-        return Ok(None);
+        return None;
     };
     let text = match number.split_once('/') {
         Some((units, scale)) => {
-            let (Ok(units), Ok(scale)) = (units.parse(), scale.parse()) else {
-                return Ok(None);
-            };
-            let Ok(decimal) = Decimal::new(units, scale) else {
-                return Ok(None);
-            };
+            let decimal = Decimal::new(units.parse().ok()?, scale.parse().ok()?).ok()?;
             DigitText::of_decimal(&decimal, &locale, digits)
         }
         None => {
-            let Ok(number) = number.parse::<i64>() else {
-                return Ok(None);
-            };
+            let number: i64 = number.parse().ok()?;
             DigitText::of(&number, &locale, digits)
         }
     };
-    let text = format!(in alloc; "{text}")?;
-    Ok(Some(text))
+    format!(in alloc; "{text}").ok()
 }
 
 /// Returns the number that a text is parsed as in a set, under a locale: an `i64`, or a decimal, strictly or as typed.
-fn parsed(alloc: Global, call: &str, arguments: &str) -> Result<Option<String>, AllocError> {
+fn parsed(alloc: Global, call: &str, arguments: &str) -> Option<String> {
     let Some((digits, locale, text)) = read(arguments) else {
-        return Ok(None);
+        return None;
     };
-    let Ok(bytes) = hex::decode(alloc, text) else {
-        return Ok(None);
-    };
-    let Ok(text) = str::from_utf8(bytes.as_slice()) else {
-        return Ok(None);
-    };
-    let text = match call {
-        "whole" => whole(alloc, digits.parse_strict::<i64, Locale>(text, &locale))?,
-        "typed" => whole(alloc, digits.parse_typed::<i64, Locale>(text, &locale))?,
-        "decimal" => decimal(alloc, digits.parse_decimal(text, &locale))?,
-        _ => decimal(alloc, digits.parse_typed_decimal(text, &locale))?,
-    };
-    Ok(Some(text))
+    let bytes = hex::decode(alloc, text).ok()?;
+    let text = str::from_utf8(bytes.as_slice()).ok()?;
+    match call {
+        "whole" => whole(alloc, digits.parse_strict::<i64, Locale>(text, &locale)),
+        "typed" => whole(alloc, digits.parse_typed::<i64, Locale>(text, &locale)),
+        "decimal" => decimal(alloc, digits.parse_decimal(text, &locale)),
+        "typed decimal" => decimal(alloc, digits.parse_typed_decimal(text, &locale)),
+        _ => None,
+    }
 }
 
 /// Returns a number, or why there is none.
-fn whole<E: fmt::Debug + Drop>(
-    alloc: Global,
-    parsed: Result<i64, E>,
-) -> Result<String, AllocError> {
+fn whole<E: fmt::Debug + Drop>(alloc: Global, parsed: Result<i64, E>) -> Option<String> {
     match parsed {
-        Ok(number) => format!(in alloc; "{number}"),
-        Err(error) => format!(in alloc; "{error:?}"),
+        Ok(number) => format!(in alloc; "{number}").ok(),
+        Err(error) => format!(in alloc; "{error:?}").ok(),
     }
 }
 
 /// Returns the units and the scale of a decimal, or why there is none.
-fn decimal<E: fmt::Debug + Drop>(
-    alloc: Global,
-    parsed: Result<Decimal, E>,
-) -> Result<String, AllocError> {
+fn decimal<E: fmt::Debug + Drop>(alloc: Global, parsed: Result<Decimal, E>) -> Option<String> {
     match parsed {
-        Ok(decimal) => format!(in alloc; "{}/{}", decimal.units(), decimal.scale()),
-        Err(error) => format!(in alloc; "{error:?}"),
+        Ok(decimal) => format!(in alloc; "{}/{}", decimal.units(), decimal.scale()).ok(),
+        Err(error) => format!(in alloc; "{error:?}").ok(),
     }
 }
 

@@ -4,7 +4,7 @@ use crate::ReadStep::Give;
 use crate::rules::RULES;
 use crate::{ReadStep, Scripted, ScriptedReader};
 use num_format::{CustomFormat, Format, Grouping, Locale};
-use regroup_lines::{FieldRange, Fields, Invalid, Rules, Span, regroup_at_most};
+use regroup_lines::{FieldRange, Fields, Invalid, Notation, Rules, Span, regroup_at_most};
 use std::alloc::Global;
 use std::process::Abort;
 use std::test::Fail;
@@ -80,12 +80,8 @@ fn assert_kind<G: Format>(
     to: &G,
 ) -> Result<(), Fail> {
     let rules = &kind.0;
-    let mut reader = ScriptedReader {
-        rest: kind.1,
-        steps,
-        calls: 0,
-    };
-    let mut out = Scripted::new(alloc, 256, &[])?;
+    let mut reader = ScriptedReader::new(kind.1, steps);
+    let mut out = Scripted::new(alloc, kind.2.len(), &[])?;
     let mut err = Scripted::new(alloc, 128, &[])?;
     let mut rejects = Scripted::new(alloc, 64, &[])?;
     let mut buffer = vec![in alloc; 0; rules.max_line_len as usize + 1]?;
@@ -98,8 +94,8 @@ fn assert_kind<G: Format>(
         &mut out,
         &mut err,
         &mut rejects,
-        &Locale::en,
-        to,
+        &Notation::latin(&Locale::en),
+        &Notation::latin(to),
     );
     assert!(rt; result.is_ok());
     assert_eq!(rt; out.received.as_slice(), kind.2);
@@ -132,4 +128,17 @@ fn a_long_number(rt: HostRuntime) -> Result<(), Fail> {
         assert_kind(&rt, rt.alloc(), &kind, steps, &format)?;
     }
     Ok(())
+}
+
+/// A line that is too long is passed on in parts, however many they are.
+#[test]
+fn a_line_of_a_thousand_parts(rt: HostRuntime) -> Result<(), Fail> {
+    let rules = Rules {
+        max_line_len: 8,
+        ..IGNORED
+    };
+    let mut line = "x".repeat(rt.alloc(), 9000)?;
+    line.push('\n')?;
+    let kind: Kind<'_> = (rules, line.as_bytes(), line.as_bytes(), [1001, 0, 0]);
+    assert_kind(&rt, rt.alloc(), &kind, &[], &Locale::de)
 }

@@ -14,15 +14,13 @@
 //! |---|---|
 //! | `bytes` | numbers into writers of bytes that make short writes, fail, or write nothing |
 //! | `text` | numbers into writers of text that fail |
-//! | `inputs` | lines that are regrouped, and those at fault |
+//! | `inputs` | blanks without end, a limit of lines, and what a fault displays |
 //! | `kinds` | each kind of line from a reader that gives parts of it: how often the output is flushed and written to |
 //! | `lines` | lines from readers that give them in pieces, are interrupted or fail |
 //! | `rejects` | lines at fault that go to a writer of their own, where it or another one fails |
 //! | `outputs` | lines from readers to writers that both do what a list says |
 //! | `stream` | the program `regroup-lines` where its input, an output or a flush fails |
 //! | `program` | commands of `regroup` whose outputs fail at each of their writes |
-//!
-//! `records` has no such test: it compares the fields of regrouped CSV with those that the kit's `csv` reads.
 #![tactic(auto)]
 
 #[cfg(test)]
@@ -37,8 +35,6 @@ mod lines;
 mod outputs;
 #[cfg(test)]
 mod program;
-#[cfg(test)]
-mod records;
 #[cfg(test)]
 mod rejects;
 #[cfg(test)]

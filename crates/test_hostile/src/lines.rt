@@ -25,11 +25,7 @@ fn assert_lines(
 ) {
     let mut out = [0; 64];
     let mut space = out.as_mut_slice();
-    let mut reader = ScriptedReader {
-        rest: input,
-        steps,
-        calls: 0,
-    };
+    let mut reader = ScriptedReader::new(input, steps);
     let result = regroup_lines(&mut reader, &mut space, &Locale::en, &Locale::en_IN);
     let left = space.len();
     assert_eq!(rt; result, returned);
@@ -115,11 +111,7 @@ fn one_read_at_the_end(rt: HostRuntime) {
 /// Asserts that each line is written where the first read gives so many bytes.
 fn assert_first_read(rt: &impl Abort, input: &[u8], most: usize, lines: u64) {
     let steps = [Give(most)];
-    let mut reader = ScriptedReader {
-        rest: input,
-        steps: &steps,
-        calls: 0,
-    };
+    let mut reader = ScriptedReader::new(input, &steps);
     let mut out = io::sink();
     let result = regroup_lines(&mut reader, &mut out, &Locale::en, &Locale::en_IN);
     assert_eq!(rt; result, Ok(lines));

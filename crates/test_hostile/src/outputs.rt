@@ -7,7 +7,7 @@ use crate::rules::RULES;
 use crate::{ReadStep, Scripted, ScriptedReader, Step};
 use num_format::{CustomFormat, Locale};
 use regroup_lines::{RegroupFault, regroup_lines};
-use regroup_stream::{FAILED, Formats, REGROUPED, Reading, Rules, run};
+use regroup_stream::{FAILED, Formats, NamedFormat, REGROUPED, Reading, Rules, run};
 use std::alloc::Global;
 use std::io;
 use std::io::BufWriter;
@@ -63,11 +63,7 @@ const CASES: [Case<'static>; 19] = [
 ];
 
 fn reader<'a>(case: &Case<'a>) -> ScriptedReader<'a> {
-    ScriptedReader {
-        rest: INPUT,
-        steps: case.0,
-        calls: 0,
-    }
+    ScriptedReader::new(INPUT, case.0)
 }
 
 /// Asserts a case by `regroup_lines`, which does not flush.
@@ -97,8 +93,8 @@ fn assert_run(rt: &impl Abort, alloc: Global, case: &Case<'_>) -> Result<(), Fai
     let mut out = BufWriter::with_capacity(alloc, 0, writer)?;
     let mut err = Scripted::new(alloc, SPACE, &[])?;
     let formats = Formats {
-        from: CustomFormat::from(Locale::en),
-        to: CustomFormat::from(Locale::en_IN),
+        from: NamedFormat::latin(CustomFormat::from(Locale::en)),
+        to: NamedFormat::latin(CustomFormat::from(Locale::en_IN)),
     };
     let mut buffer = [0; 100];
     let input = reader(case);

@@ -2,11 +2,10 @@
 
 use crate::Step::{Fail, Interrupt, Take, Zero};
 use crate::{Scripted, Step};
-use regroup_commands::{ANSWERED, FAILED, REFUSED, run};
+use regroup_commands::{ANSWERED, FAILED, run};
 use std::alloc::{AllocError, Global};
 use std::process::Abort;
 use std::test;
-use test_printing::longest::LONGEST;
 
 /// The space of each output in bytes, enough for the names.
 const SPACE: usize = 8192;
@@ -114,47 +113,6 @@ fn each_write_of_the_longest_lines_fails_in_turn(rt: HostRuntime) -> Result<(), 
     let name = "x".repeat(rt.alloc(), 300)?;
     fails_in_each_way(&rt, rt.alloc(), &["print", name.as_str(), "1"])?;
     fails_in_each_way(&rt, rt.alloc(), &["read", "en", name.as_str()])?;
-    Ok(())
-}
-
-/// Asserts what a command prints on standard output.
-fn assert_printed(
-    rt: &impl Abort,
-    alloc: Global,
-    words: &[&str],
-    status: u8,
-    printed: &str,
-) -> Result<(), AllocError> {
-    let (mut out, mut err) = (Vec::new(alloc), Vec::new(alloc));
-    assert_eq!(rt; run(words, &mut out, &mut err), status);
-    let (used, unused) = if status == ANSWERED {
-        (out, err)
-    } else {
-        (err, out)
-    };
-    assert_eq!(rt; used.as_slice(), printed.as_bytes());
-    assert!(rt; unused.is_empty());
-    Ok(())
-}
-
-#[test]
-fn the_longest_lines(rt: HostRuntime) -> Result<(), test::Fail> {
-    let alloc = rt.alloc();
-    let number = format!(in alloc; "{}", i128::MIN)?;
-    let words = ["custom", "12345678", "Indian", "abcdefgh", number.as_str()];
-    let printed = format!(in alloc; "{LONGEST}\n")?;
-    assert_printed(&rt, alloc, &words, ANSWERED, &printed)?;
-    let (name, kept) = ("x".repeat(alloc, 300)?, "x".repeat(alloc, 256)?);
-    let printed = format!(in alloc; "Failed to parse {kept} into a valid locale.\n")?;
-    assert_printed(&rt, alloc, &["check", name.as_str()], REFUSED, &printed)?;
-    let printed = format!(in alloc; "Failed to parse {kept} into a number.\n")?;
-    assert_printed(
-        &rt,
-        alloc,
-        &["read", "en", name.as_str()],
-        REFUSED,
-        &printed,
-    )?;
     Ok(())
 }
 

@@ -28,6 +28,18 @@ pub struct ScriptedReader<'a> {
     pub calls: usize,
 }
 
+impl<'a> ScriptedReader<'a> {
+    /// Returns a reader of these bytes.
+    pub fn new(rest: &'a [u8], steps: &'a [ReadStep]) -> ScriptedReader<'a>
+        ensures rest { result.rest.now ≡ rest.now }
+        ensures steps { result.steps.now ≡ steps.now }
+        ensures calls { result.calls ≡ 0 }
+    {
+        let calls = 0;
+        ScriptedReader { rest, steps, calls }
+    }
+}
+
 impl io::Read for ScriptedReader<'_> {
     ghost use Rattle.test_hostile.specs.ScriptedReader.{given};
 

@@ -4,13 +4,14 @@ ghost use Rattle.std.specs.Prelude.{⊤};
 use crate::ReadStep::{Fail, Give};
 use crate::Step::{Interrupt, Take, Zero};
 use crate::rules::RULES;
-use crate::{Scripted, ScriptedReader, Step};
-use num_format::{CustomFormat, Grouping, Locale};
+use crate::{ReadStep, Scripted, ScriptedReader, Step};
+use num_format::{CustomFormat, Locale};
 use regroup_stream::{
-    CLOSED, FAILED, FAULTY, Formats, Invalid, MISUSED, Misuse, Open, REGROUPED, Rules, Unread,
-    refuse, run, run_all,
+    CLOSED, FAILED, FAULTY, Fields, Formats, Invalid, MISUSED, Misuse, NamedFormat, Open, REGROUPED, Rules,
+    Span, Unread, refuse, run, run_all,
 };
 use std::alloc::Global;
+use std::cell::Cell;
 use std::io::{BufWriter, ErrorKind, Read, Write};
 use std::process::Abort;
 use std::{io, test};
@@ -21,24 +22,17 @@ const STRICT: Rules = Rules {
     ..RULES
 };
 
-/// Returns the formats of `en` and this one.
-fn to(format: CustomFormat) -> Formats {
+/// Returns the formats of `en` and `de`.
+fn to_de() -> Formats {
     Formats {
-        from: CustomFormat::from(Locale::en),
-        to: format,
+        from: NamedFormat::latin(CustomFormat::from(Locale::en)),
+        to: NamedFormat::latin(CustomFormat::from(Locale::de)),
     }
 }
 
-/// Returns the formats of `en` and `de`.
-fn to_de() -> Formats {
-    to(CustomFormat::from(Locale::de))
-}
-
-/// Regroups the lines of an input of this name without an option, and returns the status.
+/// Regroups the lines of an input from `en` to `de` without an option, and returns the status.
 fn run_plainly<R: Read + Drop, O: Write + Drop, E: Write>(
     alloc: Global,
-    formats: &Formats,
-    name: &str,
     input: R,
     out: &mut BufWriter<O>,
     err: &mut E,
@@ -47,8 +41,8 @@ fn run_plainly<R: Read + Drop, O: Write + Drop, E: Write>(
     let mut buffer = [0; 100];
     let status = run(
         &STRICT,
-        formats,
-        name,
+        &to_de(),
+        "-",
         &mut buffer,
         input,
         out,
@@ -96,12 +90,8 @@ fn a_read_fails(rt: HostRuntime) -> Result<(), test::Fail> {
     for text in [b"1,000\n".as_slice(), b"1,000\n2", b"1,000\nx"] {
         let mut out = BufWriter::new(rt.alloc(), Vec::new(rt.alloc()))?;
         let mut err = Vec::new(rt.alloc());
-        let reader = ScriptedReader {
-            rest: text,
-            steps: &[Give(3), Give(9), Fail],
-            calls: 0,
-        };
-        let status = run_plainly(rt.alloc(), &to_de(), "-", reader, &mut out, &mut err)?;
+        let reader = ScriptedReader::new(text, &[Give(3), Give(9), Fail]);
+        let status = run_plainly(rt.alloc(), reader, &mut out, &mut err)?;
         assert_eq!(rt; status, FAILED);
         assert_eq!(rt; out.get_ref().as_slice(), b"1.000\n".as_slice());
         assert_eq!(rt;
@@ -112,8 +102,8 @@ fn a_read_fails(rt: HostRuntime) -> Result<(), test::Fail> {
     Ok(())
 }
 
-/// A flush that fails before the first read is a failed write, and only the flush at the end follows it. No line is read
-/// then, and where the output was closed there is no message.
+/// A flush that fails before the first read is a failed write, and only the flush at the end follows it. No line is
+/// read then, and where the output was closed there is no message.
 #[test]
 fn a_flush_fails(rt: HostRuntime) -> Result<(), test::Fail> {
     let full = b"regroup-lines: write error: No space left on device\n".as_slice();
@@ -125,7 +115,7 @@ fn a_flush_fails(rt: HostRuntime) -> Result<(), test::Fail> {
             let writer = Unflushed::new(cause, 2);
             let mut out = BufWriter::new(rt.alloc(), writer)?;
             let mut err = Vec::new(rt.alloc());
-            let ended = run_plainly(rt.alloc(), &to_de(), "-", text, &mut out, &mut err)?;
+            let ended = run_plainly(rt.alloc(), text, &mut out, &mut err)?;
             assert_eq!(rt; ended, status);
             assert_eq!(rt; out.get_ref().flushes, 2);
             assert_eq!(rt; err.as_slice(), message);
@@ -141,7 +131,7 @@ fn a_flush_fails_once(rt: HostRuntime) -> Result<(), test::Fail> {
         let mut out = BufWriter::new(rt.alloc(), Unflushed::new(cause, 1))?;
         let mut err = Vec::new(rt.alloc());
         let text = b"1,000\n".as_slice();
-        let status = run_plainly(rt.alloc(), &to_de(), "-", text, &mut out, &mut err)?;
+        let status = run_plainly(rt.alloc(), text, &mut out, &mut err)?;
         assert_eq!(rt; status, FAILED);
         assert_eq!(rt; out.get_ref().flushes, 2);
         assert_eq!(rt; err.as_slice(), b"regroup-lines: write error\n".as_slice());
@@ -149,7 +139,8 @@ fn a_flush_fails_once(rt: HostRuntime) -> Result<(), test::Fail> {
     Ok(())
 }
 
-/// Asserts what is said of rejected lines that this writer does not take, after the message of the line. The output is written.
+/// Asserts what is said of rejected lines that this writer does not take, after the message of the line. The output is
+/// written.
 fn assert_unrejected<X: Write + Drop>(
     rt: &impl Abort,
     alloc: Global,
@@ -196,8 +187,11 @@ fn a_rejected_line_fails(rt: HostRuntime) -> Result<(), test::Fail> {
 }
 
 /// Inputs by their names: `bad` has a line at fault, and `none` and `output` are not read.
-#[derive(Clone, Copy)]
-struct ByName;
+#[derive(Drop)]
+struct ByName {
+    /// How many calls of `open` were made.
+    calls: Cell<usize>,
+}
 
 impl Open for ByName {
     type Input = &'static [u8];
@@ -205,6 +199,7 @@ impl Open for ByName {
     ghost opens = { λ _ _ _. ⊤ };
 
     fn open(&self, name: &str) -> Result<&'static [u8], Unread> {
+        self.calls.set(self.calls.get().saturating_add(1));
         match name {
             "none" => Err(Unread::CannotOpen(ErrorKind::NotFound)),
             "output" => Err(Unread::IsOutput),
@@ -214,15 +209,15 @@ impl Open for ByName {
     }
 }
 
-/// Asserts the status of inputs, what standard output received, and how many messages standard error was sent, of which the
-/// first may fail.
+/// Asserts the status of inputs, what standard output received, how many messages standard error was sent, of which the
+/// first may fail, and how often an input was opened.
 fn assert_inputs(
     rt: &impl Abort,
     alloc: Global,
     invalid: Invalid,
     names: &[&str],
     fails_first: bool,
-    expected: (u8, &str, usize),
+    expected: (u8, &str, usize, usize),
 ) -> Result<(), test::Fail> {
     let rules = Rules { invalid, ..STRICT };
     let mut out = BufWriter::new(alloc, Vec::new(alloc))?;
@@ -230,66 +225,42 @@ fn assert_inputs(
     let steps = if fails_first { steps.as_slice() } else { &[] };
     let mut err = Scripted::new(alloc, 512, steps)?;
     let mut buffer = [0; 100];
+    let inputs = ByName {
+        calls: Cell::new(0),
+    };
     let status = run_all(
+        alloc,
         &rules,
+        &[],
         &to_de(),
         names,
         &mut buffer,
-        &ByName,
+        &inputs,
         &mut out,
         &mut err,
         &mut BufWriter::new(alloc, io::sink())?,
     );
-    let (expected_status, written, messages) = expected;
+    let (expected_status, written, messages, opened) = expected;
     assert_eq!(rt; status, expected_status);
     assert_eq!(rt; out.get_ref().as_slice(), written.as_bytes());
-    assert_eq!(rt; err.calls, messages);
+    assert_eq!(rt; [err.calls, inputs.calls.get()], [messages, opened]);
     Ok(())
 }
 
-/// The status of several inputs is the highest, and none is read after one whose lines are not all written.
+/// The status of several inputs is the highest. Each is opened once, none after one whose lines are not all written.
 #[test]
+#[rattlefmt::skip]
 fn several_inputs(rt: HostRuntime) -> Result<(), test::Fail> {
     let (good, bad) = ("1\n2.000\n", "1.000\nx\n");
     let both = format!(in rt.alloc(); "{bad}{good}")?;
     let both = both.as_str();
     for (invalid, names, fails_first, expected) in [
-        (
-            Invalid::Abort,
-            ["good", "none", "output"],
-            false,
-            (FAULTY, good, 2),
-        ),
-        (
-            Invalid::Abort,
-            ["none", "bad", "good"],
-            false,
-            (FAULTY, "1.000\n", 2),
-        ),
-        (
-            Invalid::Fail,
-            ["none", "bad", "good"],
-            false,
-            (FAULTY, both, 2),
-        ),
-        (
-            Invalid::Warn,
-            ["bad", "good", "none"],
-            false,
-            (FAULTY, both, 2),
-        ),
-        (
-            Invalid::Fail,
-            ["none", "bad", "good"],
-            true,
-            (FAILED, both, 2),
-        ),
-        (
-            Invalid::Fail,
-            ["bad", "none", "good"],
-            true,
-            (FAILED, "1.000\n", 1),
-        ),
+        (Invalid::Abort, ["good", "none", "output"], false, (FAULTY, good, 2, 3)),
+        (Invalid::Abort, ["none", "bad", "good"], false, (FAULTY, "1.000\n", 2, 2)),
+        (Invalid::Fail, ["none", "bad", "good"], false, (FAULTY, both, 2, 3)),
+        (Invalid::Warn, ["bad", "good", "none"], false, (FAULTY, both, 2, 3)),
+        (Invalid::Fail, ["none", "bad", "good"], true, (FAILED, both, 2, 3)),
+        (Invalid::Fail, ["bad", "none", "good"], true, (FAILED, "1.000\n", 1, 1)),
     ] {
         assert_inputs(&rt, rt.alloc(), invalid, &names, fails_first, expected)?;
     }
@@ -326,7 +297,7 @@ fn assert_calls(
 ) -> Result<(), test::Fail> {
     let mut out = BufWriter::new(alloc, Scripted::new(alloc, 64, &[])?)?;
     let mut err = Scripted::new(alloc, 128, err_steps)?;
-    let ended = run_plainly(alloc, &to_de(), "-", text, &mut out, &mut err)?;
+    let ended = run_plainly(alloc, text, &mut out, &mut err)?;
     assert_eq!(rt; ended, status);
     let written = out.get_ref();
     assert_eq!(rt;
@@ -336,8 +307,8 @@ fn assert_calls(
     Ok(())
 }
 
-/// The buffered lines are one write and a flush after it, before the next read or at the end, also where a line is at fault.
-/// A message is one write, if that writes all of it, and is not flushed.
+/// The buffered lines are one write and a flush after it, before the next read or at the end, also where a line is at
+/// fault. A message is one write, if that writes all of it, and is not flushed.
 #[test]
 fn writes_and_flushes(rt: HostRuntime) -> Result<(), test::Fail> {
     let alloc = rt.alloc();
@@ -365,26 +336,103 @@ fn a_message_fails(rt: HostRuntime) -> Result<(), test::Fail> {
     Ok(())
 }
 
-/// The message of a line at fault goes to the other writer.
-#[test]
-fn a_line_is_at_fault(rt: HostRuntime) -> Result<(), test::Fail> {
-    let mut out = BufWriter::new(rt.alloc(), Vec::new(rt.alloc()))?;
-    let mut err = Vec::new(rt.alloc());
-    let format = CustomFormat::builder()
-        .separator(":")
-        .grouping(Grouping::Indian)
-        .build()?;
-    let formats = to(format);
-    let text = b"100,000\n".as_slice();
-    let status = run_plainly(rt.alloc(), &formats, "-", text, &mut out, &mut err)?;
-    assert_eq!(rt; status, REGROUPED);
-    let text = b"-1,000\nx\n".as_slice();
-    let status = run_plainly(rt.alloc(), &formats, "x.tsv", text, &mut out, &mut err)?;
-    assert_eq!(rt; status, FAULTY);
-    assert_eq!(rt; out.get_ref().as_slice(), b"1:00:000\n-1:000\n".as_slice());
-    assert_eq!(rt;
-        err.as_slice(),
-        b"regroup-lines: x.tsv:2: 'x': not a number at byte 1\n".as_slice()
+/// An input with a header, from a reader that does these steps.
+#[derive(Clone, Copy)]
+struct WithHeader<'a>(&'a [ReadStep]);
+
+impl<'a> Open for WithHeader<'a> {
+    type Input = ScriptedReader<'a>;
+
+    ghost opens = { λ _ _ _. ⊤ };
+
+    fn open(&self, _name: &str) -> Result<ScriptedReader<'a>, Unread> {
+        Ok(ScriptedReader {
+            rest: b"id,net\n1,-5\n",
+            steps: self.0,
+            calls: 0,
+        })
+    }
+}
+
+/// Asserts the status of that input, where the field of this name is chosen, and what the outputs received.
+fn assert_named(
+    rt: &impl Abort,
+    alloc: Global,
+    steps: &[ReadStep],
+    name: &str,
+    expected: (u8, &str, &str),
+) -> Result<(), test::Fail> {
+    let span = Span::Fields(Fields {
+        list: &[],
+        delimiter: b',',
+        quotes: false,
+        output: None,
+    });
+    let rules = Rules {
+        span,
+        header_lines: 1,
+        ..STRICT
+    };
+    let mut out = BufWriter::new(alloc, Vec::new(alloc))?;
+    let mut err = Vec::new(alloc);
+    let mut buffer = [0; 100];
+    let status = run_all(
+        alloc,
+        &rules,
+        &[name],
+        &to_de(),
+        &["-"],
+        &mut buffer,
+        &WithHeader(steps),
+        &mut out,
+        &mut err,
+        &mut BufWriter::new(alloc, io::sink())?,
     );
+    let (expected_status, written, message) = expected;
+    assert_eq!(rt; status, expected_status);
+    assert_eq!(rt; out.get_ref().as_slice(), written.as_bytes());
+    assert_eq!(rt; err.as_slice(), message.as_bytes());
+    Ok(())
+}
+
+/// A header that has names is read in as many pieces as a reader gives, and no line is written if a read of it fails.
+#[test]
+fn a_header_is_read(rt: HostRuntime) -> Result<(), test::Fail> {
+    let fails = "regroup-lines: -: read error: Broken pipe\n";
+    let unknown = "regroup-lines: -:1: 'vat' names no field of 'id,net'\n";
+    for (steps, name, expected) in [
+        (
+            [Give(1), Give(5), Give(1), Give(9)],
+            "net",
+            (REGROUPED, "id,net\n1,-5\n", ""),
+        ),
+        (
+            [Give(9), Give(1), Give(9), Give(9)],
+            "net",
+            (REGROUPED, "id,net\n1,-5\n", ""),
+        ),
+        (
+            [Give(6), Fail, Give(9), Give(9)],
+            "net",
+            (FAILED, "", fails),
+        ),
+        (
+            [Fail, Give(9), Give(9), Give(9)],
+            "vat",
+            (FAILED, "", fails),
+        ),
+        (
+            [Give(9), Fail, Give(9), Give(9)],
+            "vat",
+            (MISUSED, "", unknown),
+        ),
+        (
+            [Give(9), Fail, Give(9), Give(9)],
+            "net",
+            (FAILED, "id,net\n", fails),
+        ),
+    ] {
+        assert_named(&rt, rt.alloc(), &steps, name, expected)?;
+    }
     Ok(())
 }

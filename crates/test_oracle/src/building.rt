@@ -1,8 +1,8 @@
 //! The custom formats that a builder builds, and what JSON holds.
 
-use crate::case::{grouping_of, text};
+use crate::case::text;
 use num_format::json::{JsonFault, buffer_from_value, format_from_value, locale_from_value};
-use num_format::{CustomFormat, CustomFormatBuilder, ErrorKind, Locale};
+use num_format::{CustomFormat, CustomFormatBuilder, ErrorKind, Grouping, Locale};
 use serde_json::Value;
 use std::alloc::Global;
 
@@ -36,7 +36,7 @@ fn after_call(
     match name {
         "from" => Some(CustomFormatBuilder::from(locale_of(argument)?)),
         "format" => Some(builder.format(&locale_of(argument)?)),
-        "grouping" => Some(builder.grouping(grouping_of(argument)?)),
+        "grouping" => Some(builder.grouping(Grouping::from_name(argument)?)),
         _ => after_text(builder, name, &text(alloc, argument)?),
     }
 }

@@ -1,216 +1,171 @@
 //! The call of each table, and what it returns in the words of the tables.
 
 use crate::building::{built, from_json};
-use crate::case::{Fields, NamedFormat, Under};
+use crate::case::{Fields, NamedFormat, decimal_of};
 use crate::decimals::{
-    AtScale, PaddedDecimal, ParsedDecimal, PrintedDecimal, TypedDecimal, computed,
+    computed, decimal_at_scale, padded, parsed_decimal, printed_decimal, typed_decimal,
 };
-use crate::parsing::described_error;
-use crate::types::{OfType, Operation};
-use num_format::{CustomFormat, Error, Format, Grouping, Locale, prints_alike, reads_back};
+use crate::locales::{described, found_by_name, found_by_tag};
+use crate::parsing::{leniently, strictly, typed};
+use crate::printing::printed;
+use num_format::parsing::FromFormattedStr;
+use num_format::{Format, Locale, ToFormattedString, prints_alike, reads_back};
 use std::alloc::Global;
+use std::fmt::Display;
+use std::num::{NonZeroU8, NonZeroU16, NonZeroU32, NonZeroU64, NonZeroU128, NonZeroUsize};
+use std::str::FromStr;
 
-/// Reads the arguments of a case of a table, and returns the result of its call. None where there is no such table, the
-/// fields are no such case, or out of memory.
-pub fn result(alloc: Global, table: &str, fields: &mut Fields<'_>) -> Option<String> {
-    match table {
-        "printing" => {
-            let type_name = fields.next()?;
-            let format = fields.format(alloc)?;
-            let operation = Operation::Print(fields.next()?);
-            format.of(
-                alloc,
-                OfType {
-                    type_name,
-                    operation,
-                },
-            )
+/// The value of an expression with the format of a case, which has one of two types.
+macro_rules! under {
+    ($named:expr, |$format:ident| $value:expr) => {
+        match &$named {
+            NamedFormat::Custom($format) => $value,
+            NamedFormat::Locale($format) => $value,
         }
-        "lenient" | "strict" | "typed" => {
-            let type_name = fields.next()?;
-            let format = fields.format(alloc)?;
-            let text = fields.text(alloc)?;
-            parsed_as(alloc, table, type_name, &format, text.as_str())
-        }
+    };
+}
+
+/// Reads a case, which is the name of a table and the arguments of its call, and returns the result, or why it has none
+/// here. None where there is no such table, the fields are no such case, or out of memory.
+pub fn result(alloc: Global, fields: &mut Fields<'_>) -> Option<String> {
+    match fields.next()? {
         "names" => found_by_name(alloc, &fields.text(alloc)?),
         "tags" => found_by_tag(alloc, &fields.text(alloc)?),
         "locales" => described(alloc, Locale::from_name(fields.next()?).ok()?),
-        "reads_back" => fields.format(alloc)?.of(alloc, ReadsBack),
+        "builders" => built(alloc, fields.next()?),
+        "json" => from_json(alloc, fields.next()?, &fields.text(alloc)?),
+        "reads_back" => {
+            let format = fields.format(alloc)?;
+            under!(
+                format,
+                |format| format!(in alloc; "{}", reads_back(format)).ok()
+            )
+        }
         "alike" => {
             let first = fields.format(alloc)?;
             let second = fields.format(alloc)?;
-            first.of(alloc, Alike { second: &second })
+            under!(
+                first,
+                |first| under!(second, |second| alike(alloc, first, second))
+            )
         }
-        "json" => from_json(alloc, fields.next()?, &fields.text(alloc)?),
-        "builders" => built(alloc, fields.next()?),
-        _ => of_decimals(alloc, table, fields),
+        "decimals_computed" => {
+            let first = fields.decimal()?;
+            let second = fields.decimal()?;
+            computed(alloc, first, second, fields.next()?.parse().ok()?)
+        }
+        table @ ("printing" | "lenient" | "strict" | "typed") => {
+            let type_name = fields.next()?;
+            let format = fields.format(alloc)?;
+            let text = fields.text(alloc)?;
+            under!(
+                format,
+                |format| of_integer(alloc, table, type_name, &text, format)
+            )
+        }
+        table if table.ends_with("_digits") => String::from_str(alloc, "! of test_digits").ok(),
+        table => of_decimal(alloc, table, fields),
     }
 }
 
-/// Returns the result of parsing a text as the type of this name, in the way of the table of this name.
-fn parsed_as<'t>(
+/// Returns the result for a table of the integers of the type of that name.
+fn of_integer<F: Format>(
     alloc: Global,
     table: &str,
-    type_name: &'t str,
-    format: &NamedFormat,
-    text: &'t str,
+    type_name: &str,
+    text: &str,
+    format: &F,
 ) -> Option<String> {
-    let operation = match table {
-        "strict" => Operation::ParseStrict(text),
-        "typed" => Operation::ParseTyped(text),
-        _ => Operation::Parse(text),
-    };
-    format.of(
-        alloc,
-        OfType {
-            type_name,
-            operation,
-        },
-    )
+    match type_name {
+        "i8" => of_type::<i8, F>(alloc, table, text, format),
+        "i16" => of_type::<i16, F>(alloc, table, text, format),
+        "i32" => of_type::<i32, F>(alloc, table, text, format),
+        "i64" => of_type::<i64, F>(alloc, table, text, format),
+        "i128" => of_type::<i128, F>(alloc, table, text, format),
+        "isize" => of_type::<isize, F>(alloc, table, text, format),
+        "u8" => of_type::<u8, F>(alloc, table, text, format),
+        "u16" => of_type::<u16, F>(alloc, table, text, format),
+        "u32" => of_type::<u32, F>(alloc, table, text, format),
+        "u64" => of_type::<u64, F>(alloc, table, text, format),
+        "u128" => of_type::<u128, F>(alloc, table, text, format),
+        "usize" => of_type::<usize, F>(alloc, table, text, format),
+        "NonZeroU8" => of_type::<NonZeroU8, F>(alloc, table, text, format),
+        "NonZeroU16" => of_type::<NonZeroU16, F>(alloc, table, text, format),
+        "NonZeroU32" => of_type::<NonZeroU32, F>(alloc, table, text, format),
+        "NonZeroU64" => of_type::<NonZeroU64, F>(alloc, table, text, format),
+        "NonZeroU128" => of_type::<NonZeroU128, F>(alloc, table, text, format),
+        "NonZeroUsize" => of_type::<NonZeroUsize, F>(alloc, table, text, format),
+        _ => None,
+    }
+}
+
+/// Returns the result for a table of the integers of one type.
+fn of_type<N, F>(alloc: Global, table: &str, text: &str, format: &F) -> Option<String>
+where
+    N: ToFormattedString + FromFormattedStr + FromStr + Display + Drop,
+    N::Err: Drop,
+    F: Format,
+{
+    match table {
+        "printing" => {
+            let number: N = text.parse().ok()?;
+            printed(alloc, &number, format)
+        }
+        "lenient" => leniently::<N, F>(alloc, text, format),
+        "strict" => strictly::<N, F>(alloc, text, format),
+        "typed" => typed::<N, F>(alloc, text, format),
+        _ => None,
+    }
 }
 
 /// Returns the result for a table of decimals.
-fn of_decimals(alloc: Global, table: &str, fields: &mut Fields<'_>) -> Option<String> {
-    if table == "decimals_computed" {
-        let first = fields.decimal()?;
-        let second = fields.decimal()?;
-        return computed(alloc, first, second, fields.next()?.parse().ok()?);
-    }
+fn of_decimal(alloc: Global, table: &str, fields: &mut Fields<'_>) -> Option<String> {
     let format = fields.format(alloc)?;
     let text = fields.text(alloc)?;
-    let text = text.as_str();
     match table {
         "decimals_printed" => {
-            let scale = fields.next()?;
-            format.of(alloc, PrintedDecimal { units: text, scale })
+            let decimal = decimal_of(&text, fields.next()?)?;
+            under!(format, |format| printed_decimal(alloc, &decimal, format))
         }
-        "decimals_parsed" => format.of(alloc, ParsedDecimal { text }),
-        "typed_decimals" => format.of(alloc, TypedDecimal { text }),
+        "decimals_parsed" => under!(format, |format| parsed_decimal(alloc, &text, format)),
+        "typed_decimals" => under!(format, |format| typed_decimal(alloc, &text, format)),
         "decimals_at_scale" => {
             let scale = fields.next()?.parse().ok()?;
-            format.of(alloc, AtScale { text, scale })
+            under!(
+                format,
+                |format| decimal_at_scale(alloc, &text, scale, format)
+            )
         }
         "padded" => {
-            let scale = fields.next()?;
+            let decimal = decimal_of(&text, fields.next()?)?;
             let fill = fields.text(alloc)?.chars().next()?;
             let side = fields.next()?;
             let width = fields.next()?.parse().ok()?;
-            let call = PaddedDecimal {
-                units: text,
-                scale,
-                fill,
-                side,
-                width,
-            };
-            format.of(alloc, call)
+            under!(
+                format,
+                |format| padded(alloc, &decimal, format, fill, side, width)
+            )
         }
         _ => None,
     }
 }
 
-/// Returns the result of two ways to make a call, or both results where they differ.
-pub fn agreed(first: String, second: String) -> Option<String> {
-    let mut result = first;
-    if result != second {
-        result.push_str(" and ").ok()?;
-        result.push_str(&second).ok()?;
+/// Returns the result of several ways to make a call: the first one, and after it those that differ.
+pub fn agreed(alloc: Global, results: &[String]) -> Option<String> {
+    let (first, others) = results.split_first()?;
+    let mut agreed = String::from_str(alloc, first).ok()?;
+    for other in others {
+        if other != first {
+            agreed.push_str(" and ").ok()?;
+            agreed.push_str(other).ok()?;
+        }
     }
-    Some(result)
+    Some(agreed)
 }
 
-/// Whether each number parses again from its text.
-#[derive(Drop)]
-struct ReadsBack;
-
-impl Under for ReadsBack {
-    fn result<F: Format>(self, alloc: Global, format: &F) -> Option<String> {
-        format!(in alloc; "{}", reads_back(format)).ok()
-    }
-}
-
-/// Whether each number has the same text under another format.
-#[derive(Drop)]
-struct Alike<'a> {
-    second: &'a NamedFormat,
-}
-
-impl Under for Alike<'_> {
-    fn result<F: Format>(self, alloc: Global, format: &F) -> Option<String> {
-        self.second.of(alloc, AlikeSecond { first: format })
-    }
-}
-
-#[derive(Drop)]
-struct AlikeSecond<'a, F> {
-    first: &'a F,
-}
-
-impl<G: Format> Under for AlikeSecond<'_, G> {
-    fn result<F: Format>(self, alloc: Global, format: &F) -> Option<String> {
-        let one_way = format!(in alloc; "{}", prints_alike(self.first, format)).ok()?;
-        let other_way = format!(in alloc; "{}", prints_alike(format, self.first)).ok()?;
-        agreed(one_way, other_way)
-    }
-}
-
-fn found_by_name(alloc: Global, text: &str) -> Option<String> {
-    let by_name = agreed(
-        found(alloc, text, Locale::from_name(text))?,
-        found(alloc, text, text.parse())?,
-    )?;
-    let (traced, _) = Locale::from_name_traced(text);
-    agreed(by_name, found(alloc, text, traced)?)
-}
-
-fn found_by_tag(alloc: Global, tag: &str) -> Option<String> {
-    match Locale::lookup(tag) {
-        Some(locale) => format!(in alloc; "ok {}", locale.name()).ok(),
-        None => String::from_str(alloc, "err ParseLocale").ok(),
-    }
-}
-
-/// Returns the name of the locale that a text found, or the error.
-fn found(alloc: Global, text: &str, finding: Result<Locale, Error>) -> Option<String> {
-    match finding {
-        Ok(locale) => format!(in alloc; "ok {}", locale.name()).ok(),
-        Err(error) => described_error(alloc, text, &error),
-    }
-}
-
-/// Returns the data of a locale: by its getters, as a format, and as a [`CustomFormat`].
-fn described(alloc: Global, locale: Locale) -> Option<String> {
-    let getters = [
-        locale.decimal(),
-        locale.infinity(),
-        locale.minus_sign(),
-        locale.nan(),
-        locale.plus_sign(),
-        locale.separator(),
-    ];
-    let data = joined(alloc, locale.grouping(), getters)?;
-    let data = agreed(data, described_format(alloc, &locale)?)?;
-    let custom = CustomFormat::from(locale);
-    agreed(data, described_format(alloc, &custom)?)
-}
-
-fn described_format<F: Format>(alloc: Global, format: &F) -> Option<String> {
-    let texts = [
-        format.decimal().into_str(),
-        format.infinity().into_str(),
-        format.minus_sign().into_str(),
-        format.nan().into_str(),
-        format.plus_sign().into_str(),
-        format.separator().into_str(),
-    ];
-    joined(alloc, format.grouping(), texts)
-}
-
-/// Returns a grouping and texts with a tab between them.
-fn joined(alloc: Global, grouping: Grouping, texts: [&str; 6]) -> Option<String> {
-    let mut fields = format!(in alloc; "{grouping:?}").ok()?;
-    for text in texts {
-        fields.push('\t').ok()?;
-        fields.push_str(text).ok()?;
-    }
-    Some(fields)
+/// Returns whether each number has the same text under both formats, asked both ways.
+fn alike<F: Format, G: Format>(alloc: Global, first: &F, second: &G) -> Option<String> {
+    let one_way = format!(in alloc; "{}", prints_alike(first, second)).ok()?;
+    let other_way = format!(in alloc; "{}", prints_alike(second, first)).ok()?;
+    agreed(alloc, &[one_way, other_way])
 }

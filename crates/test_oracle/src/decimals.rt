@@ -1,40 +1,40 @@
 //! Decimals printed, parsed, filled up to a width and computed with.
 
 use crate::calls::agreed;
-use crate::case::{Under, decimal_of};
+use crate::parsing::parsed;
 use num_format::{Format, ToFormattedString};
 use num_format_decimal::{
-    Decimal, DecimalBuffer, DecimalError, DecimalParser, ParseAtScaleError, ParseDecimalError,
-    Rounding,
+    Decimal, DecimalBuffer, DecimalError, DecimalParser, ParseAtScaleError, Rounding,
 };
-use num_format_typed::{TypedError, parse_typed_decimal, parse_typed_decimal_bytes};
+use num_format_typed::{parse_typed_decimal, parse_typed_decimal_bytes};
 use std::alloc::Global;
 use std::cmp::Ordering;
+use std::fmt;
 use std::fmt::{Display, Style};
 use std::hash::{DefaultHasher, Hash, Hasher};
 
-/// The text of a decimal.
-#[derive(Drop)]
-pub struct PrintedDecimal<'a> {
-    pub units: &'a str,
-    pub scale: &'a str,
+/// A decimal, displayed as UNITS/SCALE.
+#[derive(Clone, Copy)]
+struct Parts(Decimal);
+
+impl Display for Parts {
+    fn fmt<W: fmt::Write>(&self, f: &mut fmt::Formatter<W>) -> fmt::Result {
+        write!(f, "{}/{}", self.0.units(), self.0.scale())
+    }
 }
 
-impl Under for PrintedDecimal<'_> {
-    /// As a string, and where it is displayed or written as another text, that too.
-    fn result<F: Format>(self, alloc: Global, format: &F) -> Option<String> {
-        let decimal = decimal_of(self.units, self.scale)?;
-        let text = decimal.to_formatted_string(alloc, format).ok()?;
-        let buffer = DecimalBuffer::of(&decimal, format);
-        let shown = decimal.formatted(format);
-        let displayed = format!(in alloc; "{shown} {shown:?} {buffer} {buffer:?}").ok()?;
-        let expected = format!(in alloc; "{text} {text} {text} {text}").ok()?;
-        let is_displayed = displayed == expected && buffer.as_bytes() == text.as_bytes();
-        if is_displayed && is_written(alloc, &decimal, format, &text)? {
-            Some(text)
-        } else {
-            format!(in alloc; "{text} and {displayed}").ok()
-        }
+/// Returns the text of a decimal, and where it is displayed or written as another text, that too.
+pub fn printed_decimal<F: Format>(alloc: Global, decimal: &Decimal, format: &F) -> Option<String> {
+    let text = decimal.to_formatted_string(alloc, format).ok()?;
+    let buffer = DecimalBuffer::of(decimal, format);
+    let shown = decimal.formatted(format);
+    let displayed = format!(in alloc; "{shown} {shown:?} {buffer} {buffer:?}").ok()?;
+    let expected = format!(in alloc; "{text} {text} {text} {text}").ok()?;
+    let is_displayed = displayed == expected && buffer.as_bytes() == text.as_bytes();
+    if is_displayed && is_written(alloc, decimal, format, &text)? {
+        Some(text)
+    } else {
+        format!(in alloc; "{text} and {displayed}").ok()
     }
 }
 
@@ -48,130 +48,82 @@ fn is_written<F: Format>(alloc: Global, decimal: &Decimal, format: &F, text: &st
     Some(is_whole && string.as_str() == text && bytes.as_slice() == text.as_bytes())
 }
 
-/// The decimal that a text spells.
-#[derive(Drop)]
-pub struct ParsedDecimal<'a> {
-    pub text: &'a str,
+/// Returns the decimal that a text spells, by itself and by a parser.
+pub fn parsed_decimal<F: Format>(alloc: Global, text: &str, format: &F) -> Option<String> {
+    let by_parser = match DecimalParser::new(format) {
+        Ok(parser) => parser.parse(text),
+        Err(error) => Err(error),
+    };
+    let results = [
+        parsed(
+            alloc,
+            text,
+            Decimal::from_strict_str(text, format).map(Parts),
+        )?,
+        parsed(alloc, text, by_parser.map(Parts))?,
+    ];
+    agreed(alloc, &results)
 }
 
-impl Under for ParsedDecimal<'_> {
-    fn result<F: Format>(self, alloc: Global, format: &F) -> Option<String> {
-        let by_parser = match DecimalParser::new(format) {
-            Ok(parser) => parser.parse(self.text),
-            Err(error) => Err(error),
-        };
-        agreed(
-            parsed(alloc, Decimal::from_strict_str(self.text, format))?,
-            parsed(alloc, by_parser)?,
-        )
-    }
+/// Returns the decimal that a text is as people type it, as bytes and as a `&str`.
+pub fn typed_decimal<F: Format>(alloc: Global, text: &str, format: &F) -> Option<String> {
+    let of_bytes = parse_typed_decimal_bytes(text.as_bytes(), format);
+    let results = [
+        parsed(alloc, text, parse_typed_decimal(text, format).map(Parts))?,
+        parsed(alloc, text, of_bytes.map(Parts))?,
+    ];
+    agreed(alloc, &results)
 }
 
-/// The decimal that a text is as people type it.
-#[derive(Drop)]
-pub struct TypedDecimal<'a> {
-    pub text: &'a str,
-}
-
-impl Under for TypedDecimal<'_> {
-    fn result<F: Format>(self, alloc: Global, format: &F) -> Option<String> {
-        agreed(
-            parsed_as_typed(alloc, parse_typed_decimal(self.text, format))?,
-            parsed_as_typed(
-                alloc,
-                parse_typed_decimal_bytes(self.text.as_bytes(), format),
-            )?,
-        )
-    }
-}
-
-fn parsed_as_typed(
+/// Returns the units of the decimal that a text spells, at a scale, by itself and by a parser.
+pub fn decimal_at_scale<F: Format>(
     alloc: Global,
-    typed: Result<Decimal, TypedError<ParseDecimalError>>,
+    text: &str,
+    scale: u8,
+    format: &F,
 ) -> Option<String> {
-    match typed {
-        Ok(decimal) => parsed(alloc, Ok(decimal)),
-        Err(TypedError::Number(error)) => cause(alloc, error),
-        Err(TypedError::TooLong) => String::from_str(alloc, "err TooLong").ok(),
+    let by_parser = match DecimalParser::new(format) {
+        Ok(parser) => parser.parse_at_scale(text, scale),
+        Err(error) => Err(ParseAtScaleError::Parse(error)),
+    };
+    let of_text = Decimal::parse_at_scale(text, scale, format);
+    let results = [
+        parsed(alloc, text, of_text.map(|decimal| decimal.units()))?,
+        parsed(alloc, text, by_parser.map(|decimal| decimal.units()))?,
+    ];
+    agreed(alloc, &results)
+}
+
+/// Returns a decimal filled up to a width, and where its scale is 0 also as an integer.
+pub fn padded<F: Format>(
+    alloc: Global,
+    decimal: &Decimal,
+    format: &F,
+    fill: char,
+    side: &str,
+    width: usize,
+) -> Option<String> {
+    let padded = at_side(alloc, &decimal.formatted(format), fill, side, width)?;
+    if decimal.scale() > 0 {
+        return Some(padded);
     }
+    let units = decimal.units();
+    let as_integer = at_side(alloc, &units.formatted(format), fill, side, width)?;
+    agreed(alloc, &[padded, as_integer])
 }
 
-/// The units of the decimal that a text spells, at a scale.
-#[derive(Drop)]
-pub struct AtScale<'a> {
-    pub text: &'a str,
-    pub scale: u8,
-}
-
-impl Under for AtScale<'_> {
-    fn result<F: Format>(self, alloc: Global, format: &F) -> Option<String> {
-        let by_parser = match DecimalParser::new(format) {
-            Ok(parser) => parser.parse_at_scale(self.text, self.scale),
-            Err(error) => Err(ParseAtScaleError::Parse(error)),
-        };
-        agreed(
-            at_scale(
-                alloc,
-                Decimal::parse_at_scale(self.text, self.scale, format),
-            )?,
-            at_scale(alloc, by_parser)?,
-        )
-    }
-}
-
-fn parsed(alloc: Global, parsed: Result<Decimal, ParseDecimalError>) -> Option<String> {
-    match parsed {
-        Ok(decimal) => format!(in alloc; "ok {}/{}", decimal.units(), decimal.scale()).ok(),
-        Err(error) => cause(alloc, error),
-    }
-}
-
-fn at_scale(alloc: Global, parsed: Result<Decimal, ParseAtScaleError>) -> Option<String> {
-    match parsed {
-        Ok(decimal) => format!(in alloc; "ok {}", decimal.units()).ok(),
-        Err(ParseAtScaleError::Parse(error)) => cause(alloc, error),
-        Err(ParseAtScaleError::Rescale(error)) => format!(in alloc; "err {error:?}").ok(),
-    }
-}
-
-fn cause(alloc: Global, error: ParseDecimalError) -> Option<String> {
-    match error {
-        ParseDecimalError::Unexpected { at } => format!(in alloc; "err Unexpected {at}").ok(),
-        error => format!(in alloc; "err {error:?}").ok(),
-    }
-}
-
-/// A decimal filled up to a width.
-#[derive(Drop)]
-pub struct PaddedDecimal<'a> {
-    pub units: &'a str,
-    pub scale: &'a str,
-    pub fill: char,
-    pub side: &'a str,
-    pub width: usize,
-}
-
-impl Under for PaddedDecimal<'_> {
-    fn result<F: Format>(self, alloc: Global, format: &F) -> Option<String> {
-        let decimal = decimal_of(self.units, self.scale)?;
-        let padded = self.padded(alloc, &decimal.formatted(format))?;
-        if decimal.scale() > 0 {
-            return Some(padded);
-        }
-        let as_integer = self.padded(alloc, &decimal.units().formatted(format))?;
-        agreed(padded, as_integer)
-    }
-}
-
-impl PaddedDecimal<'_> {
-    /// Returns what is displayed of a value: without a side it stands right.
-    fn padded<T: Display>(&self, alloc: Global, shown: &T) -> Option<String> {
-        let (fill, width) = (self.fill, self.width);
-        match self.side {
-            "<" => format!(in alloc; "{}", shown.left().fill(fill).width(width)).ok(),
-            "^" => format!(in alloc; "{}", shown.center().fill(fill).width(width)).ok(),
-            _ => format!(in alloc; "{}", shown.fill(fill).width(width)).ok(),
-        }
+/// Returns what is displayed of a value: without a side it stands right.
+fn at_side<T: Display>(
+    alloc: Global,
+    shown: &T,
+    fill: char,
+    side: &str,
+    width: usize,
+) -> Option<String> {
+    match side {
+        "<" => format!(in alloc; "{}", shown.left().fill(fill).width(width)).ok(),
+        "^" => format!(in alloc; "{}", shown.center().fill(fill).width(width)).ok(),
+        _ => format!(in alloc; "{}", shown.fill(fill).width(width)).ok(),
     }
 }
 
@@ -188,9 +140,9 @@ pub fn computed(alloc: Global, first: Decimal, second: Decimal, scale: u8) -> Op
         Ordering::Greater => "greater",
     };
     let alike = hash_of(&first) == hash_of(&second) && first == second;
-    let sum = computed_or_none(alloc, first.checked_add(second))?;
-    let difference = computed_or_none(alloc, first.checked_sub(second))?;
-    let negated = computed_or_none(alloc, first.checked_neg())?;
+    let sum = parts_or_none(alloc, first.checked_add(second))?;
+    let difference = parts_or_none(alloc, first.checked_sub(second))?;
+    let negated = parts_or_none(alloc, first.checked_neg())?;
     format!(in alloc;
         "{half_even}\t{half_away}\t{toward_zero}\t{exact}\t{order}\t{alike}\t{sum}\t{difference}\t{negated}"
     ).ok()
@@ -198,14 +150,14 @@ pub fn computed(alloc: Global, first: Decimal, second: Decimal, scale: u8) -> Op
 
 fn rescaled(alloc: Global, rescaled: Result<Decimal, DecimalError>) -> Option<String> {
     match rescaled {
-        Ok(decimal) => computed_or_none(alloc, Some(decimal)),
+        Ok(decimal) => format!(in alloc; "{}", Parts(decimal)).ok(),
         Err(error) => format!(in alloc; "err {error:?}").ok(),
     }
 }
 
-fn computed_or_none(alloc: Global, decimal: Option<Decimal>) -> Option<String> {
+fn parts_or_none(alloc: Global, decimal: Option<Decimal>) -> Option<String> {
     match decimal {
-        Some(decimal) => format!(in alloc; "{}/{}", decimal.units(), decimal.scale()).ok(),
+        Some(decimal) => format!(in alloc; "{}", Parts(decimal)).ok(),
         None => String::from_str(alloc, "none").ok(),
     }
 }

@@ -3,15 +3,13 @@
 //! Any file may be changed. Expected values are worked out by hand.
 //!
 //! A number to print under a locale or a built format needs no test of its own: it is a case of a table in
-//! `tests/cases`, and `test_oracle` prints it in every way.
+//! `tests/cases`, and `test_oracle` prints it in every way, also into strings, vectors and slices. `test_readme` writes
+//! to the standard streams, and `test_hostile` to boxes and formatters.
 //!
 //! | Module | What is tested |
 //! |---|---|
 //! | `under_own_format` | numbers under the types of `own_format`, which implement `Format` |
-//! | `strings` | numbers, also the longest text of one, into strings and formatters |
-//! | `writers` | the same into std's writers of bytes: vectors, cursors, buffers, the sink, standard output |
-//! | `columns` | numbers displayed with options |
-//! | `slices` | slices of bytes, too short and long enough |
+//! | `writers` | numbers, also the longest text of one, into std's cursors, buffers and sink |
 //! | `files` | a file, written and read back |
 //! | `callers` | two numbers into one writer, and a number through a reference to a string |
 //! | `memory` | calls that take memory, where it is refused |
@@ -26,8 +24,6 @@
 mod asserting;
 pub mod callers;
 #[cfg(test)]
-mod columns;
-#[cfg(test)]
 mod files;
 pub mod longest;
 #[cfg(test)]
@@ -35,10 +31,6 @@ mod memory;
 #[cfg(test)]
 mod numbers;
 pub mod own_format;
-#[cfg(test)]
-mod slices;
-#[cfg(test)]
-mod strings;
 #[cfg(test)]
 mod under_own_format;
 #[cfg(test)]

@@ -45,11 +45,3 @@ pub fn assert_numbers(rt: &impl Abort, bytes: &[u8], before: &str, after: &str) 
     let numbers = rest.strip_suffix(after.as_bytes());
     assert_equal(rt, numbers, Some(NUMBERS.as_bytes()));
 }
-
-/// Asserts that an error of this kind was returned.
-pub fn assert_error(rt: &impl Abort, written: io::Result<usize>, kind: io::ErrorKind) {
-    match written {
-        Ok(count) => panic!(rt; "{count} bytes were written"),
-        Err(error) => assert_equal(rt, error.kind(), kind),
-    }
-}

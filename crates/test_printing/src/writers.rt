@@ -1,29 +1,11 @@
 //! Numbers into std's writers of bytes.
 
 use crate::asserting::assert_equal;
-use crate::longest::longest_format;
 use crate::numbers::{LEN, append_numbers, append_thousand, assert_numbers, write_thousand};
-use num_format::WriteFormatted;
 use num_format::to_formatted_string::write_whole;
 use std::io;
-use std::io::{BufWriter, Cursor, LineWriter, Lock, Write};
+use std::io::{BufWriter, Cursor, LineWriter, Write};
 use std::test::Fail;
-
-#[test]
-fn vectors(rt: HostRuntime) -> Result<(), Fail> {
-    let mut bytes = b"x".to_vec(rt.alloc())?;
-    append_numbers(&rt, &mut bytes)?;
-    assert_numbers(&rt, &bytes, "x", "");
-    Ok(())
-}
-
-#[test]
-fn boxed_vectors(rt: HostRuntime) -> Result<(), Fail> {
-    let mut boxed = Box::new(rt.alloc(), b"x".to_vec(rt.alloc())?)?;
-    append_numbers(&rt, &mut boxed)?;
-    assert_numbers(&rt, &boxed, "x", "");
-    Ok(())
-}
 
 /// A cursor over a vector, which grows where the text goes past its end.
 #[test]
@@ -56,13 +38,6 @@ fn cursors_over_slices(rt: HostRuntime) -> Result<(), Fail> {
     assert_equal(&rt, cursor.position(), 203);
     assert_numbers(&rt, &bytes, "xx", "x");
     Ok(())
-}
-
-#[test]
-fn cursors_over_short_slices(rt: HostRuntime) {
-    let mut short = [b'x'; 3];
-    assert!(rt; write_thousand(&mut Cursor::new(short.as_mut_slice())).is_err());
-    assert_equal(&rt, short.as_slice(), b"1,0".as_slice());
 }
 
 #[test]
@@ -102,16 +77,6 @@ fn line_writers(rt: HostRuntime) -> Result<(), Fail> {
     Ok(())
 }
 
-/// A buffer of three bytes is written to the vector whenever it is full.
-#[test]
-fn small_buffers(rt: HostRuntime) -> Result<(), Fail> {
-    let mut buffered = BufWriter::with_capacity(rt.alloc(), 3, Vec::new(rt.alloc()))?;
-    append_numbers(&rt, &mut buffered)?;
-    buffered.flush()?;
-    assert_numbers(&rt, buffered.get_ref(), "", "");
-    Ok(())
-}
-
 /// A long text is written whole, also by a buffer that it does not fit.
 #[test]
 fn long_texts(rt: HostRuntime) -> Result<(), Fail> {
@@ -129,20 +94,4 @@ fn long_texts(rt: HostRuntime) -> Result<(), Fail> {
 #[test]
 fn sinks(rt: HostRuntime) -> Result<(), Fail> {
     append_numbers(&rt, &mut io::sink())
-}
-
-#[test]
-fn streams(rt: HostRuntime) -> Result<(), Fail> {
-    append_numbers(&rt, &mut rt.stdout())?;
-    append_numbers(&rt, &mut rt.stderr())
-}
-
-#[test]
-fn locked_streams(rt: HostRuntime) -> Result<(), Fail> {
-    let format = longest_format()?;
-    let count = rt.stdout().lock().write_formatted(&i128::MIN, &format)?;
-    assert_equal(&rt, count, 191);
-    let count = rt.stderr().lock().write_formatted(&i128::MIN, &format)?;
-    assert_equal(&rt, count, 191);
-    Ok(())
 }

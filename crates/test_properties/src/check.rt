@@ -30,97 +30,46 @@ use crate::properties::{
     is_format_alike_in_json, is_found_by_its_name, is_locale_alike_in_json, is_parsed_strictly,
     is_parsed_too, is_spelled, parses_or_refuses,
 };
-use crate::report::Report;
 use num_format::parsing::FromFormattedStr;
-use num_format::{Buffer, Format, ToFormattedString, reads_back};
+use num_format::{Buffer, CustomFormat, Format, ToFormattedString, reads_back};
 use num_format_decimal::marks_decimals;
 use std::alloc::Global;
 use std::fmt::Display;
 use std::io;
 use std::num::{NonZeroU8, NonZeroU16, NonZeroU32, NonZeroU64, NonZeroU128, NonZeroUsize};
 
+/// The properties, in the order of their outcomes.
+#[rattlefmt::skip]
+pub const PROPERTIES: [&str; 19] = [
+    "ways", "length", "reads back", "refused", "parses", "appended", "strict", "spelled", "ambiguous", "strict again",
+    "decimal spelled", "decimal ambiguous", "decimal again", "builds", "finds", "own name", "json buffer",
+    "json format", "json locale",
+];
+
 /// Whether each property holds of an input. None where it says nothing of the input.
-#[derive(Drop)]
-pub struct Outcomes {
-    pub printing: Printing,
-    pub decimals: Decimals,
-    pub builds: bool,
-    pub finds: bool,
-    pub own_name: bool,
-    pub json_format: bool,
-    pub json_locale: bool,
-}
+pub type Outcomes = [Option<bool>; 19];
 
-/// The outcomes that depend on the integer type.
-#[derive(Drop)]
-pub struct Printing {
-    pub ways: bool,
-    pub length: bool,
-    pub reads_back: Option<bool>,
-    pub refused: Option<bool>,
-    pub parses: bool,
-    pub appended: bool,
-    pub strict: Option<bool>,
-    pub spelled: Option<bool>,
-    pub ambiguous: bool,
-    pub strict_again: Option<bool>,
-    pub json_buffer: bool,
-}
-
-/// The outcomes of decimals.
-#[derive(Drop)]
-pub struct Decimals {
-    pub spelled: Option<bool>,
-    pub ambiguous: bool,
-    pub again: Option<bool>,
-}
-
-impl Decimals {
-    /// Checks decimals under a format.
-    fn under<F: Format>(input: &Input, format: &F) -> Decimals {
-        let marks = marks_decimals(format);
-        Decimals {
-            spelled: is_decimal_spelled(&input.bytes, format),
-            ambiguous: is_decimal_ambiguous(&input.bytes, format) != marks,
-            again: marks.then_some(is_decimal_parsed(input.decimal, format)),
-        }
-    }
-}
-
-impl Outcomes {
-    /// Checks each property on an input.
-    ///
-    /// # Errors
-    ///
-    /// Returns an error where out of memory.
-    pub fn of(alloc: Global, input: &Input) -> io::Result<Outcomes> {
-        let locale = input.locale;
-        let custom = input.custom_format();
-        let (printing, decimals) = if input.is_locale {
-            (
-                under(alloc, input, &locale)?,
-                Decimals::under(input, &locale),
-            )
-        } else {
-            (
-                under(alloc, input, &custom)?,
-                Decimals::under(input, &custom),
-            )
-        };
-        Ok(Outcomes {
-            printing,
-            decimals,
-            builds: input.is_built(&custom),
-            finds: finds_or_refuses(alloc, &input.text)?,
-            own_name: is_found_by_its_name(input.name, locale),
-            json_format: is_format_alike_in_json(alloc, &custom)?,
-            json_locale: is_locale_alike_in_json(alloc, locale)?,
-        })
+/// Checks each property on an input.
+///
+/// # Errors
+///
+/// Returns an error where out of memory.
+pub fn outcomes(alloc: Global, input: &Input) -> io::Result<Outcomes> {
+    let custom = input.custom_format();
+    if input.is_locale {
+        under(alloc, input, &custom, &input.locale)
+    } else {
+        under(alloc, input, &custom, &custom)
     }
 }
 
 /// Checks the number as a value of its integer type. The types are in the order of their places.
-fn under<F: Format>(alloc: Global, input: &Input, format: &F) -> io::Result<Printing> {
+fn under<F: Format>(
+    alloc: Global,
+    input: &Input,
+    custom: &CustomFormat,
+    format: &F,
+) -> io::Result<Outcomes> {
     let bytes = &input.number;
     let two = u16::from_le_bytes(first(bytes));
     let four = u32::from_le_bytes(first(bytes));
@@ -129,9 +78,9 @@ fn under<F: Format>(alloc: Global, input: &Input, format: &F) -> io::Result<Prin
     let size = usize::from_le_bytes(first(bytes));
     let check = Check {
         alloc,
+        input,
+        custom,
         format,
-        text: &input.text,
-        bytes: &input.bytes,
     };
     match input.type_place {
         0 => check.number(bytes[0]),
@@ -159,37 +108,45 @@ fn under<F: Format>(alloc: Global, input: &Input, format: &F) -> io::Result<Prin
 #[derive(Drop)]
 struct Check<'a, F> {
     alloc: Global,
+    input: &'a Input,
+    custom: &'a CustomFormat,
     format: &'a F,
-    text: &'a str,
-    bytes: &'a [u8],
 }
 
 impl<F: Format> Check<'_, F> {
     /// Returns the outcomes for a number.
-    fn number<N>(&self, number: N) -> io::Result<Printing>
+    fn number<N>(&self, number: N) -> io::Result<Outcomes>
     where
         N: ToFormattedString + FromFormattedStr + PartialEq + Display + Copy,
     {
-        let (alloc, format, text, bytes) = (self.alloc, self.format, self.text, self.bytes);
+        let (alloc, input, custom, format) = (self.alloc, self.input, self.custom, self.format);
+        let (text, bytes) = (input.text.as_str(), input.bytes.as_slice());
         let mut buffer = Buffer::new();
         let count = buffer.write_formatted(&number, format);
         let printed = buffer.as_str();
-        let parsed = N::from_formatted_str(printed, format);
-        let is_same = parsed.is_ok_and(|parsed| parsed == number);
-        let reads_back = reads_back(format);
-        Ok(Printing {
-            ways: are_ways_alike(alloc, &number, format, printed)?,
-            length: has_length(alloc, &number, format, count)?,
-            reads_back: reads_back.then_some(is_same),
-            refused: (!is_same).then_some(!reads_back),
-            parses: parses_or_refuses(text, N::from_formatted_str(text, format).err()),
-            appended: ignores_appended::<N, F>(alloc, text, format)?,
-            strict: is_parsed_too::<N, F>(bytes, format),
-            spelled: is_spelled::<N, F>(bytes, format),
-            ambiguous: is_ambiguous::<N, F>(bytes, format) != reads_back,
-            strict_again: reads_back.then_some(is_parsed_strictly(number, format)),
-            json_buffer: is_buffer_alike_in_json(alloc, &buffer)?,
-        })
+        let is_same = N::from_formatted_str(printed, format).is_ok_and(|parsed| parsed == number);
+        let (reads_back, marks) = (reads_back(format), marks_decimals(format));
+        Ok([
+            Some(are_ways_alike(alloc, &number, format, printed)?),
+            Some(has_length(alloc, &number, format, count)?),
+            reads_back.then_some(is_same),
+            (!is_same).then_some(!reads_back),
+            Some(parses_or_refuses(text, N::from_formatted_str(text, format).err())),
+            Some(ignores_appended::<N, F>(alloc, text, format)?),
+            is_parsed_too::<N, F>(bytes, format),
+            is_spelled::<N, F>(bytes, format),
+            Some(is_ambiguous::<N, F>(bytes, format) != reads_back),
+            reads_back.then_some(is_parsed_strictly(number, format)),
+            is_decimal_spelled(bytes, format),
+            Some(is_decimal_ambiguous(bytes, format) != marks),
+            marks.then_some(is_decimal_parsed(input.decimal, format)),
+            Some(input.is_built(custom)),
+            Some(finds_or_refuses(alloc, text)?),
+            Some(is_found_by_its_name(input.name, input.locale)),
+            Some(is_buffer_alike_in_json(alloc, &buffer)?),
+            Some(is_format_alike_in_json(alloc, custom)?),
+            Some(is_locale_alike_in_json(alloc, input.locale)?),
+        ])
     }
 }
 

@@ -71,7 +71,7 @@ impl Input {
             number,
             decimal: Decimal::new(units, scale).unwrap_or(Decimal::from(units)),
             is_locale: bytes[2] % 4 == 0,
-            grouping: grouping_at(bytes[1] % 5),
+            grouping: Grouping::ALL[bytes[1] as usize % Grouping::ALL.len()],
             locale: Locale::from_name(name).unwrap_or(Locale::en),
             name,
             separator: String::from_str(alloc, text_in(&bytes[5..14]))?,
@@ -121,17 +121,6 @@ fn filled(record: &[u8]) -> [u8; RECORD_LEN] {
 /// Returns the longest prefix of whole characters that has at most `len` bytes.
 fn prefix(text: &str, len: usize) -> &str {
     &text[..text.floor_char_boundary(len)]
-}
-
-/// Returns the grouping at a place, or `Sparse` from the fourth on.
-fn grouping_at(place: u8) -> Grouping {
-    match place {
-        0 => Grouping::Standard,
-        1 => Grouping::Indian,
-        2 => Grouping::Posix,
-        3 => Grouping::Myriad,
-        _ => Grouping::Sparse,
-    }
 }
 
 /// Returns the name of a locale, at the place that is the remainder of the number.

@@ -21,7 +21,7 @@ mod input;
 mod properties;
 mod report;
 
-use check::Outcomes;
+use check::outcomes;
 use input::{Input, RECORD_LEN};
 use report::Report;
 use std::alloc::Global;
@@ -45,11 +45,11 @@ fn main(rt: HostRuntime) -> io::Result<ExitCode> {
 }
 
 /// Returns what came of the properties of each input, one of them negated.
-fn checked(alloc: Global, data: &[u8], negated: Option<&str>) -> io::Result<Report> {
-    let mut report = Report::new(negated);
+fn checked<'a>(alloc: Global, data: &[u8], negated: Option<&'a str>) -> io::Result<Report<'a>> {
+    let mut report = Report::new(alloc, negated)?;
     for (index, record) in data.chunks(RECORD_LEN).enumerate() {
         let input = Input::read(alloc, record)?;
-        report.add(index, Outcomes::of(alloc, &input)?);
+        report.add(index, outcomes(alloc, &input)?);
     }
     Ok(report)
 }

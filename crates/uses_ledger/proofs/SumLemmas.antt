@@ -40,7 +40,8 @@ added_by_units : (u : ℤ) (es : List Entry) → IsOfOneScale es →
     fold (λ sum e. plus sum e.amount) (fixed_point u SCALE) es ≡ fixed_point (fold (λ sum e. sum +ℤ e.amount.units) u es) SCALE
 added_by_units u [] at_scale = refl
 added_by_units u (e ∷ es) at_scale =
-    ap (λ start. fold (λ sum x. plus sum x.amount) start es) (plus-units u e.amount.units e.amount.scale (All-head (λ x. x.amount.scale ≡ SCALE) e es at_scale))
+    ap (λ start. fold (λ sum x. plus sum x.amount) start es) (plus-units u e.amount.units e.amount.scale
+    (All-head (λ x. x.amount.scale ≡ SCALE) e es at_scale))
     ∙ added_by_units (u +ℤ e.amount.units) es (All-tail (λ x. x.amount.scale ≡ SCALE) e es at_scale)
 
 -- so entries of one scale have the sum of their units

@@ -37,7 +37,8 @@ Refuses f line _ = ⊥
 -- before it are of entries; or a line is of an entry too, for which there is no memory
 pub data IsRefused (f : FormatData) (lines : List (List ℕ)) : LedgerError → Type 0 where
   ambiguous : ¬ MarksDecimals f → IsRefused f lines AmbiguousFormat
-  at_line : (before after : List (List ℕ)) (line : List ℕ) (entries : List Entry) (e : LedgerError) → MarksDecimals f → lines ≡ before ++ line ∷ after →
+  at_line : (before after : List (List ℕ)) (line : List ℕ) (entries : List Entry) (e : LedgerError) → MarksDecimals f
+      → lines ≡ before ++ line ∷ after →
       AllZip (IsLineOf f) before entries → Refuses f line e → IsRefused f lines e
   no_memory : (before after : List (List ℕ)) (line : List ℕ) (entries : List Entry) → MarksDecimals f → lines ≡ before ++ line ∷ after →
       AllZip (IsLineOf f) (before ++ line ∷ []) entries → IsRefused f lines NoMemory

@@ -5,7 +5,8 @@ ghost use Rattle.num_format.specs.Writing.{StopsWithin};
 ghost use Rattle.num_format_decimal.specs.FixedPoint.{fixed_point};
 ghost use Rattle.num_format_decimal.specs.Text.{decimal_text};
 ghost use Rattle.uses_ledger.specs.Entry.{IsOfOneScale};
-ghost use Rattle.uses_ledger.specs.Report.{Fails, HasLargeSum, line_of, lines_of, on_left, on_right, report_of, sum_of, units_of, width, widths_of};
+ghost use Rattle.uses_ledger.specs.Report.{Fails, HasLargeSum, line_of, lines_of, on_left, on_right, report_of, sum_of};
+ghost use Rattle.uses_ledger.specs.Report.{units_of, width, widths_of};
 ghost use Rattle.uses_ledger.specs.declared.entry.LedgerError.TheVariants.{TotalTooLarge};
 
 use crate::entry::{Entry, LedgerError, SCALE};

@@ -1,7 +1,8 @@
 -- The codes of currencies, and how many decimals they have, from ISO 4217.
 use Rattle.std.specs.Prelude.{ℕ, List, codes}
 use Rattle.uses_money.specs.declared.currency.Currency.{Currency}
-use Rattle.uses_money.specs.declared.currency.Currency.TheVariants.{Usd, Eur, Jpy, Gbp, Cny, Aud, Cad, Chf, Hkd, Sgd, Sek, Krw, Nok, Nzd, Inr, Mxn, Twd, Zar, Brl, Dkk}
+use Rattle.uses_money.specs.declared.currency.Currency.TheVariants.{Usd, Eur, Jpy, Gbp, Cny, Aud, Cad, Chf, Hkd, Sgd, Sek, Krw, Nok, Nzd}
+use Rattle.uses_money.specs.declared.currency.Currency.TheVariants.{Inr, Mxn, Twd, Zar, Brl, Dkk}
 
 -- the code of three letters
 abbrev pub code_of : Currency → List ℕ

@@ -83,7 +83,8 @@ impl Money {
         currency: Currency,
         format: &F,
     ) -> Result<Money, ParseAtScaleError>
-        ensures amount { IfOk result (λ m. ParsesAtScale (F.answers format.now) text.now (decimals_of currency) (amount_of m)) }
+        ensures amount { IfOk result (λ m. ParsesAtScale (F.answers format.now) text.now (decimals_of currency)
+            (amount_of m)) }
         ensures currency { IfOk result (λ m. m.currency ≡ currency) }
         ensures refused { (e : ParseAtScaleError) → (result ≡ Err e)
             ↔ IsAtScaleCause (F.answers format.now) text.now (decimals_of currency) e }

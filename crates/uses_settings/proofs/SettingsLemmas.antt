@@ -8,11 +8,13 @@ use Rattle.num_format.specs.Building.{Call, Choices, after_call}
 use Rattle.uses_settings.specs.Settings.{after_line, call_in}
 
 -- after a line that is a setting, the builder has what its call sets
-after_setting : (before c next : Choices) (o : Option Call) → before ≡ c → Some next ≡ option_map (after_call c) o → next ≡ unwrap_or (option_map (after_call before) o) before
+after_setting : (before c next : Choices) (o : Option Call) → before ≡ c → Some next ≡ option_map (after_call c) o
+    → next ≡ unwrap_or (option_map (after_call before) o) before
 after_setting before c next o same set = rw (same, ← set) refl
 
 -- the builder after one more line, which is a setting
-pub after_more : (start c next : Choices) (ls : List (Bor (List ℕ))) (line : Bor (List ℕ)) → c ≡ fold after_line start (map (λ l. l.now) ls) →
+pub after_more : (start c next : Choices) (ls : List (Bor (List ℕ))) (line : Bor (List ℕ)) → c ≡ fold after_line start (map (λ l. l.now) ls)
+    →
     Some next ≡ option_map (after_call c) (call_in line.now) → next ≡ fold after_line start (map (λ l. l.now) (ls ++ line ∷ []))
 after_more start c next ls line same set =
     rw (map-append, fold-append) (after_setting (fold after_line start (map (λ l. l.now) ls)) c next (call_in line.now) (sym same) set)

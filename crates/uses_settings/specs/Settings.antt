@@ -1,5 +1,6 @@
 -- What the lines of a text set, and why they are refused.
-use Rattle.std.specs.Prelude.{◌≡◌, ℕ, ◌==◌, List, length, codes, fold, All, Any, IsSome, Option, Some, None, Ok, Err, unwrap_or, if◌then◌else◌}
+use Rattle.std.specs.Prelude.{◌≡◌, ℕ, ◌==◌, List, length, codes, fold, All, Any, IsSome, Option, Some, None, Ok, Err, unwrap_or}
+use Rattle.std.specs.Prelude.{if◌then◌else◌}
 use Rattle.std.specs.List.{after_first, before_first, position_or_len}
 use Rattle.std.specs.Option.{option_map}
 use Rattle.std.specs.Str.{bytes_eq}
@@ -39,8 +40,11 @@ choices_in text = fold after_line (choices_of english) (lines text)
 abbrev pub HasSettings : List ℕ → Type 0
 HasSettings text = All (λ line. IsSome (call_in line)) (lines text)
 
--- why a text is refused with that error: a line is no setting; or each is one, but the format has a text that is too long, or a number under it does not read back
+-- why a text is refused with that error: a line is no setting; or each is one, but the format has a text that is too long, or a number
+-- under it does not read back
 pub data Refuses (text : List ℕ) (e : Error) : Type 0 where
-  no_setting : Any (λ line. call_in line ≡ None) (lines text) → refusal_of e ≡ Other (cut_text (codes "a line is no setting of a format")) → Refuses text e
+  no_setting : Any (λ line. call_in line ≡ None) (lines text) → refusal_of e ≡ Other (cut_text (codes "a line is no setting of a format"))
+      → Refuses text e
   too_long : HasSettings text → built (choices_in text) ≡ Err e → Refuses text e
-  ambiguous : HasSettings text → (f : FormatData) → built (choices_in text) ≡ Ok f → ¬ (RoundTrips f) → refusal_of e ≡ Other (cut_text (codes "numbers under this format do not read back")) → Refuses text e
+  ambiguous : HasSettings text → (f : FormatData) → built (choices_in text) ≡ Ok f → ¬ (RoundTrips f)
+      → refusal_of e ≡ Other (cut_text (codes "numbers under this format do not read back")) → Refuses text e

@@ -36,7 +36,8 @@ loop-line-preserved g c =
 
 pub returns-clause-entries : goal.returns-clause-entries
 returns-clause-entries g c =
-    let t = YieldsList-end (YieldsList-from_lines c.args.text.now (cc)) c.loop-line.yielded _ c.loop-line.yielded_by _ _ c.in-None.is c.next.ensures.steps in
+    let t = YieldsList-end (YieldsList-from_lines c.args.text.now (cc)) c.loop-line.yielded _ c.loop-line.yielded_by _ _ c.in-None.is
+    c.next.ensures.steps in
     subst (λ ls. AllZip (IsLineOf (g.F.Format.answers c.args.format.now)) ls c.loop-line.entries.items) t.0 c.loop-line.invariant
 
 pub returns-clause-one_scale : goal.returns-clause-one_scale

@@ -33,4 +33,5 @@ returns-clause-prefix g c =
     let new = g.W.Write.contents c.write_line-2.new.w in
     let r = c.write_line-2.result in
     on_same_error r r (StopsWithin before new last) (StopsWithin old new (lines_of f c.args.widths es c.args.sum.now)) refl
-    (stops_after_lines line es c.loop-entry.entry-index last old before new (search rules) c.loop-entry.invariant) c.write_line-2.ensures.prefix
+    (stops_after_lines line es c.loop-entry.entry-index last old before new (search rules) c.loop-entry.invariant)
+    c.write_line-2.ensures.prefix

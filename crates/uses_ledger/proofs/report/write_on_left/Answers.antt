@@ -20,4 +20,5 @@ returns-clause-prefix g c =
     let r = c.write_spaces.result in
     let stops : OnErr r (StopsWithin named new filled) =
     subst (λ n. OnErr r (StopsWithin named new (replicate n 32))) count c.write_spaces.ensures.prefix in
-    on_same_error r r (StopsWithin named new filled) (StopsWithin old new (on_left c.args.column text)) refl (StopsWithin_suffix old named new text filled first) stops
+    on_same_error r r (StopsWithin named new filled) (StopsWithin old new (on_left c.args.column text)) refl
+    (StopsWithin_suffix old named new text filled first) stops
