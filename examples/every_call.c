@@ -136,6 +136,10 @@ int main(void) {
     show("name for de_AT.UTF-8", num_format_lookup_name("de_AT.UTF-8", 11, text, sizeof text));
     show("lookup en-us", num_format_lookup(&format, "en-us", 5));
     show("lookup english", num_format_lookup(&format, "english", 7));
+    show("lookup en-u-nu-deva", num_format_lookup(&format, "en-u-nu-deva", 12));
+    show("digits roman", num_format_set_digits(&format, "roman", 5));
+    show("digits fullwide", num_format_set_digits(&format, "fullwide", 8));
+    show("print in digits", num_format_print_i64(&format, -1234, text, sizeof text));
     show("name 542", num_format_names(NUM_FORMAT_LOCALES, text, sizeof text));
     show("locale_str en-IN", num_format_locale_str(&format, "en-IN"));
     show("format", num_format_format_i64(&format, -12345678, text, sizeof text));

@@ -6,6 +6,7 @@
 //     auto number = de.parse<std::int32_t>("1.234");                                // 1234, and else an exception
 //     auto found = de.try_parse<std::int32_t>("1,5");                               // found.status is NUM_FORMAT_UNEXPECTED
 //     auto typed = numfmt::format::locale("fr").parse_typed<int>("1 234");          // 1234, with the space of a keyboard
+//     std::string farsi = numfmt::format::lookup("fa-u-nu-arabext").print(1234);    // ۱٬۲۳۴
 //     numfmt::column texts = de.print_column(std::vector<std::optional<int>>{1000, std::nullopt});
 //     auto numbers = de.parse_column<std::optional<int>>(texts);                    // the same again
 //
@@ -40,8 +41,8 @@
 namespace numfmt {
 
 #ifdef __cpp_exceptions
-/// A call failed: why, as a status of num_format.h, at which byte of a text with `unexpected`, else 0, and at which row of a
-/// column, else 0.
+/// A call failed: why, as a status of num_format.h, at which byte of a text with `unexpected` and `other_numeral`, else 0, and
+/// at which row of a column, else 0.
 struct error : std::runtime_error {
     explicit error(std::int32_t code, std::size_t place = 0, std::size_t row_of_column = 0)
         : std::runtime_error(num_format_strerror(code)), status(code), at(place), row(row_of_column) {}
@@ -56,7 +57,7 @@ struct error : std::runtime_error {
     each(misspelled, MISSPELLED) each(out_of_range, OUT_OF_RANGE) each(bad_scale, BAD_SCALE) \
     each(too_many_decimals, TOO_MANY_DECIMALS) each(bad_length, BAD_LENGTH) each(bad_offsets, BAD_OFFSETS) \
     each(too_many_bytes, TOO_MANY_BYTES) each(digits_lost, DIGITS_LOST) each(ambiguous_format, AMBIGUOUS_FORMAT) \
-    each(text_too_long, TEXT_TOO_LONG)
+    each(text_too_long, TEXT_TOO_LONG) each(unknown_digits, UNKNOWN_DIGITS) each(other_numeral, OTHER_NUMERAL)
 #define NUMFMT_STRUCT(name, code) struct name : error { using error::error; };
 #define NUMFMT_CASE(name, code) case NUM_FORMAT_##code: throw name(status, at, row);
 NUMFMT_ERRORS(NUMFMT_STRUCT)
@@ -67,7 +68,8 @@ __extension__ typedef __int128 int128;
 __extension__ typedef unsigned __int128 uint128;
 #endif
 
-/// A number that was parsed, or the status for which there is none, and at which byte with NUM_FORMAT_UNEXPECTED.
+/// A number that was parsed, or the status for which there is none, and at which byte with NUM_FORMAT_UNEXPECTED and
+/// NUM_FORMAT_OTHER_NUMERAL.
 template <class T> struct result {
     T value{};
     std::int32_t status = 0;
@@ -228,7 +230,7 @@ public:
 private:
     friend class format;
     std::int32_t length = 0;
-    char bytes[NUM_FORMAT_DECIMAL_MAX + 1];
+    char bytes[NUM_FORMAT_DIGITS_MAX + 1];
 };
 
 /// Writes a text to a stream, filled up to its width.
@@ -292,7 +294,7 @@ template <class T> struct parsed_column {
 };
 #endif
 
-/// A format. Two are equal if they have the same texts and grouping.
+/// A format. Two are equal if they have the same texts, grouping and digits.
 class format {
     /// What fills a struct with a format of your own.
     static auto custom_of(std::string_view separator, std::uint32_t grouping, std::string_view minus_sign,
@@ -302,13 +304,17 @@ class format {
                                              minus_sign.size(), decimal_mark.data(), decimal_mark.size());
         };
     }
+    /// What fills a struct with this format in the digits of a set.
+    auto digits_of(std::string_view name) const {
+        return [this, name](num_format *to) { return *to = held, num_format_set_digits(to, name.data(), name.size()); };
+    }
 public:
     /// The format of a locale, or none.
     static std::optional<format> try_locale(std::string_view name) {
         return made([=](num_format *to) { return num_format_locale(to, name.data(), name.size()); }).second;
     }
 
-    /// The format of the locale for a language tag, such as "de_DE.UTF-8", or none.
+    /// The format of the locale for a language tag, such as "de_DE.UTF-8", in the digits that it names, or none.
     static std::optional<format> try_lookup(std::string_view tag) {
         return made([=](num_format *to) { return num_format_lookup(to, tag.data(), tag.size()); }).second;
     }
@@ -318,6 +324,9 @@ public:
                                             std::string_view minus_sign = "-", std::string_view decimal_mark = ".") {
         return made(custom_of(separator, grouping, minus_sign, decimal_mark)).second;
     }
+
+    /// The same format in the digits of a set, by the name that the CLDR has for it, as "deva", or none.
+    std::optional<format> try_digits(std::string_view name) const { return made(digits_of(name)).second; }
 
     /// The text of a number.
     template <class T> numfmt::text text(T number) const {
@@ -413,8 +422,12 @@ public:
         });
     }
 
-    /// Whether every number reads back from its text.
-    bool reads_back() const { return num_format_reads_back(&held) == 1; }
+    /// Whether every number reads back from its text, which in other digits it does where it does in 0 to 9.
+    bool reads_back() const {
+        num_format latin = held;
+        latin.digits = 0;
+        return num_format_reads_back(&latin) == 1;
+    }
 
     /// Whether each number has the same text under both formats.
     bool prints_alike(const format &other) const { return num_format_prints_alike(&held, &other.held) == 1; }
@@ -431,7 +444,8 @@ public:
         return accepted([=](num_format *to) { return num_format_locale(to, name.data(), name.size()); });
     }
 
-    /// The format of the locale for a language tag. Throws not_utf8 or unknown_locale.
+    /// The format of the locale for a language tag, in the digits that it names. Throws not_utf8, unknown_locale or
+    /// unknown_digits.
     static format lookup(std::string_view tag) {
         return accepted([=](num_format *to) { return num_format_lookup(to, tag.data(), tag.size()); });
     }
@@ -448,14 +462,20 @@ public:
         return accepted(custom_of(separator, grouping, minus_sign, decimal_mark));
     }
 
+    /// The same format in the digits of a set, by the name that the CLDR has for it, as "deva". Throws not_utf8 or
+    /// unknown_digits.
+    format digits(std::string_view name) const { return accepted(digits_of(name)); }
+
     /// The number that a text spells, with its separators or without. Throws ambiguous_format where reads_back is
-    /// false, and else not_utf8, unexpected, no_digit, misspelled or out_of_range.
+    /// false, and else not_utf8, unexpected, no_digit, misspelled or out_of_range; in other digits than 0 to 9 also
+    /// other_numeral or text_too_long.
     template <class T> T parse(std::string_view text) const { return detail::accepted(try_parse<T>(text)); }
 
     /// The number that a text is as a person types it (no data type is meant). Throws what `parse` throws, and text_too_long.
     template <class T> T parse_typed(std::string_view text) const { return detail::accepted(try_parse_typed<T>(text)); }
 
-    /// The number of the digits of a text, whose other characters are ignored. Throws not_utf8 or not_a_number.
+    /// The number of the digits of a text, whose other characters are ignored. Throws not_utf8 or not_a_number, and under a
+    /// format in other digits than 0 to 9 an error of NUM_FORMAT_BAD_FORMAT.
     template <class T> T parse_lenient(std::string_view text) const { return detail::accepted(try_parse_lenient<T>(text)); }
 
     /// The decimal that a text spells, with as many decimals. Throws what `parse` throws, too_many_decimals, and out_of_range
@@ -508,7 +528,7 @@ public:
     }
 
     /// The numbers of many texts, each as by `parse`, `parse_typed` or `parse_lenient`. Throws ambiguous_format, bad_offsets
-    /// or bad_length.
+    /// or bad_length, and leniently under a format in other digits than 0 to 9 an error of NUM_FORMAT_BAD_FORMAT.
     template <class T = std::int64_t>
     parsed_column<T> try_parse_column(const column &texts, num_format_parsing way = NUM_FORMAT_STRICT) const {
         return parsed<T, detail::number_of<T>>(texts, [&](auto... from) {
@@ -615,7 +635,9 @@ private:
     /// The values of a column. Throws the exception of its first row that is refused, with the place in its text.
     template <class T, class Place> static std::vector<T> accepted(parsed_column<T> found, const column &texts, Place place) {
         for (std::size_t k = 0; k < found.statuses.size(); k++)
-            detail::check(found.statuses[k], found.statuses[k] == NUM_FORMAT_UNEXPECTED ? place(texts[k]) : 0, k);
+            if (found.statuses[k] == NUM_FORMAT_UNEXPECTED || found.statuses[k] == NUM_FORMAT_OTHER_NUMERAL)
+                detail::check(found.statuses[k], place(texts[k]), k);
+            else detail::check(found.statuses[k], 0, k);
         return std::move(found.values);
     }
 #endif

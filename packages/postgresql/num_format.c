@@ -157,11 +157,15 @@ locale_format(FunctionCallInfo fcinfo)
 	if (length == 0 || length != kept->length || memcmp(name, kept->name, length) != 0)
 	{
 		Utf8		tag;
+		int			status;
 
 		utf8_argument(fcinfo, 1, false, &tag);
-		if (num_format_lookup(&kept->format, tag.bytes, tag.length) != 0)
+		status = num_format_lookup(&kept->format, tag.bytes, tag.length);
+		if (status != 0)
 			ereport(ERROR,
 					(errcode(ERRCODE_INVALID_PARAMETER_VALUE),
+					 status == NUM_FORMAT_UNKNOWN_DIGITS ?
+					 errmsg("no digit set is named by the language tag \"%s\"", shown_argument(fcinfo, 1)) :
 					 errmsg("no locale has the name or language tag \"%s\"", shown_argument(fcinfo, 1))));
 		kept->length = length <= NUM_FORMAT_MAX ? length : 0;
 		memcpy(kept->name, name, kept->length);
@@ -215,7 +219,7 @@ Datum
 num_format_number(PG_FUNCTION_ARGS)
 {
 	const KeptFormat *kept = locale_format(fcinfo);
-	char		printed[NUM_FORMAT_DECIMAL_MAX];
+	char		printed[NUM_FORMAT_DIGITS_MAX];
 	char	   *number;
 	uint64_t	low,
 				high;
@@ -255,7 +259,7 @@ place_of(Utf8 utf8, size_t at)
  * typed, or no text.  A whole number is looked for where no scale is.
  */
 static int
-typed_text(const num_format *format, Utf8 utf8, bool is_whole, char printed[NUM_FORMAT_DECIMAL_MAX])
+typed_text(const num_format *format, Utf8 utf8, bool is_whole, char printed[NUM_FORMAT_DIGITS_MAX])
 {
 	uint64_t	low,
 				high;
@@ -265,7 +269,17 @@ typed_text(const num_format *format, Utf8 utf8, bool is_whole, char printed[NUM_
 	if (num_format_parse_typed_decimal(format, utf8.bytes, utf8.length, &low, &high, &scale, &at) != 0 ||
 		(is_whole && scale > 0))
 		return 0;
-	return num_format_print_decimal(format, low, high, scale, printed, NUM_FORMAT_DECIMAL_MAX);
+	return num_format_print_decimal(format, low, high, scale, printed, NUM_FORMAT_DIGITS_MAX);
+}
+
+/* Returns whether a text begins with a digit, which is a number by itself. */
+static bool
+begins_with_digit(const num_format *format, const char *text)
+{
+	int64		number;
+	size_t		at;
+
+	return num_format_parse_strict_i64(format, 64, text, pg_utf_mblen((const unsigned char *) text), &number, &at) == 0;
 }
 
 /*
@@ -277,8 +291,9 @@ refuse(FunctionCallInfo fcinfo, Utf8 utf8, bool is_typed, const char *type, int 
 {
 	char	   *given = shown_argument(fcinfo, 0);
 	bool		is_whole = strcmp(type, "bigint") == 0;
-	char		printed[NUM_FORMAT_DECIMAL_MAX];
-	int			length = is_typed ? 0 : typed_text(&locale_format(fcinfo)->format, utf8, is_whole, printed);
+	const num_format *format = &locale_format(fcinfo)->format;
+	char		printed[NUM_FORMAT_DIGITS_MAX];
+	int			length = is_typed ? 0 : typed_text(format, utf8, is_whole, printed);
 	const char *wanted = "";
 
 	if (status == NUM_FORMAT_OUT_OF_RANGE || status == NUM_FORMAT_TOO_MANY_DECIMALS)
@@ -289,7 +304,7 @@ refuse(FunctionCallInfo fcinfo, Utf8 utf8, bool is_typed, const char *type, int 
 				 errdetail("It needs more than %d bits.", bits) :
 				 errdetail("It has more than 38 decimals.")));
 	if (status == NUM_FORMAT_UNEXPECTED && length > (int) at && memcmp(printed, utf8.bytes, at) == 0 &&
-		!isdigit((unsigned char) printed[at]))
+		!begins_with_digit(format, printed + at))
 		wanted = psprintf(", in place of U+%04X", utf8_to_unicode((const unsigned char *) printed + at));
 	ereport(ERROR,
 			(errcode(ERRCODE_INVALID_TEXT_REPRESENTATION),
@@ -298,6 +313,9 @@ refuse(FunctionCallInfo fcinfo, Utf8 utf8, bool is_typed, const char *type, int 
 			 status == NUM_FORMAT_UNEXPECTED ?
 			 errdetail("Character %d, U+%04X, is unexpected%s.", place_of(utf8, at),
 					   utf8_to_unicode((const unsigned char *) utf8.bytes + at), wanted) :
+			 status == NUM_FORMAT_OTHER_NUMERAL ?
+			 errdetail("Character %d, U+%04X, is a numeral of another digit set.", place_of(utf8, at),
+					   utf8_to_unicode((const unsigned char *) utf8.bytes + at)) :
 			 status == NUM_FORMAT_TEXT_TOO_LONG ?
 			 errdetail("It is longer than the text of any number.") :
 			 status == NUM_FORMAT_NO_DIGIT ?

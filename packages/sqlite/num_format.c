@@ -10,6 +10,7 @@
  *     .. ORDER BY text COLLATE num_decimal              9.00 before 10.00
  *     SELECT num_parse_typed(' 1 234', 'fr');           1234, as a person types it
  *     SELECT num_try_parse('1.5', 'de');                NULL
+ *     SELECT num_format(1234, 'fa-u-nu-arabext');       ۱٬۲۳۴, the digits that the tag names
  *     SELECT num_locale('de_DE.UTF-8');                 de
  *
  * The calls of num_format.h print and parse. This file converts values, rounds them, compares decimals, keeps the
@@ -164,6 +165,8 @@ static int find_format(sqlite3_context *context, sqlite3_value *value, num_forma
     if (status != 0) {
         if (status == NUM_FORMAT_NOT_UTF8)
             fail(context, "the locale is not UTF-8");
+        else if (status == NUM_FORMAT_UNKNOWN_DIGITS)
+            fail(context, "no digit set is named by the language tag '%q'", shown(name).bytes);
         else
             fail(context, "no locale has the name or language tag '%q'", shown(name).bytes);
         return 0;
@@ -202,6 +205,15 @@ static int32_t parse_by(int typed, const num_format *format, text given, decimal
         format, given.bytes, given.length, &parsed->low, &parsed->high, &parsed->scale, at);
 }
 
+/* Whether the character at a place of a printed text is a digit, which is a number by itself. */
+static int is_digit_at(const num_format *format, const char *printed, size_t length, size_t at) {
+    size_t end = at + 1, unused;
+    int64_t number;
+    while (end < length && (printed[end] & 0xc0) == 0x80)
+        end++;
+    return num_format_parse_strict_i64(format, 64, printed + at, end - at, &number, &unused) == 0;
+}
+
 static void call_parse(sqlite3_context *context, int count, sqlite3_value **values);
 
 /* What a message about a text that was parsed strictly says of parsing it as a person types it. */
@@ -216,13 +228,13 @@ static advice advise(sqlite3_context *context, text given, sqlite3_value *locale
     num_format format;
     decimal number;
     size_t end, strict = sizeof "num_parse" - 1;
-    char printed[NUM_FORMAT_DECIMAL_MAX], wanted[24] = "";
+    char printed[NUM_FORMAT_DIGITS_MAX], wanted[24] = "";
     if (!locale || called->is_typed || !find_format(context, locale, &format) ||
         parse_by(1, &format, given, &number, &end) != 0 || (called->call == call_parse && number.scale > 0))
         return said;
     int length = num_format_print_decimal(&format, number.low, number.high, number.scale, printed, sizeof printed);
     if (status == NUM_FORMAT_UNEXPECTED && (size_t)length > at && memcmp(printed, given.bytes, at) == 0 &&
-        (printed[at] < '0' || printed[at] > '9'))
+        !is_digit_at(&format, printed, (size_t)length, at))
         sqlite3_snprintf(sizeof wanted, wanted, ", in place of U+%04X", code_point(printed + at));
     sqlite3_snprintf(sizeof said.text, said.text, "%s: num_parse_typed%s reads it", wanted, called->name + strict);
     return said;
@@ -244,6 +256,10 @@ static void refuse(sqlite3_context *context, text given, sqlite3_value *locale, 
     case NUM_FORMAT_UNEXPECTED:
         fail(context, "'%q' is no number in %s: character %d, U+%04X, is unexpected%s", start.bytes, shown(name).bytes,
              place_of(given.bytes, at), code_point(given.bytes + at), advise(context, given, locale, status, at).text);
+        return;
+    case NUM_FORMAT_OTHER_NUMERAL:
+        fail(context, "'%q' is no number in %s: character %d, U+%04X, is a numeral of another digit set", start.bytes,
+             shown(name).bytes, place_of(given.bytes, at), code_point(given.bytes + at));
         return;
     case NUM_FORMAT_OUT_OF_RANGE:
         fail(context, "'%q' is out of range: it needs more than %d bits", start.bytes, bits);
@@ -276,7 +292,7 @@ static int parse_decimal(sqlite3_context *context, text given, const num_format 
 
 /* Makes the text of a decimal the result. */
 static void return_decimal(sqlite3_context *context, const num_format *format, decimal number) {
-    char printed[NUM_FORMAT_DECIMAL_MAX];
+    char printed[NUM_FORMAT_DIGITS_MAX];
     int length = num_format_print_decimal(format, number.low, number.high, number.scale, printed, sizeof printed);
     sqlite3_result_text(context, printed, length, SQLITE_TRANSIENT);
 }
@@ -378,7 +394,7 @@ static void call_format(sqlite3_context *context, int count, sqlite3_value **val
         (count == 3 && !read_scale(context, values[2], &scale)))
         return;
     if (count == 2 && sqlite3_value_type(values[0]) == SQLITE_INTEGER) {
-        char printed[NUM_FORMAT_MAX];
+        char printed[NUM_FORMAT_DIGITS_MAX];
         int length = num_format_print_i64(&format, sqlite3_value_int64(values[0]), printed, sizeof printed);
         sqlite3_result_text(context, printed, length, SQLITE_TRANSIENT);
     } else if (read_decimal(context, values[0], count == 3 ? &scale : NULL, &number))
@@ -417,7 +433,7 @@ static void call_parse(sqlite3_context *context, int count, sqlite3_value **valu
 }
 
 /* num_parse_units(text, locale, scale): the number that the text spells exactly, times 10 to the power of the scale, as
- * an INTEGER. The call for columns brings one text to the scale. */
+ * an INTEGER. */
 static void call_parse_units(sqlite3_context *context, int count, sqlite3_value **values) {
     num_format format;
     text given;
@@ -426,21 +442,16 @@ static void call_parse_units(sqlite3_context *context, int count, sqlite3_value 
         !read_scale(context, values[2], &scale) || !read_given(context, values[0], &given))
         return;
     decimal parsed;
-    uint64_t units[2];
-    int32_t status = 0;
-    const int64_t offsets[] = {0, (int64_t)given.length};
-    (is_typed(context) ? num_format_parse_typed_decimal_column : num_format_parse_decimal_column)(
-        &format, scale, offsets, sizeof offsets, NUM_FORMAT_I64, given.bytes, given.length, units, sizeof units, NULL, 0,
-        0, &status, 1);
-    if (status == 0 && units[1] != (units[0] >> 63 ? UINT64_MAX : 0))
+    size_t at = 0;
+    int32_t status = parse_by(is_typed(context), &format, given, &parsed, &at);
+    if (status == 0)
+        status = num_format_decimal_rescale(&parsed.low, &parsed.high, &parsed.scale, scale, NUM_FORMAT_EXACT);
+    if (status == 0 && parsed.high != (parsed.low >> 63 ? UINT64_MAX : 0))
         status = NUM_FORMAT_OUT_OF_RANGE;
     if (status == 0)
-        sqlite3_result_int64(context, (sqlite3_int64)units[0]);
-    else if (status == NUM_FORMAT_UNEXPECTED)
-        /* The position is known to the call for one text. */
-        parse_decimal(context, given, &format, values[1], &parsed);
+        sqlite3_result_int64(context, (sqlite3_int64)parsed.low);
     else
-        refuse(context, given, values[1], 63, status, 0);
+        refuse(context, given, values[1], 63, status, at);
 }
 
 /* num_parse_decimal(text, locale): the number that the text spells exactly, as a TEXT that SQL can read. */

@@ -5,7 +5,7 @@
 #include <stdio.h>
 #include <string.h>
 
-enum { ROWS = 40, MOST_SHIFT = 3, MOST_BITS = 13, TRIED = 10, ROOM = ROWS * NUM_FORMAT_DECIMAL_MAX };
+enum { ROWS = 40, MOST_SHIFT = 3, MOST_BITS = 13, TRIED = 10, ROOM = ROWS * NUM_FORMAT_DIGITS_MAX };
 
 /* A type of values; decimals are of one more. */
 typedef struct kind {
@@ -125,7 +125,7 @@ static size_t model(const kind *kind, const uint8_t *value, uint32_t scale, char
 }
 
 /* Parses what was printed in each way, and finds the values again, but for those of nulls. Decimals are not parsed
- * leniently. */
+ * leniently, and numbers only in 0 to 9. */
 static void check_parsed(const kind *kind, size_t n) {
     uint8_t printed[sizeof now.values], kept[16];
     memcpy(printed, values(), now.values_size);
@@ -133,12 +133,43 @@ static void check_parsed(const kind *kind, size_t n) {
     for (now.way = 0; now.way <= NUM_FORMAT_TYPED; now.way += 1 + (uint32_t)kind->is_decimal) {
         memset(values(), 'x', now.values_size);
         memset(now.statuses, 'x', sizeof now.statuses);
+        if (now.way == NUM_FORMAT_LENIENT && now.format.digits > 0) {
+            check_unchanged("lenient in digits", n, parse, NUM_FORMAT_BAD_FORMAT);
+            continue;
+        }
         CHECK("parsed", n, calls[kind->is_decimal][2](), 0);
         for (size_t k = 0; k < n; k++) {
             const uint8_t *expected = is_null(k) ? kept : printed + k * kind->size;
             CHECK("status", k, now.statuses[k], 0);
             CHECK("value", k, memcmp(values() + k * kind->size, expected, kind->size), 0);
         }
+    }
+}
+
+/* Prints n rows in digits of two, three and four bytes, where their texts in 0 to 9 and the ends of these are given, and
+ * parses them. */
+static void check_digits(const kind *kind, size_t n, const char *texts, const size_t *ends) {
+    static const char *const sets[][2] = {{"arab", "\u0660"}, {"deva", "\u0966"}, {"adlm", "\U0001e950"}};
+    for (size_t set = 0; set < 3; set++) {
+        static char shown[ROOM];
+        size_t length = 0, shown_ends[ROWS + 1] = {0}, size = strlen(sets[set][1]);
+        for (size_t k = 0; k < n; shown_ends[++k] = length)
+            for (size_t at = ends[k]; at < ends[k + 1]; at++) {
+                int is_digit = '0' <= texts[at] && texts[at] <= '9';
+                memcpy(shown + length, is_digit ? sets[set][1] : texts + at, is_digit ? size : 1);
+                length += is_digit ? size : 1;
+                if (is_digit) shown[length - 1] = (char)(shown[length - 1] + texts[at] - '0');
+            }
+        CHECK("digits", n, num_format_set_digits(&now.format, sets[set][0], strlen(sets[set][0])), 0);
+        CHECK("measured in digits", n, calls[kind->is_decimal][1](), 0);
+        CHECK("length in digits", n, now.length, length);
+        now.bytes_size = length;
+        CHECK("printed in digits", n, calls[kind->is_decimal][0](), 0);
+        CHECK("texts in digits", n, memcmp(now.bytes, shown, length), 0);
+        for (size_t k = 0; k <= n; k++) CHECK("offset in digits", k, memcmp(offsets() + k * width(), &shown_ends[k], width()), 0);
+        check_parsed(kind, n);
+        now.bytes_size = length - 1;
+        if (length > 0) check_unchanged("too small in digits", n, calls[kind->is_decimal][0], NUM_FORMAT_TOO_SMALL);
     }
 }
 
@@ -169,6 +200,7 @@ static void check_rows(const kind *kind, uint32_t offset_type, size_t n, size_t 
     for (size_t k = 0; k <= n; k++) CHECK("offset", k, memcmp(offsets() + k * width(), &ends[k], width()), 0);
     CHECK("past the offsets", n, offsets()[now.offsets_size], 'x');
     check_parsed(kind, n);
+    check_digits(kind, n, texts, ends);
 }
 
 /* What can be wrong of a column of five: a byte of what calls are passed, what it becomes, the error, and the calls that
@@ -186,6 +218,7 @@ static const struct {
     {"type", BYTE(type, 0), 'x', NUM_FORMAT_BAD_TYPE, NUMBERS},
     {"type of offsets", BYTE(offset_type, 0), 'I', NUM_FORMAT_BAD_TYPE, PRINT | PARSE},
     {"format", BYTE(format.grouping, 0), 0, NUM_FORMAT_BAD_FORMAT, NUMBERS | DECIMALS},
+    {"digits", BYTE(format.digits, 0), 77, NUM_FORMAT_BAD_FORMAT, NUMBERS | DECIMALS},
     {"no minus sign", BYTE(format.minus_sign_length, 0), 0, NUM_FORMAT_AMBIGUOUS_FORMAT, PARSE},
     {"part of a value", BYTE(values_size, 0), 81, NUM_FORMAT_BAD_LENGTH, NUMBERS | DECIMALS},
     {"fewer values", BYTE(values_size, 0), 64, NUM_FORMAT_BAD_LENGTH, PRINT | PARSE},
@@ -242,9 +275,13 @@ static void check_types(void) {
 #define NINES "999.999.999.999.999.999.999.999.999.999.999.999.999"
 #define ZEROS "0,000000000000000000000000000000000000000"
 #define LONG ZEROS ZEROS ZEROS ZEROS ZEROS
+#define TEN_ONES "\u0661\u0661\u0661\u0661\u0661\u0661\u0661\u0661\u0661\u0661"
+#define ONES TEN_ONES TEN_ONES TEN_ONES TEN_ONES
+#define LONG_ONES ONES ONES ONES ONES ONES
 
 /* Texts as numbers, strictly, leniently and as people type them, and as decimals at scale 2, strictly and as people type
- * them: the status of each, and what is written with 0. A row without a text is null. */
+ * them, and the same in the digits "arab", but leniently: the status of each, and what is written with 0. A row without a
+ * text is null. */
 static const struct {
     const char *text;
     int32_t status, value;
@@ -257,12 +294,22 @@ static const struct {
      {"1,505", -18, 0}, {ZEROS, -14, 0}},
     {{" 7", 0, 700}, {"1,5,", -9, 0}, {",", -10, 0}, {"-0,0", 0, 0}, {NINES, -12, 0}, {"\xff", -3, 0},
      {"\u2212" "1,500", 0, -150}, {"1,505", -18, 0}, {ZEROS, -14, 0}, {LONG, -21, 0}},
+    {{"\u0667", 0, 7}, {"\u0661\u0662x", -9, 0}, {"", -10, 0}, {"\u0661.\u0662\u0663", -11, 0}, {ONES, -12, 0},
+     {"\u0661\xff", -3, 0}, {"5", -23, 0}, {"\u0661\u00b2", -23, 0}, {LONG_ONES, -21, 0}},
+    {{0}},
+    {{" \u0667\t", 0, 7}, {"\u0661\u0662x", -9, 0}, {"-", -10, 0}, {"\u0661.\u0662\u0663", -11, 0}, {ONES, -12, 0},
+     {"\xff\u0661", -3, 0}, {"\u0661" "5", -23, 0}, {"\u06f1", -23, 0}, {LONG_ONES, -21, 0}, {"-\u0660", 0, 0}},
+    {{"\u0667", 0, 700}, {"\u0661,\u0665,", -9, 0}, {",", -10, 0}, {"-\u0660,\u0660", -11, 0}, {ONES, -12, 0}, {"\xff", -3, 0},
+     {"-\u0661,\u0665\u0660\u0660", 0, -150}, {"\u0661,\u0665\u0660\u0665", -18, 0}, {"\u0661,5", -23, 0}, {LONG_ONES, -21, 0}},
+    {{" \u0667", 0, 700}, {"\u0661,\u0665,", -9, 0}, {",", -10, 0}, {"-\u0660,\u0660", 0, 0}, {ONES, -12, 0}, {"\xff", -3, 0},
+     {"\u2212\u0661,\u0665\u0660\u0660", 0, -150}, {"\u0661,\u0665\u0660\u0665", -18, 0}, {"+1", -23, 0}, {LONG_ONES, -21, 0}},
 };
 
 /* Each status of a row, in a column that begins and ends within the bytes. */
-static void check_statuses(const kind *kind, uint32_t offset_type, uint32_t tried) {
-    size_t way = kind->is_decimal ? 3 + tried / 2 : tried, end = 2;
+static void check_statuses(const kind *kind, uint32_t offset_type, uint32_t tried, size_t is_arab) {
+    size_t way = (kind->is_decimal ? 3 + tried / 2 : tried) + 5 * is_arab, end = 2;
     begin(kind, offset_type, TRIED);
+    if (is_arab) CHECK("digits", way, num_format_set_digits(&now.format, "arab", 4), 0);
     now.way = tried, now.scale = 2, now.validity_size = 2, now.bit_offset = 5;
     memset(now.validity, 0, sizeof now.validity);
     for (size_t k = 0; k < TRIED; k++) {
@@ -308,6 +355,7 @@ static void check_null(void) {
     CHECK("null tag", 0, num_format_lookup(&filled, NULL, 0), NUM_FORMAT_UNKNOWN_LOCALE);
     CHECK("null tag and array of a name", 0, num_format_lookup_name(NULL, 0, NULL, 0), NUM_FORMAT_UNKNOWN_LOCALE);
     CHECK("null separator and minus sign", 0, num_format_custom(&filled, NULL, 0, 1, NULL, 0), 0);
+    CHECK("null name of digits", 0, num_format_set_digits(&filled, NULL, 0), NUM_FORMAT_UNKNOWN_DIGITS);
     CHECK("null decimal mark", 0, num_format_custom_decimal(&filled, NULL, 0, 1, NULL, 0, NULL, 0), 0);
     CHECK("null array", 0, num_format_print_i64(format, 1, NULL, 0), NUM_FORMAT_TOO_SMALL);
     CHECK("null array of a name", 0, num_format_names(0, NULL, 0), NUM_FORMAT_TOO_SMALL);
@@ -339,7 +387,10 @@ int main(void) {
     for (size_t large = 0; large < 2; large++) {
         for (size_t k = 0; k < KINDS * 7 * 5 * 2; k++)
             check_rows(&kinds[k % KINDS], offset_types[large], counts[k / KINDS % 7], bits[k / KINDS / 7 % 5], k / KINDS / 7 / 5 == 1);
-        for (uint32_t k = 0; k < 3 * KINDS; k++) check_statuses(&kinds[k / 3], offset_types[large], k % 3);
+        for (uint32_t k = 0; k < 3 * KINDS; k++) {
+            check_statuses(&kinds[k / 3], offset_types[large], k % 3, 0);
+            if (k % 3 != NUM_FORMAT_LENIENT) check_statuses(&kinds[k / 3], offset_types[large], k % 3, 1);
+        }
         for (int k = 0; k < 6; k++) check_wrong(k / 3, k % 3, offset_types[large]);
         for (int is_decimal = 0; is_decimal < 2; is_decimal++) check_empty(is_decimal, offset_types[large]);
     }

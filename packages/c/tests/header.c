@@ -50,13 +50,14 @@ static void check_text(const num_format *format, int64_t number, const char *exp
 static void check_constants(void) {
     CHECK(NUM_FORMAT_MAX, 191);
     CHECK(NUM_FORMAT_DECIMAL_MAX, 199);
+    CHECK(NUM_FORMAT_DIGITS_MAX, 796);
     CHECK(NUM_FORMAT_LOCALES, 542);
     static const struct {
         int status, number;
         const char *text;
     } statuses[] = {
         {NUM_FORMAT_OK, 0, "ok"},
-        {NUM_FORMAT_BAD_FORMAT, -1, "the struct has no format"},
+        {NUM_FORMAT_BAD_FORMAT, -1, "the struct has no format, or one in digits that the call does not take"},
         {NUM_FORMAT_TOO_SMALL, -2, "the array is shorter than the text"},
         {NUM_FORMAT_NOT_UTF8, -3, "the text is not UTF-8"},
         {NUM_FORMAT_NOT_A_NUMBER, -4, "the text is refused as a number"},
@@ -70,14 +71,16 @@ static void check_constants(void) {
         {NUM_FORMAT_OUT_OF_RANGE, -12, "the number is out of range"},
         {NUM_FORMAT_BAD_SCALE, -13, "the scale is above 38"},
         {NUM_FORMAT_TOO_MANY_DECIMALS, -14, "more than 38 digits follow the decimal mark"},
-        {NUM_FORMAT_BAD_LENGTH, -15, "the sizes of a column's arrays do not fit one another"},
+        {NUM_FORMAT_BAD_LENGTH, -15, "sizes of a column do not fit one another, or that of a value its type"},
         {NUM_FORMAT_BAD_OFFSETS, -16, "an offset is below 0 or the one before it, or past the bytes"},
         {NUM_FORMAT_TOO_MANY_BYTES, -17, "the texts have more bytes than an offset can say"},
         {NUM_FORMAT_DIGITS_LOST, -18, "the decimal has digits other than 0 that the scale has not"},
         {NUM_FORMAT_AMBIGUOUS_FORMAT, -19, "the format is ambiguous"},
         {NUM_FORMAT_BAD_TYPE, -20, "no such type"},
         {NUM_FORMAT_TEXT_TOO_LONG, -21, "the text is longer than that of any number"},
-        {-22, -22, "unknown status"},
+        {NUM_FORMAT_UNKNOWN_DIGITS, -22, "no such digit set, or two in a tag"},
+        {NUM_FORMAT_OTHER_NUMERAL, -23, "a numeric character of no digit of the set"},
+        {-24, -24, "unknown status"},
         {INT32_MIN, INT32_MIN, "unknown status"},
         {1, 1, "ok"},
         {INT32_MAX, INT32_MAX, "ok"},
@@ -110,7 +113,8 @@ static void check_layout(void) {
     CHECK(offsetof(num_format, minus_sign_length), 25);
     CHECK(offsetof(num_format, decimal_mark_length), 26);
     CHECK(offsetof(num_format, grouping), 27);
-    CHECK(offsetof(num_format, reserved), 28);
+    CHECK(offsetof(num_format, digits), 28);
+    CHECK(offsetof(num_format, reserved), 29);
 }
 
 /* What a call writes into a struct, and nothing past it. */
@@ -129,7 +133,8 @@ static void check_filled(void) {
     CHECK(held.format.minus_sign_length, 3);
     CHECK(held.format.decimal_mark_length, 1);
     CHECK(held.format.grouping, 4);
-    CHECK(memcmp(held.format.reserved, "\0\0\0", 4), 0);
+    CHECK(held.format.digits, 0);
+    CHECK(memcmp(held.format.reserved, "\0\0", 3), 0);
     check_text(&held.format, -12345678, "\xe2\x88\x92" "1234'5678");
     CHECK(num_format_locale(&held.format, "en-IN", 5), 0);
     check_bytes("separator of en-IN", held.format.separator, ",");
@@ -150,7 +155,7 @@ static void check_filled(void) {
 
 /* How a call reads a struct whose fields were written here. */
 static void check_read(void) {
-    num_format format = {"::", "~~~", "..", 2, 3, 2, 1, "any"};
+    num_format format = {"::", "~~~", "..", 2, 3, 2, 1, 0, "an"};
     static const struct {
         const char *four_digits, *seven_digits;
     } texts[] = {
@@ -297,6 +302,144 @@ static void check_longest(void) {
     CHECK(num_format_print_decimal(&format, 0, (uint64_t)1 << 63, 1, decimal, NUM_FORMAT_DECIMAL_MAX),
           NUM_FORMAT_DECIMAL_MAX);
     check_bytes("the longest decimal", decimal, longest_decimal);
+}
+
+/* Digits that tags and names choose: the number of the set in the struct, and -1234 in it. */
+static void check_digits(void) {
+    static const struct {
+        const char *tag;
+        int digits;
+        const char *text;
+    } tags[] = {
+        {"fa", 0, "\u200e\u22121\u066c234"},
+        {"fa-u-nu-arabext", 4, "\u200e\u2212\u06f1\u066c\u06f2\u06f3\u06f4"},
+        {"fa_IR-U-CA-persian-NU-native", 4, "\u200e\u2212\u06f1\u066c\u06f2\u06f3\u06f4"},
+        {"fa_IR_u_nu_ARABEXT.UTF-8", 4, "\u200e\u2212\u06f1\u066c\u06f2\u06f3\u06f4"},
+        {"de-u-nu-native", 0, "-1.234"},
+        {"en-u-nu-latn", 0, "-1,234"},
+        {"en-u-nu-fullwide", 13, "-\uff11,\uff12\uff13\uff14"},
+        {"en-u-nu-wcho", 76, "-\U0001e2f1,\U0001e2f2\U0001e2f3\U0001e2f4"},
+    };
+    static const char *const refused[] = {
+        "roman", "traditio", "finance", "", "arab-nu-arab",
+    };
+    num_format format, other;
+    char tag[32];
+    for (size_t i = 0; i < sizeof tags / sizeof *tags; i++) {
+        CHECK(num_format_lookup_str(&format, tags[i].tag), 0);
+        compare(tags[i].tag, format.digits, tags[i].digits);
+        check_text(&format, -1234, tags[i].text);
+    }
+    memcpy(&other, &format, sizeof other);
+    for (size_t i = 0; i < sizeof refused / sizeof *refused; i++) {
+        snprintf(tag, sizeof tag, "en-u-nu-%s", refused[i]);
+        compare(tag, num_format_lookup_str(&format, tag), -22);
+        compare(tag, num_format_set_digits(&format, refused[i], strlen(refused[i])), -22);
+    }
+    CHECK(num_format_lookup_str(&format, "english-u-nu-roman"), -5);
+    CHECK(num_format_set_digits(&format, "Arab", 4), -22);
+    CHECK(num_format_set_digits(&format, "arab\xff", 5), -3);
+    CHECK(num_format_set_digits(&format, NULL, 0), -22);
+    CHECK(memcmp(&format, &other, sizeof other), 0);
+    CHECK(num_format_prints_alike(&format, &other), 1);
+    CHECK(num_format_set_digits(&format, "deva", 4), 0);
+    CHECK(format.digits, 11);
+    CHECK(num_format_prints_alike(&format, &other), 0);
+    format.digits = other.digits;
+    CHECK(memcmp(&format, &other, sizeof other), 0);
+    memset(&format, 'x', sizeof format);
+    CHECK(num_format_set_digits(&format, "latn", 4), 0);
+    CHECK(format.digits == 0 && format.grouping == 'x' && format.reserved[0] == 'x', 1);
+}
+
+/* The longest text in a set, which has its digits for those of the format too, and numbers of no set. */
+static void check_longest_digits(void) {
+    num_format format;
+    char text[NUM_FORMAT_DIGITS_MAX + 1];
+    uint64_t high = (uint64_t)1 << 63;
+    CHECK(num_format_custom_decimal(&format, "12345678", 8, 2, "12345678", 8, "12345678", 8), 0);
+    CHECK(num_format_set_digits(&format, "adlm", 4), 0);
+    CHECK(num_format_print_decimal(&format, 0, high, 1, text, NUM_FORMAT_DIGITS_MAX - 1), -2);
+    CHECK(num_format_print_decimal_len(&format, 0, high, 1), NUM_FORMAT_DIGITS_MAX);
+    CHECK(num_format_format_decimal(&format, 0, high, 1, text, sizeof text), NUM_FORMAT_DIGITS_MAX);
+    CHECK(strlen(text), NUM_FORMAT_DIGITS_MAX);
+    for (int i = 0; i < NUM_FORMAT_DECIMAL_MAX; i++) {
+        char c = longest_decimal[i], digit[] = "\U0001e950";
+        digit[3] += (char)(c < 'A' ? c - '0' : 1 + (c - 'A') % 32);
+        CHECK(memcmp(text + 4 * i, digit, 4), 0);
+    }
+    CHECK(num_format_print_i128_len(&format, 0, high), 4 * NUM_FORMAT_MAX);
+    CHECK(num_format_format_i128(&format, 0, high, text, sizeof text), 4 * NUM_FORMAT_MAX);
+    for (int digits = 77; digits <= 255; digits++) {
+        format.digits = (uint8_t)digits;
+        CHECK(num_format_print_i64(&format, 1, text, sizeof text), -1);
+        CHECK(num_format_print_i64_len(&format, 1), -1);
+        CHECK(num_format_print_decimal(&format, 1, 0, 0, text, sizeof text), -1);
+        CHECK(num_format_prints_alike(&format, &format), -1);
+    }
+}
+
+/* Texts in other digits: the numbers, what each error leaves as it was, and its place. */
+static void check_parsed_digits(void) {
+    num_format format;
+    int64_t number = 7, units = 7;
+    uint64_t low = 7, high = 7;
+    int16_t typed = 7;
+    uint32_t scale = 7;
+    size_t at = 9;
+    char text[NUM_FORMAT_DIGITS_MAX + 4];
+    CHECK(num_format_lookup_str(&format, "en-u-nu-fullwide"), 0);
+    CHECK(num_format_parse_strict_i64(&format, 64, "-\uff11,234", 8, &number, &at), -23);
+    CHECK(number == 7 && at == 5, 1);
+    CHECK(num_format_parse_strict_i64(&format, 64, "\uff11\u00b2", 5, &number, &at), -23);
+    CHECK(at, 3);
+    CHECK(num_format_parse_strict_u64(&format, 64, "1", 1, &low, &at), -23);
+    CHECK(at, 0);
+    CHECK(num_format_parse_strict_u64(&format, 64, "\uff11.", 4, &low, &at), -9);
+    CHECK(at, 3);
+    CHECK(num_format_parse_strict_i128(&format, "\uff11\uff12\uff13", 8, &low, &high, &at), -3);
+    CHECK(num_format_parse_strict_u128(&format, "\uff10\uff11", 6, &low, &high, &at), -11);
+    CHECK(num_format_parse_decimal(&format, "\uff11.\u0665", 6, &low, &high, &scale, &at), -23);
+    CHECK(low == 7 && high == 7 && scale == 7 && at == 4, 1);
+    CHECK(num_format_parse_typed(&format, 's', " \uff11x", 5, &typed, 2, &at), -9);
+    CHECK(typed == 7 && at == 4, 1);
+    CHECK(num_format_parse_typed(&format, 's', " \uff11", 4, &typed, 3, &at), -15);
+    CHECK(num_format_parse_typed_decimal_i64(&format, "\uff11\uff0e5", 7, &units, &scale, &at), -23);
+    CHECK(units == 7 && scale == 7 && at == 6, 1);
+    CHECK(num_format_parse_strict_i64(&format, 64, "-\uff11,\uff12\uff13\uff14", 14, &number, NULL), 0);
+    CHECK(num_format_parse_strict_u64(&format, 8, "\uff12\uff15\uff16", 9, &low, NULL), -12);
+    CHECK(num_format_parse_strict_u128(&format, "\uff12", 3, &low, &high, NULL), 0);
+    CHECK(number == -1234 && low == 2 && high == 0, 1);
+    CHECK(num_format_parse_strict_i128(&format, "-\uff12", 4, &low, &high, NULL), 0);
+    CHECK(low == UINT64_MAX - 1 && high == UINT64_MAX, 1);
+    CHECK(num_format_parse_decimal_i64(&format, "\uff11.\uff15\uff10", 10, &units, &scale, NULL), 0);
+    CHECK(units == 150 && scale == 2, 1);
+    CHECK(num_format_parse_typed(&format, 's', " +\uff11,\uff12\uff13\uff14\n", 16, &typed, 2, NULL), 0);
+    CHECK(num_format_parse_typed_decimal_i64(&format, "\u2212\uff10.\uff15 ", 11, &units, &scale, NULL), 0);
+    CHECK(typed == 1234 && units == -5 && scale == 1, 1);
+    for (size_t i = 0; i < 200; i++)
+        memcpy(text + 4 * i, "\U0001e951", 4);
+    CHECK(num_format_set_digits(&format, "adlm", 4), 0);
+    CHECK(num_format_parse_strict_i64(&format, 64, text, 796, &number, NULL), -12);
+    CHECK(num_format_parse_strict_i64(&format, 64, text, 800, &number, NULL), -21);
+    CHECK(num_format_custom(&format, ",", 1, 1, "", 0), 0);
+    CHECK(num_format_set_digits(&format, "adlm", 4), 0);
+    CHECK(num_format_parse_strict_i64(&format, 64, "\xff", 1, &number, NULL), -19);
+    CHECK(num_format_parse_strict_i64(&format, 64, "5", 1, &number, NULL), -19);
+    CHECK(num_format_parse_typed_decimal_i64(&format, "5", 1, &units, &scale, NULL), -19);
+}
+
+/* What is parsed in no other digits than 0 to 9. */
+static void check_latin(void) {
+    num_format format;
+    int64_t number = 7;
+    uint64_t low = 7, high = 7;
+    CHECK(num_format_lookup_str(&format, "en-u-nu-fullwide"), 0);
+    CHECK(num_format_reads_back(&format), -1);
+    CHECK(num_format_parse_i64(&format, 64, "5", 1, &number), -1);
+    CHECK(num_format_parse_u64(&format, 64, "5", 1, &low), -1);
+    CHECK(num_format_parse_i128(&format, "5", 1, &low, &high), -1);
+    CHECK(number == 7 && low == 7 && high == 7, 1);
 }
 
 static void check_names(void) {
@@ -586,6 +729,10 @@ int main(void) {
     check_ambiguous();
     check_typed();
     check_longest();
+    check_digits();
+    check_longest_digits();
+    check_parsed_digits();
+    check_latin();
     check_names();
     check_lookup();
     return status;

@@ -5,7 +5,7 @@ static num_format format_of(const char *field) {
     num_format format;
     struct text texts[4];
     if (strncmp(field, "locale:", 7) == 0) {
-        num_format_locale_str(&format, field + 7);
+        num_format_lookup_str(&format, field + 7);
         return format;
     }
     uint32_t grouping = parts_of(field, texts);
@@ -34,7 +34,7 @@ static void printing(char **fields) {
     num_format format = format_of(fields[1]);
     wide number = number_of(fields[2]);
     uint64_t low = (uint64_t)number, high = (uint64_t)(number >> 64);
-    char bytes[NUM_FORMAT_MAX];
+    char bytes[NUM_FORMAT_DIGITS_MAX];
     int length;
 #define PRINTS(kind, ...) \
     (length = num_format_print_##kind(&format, __VA_ARGS__, bytes, sizeof bytes), \
@@ -59,7 +59,7 @@ static void parsed(char **fields, int is_strict) {
                  : type.is_signed ? PARSED(i64, type.bits, text.bytes, text.length, &number)
                                   : PARSED(u64, type.bits, text.bytes, text.length, &low);
     wide value = type.bits == 128 ? (wide)high << 64 | low : type.is_signed ? (wide)number : low;
-    if (status != 0 && !(low == 7 && high == 8 && number == 9 && (at == 10 || status == NUM_FORMAT_UNEXPECTED)))
+    if (status != 0 && !(low == 7 && high == 8 && number == 9 && (at == 10 || is_placed(status))))
         printf("something is written for ");
     /* C has no type without zero, so whoever needs one tests that. */
     if (status == 0 && !type.has_zero && value == 0)
@@ -83,7 +83,7 @@ static void typed(char **fields) {
     size_t at = 10, size = type.bits / 8;
     uint32_t code = (uint32_t)"CSILQcsilq"[5 * type.is_signed + __builtin_ctzl(size)];
     int status = num_format_parse_typed(&format, code, text.bytes, text.length, &value, size, &at);
-    if (status != 0 && !(value == 0 && (at == 10 || status == NUM_FORMAT_UNEXPECTED)))
+    if (status != 0 && !(value == 0 && (at == 10 || is_placed(status))))
         printf("something is written for ");
     if (status == 0 && !type.has_zero && value == 0)
         status = NUM_FORMAT_OUT_OF_RANGE;
@@ -100,12 +100,12 @@ static struct text decimal_text(char **fields) {
     uint64_t low = (uint64_t)number, high = (uint64_t)(number >> 64);
     uint32_t scale = (uint32_t)atoi(fields[2]);
     struct text text = {"", 0}, again;
-    int length = num_format_print_decimal(&format, low, high, scale, text.bytes, NUM_FORMAT_DECIMAL_MAX);
+    int length = num_format_print_decimal(&format, low, high, scale, text.bytes, NUM_FORMAT_DIGITS_MAX);
     text.length = length < 0 ? 0 : (size_t)length;
     if (num_format_print_decimal_len(&format, low, high, scale) != length || text.bytes[text.length])
         printf("another length than ");
     if ((wide)(int64_t)low == number
-        && (num_format_print_decimal_i64(&format, (int64_t)low, scale, again.bytes, NUM_FORMAT_DECIMAL_MAX) != length
+        && (num_format_print_decimal_i64(&format, (int64_t)low, scale, again.bytes, NUM_FORMAT_DIGITS_MAX) != length
             || memcmp(again.bytes, text.bytes, text.length) != 0))
         printf("of 64 bits not ");
     return text;
@@ -126,7 +126,7 @@ static void decimals_parsed(char **fields) {
     int status = num_format_parse_decimal(&format, text.bytes, text.length, &low, &high, &scale, &at);
     int is_short = status == 0 && (wide)(int64_t)low == ((wide)high << 64 | low);
     int of_64_bits = num_format_parse_decimal_i64(&format, text.bytes, text.length, &units, &scale_of_64_bits, &at_of_64_bits);
-    if (status != 0 && !(low == 7 && high == 8 && scale == 9 && (at == 10 || status == NUM_FORMAT_UNEXPECTED)))
+    if (status != 0 && !(low == 7 && high == 8 && scale == 9 && (at == 10 || is_placed(status))))
         printf("something is written for ");
     if (of_64_bits != (status == 0 && !is_short ? NUM_FORMAT_OUT_OF_RANGE : status) || at_of_64_bits != at
         || units != (is_short ? (int64_t)low : 7) || scale_of_64_bits != (is_short ? scale : 9))
@@ -289,12 +289,13 @@ static void typed_decimals(char **fields) {
 }
 
 #define CALL(table) {#table, table, NULL}
+#define DIGITS(table) CALL(table), {#table "_digits", table, NULL}
 
 int main(void) {
     static const struct table tables[] = {
-        CALL(alike), CALL(decimals_at_scale), CALL(decimals_computed), CALL(decimals_parsed), CALL(decimals_printed),
-        CALL(lenient), CALL(locales), CALL(names), CALL(padded), CALL(printing), CALL(reads_back), CALL(strict), CALL(tags),
-        CALL(typed), CALL(typed_decimals),
+        CALL(alike), DIGITS(decimals_at_scale), CALL(decimals_computed), DIGITS(decimals_parsed), DIGITS(decimals_printed),
+        CALL(lenient), CALL(locales), CALL(names), CALL(padded), DIGITS(printing), CALL(reads_back), DIGITS(strict),
+        CALL(tags), DIGITS(typed), DIGITS(typed_decimals),
         {"builders", NULL, "no builder"}, {"json", NULL, "no JSON"},
     };
     return replay(tables);

@@ -13,7 +13,7 @@ static std::string string_of(const char *field, char end = 0) {
 static void write(std::string_view found) { write_text(found.data(), found.size()); }
 
 static numfmt::format format_of(const char *field) {
-    if (std::strncmp(field, "locale:", 7) == 0) return numfmt::format::locale(field + 7);
+    if (std::strncmp(field, "locale:", 7) == 0) return numfmt::format::lookup(field + 7);
     text parts[4];
     const auto grouping = parts_of(field, parts);
     const auto part = [&](int k) { return std::string_view(parts[k].bytes, parts[k].length); };
@@ -174,13 +174,14 @@ static void reads_back(char **fields) { write(format_of(fields[0]).reads_back() 
 static void alike(char **fields) { write(format_of(fields[0]).prints_alike(format_of(fields[1])) ? "true" : "false"); }
 
 #define CALL(table) {#table, table, nullptr}
+#define DIGITS(table) CALL(table), {#table "_digits", table, nullptr}
 
 int main() {
     static const table tables[] = {
-        CALL(alike), CALL(decimals_at_scale), CALL(decimals_computed), CALL(decimals_parsed), CALL(decimals_printed),
+        CALL(alike), DIGITS(decimals_at_scale), CALL(decimals_computed), DIGITS(decimals_parsed), DIGITS(decimals_printed),
         CALL(lenient), CALL(names),
-        CALL(printing), CALL(reads_back), CALL(strict), CALL(tags), CALL(typed),
-        CALL(typed_decimals), {"builders", nullptr, "no builder"},
+        DIGITS(printing), CALL(reads_back), DIGITS(strict), CALL(tags), DIGITS(typed),
+        DIGITS(typed_decimals), {"builders", nullptr, "no builder"},
         {"json", nullptr, "no JSON"},
         {"locales", nullptr, "no parts of a format"}, {"padded", nullptr, "streams and std::format pad"},
     };

@@ -51,15 +51,18 @@ static void write_number(const char *words, wide number, int is_signed) {
     printf("%s%s%s", words, is_negative ? "-" : "", first);
 }
 
+/* Whether a cause is at a place in the text. */
+static int is_placed(int status) { return status == NUM_FORMAT_UNEXPECTED || status == NUM_FORMAT_OTHER_NUMERAL; }
+
 /* Writes the cause of a status below 0. An error keeps no text, whose length the tables have. */
 static void write_error(int status, size_t at) {
     static const char *const causes[] = {
         "", "BadFormat", "TooSmall", "NotUtf8", "ParseNumber?", "ParseLocale?", "TooLong", "BadGrouping", "BadBits",
         "Unexpected", "NoDigit", "Misspelled", "OutOfRange", "ScaleTooLarge", "TooManyDecimals", "BadLength",
-        "BadOffsets", "TooManyBytes", "DigitsLost", "AmbiguousFormat", "BadType", "TooLong",
+        "BadOffsets", "TooManyBytes", "DigitsLost", "AmbiguousFormat", "BadType", "TooLong", "UnknownDigits", "OtherNumeral",
     };
     printf("err %s", causes[-status]);
-    if (status == NUM_FORMAT_UNEXPECTED)
+    if (is_placed(status))
         printf(" %zu", at);
 }
 

@@ -194,6 +194,47 @@ static void check_typed(const numfmt::format &de) {
           && throws<numfmt::not_a_number>([&] { fr.parse_column(texts{"x"}, NUM_FORMAT_LENIENT); }, -4));
 }
 
+// Digits of other scripts.
+static void check_digits(const numfmt::format &de) {
+    const auto farsi = numfmt::format::lookup("fa-u-nu-arabext");
+    const auto arabic = numfmt::format::locale("ar-EG").digits("arab");
+    check("digits", farsi == numfmt::format::locale("fa").digits("arabext") && farsi == numfmt::format::lookup("fa-u-nu-native")
+          && farsi != numfmt::format::locale("fa") && farsi.digits("latn") == numfmt::format::locale("fa"));
+    check("print in digits", farsi.print(1234) == "۱٬۲۳۴" && farsi.print_decimal({12345, 1}) == "۱٬۲۳۴٫۵" && farsi.print_len(1234) == 10
+          && de.digits("mathbold").print(std::int8_t(-7)) == "-𝟕" && farsi.text(0).size() == 2);
+    check("longest text in digits", numfmt::format::custom("12345678", NUM_FORMAT_INDIAN, "12345678").digits("adlm")
+          .text(-(numfmt::int128(1) << 126)).size() == 4 * (8 + 38 + 8 * 18));
+    check("parse in digits", farsi.parse<std::uint8_t>("۲۵۵") == 255 && farsi.parse_decimal("۱٬۲۳۴٫۵").units == 12345
+          && arabic.parse_typed<numfmt::int128>(" +١٬٢٣٤") == 1234 && arabic.parse_typed_decimal("١٫٥").units == 15);
+    check("other_numeral", throws<numfmt::other_numeral>([&] { arabic.parse<int>("١٬٢3٤"); }, -23, 6)
+          && throws<numfmt::other_numeral>([&] { arabic.parse_typed<int>("1"); }, -23)
+          && throws<numfmt::other_numeral>([&] { arabic.parse_decimal("١²"); }, -23, 2));
+    check("unexpected in digits", throws<numfmt::unexpected>([&] { arabic.parse<int>("١\u0301"); }, -9, 2)
+          && throws<numfmt::unexpected>([&] { arabic.parse<int>("١😀"); }, -9, 2));
+    check("not_utf8 in digits", throws<numfmt::not_utf8>([&] { arabic.parse<int>("١\xd9"); }, -3));
+    check("text_too_long in digits", throws<numfmt::text_too_long>([&] { de.digits("thai").parse<int>(std::string(200, '.')); }, -21));
+    check("unknown_digits", throws<numfmt::unknown_digits>([&] { de.digits("roman"); }, -22) && !de.try_digits("Arab")
+          && throws<numfmt::unknown_digits>([] { numfmt::format::lookup("fa-u-nu-deva-nu-deva"); }, -22)
+          && throws<numfmt::unknown_digits>([] { numfmt::format::lookup("zh-u-nu-traditio"); }, -22)
+          && throws<numfmt::not_utf8>([&] { de.digits("\xff"); }, -3) && !numfmt::format::try_lookup("fa-u-nu-"));
+    check("lenient in digits", throws<numfmt::error>([&] { arabic.parse_lenient<int>("١"); }, -1));
+    check("reads_back in digits", arabic.reads_back() && !arabic.prints_alike(numfmt::format::locale("ar-EG"))
+          && !numfmt::format::custom(",", 1, "").digits("arab").reads_back());
+    const auto column = arabic.print_column(std::vector<int>{1234, -5});
+    check("columns in digits", column.texts() == std::vector<std::string>{arabic.print(1234), arabic.print(-5)}
+          && arabic.parse_column(column) == std::vector<std::int64_t>{1234, -5}
+          && arabic.parse_decimal_column(column, 2) == std::vector<std::int64_t>{123400, -500}
+          && throws<numfmt::error>([&] { arabic.parse_column(column, NUM_FORMAT_LENIENT); }, -1));
+    using texts = std::vector<std::string>;
+    const texts typed{"١٬٢٣٤", "+٥ "}, mixed{"٥", "١٬٢3٤"};
+    check("typed columns in digits", arabic.parse_column(typed, NUM_FORMAT_TYPED) == std::vector<std::int64_t>{1234, 5}
+          && arabic.parse_decimal_column(typed, 2, NUM_FORMAT_TYPED) == std::vector<std::int64_t>{123400, 500});
+    check("other_numeral in columns", throws<numfmt::other_numeral>([&] { arabic.parse_column(mixed); }, -23, 6, 1)
+          && throws<numfmt::other_numeral>([&] { arabic.parse_column(mixed, NUM_FORMAT_TYPED); }, -23, 6, 1)
+          && throws<numfmt::other_numeral>([&] { arabic.parse_decimal_column(mixed, 2); }, -23, 6, 1)
+          && throws<numfmt::other_numeral>([&] { arabic.parse_decimal_column(mixed, 2, NUM_FORMAT_TYPED); }, -23, 6, 1));
+}
+
 // Columns from texts, and back.
 static void check_text_columns(const numfmt::format &de) {
     using texts = std::vector<std::string>;
@@ -250,5 +291,6 @@ int main() {
     check_tries(de);
     check_typed(de);
     check_text_columns(de);
+    check_digits(de);
     return status;
 }

@@ -50,7 +50,8 @@ def words(call, text, ok=str):
         return f"ok {ok(call())}"
     except (ParseError, FormatError) as error:
         name = error.cause.name.title().replace("_", "").removeprefix("Text")
-        at = f" {len(text[: error.at].encode())}" if error.cause is Cause.UNEXPECTED else ""
+        is_placed = error.cause in (Cause.UNEXPECTED, Cause.OTHER_NUMERAL)
+        at = f" {len(text[: error.at].encode())}" if is_placed else ""
         return "err ParseNumber?" if error.cause is Cause.NOT_A_NUMBER else f"err {name}{at}"
 
 
@@ -140,6 +141,8 @@ TABLES = {call.__name__: call for call in CALLS} | {
     "typed": lambda *fields: parsed(*fields, typed=True),
     "typed_decimals": lambda *fields: decimals_parsed(*fields, typed=True),
 }
+DIGITS = ["printing", "decimals_printed", "strict", "decimals_parsed", "decimals_at_scale", "typed", "typed_decimals"]
+TABLES |= {f"{name}_digits": TABLES[name] for name in DIGITS}
 
 for line in sys.stdin:
     table, *fields = line.rstrip("\n").split("\t")

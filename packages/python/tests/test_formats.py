@@ -116,7 +116,7 @@ def test_refused_texts(argument):
         error = caught.value
         assert (error.argument, error.text, error.cause) == (argument, text, cause)
         assert argument in str(error)
-    for text in [None, 1, b","]:
+    for text in [1, b","]:
         with pytest.raises(TypeError):
             Format(**{argument: text})
 
@@ -128,12 +128,22 @@ def test_groupings_by_name():
 
 
 def test_refused_groupings():
-    for grouping in ["thirds", "", 1, None, []]:
+    for grouping in ["thirds", "", 1, []]:
         with pytest.raises(FormatError) as caught:
             Format(grouping=grouping)
         assert (caught.value.argument, caught.value.cause) == ("grouping", Cause.BAD_GROUPING)
-    with pytest.raises(TypeError):
+
+
+def test_formats_that_begin_with_a_locale():
+    assert Format("de") == Format.locale("de_DE.UTF-8") and Format("de", separator="'").decimal_mark == ","
+    assert Format("sv", minus_sign="-", grouping="Indian") == Format(
+        separator="\u00a0", grouping="Indian", decimal_mark=","
+    )
+    with pytest.raises(FormatError) as caught:
         Format(",")
+    assert (caught.value.argument, caught.value.cause) == ("locale", Cause.UNKNOWN_LOCALE)
+    with pytest.raises(TypeError):
+        Format("de", ",")
 
 
 def test_refused_names():

@@ -20,6 +20,7 @@ from num_format.columns import StringColumn, WIDE, format_column, format_decimal
 text: str = num_format.format(5, "de")
 text = num_format.format(Decimal("1.5"), num_format.Format(separator="'"))
 text = num_format.format(np.int64(5), num_format.lookup("de_DE.UTF-8") or "en")
+text = num_format.Format("fa", digits="arabext").digits
 number: int = num_format.parse("5", "de", lenient=True)
 decimal: Decimal = num_format.parse_decimal("5", "de")
 column: StringColumn = format_column(np.array([1]), "de")
@@ -52,7 +53,8 @@ WRONG = [
     "num_format.parse('5', 'de', True)",
     "number = num_format.format(5, 'de')",
     "text = num_format.lookup('de_DE')",
-    "num_format.Format('.')",
+    "num_format.Format('de', '.')",
+    "num_format.Format('fa', digits=4)",
     "num_format.Format(separator=5)",
     "text = column[0]",
     "column = parse_column(column, 'de')",

@@ -86,7 +86,7 @@ impl Decimal {
     }
 
     #[inline]
-    fn with_raw_text<R>(&self, format: &RawFormat, then: impl FnOnce(&str) -> R) -> R {
+    pub(crate) fn with_raw_text<R>(&self, format: &RawFormat, then: impl FnOnce(&str) -> R) -> R {
         ffi::with_text(self.parts(), format, then)
     }
 

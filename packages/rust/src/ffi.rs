@@ -21,6 +21,9 @@ pub(crate) const MAX_LEN: usize = 191;
 /// The most bytes of the text of a decimal, under any format: `NUM_FORMAT_DECIMAL_MAX` of the header.
 pub(crate) const MAX_DECIMAL_LEN: usize = 199;
 
+/// The most bytes of the text of a number or a decimal in any digit set: `NUM_FORMAT_DIGITS_MAX` of the header.
+pub(crate) const MAX_DIGITS_LEN: usize = 796;
+
 /// The statuses of the header that parsing, looking up and arithmetic return. No other is returned for a struct that
 /// has a format, a `str` and a number of bits that a type has.
 mod status {
@@ -36,6 +39,8 @@ mod status {
     pub(super) const DIGITS_LOST: i32 = -18;
     pub(super) const AMBIGUOUS_FORMAT: i32 = -19;
     pub(super) const TEXT_TOO_LONG: i32 = -21;
+    pub(super) const UNKNOWN_DIGITS: i32 = -22;
+    pub(super) const OTHER_NUMERAL: i32 = -23;
 }
 
 /// A status that the proved library does not return.
@@ -52,7 +57,8 @@ pub struct RawFormat {
     minus_sign_length: u8,
     decimal_mark_length: u8,
     grouping: u8,
-    reserved: [u8; 4],
+    digits: u8,
+    reserved: [u8; 3],
 }
 
 extern "C" {
@@ -71,6 +77,8 @@ extern "C" {
     fn num_format_locale(format: *mut RawFormat, name: *const u8, length: usize) -> i32;
     #[cfg(test)]
     fn num_format_names(place: usize, name: *mut u8, capacity: usize) -> i32;
+    fn num_format_lookup(format: *mut RawFormat, tag: *const u8, length: usize) -> i32;
+    fn num_format_set_digits(format: *mut RawFormat, name: *const u8, length: usize) -> i32;
     fn num_format_lookup_name(tag: *const u8, tag_length: usize, name: *mut u8, capacity: usize) -> i32;
     fn num_format_print_decimal(
         format: *const RawFormat,
@@ -155,7 +163,8 @@ impl RawFormat {
             minus_sign_length: minus_sign.len() as u8,
             decimal_mark_length: decimal_mark.len() as u8,
             grouping: code(grouping),
-            reserved: [0; 4],
+            digits: 0,
+            reserved: [0; 3],
         }
     }
 
@@ -175,7 +184,8 @@ impl RawFormat {
             minus_sign_length: minus_sign.len as u8,
             decimal_mark_length: decimal_mark.len as u8,
             grouping: code(grouping),
-            reserved: [0; 4],
+            digits: 0,
+            reserved: [0; 3],
         }
     }
 
@@ -232,6 +242,12 @@ impl RawFormat {
         (status == status::OK).then_some(raw)
     }
 
+    /// Returns the same format in the digits of a set.
+    #[inline]
+    pub(crate) fn in_digits(self, digits: u8) -> RawFormat {
+        RawFormat { digits, ..self }
+    }
+
     /// Returns whether every number, printed under the format, parses as the same number again.
     pub(crate) fn reads_back(&self) -> bool {
         // SAFETY: the pointer is that of a reference.
@@ -272,6 +288,27 @@ const fn padded(text: &str) -> [u8; 8] {
     bytes
 }
 
+/// Returns the number of the digit set that a call writes into a struct, or `None` if it finds none.
+fn digits_by(call: unsafe extern "C" fn(*mut RawFormat, *const u8, usize) -> i32, text: &str) -> Option<u8> {
+    let mut raw = RawFormat::default();
+    // SAFETY: the pointer and the length are those of one `str`, and `raw` is this function's own.
+    match unsafe { call(&mut raw, text.as_ptr(), text.len()) } {
+        status::OK => Some(raw.digits),
+        status::UNKNOWN_DIGITS | status::UNKNOWN_LOCALE => None,
+        _ => panic!("{OTHER_LIBRARY}"),
+    }
+}
+
+/// Returns the number of the digit set of a name.
+pub(crate) fn digits_of_name(name: &str) -> Option<u8> {
+    digits_by(num_format_set_digits, name)
+}
+
+/// Returns the number of the digit set that the tag of a locale names.
+pub(crate) fn digits_of_tag(tag: &str) -> Option<u8> {
+    digits_by(num_format_lookup, tag)
+}
+
 /// Returns how many columns a text takes.
 pub(crate) fn text_width(text: &str) -> usize {
     // SAFETY: the pointer and the length are those of one `str`.
@@ -299,13 +336,13 @@ impl Print for (i128, u8) {
     }
 }
 
-/// Calls a function with the text of a number, which has at most `MAX_DECIMAL_LEN` bytes.
+/// Calls a function with the text of a number, which has at most `MAX_DIGITS_LEN` bytes.
 #[inline]
 pub(crate) fn with_text<P: Print, R>(number: P, format: &RawFormat, then: impl FnOnce(&str) -> R) -> R {
-    let mut bytes = MaybeUninit::<[u8; MAX_DECIMAL_LEN]>::uninit();
+    let mut bytes = MaybeUninit::<[u8; MAX_DIGITS_LEN]>::uninit();
     let start = bytes.as_mut_ptr().cast::<u8>();
     // SAFETY: the array has as many bytes.
-    let len = length(unsafe { number.print(format, start, MAX_DECIMAL_LEN) });
+    let len = length(unsafe { number.print(format, start, MAX_DIGITS_LEN) });
     // SAFETY: the library has written these bytes, which are UTF-8 as it is proved.
     then(unsafe { str::from_utf8_unchecked(slice::from_raw_parts(start, len)) })
 }
@@ -377,8 +414,9 @@ impl<const N: usize> Text<N> {
 
 /// Why strict parsing refuses a text.
 #[derive(Clone, Copy, Debug, PartialEq, Eq)]
-pub(crate) enum Refusal {
+pub enum Refusal {
     AmbiguousFormat,
+    OtherNumeral { at: usize },
     Unexpected { at: usize },
     NoDigit,
     TooManyDecimals,
@@ -404,6 +442,7 @@ fn checked(status: i32, at: usize) -> Result<(), Refusal> {
     match status {
         status::OK => Ok(()),
         status::AMBIGUOUS_FORMAT => Err(Refusal::AmbiguousFormat),
+        status::OTHER_NUMERAL => Err(Refusal::OtherNumeral { at }),
         status::UNEXPECTED => Err(Refusal::Unexpected { at }),
         status::NO_DIGIT => Err(Refusal::NoDigit),
         status::TOO_MANY_DECIMALS => Err(Refusal::TooManyDecimals),

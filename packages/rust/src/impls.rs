@@ -4,9 +4,9 @@ use core::num::{NonZeroU128, NonZeroU16, NonZeroU32, NonZeroU64, NonZeroU8, NonZ
 
 use crate::buffer::Buffer;
 use crate::error::Error;
-use crate::ffi::{parse_typed, with_text, Number, RawFormat};
+use crate::ffi::{parse_typed, with_text, Number, RawFormat, Refusal};
 use crate::format::Format;
-use crate::parsing::{FromFormattedStr, StrictError, TypedError};
+use crate::parsing::FromFormattedStr;
 use crate::sealed::Sealed;
 use crate::to_formatted_str::ToFormattedStr;
 
@@ -21,8 +21,8 @@ macro_rules! impl_integers {
             }
 
             #[inline]
-            fn with_text<F: Format, R>(&self, format: &F, then: impl FnOnce(&str) -> R) -> R {
-                with_text(*self as $number, &RawFormat::of(format), then)
+            fn with_raw_text<R>(&self, format: &RawFormat, then: impl FnOnce(&str) -> R) -> R {
+                with_text(*self as $number, format, then)
             }
         }
 
@@ -36,13 +36,13 @@ macro_rules! impl_integers {
             }
 
             #[inline]
-            fn from_raw_str(s: &str, format: &RawFormat) -> Result<$type, StrictError> {
+            fn from_raw_str(s: &str, format: &RawFormat) -> Result<$type, Refusal> {
                 let number = $number::parse_strict($type::BITS, s, format)?;
                 Ok(number as $type)
             }
 
-            fn from_raw_typed_str(s: &str, format: &RawFormat) -> Result<$type, TypedError<StrictError>> {
-                Ok(parse_typed(s, format)?)
+            fn from_raw_typed_str(s: &str, format: &RawFormat) -> Result<$type, Refusal> {
+                parse_typed(s, format)
             }
         }
     )*};
@@ -62,8 +62,8 @@ macro_rules! impl_non_zero_integers {
             }
 
             #[inline]
-            fn with_text<F: Format, R>(&self, format: &F, then: impl FnOnce(&str) -> R) -> R {
-                self.get().with_text(format, then)
+            fn with_raw_text<R>(&self, format: &RawFormat, then: impl FnOnce(&str) -> R) -> R {
+                self.get().with_raw_text(format, then)
             }
         }
 
@@ -73,13 +73,12 @@ macro_rules! impl_non_zero_integers {
                     .ok_or_else(|| Error::parse_number(s))
             }
 
-            fn from_raw_str(s: &str, format: &RawFormat) -> Result<$type, StrictError> {
-                $type::new($integer::from_raw_str(s, format)?).ok_or(StrictError::OutOfRange)
+            fn from_raw_str(s: &str, format: &RawFormat) -> Result<$type, Refusal> {
+                $type::new($integer::from_raw_str(s, format)?).ok_or(Refusal::OutOfRange)
             }
 
-            fn from_raw_typed_str(s: &str, format: &RawFormat) -> Result<$type, TypedError<StrictError>> {
-                let number = $integer::from_raw_typed_str(s, format)?;
-                $type::new(number).ok_or(TypedError::Number(StrictError::OutOfRange))
+            fn from_raw_typed_str(s: &str, format: &RawFormat) -> Result<$type, Refusal> {
+                $type::new($integer::from_raw_typed_str(s, format)?).ok_or(Refusal::OutOfRange)
             }
         }
     )*};

@@ -6,7 +6,8 @@
 ## In this documentation
 
 Numbers are printed by [`Buffer`], [`ToFormattedString`] and [`WriteFormatted`], and parsed by [`parsing`], under a
-[`Format`]: a [`Locale`] or a [`CustomFormat`]. New are [`Decimal`], [`StrictParser`] and [`TypedParser`](parsing::TypedParser)."
+[`Format`]: a [`Locale`] or a [`CustomFormat`]. New are [`Decimal`], [`Digits`], [`StrictParser`] and
+[`TypedParser`](parsing::TypedParser)."
 )]
 #![cfg_attr(not(feature = "std"), doc = "Numbers with separators between groups of digits, and back, without std.")]
 #![deny(
@@ -31,6 +32,7 @@ mod buffer;
 mod custom_format;
 mod custom_format_builder;
 mod decimal;
+mod digits;
 mod error;
 mod error_kind;
 mod ffi;
@@ -52,6 +54,7 @@ pub use self::buffer::{Buffer, DecimalBuffer};
 pub use self::custom_format::CustomFormat;
 pub use self::custom_format_builder::CustomFormatBuilder;
 pub use self::decimal::{Decimal, DecimalError, DecimalParser, Rounding, MAX_SCALE};
+pub use self::digits::{DigitText, Digits, DigitsError};
 pub use self::error::Error;
 pub use self::error_kind::ErrorKind;
 pub use self::format::{prints_alike, reads_back, Format};

@@ -1,4 +1,5 @@
 use crate::buffer::Buffer;
+use crate::ffi::RawFormat;
 use crate::format::Format;
 use crate::formatted::Formatted;
 use crate::sealed::Sealed;
@@ -13,9 +14,17 @@ pub trait ToFormattedStr: Sealed + Sized {
 
     /// Calls a function with the text of the number.
     #[doc(hidden)]
+    #[inline]
     fn with_text<F, R>(&self, format: &F, then: impl FnOnce(&str) -> R) -> R
     where
-        F: Format;
+        F: Format,
+    {
+        self.with_raw_text(&RawFormat::of(format), then)
+    }
+
+    /// Calls a function with the text of the number under the struct of a format.
+    #[doc(hidden)]
+    fn with_raw_text<R>(&self, format: &RawFormat, then: impl FnOnce(&str) -> R) -> R;
 
     /// Returns the number, to be displayed under the format. It allocates nothing, and a width counts: see
     /// [`Formatted`]. num-format has no such method.

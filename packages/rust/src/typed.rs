@@ -27,7 +27,7 @@ use crate::parsing::{FromFormattedStr, StrictError};
 ///
 /// The first of the causes of [`TypedError`] that holds. No locale is ambiguous.
 pub fn parse_typed<N: FromFormattedStr, F: Format>(text: &str, format: &F) -> Result<N, TypedError<StrictError>> {
-    N::from_raw_typed_str(text, &RawFormat::with_decimal_mark(format))
+    Ok(N::from_raw_typed_str(text, &RawFormat::with_decimal_mark(format))?)
 }
 
 /// Returns the decimal of a text as a person types it, as [`parse_typed`] does.
@@ -96,7 +96,7 @@ impl TypedParser {
     ///
     /// A [`TypedError`], but not `AmbiguousFormat`.
     pub fn parse<N: FromFormattedStr>(&self, text: &str) -> Result<N, TypedError<StrictError>> {
-        N::from_raw_typed_str(text, &self.format)
+        Ok(N::from_raw_typed_str(text, &self.format)?)
     }
 
     /// Returns the decimal of the text, as [`parse_typed_decimal`] does.
@@ -134,7 +134,7 @@ pub enum TypedError<E> {
 }
 
 impl<E> TypedError<E> {
-    fn map<T>(self, change: impl FnOnce(E) -> T) -> TypedError<T> {
+    pub(crate) fn map<T>(self, change: impl FnOnce(E) -> T) -> TypedError<T> {
         match self {
             TypedError::TooLong => TypedError::TooLong,
             TypedError::Number(error) => TypedError::Number(change(error)),

@@ -60,10 +60,20 @@ fn outcome(table: &str, f: &[&str]) -> Outcome {
         "alike" => under!(f[0], |a| under!(f[1], |b| Ok(prints_alike(a, b).to_string()))),
         "builders" => built(f),
         "decimals_at_scale" => at_scale(f),
+        "decimals_at_scale_digits" => in_digits(f[0], |l, d| {
+            let found = d.parse_at_scale(&decoded(f[1]), f[2].parse().unwrap(), &l);
+            words(found.map(|d| d.units()), digits_cause)
+        }),
         "decimals_computed" => computed(f),
         "decimals_parsed" => decimal_parsed(f),
+        "decimals_parsed_digits" => {
+            in_digits(f[0], |l, d| words(d.parse_decimal(&decoded(f[1]), &l).map(parts), digits_cause))
+        }
         "decimals_printed" => {
             under!(f[0], |format| texts!(decimal(f[1], f[2]), DecimalBuffer, format))
+        }
+        "decimals_printed_digits" => {
+            in_digits(f[0], |l, d| encoded(DigitText::of_decimal(&decimal(f[1], f[2]), &l, d)))
         }
         "json" => json(f),
         "lenient" => for_type!(f, lenient),
@@ -71,10 +81,16 @@ fn outcome(table: &str, f: &[&str]) -> Outcome {
         "names" => Ok(words(Locale::from_name(decoded(f[0])).map(|l| l.name()), kept)),
         "padded" => padded(f),
         "printing" => for_type!(f, printed),
+        "printing_digits" => for_type!(f, printed_digits),
         "reads_back" => under!(f[0], |format| Ok(reads_back(format).to_string())),
         "strict" => for_type!(f, strict),
+        "strict_digits" => for_type!(f, strict_digits),
         "typed" => for_type!(f, typed),
+        "typed_digits" => for_type!(f, typed_digits),
         "typed_decimals" => typed_decimal(f),
+        "typed_decimals_digits" => {
+            in_digits(f[0], |l, d| words(d.parse_typed_decimal(&decoded(f[1]), &l).map(parts), digits_cause))
+        }
         "tags" => Ok(Locale::lookup(decoded(f[0])).map_or("err ParseLocale".into(), |l| format!("ok {}", l.name()))),
         _ => Err("no such call"),
     }
@@ -198,6 +214,29 @@ fn typed_cause<E: Debug>(error: TypedError<E>) -> String {
         TypedError::Number(error) => cause(error),
         other => format!("{other:?}"),
     }
+}
+
+/// What a call returns under the locale and the digit set of a field.
+fn in_digits(field: &str, call: impl FnOnce(Locale, Digits) -> String) -> Outcome {
+    let tag = field.strip_prefix("locale:").unwrap();
+    Ok(call(Locale::lookup(tag).unwrap(), Digits::of_tag(tag).unwrap()))
+}
+
+fn printed_digits<N: FromStr + ToFormattedStr>(f: &[&str]) -> Outcome {
+    in_digits(f[1], |l, d| encoded(DigitText::of(&f[2].parse::<N>().ok().unwrap(), &l, d)))
+}
+
+fn strict_digits<N: FromFormattedStr + Display>(f: &[&str]) -> Outcome {
+    in_digits(f[1], |l, d| words(d.parse_strict::<N, _>(&decoded(f[2]), &l), digits_cause))
+}
+
+fn typed_digits<N: FromFormattedStr + Display>(f: &[&str]) -> Outcome {
+    in_digits(f[1], |l, d| words(d.parse_typed::<N, _>(&decoded(f[2]), &l), digits_cause))
+}
+
+/// The words of a cause, without those of the errors around it.
+fn digits_cause(error: impl Debug) -> String {
+    ["Number(", "Parse(", "Rescale(", ")"].iter().fold(cause(error), |words, word| words.replace(word, ""))
 }
 
 fn decimal_parsed(f: &[&str]) -> Outcome {

@@ -20,7 +20,7 @@ CAUSES = {
     r"has digits after the last decimal that is asked for$": "DigitsLost",
     r"the number of decimals is \d+, not 0 to 38$": "ScaleTooLarge",
 }
-UNEXPECTED = re.compile(r"haracter (\d+), U\+[0-9A-F]{4,}, is unexpected\b")
+PLACED = re.compile(r"haracter (\d+), U\+[0-9A-F]{4,}, is (?:(a numeral of another digit set)|unexpected\b)")
 
 # Texts of at most so many digits are within 63 bits.
 SAFE_DIGITS = 18
@@ -135,8 +135,8 @@ def in_words(outcome, values, words):
     value, message = outcome
     if message is None:
         return words(value)
-    if found := UNEXPECTED.search(message):
-        return f"err Unexpected {len(values[0][: int(found[1]) - 1].encode())}"
+    if found := PLACED.search(message):
+        return f"err {'OtherNumeral' if found[2] else 'Unexpected'} {len(values[0][: int(found[1]) - 1].encode())}"
     return "".join(f"err {cause}" for pattern, cause in CAUSES.items() if re.search(pattern, message)) or quote(message)
 
 
@@ -145,7 +145,7 @@ def asked(line, calls, zero_bytes):
     table, *fields = line.rstrip("\n").split("\t")
     try:
         if table not in calls:
-            raise CannotSay(NO_CALL[table])
+            raise CannotSay(NO_CALL[table.removesuffix("_digits")])
         if not zero_bytes and "%00" in line:
             raise CannotSay("a zero byte in a text")
         return list(calls[table](*map(unquote, fields)))
@@ -156,6 +156,7 @@ def asked(line, calls, zero_bytes):
 def replay_all(calls, run, zero_bytes=True):
     """Makes the calls of all cases, in a database whose texts have zero bytes or not, and writes what they return."""
     calls = {call.__name__: call for call in calls}
+    calls |= {f"{name}_digits": call for name, call in calls.items()}
     cases = [asked(line, calls, zero_bytes) for line in sys.stdin]
     outcomes = iter(run([(call, values) for made in cases if isinstance(made, list) for call, values, _ in made]))
     for made in cases:

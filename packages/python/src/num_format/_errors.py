@@ -36,7 +36,10 @@ class Cause(enum.IntEnum):
             separator. For texts as people type them, also where that separator and the mark have two unlike spaces,
             apostrophes, commas or points, as ' and U+2019, or the minus sign has one of their kinds, begins with a
             space or a plus sign, or has only marks of the direction of writing.
-        TEXT_TOO_LONG: A text as a person types it is longer than that of any number.
+        TEXT_TOO_LONG: A text as a person types it, or one in a digit set, is longer than that of any number.
+        UNKNOWN_DIGITS: No digit set has the name, as one after ``-u-nu-`` in a language tag.
+        OTHER_NUMERAL: A numeric character is no digit of the format's set, as 3 among Arabic-Indic digits. The error
+            says where.
     """
 
     NOT_UTF8 = _native.NOT_UTF8
@@ -52,6 +55,8 @@ class Cause(enum.IntEnum):
     DIGITS_LOST = _native.DIGITS_LOST
     AMBIGUOUS_FORMAT = _native.AMBIGUOUS_FORMAT
     TEXT_TOO_LONG = _native.TEXT_TOO_LONG
+    UNKNOWN_DIGITS = _native.UNKNOWN_DIGITS
+    OTHER_NUMERAL = _native.OTHER_NUMERAL
 
     @property
     def reason(self) -> str:
@@ -78,7 +83,15 @@ _REASONS = {
     Cause.DIGITS_LOST: "a digit past the scale is not 0",
     Cause.AMBIGUOUS_FORMAT: "a text can be misread under the format",
     Cause.TEXT_TOO_LONG: "it is longer than any number's text",
+    Cause.UNKNOWN_DIGITS: "no digit set has this name",
+    Cause.OTHER_NUMERAL: "numeral of another digit set",
 }
+
+# The causes that are at a place in a text.
+PLACED = Cause.UNEXPECTED, Cause.OTHER_NUMERAL
+
+# Why the library refuses a format: no other than one in the digits of another script is refused.
+LATIN_ALONE = "lenient parsing takes the digits 0 to 9 alone"
 
 # The most characters of a refused text that a message shows.
 _SHOWN = 60
@@ -119,8 +132,8 @@ class ParseError(NumFormatError):
     Attributes:
         text: The text. In a column, bytes that are not UTF-8 are lone surrogates in it.
         cause: Why it is refused.
-        at: The index in `text` of the first unexpected character, or None if that is not the cause. With
-            ``NOT_UTF8``, the index of the first lone surrogate.
+        at: The index in `text` of the first unexpected character, or of the first numeral of another digit set, or
+            None if neither is the cause. With ``NOT_UTF8``, the index of the first lone surrogate.
         row: The row of a column, or None.
     """
 
@@ -153,7 +166,8 @@ class ParseError(NumFormatError):
         if not isinstance(plain, str) or (is_whole and "." in plain):
             return ""
         printed, at, wanted = _native.print_plain(struct, plain) or "", self.at or 0, ""
-        if self.at is not None and printed[:at] == self.text[:at] and not printed[at : at + 1].isdecimal():
+        symbols = [*"".join(_native.parts(struct)[:3])]
+        if self.at is not None and printed[:at] == self.text[:at] and printed[at : at + 1] in symbols:
             wanted = f", U+{ord(self.text[at]):04X} for U+{ord(printed[at]):04X}"
         return f"{wanted}: typed=True reads it"
 

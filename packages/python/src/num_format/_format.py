@@ -12,6 +12,9 @@ from ._errors import Cause, FormatError
 # The most bytes of each text of a format.
 _MOST_BYTES = 8
 
+# The digits of a format that names no others.
+_LATIN = "0123456789"
+
 
 class Grouping(enum.Enum):
     """Where separators are among the digits. The values are the names that num-format has for them.
@@ -52,10 +55,10 @@ _GROUPINGS = {number: grouping for grouping, number in _NUMBERS.items()}
 
 @final
 class Format:
-    """How numbers are printed: a separator between groups of digits, a minus sign and a decimal mark.
+    """How numbers are printed: a separator between groups of digits, a minus sign, a decimal mark and ten digits.
 
-    A text has at most 8 bytes in UTF-8, and may be empty. Formats do not change, compare by their texts
-    and grouping, can be keys, and can be copied and pickled.
+    A text has at most 8 bytes in UTF-8, and may be empty. Formats do not change, compare by their texts,
+    grouping and digits, can be keys, and can be copied and pickled.
 
     >>> import num_format
     >>> from num_format import Format
@@ -67,15 +70,26 @@ class Format:
     >>> swiss == Format(separator="'", grouping="Standard")
     True
 
+    With `digits` numbers have the digits of another script, and are parsed in these alone:
+
+    >>> persian = Format("fa", digits="arabext")
+    >>> num_format.format(1234, persian), num_format.parse("۱٬۲۳۴", persian), num_format.format(1234, "fa-u-nu-arabext")
+    ('۱٬۲۳۴', 1234, '۱٬۲۳۴')
+    >>> num_format.parse("۱٬۲3۴", persian)
+    Traceback (most recent call last):
+    num_format.ParseError: '۱٬۲3۴' is refused: numeral of another digit set at index 3
+
     Args:
+        locale: The name or the tag of a locale, which has what is not given.
         separator: What is between two groups of digits.
         grouping: How many digits are in a group: a :class:`Grouping`, or its name as ``"Indian"``, in any case.
         minus_sign: What is before the digits of a number below 0.
         decimal_mark: What is before the decimals of a :class:`decimal.Decimal`.
+        digits: A set of ten digits: the name that the CLDR has for it, as ``"deva"``, or all ten.
 
     Raises:
         FormatError: A text has more than 8 bytes (`TOO_LONG`) or a lone surrogate (`NOT_UTF8`), or there is no such
-            grouping (`BAD_GROUPING`).
+            grouping (`BAD_GROUPING`), digit set (`UNKNOWN_DIGITS`) or locale (`UNKNOWN_LOCALE`).
         TypeError: A text is no ``str``.
     """
 
@@ -85,19 +99,26 @@ class Format:
 
     def __init__(
         self,
+        locale: str = "en",
+        /,
         *,
-        separator: str = ",",
-        grouping: Grouping | str = Grouping.STANDARD,
-        minus_sign: str = "-",
-        decimal_mark: str = ".",
+        separator: str | None = None,
+        grouping: Grouping | str | None = None,
+        minus_sign: str | None = None,
+        decimal_mark: str | None = None,
+        digits: str | None = None,
     ) -> None:
-        texts = {"separator": separator, "minus_sign": minus_sign, "decimal_mark": decimal_mark}
+        given = {"separator": separator, "minus_sign": minus_sign, "decimal_mark": decimal_mark, "digits": digits}
+        *parts, number = _native.parts(Format.locale(locale)._bytes)
+        texts = {name: part if text is None else text for (name, text), part in zip(given.items(), parts)}
         lengths = {name: _length(name, text) for name, text in texts.items()}
         try:
-            number = _NUMBERS[Grouping(grouping)]
+            number = number if grouping is None else _NUMBERS[Grouping(grouping)]
         except ValueError:
             raise FormatError("grouping", str(grouping), Cause.BAD_GROUPING) from None
-        made = _native.custom(separator, minus_sign, decimal_mark, number)
+        made = _native.custom(number, *texts.values())
+        if made == Cause.UNKNOWN_DIGITS:
+            raise FormatError("digits", texts["digits"], Cause.UNKNOWN_DIGITS)
         if isinstance(made, int):
             name = next(name for name, length in lengths.items() if length > _MOST_BYTES)
             raise FormatError(name, texts[name], Cause(made))
@@ -114,7 +135,8 @@ class Format:
         Format(separator='’', grouping=Grouping.STANDARD, minus_sign='-', decimal_mark='.')
 
         Raises:
-            FormatError: No locale is found (`UNKNOWN_LOCALE`), or the name has a lone surrogate (`NOT_UTF8`).
+            FormatError: No locale is found (`UNKNOWN_LOCALE`), the name has a lone surrogate (`NOT_UTF8`), or names
+                no digit set after ``-u-nu-`` (`UNKNOWN_DIGITS`).
             TypeError: The name is no ``str``.
         """
         if not isinstance(name, str):
@@ -139,7 +161,12 @@ class Format:
     @property
     def grouping(self) -> Grouping:
         """How many digits are in a group."""
-        return _GROUPINGS[_native.parts(self._bytes)[3]]
+        return _GROUPINGS[_native.parts(self._bytes)[4]]
+
+    @property
+    def digits(self) -> str:
+        """The ten digits, from zero to nine."""
+        return _native.parts(self._bytes)[3]
 
     def reads_back(self) -> bool:
         """Returns whether every ``int`` that is printed under the format parses as the same number again.
@@ -173,7 +200,7 @@ class Format:
         return hash(self._bytes)
 
     def __repr__(self) -> str:
-        parts = ("separator", "grouping", "minus_sign", "decimal_mark")
+        parts = ["separator", "grouping", "minus_sign", "decimal_mark"] + ["digits"] * (self.digits != _LATIN)
         return f"Format({', '.join(f'{part}={getattr(self, part)!r}' for part in parts)})"
 
     def __copy__(self) -> Format:
@@ -183,7 +210,7 @@ class Format:
         return self
 
     def __reduce__(self) -> tuple[Any, ...]:
-        return _from_parts, (self.separator, self.grouping, self.minus_sign, self.decimal_mark)
+        return _from_parts, (self.separator, self.grouping, self.minus_sign, self.decimal_mark, self.digits)
 
 
 def _length(argument: str, text: str) -> int:
@@ -196,10 +223,12 @@ def _length(argument: str, text: str) -> int:
         raise FormatError(argument, text, Cause.NOT_UTF8) from None
 
 
-def _from_parts(separator: str, grouping: Grouping, minus_sign: str, decimal_mark: str) -> Format:
+def _from_parts(
+    separator: str, grouping: Grouping, minus_sign: str, decimal_mark: str, digits: str = _LATIN
+) -> Format:
     """Returns a pickled format."""
     return Format(
-        separator=separator, grouping=grouping, minus_sign=minus_sign, decimal_mark=decimal_mark
+        separator=separator, grouping=grouping, minus_sign=minus_sign, decimal_mark=decimal_mark, digits=digits
     )
 
 

@@ -55,19 +55,39 @@ static const char *utf8_of(PyObject *given, Py_ssize_t *length) {
 
 /* ---- Formats ---- */
 
+/* Writes the ten digits of a format, and returns their length. */
+static int32_t write_digits(const num_format *format, char text[NUM_FORMAT_DIGITS_MAX]) {
+    const num_format bare = {.grouping = NUM_FORMAT_POSIX, .digits = format->digits};
+    return num_format_print_decimal(&bare, 123456789, 0, 9, text, NUM_FORMAT_DIGITS_MAX);
+}
+
+/* Sets the digits to those of a set, by its name or by all ten. */
+static int32_t set_digits(num_format *format, const char *given, Py_ssize_t length) {
+    int32_t status = num_format_set_digits(format, given, length);
+    char text[NUM_FORMAT_DIGITS_MAX];
+    for (int number = 0; status == NUM_FORMAT_UNKNOWN_DIGITS && number <= UINT8_MAX; number++) {
+        format->digits = (uint8_t)number;
+        if (write_digits(format, text) == length && memcmp(text, given, length) == 0)
+            return 0;
+    }
+    return status;
+}
+
 CALL(custom) {
-    TAKES(4);
-    const char *texts[3];
-    Py_ssize_t lengths[3];
-    for (int part = 0; part < 3; part++)
-        if (!(texts[part] = utf8_of(args[part], &lengths[part])))
+    TAKES(5);
+    const char *texts[4];
+    Py_ssize_t lengths[4];
+    for (int part = 0; part < 4; part++)
+        if (!(texts[part] = utf8_of(args[part + 1], &lengths[part])))
             return NULL;
-    unsigned long grouping = PyLong_AsUnsignedLong(args[3]);
+    unsigned long grouping = PyLong_AsUnsignedLong(args[0]);
     if (PyErr_Occurred())
         return NULL;
     num_format format;
     int32_t status = num_format_custom_decimal(&format, texts[0], lengths[0], (uint32_t)grouping, texts[1], lengths[1],
                                                texts[2], lengths[2]);
+    if (status == 0)
+        status = set_digits(&format, texts[3], lengths[3]);
     return status < 0 ? status_of(status) : PyBytes_FromStringAndSize((const char *)&format, sizeof format);
 }
 
@@ -87,9 +107,11 @@ CALL(parts) {
     const num_format *format = format_of(args[0]);
     if (!format)
         return NULL;
-    return Py_BuildValue("s#s#s#i", format->separator, (Py_ssize_t)format->separator_length, format->minus_sign,
+    char digits[NUM_FORMAT_DIGITS_MAX];
+    Py_ssize_t length = write_digits(format, digits);
+    return Py_BuildValue("s#s#s#s#i", format->separator, (Py_ssize_t)format->separator_length, format->minus_sign,
                          (Py_ssize_t)format->minus_sign_length, format->decimal_mark,
-                         (Py_ssize_t)format->decimal_mark_length, format->grouping);
+                         (Py_ssize_t)format->decimal_mark_length, digits, length, format->grouping);
 }
 
 CALL(name) {
@@ -110,7 +132,12 @@ CALL(lookup_name) {
 CALL(reads_back) {
     TAKES(1);
     const num_format *format = format_of(args[0]);
-    return format ? PyBool_FromLong(num_format_reads_back(format) > 0) : NULL;
+    if (!format)
+        return NULL;
+    // A text in any digits is parsed back where that in 0 to 9 is.
+    num_format latin = *format;
+    latin.digits = 0;
+    return PyBool_FromLong(num_format_reads_back(&latin) > 0);
 }
 
 CALL(prints_alike) {
@@ -154,7 +181,7 @@ static PyObject *from_halves(uint64_t low, uint64_t high, int is_signed) {
 CALL(print_int) {
     TAKES(2);
     const num_format *format = format_of(args[0]);
-    char text[NUM_FORMAT_MAX];
+    char text[NUM_FORMAT_DIGITS_MAX];
     int overflow;
     if (!format)
         return NULL;
@@ -298,7 +325,7 @@ static PyObject *plain_of(wide units, int scale) {
 CALL(print_plain) {
     TAKES(2);
     const num_format *format = format_of(args[0]);
-    char text[NUM_FORMAT_DECIMAL_MAX];
+    char text[NUM_FORMAT_DIGITS_MAX];
     Py_ssize_t length;
     const char *plain = format ? utf8_of(args[1], &length) : NULL;
     decimal taken;
@@ -313,7 +340,7 @@ CALL(print_plain) {
 CALL(print_units) {
     TAKES(3);
     const num_format *format = format_of(args[0]);
-    char text[NUM_FORMAT_DECIMAL_MAX];
+    char text[NUM_FORMAT_DIGITS_MAX];
     uint64_t low, high;
     unsigned long scale = format ? PyLong_AsUnsignedLong(args[2]) : 0;
     if (!format || PyErr_Occurred() || take_halves(args[1], &low, &high) < 0)
@@ -587,8 +614,9 @@ static const struct { const char *name; long value; } numbers[] = {
     NUMBER(I8), NUMBER(U8), NUMBER(I16), NUMBER(U16), NUMBER(I32), NUMBER(U32), NUMBER(I64), NUMBER(U64),
     NUMBER(I128), NUMBER(U128), NUMBER(NOT_UTF8), NUMBER(NOT_A_NUMBER), NUMBER(UNKNOWN_LOCALE), NUMBER(TOO_LONG),
     NUMBER(BAD_GROUPING), NUMBER(UNEXPECTED), NUMBER(NO_DIGIT), NUMBER(MISSPELLED), NUMBER(OUT_OF_RANGE),
-    NUMBER(TOO_MANY_DECIMALS), NUMBER(DIGITS_LOST), NUMBER(AMBIGUOUS_FORMAT), NUMBER(TOO_MANY_BYTES),
-    NUMBER(TOO_SMALL), NUMBER(BAD_OFFSETS), NUMBER(TEXT_TOO_LONG), NUMBER(STRICT), NUMBER(LENIENT), NUMBER(TYPED),
+    NUMBER(TOO_MANY_DECIMALS), NUMBER(DIGITS_LOST), NUMBER(AMBIGUOUS_FORMAT), NUMBER(TOO_MANY_BYTES), NUMBER(BAD_FORMAT),
+    NUMBER(TOO_SMALL), NUMBER(BAD_OFFSETS), NUMBER(TEXT_TOO_LONG), NUMBER(UNKNOWN_DIGITS), NUMBER(OTHER_NUMERAL),
+    NUMBER(STRICT), NUMBER(LENIENT), NUMBER(TYPED),
 };
 
 static int add_numbers(PyObject *module) {

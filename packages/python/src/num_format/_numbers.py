@@ -6,9 +6,9 @@ import operator
 from decimal import Decimal
 from typing import SupportsIndex, overload
 
-from ._errors import Cause, FormatError, NumFormatError, ParseError
+from ._errors import LATIN_ALONE, PLACED, Cause, FormatError, ParseError
 from ._format import Format, to_format
-from ._native import LENIENT, STRICT, TYPED, parse_int, print_int, print_plain, print_units
+from ._native import BAD_FORMAT, LENIENT, STRICT, TYPED, parse_int, print_int, print_plain, print_units
 from ._native import parse_decimal as _parse_decimal
 
 # The least and the largest number of units that a decimal has.
@@ -236,10 +236,11 @@ def parse(text: str, format: Format | str, *, lenient: bool = False, typed: bool
         typed: Whether the text is as a person types it.
 
     Raises:
-        ParseError: The text is refused. The error has the cause and, for an unexpected character, its index.
+        ParseError: The text is refused. The error has the cause and, for an unexpected character or a numeral of
+            another digit set, its index.
         FormatError: No locale is found, or the format is ambiguous (`AMBIGUOUS_FORMAT`), but not with `lenient`.
         TypeError: The text is no ``str``.
-        ValueError: Both `lenient` and `typed` are set.
+        ValueError: Both `lenient` and `typed` are set, or `lenient` is and the format has other digits than 0 to 9.
     """
     struct = (format if type(format) is Format else to_format(format))._bytes
     found = parse_int(struct, text, way_of(lenient, typed) if lenient or typed else STRICT)
@@ -294,14 +295,16 @@ def first_surrogate(text: str) -> int:
 
 def _refusal(
     text: str, format: Format | str, status: int, at: int, strictly: tuple[bytes, bool] | None
-) -> NumFormatError:
-    """Returns the error of a text that was refused with the status: at the byte, if one was unexpected."""
+) -> ValueError:
+    """Returns the error of a text that was refused with the status: at the byte, if the cause is at one."""
+    if status == BAD_FORMAT:
+        return ValueError(LATIN_ALONE)
     cause = Cause(status)
     if cause is Cause.AMBIGUOUS_FORMAT:
         return FormatError("format", repr(format), cause)
     if cause is Cause.NOT_UTF8:
         return ParseError(text, cause, first_surrogate(text))
-    index = len(text.encode()[:at].decode()) if cause is Cause.UNEXPECTED else None
+    index = len(text.encode()[:at].decode()) if cause in PLACED else None
     return ParseError(text, cause, index, strictly=strictly)
 
 

@@ -36,7 +36,7 @@ import numpy as np
 import numpy.typing as npt
 
 from . import _native
-from ._errors import Cause, FormatError, ParseError
+from ._errors import LATIN_ALONE, PLACED, Cause, FormatError, ParseError
 from ._format import Format, to_format
 from ._numbers import first_surrogate, parse, parse_decimal, to_scale, units_of, way_of
 
@@ -431,7 +431,8 @@ def parse_column(
         ParseError: A text is refused. The error is that of the first such row.
         FormatError: No locale is found, or the format is ambiguous (`AMBIGUOUS_FORMAT`), but not with `lenient`.
         TypeError: The dtype is of no integer.
-        ValueError: The offsets of the column were changed, and are not as they have to be.
+        ValueError: The offsets of the column were changed, and are not as they have to be, or both `lenient` and `typed`
+            are set, or `lenient` is and the format has other digits than 0 to 9.
     """
     texts = _to_column(column)
     found = try_parse_column(texts, format, dtype, lenient=lenient, typed=typed)
@@ -935,6 +936,8 @@ def _check(status: int) -> int:
         raise OverflowError("the texts have 2**31 bytes or more: set large=True")
     if status == _native.BAD_OFFSETS:
         raise ValueError("an offset is below the one before it, or past the bytes")
+    if status == _native.BAD_FORMAT:
+        raise ValueError(LATIN_ALONE)
     if status < 0:
         raise AssertionError(f"status {status}")
     return status
@@ -946,7 +949,7 @@ def _refusal(text: bytes, cause: Cause, row: int, format: Format | str, parse: A
     at = strictly = None
     if cause is Cause.NOT_UTF8:
         at = first_surrogate(shown)
-    elif cause is Cause.UNEXPECTED:
+    elif cause in PLACED:
         try:
             parse(shown, format)
         except ParseError as error:
