@@ -44,15 +44,18 @@ def check_all(tally, library):
             if not tally.lacks(CC, f"{source.name}, memory"):
                 check_memory(tally, source, library, made)
         if not tally.lacks(CC, "column.py"):
-            # The shared library, from the static one.
-            build = [CC, "-shared", "-o", made, "-Wl,--whole-archive", library, "-Wl,--no-whole-archive"]
             words = [sys.executable, "-B", "column.py", made, "de", "column.txt"]
-            check(tally, "column.py", build, words, expected(EXAMPLES / "column.py"))
+            check(tally, "column.py", shared(library, made), words, expected(EXAMPLES / "column.py"))
         if not tally.lacks("rustc", "settings.rs"):
             build = ["rustc", "--edition", "2021", "-D", "warnings", "-O", EXAMPLES / "settings.rs"]
             build += ["-C", f"link-arg={library}", "-o", made]
             words = [made, "apostrophes.conf", "zeros.conf", "no_grouping.conf"]
             check(tally, "settings.rs", build, words, expected(EXAMPLES / "settings.rs"))
+
+
+def shared(library, made):
+    """The words that build the shared library from the static one."""
+    return [CC, "-shared", "-o", made, "-Wl,--whole-archive", library, "-Wl,--no-whole-archive"]
 
 
 def check_c(tally, source, library, made):

@@ -1,5 +1,4 @@
-"""Replays the tables of cases by programs: `regroup` and `regroup-lines`, the one of Rattle's library, test_oracle, and
-those of other languages.
+"""Replays the tables of cases by programs: `regroup` and `regroup-lines`, and the replayer of each language.
 
 What a program is to be asked follows from the arguments of a case alone, so each is asked once, and its answers are
 compared with right and wrong tables.
@@ -11,7 +10,6 @@ from concurrent.futures import ThreadPoolExecutor
 from pathlib import Path
 from urllib.parse import unquote_to_bytes
 
-from case_files import Case
 from tally import run
 
 from spelling import is_value
@@ -24,25 +22,19 @@ ARGUMENTS = {
     "typed": 3, "typed_decimals": 2,
 }
 
+# The tables in digit sets.
+DIGITS = ["printing", "decimals_printed", "strict", "decimals_parsed", "decimals_at_scale", "typed", "typed_decimals"]
+ARGUMENTS |= {f"{name}_digits": ARGUMENTS[name] for name in DIGITS}
+
 LOW, HIGH = -(2**127), 2**127 - 1
 
 # The decimal mark of each locale.
 OF_LOCALES = {name: unquote_to_bytes(mark) for name, _, mark, *_ in rows("locales")}
 
 # A line that regroup-lines names, and where an unexpected byte is.
-CAUSE = rb"not a number(?: at byte (\d+)(?:: U\+\w+, where FROM has U\+\w+)?)?|not as it is printed|longer than any number"
+CAUSE = rb"not a number(?: at byte (\d+)(?:: U\+\w+(?:, where FROM has U\+\w+|( is no digit of FROM)))?)?"
+CAUSE += rb"|not as it is printed|longer than any number"
 NAMED = re.compile(rb"^regroup-lines: -:(\d+): .*: (?:%s)(?:: see --typed)?(?:: a header.*)?$" % CAUSE)
-
-
-def ask(program, asked):
-    """The status, standard output and standard error of each run, which are a Case without what is expected."""
-
-    def ended(case):
-        how = run([program, *case.words], input=case.given, capture_output=True)
-        return how.returncode, how.stdout, how.stderr
-
-    with ThreadPoolExecutor() as pool:
-        return list(pool.map(ended, asked))
 
 
 def decoded(fields):
@@ -54,21 +46,6 @@ def of_tables(folder):
     for path in sorted(folder.glob("*.tsv")):
         lines = path.read_text(encoding="ascii").splitlines()
         yield path.stem, [line for line in lines if not line.startswith("#")]
-
-
-class Rattle:
-    """The program of Rattle's library takes the tables as they are."""
-
-    crate = "test_oracle"
-
-    def __init__(self, program, folders):
-        asked = [Case("", [], "".join(f"= {name}\n" + "".join(f"{line}\n" for line in lines)
-                                      for name, lines in of_tables(folder)).encode()) for folder in folders]
-        self.printed = dict(zip(folders, ask(program, asked)))
-
-    def replay(self, folder):
-        status, out, _ = self.printed[folder]
-        return status, out.decode()
 
 
 def arguments(folder):
@@ -119,10 +96,10 @@ class Replayer(Asked):
     """A command that reads the name of the table and the arguments of each case, and writes the fields of its result, of
     which `?` stands for any bytes, or `! REASON`."""
 
-    def __init__(self, words, folders):
+    def __init__(self, command, folders):
         asked = ["\t".join([name, *given]) for name, given in arguments(folders[0])]
         how = {"input": "".join(f"{line}\n" for line in asked), "stdout": subprocess.PIPE, "text": True, "errors": "replace"}
-        ended = run(words, **how)
+        ended = run(command, **how)
         answers = (ended.stdout or "").splitlines()
         self.has_failed = ended.returncode != 0 or len(answers) != len(asked)
         if self.has_failed:
@@ -140,20 +117,25 @@ class Replayer(Asked):
 
 
 class Program(Asked):
-    """A program that is asked once what follows from the arguments of all cases."""
+    """A command that is run with words and input that follow from the arguments of all cases."""
 
-    def __init__(self, program, folders):
+    def __init__(self, command, folders):
         requests = {}
         for name, given in arguments(folders[0]):
             request = self.request(name, given)
             if not isinstance(request, str):
                 words, line = request
                 requests.setdefault(words, {})[line] = None
-        asked = [Case("", list(words), b"".join(filter(None, given))) for words, given in requests.items()]
-        answers = zip(requests.items(), ask(program, asked))
+
+        def ended(request):
+            words, given = request
+            how = run([*command, *words], input=b"".join(filter(None, given)), capture_output=True)
+            return self.told(words, list(given), how.returncode, how.stdout, how.stderr)
+
         self.answers = {}
-        for (words, given), (status, out, err) in answers:
-            self.answers.update(self.told(words, list(given), status, out, err))
+        with ThreadPoolExecutor() as pool:
+            for answers in pool.map(ended, requests.items()):
+                self.answers.update(answers)
 
     def returned(self, name, given):
         request = self.request(name, given)
@@ -167,8 +149,6 @@ def is_word(*texts):
 
 class Regroup(Program):
     """`regroup`: a command for each case."""
-
-    crate = "regroup"
 
     def request(self, name, arguments):
         """The words that ask for the result of a case, with no input, or why none do."""
@@ -218,10 +198,9 @@ class Regroup(Program):
 class RegroupLines(Program):
     """`regroup-lines`: a run for each format, with a line of its input for each case."""
 
-    crate = "regroup_lines_cli"
-
     def request(self, name, arguments):
         """The words and the line that ask for the result of a case, or why none do."""
+        name = name.removesuffix("_digits")
         parsing = {"strict": [b"--invalid", b"fail"], "typed_decimals": [b"--invalid", b"fail", b"--typed"]}
         parsing["decimals_parsed"] = parsing["strict"]
         if name not in ("printing", "decimals_printed", *parsing):
@@ -231,6 +210,7 @@ class RegroupLines(Program):
         if kind == "custom" and (not is_word(*parts) or any(b":" in unquote_to_bytes(part) for part in parts)):
             return "a colon, newline or zero byte in a format"
         named = parts[0].encode() if kind == "locale" else b":".join([b"custom", *map(unquote_to_bytes, parts)])
+        format_name = format_name.partition("-u-nu-")[0]
         if name in parsing:
             text = unquote_to_bytes(given)
             if text.strip() != text or b"\n" in text or text.startswith(b"\xef\xbb\xbf"):
@@ -252,21 +232,24 @@ class RegroupLines(Program):
 
     @staticmethod
     def told(words, given, status, out, err):
-        """Of each line what is written of it, or the position of an invalid one and 0 for another cause."""
+        """Of each line what is written of it, or the place of an invalid one, 0 for another cause, and whether a digit is
+        of another set."""
         named = filter(None, map(NAMED.fullmatch, err.split(b"\n")))
-        invalid = {int(number): int(at or 0) for number, at in (match.groups() for match in named)}
+        invalid = {int(number): (int(at or 0), other) for number, at, other in (match.groups() for match in named)}
         lines = out.split(b"\n") if status in (0, 1) else []
         lines += [b"status %d" % (status or 0)] * (len(given) - len(lines))
         return {(words, line): invalid.get(k + 1, lines[k]) for k, line in enumerate(given)}
 
     @staticmethod
     def result(name, arguments, answer):
+        name = name.removesuffix("_digits")
         if name in ("printing", "decimals_printed"):
             return answer
         if answer == b"status 2":
             return b"err AmbiguousFormat"
-        if isinstance(answer, int):
-            return b"err Unexpected %d" % (answer - 1) if answer else None
+        if isinstance(answer, tuple):
+            at, other = answer
+            return b"err %s %d" % (b"OtherNumeral" if other else b"Unexpected", at - 1) if at else None
         whole, _, decimals = answer.partition(b".")
         if name != "strict":
             units = whole + decimals
@@ -286,4 +269,9 @@ def is_misread(format_name):
     return is_ambiguous(one) or not mark or is_separator or is_ambiguous(one._replace(minus_sign=mark))
 
 
-OF = {"rattle": Rattle, "regroup": Regroup, "regroup-lines": RegroupLines}
+# The crate of each program, and how it is asked.
+OF = {
+    "rattle": ("test_oracle", Replayer),
+    "regroup": ("regroup", Regroup),
+    "regroup-lines": ("regroup_lines_cli", RegroupLines),
+}

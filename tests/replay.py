@@ -38,8 +38,9 @@ REPORT = re.compile(r"^(\w+)\.tsv: ran (\d+), cannot say (\d+)(?: \((.*)\))?, di
 
 # The tables whose errors have causes.
 CAUSES = ["strict", "decimals_parsed", "decimals_at_scale", "typed", "typed_decimals"]
+CAUSES += [f"{name}_digits" for name in CAUSES]
 
-# Of how many cases of a wrong table one is run, where a program runs unproved or it has to be quick.
+# Of how many cases of a wrong table one is compared, where it has to be quick.
 QUICK_EVERY = 16
 
 
@@ -126,10 +127,6 @@ def replay_c(tally, name, library, every):
             replay(tally, name, partial(programs.Replayer, [made]), every)
 
 
-def replay_program(tally, name, program, every):
-    replay(tally, name, partial(programs.OF[name], program), every)
-
-
 def main():
     parser = argparse.ArgumentParser(description="Replays the tables of cases.")
     parser.add_argument("--program", type=Path, metavar="FILE", help="the program, or the library for C, as it was built")
@@ -142,13 +139,15 @@ def main():
     if given.command:
         replay(tally, given.name, partial(programs.Replayer, given.command), every)
         tally.end()
-    crate = None if given.name in COMPILERS else programs.OF[given.name].crate
+    crate, asked = (None, None) if given.name in COMPILERS else programs.OF[given.name]
     built = LIBRARY if crate is None else ROOT / "crates" / crate / "out" / crate
     program = given.program.resolve() if given.program else built if given.built or crate is None else None
     with nullcontext(program) if program else tried(crate) as program:
         if program and program.is_file():
-            how = replay_c if crate is None else replay_program
-            how(tally, given.name, program, every if given.program or given.built else QUICK_EVERY)
+            if crate is None:
+                replay_c(tally, given.name, program, every)
+            else:
+                replay(tally, given.name, partial(asked, [program]), every)
         elif given.built:
             tally.skip(f"the tables of cases by {given.name}", "it was not built: --prove does that")
         else:

@@ -49,7 +49,12 @@ void *memset(void *to, int byte, size_t length) {
 /* A number as fr prints it, with U+202F. */
 #define FRENCH "-1\xe2\x80\xaf" "234"
 
-static num_format en, fr, built, filled;
+/* Of fa, where U+066C separates. */
+#define MINUS "\u200e\u2212"
+#define PERSIAN TEXT(MINUS "9\u066c" "223\u066c" "372\u066c" "036\u066c" "854\u066c" "775\u066c" "808")
+#define ARABEXT TEXT(MINUS "۹\u066c" "۲۲۳\u066c" "۳۷۲\u066c" "۰۳۶\u066c" "۸۵۴\u066c" "۷۷۵\u066c" "۸۰۸")
+
+static num_format en, fr, fa, arabext, built, filled;
 static char text[NUM_FORMAT_DECIMAL_MAX];
 static int64_t number;
 static uint64_t low, high;
@@ -71,6 +76,8 @@ static int print_short(void) { return num_format_print_i64(&en, -234, text, size
 static int print_long(void) { return num_format_print_i64(&en, INT64_MIN, text, sizeof text); }
 static int print_built(void) { return num_format_print_i64(&built, INT64_MIN, text, sizeof text); }
 static int print_wide(void) { return num_format_print_u128(&en, UINT64_MAX, UINT64_MAX, text, sizeof text); }
+static int print_persian(void) { return num_format_print_i64(&fa, INT64_MIN, text, sizeof text); }
+static int print_arabext(void) { return num_format_print_i64(&arabext, INT64_MIN, text, sizeof text); }
 static int print_decimal(void) { return num_format_print_decimal(&en, (uint64_t)-5, UINT64_MAX, 2, text, sizeof text); }
 static int measure_decimal(void) { return num_format_print_decimal_len(&en, (uint64_t)-5, UINT64_MAX, 2); }
 static int parse_short(void) { return num_format_parse_i64(&en, 64, TEXT("-234"), &number); }
@@ -81,6 +88,8 @@ static int strict_long(void) { return num_format_parse_strict_i64(&en, 64, LONG,
 static int strict_refused(void) { return num_format_parse_strict_i64(&en, 64, TEXT("1,23"), &number, &at); }
 static int strict_few(void) { return num_format_parse_strict_i64(&en, 64, TEXT("1,234"), &number, &at); }
 static int strict_french(void) { return num_format_parse_strict_i64(&fr, 64, TEXT(FRENCH), &number, &at); }
+static int strict_persian(void) { return num_format_parse_strict_i64(&fa, 64, PERSIAN, &number, &at); }
+static int strict_arabext(void) { return num_format_parse_strict_i64(&arabext, 64, ARABEXT, &number, &at); }
 static int decimal(void) { return num_format_parse_decimal(&en, TEXT("1,234.50"), &low, &high, &scale, &at); }
 static int decimal_french(void) { return num_format_parse_decimal(&fr, TEXT(FRENCH ",50"), &low, &high, &scale, &at); }
 static int typed_long(void) { return num_format_parse_typed(&en, NUM_FORMAT_I64, LONG, &number, sizeof number, &at); }
@@ -114,6 +123,8 @@ static const struct {
     {"print i64 INT64_MIN", print_long, 26},
     {"print i64 INT64_MIN, Indian, separators of 8 bytes", print_built, 86},
     {"print u128 UINT128_MAX", print_wide, 51},
+    {"print i64 INT64_MIN, fa", print_persian, 37},
+    {"print i64 INT64_MIN, fa, digits arabext", print_arabext, 56},
     {"print decimal -0.05", print_decimal, 5},
     {"measure decimal -0.05", measure_decimal, 5},
     {"parse i64 -234", parse_short, 0},
@@ -124,6 +135,8 @@ static const struct {
     {"parse strictly i64 1,23, refused", strict_refused, NUM_FORMAT_MISSPELLED},
     {"parse strictly i64 1,234", strict_few, 0},
     {"parse strictly i64 -1 234, fr", strict_french, 0},
+    {"parse strictly i64 INT64_MIN, fa", strict_persian, 0},
+    {"parse strictly i64 INT64_MIN, fa, digits arabext", strict_arabext, 0},
     {"parse decimal 1,234.50", decimal, 0},
     {"parse decimal -1 234,50, fr", decimal_french, 0},
     {"print a column, i64, 4 rows", print_column, 0},
@@ -150,6 +163,7 @@ static int make(int (*call)(void), long times, int returned) {
 
 int main(int count, char **words) {
     if (num_format_locale(&en, TEXT("en")) != 0 || num_format_locale(&fr, TEXT("fr")) != 0 ||
+        num_format_locale(&fa, TEXT("fa")) != 0 || num_format_lookup(&arabext, TEXT("fa-u-nu-arabext")) != 0 ||
         num_format_custom(&built, TEXT("’’·"), NUM_FORMAT_INDIAN, TEXT("−")) != 0 || print_column() != 0)
         return 1;
     for (size_t i = 0; i < sizeof calls / sizeof *calls; i++) {

@@ -6,9 +6,9 @@
 
 No contract counts work: a body that prints, copies or tests twice returns the same. tests/work_checks.tsv has how
 many instructions each call of tests/work_checks.c takes, and a call fails that takes over a tenth more or less.
-Where a change means to, write the table again, and commit it with the change. Whatever the table says, parsing a text
-as people type it takes at most 1.25 times what strict parsing takes of it as it is printed, if that is how it is typed,
-and else at most 3.5 times.
+Where a change means to, write the table again, and commit it with the change. Whatever the table says, the calls of
+AT_MOST, and these alone, take at most so many times what others take: typed parsing beside strict parsing, and other
+digits beside 0 to 9. Shorter texts, and digits of three and four bytes, take more.
 
 Valgrind's callgrind counts. The counts are the same in each run and on each processor, and other compilers of the
 program in C change them by a few. Without valgrind or a C compiler the checks are skipped, and a last line says so.
@@ -34,11 +34,13 @@ TOLERANCE = 10
 
 # How many times what a call takes another may take, at most.
 AT_MOST = [
-    ("parse typed i64 INT64_MIN", 1.25, "parse strictly i64 INT64_MIN"),
-    ("parse typed i64 +1,234 after a space", 3.5, "parse strictly i64 1,234"),
+    ("print i64 INT64_MIN, fa, digits arabext", 2, "print i64 INT64_MIN, fa"),
+    ("parse strictly i64 INT64_MIN, fa, digits arabext", 1.8, "parse strictly i64 INT64_MIN, fa"),
+    ("parse typed i64 INT64_MIN", 1.2, "parse strictly i64 INT64_MIN"),
+    ("parse typed i64 +1,234 after a space", 3, "parse strictly i64 1,234"),
     ("parse typed i64 -1 234, fr", 3.5, "parse strictly i64 -1 234, fr"),
-    ("parse typed decimal 1,234.50", 1.25, "parse decimal 1,234.50"),
-    ("parse typed decimal +1,234.50 after a space", 3.5, "parse decimal 1,234.50"),
+    ("parse typed decimal 1,234.50", 1.2, "parse decimal 1,234.50"),
+    ("parse typed decimal +1,234.50 after a space", 3, "parse decimal 1,234.50"),
     ("parse typed decimal -1 234,50, fr", 3.5, "parse decimal -1 234,50, fr"),
 ]
 

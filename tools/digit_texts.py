@@ -5,12 +5,15 @@
 
 The lines go into crates/test_digits/stdin, and the expected output into crates/test_digits/stdout. Numbers, texts and
 results are those of the tables of tests/cases, in the digits of one set after the other, which Python's unicodedata
-has. It also says which characters are numeric. What ICU prints by default is in icu_digits.tsv.
+has. It also says which characters are numeric. What ICU prints by default is in icu_digits.tsv. Some of the lines are
+cases for each language too, under a language tag that names the set: tables.py writes them.
 """
+import itertools
+import re
 import unicodedata
-from itertools import cycle
+from itertools import cycle, islice
 from pathlib import Path
-from urllib.parse import unquote
+from urllib.parse import quote, unquote
 
 ROOT = Path(__file__).resolve().parent.parent
 CRATE = ROOT / "crates" / "test_digits"
@@ -36,11 +39,17 @@ LONGEST = 199
 # The group sizes of this locale are those of CLDR 36, and of ICU 72 others.
 OTHER_GROUPS = "ks"
 
-# What tags name, by hand: traditio, finance and roman are no sets of ten digits.
+# What tags name, by hand and by UTS 35, section 3: the case of letters does not count, and an underscore counts as a
+# hyphen. traditio, finance and roman are no sets of ten digits.
 TAGS = """fa-IR-U-Nu-deva=deva en-t-ja-u-nu-thai-x-u-nu-beng=thai de-x-u-nu-deva=none fa-nu-deva=none nu=none nu-u=none
 u-nu-deva=deva no-such-u-nu-arab=arab fa-u-nu=UnknownDigits fa-u-nu-=UnknownDigits fa-u-nu-deva-nu-deva=UnknownDigits
-fa-u-nu-nu-deva=UnknownDigits fa-u-nu-DEVA=UnknownDigits zh-u-nu-traditio=UnknownDigits zh-u-nu-finance=UnknownDigits
-la-u-nu-roman=UnknownDigits zh-u-nu-hanidec=UnknownDigits xx-u-nu-native=UnknownDigits fa-u-ca-nu-latn=latn"""
+fa-u-nu-nu-deva=UnknownDigits fa-u-nu-DEVA=deva zh-u-nu-traditio=UnknownDigits zh-u-nu-finance=UnknownDigits
+la-u-nu-roman=UnknownDigits zh-u-nu-hanidec=UnknownDigits xx-u-nu-native=UnknownDigits fa-u-ca-nu-latn=latn
+fa-u-nu-ARABEXT=arabext fa-u-nu-arabext.UTF-8=arabext fa_u_nu_deva=deva fa-IR_u-nu_Deva=deva fa_IR.UTF-8-u-nu-deva=none
+FA_U_CA_PERSIAN_NU_FullWide_CO_PHONEBK@euro=fullwide fa-u-nu-Native=arabext ne_NP_U_NU_NATIVE.UTF-8=deva C=none
+sr_RS@latin-u-nu-deva=none fa-u-nu.deva=UnknownDigits fa-u-nu-@deva=UnknownDigits fa-u-nu-deva@nu-deva=deva @=none
+fa-u_nu_deva-NU-latn=UnknownDigits fa-u-nu-arab-X-nu-deva=arab fa_x_u_nu_deva=none fa-u-nu-arabextra=UnknownDigits
+fa-u-nu-arabe=UnknownDigits zh_u_nu_TRADITIO=UnknownDigits POSIX-u-nu-native=UnknownDigits =none"""
 
 
 def in_set(text, name):
@@ -81,20 +90,33 @@ def result_of(call, text, result, shown, name):
     return f"Number({refused(result, text, shown)})" if call.startswith("typed") else refused(result, text, shown)
 
 
+def texts_in(text, name):
+    """Returns a text in a set, and that with its last digit as it was. Of a text with digits of the set it is neither."""
+    if any(c in text for c in in_set("0123456789", name)):
+        return []
+    shown = in_set(text, name)
+    cut = max(map(text.rfind, "0123456789"))
+    return [shown, shown[:cut] + text[cut:]] if cut >= 0 else [shown]
+
+
 def parsed(names, tables):
     for call, table in tables.items():
         for *kind, form, text, result in rows(table):
             if not form.startswith("locale:") or kind not in ([], ["i64"]):
                 continue
             name = next(names)
-            if any(c in text for c in in_set("0123456789", name)):
-                continue
-            shown = in_set(text, name)
-            # In the second text the last digit is left as it is.
-            cut = max(map(text.rfind, "0123456789"))
-            for each in [shown, shown[:cut] + text[cut:]] if cut >= 0 else [shown]:
+            for each in texts_in(text, name):
                 fields = [call, name, form.removeprefix("locale:"), each.encode().hex()]
                 yield fields, result_of(call, text, result, each, name)
+
+
+def at_scale(names):
+    for form, text, scale, result in rows("decimals_at_scale.tsv"):
+        if form.startswith("locale:"):
+            name = next(names)
+            for each in texts_in(text, name):
+                fields = ["at scale", name, form.removeprefix("locale:"), each.encode().hex(), scale]
+                yield fields, result_of("at scale", text, result, each, name)
 
 
 def printed(names):
@@ -106,6 +128,46 @@ def printed(names):
         if form.startswith("locale:"):
             name = next(names)
             yield ["print", name, form.removeprefix("locale:"), f"{units}/{scale}"], in_set(text, name)
+
+
+def lines():
+    """Returns the lines of numbers and texts in sets, and of texts as people type them."""
+    names = cycle(ZEROS)
+    strict = [*parsed(names, {"whole": "strict.tsv", "decimal": "decimals_parsed.tsv"}), *printed(names)]
+    return strict, [*parsed(names, {"typed": "typed.tsv", "typed decimal": "typed_decimals.tsv"})]
+
+
+# The tables of cases in digit sets: a call of the lines, whether of whole numbers, and how few of the lines stand there.
+CASES = {
+    "printing_digits": ("print", True, 1), "decimals_printed_digits": ("print", False, 5),
+    "strict_digits": ("whole", True, 1), "decimals_parsed_digits": ("decimal", False, 10),
+    "typed_digits": ("typed", True, 1), "typed_decimals_digits": ("typed decimal", False, 4),
+    "decimals_at_scale_digits": ("at scale", False, 9),
+}
+
+
+def by_hand():
+    """Returns the tag, the number and the text of each case of printing_digits.tsv that is by hand."""
+    table = (ROOT / "tests" / "cases" / "printing_digits.tsv").read_text()
+    for line in table.partition("# Written by")[0].splitlines():
+        if line[0] != "#":
+            _, form, number, text = line.split("\t")
+            yield form.removeprefix("locale:"), number, unquote(text)
+
+
+def cases(table):
+    """Returns the cases of a table, as fields."""
+    wanted, is_whole, every = CASES[table]
+    every_line = itertools.chain(*lines(), at_scale(cycle(ZEROS)))
+    both = [(fields, result) for fields, result in every_line if fields[0] == wanted]
+    found = [line for line in both if wanted != "print" or ("/" in line[0][3]) is not is_whole]
+    for (_, name, form, given, *scale), result in islice(found, 0, None, every):
+        fields = ["i64"] * is_whole + [f"locale:{form}-u-nu-{name}"]
+        if wanted == "print":
+            yield [*fields, *given.split("/"), quote(result)]
+        else:
+            error = re.sub(r" \{ at: (\d+) \}", r" \1", re.sub(r"Number\(|\)", "", result))
+            yield [*fields, quote(bytes.fromhex(given)), *scale, f"err {error}" if error[0].isalpha() else f"ok {error}"]
 
 
 def by_default():
@@ -125,6 +187,9 @@ def others():
     for tag in TAGS.split():
         tag, result = tag.split("=")
         yield ["tag", tag], ZEROS.get(result, result)
+    for tag, number, text in by_hand():
+        name, _, digits = tag.partition("-u-nu-")
+        yield ["print", digits, name, number], text
     for name, zero in ZEROS.items():
         yield ["tag", f"fa-u-ca-persian-nu-{name}-co-phonebk"], zero
         yield ["text", f"-a²{in_set('7', name)}3"], zero
@@ -133,10 +198,8 @@ def others():
 
 
 def main():
-    names = cycle(ZEROS)
-    strict = parsed(names, {"whole": "strict.tsv", "decimal": "decimals_parsed.tsv"})
-    typed = parsed(names, {"typed": "typed.tsv", "typed decimal": "typed_decimals.tsv"})
-    both = [*strict, *printed(names), *by_default(), *others(), *typed]
+    strict, typed = lines()
+    both = [*strict, *by_default(), *others(), *typed]
     (CRATE / "stdin").write_text("".join("\t".join(fields) + "\n" for fields, _ in both))
     (CRATE / "stdout").write_text("".join(result + "\n" for _, result in both))
 

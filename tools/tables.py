@@ -408,15 +408,25 @@ TABLES = {
     "padded": [("by Python's format, of texts as tools/decimals.py has them", padded)],
 }
 
+# Those that follow from the tables above.
+DIGITS = "other tables in the digits of other scripts, which Python's unicodedata has: see tools/digit_texts.py"
+
 
 def main():
     check()
     for name, parts in TABLES.items():
-        text = kept(name)
-        for source, made in parts:
-            text += f"{WRITTEN}: {source}.\n{''.join(made())}"
-        (CASES / f"{name}.tsv").write_text(text, encoding="utf-8")
+        write(name, parts)
+    for name in digit_texts.CASES:
+        write(name, [(DIGITS, partial(itertools.starmap, row, digit_texts.cases(name)))])
     digit_texts.main()
+
+
+def write(name, parts):
+    """Writes what follows in a table anew."""
+    text = kept(name)
+    for source, made in parts:
+        text += f"{WRITTEN}: {source}.\n{''.join(made())}"
+    (CASES / f"{name}.tsv").write_text(text, encoding="utf-8")
 
 
 if __name__ == "__main__":

@@ -2,8 +2,8 @@
 """Tests everything, in minutes, or proves and tests everything.
 
     python3 tools/test.py                    # the tests, unproved: minutes
-    python3 tools/test.py --prove            # proves what users need, and runs every test: under half an hour
-    python3 tools/test.py --prove --edits    # proves the tests too, and tries the must-fail edits: over an hour
+    python3 tools/test.py --prove            # proves what users need, and runs every test: about an hour
+    python3 tools/test.py --prove --edits    # proves the tests too, and tries the must-fail edits: two hours
 
 The first needs the kit alone, and runs by `rt try`, side by side: the tests of each crate that has some, the stored run
 and the cases of programs (commands.py), the tables of cases (tests/replay.py), the examples of the doc comments
@@ -21,9 +21,9 @@ With --prove, side by side:
   memory, and the READMEs' commands.
 - `rt lib` proves and builds the library for C in this repository. Over it run the tables in C and C++, the tests of
   each package, which but for C replay them in its language, the programs of examples/ and two of packages/c/tests
-  (library_checks.py), the counts of instructions (work_checks.py), with the programs those of a release
-  (packages/release/checks) and of what is measured (bench/test), and own_project.py, which proves a crate in a
-  repository of its own over what `rt lib` proved.
+  (library_checks.py), digits beside ICU and Python (digit_checks.py), the counts of instructions (work_checks.py),
+  with the programs those of a release (packages/release/checks) and of what is measured (bench/test), and
+  own_project.py, which proves a crate in a repository of its own over what `rt lib` proved.
 
 The log has the time at which each crate was proved, and for each edit the error that refused it. The last lines name
 each check that was skipped and why, and say how many passed and failed. The exit status is 1 where one failed.
@@ -78,6 +78,7 @@ def has_tests(crate):
 def start_documents(jobs):
     jobs.script("the code in README.md and docs/", "readme_code.py")
     jobs.script("the page of public calls", TOOLS / "api_page.py", "--check", is_counted=False)
+    jobs.script("the picture of digits", TOOLS / "digit_picture.py", "--check", is_counted=False)
     jobs.script("the table of times", ROOT / "bench" / "tables.py", "--check", is_counted=False)
     jobs.script("the times in README.md", ROOT / "bench" / "times.py", "--check", is_counted=False)
 
@@ -137,7 +138,7 @@ def waiting(top):
     yield {"library"}, "a repository of one's own", TOOLS / "own_project.py", "--test"
     for test in sorted((ROOT / "packages").glob("*/test")):
         yield {"library"}, str(test.relative_to(ROOT)), test, LIBRARY
-    for script in "library_checks.py", "work_checks.py":
+    for script in "library_checks.py", "digit_checks.py", "work_checks.py":
         yield {"library"}, script, script, LIBRARY
     files = [LIBRARY, *(top / "crates" / crate / "out" / crate for crate in sorted(programs))]
     yield {"library", *programs}, "packages/release/checks", ROOT / "packages" / "release" / "checks", *files
