@@ -215,7 +215,7 @@ pub enum DigitsError<E> {
         /// The number of bytes before the first such character.
         at: usize,
     },
-    /// The text has more characters than the text of any number.
+    /// With `0` to `9` for its digits the text has more bytes than the text of any number.
     TooLong,
     /// The cause of that parsing. A position counts the bytes of the text that was given.
     Number(E),
