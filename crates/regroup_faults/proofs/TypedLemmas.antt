@@ -29,7 +29,7 @@ why_result (Ok d) = why.Unknown
 why_result (Err TooLong) = why.TooLong
 why_result (Err (Number e)) = why_in e
 
-in-placed : (place : ℕ → ℕ) (e : ParseDecimalError) → why_placed place (why_in e) ≡ why_in (placed_decimal place e)
+in-placed : (place : ℕ → ℕ) (e : ParseDecimalError) → why_placed place (λ c. c) (why_in e) ≡ why_in (placed_decimal place e)
 in-placed place (decimal.Unexpected at) = refl
 in-placed place decimal.Misspelled = refl
 in-placed place e = refl
@@ -93,8 +93,8 @@ module _ (f : FormatData) (utf8 : HasUtf8Texts f) where
         rw (types-Decides.1 taken, refused-none e parses, le-leb _ _ short, short-or (Err e2) second, is) refl
 
     why-strict : (strict : Result FixedPoint ParseDecimalError) → DecimalResult f (typed_text f t) strict
-        → (r : Result FixedPoint (TypedError ParseDecimalError)) →
-        r ≡ map_error (placed_decimal (place_in f t)) strict → why_placed (place_in f t) (why_refused f (typed_text f t)) ≡ why_result r
+        → (r : Result FixedPoint (TypedError ParseDecimalError)) → r ≡ map_error (placed_decimal (place_in f t)) strict
+        → why_placed (place_in f t) (λ c. c) (why_refused f (typed_text f t)) ≡ why_result r
     why-strict (Ok d) second r is = rw (why-parsed f utf8 (typed_text f t) d ((second.decimal d).0 refl), is) refl
     why-strict (Err e) second r is = rw (why-is f utf8 (typed_text f t) e ((second.refused e).0 refl), is) (in-placed (place_in f t) e)
 

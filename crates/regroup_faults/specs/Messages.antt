@@ -1,6 +1,7 @@
 -- The messages that name faults.
 use Rattle.std.specs.Prelude.{ℕ, ◌+◌, ◌-◌, ◌/◌, ◌%◌, nat_le, nat_lt, ◌==◌, Bool, ◌&&◌, not, is_some, if◌then◌else◌}
 use Rattle.std.specs.Prelude.{List, [], ◌∷◌, ◌++◌, length, codes, encode_utf8, Option, None, Some}
+use Rattle.num_format_digits.specs.Digits as set
 use Rattle.num_format_digits.specs.Digits.{ascii_of, first_set, other_from}
 use Rattle.num_format_digits.specs.Parsing as digits
 use Rattle.std.specs.Fmt.{decimal}
@@ -86,11 +87,11 @@ abbrev pub why_strict : FormatData → List ℕ → Why → Why
 why_strict from text (why.Unexpected before) = why_meant from text before (typed_read from text)
 why_strict from text known = known
 
--- the same with another place
-abbrev pub why_placed : (ℕ → ℕ) → Why → Why
-why_placed place (why.Unexpected before) = why.Unexpected (place before)
-why_placed place (why.Typed before met wanted) = why.Typed (place before) met wanted
-why_placed place known = known
+-- the same with another place, and another character of the format
+abbrev pub why_placed : (place image : ℕ → ℕ) → Why → Why
+why_placed place image (why.Unexpected before) = why.Unexpected (place before)
+why_placed place image (why.Typed before met wanted) = why.Typed (place before) met (image wanted)
+why_placed place image known = known
 
 -- why typed parsing refuses a text, if it does, and decimals can be told so under the format
 unfoldable pub why_untyped : FormatData → List ℕ → Why
@@ -98,7 +99,7 @@ why_untyped from text =
     if not (types_decimals from) then why.Unknown else
     if is_some (decimal_read from text) then why.Unknown else
     if nat_lt MAX_DECIMAL_LEN (length (typed_text from text)) then why.TooLong else
-    why_placed (place_in from text) (why_refused from (typed_text from text))
+    why_placed (place_in from text) (λ c. c) (why_refused from (typed_text from text))
 
 -- why a text with 0 to 9 is refused, by how it is read
 abbrev pub why_read : Reading → FormatData → List ℕ → Why
@@ -111,12 +112,13 @@ abbrev pub char_after : (before : ℕ) → (characters : List ℕ) → ℕ
 char_after before [] = 0
 char_after before (c ∷ cs) = if before == 0 then c else char_after (before - length (encode_utf8 c)) cs
 
--- the same in a set: by its first other numeral, if it has one, or else by the text with 0 to 9, with the place in the text itself
+-- the same in a set: by its first other numeral, if it has one, or else by the text with 0 to 9, with the place in the text itself, and
+-- the character of the format as it is shown in the set
 abbrev pub why_other : Reading → NotationData → List ℕ → Option ℕ → Why
 why_other reading from text (Some before) = why.OtherNumeral before (char_after before (chars text))
 why_other reading from text None =
     if nat_lt MAX_DECIMAL_LEN (length (ascii_of from.digits text)) then why.TooLong else
-    why_placed (digits.place_in from.digits text) (why_read reading from.format (ascii_of from.digits text))
+    why_placed (digits.place_in from.digits text) (set.shown from.digits) (why_read reading from.format (ascii_of from.digits text))
 
 abbrev pub why_in_digits : Reading → NotationData → List ℕ → Why
 why_in_digits reading from text = why_other reading from text (other_from from.digits 0 (chars text))

@@ -12,6 +12,7 @@ ghost use Rattle.regroup_faults.specs.Messages.{first_change, header_hint, high_
 ghost use Rattle.regroup_faults.specs.Messages.{line_message, low_digits, met_text, refused_in, refused_text};
 ghost use Rattle.regroup_faults.specs.Messages.{why_changed, why_in, why_meant, why_not, why_refused, why_strict};
 ghost use Rattle.regroup_faults.specs.Messages.{why_text, why_untyped};
+ghost use Rattle.num_format_digits.specs.Digits.{shown};
 ghost use Rattle.num_format_digits.specs.Parsing.{place_in};
 
 use crate::Reading;
@@ -396,19 +397,30 @@ fn char_after(before: usize, text: &str) -> char
     '\0'
 }
 
-/// Returns why a text is not a number, with the place in it for which a place in the text with `0` to `9` stands.
+/// Returns why a text is not a number, with the place in it for which a place in the text with `0` to `9` stands, and
+/// the character of the format as the set shows it.
 fn why_placed(digits: Digits, text: &str, why: Why) -> Why
-    ensures { result ≡ why_placed (place_in digits text.now) why }
+    ensures { result ≡ why_placed (place_in digits text.now) (shown digits) why }
 {
     match why {
         Why::Unexpected(before) => Why::Unexpected(bytes_within(before, text, &digits)),
         Why::Typed(before, met, wanted) => Why::Typed(
             bytes_within(before, text, &digits),
             met,
-            wanted,
+            shown_in(digits, wanted),
         ),
         _ => why,
     }
+}
+
+/// Returns the digit of a set for a character `0` to `9`, and any other character as it is.
+fn shown_in(digits: Digits, c: char) -> char
+    ensures { result ≡ shown digits c }
+{
+    if !c.is_ascii_digit() {
+        return c;
+    }
+    char::from_u32(digits.zero() as u32 + (c as u32 - '0' as u32)).unwrap_or(c)
 }
 
 /// Returns why a text is not a number in the digits `0` to `9`. Nothing is known of one that is read leniently.
