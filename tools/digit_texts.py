@@ -131,10 +131,11 @@ def printed(names):
 
 
 def lines():
-    """Returns the lines of numbers and texts in sets, and of texts as people type them."""
+    """Returns the lines of numbers and texts in sets, of texts as people type them, and of decimals at a scale."""
     names = cycle(ZEROS)
     strict = [*parsed(names, {"whole": "strict.tsv", "decimal": "decimals_parsed.tsv"}), *printed(names)]
-    return strict, [*parsed(names, {"typed": "typed.tsv", "typed decimal": "typed_decimals.tsv"})]
+    typed = [*parsed(names, {"typed": "typed.tsv", "typed decimal": "typed_decimals.tsv"})]
+    return strict, typed, [*islice(at_scale(cycle(ZEROS)), 0, None, 9)]
 
 
 # The tables of cases in digit sets: a call of the lines, whether of whole numbers, and how few of the lines stand there.
@@ -142,7 +143,7 @@ CASES = {
     "printing_digits": ("print", True, 1), "decimals_printed_digits": ("print", False, 5),
     "strict_digits": ("whole", True, 1), "decimals_parsed_digits": ("decimal", False, 10),
     "typed_digits": ("typed", True, 1), "typed_decimals_digits": ("typed decimal", False, 4),
-    "decimals_at_scale_digits": ("at scale", False, 9),
+    "decimals_at_scale_digits": ("at scale", False, 1),
 }
 
 
@@ -158,8 +159,7 @@ def by_hand():
 def cases(table):
     """Returns the cases of a table, as fields."""
     wanted, is_whole, every = CASES[table]
-    every_line = itertools.chain(*lines(), at_scale(cycle(ZEROS)))
-    both = [(fields, result) for fields, result in every_line if fields[0] == wanted]
+    both = [(fields, result) for fields, result in itertools.chain(*lines()) if fields[0] == wanted]
     found = [line for line in both if wanted != "print" or ("/" in line[0][3]) is not is_whole]
     for (_, name, form, given, *scale), result in islice(found, 0, None, every):
         fields = ["i64"] * is_whole + [f"locale:{form}-u-nu-{name}"]
@@ -198,8 +198,10 @@ def others():
 
 
 def main():
-    strict, typed = lines()
-    both = [*strict, *by_default(), *others(), *typed]
+    strict, typed, scaled = lines()
+    # A table has the units alone of what is parsed at a scale.
+    scaled = [(fields, result if result[0].isalpha() else f"{result}/{fields[-1]}") for fields, result in scaled]
+    both = [*strict, *by_default(), *others(), *typed, *scaled]
     (CRATE / "stdin").write_text("".join("\t".join(fields) + "\n" for fields, _ in both))
     (CRATE / "stdout").write_text("".join(result + "\n" for _, result in both))
 

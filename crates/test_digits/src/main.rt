@@ -6,8 +6,8 @@
 //! digits of its bytes.
 #![tactic(auto)]
 
-use num_format_decimal::Decimal;
-use num_format_digits::{DigitText, Digits};
+use num_format_decimal::{Decimal, ParseAtScaleError};
+use num_format_digits::{DigitText, Digits, DigitsError};
 use num_format_locale::Locale;
 use std::alloc::Global;
 use std::{fmt, io, str};
@@ -67,11 +67,13 @@ fn printed(alloc: Global, arguments: &str) -> Option<String> {
     format!(in alloc; "{text}").ok()
 }
 
-/// Returns the number that a text is parsed as in a set, under a locale: an `i64`, or a decimal, strictly or as typed.
+/// Returns the number that a text is parsed as in a set, under a locale: an `i64`, or a decimal, strictly, at a scale,
+/// or as typed.
 fn parsed(alloc: Global, call: &str, arguments: &str) -> Option<String> {
     let Some((digits, locale, text)) = read(arguments) else {
         return None;
     };
+    let (text, scale) = text.split_once('\t').unwrap_or((text, "0"));
     let bytes = hex::decode(alloc, text).ok()?;
     let text = str::from_utf8(bytes.as_slice()).ok()?;
     match call {
@@ -79,6 +81,15 @@ fn parsed(alloc: Global, call: &str, arguments: &str) -> Option<String> {
         "typed" => whole(alloc, digits.parse_typed::<i64, Locale>(text, &locale)),
         "decimal" => decimal(alloc, digits.parse_decimal(text, &locale)),
         "typed decimal" => decimal(alloc, digits.parse_typed_decimal(text, &locale)),
+        "at scale" => match digits.parse_at_scale(text, scale.parse().ok()?, &locale) {
+            Err(DigitsError::Number(ParseAtScaleError::Rescale(error))) => {
+                decimal(alloc, Err(DigitsError::Number(error)))
+            }
+            Err(DigitsError::Number(ParseAtScaleError::Parse(error))) => {
+                decimal(alloc, Err(DigitsError::Number(error)))
+            }
+            parsed => decimal(alloc, parsed),
+        },
         _ => None,
     }
 }
