@@ -92,6 +92,7 @@ static int strict_persian(void) { return num_format_parse_strict_i64(&fa, 64, PE
 static int strict_arabext(void) { return num_format_parse_strict_i64(&arabext, 64, ARABEXT, &number, &at); }
 static int decimal(void) { return num_format_parse_decimal(&en, TEXT("1,234.50"), &low, &high, &scale, &at); }
 static int decimal_french(void) { return num_format_parse_decimal(&fr, TEXT(FRENCH ",50"), &low, &high, &scale, &at); }
+static int typed_short(void) { return num_format_parse_typed(&en, NUM_FORMAT_I64, TEXT("-234"), &number, sizeof number, &at); }
 static int typed_long(void) { return num_format_parse_typed(&en, NUM_FORMAT_I64, LONG, &number, sizeof number, &at); }
 static int typed_plus(void) { return num_format_parse_typed(&en, NUM_FORMAT_I64, TEXT(" +1,234"), &number, sizeof number, &at); }
 static int typed_french(void) { return num_format_parse_typed(&fr, NUM_FORMAT_I64, TEXT("-1 234"), &number, sizeof number, &at); }
@@ -142,6 +143,7 @@ static const struct {
     {"print a column, i64, 4 rows", print_column, 0},
     {"measure a column, i64, 4 rows", measure_column, 0},
     {"parse a column strictly, i64, 4 rows", parse_column, 0},
+    {"parse typed i64 -234", typed_short, 0},
     {"parse typed i64 INT64_MIN", typed_long, 0},
     {"parse typed i64 +1,234 after a space", typed_plus, 0},
     {"parse typed i64 -1 234, fr", typed_french, 0},

@@ -1,12 +1,13 @@
 -- What a parser of decimals reads of a text, and what it leaves out.
 use Rattle.std.proofs.Common.{◌≡◌, ℕ, zero, suc, ◌+◌, ◌-◌, ◌*◌, ◌/◌, ◌^◌, ◌<◌, ◌≤◌, inl, inr, Bool, true, false, List, [], ◌∷◌, ◌++◌}
 use Rattle.std.proofs.Common.{length, take, drop, take-append-drop, drop-drop, refl, ap, ◌∙◌, sym, subst, arith, length-append, length-drop}
-use Rattle.std.proofs.Common.{IsUtf8, ℤ, pos, negsuc, unsigned_abs, Err}
+use Rattle.std.proofs.Common.{IsUtf8, ℤ, pos, negsuc, unsigned_abs, Err, append-nil}
 use Rattle.std.specs.Prelude.{nat_eq, if◌then◌else◌, FitsSigned, Result, Ok}
 use Rattle.std.specs.Char.{is_ascii_digit}
 use Rattle.std.specs.Int.{is_negative, w128}
 use Rattle.std.specs.Int.Digits.{number_from_digits}
 use Rattle.std.specs.List.{list_all, starts_with}
+use Rattle.std.proofs.Math.Nat.{div-one}
 use Rattle.std.proofs.lemmas.Bool.{both_ways, cases_lt}
 use Rattle.std.proofs.lemmas.Bool.Decides.{Decides-eqb}
 use Rattle.std.proofs.lemmas.Int.{ints}
@@ -22,9 +23,9 @@ use Rattle.num_format_int.specs.Text.{body_of, text_of}
 use Rattle.num_format_int.proofs.DigitLemmas.{digits-small}
 use Rattle.num_format_int.proofs.GroupedLemmas.{grouped-Posix, grouped-short}
 use Rattle.num_format_parsing.specs.Reading.{is_negative_text}
-use Rattle.num_format_parsing.specs.Shapes.{HasSign, byte_figures}
-use Rattle.num_format_parsing.specs.Strict.{IsUnambiguous, SpellsNumber, begins, ungrouped, with_separators, without_separators}
-use Rattle.num_format_parsing.proofs.SpellingLemmas.{body-told, is_negative-pos, signed-abs, signed-sign, sign-behind}
+use Rattle.num_format_parsing.specs.Shapes.{HasPlainSymbols, HasSign, byte_figures}
+use Rattle.num_format_parsing.specs.Strict.{IsUnambiguous, SpellsNumber, begins, unexpected, ungrouped, with_separators, without_separators}
+use Rattle.num_format_parsing.proofs.SpellingLemmas.{body-told, is_negative-pos, signed-abs, signed-sign, sign-behind, unexpected-none}
 use Rattle.num_format_certificates.proofs.RoundTripLemmas.{round_trips-from_unambiguous}
 use Rattle.num_format_decimal.specs.declared.parser.Fault.{Fault}
 use Rattle.num_format_decimal.specs.declared.parser.Fault.TheVariants.{TooLarge, Unspelled}
@@ -74,6 +75,20 @@ number_of f t b n some amount =
     signed f =
         ap (λ (c : Bool). (if c then f.minus_sign else []) ++ body_of f n) (sym (signed-sign b n some))
         ∙ ap (λ j. (if is_negative (signed_number b n) then f.minus_sign else []) ++ body_of f j) (sym (signed-abs b n))
+
+-- a text that spells a decimal without decimals has no unexpected byte
+negative-some : (z : ℤ) → is_negative z ≡ true → 0 < unsigned_abs z / 10 ^ 0
+negative-some (pos n) wrong = absurd (both_ways _ (is_negative-pos n) wrong)
+negative-some (negsuc n) same = subst (λ k. 0 < k) (sym (div-one (suc n))) (omega arith)
+
+pub expected-whole : (f : FormatData) (t : List ℕ) (d : FixedPoint) → HasPlainSymbols f → d.scale ≡ 0 → SpellsDecimal f t d
+    → unexpected f t ≡ []
+expected-whole f t d symbols whole spells =
+    let b = is_negative d.units in
+    let n = unsigned_abs d.units / 10 ^ 0 in
+    let signed = subst (IsSigned f t b (unsigned_abs d.units)) whole (signed-spelled f t d spells) in
+    unexpected-none f t (signed_number b n) symbols
+    (number_of f t b n (negative-some d.units) (subst (λ x. IsAmount f x b n) (sym (signed.text ∙ append-nil signed.whole)) signed.amount))
 
 -- a text that spells no number, and is no zero with a sign, is no amount
 pub no_amount : (f : FormatData) (t : List ℕ) (b : Bool) (start : ℕ) → HasSign f t b start → ¬ (drop start t ≡ 48 ∷ [])

@@ -3,7 +3,7 @@ ghost use Rattle.std.specs.Prelude.{◌≡◌, ◌↔◌, ◌++◌, ◌<◌, ◌
 ghost use Rattle.std.specs.Prelude.{drop, length};
 ghost use Rattle.std.specs.Char.{is_ascii_digit};
 ghost use Rattle.std.specs.List.{list_all};
-ghost use Rattle.num_format_parsing.specs.Strict.{unexpected};
+ghost use Rattle.num_format_parsing.specs.Strict.{IsUnambiguous, unexpected};
 ghost use Rattle.num_format_decimal.specs.FixedPoint.{FixedPoint};
 ghost use Rattle.num_format_decimal.specs.Marks.{IsMark, IsPlainFormat, MarksDecimals};
 ghost use Rattle.num_format_decimal.specs.Parsing.{AtScaleResult, DecimalResult, IsDecimalCause, SpellsDecimal};
@@ -78,13 +78,32 @@ impl<'a, F: Format> DecimalParser<'a, F> {
             (λ parser. (parser ≡ F.answers format.now) × MarksDecimals (F.answers format.now))
             (λ e. (e ≡ cause.AmbiguousFormat) × ¬ (MarksDecimals (F.answers format.now))) }
     {
+        // Only what the getters promise is needed: that their texts are UTF-8.
+        format.minus_sign().into_str();
+        format.separator().into_str();
+        format.decimal().into_str();
+        match StrictParser::new(format) {
+            Ok(numbers) => DecimalParser::with_numbers(format, numbers),
+            Err(_) => Err(ParseDecimalError::AmbiguousFormat),
+        }
+    }
+
+    /// Does the same where the strict parser under the format is known.
+    #[inline(always)]
+    pub fn with_numbers(
+        format: &'a F,
+        numbers: StrictParser<'a, F>,
+    ) -> Result<DecimalParser<'a, F>, ParseDecimalError>
+        requires same { numbers ≡ F.answers format.now }
+        requires unambiguous { IsUnambiguous (F.answers format.now) }
+        ensures { MatchResult result
+            (λ parser. (parser ≡ F.answers format.now) × MarksDecimals (F.answers format.now))
+            (λ e. (e ≡ cause.AmbiguousFormat) × ¬ (MarksDecimals (F.answers format.now))) }
+    {
         // Only what the getters promise is needed of the first two: that they are UTF-8.
         format.minus_sign().into_str();
         format.separator().into_str();
         let mark = format.decimal().into_str();
-        let Ok(numbers) = StrictParser::new(format) else {
-            return Err(ParseDecimalError::AmbiguousFormat);
-        };
         if !is_mark(mark, numbers.separator()) {
             return Err(ParseDecimalError::AmbiguousFormat);
         }
@@ -225,11 +244,25 @@ impl<'a, F: Format> DecimalParser<'a, F> {
                 Ok(decimal) => return Ok(decimal),
                 Err(fault) => match fault {
                     Fault::TooLarge => return Err(Fault::TooLarge),
-                    Fault::Unspelled => {}
+                    Fault::Unspelled => {
+                        if self.has_unexpected(text) {
+                            return Err(Fault::Unspelled);
+                        }
+                    }
                 },
             }
         }
         self.read_whole(text)
+    }
+
+    /// Returns whether a text has a byte that no whole number has in its place.
+    #[cold]
+    #[inline(always)]
+    fn has_unexpected(&self, text: &[u8]) -> bool
+        ensures { IsTrue result → (d : FixedPoint) → d.scale ≡ 0 → ¬ (SpellsDecimal self.now text.now d) }
+    {
+        let sign = self.numbers.sign(text);
+        expected_end(text, sign.len, self.numbers.separator().as_bytes()) < text.len()
     }
 
     /// Returns where the mark begins and ends that stands before the digits at the end of a text, if it does and they

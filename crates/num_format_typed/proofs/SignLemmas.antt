@@ -1,27 +1,25 @@
 -- A text without its sign.
-use Rattle.std.proofs.Common.{◌≡◌, ℕ, true, false, List, ◌∷◌, ◌++◌, length, refl, ap, ◌∙◌, sym, drop, inl, inr}
+use Rattle.std.proofs.Common.{◌≡◌, ℕ, true, false, List, ◌∷◌, ◌++◌, length, refl, ap, ◌∙◌, sym, subst, drop, take, arith, IsUtf8}
+use Rattle.std.proofs.Common.{length-append}
 use Rattle.std.specs.Prelude.{encode_utf8, nat_eq, ◌||◌}
 use Rattle.std.specs.List.{starts_with}
-use Rattle.std.specs.Str.{chars, encode_utf8_all}
-use Rattle.std.proofs.lemmas.Bool.{cases_Bool}
+use Rattle.std.specs.Str.{IsCharBoundary, chars, encode_utf8_all}
 use Rattle.std.proofs.lemmas.Bool.Decides.{Decides-eqb}
 use Rattle.std.proofs.lemmas.Slice.Eq.{starts_is}
-use Rattle.std.proofs.lemmas.Str.{encode_same}
+use Rattle.std.proofs.lemmas.List.{take_at}
+use Rattle.std.proofs.lemmas.Str.{IsCharBoundary-from_take, encode_same}
 use Rattle.num_format_text.specs.Format.{FormatData}
 use Rattle.num_format_typed.specs.Classes.{is_of}
 use Rattle.num_format_typed.specs.Typed.{begins_with, core_of, first_is, unsigned}
 use Rattle.num_format_typed.specs.declared.classes.Class.TheVariants.{Minus, Plus}
 
--- whether a text starts with a prefix
-pub starts : (t p : List ℕ) → t ≡ p ++ drop (length p) t → starts_with nat_eq t p ≡ true
-starts t p same = (starts_is Decides-eqb t p (starts_with nat_eq t p) refl).1 (drop (length p) t) same
-
-pub starts-not : (t p : List ℕ) → ((rest : List ℕ) → t ≡ p ++ rest → ⊥) → starts_with nat_eq t p ≡ false
-starts-not t p lacks =
-    elim (cases_Bool (starts_with nat_eq t p)) [
-      | inl begins ↦ absurd (lacks (drop (length p) t) ((starts_is Decides-eqb t p (starts_with nat_eq t p) refl).0 begins))
-      | inr other ↦ other
-    ]
+-- a character begins after a prefix of whole characters
+pub boundary-past : (t p : List ℕ) → IsUtf8 t → IsUtf8 p → starts_with nat_eq t p ≡ true → IsCharBoundary t (length p)
+boundary-past t p utf8 utf8_p begins =
+    let found : t ≡ p ++ drop (length p) t = (starts_is Decides-eqb t p (starts_with nat_eq t p) refl).0 begins in
+    let rest = drop (length p) t in
+    IsCharBoundary-from_take t (length p) utf8 (omega (arith, ap length found, length-append p rest))
+    (subst IsUtf8 (sym (ap (take (length p)) found ∙ take_at p rest (length p) refl)) utf8_p)
 
 -- a text without its first character
 first-dropped : (t rest : List ℕ) (c : ℕ) → chars t ≡ c ∷ chars rest → t ≡ encode_utf8 c ++ rest → encode_utf8_all (chars t) ≡ t

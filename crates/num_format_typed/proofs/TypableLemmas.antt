@@ -1,6 +1,6 @@
 -- A format is typable where tests of its symbols pass, and they do for those that most formats have.
 use Rattle.std.proofs.Common.{◌≡◌, ℕ, ◌≤◌, List, Bool, true, ◌&&◌, not, length, refl, ap, arith, nat_le}
-use Rattle.std.specs.Prelude.{Contains}
+use Rattle.std.specs.Prelude.{Contains, codes}
 use Rattle.std.specs.Char.{is_ascii_digit}
 use Rattle.std.specs.List.{list_all, list_any}
 use Rattle.std.specs.Cmp.{first_so, second_so}
@@ -55,6 +55,11 @@ sign_passes sign = list_all (λ d. passes_under sign d) usual_marks
 usual_pass : list_all (λ m. sign_passes m) usual_signs ≡ true
 unfolding chars encode
 usual_pass = refl
+
+-- a hyphen has no marks of direction
+pub core-hyphen : without_ends (is_of Direction) (codes "-") ≡ codes "-"
+unfolding chars encode
+core-hyphen = refl
 
 -- no usual sign is empty or has a numeral, and no usual separator has one
 abbrev is_plain : List ℕ → Bool

@@ -59,7 +59,7 @@ fn put_char(c: char, len: usize, array: &mut [u8]) -> Option<usize>
 }
 
 /// Does the same for bytes.
-#[inline]
+#[inline(always)]
 fn put(bytes: &[u8], len: usize, array: &mut [u8]) -> Option<usize>
     requires { len ≤ length array.old }
     ensures text { MatchOption result (length array.old < len + length bytes.now)

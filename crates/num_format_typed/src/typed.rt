@@ -2,7 +2,7 @@
 //!
 //! Most are as the format prints them, so strict parsing comes first, and looks for no cause where it refuses a text.
 ghost use Rattle.std.specs.Prelude.{◌≡◌, ◌↔◌, ◌++◌, ◌<◌, ◌≤◌, ℕ, [], Contains, IfSome, IsTrue, MatchOption};
-ghost use Rattle.std.specs.Prelude.{MatchResult, IsUtf8, drop, length, Err, nat_eq, true, false};
+ghost use Rattle.std.specs.Prelude.{MatchResult, IsUtf8, codes, drop, length, Err, nat_eq, true, false};
 ghost use Rattle.std.specs.List.{find, list_any, starts_with};
 ghost use Rattle.std.specs.Str.{chars, encode_utf8_all};
 ghost use Rattle.num_format_decimal.specs.declared.buffer.TheConstants.{MAX_DECIMAL_LEN};
@@ -11,6 +11,7 @@ ghost use Rattle.num_format_decimal.specs.Parsing.{DecimalResult};
 ghost use Rattle.num_format_parsing.specs.Strict.{IsUnambiguous, ParsesStrictly};
 ghost use Rattle.num_format_parsing.specs.declared.error.StrictError.TheVariants as strict;
 ghost use Rattle.num_format_typed.specs.Classes.{class_of, is_of};
+ghost use Rattle.num_format_typed.specs.declared.classes.Class.TheVariants.{Direction};
 ghost use Rattle.num_format_typed.specs.Rewriting.{without_ends};
 ghost use Rattle.num_format_typed.specs.Typed.{HasUsualSymbols, IsTypable, ParsesTyped, RescaleResult};
 ghost use Rattle.num_format_typed.specs.Typed.{TypedAtScaleResult, TypedDecimalResult, ascii_separators, at_any_scale};
@@ -145,10 +146,7 @@ fn strip<'t>(text: &'t str, prefix: &str) -> Option<&'t str>
     if !is_prefix(text.as_bytes(), prefix.as_bytes()) {
         return None;
     }
-    match text.strip_prefix(prefix) {
-        Some(rest) => Some(rest),
-        None => None,
-    }
+    Some(&text[prefix.len()..])
 }
 
 /// Returns whether the symbols of a format are those that most have.
@@ -240,6 +238,7 @@ fn is_typable<F: Format>(format: &F, symbols: Symbols<'_>, minus_sign: &str) -> 
 /// A contract sees it as the data of its format.
 #[derive(Drop)]
 struct Rewriter<'a, F: Format> {
+    format: &'a F,
     numbers: StrictParser<'a, F>,
     mark: &'a str,
 }
@@ -253,7 +252,8 @@ impl<'a, F: Format> Model for Rewriter<'a, F> {
 
     ghost view = { λ r. r.numbers };
 
-    ghost invariant = { λ r. (r.mark.now ≡ r.numbers.decimal) × IsTypable r.numbers };
+    ghost invariant = { λ r.
+        (F.answers r.format.now ≡ r.numbers) × (r.mark.now ≡ r.numbers.decimal) × IsTypable r.numbers };
 }
 
 impl<'a, F: Format> Rewriter<'a, F> {
@@ -264,11 +264,10 @@ impl<'a, F: Format> Rewriter<'a, F> {
             (λ rewriter. (rewriter ≡ F.answers format.now) × IsTypable (F.answers format.now))
             (λ e. (e ≡ strict.AmbiguousFormat) × ¬ (IsTypable (F.answers format.now))) }
     {
-        let mark = format.decimal().into_str();
         if has_usual_symbols(format) {
-            let numbers = StrictParser::unambiguous(format);
-            return Ok(Rewriter { numbers, mark });
+            return Ok(Rewriter::typable(format));
         }
+        let mark = format.decimal().into_str();
         let Ok(numbers) = StrictParser::new(format) else {
             return Err(StrictError::AmbiguousFormat);
         };
@@ -276,7 +275,29 @@ impl<'a, F: Format> Rewriter<'a, F> {
         if !is_typable(format, Symbols { separator, mark }, numbers.minus_sign()) {
             return Err(StrictError::AmbiguousFormat);
         }
-        Ok(Rewriter { numbers, mark })
+        Ok(Rewriter::typable(format))
+    }
+
+    /// Returns a rewriter for a format under which what people type has one meaning.
+    #[inline(always)]
+    fn typable(format: &'a F) -> Rewriter<'a, F>
+        requires { IsTypable (F.answers format.now) }
+        ensures { result ≡ F.answers format.now }
+    {
+        Rewriter {
+            format,
+            numbers: StrictParser::unambiguous(format),
+            mark: format.decimal().into_str(),
+        }
+    }
+
+    /// Returns the format.
+    #[inline(always)]
+    fn format(&self) -> &'a F
+        ensures same { F.answers result.now ≡ self.now }
+        ensures typable { IsTypable self.now }
+    {
+        self.format
     }
 
     /// Returns the number that a person means by the text of the bytes.
@@ -287,15 +308,14 @@ impl<'a, F: Format> Rewriter<'a, F> {
         match self.numbers().number(bytes) {
             Some(number) => Ok(number),
             None => match text_of(bytes) {
-                Some(text) => self.parse_rewritten(text),
+                Some(text) => Rewriter::parse_refused(self.format(), text),
                 None => Err(TypedError::Number(StrictError::NotUtf8)),
             },
         }
     }
 
     /// Returns the number that a text means which strict parsing refuses.
-    #[cold]
-    #[inline(never)]
+    #[inline(always)]
     fn parse_rewritten<N: FromFormattedStr>(&self, text: &str) -> Result<N, TypedError<StrictError>>
         requires typable { IsTypable self.now }
         requires refused { (e : StrictError) × ParsesStrictly N.kind N.value self.now text.now (Err e) }
@@ -309,6 +329,21 @@ impl<'a, F: Format> Rewriter<'a, F> {
             Ok(number) => Ok(number),
             Err(error) => Err(TypedError::Number(self.placed(text, error))),
         }
+    }
+
+    /// Does the same under a format. The rewriter is its own, so that the caller's stays in registers.
+    #[cold]
+    #[inline(never)]
+    fn parse_refused<N: FromFormattedStr>(
+        format: &'a F,
+        text: &str,
+    ) -> Result<N, TypedError<StrictError>>
+        requires typable { IsTypable (F.answers format.now) }
+        requires refused { (e : StrictError)
+            × ParsesStrictly N.kind N.value (F.answers format.now) text.now (Err e) }
+        ensures { ParsesTyped N.kind N.value (F.answers format.now) text.now result }
+    {
+        Rewriter::typable(format).parse_rewritten(text)
     }
 
     /// Returns the decimal that a person means by the text of the bytes. `decimals` is the strict parser of the same
@@ -327,15 +362,14 @@ impl<'a, F: Format> Rewriter<'a, F> {
         match decimals.decimal(bytes) {
             Some(decimal) => Ok(decimal),
             None => match text_of(bytes) {
-                Some(text) => self.parse_rewritten_decimal(decimals, text),
+                Some(text) => Rewriter::parse_refused_decimal(self.format(), text),
                 None => Err(TypedError::Number(ParseDecimalError::NotUtf8)),
             },
         }
     }
 
     /// Returns the decimal that a text means which strict parsing refuses.
-    #[cold]
-    #[inline(never)]
+    #[inline(always)]
     fn parse_rewritten_decimal(
         &self,
         decimals: &DecimalParser<'a, F>,
@@ -354,6 +388,36 @@ impl<'a, F: Format> Rewriter<'a, F> {
         match decimals.parse_bytes(typed) {
             Ok(decimal) => Ok(decimal),
             Err(error) => Err(TypedError::Number(self.placed_decimal(text, error))),
+        }
+    }
+
+    /// Does the same under a format, as [`parse_refused`](Rewriter::parse_refused) does for a number.
+    #[cold]
+    #[inline(never)]
+    fn parse_refused_decimal(
+        format: &'a F,
+        text: &str,
+    ) -> Result<Decimal, TypedError<ParseDecimalError>>
+        requires typable { IsTypable (F.answers format.now) }
+        requires refused { (e : ParseDecimalError) × DecimalResult (F.answers format.now) text.now (Err e) }
+        ensures { TypedDecimalResult (F.answers format.now) text.now result }
+    {
+        let rewriter = Rewriter::typable(format);
+        match rewriter.decimals() {
+            Some(decimals) => rewriter.parse_rewritten_decimal(&decimals, text),
+            None => Err(TypedError::Number(ParseDecimalError::AmbiguousFormat)),
+        }
+    }
+
+    /// Returns the strict parser of decimals, if the format marks decimals.
+    #[inline(always)]
+    fn decimals(&self) -> Option<DecimalParser<'a, F>>
+        ensures { MatchOption result (¬ (MarksDecimals self.now)) (λ d. (d ≡ self.now) × MarksDecimals self.now) }
+    {
+        let format = self.format();
+        match DecimalParser::with_numbers(format, StrictParser::unambiguous(format)) {
+            Ok(decimals) => Some(decimals),
+            Err(_) => None,
         }
     }
 
@@ -403,7 +467,7 @@ impl<'a, F: Format> Rewriter<'a, F> {
         ensures bound { length result.1.now ≤ length text.now }
     {
         let minus_sign = self.numbers().minus_sign();
-        let core = without_ends(minus_sign, Class::Direction);
+        let core = core_of(minus_sign);
         let (has_minus, unsigned) = self.split_sign(text, core);
         let body = without_front(unsigned, Class::Direction);
         if has_minus && has_nonzero_digit(body) {
@@ -520,10 +584,10 @@ impl<'a, F: Format> TypedParser<'a, F> {
             (λ e. (e ≡ strict.AmbiguousFormat) × ¬ (IsTypable (F.answers format.now))) }
     {
         match Rewriter::new(format) {
-            Ok(rewriter) => Ok(TypedParser {
-                rewriter,
-                decimals: DecimalParser::new(format).ok(),
-            }),
+            Ok(rewriter) => {
+                let decimals = rewriter.decimals();
+                Ok(TypedParser { rewriter, decimals })
+            }
             Err(error) => Err(error),
         }
     }
@@ -677,6 +741,26 @@ fn without_ends(text: &str, class: Class) -> &str
     without_end(without_front(text, class), class)
 }
 
+/// Returns a minus sign without marks of direction at its ends. Most are a hyphen, which is none.
+#[inline(always)]
+fn core_of(minus_sign: &str) -> &str
+    ensures value { result.now ≡ without_ends (is_of Direction) minus_sign.now }
+    ensures bound { length result.now ≤ length minus_sign.now }
+{
+    if is_hyphen(minus_sign) {
+        return minus_sign;
+    }
+    without_ends(minus_sign, Class::Direction)
+}
+
+/// Returns whether a text is a hyphen.
+#[inline(always)]
+fn is_hyphen(text: &str) -> bool
+    ensures { IsTrue result → text.now ≡ codes "-" }
+{
+    matches!(*text.as_bytes(), [b'-'])
+}
+
 /// Returns the text of the bytes, if they are UTF-8.
 fn text_of(bytes: &[u8]) -> Option<&str>
     ensures { MatchOption result (¬ (IsUtf8 bytes.now)) (λ text. text.now ≡ bytes.now) }
@@ -766,7 +850,7 @@ pub fn parse_typed_decimal_bytes<F: Format>(
     let Ok(rewriter) = Rewriter::new(format) else {
         return Err(TypedError::Number(ParseDecimalError::AmbiguousFormat));
     };
-    let Ok(decimals) = DecimalParser::new(format) else {
+    let Some(decimals) = rewriter.decimals() else {
         return Err(TypedError::Number(ParseDecimalError::AmbiguousFormat));
     };
     rewriter.parse_decimal(&decimals, bytes)

@@ -1,14 +1,15 @@
-use Rattle.std.proofs.Common.{◌≡◌, ◌++◌, ◌∙◌, ap, drop, length}
-use Rattle.num_format_typed.proofs.SignLemmas.{starts, starts-not}
+use Rattle.std.proofs.Common.{◌≡◌, ◌∙◌, ap, sym, true}
+use Rattle.std.specs.Prelude.{nat_eq}
+use Rattle.std.specs.List.{starts_with}
+use Rattle.num_format_typed.proofs.SignLemmas.{boundary-past}
 use Rattle.num_format_typed.proofs.typed.strip.Goals as goal
 
-pub returns-in-Some : goal.returns-in-Some
-returns-in-Some c =
+pub range_from-requires : goal.range_from-requires
+range_from-requires c = λ some.
     let text = c.args.text.now in
     let prefix = c.args.prefix.now in
-    let found = c.in-Some.ensures.cases in
-    let whole : text ≡ prefix ++ drop (length prefix) text = found.1.1 ∙ ap (λ k. prefix ++ drop k text) found.1.0 in
-    (starts text prefix whole, found.2 ∙ ap (λ k. drop k text) found.1.0)
-
-pub returns-in-None : goal.returns-in-None
-returns-in-None c = starts-not c.args.text.now c.args.prefix.now c.in-None.ensures.cases
+    let begins : starts_with nat_eq text prefix ≡ true =
+    ap (λ t. starts_with nat_eq t prefix) (sym c.as_bytes.ensures.value)
+    ∙ ap (starts_with nat_eq c.as_bytes.result.now) (sym c.as_bytes-2.ensures.value)
+    ∙ sym c.is_prefix.ensures ∙ c.if-not-is_prefix.false in
+    boundary-past text prefix c.utf8.text c.utf8.prefix begins
