@@ -1,3 +1,4 @@
+pub mod PlainLemmas
 pub mod SetLemmas
 pub mod TagLemmas
 pub mod TextLemmas

@@ -15,7 +15,7 @@ use Rattle.num_format_parsing.specs.Reading.{is_other_numeral}
 use Rattle.num_format_parsing.specs.Shapes.{HasPlainSymbols}
 use Rattle.num_format_parsing.specs.Strict.{SpellsNumber}
 use Rattle.num_format_parsing.proofs.SpellingLemmas.{no_other-spelled}
-use Rattle.num_format_digits.specs.Digits.{HasOneSet, IsZero, ascii_of, in_digits, is_other, other_from, plain_char, shown, shown_byte}
+use Rattle.num_format_digits.specs.Digits.{HasNoOthers, HasOneSet, IsZero, ascii_of, in_digits, is_other, other_from, plain_char, shown, shown_byte}
 use Rattle.num_format_digits.proofs.SetLemmas.{digit-scalar, plain-shown, shown-own, shown-plain}
 
 -- bytes of which none is ASCII stay
@@ -149,13 +149,16 @@ taken_next z len byte text left rest array before next inside =
     ∙ ap (λ t. t ++ rest) (sym (flat_map-append (shown_byte z) (take len array) (byte ∷ []))
     ∙ ap (in_digits z) (sym (take_more_set array len byte inside)))
 
--- a text that is shown, of which what spells a number was shown
-pub spelled_back : (z : ℕ) (f : FormatData) (t a : List ℕ) (n : ℤ) → IsZero z → HasPlainSymbols f → SpellsNumber f a n → t ≡ in_digits z a
-    → IsUtf8 t × HasOneSet z t × (ascii_of z t ≡ a)
-spelled_back z f t a n is symbols spells same =
-    let other = no_other-spelled f a n symbols spells in
-    let back = reads_back z a is other.utf8 other.plain in (
-      subst IsUtf8 (sym same) (shown-chars z a is other.utf8).0,
+-- a text that is shown, of which what was shown has no other numeral, or spells a number
+pub shown_back : (z : ℕ) (t a : List ℕ) → IsZero z → HasNoOthers a → t ≡ in_digits z a → IsUtf8 t × HasOneSet z t × (ascii_of z t ≡ a)
+shown_back z t a is none same =
+    let back = reads_back z a is none.0 none.1 in (
+      subst IsUtf8 (sym same) (shown-chars z a is none.0).0,
       subst (HasOneSet z) (sym same) back.0,
       ap (ascii_of z) same ∙ back.1,
     )
+
+pub spelled_back : (z : ℕ) (f : FormatData) (t a : List ℕ) (n : ℤ) → IsZero z → HasPlainSymbols f → SpellsNumber f a n → t ≡ in_digits z a
+    → IsUtf8 t × HasOneSet z t × (ascii_of z t ≡ a)
+spelled_back z f t a n is symbols spells same =
+    let other = no_other-spelled f a n symbols spells in shown_back z t a is (other.utf8, other.plain) same

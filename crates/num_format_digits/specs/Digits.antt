@@ -1,12 +1,12 @@
 -- Digit sets, and texts in their digits.
 use Rattle.std.specs.Prelude.{◌≡◌, ◌≤◌, ℕ, ◌+◌, ◌-◌, Bool, not, ◌&&◌, if◌then◌else◌, List, [], ◌∷◌, Contains}
-use Rattle.std.specs.Prelude.{bytes_eq, find, length, map, slice_get, take, Option, Some, None, unwrap_or, encode_utf8}
+use Rattle.std.specs.Prelude.{bytes_eq, false, find, length, map, slice_get, take, Option, Some, None, unwrap_or, encode_utf8, IsUtf8}
 use Rattle.std.specs.Char.{is_ascii_digit}
 use Rattle.std.specs.Int.{is_in_range}
-use Rattle.std.specs.List.{flat_map}
+use Rattle.std.specs.List.{flat_map, list_any}
 use Rattle.std.specs.Option.{option_or}
 use Rattle.std.specs.Str.{chars}
-use Rattle.num_format_parsing.specs.Reading.{is_numeric}
+use Rattle.num_format_parsing.specs.Reading.{is_numeric, is_other_numeral}
 use Rattle.num_format_typed.specs.Rewriting.{images}
 use Rattle.num_format_digits.specs.Sets.{locales, sets}
 
@@ -85,3 +85,16 @@ in_digits z t = flat_map (shown_byte z) t
 -- a text with 0 to 9 for the digits of a set
 abbrev pub ascii_of : ℕ → List ℕ → List ℕ
 ascii_of z t = images (plain_char z) t
+
+-- a text without numerals but 0 to 9
+abbrev pub HasNoOthers : List ℕ → Type 0
+HasNoOthers t = IsUtf8 t × (list_any is_other_numeral (chars t) ≡ false)
+
+-- symbols of two and of three bytes that formats of locales have, and marks of direction
+abbrev pub common_pairs : List (List ℕ)
+common_pairs = (0xC2 ∷ 0xA0 ∷ []) ∷ (0xD8 ∷ 0x9C ∷ []) ∷ (0xD9 ∷ 0xAB ∷ []) ∷ (0xD9 ∷ 0xAC ∷ []) ∷ []
+
+abbrev pub common_triples : List (List ℕ)
+common_triples =
+    (0xE2 ∷ 0x80 ∷ 0x8E ∷ []) ∷ (0xE2 ∷ 0x80 ∷ 0x8F ∷ []) ∷ (0xE2 ∷ 0x80 ∷ 0x99 ∷ []) ∷ (0xE2 ∷ 0x80 ∷ 0xAF ∷ [])
+    ∷ (0xE2 ∷ 0x88 ∷ 0x92 ∷ []) ∷ []

@@ -17,6 +17,7 @@
 pub mod digits;
 pub mod laws;
 pub mod parsing;
+mod plain;
 pub mod printing;
 pub mod sets;
 pub mod tags;

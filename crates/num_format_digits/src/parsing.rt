@@ -12,13 +12,14 @@ ghost use Rattle.num_format_digits.specs.Parsing.{TypedAtScaleInDigits, TypedDec
 ghost use Rattle.num_format_digits.specs.Parsing.{place_in, placed_at_scale};
 
 use crate::digits::Digits;
+use crate::plain::is_plain;
 use num_format_decimal::{
     Decimal, DecimalParser, MAX_DECIMAL_LEN, ParseAtScaleError, ParseDecimalError, marks_decimals,
 };
 use num_format_parsing::{FromFormattedStr, StrictError, StrictParser};
 use num_format_text::Format;
 use num_format_typed::rewriting::{bytes_within, rewrite, split_first};
-use num_format_typed::{TypedError, TypedParser};
+use num_format_typed::{TypedError, TypedParser, parse_typed_bytes};
 
 /// Why a text was refused as a number in a digit set. `E` is the error of strict or of typed parsing.
 #[derive(Clone, Copy, Debug, PartialEq, Eq)]
@@ -84,12 +85,50 @@ impl Digits {
         parser.number(&array[..len])
     }
 
+    /// Does the same for a number that a person types. All characters of the text but the digits of the set are ASCII or
+    /// symbols of locales.
+    #[inline(never)]
+    pub fn parse_shown_typed<N: FromFormattedStr, F: Format>(
+        self,
+        text: &[u8],
+        format: &F,
+    ) -> Option<N>
+        ensures { IfSome result (λ n. IsUtf8 text.now
+            × TypedInDigits N.kind N.value (F.answers format.now) self text.now (Ok n)) }
+    {
+        let mut array = [0; MAX_DECIMAL_LEN];
+        let len = self.take_plain(text, &mut array)?;
+        match parse_typed_bytes(&array[..len], format) {
+            Ok(number) => Some(number),
+            Err(_) => None,
+        }
+    }
+
+    /// Writes the text of bytes with `0` to `9` for the digits of the set to the start of an array, and returns its
+    /// length then, or `None` where only [`to_ascii`](Digits::to_ascii) can tell, as for a text that is refused.
+    ///
+    /// It knows the symbols of most formats, and looks for no other numerals where a text has no others.
+    pub fn take_plain(self, text: &[u8], array: &mut [u8]) -> Option<usize>
+        ensures text { IfSome result (λ len. IsUtf8 text.now × HasOneSet self text.now
+            × (take len array.new ≡ ascii_of self text.now)) }
+        ensures bound { IfSome result (λ len. len ≤ length array.new) }
+        ensures length { length array.new ≡ length array.old }
+    {
+        let len = self.take_text(text, array)?;
+        if is_plain(&array[..len]) {
+            Some(len)
+        } else {
+            None
+        }
+    }
+
     /// Writes bytes with `0` to `9` for the digits of the set to the start of an array, and returns their number, or
     /// `None` if they have `0` to `9` themselves, or are too many.
     #[inline(always)]
     fn take_text(self, text: &[u8], array: &mut [u8]) -> Option<usize>
         ensures shown { IfSome result (λ len. (len ≤ length array.new)
             × (text.now ≡ in_digits self (take len array.new))) }
+        ensures length { length array.new ≡ length array.old }
         ensures set { IsZero self }
     {
         let (zero, width) = self.zero_bytes();
@@ -97,7 +136,7 @@ impl Digits {
             1 => self.take_digits(text, zero, 1, array),
             2 => self.take_digits(text, zero, 2, array),
             3 => self.take_digits(text, zero, 3, array),
-            _ => self.take_digits(text, zero, width, array),
+            _ => self.take_digits(text, zero, 4, array),
         }
     }
 
@@ -112,8 +151,9 @@ impl Digits {
     ) -> Option<usize>
         requires set { IsZero self }
         requires zero { HasZero self width zero }
-        ensures { IfSome result (λ len. (len ≤ length array.new)
+        ensures shown { IfSome result (λ len. (len ≤ length array.new)
             × (text.now ≡ in_digits self (take len array.new))) }
+        ensures length { length array.new ≡ length array.old }
     {
         let mut len = 0;
         let mut left = text;
@@ -329,6 +369,22 @@ impl Digits {
         text: &str,
         array: &'s mut [u8],
     ) -> Result<&'s [u8], DigitsError<E>>
+        requires { length array.old ≡ MAX_DECIMAL_LEN }
+        ensures text { MatchResult result
+            (λ ascii. HasOneSet self text.now × (ascii.now ≡ ascii_of self text.now))
+            (λ e. IsTextCause self text.now e) }
+        ensures fits { IfOk result (λ ascii. length ascii.now ≤ MAX_DECIMAL_LEN) }
+    {
+        if let Some(len) = self.take_plain(text.as_bytes(), array) {
+            return Ok(&array[..len]);
+        }
+        self.rewrite(text, array)
+    }
+
+    /// Does the same character by character.
+    #[cold]
+    #[inline(never)]
+    fn rewrite<'s, E>(self, text: &str, array: &'s mut [u8]) -> Result<&'s [u8], DigitsError<E>>
         requires { length array.old ≡ MAX_DECIMAL_LEN }
         ensures text { MatchResult result
             (λ ascii. HasOneSet self text.now × (ascii.now ≡ ascii_of self text.now))

@@ -116,7 +116,7 @@ pub fn put_text(text: &[u8], digits: Digits, array: &mut [u8]) -> usize
         1 => put_digits(text, digits, zero, 1, array),
         2 => put_digits(text, digits, zero, 2, array),
         3 => put_digits(text, digits, zero, 3, array),
-        _ => put_digits(text, digits, zero, width, array),
+        _ => put_digits(text, digits, zero, 4, array),
     }
 }
 

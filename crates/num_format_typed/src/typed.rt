@@ -805,6 +805,7 @@ pub fn parse_typed<N: FromFormattedStr, F: Format>(
 /// # Errors
 ///
 /// As [`parse_typed`], and `NotUtf8`.
+#[inline(always)]
 pub fn parse_typed_bytes<N: FromFormattedStr, F: Format>(
     bytes: &[u8],
     format: &F,
